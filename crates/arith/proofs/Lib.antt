@@ -1,0 +1,9 @@
+pub mod Integers
+pub mod Parts
+pub mod Quotients
+pub mod Words
+pub mod Rounding
+pub mod Divisors
+pub mod Mixes
+pub mod Fractions
+pub mod Sums

@@ -1,0 +1,28 @@
+-- Common divisors, and fractions in lowest terms.
+--   Divides d n     d divides n
+--   gcdOf a b       the greatest common divisor; gcd 0 0 is 0
+--   lowest p q      p / q in lowest terms: no common divisor above 1, zero is 0 / 1
+use mathlib.Core.Path.{_≡_}
+use Prim.Native.Nat.{ℕ, zero, suc, _*_, _/_, _%_}
+use lib.IntN.{ℤ, pos, negsuc, negℤ, natAbs}
+use Rattle.arith.specs.declared.Fraction.{Fraction}
+
+abbrev pub Divides : ℕ → ℕ → Type 0
+Divides d n = (k : ℕ) × (n ≡ k * d)
+
+-- Euclid's way, in at most the given number of turns; a remainder falls at each, so b turns are enough
+unfoldable pub gcdIn : ℕ → ℕ → ℕ → ℕ
+gcdIn zero a b = a
+gcdIn (suc turns) a zero = a
+gcdIn (suc turns) a (suc b) = gcdIn turns (suc b) (a % suc b)
+
+unfoldable pub gcdOf : ℕ → ℕ → ℕ
+gcdOf a b = gcdIn b a b
+
+-- n with the sign of z
+unfoldable pub signed : ℤ → ℕ → ℤ
+signed (pos k) n = pos n
+signed (negsuc k) n = negℤ (pos n)
+
+unfoldable pub lowest : ℤ → ℕ → Fraction
+lowest p q = record { p = signed p (natAbs p / gcdOf (natAbs p) q); q = q / gcdOf (natAbs p) q }

@@ -1,0 +1,6 @@
+pub mod Sum
+pub mod Within
+pub mod Fractions
+pub mod Division
+pub mod Gcd
+pub mod Mixed

@@ -1,0 +1,9 @@
+pub mod Common
+pub mod Bridge
+pub mod Dual
+pub mod Climb
+pub mod Moves
+pub mod Branch
+pub mod Reach
+pub mod Rays
+pub mod Escape

@@ -1,0 +1,143 @@
+-- Unbounded: what a planner has to find, and that it excludes a best point.
+use mathlib.Core.Path.{_≡_, refl, sym, ap, ap₂, _∙_, subst, subst₂}
+use mathlib.Core.Logic.{_↔_, _≢_, _⊎_, inl, inr}
+use Prim.Native.Nat.{ℕ, zero, suc, _+_, _*_, _≤_, _<_}
+use native.Mathlib.Omega.{arith}
+use native.Mathlib.Nat.{mul-comm, mul-le-mul, mul-le-mul-left, mul-le-mul-right}
+use lib.IntN.{ℤ, pos, negsuc, negℤ, natAbs, _+ℤ_, _-ℤ_, _*ℤ_, *ℤ-comm}
+use lib.Signed.{_≤ℤ_, _<ℤ_, ≤ℤ-refl, clashℤ}
+use Rattle.arith.proofs.Fractions.{over-<, Over, over-int, over-+, over-≤, over-total, over-scale, Common, common}
+use Rattle.arith.proofs.Integers.{_⊖_, split, split2, split3, split4, zed, ≤ℤ-trans, ≤ℤ-reflexive, ≤ℤ-or-<, times-≤, times-≤-back}
+use Rattle.arith.proofs.Sums.{sum-cong, sum-lin}
+use Rattle.arith.specs.Fractions.{Frac, int, _+ᶠ_, _·ᶠ_, _≤ᶠ_, _<ᶠ_, total}
+use Rattle.arith.specs.Sum.{sum, Each}
+use Rattle.knapsack.proofs.Bridge.{Reads, bridge-feasible}
+use Rattle.knapsack.proofs.Climb.{gap}
+use Rattle.knapsack.proofs.Common.{KeepsMarkᴰ, KeepsLowerᴰ, KeepsUpperᴰ, Keepsᴰ, weighsᴰ, valueᴰ, Feasibleᴰ}
+use Rattle.knapsack.proofs.Moves.{mark-step}
+use Rattle.knapsack.specs.Meaning.{Instance, Point, value, Feasible, Optimal, Infeasible, stepped, Unbounded, weights, prices}
+use Rattle.knapsack.specs.declared.Bound.{Bound}
+use Rattle.knapsack.specs.declared.Bound.the-variants.{Absent, At}
+use Rattle.knapsack.specs.declared.Item.{Item}
+use Rattle.knapsack.specs.declared.Mark.{Mark}
+use Rattle.knapsack.specs.declared.Mark.the-variants.{Integer, Continuous}
+
+-- the numerators after t times the steps d
+abbrev pub steppedᴰ : ℕ → (ℕ → ℤ) → (ℕ → ℤ) → ℕ → ℕ → ℤ
+steppedᴰ D N d t k = N k +ℤ (pos t *ℤ d k) *ℤ pos D
+
+pub over-stepped : (s : Instance) (D : ℕ) (x : Point) (N d : ℕ → ℤ) (t : ℕ) → Reads s D x N → Reads s D (stepped x d t) (steppedᴰ D N d t)
+over-stepped s D x N d t h k l = over-+ (h k l) (over-int D (pos t *ℤ d k))
+
+pub sum-stepped : (n D : ℕ) (a N d : ℕ → ℤ) (t : ℕ) → sum n (λ k. a k *ℤ steppedᴰ D N d t k) ≡ sum n (λ k. a k *ℤ N k) +ℤ pos (t * D) *ℤ sum n (λ k. a k *ℤ d k)
+sum-stepped n D a N d t = sum-cong n _ _ (λ k l. apart (a k) (N k) (d k)) ∙ sum-lin n (pos 1) (pos (t * D)) (λ k. a k *ℤ N k) (λ k. a k *ℤ d k) ∙ one (sum n (λ k. a k *ℤ N k)) (sum n (λ k. a k *ℤ d k))
+  where
+    apart : (a n d : ℤ) → a *ℤ (n +ℤ (pos t *ℤ d) *ℤ pos D) ≡ pos 1 *ℤ (a *ℤ n) +ℤ pos (t * D) *ℤ (a *ℤ d)
+    apart = split3 _ (λ a b c e f g. simp zed (omega arith))
+
+    one : (x y : ℤ) → pos 1 *ℤ x +ℤ pos (t * D) *ℤ y ≡ x +ℤ pos (t * D) *ℤ y
+    one = split2 _ (λ a b c e. simp zed (omega arith))
+
+-- steps that meet no bound, weigh nothing or less, and bring something
+pub record Ray (s : Instance) (d : ℕ → ℤ) : Type 0 where
+  pub up : (k : ℕ) → k < s .count → pos 0 <ℤ d k → s .item k .upper ≡ Absent
+  pub down : (k : ℕ) → k < s .count → d k <ℤ pos 0 → s .item k .lower ≡ Absent
+  pub light : sum (s .count) (λ k. weights s k *ℤ d k) ≤ℤ pos 0
+  pub gain : pos 0 <ℤ sum (s .count) (λ k. prices s k *ℤ d k)
+
+pub ray-stays : (s : Instance) (D : ℕ) (N d : ℕ → ℤ) → Ray s d → Feasibleᴰ s D N → (t : ℕ) → Feasibleᴰ s D (steppedᴰ D N d t)
+ray-stays s D N d r p t = record {
+  keeps = λ k l. record {
+    marked = mark-step D (s .item k .mark) (N k) (pos t *ℤ d k) (p .keeps k l .marked);
+    above = lo (s .item k .lower) (N k) (d k) (r .down k l) (≤ℤ-or-< (pos 0) (d k)) (p .keeps k l .above);
+    below = up (s .item k .upper) (N k) (d k) (r .up k l) (≤ℤ-or-< (d k) (pos 0)) (p .keeps k l .below);
+  };
+  fits = rw (sum-stepped (s .count) D (weights s) N d t) (lighter (weighsᴰ s N) (s .capacity *ℤ pos D) (sum (s .count) (λ k. weights s k *ℤ d k)) (t * D) (p .fits) (r .light));
+}
+  where
+    lighter : (w b x : ℤ) (m : ℕ) → w ≤ℤ b → x ≤ℤ pos 0 → (w +ℤ pos m *ℤ x) ≤ℤ b
+    lighter = split3 _ (λ a b c e f g m. simp zed (λ k l. omega (arith, mul-le-mul-left m l)))
+
+    rise : (l n d : ℤ) → pos 0 ≤ℤ d → l ≤ℤ n → l ≤ℤ (n +ℤ (pos t *ℤ d) *ℤ pos D)
+    rise = split3 _ (λ a b c e f g. simp zed (λ k l. omega (arith, mul-le-mul-left (t * D) k)))
+
+    fall : (u n d : ℤ) → d ≤ℤ pos 0 → n ≤ℤ u → (n +ℤ (pos t *ℤ d) *ℤ pos D) ≤ℤ u
+    fall = split3 _ (λ a b c e f g. simp zed (λ k l. omega (arith, mul-le-mul-left (t * D) k)))
+
+    lo : (b : Bound) (n d : ℤ) → (d <ℤ pos 0 → b ≡ Absent) → (pos 0 ≤ℤ d) ⊎ (d <ℤ pos 0) → KeepsLowerᴰ D b n → KeepsLowerᴰ D b (n +ℤ (pos t *ℤ d) *ℤ pos D)
+    lo Absent n d f c h = tt
+    lo (At l) n d f (inl c) h = rise (l *ℤ pos D) n d c h
+    lo (At l) n d f (inr c) h = subst (λ b. KeepsLowerᴰ D b (n +ℤ (pos t *ℤ d) *ℤ pos D)) (sym (f c)) tt
+
+    up : (b : Bound) (n d : ℤ) → (pos 0 <ℤ d → b ≡ Absent) → (d ≤ℤ pos 0) ⊎ (pos 0 <ℤ d) → KeepsUpperᴰ D b n → KeepsUpperᴰ D b (n +ℤ (pos t *ℤ d) *ℤ pos D)
+    up Absent n d f c h = tt
+    up (At u) n d f (inl c) h = fall (u *ℤ pos D) n d c h
+    up (At u) n d f (inr c) h = subst (λ b. KeepsUpperᴰ D b (n +ℤ (pos t *ℤ d) *ℤ pos D)) (sym (f c)) tt
+
+pub ray-unbounded : (s : Instance) (x : Point) (d : ℕ → ℤ) (i j : ℕ) → i < s .count → j < s .count → d i ≢ pos 0 → d j ≢ pos 0 → ((k : ℕ) → k ≢ i → k ≢ j → d k ≡ pos 0) → Ray s d → Feasible s x → Unbounded s x d
+ray-unbounded s x d i j li lj di dj rest r p = record {
+  i = i;
+  j = j;
+  i-in = li;
+  j-in = lj;
+  i-moves = di;
+  j-moves = dj;
+  others = rest;
+  from = p;
+  stays = λ t. bridge-feasible s D (stepped x d t) (steppedᴰ D N d t) D≥1 (over-stepped s D x N d t reads) .1 (ray-stays s D N d r (bridge-feasible s D x N D≥1 reads .0 p) t);
+  rises = λ t. over-< D≥1 (over-total D (s .count) (stepped x d t) (steppedᴰ D N d t) (over-stepped s D x N d t reads) (prices s)) (over-total D (s .count) (stepped x d (suc t)) (steppedᴰ D N d (suc t)) (over-stepped s D x N d (suc t) reads) (prices s))
+      (rw (sum-stepped (s .count) D (prices s) N d t, sum-stepped (s .count) D (prices s) N d (suc t)) (more D t D≥1 (valueᴰ s N) (sum (s .count) (λ k. prices s k *ℤ d k)) (r .gain)));
+}
+  where
+    c : Common (s .count) x
+    c = common (s .count) x
+
+    D : ℕ
+    D = c .D
+
+    N : ℕ → ℤ
+    N = c .N
+
+    D≥1 : 1 ≤ D
+    D≥1 = c .D≥1
+
+    reads : Reads s D x N
+    reads = c .reads
+
+    more : (D t : ℕ) → 1 ≤ D → (v g : ℤ) → pos 0 <ℤ g → (v +ℤ pos (t * D) *ℤ g) <ℤ (v +ℤ pos (suc t * D) *ℤ g)
+    more D t d≥1 = split2 _ (λ a b c e. simp zed (λ h. omega (arith, mul-le-mul-left D h)))
+
+-- ---- the three answers exclude one another
+
+pub unbounded-feasible : (s : Instance) (y : Point) (d : ℕ → ℤ) → Unbounded s y d → Infeasible s → ⊥
+unbounded-feasible s y d u h = h (stepped y d 0) (u .stays 0)
+
+no-rise : (x y : Frac) → x <ᶠ y → y ≤ᶠ x → ⊥
+unfolding _<ᶠ_ _≤ᶠ_
+no-rise x y h k = clashℤ h k
+
+pub optimal-not-unbounded : (s : Instance) (x y : Point) (d : ℕ → ℤ) → Optimal s x → Unbounded s y d → ⊥
+optimal-not-unbounded s x y d b u = go (common (s .count) y) (common (s .count) x)
+  where
+    flat : (D : ℕ) (v g : ℤ) → g ≤ℤ pos 0 → (v +ℤ pos (1 * D) *ℤ g) ≤ℤ (v +ℤ pos (0 * D) *ℤ g)
+    flat D = split2 _ (λ a b c e. simp zed (λ h. omega (arith, mul-le-mul-left D h)))
+
+    past : (D E t : ℕ) → 1 ≤ D → 1 ≤ E → (v g m : ℤ) → pos 0 <ℤ g → ((v +ℤ pos (t * D) *ℤ g) *ℤ pos E) ≤ℤ (m *ℤ pos D) → (m *ℤ pos D +ℤ pos 1) ≤ℤ (v *ℤ pos E +ℤ pos t) → ⊥
+    past D E t d e = split3 _ (λ a b c f h i. simp zed (λ k l m. omega (arith, mul-le-mul-left (t * D * E) k, mul-le-mul-left t (mul-le-mul d e))))
+
+    go : Common (s .count) y → Common (s .count) x → ⊥
+    go c e = steep (≤ℤ-or-< gains (pos 0))
+      where
+        gains : ℤ
+        gains = sum (s .count) (λ k. prices s k *ℤ d k)
+
+        worth : (t : ℕ) → Over (c .D) (value s (stepped y d t)) (valueᴰ s (c .N) +ℤ pos (t * c .D) *ℤ gains)
+        worth t = rw (sum-stepped (s .count) (c .D) (prices s) (c .N) d t) at (over-total (c .D) (s .count) (stepped y d t) (steppedᴰ (c .D) (c .N) d t) (over-stepped s (c .D) y (c .N) d t (c .reads)) (prices s))
+
+        below : (t : ℕ) → ((valueᴰ s (c .N) +ℤ pos (t * c .D) *ℤ gains) *ℤ pos (e .D)) ≤ℤ (valueᴰ s (e .N) *ℤ pos (c .D))
+        below t = over-≤ (mul-le-mul (c .D≥1) (e .D≥1)) (over-scale (e .D) (worth t)) (rw (mul-comm (e .D) (c .D)) at (over-scale (c .D) (over-total (e .D) (s .count) x (e .N) (e .reads) (prices s)))) .0 (b .highest (stepped y d t) (u .stays t))
+
+        steep : (gains ≤ℤ pos 0) ⊎ (pos 0 <ℤ gains) → ⊥
+        steep (inl h) = no-rise _ _ (u .rises 0) (over-≤ (c .D≥1) (worth 1) (worth 0) .1 (flat (c .D) (valueᴰ s (c .N)) gains h))
+        steep (inr h) = let g = gap (valueᴰ s (e .N) *ℤ pos (c .D) +ℤ pos 1) (valueᴰ s (c .N) *ℤ pos (e .D)) in
+            past (c .D) (e .D) (g .0) (c .D≥1) (e .D≥1) (valueᴰ s (c .N)) gains (valueᴰ s (e .N)) h (below (g .0)) (g .1)

@@ -1,0 +1,449 @@
+-- No ray: amounts beyond 300,000,000 are pointless. Whole steps towards 0, which do not lower the value, lead within that reach.
+use mathlib.Core.Path.{_≡_, refl, sym, ap, ap₂, _∙_, subst, subst₂}
+use mathlib.Core.Logic.{_↔_, _≢_, _⊎_, inl, inr}
+use Prim.Native.Nat.{ℕ, zero, suc, _+_, _*_, _-_, _≤_, _<_}
+use native.Mathlib.Omega.{arith}
+use native.Mathlib.Decide.{decLt}
+use native.Mathlib.Nat.{mul-le-mul, mul-le-mul-left, mul-le-mul-right}
+use lib.IntN.{ℤ, pos, negsuc, negℤ, natAbs, _+ℤ_, _-ℤ_, _*ℤ_}
+use lib.Signed.{_≤ℤ_, _<ℤ_, ≤ℤ-refl}
+use Rattle.arith.proofs.Integers.{_⊖_, split, split2, split3, split4, zed, ≤ℤ-trans, ≤ℤ-reflexive, ≤ℤ-or-<, times-≤, natAbs-neg, natAbs-mul}
+use Rattle.arith.proofs.Sums.{bump-other, each-bump, sum-bump, sum-scale, part-of-sum, far, far-bump, find}
+use Rattle.arith.specs.Sum.{sum, Each, bump}
+use Rattle.knapsack.proofs.Branch.{AtMost, boxed, into-box}
+use Rattle.knapsack.proofs.Climb.{descend}
+use Rattle.knapsack.proofs.Common.{KeepsLowerᴰ, KeepsUpperᴰ, Keepsᴰ, weighsᴰ, valueᴰ, Feasibleᴰ, Optimalᴰ}
+use Rattle.knapsack.proofs.Dual.{Within, within}
+use Rattle.knapsack.proofs.Moves.{keeps-step, shift, sum-shift, keeps-shift}
+use Rattle.knapsack.specs.Meaning.{Instance, weights, prices}
+use Rattle.knapsack.specs.declared.Bound.{Bound}
+use Rattle.knapsack.specs.declared.Bound.the-variants.{Absent, At}
+use Rattle.knapsack.specs.declared.Item.{Item}
+use Rattle.knapsack.specs.declared.Mark.{Mark}
+
+-- ---- directions
+
+pub data Way : Type 0 where
+  fore aft : Way
+
+abbrev pub turn : Way → ℤ → ℤ
+turn fore z = z
+turn aft z = negℤ z
+
+-- no bound this way
+abbrev pub Free : Way → Item → Type 0
+Free fore i = i .upper ≡ Absent
+Free aft i = i .lower ≡ Absent
+
+-- a unit of item k this way has the weight turn w (weights s k) and the price turn w (prices s k)
+pub record NoRay (s : Instance) : Type 0 where
+  pub one : (k : ℕ) → k < s .count → (w : Way) → Free w (s .item k) → turn w (weights s k) ≤ℤ pos 0 → turn w (prices s k) ≤ℤ pos 0
+  pub two : (i j : ℕ) → i < s .count → j < s .count → (v w : Way) → Free v (s .item i) → Free w (s .item j)
+      → pos 0 <ℤ turn v (weights s i) → pos 0 <ℤ turn v (prices s i) → turn w (weights s j) <ℤ pos 0
+      → (turn v (prices s i) *ℤ negℤ (turn w (weights s j)) +ℤ turn w (prices s j) *ℤ turn v (weights s i)) ≤ℤ pos 0
+
+abbrev pub Around : Bound → Type 0
+Around Absent = Unit {0}
+Around (At b) = natAbs b ≤ 10000
+
+pub record Ranges (s : Instance) : Type 0 where
+  pub few : s .count ≤ 16
+  pub light : (k : ℕ) → k < s .count → natAbs (weights s k) ≤ 1000
+  pub lowers : (k : ℕ) → k < s .count → Around (s .item k .lower)
+  pub uppers : (k : ℕ) → k < s .count → Around (s .item k .upper)
+  pub limited : natAbs (s .capacity) ≤ 100000000
+
+-- the way from 0 to n
+abbrev pub way : ℤ → Way
+way (pos n) = fore
+way (negsuc n) = aft
+
+ahead : (a n : ℤ) → a *ℤ n ≡ turn (way n) a *ℤ pos (natAbs n)
+ahead a (pos n) = refl
+ahead a (negsuc n) = flip a
+  where
+    flip : (a : ℤ) → a *ℤ negsuc n ≡ negℤ a *ℤ pos (suc n)
+    flip = split _ (λ a b. simp zed (omega arith))
+
+-- ---- a far amount n / D may go u units back
+
+pub record Back (D u : ℕ) (i : Item) (n : ℤ) : Type 0 where
+  pub free : Free (way n) i
+  pub inside : Within D i (n +ℤ turn (way n) (negℤ (pos u)) *ℤ pos D)
+  pub nearer : natAbs ((n +ℤ turn (way n) (negℤ (pos u)) *ℤ pos D) -ℤ pos 0) + u * D ≤ natAbs (n -ℤ pos 0)
+
+diff : (a c : ℕ) → (a - c) + (c - a) ≤ 10000 → (a ≤ 10000 + c) × (c ≤ 10000 + a)
+diff a c h = (omega arith, omega arith)
+
+back : (D u : ℕ) (i : Item) (n : ℤ) → Around (i .lower) → Around (i .upper) → Within D i n → (10000 + u) * D < natAbs n → Back D u i n
+back D u i (pos m) al au k h = record { free = free (i .upper) au (k .below); inside = record { above = lo (i .lower) al; below = up (i .upper) (k .below) }; nearer = near }
+  where
+    over : (b : ℤ) → natAbs b ≤ 10000 → pos m ≤ℤ (b *ℤ pos D) → ⊥
+    over = split _ (λ a c. simp zed (λ e f. omega (arith, mul-le-mul-right D (diff a c e .0))))
+
+    free : (b : Bound) → Around b → KeepsUpperᴰ D b (pos m) → b ≡ Absent
+    free Absent r f = refl
+    free (At b) r f = absurd (over b r f)
+
+    lo′ : (b : ℤ) → natAbs b ≤ 10000 → (b *ℤ pos D) ≤ℤ (pos m +ℤ negℤ (pos u) *ℤ pos D)
+    lo′ = split _ (λ a c. simp zed (λ e. omega (arith, mul-le-mul-right D (diff a c e .0))))
+
+    lo : (b : Bound) → Around b → KeepsLowerᴰ D b (pos m +ℤ negℤ (pos u) *ℤ pos D)
+    lo Absent r = tt
+    lo (At b) r = lo′ b r
+
+    up′ : (b : ℤ) → pos m ≤ℤ (b *ℤ pos D) → (pos m +ℤ negℤ (pos u) *ℤ pos D) ≤ℤ (b *ℤ pos D)
+    up′ = split _ (λ a c. simp zed (omega arith))
+
+    up : (b : Bound) → KeepsUpperᴰ D b (pos m) → KeepsUpperᴰ D b (pos m +ℤ negℤ (pos u) *ℤ pos D)
+    up Absent f = tt
+    up (At b) f = up′ b f
+
+    near : natAbs ((pos m +ℤ negℤ (pos u) *ℤ pos D) -ℤ pos 0) + u * D ≤ natAbs (pos m -ℤ pos 0)
+    near = simp zed (omega arith)
+back D u i (negsuc m) al au k h = record { free = free (i .lower) al (k .above); inside = record { above = lo (i .lower) (k .above); below = up (i .upper) au }; nearer = near }
+  where
+    over : (b : ℤ) → natAbs b ≤ 10000 → (b *ℤ pos D) ≤ℤ negsuc m → ⊥
+    over = split _ (λ a c. simp zed (λ e f. omega (arith, mul-le-mul-right D (diff a c e .1))))
+
+    free : (b : Bound) → Around b → KeepsLowerᴰ D b (negsuc m) → b ≡ Absent
+    free Absent r f = refl
+    free (At b) r f = absurd (over b r f)
+
+    up′ : (b : ℤ) → natAbs b ≤ 10000 → (negsuc m +ℤ negℤ (negℤ (pos u)) *ℤ pos D) ≤ℤ (b *ℤ pos D)
+    up′ = split _ (λ a c. simp zed (λ e. omega (arith, mul-le-mul-right D (diff a c e .1))))
+
+    up : (b : Bound) → Around b → KeepsUpperᴰ D b (negsuc m +ℤ negℤ (negℤ (pos u)) *ℤ pos D)
+    up Absent r = tt
+    up (At b) r = up′ b r
+
+    lo′ : (b : ℤ) → (b *ℤ pos D) ≤ℤ negsuc m → (b *ℤ pos D) ≤ℤ (negsuc m +ℤ negℤ (negℤ (pos u)) *ℤ pos D)
+    lo′ = split _ (λ a c. simp zed (omega arith))
+
+    lo : (b : Bound) → KeepsLowerᴰ D b (negsuc m) → KeepsLowerᴰ D b (negsuc m +ℤ negℤ (negℤ (pos u)) *ℤ pos D)
+    lo Absent f = tt
+    lo (At b) f = lo′ b f
+
+    near′ : (n : ℤ) → n ≡ negsuc m → natAbs ((n +ℤ negℤ (negℤ (pos u)) *ℤ pos D) -ℤ pos 0) + u * D ≤ natAbs (n -ℤ pos 0)
+    near′ = split _ (λ a b. simp zed (omega arith))
+
+    near : natAbs ((negsuc m +ℤ negℤ (negℤ (pos u)) *ℤ pos D) -ℤ pos 0) + u * D ≤ natAbs (negsuc m -ℤ pos 0)
+    near = near′ (negsuc m) refl
+
+-- ---- effects
+
+pub turn-mul : (w : Way) (a r : ℤ) → a *ℤ turn w r ≡ turn w a *ℤ r
+turn-mul fore a r = refl
+turn-mul aft a r = flip a r
+  where
+    flip : (a r : ℤ) → a *ℤ negℤ r ≡ negℤ a *ℤ r
+    flip = split2 _ (λ a b c e. simp zed (omega arith))
+
+pub abs-up : (w : Way) (a : ℤ) → pos 0 <ℤ turn w a → pos (natAbs a) ≡ turn w a
+abs-up fore = split _ (λ a b. simp zed (omega arith))
+abs-up aft = split _ (λ a b. simp zed (omega arith))
+
+pub abs-dn : (w : Way) (a : ℤ) → turn w a <ℤ pos 0 → pos (natAbs a) ≡ negℤ (turn w a)
+abs-dn fore = split _ (λ a b. simp zed (omega arith))
+abs-dn aft = split _ (λ a b. simp zed (omega arith))
+
+-- the sign of a product with a natural number
+sign-up : (x : ℤ) (m c : ℕ) → pos c <ℤ (x *ℤ pos m) → pos 0 <ℤ x
+sign-up x m c h = go (≤ℤ-or-< x (pos 0))
+  where
+    clash : (y : ℤ) → pos c <ℤ y → y ≤ℤ (pos 0 *ℤ pos m) → ⊥
+    clash = split _ (λ a b. simp zed (omega arith))
+
+    go : (x ≤ℤ pos 0) ⊎ (pos 0 <ℤ x) → pos 0 <ℤ x
+    go (inl k) = absurd (clash (x *ℤ pos m) h (times-≤ m x (pos 0) k))
+    go (inr k) = k
+
+sign-dn : (x : ℤ) (m c : ℕ) → (x *ℤ pos m) <ℤ negℤ (pos c) → x <ℤ pos 0
+sign-dn x m c h = go (≤ℤ-or-< (pos 0) x)
+  where
+    clash : (y : ℤ) → y <ℤ negℤ (pos c) → (pos 0 *ℤ pos m) ≤ℤ y → ⊥
+    clash = split _ (λ a b. simp zed (omega arith))
+
+    go : (pos 0 ≤ℤ x) ⊎ (x <ℤ pos 0) → x <ℤ pos 0
+    go (inl k) = absurd (clash (x *ℤ pos m) h (times-≤ m (pos 0) x k))
+    go (inr k) = k
+
+weak< : (x y : ℤ) → x <ℤ y → x ≤ℤ y
+weak< = split2 _ (λ a b c e. simp zed (omega arith))
+
+-- ---- moves
+
+module _ (s : Instance) (D : ℕ) (D≥1 : 1 ≤ D) (g : Ranges s) (nr : NoRay s) where
+  size : (ℕ → ℤ) → ℕ
+  size = far (s .count) (λ k. pos 0)
+
+  -- to a feasible point of no lower value that is nearer to 0
+  abbrev Next : (ℕ → ℤ) → Type 0
+  Next N = (N′ : ℕ → ℤ) × Feasibleᴰ s D N′ × (valueᴰ s N ≤ℤ valueᴰ s N′) × (size N′ < size N)
+
+  -- one item goes one unit back
+  ease : (N : ℕ → ℤ) → Feasibleᴰ s D N → (i : ℕ) → i < s .count → (b : Back D 1 (s .item i) (N i))
+      → (weighsᴰ s N -ℤ turn (way (N i)) (weights s i) *ℤ pos D) ≤ℤ (s .capacity *ℤ pos D) → turn (way (N i)) (prices s i) ≤ℤ pos 0 → Next N
+  unfolding size
+  ease N p i li b room loss = (
+    bump N i (r *ℤ pos D),
+    record {
+      keeps = each-bump (λ k. Keepsᴰ D (s .item k)) N i (r *ℤ pos D) (s .count) (p .keeps) (keeps-step D (s .item i) (N i) r (p .keeps i li) (b .inside));
+      fits = rw (sum-bump (s .count) (weights s) N i (r *ℤ pos D) li, effect (weights s i)) (less (weighsᴰ s N) (turn (way (N i)) (weights s i)) (s .capacity *ℤ pos D) room);
+    },
+    rw (sum-bump (s .count) (prices s) N i (r *ℤ pos D) li, effect (prices s i)) (more (valueᴰ s N) (turn (way (N i)) (prices s i)) loss),
+    omega (arith, far-bump (s .count) (λ k. pos 0) N i (r *ℤ pos D) (1 * D) li (b .nearer), D≥1),
+  )
+    where
+      r : ℤ
+      r = turn (way (N i)) (negℤ (pos 1))
+
+      assoc : (a r : ℤ) → a *ℤ (r *ℤ pos D) ≡ (a *ℤ r) *ℤ pos D
+      assoc = split2 _ (λ a b c e. simp zed (omega arith))
+
+      unit : (x : ℤ) → (x *ℤ negℤ (pos 1)) *ℤ pos D ≡ negℤ x *ℤ pos D
+      unit = split _ (λ a b. simp zed (omega arith))
+
+      effect : (a : ℤ) → a *ℤ (r *ℤ pos D) ≡ negℤ (turn (way (N i)) a) *ℤ pos D
+      effect a = assoc a r ∙ ap (λ z. z *ℤ pos D) (turn-mul (way (N i)) a (negℤ (pos 1))) ∙ unit (turn (way (N i)) a)
+
+      less : (w x l : ℤ) → (w -ℤ x *ℤ pos D) ≤ℤ l → (w +ℤ negℤ x *ℤ pos D) ≤ℤ l
+      less = split3 _ (λ a b c e f g. simp zed (omega arith))
+
+      more : (v x : ℤ) → x ≤ℤ pos 0 → v ≤ℤ (v +ℤ negℤ x *ℤ pos D)
+      more = split2 _ (λ a b c e. simp zed (λ h. omega (arith, mul-le-mul-left D h)))
+
+  -- a heavy item goes back, and a light one to the same weight
+  swap : (N : ℕ → ℤ) → Feasibleᴰ s D N → (i j : ℕ) → i < s .count → j < s .count → j ≢ i → (b : Back D (natAbs (weights s j)) (s .item i) (N i)) → (e : Back D (natAbs (weights s i)) (s .item j) (N j))
+      → pos 0 <ℤ turn (way (N i)) (weights s i) → pos 0 <ℤ turn (way (N i)) (prices s i) → turn (way (N j)) (weights s j) <ℤ pos 0 → Next N
+  unfolding size
+  swap N p i j li lj ne b e hw hp lw = (
+    shift D N i r j t,
+    record {
+      keeps = keeps-shift s D N i j r t li lj ne (p .keeps) (b .inside) (e .inside);
+      fits = rw (sum-shift (s .count) D (weights s) N i j r t li lj, effect (weights s)) (same (weighsᴰ s N) (s .capacity *ℤ pos D) (turn (way (N i)) (weights s i)) (turn (way (N j)) (weights s j)) (p .fits));
+    },
+    rw (sum-shift (s .count) D (prices s) N i j r t li lj, effect (prices s)) (more (valueᴰ s N) _ (opp (turn (way (N i)) (prices s i)) (turn (way (N j)) (prices s j)) (turn (way (N i)) (weights s i)) (turn (way (N j)) (weights s j)) (nr .two i j li lj (way (N i)) (way (N j)) (b .free) (e .free) hw hp lw))),
+    omega (arith, first, second, mul-le-mul (1≤ (turn (way (N j)) (weights s j)) (natAbs (weights s j)) lw uj) D≥1),
+  )
+    where
+      r : ℤ
+      r = turn (way (N i)) (negℤ (pos (natAbs (weights s j))))
+
+      t : ℤ
+      t = turn (way (N j)) (negℤ (pos (natAbs (weights s i))))
+
+      uj : pos (natAbs (weights s j)) ≡ negℤ (turn (way (N j)) (weights s j))
+      uj = abs-dn (way (N j)) (weights s j) lw
+
+      effect : (a : ℕ → ℤ) → a i *ℤ r +ℤ a j *ℤ t ≡ turn (way (N i)) (a i) *ℤ negℤ (negℤ (turn (way (N j)) (weights s j))) +ℤ turn (way (N j)) (a j) *ℤ negℤ (turn (way (N i)) (weights s i))
+      effect a = ap₂ _+ℤ_ (turn-mul (way (N i)) (a i) (negℤ (pos (natAbs (weights s j)))) ∙ ap (λ z. turn (way (N i)) (a i) *ℤ negℤ z) uj)
+          (turn-mul (way (N j)) (a j) (negℤ (pos (natAbs (weights s i)))) ∙ ap (λ z. turn (way (N j)) (a j) *ℤ negℤ z) (abs-up (way (N i)) (weights s i) hw))
+
+      same : (w l x y : ℤ) → w ≤ℤ l → (w +ℤ (x *ℤ negℤ (negℤ y) +ℤ y *ℤ negℤ x) *ℤ pos D) ≤ℤ l
+      same = split4 _ (λ a b c e f g h i. simp zed (omega arith))
+
+      opp : (c d x y : ℤ) → (c *ℤ negℤ y +ℤ d *ℤ x) ≤ℤ pos 0 → pos 0 ≤ℤ (c *ℤ negℤ (negℤ y) +ℤ d *ℤ negℤ x)
+      opp = split4 _ (λ a b c e f g h i. simp zed (omega arith))
+
+      more : (v x : ℤ) → pos 0 ≤ℤ x → v ≤ℤ (v +ℤ x *ℤ pos D)
+      more = split2 _ (λ a b c e. simp zed (λ h. omega (arith, mul-le-mul-left D h)))
+
+      1≤ : (y : ℤ) (m : ℕ) → y <ℤ pos 0 → pos m ≡ negℤ y → 1 ≤ m
+      1≤ = split _ (λ a b m. simp zed (omega arith))
+
+      first : far (s .count) (λ k. pos 0) (bump N i (r *ℤ pos D)) + natAbs (weights s j) * D ≤ far (s .count) (λ k. pos 0) N
+      first = far-bump (s .count) (λ k. pos 0) N i (r *ℤ pos D) (natAbs (weights s j) * D) li (b .nearer)
+
+      second : far (s .count) (λ k. pos 0) (shift D N i r j t) + natAbs (weights s i) * D ≤ far (s .count) (λ k. pos 0) (bump N i (r *ℤ pos D))
+      second = far-bump (s .count) (λ k. pos 0) (bump N i (r *ℤ pos D)) j (t *ℤ pos D) (natAbs (weights s i) * D) lj (rw (bump-other N i (r *ℤ pos D) j ne) (e .nearer))
+
+  -- ---- where no move is left
+
+  abbrev pub Near : (ℕ → ℤ) → Type 0
+  Near N = (k : ℕ) → k < s .count → natAbs (N k) ≤ 300000000 * D
+
+  -- an item that weighs something is no farther than its weight
+  abbrev Held : (ℕ → ℤ) → ℕ → Type 0
+  Held N k = (natAbs (N k) ≤ 11000 * D) ⊎ (1 ≤ natAbs (weights s k))
+
+  held : (N : ℕ → ℤ) (k : ℕ) → Held N k → natAbs (weights s k *ℤ N k) ≤ 276001000 * D → natAbs (N k) ≤ 300000000 * D
+  held N k (inl h) l = omega arith
+  held N k (inr h) l = omega (arith, natAbs-mul (weights s k) (N k), mul-le-mul-right (natAbs (N k)) h)
+
+  limits : (l : ℤ) → natAbs l ≤ 100000000 → ((l *ℤ pos D) ≤ℤ pos (100000000 * D)) × (negℤ (pos (100000000 * D)) ≤ℤ (l *ℤ pos D))
+  limits = split _ (λ a b. simp zed (λ h. (omega (arith, mul-le-mul-right D (one a b h)), omega (arith, mul-le-mul-right D (one b a (swp a b h))))))
+    where
+      swp : (a b : ℕ) → (a - b) + (b - a) ≤ 100000000 → (b - a) + (a - b) ≤ 100000000
+      swp a b h = omega arith
+
+      one : (a b : ℕ) → (a - b) + (b - a) ≤ 100000000 → a ≤ 100000000 + b
+      one a b h = omega arith
+
+  -- count * (11,000,000 * D)
+  many : s .count * (11000000 * D) ≤ 176000000 * D
+  many = omega (arith, mul-le-mul-right (11000000 * D) (g .few))
+
+  near-low : (N : ℕ → ℤ) → Feasibleᴰ s D N → Each (s .count) (Held N) → Each (s .count) (λ k. negℤ (pos (11000000 * D)) ≤ℤ (weights s k *ℤ N k)) → Near N
+  near-low N p h low k l = held N k (h k l) (fin (weights s k *ℤ N k) (weighsᴰ s N) (s .capacity *ℤ pos D) (s .count * (11000000 * D)) many (p .fits) (limits (s .capacity) (g .limited) .0) (low k l)
+      (part-of-sum (s .count) (λ j. weights s j *ℤ N j) (11000000 * D) low k l))
+    where
+      fin : (y w l : ℤ) (m : ℕ) → m ≤ 176000000 * D → w ≤ℤ l → l ≤ℤ pos (100000000 * D) → negℤ (pos (11000000 * D)) ≤ℤ y → y ≤ℤ (w +ℤ pos m) → natAbs y ≤ 276001000 * D
+      fin = split3 _ (λ a b c e f g m. simp zed (omega arith))
+
+  near-high : (N : ℕ → ℤ) → Each (s .count) (Held N) → Each (s .count) (λ k. (weights s k *ℤ N k) ≤ℤ pos (11000000 * D)) → (s .capacity *ℤ pos D) ≤ℤ (weighsᴰ s N +ℤ pos (1000 * D)) → Near N
+  near-high N h high full k l = held N k (h k l) (fin (weights s k *ℤ N k) (weighsᴰ s N) (s .capacity *ℤ pos D) (s .count * (11000000 * D)) many full (limits (s .capacity) (g .limited) .1) (high k l)
+      (rw (sum-scale (s .count) (negsuc 0) (λ j. weights s j *ℤ N j)) at (part-of-sum (s .count) (λ j. negsuc 0 *ℤ (weights s j *ℤ N j)) (11000000 * D) (λ j m. flip (weights s j *ℤ N j) (high j m)) k l)))
+    where
+      flip : (y : ℤ) → y ≤ℤ pos (11000000 * D) → negℤ (pos (11000000 * D)) ≤ℤ (negsuc 0 *ℤ y)
+      flip = split _ (λ a b. simp zed (omega arith))
+
+      fin : (y w l : ℤ) (m : ℕ) → m ≤ 176000000 * D → l ≤ℤ (w +ℤ pos (1000 * D)) → negℤ (pos (100000000 * D)) ≤ℤ l → y ≤ℤ pos (11000000 * D) → (negsuc 0 *ℤ y) ≤ℤ (negsuc 0 *ℤ w +ℤ pos m) → natAbs y ≤ 276001000 * D
+      fin = split3 _ (λ a b c e f g m. simp zed (omega arith))
+
+  step : (N : ℕ → ℤ) → Feasibleᴰ s D N → Near N ⊎ Next N
+  step N p = idle (find (s .count) (λ k. (11000 * D < natAbs (N k)) × (weights s k ≡ pos 0)) (Held N) (λ k. rests (weights s k) (decLt (11000 * D) (natAbs (N k)))))
+    where
+      rests : (a : ℤ) → {n : ℕ} → Dec (11000 * D < n) → ((11000 * D < n) × (a ≡ pos 0)) ⊎ ((n ≤ 11000 * D) ⊎ (1 ≤ natAbs a))
+      rests a (no h) = inr (inl (omega arith))
+      rests (pos zero) (yes h) = inl (h, refl)
+      rests (pos (suc n)) (yes h) = inr (inr (omega arith))
+      rests (negsuc n) (yes h) = inr (inr (omega arith))
+
+      other : {A B : Type 0} → A ⊎ B → B ⊎ A
+      other (inl a) = inr a
+      other (inr b) = inl b
+
+      away : (u k : ℕ) → k < s .count → u ≤ 1000 → 11000 * D < natAbs (N k) → Back D u (s .item k) (N k)
+      away u k l h f = back D u (s .item k) (N k) (g .lowers k l) (g .uppers k l) (within (p .keeps k l)) (omega (arith, mul-le-mul-right D h))
+
+      y : ℕ → ℤ
+      y k = weights s k *ℤ N k
+
+      High : ℕ → Type 0
+      High k = pos (11000000 * D) <ℤ y k
+
+      Low : ℕ → Type 0
+      Low k = y k <ℤ negℤ (pos (11000000 * D))
+
+      high-far : (k : ℕ) → k < s .count → High k → (11000 * D < natAbs (N k)) × (pos 0 <ℤ turn (way (N k)) (weights s k))
+      high-far k l h = (omega (arith, size-of (y k) h, natAbs-mul (weights s k) (N k), mul-le-mul-right (natAbs (N k)) (g .light k l)), sign-up (turn (way (N k)) (weights s k)) (natAbs (N k)) (11000000 * D) (rw (ahead (weights s k) (N k)) at h))
+        where
+          size-of : (y : ℤ) → pos (11000000 * D) <ℤ y → 11000000 * D < natAbs y
+          size-of = split _ (λ a b. simp zed (omega arith))
+
+      low-far : (k : ℕ) → k < s .count → Low k → (11000 * D < natAbs (N k)) × (turn (way (N k)) (weights s k) <ℤ pos 0)
+      low-far k l h = (omega (arith, size-of (y k) h, natAbs-mul (weights s k) (N k), mul-le-mul-right (natAbs (N k)) (g .light k l)), sign-dn (turn (way (N k)) (weights s k)) (natAbs (N k)) (11000000 * D) (rw (ahead (weights s k) (N k)) at h))
+        where
+          size-of : (y : ℤ) → y <ℤ negℤ (pos (11000000 * D)) → 11000000 * D < natAbs y
+          size-of = split _ (λ a b. simp zed (omega arith))
+
+      apart : (i j : ℕ) → High i → Low j → j ≢ i
+      apart i j h l e = clash (y i) h (rw e at l)
+        where
+          clash : (y : ℤ) → pos (11000000 * D) <ℤ y → y <ℤ negℤ (pos (11000000 * D)) → ⊥
+          clash = split _ (λ a b. simp zed (omega arith))
+
+      -- back in a heavy way, there is room
+      room : (w l x : ℤ) → w ≤ℤ l → pos 0 ≤ℤ x → (w -ℤ x *ℤ pos D) ≤ℤ l
+      room = split3 _ (λ a b c e f g. simp zed (λ h k. omega (arith, mul-le-mul-right D k)))
+
+      swapped : (i j : ℕ) → i < s .count → j < s .count → High i → Low j → (turn (way (N i)) (prices s i) ≤ℤ pos 0) ⊎ (pos 0 <ℤ turn (way (N i)) (prices s i)) → Next N
+      swapped i j li lj hi hj (inl c) = let fi = high-far i li hi in
+          ease N p i li (away 1 i li (omega arith) (fi .0)) (room (weighsᴰ s N) (s .capacity *ℤ pos D) (turn (way (N i)) (weights s i)) (p .fits) (weak< _ _ (fi .1))) c
+      swapped i j li lj hi hj (inr c) = let fi = high-far i li hi in let fj = low-far j lj hj in
+          swap N p i j li lj (apart i j hi hj) (away (natAbs (weights s j)) i li (g .light j lj) (fi .0)) (away (natAbs (weights s i)) j lj (g .light i li) (fj .0)) (fi .1) c (fj .1)
+
+      full : (w : Way) (a x l : ℤ) → natAbs a ≤ 1000 → l <ℤ (x -ℤ turn w a *ℤ pos D) → l ≤ℤ (x +ℤ pos (1000 * D))
+      full fore a x l = go a x l
+        where
+          one : (a b : ℕ) → (a - b) + (b - a) ≤ 1000 → b ≤ 1000 + a
+          one a b h = omega arith
+
+          go : (a x l : ℤ) → natAbs a ≤ 1000 → l <ℤ (x -ℤ a *ℤ pos D) → l ≤ℤ (x +ℤ pos (1000 * D))
+          go = split3 _ (λ a b c e f g. simp zed (λ h k. omega (arith, mul-le-mul-right D (one a b h))))
+      full aft a x l = go a x l
+        where
+          one : (a b : ℕ) → (a - b) + (b - a) ≤ 1000 → a ≤ 1000 + b
+          one a b h = omega arith
+
+          go : (a x l : ℤ) → natAbs a ≤ 1000 → l <ℤ (x -ℤ negℤ a *ℤ pos D) → l ≤ℤ (x +ℤ pos (1000 * D))
+          go = split3 _ (λ a b c e f g. simp zed (λ h k. omega (arith, mul-le-mul-right D (one a b h))))
+
+      slack : (j : ℕ) → j < s .count → Low j → Each (s .count) (Held N) → Each (s .count) (λ k. y k ≤ℤ pos (11000000 * D))
+          → ((weighsᴰ s N -ℤ turn (way (N j)) (weights s j) *ℤ pos D) ≤ℤ (s .capacity *ℤ pos D)) ⊎ ((s .capacity *ℤ pos D) <ℤ (weighsᴰ s N -ℤ turn (way (N j)) (weights s j) *ℤ pos D)) → Near N ⊎ Next N
+      slack j lj hj h high (inl r) = let fj = low-far j lj hj in let b = away 1 j lj (omega arith) (fj .0) in inr (ease N p j lj b r (nr .one j lj (way (N j)) (b .free) (weak< _ _ (fj .1))))
+      slack j lj hj h high (inr f) = inl (near-high N h high (full (way (N j)) (weights s j) (weighsᴰ s N) (s .capacity *ℤ pos D) (g .light j lj) f))
+
+      highs : (j : ℕ) → j < s .count → Low j → Each (s .count) (Held N) → ((k : ℕ) × (k < s .count) × High k) ⊎ Each (s .count) (λ k. y k ≤ℤ pos (11000000 * D)) → Near N ⊎ Next N
+      highs j lj hj h (inl (i, li, hi)) = inr (swapped i j li lj hi hj (≤ℤ-or-< (turn (way (N i)) (prices s i)) (pos 0)))
+      highs j lj hj h (inr high) = slack j lj hj h high (≤ℤ-or-< (weighsᴰ s N -ℤ turn (way (N j)) (weights s j) *ℤ pos D) (s .capacity *ℤ pos D))
+
+      lows : Each (s .count) (Held N) → ((k : ℕ) × (k < s .count) × Low k) ⊎ Each (s .count) (λ k. negℤ (pos (11000000 * D)) ≤ℤ y k) → Near N ⊎ Next N
+      lows h (inl (j, lj, hj)) = highs j lj hj h (find (s .count) High (λ k. y k ≤ℤ pos (11000000 * D)) (λ k. other (≤ℤ-or-< (y k) (pos (11000000 * D)))))
+      lows h (inr low) = inl (near-low N p h low)
+
+      still : (w : Way) (a : ℤ) → a ≡ pos 0 → turn w a ≡ pos 0
+      still fore a h = h
+      still aft a h = ap negℤ h
+
+      idle : ((k : ℕ) × (k < s .count) × ((11000 * D < natAbs (N k)) × (weights s k ≡ pos 0))) ⊎ Each (s .count) (Held N) → Near N ⊎ Next N
+      idle (inl (k, l, (f, z))) = let b = away 1 k l (omega arith) f in let e = still (way (N k)) (weights s k) z in
+          inr (ease N p k l b (room (weighsᴰ s N) (s .capacity *ℤ pos D) (turn (way (N k)) (weights s k)) (p .fits) (≤ℤ-reflexive (sym e))) (nr .one k l (way (N k)) (b .free) (≤ℤ-reflexive e)))
+      idle (inr h) = lows h (find (s .count) Low (λ k. negℤ (pos (11000000 * D)) ≤ℤ y k) (λ k. other (≤ℤ-or-< (negℤ (pos (11000000 * D))) (y k))))
+
+  -- THE REACH: every feasible point has one of no lower value within 300,000,000
+  pub reach : (N : ℕ → ℤ) → Feasibleᴰ s D N → (N′ : ℕ → ℤ) × Feasibleᴰ s D N′ × Near N′ × (valueᴰ s N ≤ℤ valueᴰ s N′)
+  reach = descend (Feasibleᴰ s D) Near (λ N N′. valueᴰ s N ≤ℤ valueᴰ s N′) (λ N. ≤ℤ-refl (valueᴰ s N)) (λ x y z. ≤ℤ-trans) size step
+
+-- ---- so a instance with no ray may be closed at ±300,000,000
+
+abbrev pub closed : Bound → ℤ → Bound
+closed Absent d = At d
+closed (At b) d = At b
+
+abbrev pub lowers : Instance → ℕ → Bound
+lowers s k = closed (s .item k .lower) (negℤ (pos 300000000))
+
+abbrev pub uppers : Instance → ℕ → Bound
+uppers s k = closed (s .item k .upper) (pos 300000000)
+
+abbrev pub shut : Instance → Instance
+shut s = boxed s (lowers s) (uppers s)
+
+pub into-shut : (s : Instance) (D : ℕ) (N : ℕ → ℤ) → Feasibleᴰ s D N → Each (s .count) (λ k. natAbs (N k) ≤ 300000000 * D) → Feasibleᴰ (shut s) D N
+into-shut s D N p h = into-box s (lowers s) (uppers s) D N p (λ k l. (lo (s .item k .lower) (N k) (p .keeps k l .above) (h k l), up (s .item k .upper) (N k) (p .keeps k l .below) (h k l)))
+  where
+    lo′ : (n : ℤ) → natAbs n ≤ 300000000 * D → (negℤ (pos 300000000) *ℤ pos D) ≤ℤ n
+    lo′ = split _ (λ a b. simp zed (omega arith))
+
+    lo : (b : Bound) (n : ℤ) → KeepsLowerᴰ D b n → natAbs n ≤ 300000000 * D → KeepsLowerᴰ D (closed b (negℤ (pos 300000000))) n
+    lo Absent n k h = lo′ n h
+    lo (At b) n k h = k
+
+    up′ : (n : ℤ) → natAbs n ≤ 300000000 * D → n ≤ℤ (pos 300000000 *ℤ pos D)
+    up′ = split _ (λ a b. simp zed (omega arith))
+
+    up : (b : Bound) (n : ℤ) → KeepsUpperᴰ D b n → natAbs n ≤ 300000000 * D → KeepsUpperᴰ D (closed b (pos 300000000)) n
+    up Absent n k h = up′ n h
+    up (At b) n k h = k
+
+pub out-of-shut : (s : Instance) (D : ℕ) (N : ℕ → ℤ) → Feasibleᴰ (shut s) D N → Feasibleᴰ s D N
+out-of-shut s D N p = record { keeps = λ k l. record { marked = p .keeps k l .marked; above = lo (s .item k .lower) (N k) (p .keeps k l .above); below = up (s .item k .upper) (N k) (p .keeps k l .below) }; fits = p .fits }
+  where
+    lo : (b : Bound) (n : ℤ) → KeepsLowerᴰ D (closed b (negℤ (pos 300000000))) n → KeepsLowerᴰ D b n
+    lo Absent n k = tt
+    lo (At b) n k = k
+
+    up : (b : Bound) (n : ℤ) → KeepsUpperᴰ D (closed b (pos 300000000)) n → KeepsUpperᴰ D b n
+    up Absent n k = tt
+    up (At b) n k = k
+
+pub reach-at-most : (s : Instance) → Ranges s → NoRay s → (W : ℤ) (E : ℕ) → AtMost (shut s) W E → AtMost s W E
+reach-at-most s g nr W E a D N d p = let r = reach s D d g nr N p in ≤ℤ-trans (times-≤ E (valueᴰ s N) (valueᴰ s (r .0)) (r .3)) (a D (r .0) d (into-shut s D (r .0) (r .1) (r .2)))
+
+pub reach-empty : (s : Instance) → Ranges s → NoRay s → ((D : ℕ) (N : ℕ → ℤ) → 1 ≤ D → ¬ Feasibleᴰ (shut s) D N) → (D : ℕ) (N : ℕ → ℤ) → 1 ≤ D → ¬ Feasibleᴰ s D N
+reach-empty s g nr h D N d p = let r = reach s D d g nr N p in h D (r .0) d (into-shut s D (r .0) (r .1) (r .2))
+
+pub reach-optimal : (s : Instance) → Ranges s → NoRay s → (E : ℕ) (M : ℕ → ℤ) → Optimalᴰ (shut s) E M → Optimalᴰ s E M
+reach-optimal s g nr E M b = record { feasible = out-of-shut s E M (b .feasible); highest = reach-at-most s g nr (valueᴰ s M) E (b .highest) }
