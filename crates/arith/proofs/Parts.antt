@@ -83,8 +83,8 @@ pub to-sfits : {z : ℤ} → max (up z - dn z) (dn z - up z) < 2 ^ 63 → SFits 
 to-sfits {z = pos n} h = record { sfits = omega arith }
 to-sfits {z = negsuc n} h = record { sfits = omega arith }
 
-pub no : false ≡ true → ⊥
-no h = subst yes-type (sym h) tt
+pub impossible : false ≡ true → ⊥
+impossible h = subst yes-type (sym h) tt
 
 true-is-not : true ≡ false → ⊥
 true-is-not h = subst yes-type h tt
@@ -171,4 +171,3 @@ abs-neg {z = pos n} h = absurd (omega (arith, from-lt h))
 abs-neg {z = negsuc n} h = omega arith
 
 pub ruleset zs = (from-le, to-le, from-lt, to-lt, from-eq, to-eq, to-sfits, from-bits, from-ltZ, from-ltZ-no, from-leZ, from-leZ-no)
-

@@ -4,7 +4,7 @@ use mathlib.Core.Bool.{Bool, true, false, not}
 use Prim.Native.Nat.{ℕ, zero, suc, _+_, _≤_, _<_, _^_}
 use native.Mathlib.Omega.{arith}
 use lib.IntN.{ℤ, pos, negsuc, _+ℤ_, _-ℤ_}
-use lib.Signed.{_≤ℤ_, _<ℤ_, ltZ, mag, ltZ-yes, ltZ-no}
+use lib.Signed.{_≤ℤ_, _<ℤ_, ltZ, mag, ltZ-yes, ltZ-no, clashℤ}
 use lib.Dec.{T, leb→le}
 use mir.Syntax.{Width, w64}
 use mir.Val.{SFits, hbits, toZ, ofZ}
@@ -20,6 +20,20 @@ yes-lt h = ltZ-yes (subst T (sym h) tt)
 
 pub no-lt : {a b : ℤ} → ltZ a b ≡ false → b ≤ℤ a
 no-lt h = ltZ-no (subst (λ t. T (not t)) (sym h) tt)
+
+pub le-no : {a b : ℤ} → b ≤ℤ a → ltZ a b ≡ false
+le-no {a} {b} h = go (ltZ a b) refl
+  where
+    go : (t : Bool) → ltZ a b ≡ t → ltZ a b ≡ false
+    go true e = clashℤ (yes-lt e) h
+    go false e = e
+
+pub lt-yes : {a b : ℤ} → a <ℤ b → ltZ a b ≡ true
+lt-yes {a} {b} h = go (ltZ a b) refl
+  where
+    go : (t : Bool) → ltZ a b ≡ t → ltZ a b ≡ true
+    go true e = e
+    go false e = clashℤ h (no-lt e)
 
 -- what lies between two numbers that fit fits
 pub between : {w : Width} (a b z : ℤ) → SFits w a → SFits w b → a ≤ℤ z → z ≤ℤ b → SFits w z

@@ -1,3 +1,4 @@
+pub mod Items
 pub mod Common
 pub mod Bridge
 pub mod Dual
@@ -7,3 +8,4 @@ pub mod Branch
 pub mod Reach
 pub mod Rays
 pub mod Escape
+pub mod Starred

@@ -141,3 +141,10 @@ optimal-not-unbounded s x y d b u = go (common (s .count) y) (common (s .count) 
         steep (inl h) = no-rise _ _ (u .rises 0) (over-≤ (c .D≥1) (worth 1) (worth 0) .1 (flat (c .D) (valueᴰ s (c .N)) gains h))
         steep (inr h) = let g = gap (valueᴰ s (e .N) *ℤ pos (c .D) +ℤ pos 1) (valueᴰ s (c .N) *ℤ pos (e .D)) in
             past (c .D) (e .D) (g .0) (c .D≥1) (e .D≥1) (valueᴰ s (c .N)) gains (valueᴰ s (e .N)) h (below (g .0)) (g .1)
+
+pub optimal-feasible : (s : Instance) (x : Point) → Optimal s x → Infeasible s → ⊥
+optimal-feasible s x o h = h x (o .feasible)
+
+-- no two of the three answers hold of one instance
+pub exclusive : (s : Instance) (x y : Point) (d : ℕ → ℤ) → (Optimal s x → Infeasible s → ⊥) × (Optimal s x → Unbounded s y d → ⊥) × (Unbounded s y d → Infeasible s → ⊥)
+exclusive s x y d = (optimal-feasible s x, optimal-not-unbounded s x y d, unbounded-feasible s y d)

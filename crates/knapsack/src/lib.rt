@@ -2,7 +2,10 @@
 // The theorems about the meaning that every crate above cites are in proofs/.
 use arith::Fraction;
 ghost use mathlib.Core.Path.{_≡_};
-ghost use Rattle.knapsack.specs.Records.{blank, emptyProblem};
+ghost use Prim.Native.Nat.{_≤_};
+ghost use lib.IntN.{pos, natAbs};
+ghost use lib.Signed.{_≤ℤ_};
+ghost use Rattle.knapsack.specs.Records.{blank, emptyProblem, itemAt, outside, badBound, badFigure, crossed, failing, someItem, refuse, verdict};
 
 // A bound of an item (01: an item that is not listed has no such bound).
 pub enum Bound {
@@ -82,4 +85,123 @@ pub fn empty_problem() -> Problem
         count: 0,
         capacity: 0,
     }
+}
+
+// What an item of a record is tried for.
+pub enum Trial {
+    Figures,
+    Crossing,
+}
+
+// Whether x is farther than n from zero.
+pub fn beyond(x: i64, n: i64) -> bool
+    requires { ⌜ (pos 0 ≤ℤ n) × (n ≤ℤ pos 1000000000) ⌝ }
+    ensures { λ r. ⌜ r ≡ outside (natAbs n) x ⌝ }
+{
+    if x < 0 - n {
+        return true;
+    }
+    n < x
+}
+
+pub fn bad_bound(b: Bound) -> bool
+    ensures { λ r. ⌜ r ≡ badBound b ⌝ }
+{
+    match b {
+        Bound::Absent => false,
+        Bound::At(v) => beyond(v, 10000),
+    }
+}
+
+pub fn bad_figure(i: Item) -> bool
+    ensures { λ r. ⌜ r ≡ badFigure i ⌝ }
+{
+    let w = i.weight;
+    if beyond(w, 1000) {
+        return true;
+    }
+    let c = i.price;
+    if beyond(c, 10000) {
+        return true;
+    }
+    let l = i.lower;
+    if bad_bound(l) {
+        return true;
+    }
+    let u = i.upper;
+    bad_bound(u)
+}
+
+pub fn crossed_bounds(l: Bound, u: Bound) -> bool
+    ensures { λ r. ⌜ r ≡ crossed l u ⌝ }
+{
+    let Bound::At(a) = l else {
+        return false;
+    };
+    let Bound::At(b) = u else {
+        return false;
+    };
+    b < a
+}
+
+pub fn fails(i: Item, t: Trial) -> bool
+    ensures { λ r. ⌜ r ≡ failing t i ⌝ }
+{
+    match t {
+        Trial::Figures => bad_figure(i),
+        Trial::Crossing => {
+            let l = i.lower;
+            let u = i.upper;
+            crossed_bounds(l, u)
+        }
+    }
+}
+
+pub fn some_fails(p: Problem, t: Trial) -> bool
+    requires { ⌜ p .count ≤ 16 ⌝ }
+    ensures { λ r. ⌜ r ≡ someItem (p .count) (itemAt p) (failing t) ⌝ }
+{
+    let n = p.count;
+    let mut k: usize = 0;
+    while k < n {
+        let i = p.items[k];
+        if fails(i, t) {
+            return true;
+        }
+        k += 1;
+    }
+    false
+}
+
+// A record's refusal: 3 (count), then 4 (capacity, then each item's figures), then 6 (a lower bound above its upper), line 0.
+pub fn check_record(p: Problem) -> Verdict
+    ensures { λ r. ⌜ r ≡ verdict p ⌝ }
+{
+    let n = p.count;
+    if n == 0 {
+        return refused(3);
+    }
+    if 16 < n {
+        return refused(3);
+    }
+    let b = p.capacity;
+    if beyond(b, 100000000) {
+        return refused(4);
+    }
+    if some_fails(p, Trial::Figures) {
+        return refused(4);
+    }
+    if some_fails(p, Trial::Crossing) {
+        return refused(6);
+    }
+    Verdict::Accepted
+}
+
+pub fn refused(number: u64) -> Verdict
+    ensures { λ r. ⌜ r ≡ refuse number ⌝ }
+{
+    Verdict::Refused(Refusal {
+        number: number,
+        line: 0,
+    })
 }

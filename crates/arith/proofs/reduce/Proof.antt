@@ -45,7 +45,7 @@ returns c =
     let d = c .before in
     let s = d .before .before in
     let n : c .with-sign .result ≡ signed (s .args .p) (natAbs (s .args .p) / gcdOf (natAbs (s .args .p)) (s .args .q)) =
-        rw (toZ-ofZ (s .fits .p), is-abs (d .before), divisor d) at (c .with-sign .ensures) in
+    rw (toZ-ofZ (s .fits .p), is-abs (d .before), divisor d) at (c .with-sign .ensures) in
     ap₂ (λ (x : ℤ) (y : ℕ). record { p = x; q = y }) (back (c .with-sign .result) (c .with-sign .ok) ∙ n) (ap (λ g. s .args .q / g) (divisor d))
 
 pub reduce-spec : {M : Type 1} → statement M

@@ -1,0 +1,140 @@
+-- Laws of records.
+-- some-found, some-more, none-fails: a test over the first items.
+-- accepted-iff: a record is accepted exactly if it is in range.
+use mathlib.Core.Path.{_≡_, refl, sym, _∙_, subst}
+use mathlib.Core.Bool.{Bool, true, false, cond}
+use mathlib.Core.Logic.{_↔_}
+use Prim.Native.Nat.{ℕ, zero, suc, _≤_, _<_}
+use native.Mathlib.Omega.{arith}
+use native.Mathlib.Decide.{ℕ-discrete}
+use Rattle.arith.proofs.Parts.{impossible}
+use lib.Dec.{ltb, eqb}
+use lib.IntN.{ℤ, natAbs}
+use borrow.Author.Tests.{ltb-false, eqb-false, le-ltb, ne-eqb}
+use Rattle.arith.proofs.Words.{no-lt, le-no}
+use Rattle.knapsack.specs.declared.Bound.{Bound}
+use Rattle.knapsack.specs.declared.Bound.the-variants.{Absent, At}
+use Rattle.knapsack.specs.declared.Item.{Item}
+use Rattle.knapsack.specs.declared.Problem.{Problem}
+use Rattle.knapsack.specs.declared.Trial.the-variants.{Figures, Crossing}
+use Rattle.knapsack.specs.declared.Verdict.{Verdict}
+use Rattle.knapsack.specs.declared.Verdict.the-variants.{Accepted, Refused}
+use Rattle.knapsack.specs.Records.{itemAt, outside, badBound, badFigure, crossed, failing, someItem, badCount, refuse, verdict, BoundInRange, InOrder, ItemInRange, InRange}
+
+pub some-more : (k : ℕ) (f : ℕ → Item) (test : Item → Bool) → someItem k f test ≡ false → test (f k) ≡ false → someItem (suc k) f test ≡ false
+unfolding someItem
+some-more k f test h e = rw h e
+
+pub some-found : (n k : ℕ) (f : ℕ → Item) (test : Item → Bool) → k < n → test (f k) ≡ true → someItem n f test ≡ true
+unfolding someItem
+some-found zero k f test l e = absurd (omega arith)
+some-found (suc n) k f test l e = go (ℕ-discrete k n) (someItem n f test) refl (λ m. some-found n k f test m e)
+  where
+    go : Dec (k ≡ n) → (b : Bool) → someItem n f test ≡ b → (k < n → someItem n f test ≡ true) → cond (someItem n f test) true (test (f n)) ≡ true
+    go d true h ih = rw h
+    go (yes d) false h ih = rw (h, ← d) e
+    go (no d) false h ih = rw (ih (omega arith))
+
+pub none-fails : (n : ℕ) (f : ℕ → Item) (test : Item → Bool) → someItem n f test ≡ false → (k : ℕ) → k < n → test (f k) ≡ false
+none-fails n f test h k l = go (test (f k)) refl
+  where
+    go : (b : Bool) → test (f k) ≡ b → test (f k) ≡ false
+    go true e = absurd (impossible (sym h ∙ some-found n k f test l e))
+    go false e = e
+
+-- ---- a record is accepted exactly if it is in range
+
+abbrev Taken : Verdict → Type 0
+Taken Accepted = Unit {0}
+Taken (Refused f) = ⊥
+
+-- of tests in a row that end in acceptance none holds
+rows : (a b c e : Bool) → cond a (refuse 3) (cond b (refuse 4) (cond c (refuse 4) (cond e (refuse 6) Accepted))) ≡ Accepted → (a ≡ false) × (b ≡ false) × (c ≡ false) × (e ≡ false)
+rows true b c e h = absurd (subst Taken (sym h) tt)
+rows false true c e h = absurd (subst Taken (sym h) tt)
+rows false false true e h = absurd (subst Taken (sym h) tt)
+rows false false false true h = absurd (subst Taken (sym h) tt)
+rows false false false false h = (refl, refl, refl, refl)
+
+-- of two tests in a row
+either : (a b : Bool) → cond a true b ≡ false → (a ≡ false) × (b ≡ false)
+either true b h = absurd (impossible (sym h))
+either false b h = (refl, h)
+
+inside : (n : ℕ) (z : ℤ) → outside n z ≡ false → natAbs z ≤ n
+inside n z h = ltb-false n (natAbs z) h
+
+not-outside : (n : ℕ) (z : ℤ) → natAbs z ≤ n → outside n z ≡ false
+not-outside n z h = le-ltb n (natAbs z) h
+
+bound-in : (b : Bound) → badBound b ≡ false → BoundInRange b
+bound-in Absent h = tt
+bound-in (At v) h = inside 10000 v h
+
+in-bound : (b : Bound) → BoundInRange b → badBound b ≡ false
+in-bound Absent h = refl
+in-bound (At v) h = not-outside 10000 v h
+
+order-in : (l u : Bound) → crossed l u ≡ false → InOrder l u
+order-in Absent u h = tt
+order-in (At l) Absent h = tt
+order-in (At l) (At u) h = no-lt h
+
+in-order : (l u : Bound) → InOrder l u → crossed l u ≡ false
+in-order Absent u h = refl
+in-order (At l) Absent h = refl
+in-order (At l) (At u) h = le-no h
+
+item-in : (i : Item) → failing Figures i ≡ false → failing Crossing i ≡ false → ItemInRange i
+item-in i h k =
+    let w = either (outside 1000 (i .weight)) _ h in
+    let c = either (outside 10000 (i .price)) _ (w .1) in
+    let b = either (badBound (i .lower)) _ (c .1) in
+    record {
+      weight-in = inside 1000 (i .weight) (w .0);
+      price-in = inside 10000 (i .price) (c .0);
+      lower-in = bound-in (i .lower) (b .0);
+      upper-in = bound-in (i .upper) (b .1);
+      in-order = order-in (i .lower) (i .upper) k;
+    }
+
+in-item : (i : Item) → ItemInRange i → failing Figures i ≡ false
+in-item i r = rw (not-outside 1000 (i .weight) (r .weight-in), not-outside 10000 (i .price) (r .price-in), in-bound (i .lower) (r .lower-in)) (in-bound (i .upper) (r .upper-in))
+
+-- no item fails
+all-pass : (n : ℕ) (f : ℕ → Item) (test : Item → Bool) → ((k : ℕ) → k < n → test (f k) ≡ false) → someItem n f test ≡ false
+unfolding someItem
+all-pass zero f test h = refl
+all-pass (suc n) f test h = some-more n f test (all-pass n f test (λ k l. h k (omega arith))) (h n (omega arith))
+
+pub accepted : (p : Problem) → verdict p ≡ Accepted → InRange p
+unfolding verdict
+accepted p h =
+    let r = rows (badCount (p .count)) (outside 100000000 (p .capacity)) (someItem (p .count) (itemAt p) (failing Figures)) (someItem (p .count) (itemAt p) (failing Crossing)) h in
+    let n = either (eqb (p .count) 0) (ltb 16 (p .count)) (r .0) in
+    record {
+      some-items = positive (p .count) (eqb-false (p .count) 0 (n .0));
+      few-items = ltb-false 16 (p .count) (n .1);
+      capacity-in = inside 100000000 (p .capacity) (r .1);
+      items-in = λ k l. item-in (itemAt p k) (none-fails (p .count) (itemAt p) (failing Figures) (r .2) k l) (none-fails (p .count) (itemAt p) (failing Crossing) (r .3) k l);
+    }
+  where
+    positive : (n : ℕ) → (n ≡ 0 → ⊥) → 1 ≤ n
+    positive zero h = absurd (h refl)
+    positive (suc n) h = omega arith
+
+pub in-range : (p : Problem) → InRange p → verdict p ≡ Accepted
+unfolding verdict
+in-range p r = rw (
+  ne-eqb (p .count) 0 (nonzero (p .count) (r .some-items)),
+  le-ltb 16 (p .count) (r .few-items),
+  not-outside 100000000 (p .capacity) (r .capacity-in),
+  all-pass (p .count) (itemAt p) (failing Figures) (λ k l. in-item (itemAt p k) (r .items-in k l)),
+  all-pass (p .count) (itemAt p) (failing Crossing) (λ k l. in-order (itemAt p k .lower) (itemAt p k .upper) (r .items-in k l .in-order)),
+)
+  where
+    nonzero : (n : ℕ) → 1 ≤ n → n ≡ 0 → ⊥
+    nonzero n h e = omega arith
+
+pub accepted-iff : (p : Problem) → (verdict p ≡ Accepted) ↔ InRange p
+accepted-iff p = (accepted p, in-range p)
