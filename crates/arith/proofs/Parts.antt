@@ -157,9 +157,19 @@ within-mul {m} {n} {x = negsuc a} {y = negsuc b} p q = record { above = mul-le-m
 pub within-add : {m n : ℕ} {x y : ℤ} → Within m x → Within n y → Within (m + n) (x +ℤ y)
 within-add {m} {n} {x} {y} p q = to-within (omega (arith, sum x y)) (omega (arith, sum x y))
 
+pub within-sub : {m n : ℕ} {x y : ℤ} → Within m x → Within n y → Within (m + n) (x -ℤ y)
+within-sub {m} {n} {x} {y} p q = to-within (omega (arith, diff x y)) (omega (arith, diff x y))
+
+pub within-more : {m n : ℕ} {z : ℤ} → m ≤ n → Within m z → Within n z
+within-more h w = record { above = omega (arith, w .above); below = omega (arith, w .below) }
+
 pub within-sfits : {n : ℕ} {z : ℤ} → n < 2 ^ 63 → Within n z → SFits w64 z
 within-sfits {z = pos k} h w = record { sfits = omega arith }
 within-sfits {z = negsuc k} h w = record { sfits = omega arith }
+
+-- a number in a range that fits, read back from its bits: `within-back tt h`
+pub within-back : {n : ℕ} {z : ℤ} → T (ltb n (2 ^ 63)) → Within n z → toZ w64 (ofZ w64 z) ≡ z
+within-back {n} t h = toZ-ofZ (within-sfits (ltb→lt n (2 ^ 63) t) h)
 
 -- a cast of a signed number that is not below zero
 pub cast-in : {z : ℤ} → pos 0 ≤ℤ z → SFits w64 z → T (nonNeg z) × Fits w64 (natAbs z)

@@ -1,0 +1,166 @@
+-- `greedy::start_of` meets its contract: the tests are those of the definition, in its order.
+use mathlib.Core.Path.{_≡_, refl, sym, ap, _∙_}
+use mathlib.Core.Bool.{true, false}
+use Prim.Native.Nat.{ℕ, _<_, _≤_, _/_}
+use native.Mathlib.Nat.{div-le-self}
+use native.Mathlib.Omega.{arith}
+use lib.Dec.{ltb, eqb}
+use lib.IntN.{ℤ, pos, natAbs}
+use lib.Signed.{ltZ}
+use mir.Syntax.{w64}
+use mir.Val.{toZ, ofZ}
+use borrow.Author.Tests.{lt-ltb, le-ltb, eq-eqb, ne-eqb}
+use Rattle.arith.specs.Within.{Within}
+use Rattle.arith.proofs.Parts.{within-more, within-abs, within-back}
+use Rattle.arith.proofs.Words.{back}
+use Rattle.greedy.specs.Fill.{at, weightOf, priceOf, rankOf, lightest, heaviest, lightOf, heavyOf, towards, sizeOf, start}
+use borrow.Author.Needs.{needs}
+use Rattle.greedy.proofs.start_of.Statement.{statement}
+use Rattle.greedy.proofs.start_of.Tie as tie
+
+mul-a : tie.Need-mul-a
+mul-a c = search needs
+
+element-copy-out-a : tie.Need-element-copy-out-a
+element-copy-out-a c = search needs
+
+mul-l : tie.Need-mul-l
+mul-l c = search needs
+
+element-copy-out-l : tie.Need-element-copy-out-l
+element-copy-out-l c = search needs
+
+mul-h : tie.Need-mul-h
+mul-h c = search needs
+
+element-copy-out-h : tie.Need-element-copy-out-h
+element-copy-out-h c = search needs
+
+mul-v : tie.Need-mul-v
+mul-v c = search needs
+
+element-copy-out-v : tie.Need-element-copy-out-v
+element-copy-out-v c = search needs
+
+mul-light-end : tie.Need-mul-light-end
+mul-light-end c = search needs
+
+element-copy-out-light-end : tie.Need-element-copy-out-light-end
+element-copy-out-light-end c = search needs
+
+light-end-requires : tie.Need-light-end-requires
+light-end-requires c κs = search needs
+
+-- what the function was given
+S : tie.After-light-end → tie.Start
+S c = c .before .before .before .before .before .before .before
+
+light-is : (c : tie.After-light-end) → toZ w64 (ofZ w64 (c .light-end .result)) ≡ lightOf (S c .args .t1) (S c .args .t2) (S c .args .k)
+unfolding S
+light-is c =
+    let s = S c in
+    let k = s .args .k in
+    let e = rw (within-back tt (s .pre .0 .columns .weights-in k), within-back tt (s .pre .0 .columns .prices-in k), within-back tt (s .pre .0 .ends .lo-in k), within-back tt (s .pre .0 .ends .hi-in k)) at (c .light-end .ensures) in
+    back (c .light-end .result) (c .light-end .ok) ∙ e
+
+not-empty : (c : tie.Else1) → ltZ (S (c .before) .args .f .room) (pos 0) ≡ false
+unfolding S
+not-empty c = let s = S (c .before) in rw (within-back tt (s .pre .1 .0 .room-in)) at (c .if1 .left)
+
+returns : tie.Need-returns
+unfolding start S
+returns c =
+    let s = S (c .before) in
+    let t = rw (within-back tt (s .pre .1 .0 .room-in)) at (c .if1 .taken) in
+    rw (light-is (c .before), t)
+
+heavy-end-requires : tie.Need-heavy-end-requires
+heavy-end-requires c κs = search needs
+
+returns-2 : tie.Need-returns-2
+unfolding start S
+returns-2 c =
+    let t = c .before in
+    let s = S (t .before .before) in
+    let k = s .args .k in
+    let e = rw (within-back tt (s .pre .0 .columns .weights-in k), within-back tt (s .pre .0 .ends .lo-in k), within-back tt (s .pre .0 .ends .hi-in k)) at (c .heavy-end .ensures) in
+    rw (not-empty (t .before), lt-ltb _ _ (t .if2 .taken)) (back (c .heavy-end .result) (c .heavy-end .ok) ∙ e)
+
+mul-units : tie.Need-mul-units
+mul-units c = search needs
+
+element-copy-out-units : tie.Need-element-copy-out-units
+element-copy-out-units c = search needs
+
+units-requires : tie.Need-units-requires
+unfolding S
+units-requires c κs =
+    let t = c .before in
+    let s = S (t .before .before .before .before) in
+    let u = s .args .f .at in
+    rw (within-back tt (s .pre .1 .0 .room-in), within-back tt (s .pre .0 .columns .sizes-in u)) (s .pre .1 .0 .room-in, (s .pre .0 .columns .sizes-in u, s .pre .0 .columns .live-sizes u (t .if4 .taken)))
+
+units-is : (c : tie.After-units) → c .units .result ≡ pos (natAbs (S (c .before .before .before .before .before .before) .args .f .room) / sizeOf (S (c .before .before .before .before .before .before) .args .t1) (S (c .before .before .before .before .before .before) .args .f))
+unfolding S
+units-is c =
+    let s = S (c .before .before .before .before .before .before) in
+    rw (within-back tt (s .pre .1 .0 .room-in), within-back tt (s .pre .0 .columns .sizes-in (s .args .f .at))) at (c .units .ensures)
+
+units-within : (c : tie.After-units) → Within 20000000000000 (c .units .result)
+unfolding S
+units-within c =
+    let s = S (c .before .before .before .before .before .before) in
+    rw (units-is c) (record { above = omega (arith, div-le-self (natAbs (s .args .f .room)) (sizeOf (s .args .t1) (s .args .f)), within-abs (s .args .f .room) (s .pre .1 .0 .room-in)); below = omega arith })
+
+raised-end-requires : tie.Need-raised-end-requires
+unfolding S
+raised-end-requires c κs =
+    let s = S (c .before .before .before .before .before .before) in
+    let k = s .args .k in
+    rw (within-back tt (s .pre .0 .ends .lo-in k), within-back tt (s .pre .0 .ends .hi-in k), within-back tt (units-within c)) (s .pre .0 .ends .lo-in k, (s .pre .0 .ends .hi-in k, units-within c))
+
+returns-3 : tie.Need-returns-3
+unfolding start S
+returns-3 c =
+    let d = c .before in
+    let t = d .before .before in
+    let s = S (t .before .before .before .before) in
+    let k = s .args .k in
+    let e = rw (within-back tt (s .pre .0 .columns .weights-in k), within-back tt (s .pre .0 .ends .lo-in k), within-back tt (s .pre .0 .ends .hi-in k), within-back tt (units-within d), units-is d) at (c .raised-end .ensures) in
+    rw (not-empty (t .before .before .before), le-ltb _ _ (t .before .before .if2 .left), eq-eqb _ _ (t .before .if3 .taken), lt-ltb _ _ (t .if4 .taken)) (back (c .raised-end .result) (c .raised-end .ok) ∙ e)
+
+returns-4 : tie.Need-returns-4
+unfolding start S
+returns-4 c =
+    let t = c .before in
+    rw (not-empty (t .before .before), le-ltb _ _ (t .before .if2 .left), eq-eqb _ _ (t .if3 .taken), le-ltb _ _ (c .if4 .left)) (light-is (t .before .before .before))
+
+returns-5 : tie.Need-returns-5
+unfolding start S
+returns-5 c = rw (not-empty (c .before .before), le-ltb _ _ (c .before .if2 .left), ne-eqb _ _ (c .if3 .left)) (light-is (c .before .before .before))
+
+pub start-of-spec : {M : Type 1} → statement M
+start-of-spec =
+    tie.close
+    (tie.spec
+    mul-a
+    element-copy-out-a
+    mul-l
+    element-copy-out-l
+    mul-h
+    element-copy-out-h
+    mul-v
+    element-copy-out-v
+    mul-light-end
+    element-copy-out-light-end
+    light-end-requires
+    returns
+    heavy-end-requires
+    returns-2
+    mul-units
+    element-copy-out-units
+    units-requires
+    raised-end-requires
+    returns-3
+    returns-4
+    returns-5)

@@ -1,0 +1,118 @@
+-- The relaxation of a box by greedy filling: every item at its light end, then by falling price per weight to its heavy end, until
+-- one does not fit. Paper 01, "Relaxation"; document 000, chapter 3.
+--   fill c e        where the filling stops: the rank, the room that is left, and what the whole amounts are worth
+--   bound c e f     the value of the relaxation, where the room is not below 0
+--   start c e f k   item k's amount in the relaxation, rounded towards its light end
+use mathlib.Core.Bool.{Bool, true, false, cond}
+use mathlib.Core.List.{List}
+use Prim.Native.Nat.{ℕ, zero, suc, _+_, _*_, _/_, _%_}
+use lib.Dec.{ltb, eqb}
+use lib.IntN.{ℤ, pos, natAbs, _+ℤ_, _-ℤ_, _*ℤ_}
+use lib.ListN.{getD}
+use lib.Signed.{ltZ}
+use Rattle.arith.specs.Sum.{sum}
+use Rattle.arith.specs.declared.Mixed.{Mixed}
+use Rattle.greedy.specs.declared.Columns.{Columns}
+use Rattle.greedy.specs.declared.Ends.{Ends}
+use Rattle.greedy.specs.declared.Fill.{Fill}
+use Rattle.greedy.specs.declared.Turn.{Turn}
+
+-- ---- columns, by item and by rank
+
+abbrev pub at : List ℤ → ℕ → ℤ
+at xs k = getD xs k (pos 0)
+
+abbrev pub place : List ℕ → ℕ → ℕ
+place xs k = getD xs k 0
+
+abbrev pub weightOf : Columns → ℕ → ℤ
+weightOf c k = at (c .weight) k
+
+abbrev pub priceOf : Columns → ℕ → ℤ
+priceOf c k = at (c .price) k
+
+-- the item of a rank, and the rank of an item
+abbrev pub itemOf : Columns → ℕ → ℕ
+itemOf c u = place (c .order) u
+
+abbrev pub rankOf : Columns → ℕ → ℕ
+rankOf c k = place (c .rank) k
+
+-- ---- ends
+
+-- where an item weighs least; one of weight 0 stands at the end of the better price
+abbrev pub lightest : ℤ → ℤ → ℤ → ℤ → ℤ
+lightest a c l u = cond (ltZ (pos 0) a) l (cond (ltZ a (pos 0)) u (cond (ltZ (pos 0) c) u l))
+
+abbrev pub heaviest : ℤ → ℤ → ℤ → ℤ
+heaviest a l u = cond (ltZ a (pos 0)) l u
+
+abbrev pub lightOf : Columns → Ends → ℕ → ℤ
+lightOf c e k = lightest (weightOf c k) (priceOf c k) (at (e .lo) k) (at (e .hi) k)
+
+abbrev pub heavyOf : Columns → Ends → ℕ → ℤ
+heavyOf c e k = heaviest (weightOf c k) (at (e .lo) k) (at (e .hi) k)
+
+-- how far the item of rank u can be raised
+abbrev pub width : Columns → Ends → ℕ → ℤ
+width c e u = at (e .hi) (itemOf c u) -ℤ at (e .lo) (itemOf c u)
+
+-- ---- filling
+
+abbrev pub cornerWeight : Columns → Ends → ℕ → ℤ
+cornerWeight c e n = sum n (λ k. weightOf c k *ℤ lightOf c e k)
+
+abbrev pub cornerWorth : Columns → Ends → ℕ → ℤ
+cornerWorth c e n = sum n (λ k. priceOf c k *ℤ lightOf c e k)
+
+-- one item more, at the amount x
+abbrev pub withItem : Fill → ℤ → ℤ → ℤ → Fill
+withItem f a c x = record { at = f .at; room = f .room -ℤ a *ℤ x; worth = f .worth +ℤ c *ℤ x }
+
+abbrev pub begun : Columns → Ends → Fill
+begun c e = record { at = 0; room = c .capacity -ℤ cornerWeight c e (c .count); worth = cornerWorth c e (c .count) }
+
+-- the item of the next rank, of that weight and price without sign, is raised to its heavy end
+abbrev pub raisedBy : Fill → ℤ → ℤ → ℤ → Fill
+raisedBy f size rate wide = record { at = f .at + 1; room = f .room -ℤ size *ℤ wide; worth = f .worth +ℤ rate *ℤ wide }
+
+abbrev pub turnBy : Fill → ℤ → ℤ → ℤ → Turn
+turnBy f size rate wide = cond (ltZ (f .room) (size *ℤ wide)) (record { fits = false; fill = f }) (record { fits = true; fill = raisedBy f size rate wide })
+
+abbrev pub raised : Columns → Ends → Fill → Fill
+raised c e f = raisedBy f (at (c .size) (f .at)) (at (c .rate) (f .at)) (width c e (f .at))
+
+unfoldable pub fillFrom : Columns → Ends → ℕ → Fill → Fill
+fillFrom c e zero f = f
+fillFrom c e (suc n) f = cond (ltZ (f .room) (at (c .size) (f .at) *ℤ width c e (f .at))) f (fillFrom c e n (raised c e f))
+
+unfoldable pub fill : Columns → Ends → Fill
+fill c e = cond (ltZ (begun c e .room) (pos 0)) (begun c e) (fillFrom c e (c .live) (begun c e))
+
+-- ---- what the filling says
+
+-- the weight of the rank where the filling ends, without sign
+abbrev pub sizeOf : Columns → Fill → ℕ
+sizeOf c f = natAbs (at (c .size) (f .at))
+
+abbrev pub rateOf : Columns → Fill → ℕ
+rateOf c f = natAbs (at (c .rate) (f .at))
+
+-- the worth with the room at the price p for a weight of s
+abbrev pub sharedBy : Fill → ℕ → ℕ → Mixed
+sharedBy f s p = record { whole = f .worth +ℤ pos ((p * natAbs (f .room)) / s); part = (p * natAbs (f .room)) % s; parts = s }
+
+unfoldable pub bound : Columns → Fill → Mixed
+bound c f = cond (ltb (f .at) (c .live)) (sharedBy f (sizeOf c f) (rateOf c f)) (record { whole = f .worth; part = 0; parts = 1 })
+
+-- q units from the light end to the heavy one
+abbrev pub towards : ℤ → ℤ → ℤ → ℤ → ℤ
+towards a l u q = cond (ltZ a (pos 0)) (u -ℤ q) (l +ℤ q)
+
+unfoldable pub start : Columns → Ends → Fill → ℕ → ℤ
+start c e f k =
+    cond (ltZ (f .room) (pos 0)) (lightOf c e k)
+    (cond (ltb (rankOf c k) (f .at)) (heavyOf c e k)
+    (cond (eqb (rankOf c k) (f .at))
+      (cond (ltb (f .at) (c .live)) (towards (weightOf c k) (at (e .lo) k) (at (e .hi) k) (pos (natAbs (f .room) / sizeOf c f))) (lightOf c e k))
+    (lightOf c e k)))
