@@ -296,7 +296,7 @@ module _ (c : Columns) (e : Ends) (marks : ℕ → Mark) (o : Ordered c) (b : In
     value-is : valueᴰ s (solution f) ≡ f .worth *ℤ pos q +ℤ turned (weightOf c k) (priceOf c k) *ℤ f .room
     value-is = sum-set (c .count) (priceOf c) (λ j. stand c e (f .at) j *ℤ pos q) (solution f) k (k-in (f .at) l) others-stand
         ∙ ap₂ _+ℤ_ (sum-times (c .count) (priceOf c) (stand c e (f .at)) q ∙ ap (λ z. z *ℤ pos q) (g .worth-is))
-            (ap (λ z. priceOf c k *ℤ (z -ℤ stand c e (f .at) k *ℤ pos q)) own-stand ∙ cancel (priceOf c k) (stand c e (f .at) k *ℤ pos q) (unit (weightOf c k) *ℤ f .room) ∙ signed (weightOf c k) (priceOf c k) (f .room))
+        (ap (λ z. priceOf c k *ℤ (z -ℤ stand c e (f .at) k *ℤ pos q)) own-stand ∙ cancel (priceOf c k) (stand c e (f .at) k *ℤ pos q) (unit (weightOf c k) *ℤ f .room) ∙ signed (weightOf c k) (priceOf c k) (f .room))
       where
         cancel : (p x y : ℤ) → p *ℤ ((x +ℤ y) -ℤ x) ≡ p *ℤ y
         cancel = split3 _ (λ a b c e f g. simp zed (omega arith))

@@ -119,5 +119,5 @@ start c e f k =
     cond (ltZ (f .room) (pos 0)) (lightOf c e k)
     (cond (ltb (rankOf c k) (f .at)) (heavyOf c e k)
     (cond (eqb (rankOf c k) (f .at))
-      (cond (ltb (f .at) (c .live)) (towards (weightOf c k) (at (e .lo) k) (at (e .hi) k) (pos (natAbs (f .room) / sizeOf c f))) (lightOf c e k))
+    (cond (ltb (f .at) (c .live)) (towards (weightOf c k) (at (e .lo) k) (at (e .hi) k) (pos (natAbs (f .room) / sizeOf c f))) (lightOf c e k))
     (lightOf c e k)))

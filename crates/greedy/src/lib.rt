@@ -1,7 +1,8 @@
 // The relaxation of a box, in which every item has both bounds, by greedy filling over flat arrays: the planner's inner loop.
 // The mathematics is document 000, chapter 3: a prefix of the order by price per weight stands at its heavy end, the rest at its
 // light end, and at most one item between (the critical item).
-use arith::{Mixed, magnitude};
+use arith::Mixed;
+use arith::magnitude;
 ghost use mathlib.Core.Path.{_≡_};
 ghost use Prim.Native.Nat.{ℕ, _≤_, _<_, _/_};
 ghost use lib.IntN.{ℤ, pos, natAbs};
@@ -98,14 +99,20 @@ pub fn raise(f: Fill, size: i64, rate: i64, width: i64) -> Turn
 {
     let need = size * width;
     if f.room < need {
-        return Turn { fits: false, fill: f };
+        return Turn {
+            fits: false,
+            fill: f,
+        };
     }
     let g = Fill {
         at: f.at + 1,
         room: f.room - need,
         worth: f.worth + rate * width,
     };
-    Turn { fits: true, fill: g }
+    Turn {
+        fits: true,
+        fill: g,
+    }
 }
 
 // The filling of a box: where it stops. A room below 0 says that the box is empty.
