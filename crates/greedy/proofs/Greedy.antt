@@ -10,7 +10,7 @@ use lib.Signed.{_≤ℤ_, _<ℤ_, ≤ℤ-refl}
 use Rattle.arith.proofs.Integers.{_⊖_, split, split2, split3, split4, zed, ≤ℤ-trans, ≤ℤ-reflexive, ≤ℤ-or-<, times-≤}
 use Rattle.arith.proofs.Sums.{bump-same, bump-other, sum-bump, sum-cong}
 use Rattle.arith.specs.Sum.{sum, Each, bump}
-use Rattle.greedy.specs.Fill.{turned}
+use Rattle.greedy.specs.Fill.{turned, unit}
 use Rattle.greedy.specs.Ordered.{Idle}
 use Rattle.greedy.proofs.Critical.{HeavyEnd, LightEnd, heavy-end, light-end, filled, fill, fill-price}
 use Rattle.knapsack.proofs.Branch.{TooHeavy}
@@ -99,11 +99,6 @@ not-idle a c nz h (inr l) = clash (turned a c) h l
   where
     clash : (x : ℤ) → pos 0 <ℤ x → x ≤ℤ pos 0 → ⊥
     clash = split _ (λ a b. simp zed (omega arith))
-
--- 1 or -1
-abbrev pub unit : ℤ → ℤ
-unit (pos n) = pos 1
-unit (negsuc n) = negsuc 0
 
 unit-sq : (a : ℤ) → unit a *ℤ unit a ≡ pos 1
 unit-sq (pos n) = refl

@@ -1,7 +1,5 @@
 -- What a filling says of its box.
 --   boxOf c e marks   the instance of columns and ends, all bounds present
---   stand c e t k     item k's amount while the first t ranks are raised
---   solution c e f    the relaxation's point, over the divisor of its bound
 -- fill-empty: a room below 0 says that nothing is feasible.
 -- fill-bound: otherwise nothing feasible is worth more than the bound.
 -- fill-point: and the solution is feasible and worth the bound, if every integer item is fixed.
@@ -34,16 +32,13 @@ use Rattle.knapsack.proofs.Branch.{AtMost, leaf, TooHeavy, empty}
 use Rattle.greedy.specs.declared.Columns.{Columns}
 use Rattle.greedy.specs.declared.Ends.{Ends}
 use Rattle.greedy.specs.declared.Fill.{Fill}
-use Rattle.greedy.specs.Fill.{at, weightOf, priceOf, itemOf, rankOf, lightest, heaviest, turned, lightOf, heavyOf, width, begun, raised, raisedBy, fillFrom, fill, sizeOf, rateOf, sharedBy, bound, towards, start}
+use Rattle.greedy.specs.Fill.{at, weightOf, priceOf, itemOf, rankOf, lightest, heaviest, turned, lightOf, heavyOf, width, begun, raised, raisedBy, fillFrom, fill, sizeOf, rateOf, sharedBy, bound, towards, start, unit, stand, taken, solution}
 use Rattle.greedy.specs.Ordered.{Idle, weightAt, rateAt, Ordered}
-use Rattle.greedy.proofs.Greedy.{Boxed, LightAt, HeavyAt, Ranked, Inv, Critical, unit, too-heavy, begin, raise, finish, inv-feasible, critical, not-idle, abs≥1, turned-abs, light-in, heavy-in, sign-of, turned-up, turned-dn, unit-abs}
+use Rattle.greedy.proofs.Greedy.{Boxed, LightAt, HeavyAt, Ranked, Inv, Critical, too-heavy, begin, raise, finish, inv-feasible, critical, not-idle, abs≥1, turned-abs, light-in, heavy-in, sign-of, turned-up, turned-dn, unit-abs}
 use Rattle.greedy.proofs.Sides.{is-lightest, is-heaviest, lift-price}
 
 abbrev pub boxOf : Columns → Ends → (ℕ → Mark) → Instance
 boxOf c e marks = record { capacity = c .capacity; count = c .count; item = λ k. record { mark = marks k; weight = weightOf c k; price = priceOf c k; lower = At (at (e .lo) k); upper = At (at (e .hi) k) } }
-
-abbrev pub stand : Columns → Ends → ℕ → ℕ → ℤ
-stand c e t k = cond (ltb (rankOf c k) t) (heavyOf c e k) (lightOf c e k)
 
 -- the ends of a box are in order
 abbrev pub InOrder : Columns → Ends → Type 0
@@ -220,13 +215,6 @@ module _ (c : Columns) (e : Ends) (marks : ℕ → Mark) (o : Ordered c) (b : In
 
   -- ---- the solution
 
-  -- what the critical item takes of the room
-  abbrev pub taken : Fill → ℕ → ℤ
-  taken f k = cond (ltb (f .at) (c .live)) (cond (eqb (rankOf c k) (f .at)) (unit (weightOf c k) *ℤ f .room) (pos 0)) (pos 0)
-
-  abbrev pub solution : Fill → ℕ → ℤ
-  solution f k = stand c e (f .at) k *ℤ pos (bound c f .parts) +ℤ taken f k
-
   plus-0 : (x : ℤ) → x +ℤ pos 0 ≡ x
   plus-0 = split _ (λ a b. simp zed (omega arith))
 
@@ -249,7 +237,7 @@ module _ (c : Columns) (e : Ends) (marks : ℕ → Mark) (o : Ordered c) (b : In
     slack-certificate : Certificate s 1 (stand c e (f .at))
     slack-certificate = finish s lo hi boxed (rankOf c) ranked (f .at) (stand c e (f .at)) (f .room) (g .inv) (λ k l h. late-idle k l (omega arith))
 
-    slack-solution : (k : ℕ) → stand c e (f .at) k ≡ solution f k
+    slack-solution : (k : ℕ) → stand c e (f .at) k ≡ solution c e f k
     slack-solution k = rw (slack, le-ltb (f .at) (c .live) (omega arith), times-1 (stand c e (f .at) k)) (sym (plus-0 (stand c e (f .at) k)))
 
     slack-over : valueᴰ s (stand c e (f .at)) ≡ over (bound c f)
@@ -280,21 +268,21 @@ module _ (c : Columns) (e : Ends) (marks : ℕ → Mark) (o : Ordered c) (b : In
     parts-is : bound c f .parts ≡ q
     parts-is = ap (λ (m : Mixed). m .parts) full
 
-    others-stand : (j : ℕ) → j < c .count → j ≢ k → solution f j ≡ stand c e (f .at) j *ℤ pos q
+    others-stand : (j : ℕ) → j < c .count → j ≢ k → solution c e f j ≡ stand c e (f .at) j *ℤ pos q
     others-stand j m ne = rw (parts-is, lt-ltb (f .at) (c .live) l, ne-eqb (rankOf c j) (f .at) (λ h. ne (sym (o .item-rank j m) ∙ ap (itemOf c) h))) (plus-0 (stand c e (f .at) j *ℤ pos q))
 
-    own-stand : solution f k ≡ stand c e (f .at) k *ℤ pos q +ℤ unit (weightOf c k) *ℤ f .room
+    own-stand : solution c e f k ≡ stand c e (f .at) k *ℤ pos q +ℤ unit (weightOf c k) *ℤ f .room
     own-stand = rw (parts-is, lt-ltb (f .at) (c .live) l, eq-eqb (rankOf c k) (f .at) (its-rank (f .at) l))
 
     need-is : at (c .size) (f .at) *ℤ width c e (f .at) ≡ pos q *ℤ (hi k -ℤ lo k)
     need-is = ap (λ z. z *ℤ width c e (f .at)) (o .sizes (f .at) l)
 
-    at-limit : Critical s q (solution f)
-    at-limit = critical s lo hi boxed (rankOf c) ranked (f .at) k (stand c e (f .at)) (solution f) (f .room) (k-in (f .at) l) (its-rank (f .at) l) nz (o .live-rate (f .at) l) (rw need-is at short) (g .inv) others-stand own-stand
+    at-limit : Critical s q (solution c e f)
+    at-limit = critical s lo hi boxed (rankOf c) ranked (f .at) k (stand c e (f .at)) (solution c e f) (f .room) (k-in (f .at) l) (its-rank (f .at) l) nz (o .live-rate (f .at) l) (rw need-is at short) (g .inv) others-stand own-stand
 
     -- what the solution is worth
-    value-is : valueᴰ s (solution f) ≡ f .worth *ℤ pos q +ℤ turned (weightOf c k) (priceOf c k) *ℤ f .room
-    value-is = sum-set (c .count) (priceOf c) (λ j. stand c e (f .at) j *ℤ pos q) (solution f) k (k-in (f .at) l) others-stand
+    value-is : valueᴰ s (solution c e f) ≡ f .worth *ℤ pos q +ℤ turned (weightOf c k) (priceOf c k) *ℤ f .room
+    value-is = sum-set (c .count) (priceOf c) (λ j. stand c e (f .at) j *ℤ pos q) (solution c e f) k (k-in (f .at) l) others-stand
         ∙ ap₂ _+ℤ_ (sum-times (c .count) (priceOf c) (stand c e (f .at)) q ∙ ap (λ z. z *ℤ pos q) (g .worth-is))
         (ap (λ z. priceOf c k *ℤ (z -ℤ stand c e (f .at) k *ℤ pos q)) own-stand ∙ cancel (priceOf c k) (stand c e (f .at) k *ℤ pos q) (unit (weightOf c k) *ℤ f .room) ∙ signed (weightOf c k) (priceOf c k) (f .room))
       where
@@ -348,17 +336,17 @@ module _ (c : Columns) (e : Ends) (marks : ℕ → Mark) (o : Ordered c) (b : In
     where
       go : (f .at ≡ c .live) ⊎ ((f .at < c .live) × (f .room <ℤ (at (c .size) (f .at) *ℤ width c e (f .at)))) → AtMost s (over (bound c f)) (bound c f .parts)
       go (inl h) = leaf s (over (bound c f)) (bound c f .parts) 1 (stand c e (f .at)) (omega arith) (slack-certificate f (t .good) h) (equal-≤ _ _ _ _ (slack-over f (t .good) h) (ap (λ (m : Mixed). m .parts) (slack f (t .good) h)))
-      go (inr (h, j)) = leaf s (over (bound c f)) (bound c f .parts) (q f (t .good) h j) (solution f) (q≥1 f (t .good) h j) (at-limit f (t .good) h j .proof) (equal-≤ _ _ _ _ (value-is f (t .good) h j ∙ sym (over-is f (t .good) h j)) (parts-is f (t .good) h j))
+      go (inr (h, j)) = leaf s (over (bound c f)) (bound c f .parts) (q f (t .good) h j) (solution c e f) (q≥1 f (t .good) h j) (at-limit f (t .good) h j .proof) (equal-≤ _ _ _ _ (value-is f (t .good) h j ∙ sym (over-is f (t .good) h j)) (parts-is f (t .good) h j))
 
   -- every integer item is fixed
   abbrev pub Fixed : Type 0
   Fixed = (j : ℕ) → j < c .count → marks j ≡ Integer → lo j ≡ hi j
 
-  pub fill-value : (f : Fill) → Stopped f → valueᴰ s (solution f) ≡ over (bound c f)
+  pub fill-value : (f : Fill) → Stopped f → valueᴰ s (solution c e f) ≡ over (bound c f)
   fill-value f t = go (t .why)
     where
-      go : (f .at ≡ c .live) ⊎ ((f .at < c .live) × (f .room <ℤ (at (c .size) (f .at) *ℤ width c e (f .at)))) → valueᴰ s (solution f) ≡ over (bound c f)
-      go (inl h) = sum-cong (c .count) (λ j. priceOf c j *ℤ solution f j) (λ j. priceOf c j *ℤ stand c e (f .at) j) (λ j l. ap (λ z. priceOf c j *ℤ z) (sym (slack-solution f (t .good) h j))) ∙ slack-over f (t .good) h
+      go : (f .at ≡ c .live) ⊎ ((f .at < c .live) × (f .room <ℤ (at (c .size) (f .at) *ℤ width c e (f .at)))) → valueᴰ s (solution c e f) ≡ over (bound c f)
+      go (inl h) = sum-cong (c .count) (λ j. priceOf c j *ℤ solution c e f j) (λ j. priceOf c j *ℤ stand c e (f .at) j) (λ j l. ap (λ z. priceOf c j *ℤ z) (sym (slack-solution f (t .good) h j))) ∙ slack-over f (t .good) h
       go (inr (h, j)) = value-is f (t .good) h j ∙ sym (over-is f (t .good) h j)
 
   -- a whole multiple keeps every mark, and a critical item is continuous
@@ -370,14 +358,14 @@ module _ (c : Columns) (e : Ends) (marks : ℕ → Mark) (o : Ordered c) (b : In
   keep-loose Integer q z h = absurd (h refl)
   keep-loose Continuous q z h = tt
 
-  pub fill-point : Fixed → (f : Fill) → Stopped f → Feasibleᴰ s (bound c f .parts) (solution f)
+  pub fill-point : Fixed → (f : Fill) → Stopped f → Feasibleᴰ s (bound c f .parts) (solution c e f)
   fill-point fixed f t = go (t .why)
     where
-      go : (f .at ≡ c .live) ⊎ ((f .at < c .live) × (f .room <ℤ (at (c .size) (f .at) *ℤ width c e (f .at)))) → Feasibleᴰ s (bound c f .parts) (solution f)
-      go (inl h) = subst (λ n. Feasibleᴰ s n (solution f)) (sym (ap (λ (m : Mixed). m .parts) (slack f (t .good) h))) (feasible-cong 1 (stand c e (f .at)) (solution f) (λ j l. slack-solution f (t .good) h j) (inv-feasible s lo hi boxed (rankOf c) ranked (f .at) (stand c e (f .at)) (f .room) (t .good .inv)))
-      go (inr (h, j)) = subst (λ n. Feasibleᴰ s n (solution f)) (sym (parts-is f (t .good) h j)) (record {
+      go : (f .at ≡ c .live) ⊎ ((f .at < c .live) × (f .room <ℤ (at (c .size) (f .at) *ℤ width c e (f .at)))) → Feasibleᴰ s (bound c f .parts) (solution c e f)
+      go (inl h) = subst (λ n. Feasibleᴰ s n (solution c e f)) (sym (ap (λ (m : Mixed). m .parts) (slack f (t .good) h))) (feasible-cong 1 (stand c e (f .at)) (solution c e f) (λ j l. slack-solution f (t .good) h j) (inv-feasible s lo hi boxed (rankOf c) ranked (f .at) (stand c e (f .at)) (f .room) (t .good .inv)))
+      go (inr (h, j)) = subst (λ n. Feasibleᴰ s n (solution c e f)) (sym (parts-is f (t .good) h j)) (record {
         keeps = λ i l. record { marked = marked i l (ℕ-discrete i (k f (t .good) h j)); above = at-limit f (t .good) h j .inside i l .above; below = at-limit f (t .good) h j .inside i l .below };
-        fits = level-fits (weighsᴰ s (solution f)) (c .capacity *ℤ pos (q f (t .good) h j)) (at-limit f (t .good) h j .proof .p) (at-limit f (t .good) h j .p≥1) (at-limit f (t .good) h j .proof .tight);
+        fits = level-fits (weighsᴰ s (solution c e f)) (c .capacity *ℤ pos (q f (t .good) h j)) (at-limit f (t .good) h j .proof .p) (at-limit f (t .good) h j .p≥1) (at-limit f (t .good) h j .proof .tight);
       })
         where
           level-fits : (w b : ℤ) (p : ℕ) → 1 ≤ p → pos p *ℤ w ≡ pos p *ℤ b → w ≤ℤ b
@@ -393,9 +381,9 @@ module _ (c : Columns) (e : Ends) (marks : ℕ → Mark) (o : Ordered c) (b : In
               none : (a u r : ℤ) → pos 0 ≤ℤ r → r <ℤ (a *ℤ (u -ℤ u)) → ⊥
               none = split3 _ (λ a b c e f g. simp zed (omega arith))
 
-          marked : (i : ℕ) → i < c .count → Dec (i ≡ k f (t .good) h j) → KeepsMarkᴰ (q f (t .good) h j) (marks i) (solution f i)
-          marked i l (yes x) = keep-loose (marks i) (q f (t .good) h j) (solution f i) (λ m. no-room (at (c .size) (f .at)) (lo i) (hi i) (f .room) (fixed i l m) (t .good .inv .room) (rw x j))
-          marked i l (no x) = keep-whole (marks i) (q f (t .good) h j) (stand c e (f .at) i) (solution f i) (others-stand f (t .good) h j i l x)
+          marked : (i : ℕ) → i < c .count → Dec (i ≡ k f (t .good) h j) → KeepsMarkᴰ (q f (t .good) h j) (marks i) (solution c e f i)
+          marked i l (yes x) = keep-loose (marks i) (q f (t .good) h j) (solution c e f i) (λ m. no-room (at (c .size) (f .at)) (lo i) (hi i) (f .room) (fixed i l m) (t .good .inv .room) (rw x j))
+          marked i l (no x) = keep-whole (marks i) (q f (t .good) h j) (stand c e (f .at) i) (solution c e f i) (others-stand f (t .good) h j i l x)
 
   -- ---- starts
 

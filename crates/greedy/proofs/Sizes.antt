@@ -1,5 +1,6 @@
 -- How large the numbers of a filling get.
 -- light-within, heavy-within: an end is in the range of ends; corner-weight-within, corner-worth-within: sums of light ends.
+-- fill-sized: a filling's numbers.
 use mathlib.Core.Path.{_≡_, refl}
 use mathlib.Core.Bool.{Bool, true, false, cond}
 use Prim.Native.Nat.{ℕ, zero, suc, _+_, _*_, _≤_, _<_}
@@ -11,8 +12,9 @@ use Rattle.arith.specs.Within.{Within}
 use Rattle.arith.proofs.Parts.{within-mul, within-add, within-sub, within-more}
 use Rattle.greedy.specs.declared.Columns.{Columns}
 use Rattle.greedy.specs.declared.Ends.{Ends}
-use Rattle.greedy.specs.Fill.{at, weightOf, priceOf, lightest, heaviest, lightOf, heavyOf, width, cornerWeight, cornerWorth}
-use Rattle.greedy.specs.Sized.{SizedColumns, SizedEnds, Sized}
+use Rattle.greedy.specs.declared.Fill.{Fill}
+use Rattle.greedy.specs.Fill.{at, weightOf, priceOf, lightest, heaviest, lightOf, heavyOf, width, cornerWeight, cornerWorth, begun, raised, fillFrom, fill}
+use Rattle.greedy.specs.Sized.{SizedColumns, SizedEnds, Sized, SizedFill}
 
 -- one of two numbers in a range is in it
 pub cond-within : {m : ℕ} {x y : ℤ} (b : Bool) → Within m x → Within m y → Within m (cond b x y)
@@ -42,3 +44,34 @@ module _ (c : Columns) (e : Ends) (z : Sized c e) where
 
   pub corner-worth-within : (n : ℕ) → n ≤ 16 → Within 48000000000000 (cornerWorth c e n)
   corner-worth-within n h = within-more (omega arith) (sum-within 3000000000000 n (λ k. priceOf c k *ℤ lightOf c e k) (λ k. within-mul (z .columns .prices-in k) (light-within k)))
+
+  -- a filling after some ranks
+  abbrev Room : ℕ → ℤ → Type 0
+  Room t r = Within (5000000000000 + t * 600000000000) r
+
+  abbrev Worth : ℕ → ℤ → Type 0
+  Worth t w = Within (48000000000000 + t * 6000000000000) w
+
+  from-sized : (n : ℕ) (f : Fill) → f .at + n ≤ 16 → Room (f .at) (f .room) → Worth (f .at) (f .worth) → Within 20000000000000 (fillFrom c e n f .room) × Within 200000000000000 (fillFrom c e n f .worth)
+  unfolding fillFrom
+  from-sized zero f h r w = (within-more (omega arith) r, within-more (omega arith) w)
+  from-sized (suc n) f h r w = go (ltZ (f .room) (at (c .size) (f .at) *ℤ width c e (f .at))) (λ r′ w′. from-sized n (raised c e f) (omega arith) r′ w′)
+    where
+      go : (b : Bool) → (Room (f .at + 1) (raised c e f .room) → Worth (f .at + 1) (raised c e f .worth) → Within 20000000000000 (fillFrom c e n (raised c e f) .room) × Within 200000000000000 (fillFrom c e n (raised c e f) .worth))
+          → Within 20000000000000 (cond b f (fillFrom c e n (raised c e f)) .room) × Within 200000000000000 (cond b f (fillFrom c e n (raised c e f)) .worth)
+      go true ih = (within-more (omega arith) r, within-more (omega arith) w)
+      go false ih = ih (within-more (omega arith) (within-sub r (within-mul (z .columns .sizes-in (f .at)) (width-within (f .at))))) (within-more (omega arith) (within-add w (within-mul (z .columns .rates-in (f .at)) (width-within (f .at)))))
+
+  pub fill-sized : SizedFill c (fill c e)
+  unfolding fill
+  fill-sized = go (ltZ (begun c e .room) (pos 0))
+    where
+      room : Room 0 (begun c e .room)
+      room = within-more (omega arith) (within-sub (z .columns .capacity-in) (corner-weight-within (c .count) (z .columns .few)))
+
+      worth : Worth 0 (begun c e .worth)
+      worth = within-more (omega arith) (corner-worth-within (c .count) (z .columns .few))
+
+      go : (b : Bool) → SizedFill c (cond b (begun c e) (fillFrom c e (c .live) (begun c e)))
+      go true = record { columns = z .columns; room-in = within-more (omega arith) room; worth-in = within-more (omega arith) worth }
+      go false = let h = from-sized (c .live) (begun c e) (omega (arith, z .columns .live-few)) room worth in record { columns = z .columns; room-in = h .0; worth-in = h .1 }

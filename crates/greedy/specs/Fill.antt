@@ -3,6 +3,7 @@
 --   fill c e        where the filling stops: the rank, the room that is left, and what the whole amounts are worth
 --   bound c e f     the value of the relaxation, where the room is not below 0
 --   start c e f k   item k's amount in the relaxation, rounded towards its light end
+--   solution c e f  the relaxation's point, over the divisor of its bound
 use mathlib.Core.Bool.{Bool, true, false, cond}
 use mathlib.Core.List.{List}
 use Prim.Native.Nat.{ℕ, zero, suc, _+_, _*_, _/_, _%_}
@@ -121,3 +122,19 @@ start c e f k =
     (cond (eqb (rankOf c k) (f .at))
     (cond (ltb (f .at) (c .live)) (towards (weightOf c k) (at (e .lo) k) (at (e .hi) k) (pos (natAbs (f .room) / sizeOf c f))) (lightOf c e k))
     (lightOf c e k)))
+
+-- item k's whole amount while the first t ranks are raised
+abbrev pub stand : Columns → Ends → ℕ → ℕ → ℤ
+stand c e t k = cond (ltb (rankOf c k) t) (heavyOf c e k) (lightOf c e k)
+
+-- 1 or -1
+abbrev pub unit : ℤ → ℤ
+unit (pos n) = pos 1
+unit (negsuc n) = negsuc 0
+
+-- what the critical item takes of the room
+abbrev pub taken : Columns → Fill → ℕ → ℤ
+taken c f k = cond (ltb (f .at) (c .live)) (cond (eqb (rankOf c k) (f .at)) (unit (weightOf c k) *ℤ f .room) (pos 0)) (pos 0)
+
+abbrev pub solution : Columns → Ends → Fill → ℕ → ℤ
+solution c e f k = stand c e (f .at) k *ℤ pos (bound c f .parts) +ℤ taken c f k

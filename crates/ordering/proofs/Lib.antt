@@ -1,0 +1,5 @@
+pub mod Permutations
+pub mod Order
+pub mod Insertion
+pub mod Lists
+pub mod Accepted

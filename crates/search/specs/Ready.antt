@@ -1,0 +1,70 @@
+-- What a search relies on, and what it gives.
+--   ReadySetting s   the setting is in order: sizes, the order by price per weight, the levels, the grid
+--   ReadyPairs c p   the pairs are true of the columns
+--   Inside s x       a place is in the box
+--   Marked s marks   the integer items are those of the levels
+--   Searched s r     the incumbent r is optimal for the box, or there is none and the box holds nothing feasible
+use mathlib.Core.Path.{_≡_}
+use mathlib.Core.Bool.{true, false}
+use mathlib.Core.Logic.{_≢_}
+use Prim.Native.Nat.{ℕ, _≤_, _<_}
+use lib.IntN.{ℤ, pos, natAbs, _+ℤ_, _*ℤ_}
+use lib.Signed.{_≤ℤ_, _<ℤ_}
+use Rattle.arith.specs.Gcd.{Divides}
+use Rattle.knapsack.specs.declared.Mark.{Mark}
+use Rattle.knapsack.specs.declared.Mark.the-variants.{Integer}
+use Rattle.knapsack.proofs.Common.{Feasibleᴰ, Optimalᴰ}
+use Rattle.greedy.specs.declared.Columns.{Columns}
+use Rattle.greedy.specs.Fill.{at, place, weightOf, priceOf, fill, solution}
+use Rattle.greedy.specs.Sized.{Sized}
+use Rattle.greedy.specs.Ordered.{Ordered}
+use Rattle.greedy.proofs.Relaxed.{boxOf, InOrder}
+use Rattle.search.specs.declared.Setting.{Setting}
+use Rattle.search.specs.declared.Pairs.{Pairs}
+use Rattle.search.specs.declared.Incumbent.{Incumbent}
+use Rattle.search.specs.Search.{levelAt, fixedBy, pairIndex}
+
+-- at grid d, every item of no level is fixed, and the prices of the levels from d on are multiples
+pub record Gridded (s : Setting) (d : ℕ) : Type 0 where
+  pub fixed : (k : ℕ) → k < s .cols .count → ((j : ℕ) → j < s .levels → levelAt s j ≢ k) → at (s .ends .lo) k ≡ at (s .ends .hi) k
+  pub multiples : (j : ℕ) → d ≤ j → j < s .levels → Divides (place (s .grid) d) (natAbs (priceOf (s .cols) (levelAt s j)))
+
+-- taking the pair's steps away weighs no more and is worth more
+pub record TruePair (c : Columns) (p : Pairs) (i j : ℕ) : Type 0 where
+  pub heavy : pos 0 ≤ℤ (weightOf c i *ℤ at (p .first) (pairIndex i j) +ℤ weightOf c j *ℤ at (p .second) (pairIndex i j))
+  pub loss : (priceOf c i *ℤ at (p .first) (pairIndex i j) +ℤ priceOf c j *ℤ at (p .second) (pairIndex i j)) <ℤ pos 0
+
+pub record ReadySetting (s : Setting) : Type 0 where
+  pub sized : Sized (s .cols) (s .ends)
+  pub ordered : Ordered (s .cols)
+  pub in-order : InOrder (s .cols) (s .ends)
+  pub few : s .levels ≤ 16
+  pub level-in : (d : ℕ) → d < s .levels → levelAt s d < s .cols .count
+  pub distinct : (i j : ℕ) → i < s .levels → j < s .levels → levelAt s i ≡ levelAt s j → i ≡ j
+  pub low-is : (d : ℕ) → d < s .levels → at (s .low) d ≡ at (s .ends .lo) (levelAt s d)
+  pub high-is : (d : ℕ) → d < s .levels → at (s .high) d ≡ at (s .ends .hi) (levelAt s d)
+  pub gridded : (d : ℕ) → d < s .levels → place (s .grid) d ≢ 0 → Gridded s d
+
+pub record ReadyPairs (c : Columns) (p : Pairs) : Type 0 where
+  pub steps-in : (k : ℕ) → (natAbs (at (p .first) k) ≤ 1000) × (natAbs (at (p .second) k) ≤ 1000)
+  pub pairs : (i j : ℕ) → i < 16 → j < 16 → at (p .first) (pairIndex i j) ≢ pos 0 → TruePair c p i j
+
+pub record Ready (s : Setting) (p : Pairs) : Type 0 where
+  pub setting : ReadySetting s
+  pub true-pairs : ReadyPairs (s .cols) p
+
+abbrev pub Inside : Setting → (ℕ → ℤ) → Type 0
+Inside s x = (d : ℕ) → d < s .levels → (at (s .low) d ≤ℤ x d) × (x d ≤ℤ at (s .high) d)
+
+pub record Marked (s : Setting) (marks : ℕ → Mark) : Type 0 where
+  pub integer : (d : ℕ) → d < s .levels → marks (levelAt s d) ≡ Integer
+  pub level : (k : ℕ) → k < s .cols .count → marks k ≡ Integer → (d : ℕ) × (d < s .levels) × (levelAt s d ≡ k)
+
+-- the point that an incumbent stands for, over its value's divisor
+abbrev pub chosen : Setting → Incumbent → ℕ → ℤ
+chosen s r = solution (s .cols) (fixedBy s (at (r .place)) (s .levels)) (fill (s .cols) (fixedBy s (at (r .place)) (s .levels)))
+
+pub record Searched (s : Setting) (r : Incumbent) : Type 0 where
+  pub inside : r .found ≡ true → Inside s (at (r .place))
+  pub optimal : r .found ≡ true → (marks : ℕ → Mark) → Marked s marks → Optimalᴰ (boxOf (s .cols) (s .ends) marks) (r .value .parts) (chosen s r)
+  pub empty : r .found ≡ false → (marks : ℕ → Mark) → Marked s marks → (D : ℕ) (N : ℕ → ℤ) → 1 ≤ D → ¬ Feasibleᴰ (boxOf (s .cols) (s .ends) marks) D N
