@@ -53,8 +53,12 @@ pub record Ready (s : Setting) (p : Pairs) : Type 0 where
   pub setting : ReadySetting s
   pub true-pairs : ReadyPairs (s .cols) p
 
+-- the first n levels are within their ends
+abbrev pub InsideTo : Setting → ℕ → (ℕ → ℤ) → Type 0
+InsideTo s n x = (d : ℕ) → d < n → (at (s .low) d ≤ℤ x d) × (x d ≤ℤ at (s .high) d)
+
 abbrev pub Inside : Setting → (ℕ → ℤ) → Type 0
-Inside s x = (d : ℕ) → d < s .levels → (at (s .low) d ≤ℤ x d) × (x d ≤ℤ at (s .high) d)
+Inside s x = InsideTo s (s .levels) x
 
 pub record Marked (s : Setting) (marks : ℕ → Mark) : Type 0 where
   pub integer : (d : ℕ) → d < s .levels → marks (levelAt s d) ≡ Integer

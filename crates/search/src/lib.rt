@@ -11,8 +11,9 @@ ghost use lib.IntN.{ℤ, pos};
 ghost use Rattle.arith.specs.Mixed.{Proper};
 ghost use Rattle.greedy.specs.Fill.{at};
 ghost use Rattle.greedy.specs.Sized.{Sized};
-ghost use Rattle.search.specs.Search.{spanned, fixedBy, coarse, cutBy, triedBy, Applies};
-ghost use Rattle.search.specs.Ready.{Ready, Inside, Searched};
+ghost use Rattle.search.specs.Search.{spanned, fixedBy, startBy, coarse, cutBy, triedBy, Applies};
+ghost use Rattle.search.specs.Ready.{ReadySetting, Ready, Inside, InsideTo, Searched};
+ghost use Rattle.search.specs.Steps.{Descends, descended, Dived};
 
 // What does not change during a search: the columns, the box by item, and by level the item, its ends, and the grid: 0, or a
 // number by whose multiples all values below that level differ.
@@ -48,4 +49,82 @@ pub fn span(e: Ends, k: usize, l: i64, u: i64) -> Ends
     f.lo[k] = l;
     f.hi[k] = u;
     f
+}
+
+// A place, and the starts of its levels along it.
+pub struct Path {
+    pub place: [i64; 16],
+    pub starts: [i64; 16],
+}
+
+// A path on its way down: the box has the levels passed fixed.
+pub struct Trail {
+    pub path: Path,
+    pub ends: Ends,
+}
+
+// What a look at a place settled, and the incumbent after it.
+pub struct Look {
+    pub settled: Settled,
+    pub best: Incumbent,
+}
+
+// A search on its way: where it is, and how many steps it took (as many as fit).
+pub struct State {
+    pub path: Path,
+    pub best: Incumbent,
+    pub steps: u64,
+    pub done: bool,
+}
+
+// The box with the first d levels fixed at x.
+pub fn fixed(s: Setting, x: [i64; 16], d: usize) -> Ends
+    requires { ⌜ ReadySetting s × (d ≤ s .levels) ⌝ }
+    ensures { λ r. ⌜ r ≡ fixedBy s (at x) d ⌝ }
+{
+    let mut e = s.ends;
+    let mut k: usize = 0;
+    while k < d {
+        let i = s.level[k];
+        let v = x[k];
+        e = span(e, i, v, v);
+        k += 1;
+    }
+    e
+}
+
+// One level further down: it takes its start.
+pub fn descend(s: Setting, t: Trail, k: usize) -> Trail
+    requires { ⌜ Descends s t k ⌝ }
+    ensures { λ r. ⌜ r ≡ descended s t k ⌝ }
+{
+    let c = s.cols;
+    let e = t.ends;
+    let i = s.level[k];
+    let f = fill_up(c, e);
+    let v = start_of(c, e, f, i);
+    let g = span(e, i, v, v);
+    let mut p = t.path;
+    p.place[k] = v;
+    p.starts[k] = v;
+    Trail { path: p, ends: g }
+}
+
+// The path with the levels from j on at their starts.
+pub fn dive(s: Setting, p: Path, j: usize) -> Path
+    requires { ⌜ ReadySetting s × ((j ≤ s .levels) × InsideTo s j (at (p .place))) ⌝ }
+    ensures { λ r. ⌜ Dived s j p r ⌝ }
+{
+    let n = s.levels;
+    let x = p.place;
+    let mut t = Trail {
+        path: p,
+        ends: fixed(s, x, j),
+    };
+    let mut k = j;
+    while k < n {
+        t = descend(s, t, k);
+        k += 1;
+    }
+    t.path
 }

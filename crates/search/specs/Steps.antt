@@ -1,0 +1,61 @@
+-- What the parts of a step ask and give.
+--   descended s t k   the trail one level further down
+--   Dived s j p r     r is p with the levels from j on at their starts
+--   Looked s p t b r  what a look at a place may have settled, and the incumbent after it
+--   Stepped s p q r   a step from q to r
+use mathlib.Core.Path.{_≡_}
+use mathlib.Core.Bool.{true, false}
+use mathlib.Core.Logic.{_⊎_}
+use mathlib.Core.Option.{Option, none, some}
+use Prim.Native.Nat.{ℕ, suc, _+_, _≤_, _<_}
+use lib.IntN.{ℤ, pos}
+use lib.ListN.{set}
+use Rattle.arith.specs.Mixed.{Proper}
+use Rattle.greedy.specs.Fill.{at, fill, start}
+use Rattle.greedy.specs.Sized.{Sized}
+use Rattle.places.specs.declared.Settled.{Settled}
+use Rattle.places.specs.declared.Settled.the-variants.{Run, Prefix}
+use Rattle.places.specs.Moves.{pastOf}
+use Rattle.search.specs.declared.Setting.{Setting}
+use Rattle.search.specs.declared.Pairs.{Pairs}
+use Rattle.search.specs.declared.Incumbent.{Incumbent}
+use Rattle.search.specs.declared.Path.{Path}
+use Rattle.search.specs.declared.Trail.{Trail}
+use Rattle.search.specs.declared.Look.{Look}
+use Rattle.search.specs.declared.State.{State}
+use Rattle.search.specs.Search.{levelAt, spanned, fixedBy, startBy, runEnds, cutBy, triedBy, Applies}
+use Rattle.search.specs.Ready.{ReadySetting, Inside}
+
+-- ---- going down
+
+pub record Descends (s : Setting) (t : Trail) (k : ℕ) : Type 0 where
+  pub ready : ReadySetting s
+  pub level-in : k < s .levels
+  pub sized : Sized (s .cols) (t .ends)
+
+-- the start of level k, in the trail's box
+abbrev pub startIn : Setting → Trail → ℕ → ℤ
+startIn s t k = start (s .cols) (t .ends) (fill (s .cols) (t .ends)) (levelAt s k)
+
+abbrev pub descended : Setting → Trail → ℕ → Trail
+descended s t k = record {
+  path = record { place = set (t .path .place) k (startIn s t k); starts = set (t .path .starts) k (startIn s t k) };
+  ends = spanned (t .ends) (levelAt s k) (startIn s t k) (startIn s t k);
+}
+
+pub record Dived (s : Setting) (j : ℕ) (p r : Path) : Type 0 where
+  pub kept : (i : ℕ) → i < j → (at (r .place) i ≡ at (p .place) i) × (at (r .starts) i ≡ at (p .starts) i)
+  pub filled : (i : ℕ) → j ≤ i → i < s .levels → (at (r .place) i ≡ startBy s (at (r .place)) i) × (at (r .starts) i ≡ at (r .place) i)
+
+-- ---- looking
+
+-- an incumbent's value can be compared
+abbrev pub ProperBest : Incumbent → Type 0
+ProperBest b = b .found ≡ true → Proper (b .value)
+
+abbrev pub LookedAs : Setting → Pairs → Path → Incumbent → Incumbent → Settled → Type 0
+LookedAs s p t b b′ (Run d) = (d < s .levels) × ((b′ ≡ b) × (cutBy s (runEnds s (at (t .place)) (at (t .starts) d) d) d b ≡ true))
+LookedAs s p t b b′ (Prefix n) = (n ≤ s .levels) × (((n ≡ s .levels) × (b′ ≡ triedBy s (fixedBy s (at (t .place)) (s .levels)) (t .place) b)) ⊎ ((b′ ≡ b) × ((d : ℕ) × (n ≡ suc d) × Applies s p (at (t .place)) d)))
+
+abbrev pub Looked : Setting → Pairs → Path → Incumbent → Look → Type 0
+Looked s p t b r = LookedAs s p t b (r .best) (r .settled)
