@@ -1,5 +1,4 @@
 -- The boxes of a search: the setting's, with some levels fixed.
---   Long s           the lists of the setting's ends have a place for each item
 --   orderOf s        the order of places
 -- fixed-level, fixed-other: the ends of a fixed level's item, and of the others.
 -- fixed-sized, fixed-order: a box with levels fixed inside stays in its ranges and in order.
@@ -26,10 +25,7 @@ use Rattle.places.proofs.Places.{Order, Laws}
 use Rattle.search.specs.declared.Setting.{Setting}
 use Rattle.search.specs.Search.{levelAt, spanned, fixedBy, startBy}
 use Rattle.search.specs.Ready.{ReadySetting, InsideTo, Inside}
-
-pub record Long (e : Ends) : Type 0 where
-  pub lo-long : length (e .lo) ≡ 16
-  pub hi-long : length (e .hi) ≡ 16
+use Rattle.search.specs.Steps.{Long}
 
 -- ---- one entry set
 

@@ -18,8 +18,8 @@ use Rattle.search.specs.declared.Path.{Path}
 use Rattle.search.specs.declared.Trail.{Trail}
 use Rattle.search.specs.Search.{levelAt, spanned, fixedBy, startBy}
 use Rattle.search.specs.Ready.{ReadySetting, InsideTo}
-use Rattle.search.specs.Steps.{startIn, descended, Dived}
-use Rattle.search.proofs.Boxes.{Long, at-same, at-other, fixed-cong, start-cong, start-in, fixed-sized}
+use Rattle.search.specs.Steps.{Long, startIn, descended, Dived}
+use Rattle.search.proofs.Boxes.{at-same, at-other, fixed-cong, start-cong, start-in, fixed-sized}
 
 pub record LongPath (p : Path) : Type 0 where
   pub place-long : length (p .place) ≡ 16

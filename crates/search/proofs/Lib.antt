@@ -1,2 +1,4 @@
 pub mod Boxes
 pub mod Dives
+pub mod Bounds
+pub mod Runs

@@ -2,7 +2,7 @@
 --   spanned e k l u     the box e with the ends l and u for item k
 --   fixedBy s P d       the search's box with the first d levels fixed at P
 --   startBy s P d       where level d starts below P's first d amounts: its item's amount in the relaxation, rounded to the light end
---   runEnds s P v d     the box of P's run at level d, which starts at v: what is left of its segment there, and all below
+--   runBox, runEnds     the box of P's run at level d, which starts at v: what is left of its segment there, and all below
 --   coarse g f b        the bound b rounded down, where all values differ by multiples of g
 --   cutBy s e d best    the box e holds nothing, or nothing better than the incumbent
 --   triedBy s e x best  the better of the incumbent and the relaxation of e, a place with all levels fixed at x
@@ -40,8 +40,11 @@ unfoldable pub startBy : Setting → (ℕ → ℤ) → ℕ → ℤ
 startBy s P d = start (s .cols) (fixedBy s P d) (fill (s .cols) (fixedBy s P d)) (levelAt s d)
 
 -- up to the upper end from the start on, down to the lower end below it
+abbrev pub runBox : Setting → Ends → ℕ → ℤ → ℤ → Ends
+runBox s e d x v = cond (ltZ x v) (spanned e (levelAt s d) (at (s .low) d) x) (spanned e (levelAt s d) x (at (s .high) d))
+
 abbrev pub runEnds : Setting → (ℕ → ℤ) → ℤ → ℕ → Ends
-runEnds s P v d = spanned (fixedBy s P d) (levelAt s d) (cond (ltZ (P d) v) (at (s .low) d) (P d)) (cond (ltZ (P d) v) (P d) (at (s .high) d))
+runEnds s P v d = runBox s (fixedBy s P d) d (P d) v
 
 -- the bound's excess over the whole amounts' worth, rounded down to a multiple of g; g = 0: no rounding
 abbrev pub coarse : ℕ → Fill → Mixed → Mixed

@@ -9,10 +9,16 @@ use mathlib.Core.Logic.{_⊎_}
 use mathlib.Core.Option.{Option, none, some}
 use Prim.Native.Nat.{ℕ, suc, _+_, _≤_, _<_}
 use lib.IntN.{ℤ, pos}
-use lib.ListN.{set}
+use lib.ListN.{length, set}
 use Rattle.arith.specs.Mixed.{Proper}
 use Rattle.greedy.specs.Fill.{at, fill, start}
+use Rattle.arith.specs.Within.{Within}
+use Rattle.arith.specs.declared.Mixed.{Mixed}
+use Rattle.greedy.specs.declared.Ends.{Ends}
+use Rattle.greedy.specs.declared.Fill.{Fill}
 use Rattle.greedy.specs.Sized.{Sized}
+use Rattle.greedy.specs.Ordered.{Ordered}
+use Rattle.greedy.proofs.Relaxed.{InOrder}
 use Rattle.places.specs.declared.Settled.{Settled}
 use Rattle.places.specs.declared.Settled.the-variants.{Run, Prefix}
 use Rattle.places.specs.Moves.{pastOf}
@@ -21,7 +27,7 @@ use Rattle.search.specs.declared.Pairs.{Pairs}
 use Rattle.search.specs.declared.Incumbent.{Incumbent}
 use Rattle.search.specs.declared.Path.{Path}
 use Rattle.search.specs.declared.Trail.{Trail}
-use Rattle.search.specs.declared.Look.{Look}
+use Rattle.search.specs.declared.Sighting.{Sighting}
 use Rattle.search.specs.declared.State.{State}
 use Rattle.search.specs.Search.{levelAt, spanned, fixedBy, startBy, runEnds, cutBy, triedBy, Applies}
 use Rattle.search.specs.Ready.{ReadySetting, Inside}
@@ -49,13 +55,36 @@ pub record Dived (s : Setting) (j : ℕ) (p r : Path) : Type 0 where
 
 -- ---- looking
 
+-- a bound and its filling can be rounded
+pub record Coarsens (f : Fill) (b : Mixed) : Type 0 where
+  pub worth-in : Within 200000000000000 (f .worth)
+  pub whole-in : Within 201000000000000000 (b .whole)
+
+-- the lists of a box have a place for each item
+pub record Long (e : Ends) : Type 0 where
+  pub lo-long : length (e .lo) ≡ 16
+  pub hi-long : length (e .hi) ≡ 16
+
+-- the path's place is in the box, and its starts are the place's
+pub record Started (s : Setting) (t : Path) : Type 0 where
+  pub long : Long (s .ends)
+  pub inside : Inside s (at (t .place))
+  pub starts : (d : ℕ) → d < s .levels → at (t .starts) d ≡ startBy s (at (t .place)) d
+
 -- an incumbent's value can be compared
 abbrev pub ProperBest : Incumbent → Type 0
 ProperBest b = b .found ≡ true → Proper (b .value)
+
+pub record Judges (s : Setting) (e : Ends) (d : ℕ) (b : Incumbent) : Type 0 where
+  pub sized : Sized (s .cols) e
+  pub ordered : Ordered (s .cols)
+  pub in-order : InOrder (s .cols) e
+  pub level-in : d < 16
+  pub proper : ProperBest b
 
 abbrev pub LookedAs : Setting → Pairs → Path → Incumbent → Incumbent → Settled → Type 0
 LookedAs s p t b b′ (Run d) = (d < s .levels) × ((b′ ≡ b) × (cutBy s (runEnds s (at (t .place)) (at (t .starts) d) d) d b ≡ true))
 LookedAs s p t b b′ (Prefix n) = (n ≤ s .levels) × (((n ≡ s .levels) × (b′ ≡ triedBy s (fixedBy s (at (t .place)) (s .levels)) (t .place) b)) ⊎ ((b′ ≡ b) × ((d : ℕ) × (n ≡ suc d) × Applies s p (at (t .place)) d)))
 
-abbrev pub Looked : Setting → Pairs → Path → Incumbent → Look → Type 0
+abbrev pub Looked : Setting → Pairs → Path → Incumbent → Sighting → Type 0
 Looked s p t b r = LookedAs s p t b (r .best) (r .settled)

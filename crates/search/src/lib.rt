@@ -1,19 +1,21 @@
 // The search for the best place: a place is an amount for each level, a level is an integer item. A step looks at one place and
 // sets aside a run of places from it on, with the lemma that allows it: see proofs/Look. A step depends on the place and the
 // incumbent alone.
-use arith::{Mixed, less};
+use arith::{Mixed, less, magnitude};
 use greedy::{Columns, Ends, Fill, bound_of, fill_up, start_of};
 use places::{Moved, Settled, past};
 ghost use mathlib.Core.Path.{_≡_};
 ghost use mathlib.Core.Bool.{Bool, true, false};
 ghost use Prim.Native.Nat.{ℕ, _≤_, _<_};
-ghost use lib.IntN.{ℤ, pos};
+ghost use lib.IntN.{ℤ, pos, _-ℤ_};
+ghost use lib.Signed.{_≤ℤ_};
+ghost use Rattle.arith.specs.Within.{Within};
 ghost use Rattle.arith.specs.Mixed.{Proper};
 ghost use Rattle.greedy.specs.Fill.{at};
 ghost use Rattle.greedy.specs.Sized.{Sized};
-ghost use Rattle.search.specs.Search.{spanned, fixedBy, startBy, coarse, cutBy, triedBy, Applies};
+ghost use Rattle.search.specs.Search.{spanned, fixedBy, runBox, coarse, cutBy, triedBy, Applies};
 ghost use Rattle.search.specs.Ready.{ReadySetting, Ready, Inside, InsideTo, Searched};
-ghost use Rattle.search.specs.Steps.{Descends, descended, Dived};
+ghost use Rattle.search.specs.Steps.{Descends, descended, Dived, Coarsens, Judges, ProperBest, Started, Looked};
 
 // What does not change during a search: the columns, the box by item, and by level the item, its ends, and the grid: 0, or a
 // number by whose multiples all values below that level differ.
@@ -64,7 +66,7 @@ pub struct Trail {
 }
 
 // What a look at a place settled, and the incumbent after it.
-pub struct Look {
+pub struct Sighting {
     pub settled: Settled,
     pub best: Incumbent,
 }
@@ -127,4 +129,160 @@ pub fn dive(s: Setting, p: Path, j: usize) -> Path
         k += 1;
     }
     t.path
+}
+
+// The bound b of the filling f, rounded down to the grid.
+pub fn coarsen(g: u64, f: Fill, b: Mixed) -> Mixed
+    requires { ⌜ Coarsens f b ⌝ }
+    ensures { λ r. ⌜ r ≡ coarse g f b ⌝ }
+{
+    if g == 0 {
+        return b;
+    }
+    let q = magnitude(b.whole - f.worth);
+    Mixed {
+        whole: f.worth + (q - q % g) as i64,
+        part: 0,
+        parts: 1,
+    }
+}
+
+// Whether the box e holds nothing better than the incumbent: cut by relaxation, see proofs/Look (cut-settles).
+pub fn cut(s: Setting, e: Ends, d: usize, best: Incumbent) -> bool
+    requires { ⌜ Judges s e d best ⌝ }
+    ensures { λ r. ⌜ r ≡ cutBy s e d best ⌝ }
+{
+    let c = s.cols;
+    let f = fill_up(c, e);
+    if f.room < 0 {
+        return true;
+    }
+    if best.found {
+        let g = s.grid[d];
+        let v = coarsen(g, f, bound_of(c, f));
+        let b = best.value;
+        return !less(b, v);
+    }
+    false
+}
+
+// The better of the incumbent and the place x, whose levels are all fixed in e.
+pub fn tried(s: Setting, e: Ends, x: [i64; 16], best: Incumbent) -> Incumbent
+    requires { ⌜ Judges s e 0 best ⌝ }
+    ensures { λ r. ⌜ r ≡ triedBy s e x best ⌝ }
+{
+    let c = s.cols;
+    let f = fill_up(c, e);
+    if f.room < 0 {
+        return best;
+    }
+    let v = bound_of(c, f);
+    if best.found {
+        let b = best.value;
+        if !less(b, v) {
+            return best;
+        }
+    }
+    Incumbent {
+        found: true,
+        place: x,
+        value: v,
+    }
+}
+
+// Whether x less r lies within l and u.
+pub fn within(x: i64, r: i64, l: i64, u: i64) -> bool
+    requires { ⌜ Within 300000000 x × Within 1000 r ⌝ }
+    ensures { λ y. ⌜ (y ≡ true → (l ≤ℤ (x -ℤ r)) × ((x -ℤ r) ≤ℤ u)) ⌝ }
+{
+    let y = x - r;
+    if y < l {
+        return false;
+    }
+    y <= u
+}
+
+// Whether the pair of the items of level d and a level above can be taken away from x within the box.
+pub fn applies(s: Setting, p: Pairs, x: [i64; 16], d: usize, j: usize) -> bool
+    requires { ⌜ Ready s p × (Inside s (at x) × ((d < s .levels) × (j < d))) ⌝ }
+    ensures { λ r. ⌜ (r ≡ true → Applies s p (at x) d) ⌝ }
+{
+    let a = s.level[d];
+    let b = s.level[j];
+    let k = 16 * a + b;
+    let r = p.first[k];
+    if r == 0 {
+        return false;
+    }
+    let t = p.second[k];
+    if within(x[d], r, s.low[d], s.high[d]) {
+        return within(x[j], t, s.low[j], s.high[j]);
+    }
+    false
+}
+
+// Whether a domination pair discards x: cut by a pair, see proofs/Look (pair-settles).
+pub fn paired(s: Setting, p: Pairs, x: [i64; 16], d: usize) -> bool
+    requires { ⌜ Ready s p × (Inside s (at x) × (d < s .levels)) ⌝ }
+    ensures { λ r. ⌜ (r ≡ true → Applies s p (at x) d) ⌝ }
+{
+    let mut j: usize = 0;
+    while j < d {
+        if applies(s, p, x, d, j) {
+            return true;
+        }
+        j += 1;
+    }
+    false
+}
+
+// The box of the run at level d from x on, where the level starts at v.
+pub fn run_box(s: Setting, e: Ends, d: usize, x: i64, v: i64) -> Ends
+    requires { ⌜ ReadySetting s × (d < s .levels) ⌝ }
+    ensures { λ r. ⌜ r ≡ runBox s e d x v ⌝ }
+{
+    let i = s.level[d];
+    let l = s.low[d];
+    let h = s.high[d];
+    if x < v {
+        span(e, i, l, x)
+    } else {
+        span(e, i, x, h)
+    }
+}
+
+// A look at a place: the first level whose run can be set aside, or that a pair discards; else the place is tried.
+pub fn look(s: Setting, p: Pairs, t: Path, best: Incumbent) -> Sighting
+    requires { ⌜ Ready s p × (Started s t × ProperBest best) ⌝ }
+    ensures { λ r. ⌜ Looked s p t best r ⌝ }
+{
+    let n = s.levels;
+    let x = t.place;
+    let v = t.starts;
+    let mut e = s.ends;
+    let mut d: usize = 0;
+    while d < n {
+        let a = x[d];
+        let r = run_box(s, e, d, a, v[d]);
+        if cut(s, r, d, best) {
+            return Sighting {
+                settled: Settled::Run(d),
+                best: best,
+            };
+        }
+        if paired(s, p, x, d) {
+            return Sighting {
+                settled: Settled::Prefix(d + 1),
+                best: best,
+            };
+        }
+        let i = s.level[d];
+        e = span(e, i, a, a);
+        d += 1;
+    }
+    let b = tried(s, e, x, best);
+    Sighting {
+        settled: Settled::Prefix(n),
+        best: b,
+    }
 }

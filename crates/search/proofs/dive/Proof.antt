@@ -6,8 +6,7 @@ use lib.ListN.{length}
 use borrow.Author.Needs.{needs}
 use Rattle.greedy.specs.Fill.{at}
 use Rattle.search.specs.Search.{fixedBy}
-use Rattle.search.specs.Steps.{Descends, descended}
-use Rattle.search.proofs.Boxes.{Long}
+use Rattle.search.specs.Steps.{Long, Descends, descended}
 use Rattle.search.proofs.Dives.{LongPath, Diving, diving-first, diving-sized, diving-step, diving-done}
 use Rattle.search.proofs.dive.Statement.{statement}
 use Rattle.search.proofs.dive.Tie as tie

@@ -1,0 +1,88 @@
+-- `search::tried` meets its contract: the tests are those of the definition, in its order.
+use mathlib.Core.Path.{_≡_, refl, sym, ap, _∙_}
+use mathlib.Core.Bool.{Bool, true, false, not}
+use lib.IntN.{ℤ, pos}
+use lib.Signed.{ltZ}
+use Rattle.arith.specs.Mixed.{lessMixed}
+use Rattle.arith.proofs.Parts.{within-back}
+use Rattle.greedy.specs.Fill.{fill, bound}
+use Rattle.greedy.specs.Sized.{SizedFill}
+use Rattle.greedy.proofs.Sizes.{fill-sized}
+use Rattle.search.specs.Search.{triedBy}
+use Rattle.search.proofs.Bounds.{bound-proper}
+use borrow.Author.Needs.{needs}
+use Rattle.search.proofs.tried.Statement.{statement}
+use Rattle.search.proofs.tried.Tie as tie
+
+fill-up-requires : tie.Need-fill-up-requires
+fill-up-requires c κs = search needs
+
+sized : (s : tie.Start) → SizedFill (s .args .s .cols) (fill (s .args .s .cols) (s .args .e))
+sized s = fill-sized (s .args .s .cols) (s .args .e) (s .pre .sized)
+
+returns : tie.Need-returns
+unfolding triedBy
+returns c =
+    let s = c .before .before .before .before .before in
+    let f = c .before .before .before .fill-up .ensures in
+    let t = rw (f, within-back tt (sized s .room-in)) at (c .if1 .taken) in
+    rw t
+
+not-empty : (c : tie.Else1) → ltZ (fill (c .before .before .before .before .before .args .s .cols) (c .before .before .before .before .before .args .e) .room) (pos 0) ≡ false
+not-empty c =
+    let s = c .before .before .before .before .before in
+    rw (c .before .before .before .fill-up .ensures, within-back tt (sized s .room-in)) at (c .if1 .left)
+
+bound-of-requires : tie.Need-bound-of-requires
+bound-of-requires c κs = let s = c .before .before .before .before .before in rw (c .before .before .before .fill-up .ensures) (sized s)
+
+bound-is : (c : tie.After-bound-of) → c .bound-of .result ≡ bound (c .before .before .before .before .before .before .args .s .cols) (fill (c .before .before .before .before .before .before .args .s .cols) (c .before .before .before .before .before .before .args .e))
+bound-is c = rw (c .before .before .before .before .fill-up .ensures) at (c .bound-of .ensures)
+
+less-requires : tie.Need-less-requires
+less-requires c κs =
+    let t = c .before in
+    let s = t .before .before .before .before .before .before .before in
+    (s .pre .proper (t .if2 .taken), rw (bound-is (t .before)) (bound-proper _ _ (sized s)))
+
+-- a test that is turned round
+turned-true : (b : Bool) → not b ≡ true → b ≡ false
+turned-true true h = sym h
+turned-true false h = refl
+
+turned-false : (b : Bool) → not b ≡ false → b ≡ true
+turned-false true h = refl
+turned-false false h = sym h
+
+compared : (c : tie.After-less) → c .less .result ≡ lessMixed (c .before .before .before .before .before .before .before .before .before .args .best .value) (bound (c .before .before .before .before .before .before .before .before .before .args .s .cols) (fill (c .before .before .before .before .before .before .before .before .before .args .s .cols) (c .before .before .before .before .before .before .before .before .before .args .e)))
+compared c = c .less .ensures ∙ ap (λ v. lessMixed (c .before .before .before .before .before .before .before .before .before .args .best .value) v) (bound-is (c .before .before .before))
+
+returns-2 : tie.Need-returns-2
+unfolding triedBy
+returns-2 c =
+    let d = c .before in
+    let t = d .before .before in
+    rw (not-empty (t .before .before), t .if2 .taken, sym (compared d) ∙ turned-true (d .less .result) (c .if3 .taken))
+
+returns-3 : tie.Need-returns-3
+unfolding triedBy
+returns-3 c =
+    let d = c .before in
+    let t = d .before .before in
+    rw (not-empty (t .before .before), t .if2 .taken, sym (compared d) ∙ turned-false (d .less .result) (c .if3 .left)) (ap (λ v. record { found = true; place = t .before .before .before .before .before .before .before .args .x; value = v }) (bound-is (t .before)))
+
+returns-4 : tie.Need-returns-4
+unfolding triedBy
+returns-4 c = rw (not-empty (c .before .before), c .if2 .left) (ap (λ v. record { found = true; place = c .before .before .before .before .before .before .before .args .x; value = v }) (bound-is (c .before)))
+
+pub tried-spec : {M : Type 1} → statement M
+tried-spec =
+    tie.close
+    (tie.spec
+    fill-up-requires
+    returns
+    bound-of-requires
+    less-requires
+    returns-2
+    returns-3
+    returns-4)
