@@ -197,7 +197,7 @@ module _ (s : Setting) (marks : ℕ → Mark) where
   Settled b y = (D : ℕ) (N : ℕ → ℤ) → 1 ≤ D → Feasibleᴰ box D N → AtPlace D N y → AtMostBest b D N ⊎ Bettered D N
 
   -- what is no better than a value that is not above the incumbent's
-  no-better : (b : Incumbent) (v : Mixed) (D : ℕ) (N : ℕ → ℤ) → b .found ≡ true → Proper (b .value) → Proper v → lessMixed (b .value) v ≡ false → (valueᴰ box N *ℤ pos (v .parts)) ≤ℤ (over v *ℤ pos D) → AtMostBest b D N
+  pub no-better : (b : Incumbent) (v : Mixed) (D : ℕ) (N : ℕ → ℤ) → b .found ≡ true → Proper (b .value) → Proper v → lessMixed (b .value) v ≡ false → (valueᴰ box N *ℤ pos (v .parts)) ≤ℤ (over v *ℤ pos D) → AtMostBest b D N
   no-better b v D N f p q h a = (f, mid D (v .parts) (b .value .parts) (omega (arith, q .low)) (valueᴰ box N) (over v) (over (b .value)) a (less-false (b .value) v p q h))
 
 module _ (s : Setting) (r : ReadySetting s) (long : Long (s .ends)) (marks : ℕ → Mark) (m : Marked s marks) where

@@ -6,7 +6,7 @@ use mathlib.Core.Logic.{_≢_}
 use Prim.Native.Nat.{ℕ, suc, _+_, _≤_, _<_}
 use native.Mathlib.Numerals.{add-one}
 use native.Mathlib.Omega.{arith}
-use native.Mathlib.Decide.{ℕ-discrete}
+use native.Mathlib.Decide.{decLt, ℕ-discrete}
 use lib.ListN.{length, set, length-set}
 use lib.IntN.{ℤ, pos}
 use lib.Signed.{_≤ℤ_}
@@ -18,7 +18,7 @@ use Rattle.search.specs.declared.Path.{Path}
 use Rattle.search.specs.declared.Trail.{Trail}
 use Rattle.search.specs.Search.{levelAt, spanned, fixedBy, startBy}
 use Rattle.search.specs.Ready.{ReadySetting, InsideTo}
-use Rattle.search.specs.Steps.{Long, startIn, descended, Dived}
+use Rattle.search.specs.Steps.{Long, startIn, descended, Dived, Started, Turnable, Turned}
 use Rattle.search.proofs.Boxes.{at-same, at-other, fixed-cong, start-cong, start-in, fixed-sized}
 
 pub record LongPath (p : Path) : Type 0 where
@@ -98,3 +98,28 @@ module _ (s : Setting) (r : ReadySetting s) (long : Long (s .ends)) (j : ℕ) (p
 
   pub diving-done : (t : Trail) (k : ℕ) → s .levels ≤ k → Diving s j p t k → Dived s j p (t .path)
   diving-done t k l d = record { kept = d .kept; filled = λ i m n. d .filled i m (omega arith) }
+
+-- ---- turning at a level
+
+module _ (s : Setting) (t : Path) (j : ℕ) (v : ℤ) (h : Turnable s t j v) (long : LongPath t) where
+  j-in : j < length (t .place)
+  j-in = omega (arith, long .place-long, h .ready .few, h .level-in)
+
+  pub turn-inside : InsideTo s (j + 1) (at (set (t .place) j v))
+  turn-inside d l = go (ℕ-discrete d j)
+    where
+      go : Dec (d ≡ j) → (at (s .low) d ≤ℤ at (set (t .place) j v) d) × (at (set (t .place) j v) d ≤ℤ at (s .high) d)
+      go (yes q) = rw (q, at-same (t .place) j v j-in) (h .low, h .high)
+      go (no q) = rw (at-other (t .place) j v d q) (h .started .inside d (omega (arith, h .level-in)))
+
+  pub turned-by : (r : Path) → Dived s (j + 1) (record { place = set (t .place) j v; starts = t .starts }) r → Turned s t j v r
+  turned-by r d = record {
+    above = λ i l. d .kept i (omega arith) .0 ∙ at-other (t .place) j v i (omega arith);
+    here = d .kept j (omega arith) .0 ∙ at-same (t .place) j v j-in;
+    deeper = λ i l m. d .filled i (omega arith) m .0;
+    starts = λ i l. go i l (decLt i (j + 1));
+  }
+    where
+      go : (i : ℕ) → i < s .levels → Dec (i < j + 1) → at (r .starts) i ≡ startBy s (at (r .place)) i
+      go i l (yes q) = d .kept i q .1 ∙ h .started .starts i l ∙ start-cong s (at (t .place)) (at (r .place)) i (λ k o. sym (d .kept k (omega arith) .0 ∙ at-other (t .place) j v k (omega arith)))
+      go i l (no q) = let f = d .filled i (omega arith) l in f .1 ∙ f .0

@@ -3,3 +3,5 @@ pub mod Dives
 pub mod Bounds
 pub mod Runs
 pub mod Cuts
+pub mod Settle
+pub mod Turns

@@ -9,7 +9,8 @@ use mathlib.Core.Logic.{_⊎_}
 use mathlib.Core.Option.{Option, none, some}
 use Prim.Native.Nat.{ℕ, suc, _+_, _≤_, _<_}
 use lib.IntN.{ℤ, pos}
-use lib.ListN.{length, set}
+use lib.ListN.{length, set, replicate}
+use lib.Signed.{_≤ℤ_}
 use Rattle.arith.specs.Mixed.{Proper}
 use Rattle.greedy.specs.Fill.{at, fill, start}
 use Rattle.arith.specs.Within.{Within}
@@ -88,3 +89,31 @@ LookedAs s p t b b′ (Prefix n) = (n ≤ s .levels) × (((n ≡ s .levels) × (
 
 abbrev pub Looked : Setting → Pairs → Path → Incumbent → Sighting → Type 0
 Looked s p t b r = LookedAs s p t b (r .best) (r .settled)
+
+-- ---- going on
+
+abbrev pub nobody : Incumbent
+nobody = record { found = false; place = replicate 16 (pos 0); value = record { whole = pos 0; part = 0; parts = 1 } }
+
+pub record Turnable (s : Setting) (t : Path) (j : ℕ) (v : ℤ) : Type 0 where
+  pub ready : ReadySetting s
+  pub started : Started s t
+  pub level-in : j < s .levels
+  pub low : at (s .low) j ≤ℤ v
+  pub high : v ≤ℤ at (s .high) j
+
+-- r is t with v at level j, and the starts at the deeper levels
+pub record Turned (s : Setting) (t : Path) (j : ℕ) (v : ℤ) (r : Path) : Type 0 where
+  pub above : (i : ℕ) → i < j → at (r .place) i ≡ at (t .place) i
+  pub here : at (r .place) j ≡ v
+  pub deeper : (i : ℕ) → j < i → i < s .levels → at (r .place) i ≡ startBy s (at (r .place)) i
+  pub starts : (i : ℕ) → i < s .levels → at (r .starts) i ≡ startBy s (at (r .place)) i
+
+abbrev pub WentOn : Setting → State → Option (ℕ × ℤ) → State → Type 0
+WentOn s q none r = (r .done ≡ true) × (r .path ≡ q .path)
+WentOn s q (some m) r = (r .done ≡ false) × Turned s (q .path) (m .0) (m .1) (r .path)
+
+pub record Stepped (s : Setting) (p : Pairs) (q r : State) : Type 0 where
+  pub verdict : Settled
+  pub looked : LookedAs s p (q .path) (q .best) (r .best) verdict
+  pub went : WentOn s q (pastOf verdict (at (s .low)) (at (s .high)) (at (q .path .starts)) (at (q .path .place))) r

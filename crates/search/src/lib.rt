@@ -15,7 +15,7 @@ ghost use Rattle.greedy.specs.Fill.{at};
 ghost use Rattle.greedy.specs.Sized.{Sized};
 ghost use Rattle.search.specs.Search.{spanned, fixedBy, runBox, coarse, cutBy, triedBy, Applies};
 ghost use Rattle.search.specs.Ready.{ReadySetting, Ready, Inside, InsideTo, Searched};
-ghost use Rattle.search.specs.Steps.{Descends, descended, Dived, Coarsens, Judges, ProperBest, Started, Looked};
+ghost use Rattle.search.specs.Steps.{Descends, descended, Dived, Coarsens, Judges, ProperBest, Started, Looked, nobody, Turnable, Turned, Stepped};
 
 // What does not change during a search: the columns, the box by item, and by level the item, its ends, and the grid: 0, or a
 // number by whose multiples all values below that level differ.
@@ -284,5 +284,76 @@ pub fn look(s: Setting, p: Pairs, t: Path, best: Incumbent) -> Sighting
     Sighting {
         settled: Settled::Prefix(n),
         best: b,
+    }
+}
+
+// No place yet.
+pub fn no_incumbent() -> Incumbent
+    ensures { λ r. ⌜ r ≡ nobody ⌝ }
+{
+    Incumbent {
+        found: false,
+        place: [0; 16],
+        value: Mixed {
+            whole: 0,
+            part: 0,
+            parts: 1,
+        },
+    }
+}
+
+// One more, as long as it fits.
+pub fn counted(n: u64) -> u64 {
+    if n < 18446744073709551615 {
+        n + 1
+    } else {
+        n
+    }
+}
+
+// The path with the amount v at level j, and the levels below at their starts.
+pub fn turn(s: Setting, t: Path, j: usize, v: i64) -> Path
+    requires { ⌜ Turnable s t j v ⌝ }
+    ensures { λ r. ⌜ Turned s t j v r ⌝ }
+{
+    let mut x = t.place;
+    x[j] = v;
+    let y = t.starts;
+    let p = Path {
+        place: x,
+        starts: y,
+    };
+    dive(s, p, j + 1)
+}
+
+// One step: a look at the place, and the first place after what it settled.
+pub fn step(s: Setting, p: Pairs, q: State) -> State
+    requires { ⌜ Ready s p × (Started s (q .path) × ProperBest (q .best)) ⌝ }
+    ensures { λ r. ⌜ Stepped s p q r ⌝ }
+{
+    let t = q.path;
+    let a = q.best;
+    let l = look(s, p, t, a);
+    let w = l.settled;
+    let b = l.best;
+    let n = counted(q.steps);
+    let x = t.place;
+    let y = t.starts;
+    let lo = s.low;
+    let hi = s.high;
+    let o = past(w, x, lo, hi, y);
+    match o {
+        Moved::At(j, v) => State {
+            path: turn(s, t, j, v),
+            best: b,
+            steps: n,
+            done: false,
+        },
+        Moved::Done => State {
+            path: t,
+            best: b,
+            steps: n,
+            done: true,
+        },
     }
 }
