@@ -5,3 +5,4 @@ pub mod Runs
 pub mod Cuts
 pub mod Settle
 pub mod Turns
+pub mod Finish

@@ -13,9 +13,11 @@ use lib.Signed.{_≤ℤ_, _<ℤ_}
 use Rattle.arith.specs.Gcd.{Divides}
 use Rattle.knapsack.specs.declared.Mark.{Mark}
 use Rattle.knapsack.specs.declared.Mark.the-variants.{Integer}
-use Rattle.knapsack.proofs.Common.{Feasibleᴰ, Optimalᴰ}
+use Rattle.arith.specs.Mixed.{Proper}
+use Rattle.arith.proofs.Mixes.{over}
+use Rattle.knapsack.proofs.Common.{valueᴰ, Feasibleᴰ, Optimalᴰ}
 use Rattle.greedy.specs.declared.Columns.{Columns}
-use Rattle.greedy.specs.Fill.{at, place, weightOf, priceOf, fill, solution}
+use Rattle.greedy.specs.Fill.{at, place, weightOf, priceOf, fill, bound, solution}
 use Rattle.greedy.specs.Sized.{Sized}
 use Rattle.greedy.specs.Ordered.{Ordered}
 use Rattle.greedy.proofs.Relaxed.{boxOf, InOrder}
@@ -71,4 +73,8 @@ chosen s r = solution (s .cols) (fixedBy s (at (r .place)) (s .levels)) (fill (s
 pub record Searched (s : Setting) (r : Incumbent) : Type 0 where
   pub inside : r .found ≡ true → Inside s (at (r .place))
   pub optimal : r .found ≡ true → (marks : ℕ → Mark) → Marked s marks → Optimalᴰ (boxOf (s .cols) (s .ends) marks) (r .value .parts) (chosen s r)
+  pub value-is : r .found ≡ true → (marks : ℕ → Mark) → Marked s marks → valueᴰ (boxOf (s .cols) (s .ends) marks) (chosen s r) ≡ over (r .value)
+  pub proper : r .found ≡ true → Proper (r .value)
+  pub roomy : r .found ≡ true → pos 0 ≤ℤ fill (s .cols) (fixedBy s (at (r .place)) (s .levels)) .room
+  pub parts-are : r .found ≡ true → r .value ≡ bound (s .cols) (fill (s .cols) (fixedBy s (at (r .place)) (s .levels)))
   pub empty : r .found ≡ false → (marks : ℕ → Mark) → Marked s marks → (D : ℕ) (N : ℕ → ℤ) → 1 ≤ D → ¬ Feasibleᴰ (boxOf (s .cols) (s .ends) marks) D N

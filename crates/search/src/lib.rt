@@ -357,3 +357,24 @@ pub fn step(s: Setting, p: Pairs, q: State) -> State
         },
     }
 }
+
+// The search from its first place on: the best place of the box, or that there is none.
+pub fn run(s: Setting, p: Pairs) -> State
+    requires { ⌜ Ready s p ⌝ }
+    ensures { λ r. ⌜ Searched s (r .best) ⌝ }
+{
+    let zero = Path {
+        place: [0; 16],
+        starts: [0; 16],
+    };
+    let mut q = State {
+        path: dive(s, zero, 0),
+        best: no_incumbent(),
+        steps: 0,
+        done: false,
+    };
+    while !q.done {
+        q = step(s, p, q);
+    }
+    q
+}

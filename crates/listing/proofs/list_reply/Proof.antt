@@ -1,0 +1,46 @@
+-- `listing::list_reply` meets its contract: an answer that is not a refusal is listed.
+use mathlib.Core.Path.{_≡_, refl, sym, _∙_}
+use mathlib.Core.List.{[], _∷_}
+use mathlib.Core.Logic.{⊎-elim}
+use native.Mathlib.Omega.{arith}
+use denote.Enum.Declared.{tagOf}
+use types.Run.{OneOf}
+use Rattle.knapsack.proofs.Kind.{the-type}
+use Rattle.knapsack.specs.declared.Refusal.{Refusal}
+use Rattle.knapsack.specs.declared.Kind.{Kind}
+use Rattle.knapsack.specs.declared.Kind.the-variants.{Optimal, Infeasible, Unbounded, Refused}
+use Rattle.listing.specs.Listing.{unlessRefused}
+use borrow.Author.Needs.{needs}
+use Rattle.listing.proofs.list_reply.Statement.{statement}
+use Rattle.listing.proofs.list_reply.Tie as tie
+
+-- by the number of the variant, as a match tells it
+not-refused : {A : Type 0} (k : Kind) (f : Refusal → A) (x : A) → OneOf (0 ∷ 1 ∷ 2 ∷ []) (tagOf the-type k) → unlessRefused k f x ≡ x
+not-refused Optimal f x h = refl
+not-refused Infeasible f x h = refl
+not-refused Unbounded f x h = refl
+not-refused (Refused r) f x h = absurd (⊎-elim (λ e. omega arith) (λ g. ⊎-elim (λ e. omega arith) (λ e. omega arith) g) h)
+
+enum-known-kind : tie.Need-enum-known-kind
+enum-known-kind c = search needs
+
+returns : tie.Need-returns
+returns c = let e = c .before .kind .given .1 in (rw e, rw e)
+
+list-answer-requires : tie.Need-list-answer-requires
+list-answer-requires c κs = search needs
+
+same-length : tie.Need-same-length
+same-length c = search needs
+
+returns-2 : tie.Need-returns-2
+returns-2 c =
+    let l = c .before .before in
+    let k = l .before .before in
+    let h = k .match .keys2 in
+    let a = k .before .before .args in
+    (l .list-answer .ensures .0 ∙ sym (not-refused (a .a .kind) _ _ h), l .list-answer .ensures .1 ∙ sym (not-refused (a .a .kind) _ _ h))
+
+pub list-reply-spec : {M : Type 1} → statement M
+list-reply-spec =
+    tie.close (tie.spec enum-known-kind returns list-answer-requires same-length returns-2)

@@ -1,0 +1,4 @@
+pub mod Decimal
+pub mod Buffer
+pub mod Printing
+pub mod Listing

@@ -1,0 +1,76 @@
+-- The text of an answer. Paper 01, "What `charge` prints".
+--   refused … unbounded  the words that begin it
+--   field f b            a field and the byte behind it
+--   line f fs            a line: its fields with one blank between them, closed by the byte 10
+--   refusedLine f        `refused N L`
+--   bestLine v           `best P Q`
+--   itemLine s k x r     `k p q` of the item at place k, from 0; behind it the step r, where steps are shown
+--   amountAt a k         the amount at a place
+--   stepAt a k           the step at a place
+--   itemLines s a n      the lines of the first n items, in order
+--   listed n             how many items of n are listed: an answer has 16 places
+--   printedAs k n a      the text of an answer of kind k about n items
+--   printed n a          the text of an answer about n items
+use mathlib.Core.Bool.{Bool, true, false, cond}
+use mathlib.Core.List.{List, [], _∷_, _++_}
+use Prim.Native.Nat.{ℕ, zero, suc, min}
+use lib.IntN.{ℤ, pos}
+use lib.ListN.{getD}
+use Rattle.arith.specs.declared.Fraction.{Fraction}
+use Rattle.knapsack.specs.declared.Answer.{Answer}
+use Rattle.knapsack.specs.declared.Refusal.{Refusal}
+use Rattle.knapsack.specs.declared.Kind.{Kind}
+use Rattle.knapsack.specs.declared.Kind.the-variants.{Optimal, Infeasible, Unbounded, Refused}
+use Rattle.listing.specs.Decimal.{decimal, integer}
+
+-- ---- the words
+abbrev pub refused : List ℕ
+refused = 114 ∷ 101 ∷ 102 ∷ 117 ∷ 115 ∷ 101 ∷ 100 ∷ []
+
+abbrev pub infeasible : List ℕ
+infeasible = 105 ∷ 110 ∷ 102 ∷ 101 ∷ 97 ∷ 115 ∷ 105 ∷ 98 ∷ 108 ∷ 101 ∷ []
+
+abbrev pub best : List ℕ
+best = 98 ∷ 101 ∷ 115 ∷ 116 ∷ []
+
+abbrev pub unbounded : List ℕ
+unbounded = 117 ∷ 110 ∷ 98 ∷ 111 ∷ 117 ∷ 110 ∷ 100 ∷ 101 ∷ 100 ∷ []
+
+-- ---- lines
+abbrev pub field : List ℕ → ℕ → List ℕ
+field f b = f ++ (b ∷ [])
+
+abbrev pub line : List ℕ → List (List ℕ) → List ℕ
+line f [] = field f 10
+line f (g ∷ gs) = field f 32 ++ line g gs
+
+abbrev pub refusedLine : Refusal → List ℕ
+refusedLine f = line refused (decimal (f .number) ∷ decimal (f .line) ∷ [])
+
+abbrev pub bestLine : Fraction → List ℕ
+bestLine v = line best (integer (v .p) ∷ decimal (v .q) ∷ [])
+
+abbrev pub itemLine : Bool → ℕ → Fraction → ℤ → List ℕ
+itemLine s k x r = line (decimal (suc k)) (integer (x .p) ∷ decimal (x .q) ∷ cond s (integer r ∷ []) [])
+
+abbrev pub amountAt : Answer → ℕ → Fraction
+amountAt a k = getD (a .point) k (record { p = pos 0; q = 0 })
+
+abbrev pub stepAt : Answer → ℕ → ℤ
+stepAt a k = getD (a .steps) k (pos 0)
+
+unfoldable pub itemLines : Bool → Answer → ℕ → List ℕ
+itemLines s a zero = []
+itemLines s a (suc n) = itemLines s a n ++ itemLine s n (amountAt a n) (stepAt a n)
+
+abbrev pub listed : ℕ → ℕ
+listed n = min n 16
+
+abbrev pub printedAs : Kind → ℕ → Answer → List ℕ
+printedAs Optimal n a = bestLine (a .value) ++ itemLines false a (listed n)
+printedAs Infeasible n a = line infeasible []
+printedAs Unbounded n a = line unbounded [] ++ itemLines true a (listed n)
+printedAs (Refused f) n a = refusedLine f
+
+unfoldable pub printed : ℕ → Answer → List ℕ
+printed n a = printedAs (a .kind) n a

@@ -1,0 +1,172 @@
+// The text of an answer, as the program `charge` prints it. Paper 01: "Text", "What `charge` prints", and refusal 11.
+// It comes by value (text_of), or at the start of a lent buffer (list_answer, list_reply), of which no byte changes where it is too short.
+mod put;
+
+use arith::Fraction;
+use knapsack::Answer;
+use knapsack::Kind;
+use knapsack::Refusal;
+use put::put_integer;
+use put::put_natural;
+use put::put_word;
+ghost use mathlib.Core.Path.{_≡_};
+ghost use Prim.Native.Nat.{_+_, _*_, _≤_, _<_};
+ghost use lib.ListN.{length};
+ghost use Rattle.listing.specs.Buffer.{Put};
+ghost use Rattle.listing.specs.Printing.{refusedLine, bestLine, itemLine, itemLines, listed, printed};
+ghost use Rattle.listing.specs.Listing.{Shows, told, filled, unlessRefused, noted};
+
+// Room for the longest text: a heading of at most 50 bytes, and 16 lines of at most 86.
+pub const ROOM: usize = 1440;
+
+// A text by value: the first len bytes.
+pub struct Text {
+    pub bytes: [u8; ROOM],
+    pub len: usize,
+}
+
+// What a caller that lent a buffer is told: how long the text is that stands there, or why there is none.
+pub enum Listed {
+    Written(usize),
+    Refused(Refusal),
+}
+
+// The line of the item at a place: `k p q`, and behind it the step where steps are shown.
+fn put_item(out: &mut [u8], at: usize, steps: bool, k: usize, x: Fraction, s: i64) -> usize
+    requires { ⌜ (at + 86 ≤ length (now out)) × (k < 16) ⌝ }
+    ensures { λ r. ⌜ Put 86 at (itemLine steps k x s) (now (out .entry)) (now (out .exit)) r ⌝ }
+{
+    let p = x.p;
+    let q = x.q;
+    let number = k as u64 + 1;
+    let amount = put_natural(out, at, number, b' ');
+    let divisor = put_integer(out, amount, p, b' ');
+    if steps {
+        let step = put_natural(out, divisor, q, b' ');
+        put_integer(out, step, s, b'\n')
+    } else {
+        put_natural(out, divisor, q, b'\n')
+    }
+}
+
+fn put_items(out: &mut [u8], at: usize, steps: bool, a: Answer, n: usize) -> usize
+    requires { ⌜ (n ≤ 16) × (at + 86 * n ≤ length (now out)) ⌝ }
+    ensures { λ r. ⌜ Put (86 * n) at (itemLines steps a n) (now (out .entry)) (now (out .exit)) r ⌝ }
+{
+    let mut next = at;
+    let mut k: usize = 0;
+    while k < n {
+        let x = a.point[k];
+        let s = a.steps[k];
+        next = put_item(out, next, steps, k, x, s);
+        k += 1;
+    }
+    next
+}
+
+// No more items than an answer has places.
+fn listed_items(n: usize) -> usize
+    ensures { λ r. ⌜ r ≡ listed n ⌝ }
+{
+    if n < 16 { n } else { 16 }
+}
+
+fn put_best(out: &mut [u8], value: Fraction) -> usize
+    requires { ⌜ 48 ≤ length (now out) ⌝ }
+    ensures { λ r. ⌜ Put 48 0 (bestLine value) (now (out .entry)) (now (out .exit)) r ⌝ }
+{
+    let p = value.p;
+    let q = value.q;
+    let amount = put_word(out, 0, b"best ");
+    let divisor = put_integer(out, amount, p, b' ');
+    put_natural(out, divisor, q, b'\n')
+}
+
+fn put_refused(out: &mut [u8], f: Refusal) -> usize
+    requires { ⌜ 50 ≤ length (now out) ⌝ }
+    ensures { λ r. ⌜ Put 50 0 (refusedLine f) (now (out .entry)) (now (out .exit)) r ⌝ }
+{
+    let number = f.number;
+    let line = f.line;
+    let first = put_word(out, 0, b"refused ");
+    let second = put_natural(out, first, number, b' ');
+    put_natural(out, second, line, b'\n')
+}
+
+fn put_answer(out: &mut [u8], a: Answer, n: usize) -> usize
+    requires { ⌜ 1440 ≤ length (now out) ⌝ }
+    ensures { λ r. ⌜ Put 1440 0 (printed n a) (now (out .entry)) (now (out .exit)) r ⌝ }
+{
+    let m = listed_items(n);
+    let kind = a.kind;
+    match kind {
+        Kind::Optimal => {
+            let value = a.value;
+            let next = put_best(out, value);
+            put_items(out, next, false, a, m)
+        }
+        Kind::Infeasible => put_word(out, 0, b"infeasible\n"),
+        Kind::Unbounded => {
+            let next = put_word(out, 0, b"unbounded\n");
+            put_items(out, next, true, a, m)
+        }
+        Kind::Refused(f) => put_refused(out, f),
+    }
+}
+
+// The bytes before there is a text.
+fn space() -> [u8; ROOM]
+    ensures { λ r. ⌜ length r ≡ 1440 ⌝ }
+{
+    [0; ROOM]
+}
+
+// The text of an answer about n items.
+pub fn text_of(a: Answer, n: usize) -> Text
+    ensures { λ r. ⌜ Shows (printed n a) r ⌝ }
+{
+    let mut bytes = space();
+    let len = put_answer(&mut bytes, a, n);
+    Text {
+        bytes: bytes,
+        len: len,
+    }
+}
+
+// A text at the start of a lent buffer; the bytes behind it stay. Refusal 11, and no byte changes, where the buffer is shorter.
+pub fn hand_over(text: &[u8], out: &mut [u8]) -> Listed
+    ensures { λ r. ⌜ r ≡ told (now (text .entry)) (now (out .entry)) ⌝ }
+    ensures { λ r. ⌜ now (out .exit) ≡ filled (now (text .entry)) (now (out .entry)) ⌝ }
+{
+    if out.len() < text.len() {
+        return Listed::Refused(Refusal {
+            number: 11,
+            line: 0,
+        });
+    }
+    put_word(out, 0, text);
+    Listed::Written(text.len())
+}
+
+// The text of an answer about n items, also of a refusal, in a lent buffer.
+pub fn list_answer(a: Answer, n: usize, out: &mut [u8]) -> Listed
+    ensures { λ r. ⌜ r ≡ told (printed n a) (now (out .entry)) ⌝ }
+    ensures { λ r. ⌜ now (out .exit) ≡ filled (printed n a) (now (out .entry)) ⌝ }
+{
+    let t = text_of(a, n);
+    let bytes = t.bytes;
+    let len = t.len;
+    hand_over(&bytes[..len], out)
+}
+
+// The same of an answer that is not a refusal; a refusal is told itself, and no byte changes.
+pub fn list_reply(a: Answer, n: usize, out: &mut [u8]) -> Listed
+    ensures { λ r. ⌜ r ≡ unlessRefused (a .kind) noted (told (printed n a) (now (out .entry))) ⌝ }
+    ensures { λ r. ⌜ now (out .exit) ≡ unlessRefused (a .kind) (λ f. now (out .entry)) (filled (printed n a) (now (out .entry))) ⌝ }
+{
+    let kind = a.kind;
+    if let Kind::Refused(f) = kind {
+        return Listed::Refused(f);
+    }
+    list_answer(a, n, out)
+}

@@ -1,0 +1,4 @@
+pub mod Bits
+pub mod Scan
+pub mod Steps
+pub mod Corner

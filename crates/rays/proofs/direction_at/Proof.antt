@@ -1,0 +1,69 @@
+-- `rays::direction_at` meets its contract.
+use Prim.Native.Nat.{_/_}
+use native.Mathlib.Omega.{arith}
+use mir.Syntax.{w64}
+use mir.Val.{SFits}
+use mir.Facts.{toZ-ofZ}
+use Rattle.arith.proofs.Parts.{abs-within}
+use Rattle.arith.proofs.Words.{back}
+use Rattle.knapsack.specs.Records.{itemAt, ItemInRange}
+use Rattle.rays.specs.Directions.{directionOf}
+use borrow.Author.Needs.{needs}
+use Rattle.rays.proofs.direction_at.Statement.{statement}
+use Rattle.rays.proofs.direction_at.Tie as tie
+
+item-in : (s : tie.Start) → ItemInRange (itemAt (s .args .t1) (s .args .u / 2))
+item-in s = s .pre .0 .items-in (s .args .u / 2) (omega arith)
+
+mul-i : tie.Need-mul-i
+mul-i c = search needs
+
+element-copy-out-i : tie.Need-element-copy-out-i
+element-copy-out-i c = search needs
+
+stop-of-requires : tie.Need-stop-of-requires
+stop-of-requires c κs = search needs
+
+absent-requires : tie.Need-absent-requires
+absent-requires c κs = search needs
+
+turned-requires : tie.Need-turned-requires
+turned-requires c κs =
+    let s = c .before .before .before .before in
+    let f : SFits w64 (itemAt (s .args .t1) (s .args .u / 2) .weight) = search needs in
+    rw (toZ-ofZ f) (abs-within (itemAt (s .args .t1) (s .args .u / 2) .weight) (omega (arith, item-in s .weight-in)))
+
+turned-requires-2 : tie.Need-turned-requires-2
+turned-requires-2 c κs =
+    let s = c .before .before .before .before .before .before in
+    let f : SFits w64 (itemAt (s .args .t1) (s .args .u / 2) .price) = search needs in
+    rw (toZ-ofZ f) (abs-within (itemAt (s .args .t1) (s .args .u / 2) .price) (item-in s .price-in))
+
+returns : tie.Need-returns
+unfolding directionOf
+returns c =
+    let s = c .before .before .before .before .before .before .before in
+    let f : SFits w64 (itemAt (s .args .t1) (s .args .u / 2) .weight) = search needs in
+    let g : SFits w64 (itemAt (s .args .t1) (s .args .u / 2) .price) = search needs in
+    rw (
+      back (c .before .before .turned .result) (c .before .before .turned .ok),
+      back (c .turned2 .result) (c .turned2 .ok),
+      c .before .before .turned .ensures,
+      c .turned2 .ensures,
+      toZ-ofZ f,
+      toZ-ofZ g,
+      c .before .before .before .before .absent .ensures,
+      c .before .before .before .before .before .stop-of .ensures,
+    )
+
+pub direction-at-spec : {M : Type 1} → statement M
+direction-at-spec =
+    tie.close
+    (tie.spec
+    mul-i
+    element-copy-out-i
+    stop-of-requires
+    absent-requires
+    turned-requires
+    turned-requires-2
+    returns)

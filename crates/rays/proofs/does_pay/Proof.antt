@@ -1,0 +1,37 @@
+-- `rays::does_pay` meets its contract.
+use lib.IntN.{pos}
+use mir.Syntax.{w64}
+use mir.Val.{SFits}
+use lib.Dec.{lit<}
+use Rattle.arith.proofs.Words.{back, on-values}
+use borrow.Author.Needs.{needs}
+use Rattle.rays.specs.Directions.{pays}
+use Rattle.rays.proofs.does_pay.Statement.{statement}
+use Rattle.rays.proofs.does_pay.Tie as tie
+
+gain-of-requires : tie.Need-gain-of-requires
+gain-of-requires c κs = search needs
+
+zero-fits : SFits w64 (pos 0)
+zero-fits = record { sfits = lit< tt }
+
+returns : tie.Need-returns
+unfolding pays
+returns c =
+    let s = c .before .before .before .before .before in
+    let h : SFits w64 (s .args .e .weight) = search needs in
+    rw (back _ (c .gain-of .ok), c .gain-of .ensures, c .before .before .before .before .if1 .taken, on-values h zero-fits (c .before .if2 .taken))
+
+returns-2 : tie.Need-returns-2
+unfolding pays
+returns-2 c =
+    let s = c .before .before .before .before in
+    let h : SFits w64 (s .args .e .weight) = search needs in
+    rw (c .before .before .before .if1 .taken, on-values h zero-fits (c .if2 .left))
+
+returns-3 : tie.Need-returns-3
+unfolding pays
+returns-3 c = rw (c .if1 .left)
+
+pub does-pay-spec : {M : Type 1} → statement M
+does-pay-spec = tie.close (tie.spec gain-of-requires returns returns-2 returns-3)

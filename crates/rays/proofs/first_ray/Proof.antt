@@ -1,0 +1,68 @@
+-- `rays::first_ray` meets its contract: none of the directions passed begins a ray.
+use mathlib.Core.Path.{_≡_, refl, sym}
+use Prim.Native.Nat.{_*_, _-_, _≤_}
+use native.Mathlib.Omega.{arith}
+use borrow.Author.Needs.{needs}
+use Rattle.rays.specs.declared.Ray.the-variants.{None}
+use Rattle.rays.specs.Directions.{first, rayFrom, rayOf}
+use Rattle.rays.proofs.Scan.{first-past, first-here}
+use Rattle.rays.proofs.first_ray.Statement.{statement}
+use Rattle.rays.proofs.first_ray.Tie as tie
+
+abbrev Inv-loop : tie.InvT-loop
+Inv-loop p n u₀ u = (u ≤ n) × (first u (rayFrom p) ≡ None)
+
+abbrev μ-loop : tie.MeasureT-loop
+μ-loop p n u₀ u = n - u
+
+mul-n : tie.Need-mul-n Inv-loop μ-loop
+mul-n c = omega arith
+
+loop-holds : tie.Need-loop-holds Inv-loop μ-loop
+unfolding first
+loop-holds c = (omega arith, refl)
+
+ray-from-requires : tie.Need-ray-from-requires Inv-loop μ-loop
+ray-from-requires c κs = search needs
+
+is-ray-requires : tie.Need-is-ray-requires Inv-loop μ-loop
+is-ray-requires c κs = search needs
+
+returns : tie.Need-returns Inv-loop μ-loop
+unfolding rayOf
+returns c =
+    let l = c .before .before .before .before .loop in
+    first-here _ (l .u) _ _ _ (omega arith) (l .inv .1) (c .before .before .ray-from .ensures) (c .before .is-ray .ensures) (c .if1 .taken)
+
+add-u : tie.Need-add-u Inv-loop μ-loop
+add-u c = omega arith
+
+loop-less : tie.Need-loop-less Inv-loop μ-loop
+loop-less c = omega arith
+
+loop-again : tie.Need-loop-again Inv-loop μ-loop
+loop-again c =
+    let l = c .before .before .before .before .loop in
+    (omega arith, first-past (l .u) _ _ _ (l .inv .1) (c .before .before .ray-from .ensures) (c .before .is-ray .ensures) (c .if1 .left))
+
+returns-2 : tie.Need-returns-2 Inv-loop μ-loop
+unfolding rayOf
+returns-2 c =
+    let e : c .before .loop .u ≡ 2 * c .before .before .before .args .p .count = omega arith in
+    sym (rw e at (c .before .loop .inv .1))
+
+pub first-ray-spec : {M : Type 1} → statement M
+first-ray-spec =
+    tie.close
+    (tie.spec
+    Inv-loop
+    μ-loop
+    mul-n
+    loop-holds
+    ray-from-requires
+    is-ray-requires
+    returns
+    add-u
+    loop-less
+    loop-again
+    returns-2)

@@ -1,0 +1,323 @@
+-- At the end every place is settled: the incumbent is optimal, or nothing is feasible.
+--   GoodBest s b     the incumbent stands for a place of the box, and its value is that place's
+--   Covered s b q    every place is settled or still to come; at the end, all are settled
+-- tried-good, settles-verdict, step-covers: a step keeps this; searched: what it comes to.
+use mathlib.Core.Path.{_≡_, refl, sym, ap, ap₂, _∙_, subst, subst₂}
+use mathlib.Core.Bool.{Bool, true, false, cond}
+use mathlib.Core.List.{List}
+use mathlib.Core.Logic.{_≢_, _⊎_, inl, inr}
+use mathlib.Core.Option.{Option, none, some}
+use Prim.Native.Nat.{ℕ, zero, suc, _+_, _*_, _≤_, _<_}
+use native.Mathlib.Nat.{mul-le-mul, mul-le-mul-right}
+use native.Mathlib.Omega.{arith}
+use native.Mathlib.Decide.{decLt}
+use lib.IntN.{ℤ, pos, _+ℤ_, _-ℤ_, _*ℤ_}
+use lib.Signed.{_≤ℤ_, _<ℤ_, ≤ℤ-refl, ltZ}
+use Rattle.arith.specs.Sum.{Each}
+use Rattle.arith.specs.Mixed.{Proper, lessMixed}
+use Rattle.arith.specs.declared.Mixed.{Mixed}
+use Rattle.arith.proofs.Integers.{_⊖_, split, split2, split3, zed, ≤ℤ-trans, ≤ℤ-or-<, times-≤, times-≤-back}
+use Rattle.arith.proofs.Parts.{impossible}
+use Rattle.arith.proofs.Words.{no-lt}
+use Rattle.arith.proofs.Mixes.{over}
+use Rattle.knapsack.specs.declared.Mark.{Mark}
+use Rattle.knapsack.specs.declared.Mark.the-variants.{Integer, Continuous}
+use Rattle.knapsack.proofs.Common.{KeepsMarkᴰ, valueᴰ, Feasibleᴰ, Optimalᴰ}
+use Rattle.knapsack.proofs.Branch.{AtMost, at-most-climb}
+use Rattle.greedy.specs.declared.Ends.{Ends}
+use Rattle.greedy.specs.declared.Fill.{Fill}
+use Rattle.greedy.specs.Fill.{at, fill, bound, solution}
+use Rattle.greedy.proofs.Relaxed.{boxOf, InOrder, Stopped, fill-stopped, fill-empty, fill-bound, fill-value, fill-point, parts≥1}
+use Rattle.greedy.proofs.Sizes.{fill-sized}
+use Rattle.places.specs.declared.Settled.{Settled}
+use Rattle.places.specs.declared.Settled.the-variants.{Run, Prefix}
+use Rattle.places.specs.Moves.{SettledIn, pastOf}
+use Rattle.places.proofs.Places.{Place, Box, Agree, Moved, Covers, All, μ, covers-mono, covers-first, starts-box}
+use Rattle.places.proofs.Steps.{Settles, Goes, step-goes}
+use Rattle.search.specs.declared.Setting.{Setting}
+use Rattle.search.specs.declared.Pairs.{Pairs}
+use Rattle.search.specs.declared.Incumbent.{Incumbent}
+use Rattle.search.specs.declared.Path.{Path}
+use Rattle.search.specs.declared.State.{State}
+use Rattle.search.specs.Search.{levelAt, fixedBy, startBy, runEnds, cutBy, betters, triedBy}
+use Rattle.search.specs.Ready.{ReadySetting, ReadyPairs, Ready, Inside, InsideTo, Marked, chosen, Searched}
+use Rattle.search.specs.Steps.{Long, Started, ProperBest, Judges, LookedAs, Dived, nobody, Turned, WentOn, Stepped}
+use Rattle.search.proofs.Boxes.{orderOf, order-laws, item<16, fixed-order, fixed-level, fixed-other, start-cong}
+use Rattle.search.proofs.Bounds.{bound-proper}
+use Rattle.search.proofs.Runs.{fixed-judged}
+use Rattle.search.proofs.Turns.{looked-in, past-started}
+use Rattle.search.proofs.Cuts.{box, AtPlace, AtMostBest, Bettered, InBox, in-box, rebox}
+use Rattle.search.proofs.Cuts.{Settled as SettledAt}
+use Rattle.search.proofs.Settle.{cut-settles, pair-settles, tried-settles, tried-keeps}
+
+-- the box of a place, all levels fixed, and its filling
+abbrev pub placeEnds : Setting → List ℤ → Ends
+placeEnds s x = fixedBy s (at x) (s .levels)
+
+pub record GoodBest (s : Setting) (b : Incumbent) : Type 0 where
+  pub proper : ProperBest b
+  pub inside : b .found ≡ true → Inside s (at (b .place))
+  pub roomy : b .found ≡ true → pos 0 ≤ℤ fill (s .cols) (placeEnds s (b .place)) .room
+  pub value-is : b .found ≡ true → b .value ≡ bound (s .cols) (fill (s .cols) (placeEnds s (b .place)))
+
+module _ (s : Setting) (r : ReadySetting s) (long : Long (s .ends)) where
+  pub tried-good : (x : List ℤ) (b : Incumbent) → Inside s (at x) → GoodBest s b → GoodBest s (triedBy s (placeEnds s x) x b)
+  unfolding triedBy
+  tried-good x b inside g = empty? (ltZ (f .room) (pos 0)) refl
+    where
+      e : Ends
+      e = placeEnds s x
+
+      f : Fill
+      f = fill (s .cols) e
+
+      j : Judges s e 0 b
+      j = fixed-judged s r long (at x) inside (s .levels) 0 b (omega arith) (omega arith) (g .proper)
+
+      new : ltZ (f .room) (pos 0) ≡ false → GoodBest s (record { found = true; place = x; value = bound (s .cols) f })
+      new q = record { proper = λ z. bound-proper (s .cols) f (fill-sized (s .cols) e (j .sized)); inside = λ z. inside; roomy = λ z. no-lt q; value-is = λ z. refl }
+
+      better? : ltZ (f .room) (pos 0) ≡ false → (t : Bool) → GoodBest s (cond t (record { found = true; place = x; value = bound (s .cols) f }) b)
+      better? q true = new q
+      better? q false = g
+
+      empty? : (t : Bool) → ltZ (f .room) (pos 0) ≡ t → GoodBest s (cond t b (cond (betters (bound (s .cols) f) b) (record { found = true; place = x; value = bound (s .cols) f }) b))
+      empty? true q = g
+      empty? false q = better? q (betters (bound (s .cols) f) b)
+
+  -- ---- a verdict settles what it covers
+
+  module _ (ps : Pairs) (rp : ReadyPairs (s .cols) ps) (t : Path) (started : Started s t) (b b′ : Incumbent) (g : GoodBest s b) where
+    pub looked-good : (w : Settled) → LookedAs s ps t b b′ w → GoodBest s b′
+    looked-good (Run d) (l, (e, c)) = rw e g
+    looked-good (Prefix n) (l, inl (q, e)) = rw e (tried-good (t .place) b (started .inside) g)
+    looked-good (Prefix n) (l, inr (e, c)) = rw e g
+
+    module _ (marks : ℕ → Mark) (m : Marked s marks) where
+      pub keeps-settled : (w : Settled) → LookedAs s ps t b b′ w → (y : Place) → SettledAt s marks b y → SettledAt s marks b′ y
+      keeps-settled (Run d) (l, (e, c)) y h = rw e h
+      keeps-settled (Prefix n) (l, inl (q, e)) y h = rw e (tried-keeps s r long marks m (at (t .place)) (started .inside) (t .place) b (g .proper) y h)
+      keeps-settled (Prefix n) (l, inr (e, c)) y h = rw e h
+
+      pub settles-verdict : (w : Settled) → LookedAs s ps t b b′ w → Settles (orderOf s) w (at (t .place)) (SettledAt s marks b′)
+      settles-verdict (Run d) (l, (e, c)) = λ y bx run. rw e (cut-settles s r long marks m (at (t .place)) (started .inside) d b l (g .proper) (subst (λ v. cutBy s (runEnds s (at (t .place)) v d) d b ≡ true) (started .starts d l) c) y run)
+      settles-verdict (Prefix n) (l, inl (q, e)) = λ y bx a. rw e (tried-settles s r long marks m (at (t .place)) (started .inside) (t .place) b (g .proper) y (subst (λ k. Agree k (at (t .place)) y) q a))
+      settles-verdict (Prefix n) (l, inr (e, (d, q, c))) = λ y bx a. rw e (pair-settles s r long marks m (at (t .place)) (started .inside) ps rp d b (omega arith) c y (subst (λ k. Agree k (at (t .place)) y) q a))
+
+-- ---- the invariant
+
+abbrev pub Covered : Setting → (ℕ → Mark) → State → Type 0
+Covered s marks q = (q .done ≡ false → Covers (orderOf s) (SettledAt s marks (q .best)) (at (q .path .place))) × (q .done ≡ true → All (orderOf s) (SettledAt s marks (q .best)))
+
+pub record Going (s : Setting) (q : State) : Type 0 where
+  pub started : Started s (q .path)
+  pub good : GoodBest s (q .best)
+  pub covered : (marks : ℕ → Mark) → Marked s marks → Covered s marks q
+
+-- what is left of a search
+unfoldable pub left : Setting → State → ℕ
+left s q = cond (q .done) 0 (suc (μ (orderOf s) (at (q .path .place))))
+
+module _ (s : Setting) (ps : Pairs) (ready : Ready s ps) (q r : State) (g : Going s q) (on : q .done ≡ false) (st : Stepped s ps q r) where
+  abbrev t : Path
+  t = q .path
+
+  long : Long (s .ends)
+  long = g .started .long
+
+  in-levels : SettledIn (s .levels) (st .verdict)
+  in-levels = looked-in s ps t (q .best) (r .best) (st .verdict) (st .looked)
+
+  good′ : GoodBest s (r .best)
+  good′ = looked-good s (ready .setting) long ps (ready .true-pairs) t (g .started) (q .best) (r .best) (g .good) (st .verdict) (st .looked)
+
+  abbrev lead : Option (ℕ × ℤ)
+  lead = pastOf (st .verdict) (at (s .low)) (at (s .high)) (startBy s (at (t .place))) (at (t .place))
+
+  went : WentOn s q lead r
+  went = subst (λ o. WentOn s q o r) (past-started s t (st .verdict) (g .started) in-levels) (st .went)
+
+  goes : (S : Place → Type 0) → Settles (orderOf s) (st .verdict) (at (t .place)) S → Covers (orderOf s) S (at (t .place)) → Goes (orderOf s) S (at (t .place)) lead (at (r .path .place))
+  goes S h c = step-goes (order-laws s (ready .setting) long) S (at (t .place)) (g .started .inside) (at (r .path .place)) (st .verdict) in-levels h c
+
+  moved : (j : ℕ) (v : ℤ) → Turned s t j v (r .path) → Moved (orderOf s) (at (t .place)) j v (at (r .path .place))
+  moved j v h = record { above = λ k o. sym (h .above k o); here = h .here; deeper = λ k o l. h .deeper k o l }
+
+  settles : (marks : ℕ → Mark) → Marked s marks → Settles (orderOf s) (st .verdict) (at (t .place)) (SettledAt s marks (r .best))
+  settles marks m = settles-verdict s (ready .setting) long ps (ready .true-pairs) t (g .started) (q .best) (r .best) (g .good) marks m (st .verdict) (st .looked)
+
+  covers : (marks : ℕ → Mark) → Marked s marks → Covers (orderOf s) (SettledAt s marks (r .best)) (at (t .place))
+  covers marks m = covers-mono (orderOf s) (SettledAt s marks (q .best)) (SettledAt s marks (r .best)) (at (t .place)) (λ y. keeps-settled s (ready .setting) long ps (ready .true-pairs) t (g .started) (q .best) (r .best) (g .good) marks m (st .verdict) (st .looked) y) (g .covered marks m .0 on)
+
+  no-end : true ≡ false → ⊥
+  no-end h = impossible (sym h)
+
+  all : (w : Settled) → Settles (orderOf s) w (at (t .place)) (λ y. Unit {0})
+  all (Run d) = λ y bx a. tt
+  all (Prefix n) = λ y bx a. tt
+
+  pub going-on : Going s r
+  going-on = go lead went (λ S h c. goes S h c)
+    where
+      go : (o : Option (ℕ × ℤ)) → WentOn s q o r → ((S : Place → Type 0) → Settles (orderOf s) (st .verdict) (at (t .place)) S → Covers (orderOf s) S (at (t .place)) → Goes (orderOf s) S (at (t .place)) o (at (r .path .place))) → Going s r
+      go none (d, same) gs = record {
+        started = rw same (g .started);
+        good = good′;
+        covered = λ marks m. ((λ f. absurd (no-end (sym d ∙ f))), (λ f. gs (SettledAt s marks (r .best)) (settles marks m) (covers marks m)));
+      }
+      go (some (j, v)) (d, turned) gs = record {
+        started = record { long = long; inside = gs (λ y. Unit {0}) (all (st .verdict)) (λ y bx. inl tt) (moved j v turned) .1; starts = turned .starts };
+        good = good′;
+        covered = λ marks m. ((λ f. gs (SettledAt s marks (r .best)) (settles marks m) (covers marks m) (moved j v turned) .0), (λ f. absurd (no-end (sym f ∙ d))));
+      }
+
+  pub going-less : left s r < left s q
+  unfolding left
+  going-less = rw on (go lead went (goes (λ y. Unit {0}) (all (st .verdict)) (λ y bx. inl tt)))
+    where
+      go : (o : Option (ℕ × ℤ)) → WentOn s q o r → Goes (orderOf s) (λ y. Unit {0}) (at (t .place)) o (at (r .path .place)) → cond (r .done) 0 (suc (μ (orderOf s) (at (r .path .place)))) < suc (μ (orderOf s) (at (t .place)))
+      go none (d, same) gs = rw d (omega arith)
+      go (some (j, v)) (d, turned) gs = rw d (omega (arith, gs (moved j v turned) .2))
+
+-- ---- what the search comes to
+
+module _ (s : Setting) (r : ReadySetting s) (long : Long (s .ends)) (marks : ℕ → Mark) (m : Marked s marks) where
+  whole-of : (D : ℕ) (mk : Mark) (n : ℤ) → mk ≡ Integer → KeepsMarkᴰ D mk n → (z : ℤ) × (n ≡ z *ℤ pos D)
+  whole-of D mk n e k = subst (λ (x : Mark). KeepsMarkᴰ D x n) e k
+
+  -- a feasible point's place
+  module _ (D : ℕ) (N : ℕ → ℤ) (d≥1 : 1 ≤ D) (p : Feasibleᴰ (box s marks) D N) where
+    amount : (d : ℕ) → Dec (d < s .levels) → ℤ
+    amount d (yes l) = whole-of D (marks (levelAt s d)) (N (levelAt s d)) (m .integer d l) (p .keeps (levelAt s d) (r .level-in d l) .marked) .0
+    amount d (no l) = pos 0
+
+    y : Place
+    y d = amount d (decLt d (s .levels))
+
+    at-amount : (d : ℕ) (k : Dec (d < s .levels)) → d < s .levels → N (levelAt s d) ≡ amount d k *ℤ pos D
+    unfolding amount
+    at-amount d (yes l) n = whole-of D (marks (levelAt s d)) (N (levelAt s d)) (m .integer d l) (p .keeps (levelAt s d) (r .level-in d l) .marked) .1
+    at-amount d (no l) n = absurd (l n)
+
+    at-place : AtPlace s marks D N y
+    unfolding y
+    at-place d l = at-amount d (decLt d (s .levels)) l
+
+    in-place : Box (orderOf s) (s .levels) y
+    in-place d l = (
+      times-≤-back D (at (s .low) d) (y d) d≥1 (subst₂ (λ u x. (u *ℤ pos D) ≤ℤ x) (sym (r .low-is d l)) (at-place d l) (p .keeps (levelAt s d) (r .level-in d l) .above)),
+      times-≤-back D (y d) (at (s .high) d) d≥1 (subst₂ (λ u x. x ≤ℤ (u *ℤ pos D)) (sym (r .high-is d l)) (at-place d l) (p .keeps (levelAt s d) (r .level-in d l) .below)),
+    )
+
+    pub settled-point : (b : Incumbent) → All (orderOf s) (SettledAt s marks b) → AtMostBest s marks b D N ⊎ Bettered s marks D N
+    settled-point b h = h y in-place D N d≥1 p at-place
+
+  -- values are bounded: by the relaxation of the whole box
+  bounded : (D : ℕ) (N : ℕ → ℤ) → 1 ≤ D → Feasibleᴰ (box s marks) D N → (U : ℤ) × ((G : ℕ) × (1 ≤ G) × AtMost (box s marks) U G)
+  bounded D N d≥1 p = go (≤ℤ-or-< (pos 0) (fill (s .cols) (s .ends) .room))
+    where
+      go : (pos 0 ≤ℤ fill (s .cols) (s .ends) .room) ⊎ (fill (s .cols) (s .ends) .room <ℤ pos 0) → (U : ℤ) × ((G : ℕ) × (1 ≤ G) × AtMost (box s marks) U G)
+      go (inl h) =
+          let st = fill-stopped (s .cols) (s .ends) marks (r .ordered) (r .in-order) h in
+          (over (bound (s .cols) (fill (s .cols) (s .ends))), (bound (s .cols) (fill (s .cols) (s .ends)) .parts, parts≥1 (s .cols) (s .ends) marks (r .ordered) (r .in-order) (fill (s .cols) (s .ends)) st, fill-bound (s .cols) (s .ends) marks (r .ordered) (r .in-order) (fill (s .cols) (s .ends)) st))
+      go (inr h) = absurd (fill-empty (s .cols) (s .ends) marks (r .ordered) (r .in-order) h D N d≥1 p)
+
+  module _ (b : Incumbent) (g : GoodBest s b) (all : All (orderOf s) (SettledAt s marks b)) where
+    pub none-feasible : b .found ≡ false → (D : ℕ) (N : ℕ → ℤ) → 1 ≤ D → ¬ Feasibleᴰ (box s marks) D N
+    none-feasible f D N d≥1 p =
+        let u = bounded D N d≥1 p in
+        under (valueᴰ (box s marks) N) (at-most-climb (box s marks) (valueᴰ (box s marks) N -ℤ pos 1) (u .0) D (u .1 .0) d≥1 (u .1 .1) (u .1 .2) (λ D′ N′ d′ p′. inr (step D′ N′ (settled-point D′ N′ d′ p′ b all))) D N d≥1 p)
+      where
+        step : (D′ : ℕ) (N′ : ℕ → ℤ) → AtMostBest s marks b D′ N′ ⊎ Bettered s marks D′ N′ → Bettered s marks D′ N′
+        step D′ N′ (inl (q, h)) = absurd (impossible (sym f ∙ q))
+        step D′ N′ (inr h) = h
+
+        under : (v : ℤ) → (v *ℤ pos D) ≤ℤ ((v -ℤ pos 1) *ℤ pos D) → ⊥
+        under = split _ (λ a c. simp zed (λ h. omega (arith, d≥1)))
+
+    module _ (f : b .found ≡ true) where
+      abbrev e : Ends
+      e = placeEnds s (b .place)
+
+      abbrev fl : Fill
+      fl = fill (s .cols) e
+
+      ordered : InOrder (s .cols) e
+      ordered = fixed-order s r long (at (b .place)) (s .levels) (omega arith)
+
+      stopped : Stopped (s .cols) e marks (r .ordered) ordered fl
+      stopped = fill-stopped (s .cols) e marks (r .ordered) ordered (g .roomy f)
+
+      -- every integer item is at some level, and so fixed
+      fixed : (k : ℕ) → k < s .cols .count → marks k ≡ Integer → at (e .lo) k ≡ at (e .hi) k
+      fixed k l q =
+          let v = m .level k l q in
+          let h = fixed-level s r long (at (b .place)) (s .levels) (v .0) (omega arith) (v .1) in
+          subst (λ i. at (e .lo) i ≡ at (e .hi) i) (v .2) (h .0 ∙ sym (h .1))
+
+      -- the fixed box lies in the search's
+      wider-box : (D : ℕ) (N : ℕ → ℤ) → Feasibleᴰ (boxOf (s .cols) e marks) D N → InBox (s .cols) (s .ends) D N
+      wider-box D N p k l = go (marks k) refl
+        where
+          go : (mk : Mark) → marks k ≡ mk → ((at (s .ends .lo) k *ℤ pos D) ≤ℤ N k) × (N k ≤ℤ (at (s .ends .hi) k *ℤ pos D))
+          go Integer q =
+              let v = m .level k l q in
+              let h = fixed-level s r long (at (b .place)) (s .levels) (v .0) (omega arith) (v .1) in
+              let i = g .inside f (v .0) (v .1) in
+              let lo : at (s .ends .lo) k ≤ℤ at (e .lo) k = subst (λ j. at (s .ends .lo) j ≤ℤ at (e .lo) j) (v .2) (subst₂ _≤ℤ_ (r .low-is (v .0) (v .1)) (sym (h .0)) (i .0)) in
+              let hi : at (e .hi) k ≤ℤ at (s .ends .hi) k = subst (λ j. at (e .hi) j ≤ℤ at (s .ends .hi) j) (v .2) (subst₂ _≤ℤ_ (sym (h .1)) (r .high-is (v .0) (v .1)) (i .1)) in
+              (≤ℤ-trans (times-≤ D _ _ lo) (p .keeps k l .above), ≤ℤ-trans (p .keeps k l .below) (times-≤ D _ _ hi))
+          go Continuous q =
+              let h = fixed-other s r long (at (b .place)) (s .levels) k (λ j n x. unlike (sym (m .integer j n) ∙ ap marks x ∙ q)) in
+              (subst (λ x. (x *ℤ pos D) ≤ℤ N k) (h .0) (p .keeps k l .above), subst (λ x. N k ≤ℤ (x *ℤ pos D)) (h .1) (p .keeps k l .below))
+            where
+              unlike : Integer ≡ Continuous → ⊥
+              unlike x = let z : _≡_ {A = ℕ} 0 1 = cc in omega arith
+
+      value-parts : b .value .parts ≡ bound (s .cols) fl .parts
+      value-parts = ap (λ (v : Mixed). v .parts) (g .value-is f)
+
+      pub found-feasible : Feasibleᴰ (box s marks) (b .value .parts) (chosen s b)
+      found-feasible =
+          let p = fill-point (s .cols) e marks (r .ordered) ordered fixed fl stopped in
+          subst (λ n. Feasibleᴰ (box s marks) n (chosen s b)) (sym value-parts) (rebox (s .cols) e (s .ends) marks (bound (s .cols) fl .parts) (chosen s b) (wider-box (bound (s .cols) fl .parts) (chosen s b) p) p)
+
+      pub found-value : valueᴰ (box s marks) (chosen s b) ≡ over (b .value)
+      found-value = fill-value (s .cols) e marks (r .ordered) ordered fl stopped ∙ ap over (sym (g .value-is f))
+
+      pub found-optimal : Optimalᴰ (box s marks) (b .value .parts) (chosen s b)
+      found-optimal = record {
+        feasible = found-feasible;
+        highest = λ D N d≥1 p. let u = bounded D N d≥1 p in subst (λ w. (valueᴰ (box s marks) N *ℤ pos (b .value .parts)) ≤ℤ (w *ℤ pos D)) (sym found-value)
+            (at-most-climb (box s marks) (over (b .value)) (u .0) (b .value .parts) (u .1 .0) (omega (arith, g .proper f .low)) (u .1 .1) (u .1 .2) (λ D′ N′ d′ p′. step D′ N′ (settled-point D′ N′ d′ p′ b all)) D N d≥1 p);
+      }
+        where
+          step : (D′ : ℕ) (N′ : ℕ → ℤ) → AtMostBest s marks b D′ N′ ⊎ Bettered s marks D′ N′ → ((valueᴰ (box s marks) N′ *ℤ pos (b .value .parts)) ≤ℤ (over (b .value) *ℤ pos D′)) ⊎ Bettered s marks D′ N′
+          step D′ N′ (inl (q, h)) = inl h
+          step D′ N′ (inr h) = inr h
+
+pub searched : (s : Setting) → ReadySetting s → (q : State) → Going s q → q .done ≡ true → Searched s (q .best)
+searched s r q g d = record {
+  inside = g .good .inside;
+  optimal = λ f marks m. found-optimal s r (g .started .long) marks m (q .best) (g .good) (g .covered marks m .1 d) f;
+  value-is = λ f marks m. found-value s r (g .started .long) marks m (q .best) (g .good) (g .covered marks m .1 d) f;
+  proper = g .good .proper;
+  roomy = g .good .roomy;
+  parts-are = g .good .value-is;
+  empty = λ f marks m. none-feasible s r (g .started .long) marks m (q .best) (g .good) (g .covered marks m .1 d) f;
+}
+
+-- ---- the beginning
+
+pub going-first : (s : Setting) → ReadySetting s → Long (s .ends) → (p r : Path) (n : ℕ) → Dived s 0 p r → Going s (record { path = r; best = nobody; steps = n; done = false })
+going-first s ready long p r n d = record {
+  started = record { long = long; inside = inside; starts = λ i l. let h = d .filled i (omega arith) l in h .1 ∙ h .0 };
+  good = record { proper = λ h. absurd (impossible h); inside = λ h. absurd (impossible h); roomy = λ h. absurd (impossible h); value-is = λ h. absurd (impossible h) };
+  covered = λ marks m. ((λ f. covers-first (order-laws s ready long) (SettledAt s marks nobody) (at (r .place)) starts), (λ f. absurd (impossible f)));
+}
+  where
+    starts : Each (s .levels) (λ k. at (r .place) k ≡ startBy s (at (r .place)) k)
+    starts k l = d .filled k (omega arith) l .0
+
+    inside : Inside s (at (r .place))
+    inside = starts-box (order-laws s ready long) (at (r .place)) starts (s .levels) (omega arith)

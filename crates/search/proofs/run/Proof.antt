@@ -1,0 +1,71 @@
+-- `search::run` meets its contract: every place is settled or still to come, and places fall away.
+use mathlib.Core.Path.{_≡_, refl, sym, _∙_}
+use mathlib.Core.Bool.{Bool, true, false, not}
+use Prim.Native.Nat.{ℕ, _≤_, _<_}
+use native.Mathlib.Omega.{arith}
+use lib.ListN.{length}
+use borrow.Author.Needs.{needs}
+use Rattle.search.specs.Steps.{Long}
+use Rattle.search.proofs.Finish.{Going, left, going-first, going-on, going-less, searched}
+use Rattle.search.proofs.run.Statement.{statement}
+use Rattle.search.proofs.run.Tie as tie
+
+abbrev Inv-loop : tie.InvT-loop
+Inv-loop s p q₀ q = Going s q
+
+abbrev μ-loop : tie.MeasureT-loop
+μ-loop s p q₀ q = left s q
+
+long : (s : tie.Start Inv-loop μ-loop) → Long (s .args .s .ends)
+long s = record { lo-long = search needs; hi-long = search needs }
+
+dive-requires : tie.Need-dive-requires Inv-loop μ-loop
+dive-requires c κs = (c .pre .setting, (omega arith, λ d l. absurd (omega arith)))
+
+no-incumbent-requires : tie.Need-no-incumbent-requires Inv-loop μ-loop
+no-incumbent-requires c κs = tt
+
+loop-holds : tie.Need-loop-holds Inv-loop μ-loop
+loop-holds c =
+    let s = c .before .before in
+    rw (c .no-incumbent .ensures) (going-first (s .args .s) (s .pre .setting) (long s) _ (c .before .dive .result) 0 (c .before .dive .ensures))
+
+step-requires : tie.Need-step-requires Inv-loop μ-loop
+step-requires c κs =
+    let l = c .before .before in
+    (l .before .before .before .pre, (l .loop .inv .started, l .loop .inv .good .proper))
+
+-- a test that is turned round
+turned-true : (b : Bool) → not b ≡ true → b ≡ false
+turned-true true h = sym h
+turned-true false h = refl
+
+turned-false : (b : Bool) → not b ≡ false → b ≡ true
+turned-false true h = refl
+turned-false false h = sym h
+
+on : (c : tie.Then1 Inv-loop μ-loop) → c .before .before .loop .q .done ≡ false
+on c = turned-true (c .before .before .loop .q .done) (c .if1 .taken)
+
+loop-less : tie.Need-loop-less Inv-loop μ-loop
+loop-less c =
+    let t = c .before in
+    let l = t .before .before in
+    let s = l .before .before .before in
+    going-less (s .args .s) (s .args .p) (s .pre) (l .loop .q) (c .step .result) (l .loop .inv) (on t) (c .step .ensures)
+
+loop-again : tie.Need-loop-again Inv-loop μ-loop
+loop-again c =
+    let t = c .before in
+    let l = t .before .before in
+    let s = l .before .before .before in
+    going-on (s .args .s) (s .args .p) (s .pre) (l .loop .q) (c .step .result) (l .loop .inv) (on t) (c .step .ensures)
+
+returns : tie.Need-returns Inv-loop μ-loop
+returns c =
+    let l = c .before .before in
+    let s = l .before .before .before in
+    searched (s .args .s) (s .pre .setting) (l .loop .q) (l .loop .inv) (turned-false (l .loop .q .done) (c .if1 .left))
+
+pub run-spec : {M : Type 1} → statement M
+run-spec = tie.close (tie.spec Inv-loop μ-loop dive-requires no-incumbent-requires loop-holds step-requires loop-less loop-again returns)
