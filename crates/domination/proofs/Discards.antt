@@ -1,0 +1,162 @@
+-- What pairs discard. Paper 01, "Least pair": a point from which r and t can be taken away within both bounds is not best; an
+-- equal-value pair may only discard a point in favour of one that comes first, item by item, never both of two.
+--   Removable s D N i j r t   two different items, and N / D keeps their bounds without the steps r of i and t of j
+--   without D N i r j t       N / D without those steps, over D
+--   ComesFirst N M f          N comes before M, item by item: equal before place f and less there
+-- cost-discard: without a cost pair's steps a feasible point is feasible, and worth at least 1 more.
+-- cost-not-optimalᴰ, cost-not-optimal: so it was not optimal; the second says so of points, without a common divisor.
+-- tabled-not-optimal: the table's entries are such steps.
+-- equal-discard: without an equal-value pair's steps it is feasible, with the same weight and value.
+-- equal-first: and comes first, if the step of the first of the two items is above zero.
+-- first-once: no two points come before each other.
+use mathlib.Core.Path.{_≡_, sym, ap, _∙_}
+use mathlib.Core.Logic.{_≢_}
+use Prim.Native.Nat.{ℕ, _*_, _≤_, _<_}
+use native.Mathlib.Decide.{decLt}
+use native.Mathlib.Nat.{mul-le-mul-left}
+use native.Mathlib.Omega.{arith}
+use lib.IntN.{ℤ, pos, negℤ, _+ℤ_, _-ℤ_, _*ℤ_}
+use lib.Signed.{_≤ℤ_, _<ℤ_, clashℤ}
+use Rattle.arith.specs.Fractions.{Frac, int, frac, _+ᶠ_}
+use Rattle.arith.specs.Sum.{sum, Each, bump}
+use Rattle.arith.proofs.Fractions.{Over, over-int, over-frac, over-+, over-≤, common}
+use Rattle.arith.proofs.Integers.{split, split2, split3, split4, zed, ≤ℤ-reflexive}
+use Rattle.arith.proofs.Parts.{lt-le}
+use Rattle.arith.proofs.Sums.{bump-same, bump-other}
+use Rattle.knapsack.specs.declared.Bound.{Bound}
+use Rattle.knapsack.specs.declared.Bound.the-variants.{Absent, At}
+use Rattle.knapsack.specs.declared.Item.{Item}
+use Rattle.knapsack.specs.declared.Problem.{Problem}
+use Rattle.knapsack.specs.Records.{itemAt}
+use Rattle.knapsack.specs.Meaning.{Instance, instanceOf, Point, KeepsLower, KeepsUpper, Keeps, weights, prices, Optimal, CostPair, EqualPair}
+use Rattle.knapsack.proofs.Common.{KeepsLowerᴰ, KeepsUpperᴰ, Keepsᴰ, weighsᴰ, valueᴰ, Feasibleᴰ}
+use Rattle.knapsack.proofs.Bridge.{Reads, bridge-feasible, bridge-value}
+use Rattle.knapsack.proofs.Dual.{Within}
+use Rattle.knapsack.proofs.Moves.{shift, sum-shift, keeps-shift}
+use Rattle.domination.specs.declared.Pair.the-variants.{Steps}
+use Rattle.domination.specs.Pairs.{tabled}
+use Rattle.domination.proofs.Entry.{tabled-steps}
+
+pub record Removable (s : Instance) (D : ℕ) (N : ℕ → ℤ) (i j : ℕ) (r t : ℤ) : Type 0 where
+  pub first-in : i < s .count
+  pub second-in : j < s .count
+  pub different : j ≢ i
+  pub first-within : Within D (s .item i) (N i -ℤ r *ℤ pos D)
+  pub second-within : Within D (s .item j) (N j -ℤ t *ℤ pos D)
+
+abbrev pub without : ℕ → (ℕ → ℤ) → ℕ → ℤ → ℕ → ℤ → ℕ → ℤ
+without D N i r j t = shift D N i (negℤ r) j (negℤ t)
+
+-- to take a step away is to add its opposite
+away : (D : ℕ) (n r : ℤ) → n -ℤ r *ℤ pos D ≡ n +ℤ negℤ r *ℤ pos D
+away D = split2 _ (λ a b c e. simp zed (omega arith))
+
+module _ (s : Instance) (D : ℕ) (N : ℕ → ℤ) (i j : ℕ) (r t : ℤ) (h : Removable s D N i j r t) where
+  abbrev N′ : ℕ → ℤ
+  N′ = without D N i r j t
+
+  keeps-without : Each (s .count) (λ k. Keepsᴰ D (s .item k) (N k)) → Each (s .count) (λ k. Keepsᴰ D (s .item k) (N′ k))
+  keeps-without p = keeps-shift s D N i j (negℤ r) (negℤ t) (h .first-in) (h .second-in) (h .different) p (rw (away D (N i) r) at (h .first-within)) (rw (away D (N j) t) at (h .second-within))
+
+  -- a weighted sum falls by what the steps weigh
+  sum-without : (a : ℕ → ℤ) → sum (s .count) (λ k. a k *ℤ N′ k) ≡ sum (s .count) (λ k. a k *ℤ N k) -ℤ (a i *ℤ r +ℤ a j *ℤ t) *ℤ pos D
+  sum-without a = sum-shift (s .count) D a N i j (negℤ r) (negℤ t) (h .first-in) (h .second-in) ∙ turned (sum (s .count) (λ k. a k *ℤ N k)) (a i) (a j) r t
+    where
+      turned : (w x y r t : ℤ) → w +ℤ (x *ℤ negℤ r +ℤ y *ℤ negℤ t) *ℤ pos D ≡ w -ℤ (x *ℤ r +ℤ y *ℤ t) *ℤ pos D
+      turned = split _ (λ h i. split4 _ (λ a b c e f g k l. simp zed (omega arith)))
+
+  pub cost-discard : CostPair (s .item i) (s .item j) r t → Feasibleᴰ s D N → Feasibleᴰ s D N′ × ((valueᴰ s N +ℤ pos D) ≤ℤ valueᴰ s N′)
+  cost-discard c p = (
+    record {
+      keeps = keeps-without (p .keeps);
+      fits = rw (sum-without (weights s)) (lighter (weighsᴰ s N) (s .capacity *ℤ pos D) (s .item i .weight *ℤ r +ℤ s .item j .weight *ℤ t) (p .fits) (c .heavy));
+    },
+    rw (sum-without (prices s)) (more (valueᴰ s N) (s .item i .price *ℤ r +ℤ s .item j .price *ℤ t) (c .loss)),
+  )
+    where
+      lighter : (w b x : ℤ) → w ≤ℤ b → pos 0 ≤ℤ x → (w -ℤ x *ℤ pos D) ≤ℤ b
+      lighter = split3 _ (λ a b c e f g. simp zed (λ k l. omega (arith, mul-le-mul-left D l)))
+
+      more : (v x : ℤ) → x <ℤ pos 0 → (v +ℤ pos D) ≤ℤ (v -ℤ x *ℤ pos D)
+      more = split2 _ (λ a b c e. simp zed (λ l. omega (arith, mul-le-mul-left D l)))
+
+  pub equal-discard : EqualPair (s .item i) (s .item j) r t → Feasibleᴰ s D N → Feasibleᴰ s D N′ × ((weighsᴰ s N′ ≡ weighsᴰ s N) × (valueᴰ s N′ ≡ valueᴰ s N))
+  equal-discard c p = (record { keeps = keeps-without (p .keeps); fits = rw weight (p .fits) }, (weight, worth))
+    where
+      same : (w x : ℤ) → x ≡ pos 0 → w -ℤ x *ℤ pos D ≡ w
+      same = split2 _ (λ a b c e. simp zed (λ l. omega (arith, ap (λ (n : ℕ). n * D) l)))
+
+      weight : weighsᴰ s N′ ≡ weighsᴰ s N
+      weight = sum-without (weights s) ∙ same (weighsᴰ s N) (s .item i .weight *ℤ r +ℤ s .item j .weight *ℤ t) (c .level)
+
+      worth : valueᴰ s N′ ≡ valueᴰ s N
+      worth = sum-without (prices s) ∙ same (valueᴰ s N) (s .item i .price *ℤ r +ℤ s .item j .price *ℤ t) (c .even)
+
+  pub cost-not-optimalᴰ : CostPair (s .item i) (s .item j) r t → 1 ≤ D → (x : Point) → Reads s D x N → ¬ Optimal s x
+  cost-not-optimalᴰ c d x reads o =
+      let g = cost-discard c (bridge-feasible s D x N d reads .0 (o .feasible)) in
+      let y : Point = λ k. frac (N′ k) D in
+      let read : Reads s D y N′ = λ k l. over-frac (N′ k) D d in
+      clash (valueᴰ s N) (valueᴰ s N′) (g .1) (bridge-value s D y x N′ N d read reads .0 (o .highest y (bridge-feasible s D y N′ d read .1 (g .0))))
+    where
+      clash : (v w : ℤ) → (v +ℤ pos D) ≤ℤ w → w ≤ℤ v → ⊥
+      clash = split2 _ (λ a b c e. simp zed (omega (arith, d)))
+
+-- ---- the same of points
+
+lower-over : {D : ℕ} {x : Frac} {n : ℤ} → 1 ≤ D → Over D x n → (b : Bound) → KeepsLower b x → KeepsLowerᴰ D b n
+lower-over d h Absent k = tt
+lower-over {D} d h (At l) k = over-≤ d (over-int D l) h .0 k
+
+upper-over : {D : ℕ} {x : Frac} {n : ℤ} → 1 ≤ D → Over D x n → (b : Bound) → KeepsUpper b x → KeepsUpperᴰ D b n
+upper-over d h Absent k = tt
+upper-over {D} d h (At u) k = over-≤ d h (over-int D u) .0 k
+
+within-over : (D : ℕ) (x : Frac) (n r : ℤ) (i : Item) → 1 ≤ D → Over D x n → Keeps i (x +ᶠ int (negℤ r)) → Within D i (n -ℤ r *ℤ pos D)
+within-over D x n r i d h k =
+    let o = over-+ h (over-int D (negℤ r)) in
+    rw (away D n r) (record { above = lower-over d o (i .lower) (k .above); below = upper-over d o (i .upper) (k .below) })
+
+pub cost-not-optimal : (s : Instance) (x : Point) (i j : ℕ) (r t : ℤ) → i < s .count → j < s .count → j ≢ i → CostPair (s .item i) (s .item j) r t
+    → Keeps (s .item i) (x i +ᶠ int (negℤ r)) → Keeps (s .item j) (x j +ᶠ int (negℤ t)) → ¬ Optimal s x
+cost-not-optimal s x i j r t l m ne c ki kj =
+    let z = common (s .count) x in
+    cost-not-optimalᴰ s (z .D) (z .N) i j r t (record {
+      first-in = l;
+      second-in = m;
+      different = ne;
+      first-within = within-over (z .D) (x i) (z .N i) r (s .item i) (z .D≥1) (z .reads i l) ki;
+      second-within = within-over (z .D) (x j) (z .N j) t (s .item j) (z .D≥1) (z .reads j m) kj;
+    }) c (z .D≥1) x (z .reads)
+
+-- an entry of the table discards
+pub tabled-not-optimal : (p : Problem) (i j : ℕ) (r t : ℤ) → tabled p i j ≡ Steps r t → (x : Point) → Keeps (itemAt p i) (x i +ᶠ int (negℤ r)) → Keeps (itemAt p j) (x j +ᶠ int (negℤ t)) → ¬ Optimal (instanceOf p) x
+tabled-not-optimal p i j r t e x ki kj =
+    let a = tabled-steps r t p i j e in
+    cost-not-optimal (instanceOf p) x i j r t (a .first-place) (a .second-place) (λ n. a .different (sym n)) (a .pair) ki kj
+
+-- ---- which of two points of equal value comes first
+
+pub record ComesFirst (N M : ℕ → ℤ) (f : ℕ) : Type 0 where
+  pub before : (k : ℕ) → k < f → N k ≡ M k
+  pub less : N f <ℤ M f
+
+pub equal-first : (D : ℕ) (N : ℕ → ℤ) (i j : ℕ) (r t : ℤ) → 1 ≤ D → i < j → pos 0 <ℤ r → ComesFirst (without D N i r j t) N i
+equal-first D N i j r t d l h = record {
+  before = λ k m. later k (omega arith) ∙ bump-other N i (negℤ r *ℤ pos D) k (omega arith);
+  less = rw (later i (omega arith), bump-same N i (negℤ r *ℤ pos D)) (falls (N i) r h);
+}
+  where
+    later : (k : ℕ) → k ≢ j → without D N i r j t k ≡ bump N i (negℤ r *ℤ pos D) k
+    later k ne = bump-other (bump N i (negℤ r *ℤ pos D)) j (negℤ t *ℤ pos D) k ne
+
+    falls : (n r : ℤ) → pos 0 <ℤ r → (n +ℤ negℤ r *ℤ pos D) <ℤ n
+    falls = split2 _ (λ a b c e. simp zed (λ l. omega (arith, mul-le-mul-left D l)))
+
+pub first-once : (N M : ℕ → ℤ) (f g : ℕ) → ComesFirst N M f → ComesFirst M N g → ⊥
+first-once N M f g p q = go (decLt f g) (decLt g f)
+  where
+    go : Dec (f < g) → Dec (g < f) → ⊥
+    go (yes l) m = clashℤ (p .less) (≤ℤ-reflexive (q .before f l))
+    go (no l) (yes m) = clashℤ (q .less) (≤ℤ-reflexive (p .before g m))
+    go (no l) (no m) = let e : g ≡ f = omega arith in clashℤ (p .less) (lt-le (rw e at (q .less)))

@@ -1,0 +1,145 @@
+-- The entry's replies and the table's entries, in 01's words.
+--   Answerable p i j     no refusal applies: the record is accepted, i and j are two items of it, and both are eligible
+--   Applies p i j r s    what a search uses of an entry that holds steps: two items of the problem, and a cost pair
+-- refused-record, refused-numbers, refused-items, answered: which reply when; the four cases are all.
+-- least-pair-steps, least-pair-missing: an answer is 01's least pair exactly.
+-- tabled-steps: an entry of the table with steps applies.
+use mathlib.Core.Path.{_≡_, refl, ap, subst}
+use mathlib.Core.Bool.{Bool, true, false, cond}
+use mathlib.Core.Logic.{_↔_}
+use Prim.Native.Nat.{ℕ, _+_, _-_, _<_}
+use native.Mathlib.Omega.{arith}
+use lib.IntN.{ℤ}
+use Rattle.arith.specs.Within.{Within}
+use Rattle.knapsack.specs.declared.Mark.the-variants.{Integer}
+use Rattle.knapsack.specs.declared.Item.{Item}
+use Rattle.knapsack.specs.declared.Problem.{Problem}
+use Rattle.knapsack.specs.declared.Refusal.{Refusal}
+use Rattle.knapsack.specs.declared.Verdict.{Verdict}
+use Rattle.knapsack.specs.declared.Verdict.the-variants.{Accepted, Refused as Rejected}
+use Rattle.knapsack.specs.Records.{itemAt, verdict, ItemInRange}
+use Rattle.knapsack.specs.Meaning.{CostPair, LeastPair, NoPair}
+use Rattle.knapsack.proofs.Items.{accepted}
+use Rattle.domination.specs.declared.Pair.{Pair}
+use Rattle.domination.specs.declared.Pair.the-variants.{Missing, Steps}
+use Rattle.domination.specs.declared.PairReply.{PairReply}
+use Rattle.domination.specs.declared.PairReply.the-variants.{Refused, Found}
+use Rattle.domination.specs.Eligible.{Eligible}
+use Rattle.domination.specs.Pairs.{pairOf, eligible, wrongNumbers, refuse, paired, numbered, after, leastPair, orMissing, tabled}
+use Rattle.domination.proofs.Minimal.{pair-steps, pair-missing}
+use Rattle.domination.proofs.Sizes.{Small, pair-small}
+use Rattle.domination.proofs.Eligible.{Numbers, eligible-iff, numbers-iff}
+
+-- a test that cannot succeed fails
+fails : (t : Bool) → (t ≡ true → ⊥) → t ≡ false
+fails true h = absurd (h refl)
+fails false h = refl
+
+succeeds : (t : Bool) → (t ≡ false → ⊥) → t ≡ true
+succeeds true h = refl
+succeeds false h = absurd (h refl)
+
+module _ (p : Problem) (i j : ℕ) where
+  abbrev first : Item
+  first = itemAt p (i - 1)
+
+  abbrev second : Item
+  second = itemAt p (j - 1)
+
+  pub record Answerable : Type 0 where
+    pub is-accepted : verdict p ≡ Accepted
+    pub numbers : Numbers (p .count) i j
+    pub first-eligible : Eligible first
+    pub second-eligible : Eligible second
+
+  pub refused-record : (f : Refusal) → verdict p ≡ Rejected f → leastPair p i j ≡ Refused f
+  unfolding leastPair
+  refused-record f e = rw e
+
+  pub refused-numbers : verdict p ≡ Accepted → (Numbers (p .count) i j → ⊥) → leastPair p i j ≡ refuse 9
+  unfolding leastPair numbered
+  refused-numbers e n = rw (e, succeeds (wrongNumbers (p .count) i j) (λ w. n (numbers-iff (p .count) i j .0 w)))
+
+  pub refused-items : verdict p ≡ Accepted → Numbers (p .count) i j → (Eligible first × Eligible second → ⊥) → leastPair p i j ≡ refuse 10
+  unfolding leastPair numbered paired
+  refused-items e n h = rw (e, numbers-iff (p .count) i j .1 n) (go (eligible first) (eligible second) refl refl)
+    where
+      go : (s t : Bool) → eligible first ≡ s → eligible second ≡ t → cond s (cond t (Found (pairOf first second)) (refuse 10)) (refuse 10) ≡ refuse 10
+      go true true a b = absurd (h (eligible-iff first .0 a, eligible-iff second .0 b))
+      go true false a b = refl
+      go false t a b = refl
+
+  pub answered : Answerable → leastPair p i j ≡ Found (pairOf first second)
+  unfolding leastPair numbered paired
+  answered h = rw (h .is-accepted, numbers-iff (p .count) i j .1 (h .numbers), eligible-iff first .1 (h .first-eligible), eligible-iff second .1 (h .second-eligible))
+
+  found : (q : Pair) → Answerable → (leastPair p i j ≡ Found q) ↔ (pairOf first second ≡ q)
+  found q h = let e = answered h in (λ k. cc, λ k. cc)
+
+  pub least-pair-steps : Answerable → (r s : ℤ) → (leastPair p i j ≡ Found (Steps r s)) ↔ LeastPair first second r s
+  least-pair-steps h r s = let a = found (Steps r s) h in let b = pair-steps first second (h .first-eligible) (h .second-eligible) r s in (λ k. b .0 (a .0 k), λ m. a .1 (b .1 m))
+
+  pub least-pair-missing : Answerable → (leastPair p i j ≡ Found Missing) ↔ NoPair first second
+  least-pair-missing h = let a = found Missing h in let b = pair-missing first second (h .first-eligible) (h .second-eligible) in (λ k. b .0 (a .0 k), λ m. a .1 (b .1 m))
+
+-- ---- the table
+
+pub record Applies (p : Problem) (i j : ℕ) (r s : ℤ) : Type 0 where
+  pub first-place : i < p .count
+  pub second-place : j < p .count
+  pub different : i ≡ j → ⊥
+  pub first-integer : itemAt p i .mark ≡ Integer
+  pub second-integer : itemAt p j .mark ≡ Integer
+  pub pair : CostPair (itemAt p i) (itemAt p j) r s
+  pub first-small : Within 1000 r
+  pub second-small : Within 1000 s
+
+module _ (r s : ℤ) where
+  answer : (v : Verdict) (q : PairReply) → orMissing (after v q) ≡ Steps r s → (v ≡ Accepted) × (q ≡ Found (Steps r s))
+  answer Accepted (Found q) e = (refl, ap Found e)
+  answer Accepted (Refused f) e = absurd (let z : _≡_ {A = ℕ} 0 1 = cc in omega arith)
+  answer (Rejected f) q e = absurd (let z : _≡_ {A = ℕ} 0 1 = cc in omega arith)
+
+  items : (x y : Item) → paired x y ≡ Found (Steps r s) → (Eligible x) × (Eligible y) × (pairOf x y ≡ Steps r s)
+  unfolding paired
+  items x y = go (eligible x) (eligible y) refl refl
+    where
+      go : (a b : Bool) → eligible x ≡ a → eligible y ≡ b → cond a (cond b (Found (pairOf x y)) (refuse 10)) (refuse 10) ≡ Found (Steps r s) → (Eligible x) × (Eligible y) × (pairOf x y ≡ Steps r s)
+      go true true e f h = (eligible-iff x .0 e, eligible-iff y .0 f, cc)
+      go true false e f h = absurd (let z : _≡_ {A = ℕ} 0 1 = cc in omega arith)
+      go false b e f h = absurd (let z : _≡_ {A = ℕ} 0 1 = cc in omega arith)
+
+  numbers-of : (p : Problem) (i j : ℕ) → numbered p i j ≡ Found (Steps r s) → Numbers (p .count) i j × (paired (itemAt p (i - 1)) (itemAt p (j - 1)) ≡ Found (Steps r s))
+  unfolding numbered
+  numbers-of p i j = go (wrongNumbers (p .count) i j) refl
+    where
+      go : (a : Bool) → wrongNumbers (p .count) i j ≡ a → cond a (refuse 9) (paired (itemAt p (i - 1)) (itemAt p (j - 1))) ≡ Found (Steps r s) → Numbers (p .count) i j × (paired (itemAt p (i - 1)) (itemAt p (j - 1)) ≡ Found (Steps r s))
+      go true e h = absurd (let z : _≡_ {A = ℕ} 0 1 = cc in omega arith)
+      go false e h = (numbers-iff (p .count) i j .0 e, h)
+
+  pub tabled-steps : (p : Problem) (i j : ℕ) → tabled p i j ≡ Steps r s → Applies p i j r s
+  unfolding leastPair
+  tabled-steps p i j e =
+      let a = answer (verdict p) (numbered p (i + 1) (j + 1)) e in
+      let n = numbers-of p (i + 1) (j + 1) (a .1) in
+      go (accepted p (a .0) .items-in) (n .0) (items (itemAt p (i + 1 - 1)) (itemAt p (j + 1 - 1)) (n .1))
+    where
+      go : ((k : ℕ) → k < p .count → ItemInRange (itemAt p k)) → Numbers (p .count) (i + 1) (j + 1) → (Eligible (itemAt p (i + 1 - 1))) × (Eligible (itemAt p (j + 1 - 1))) × (pairOf (itemAt p (i + 1 - 1)) (itemAt p (j + 1 - 1)) ≡ Steps r s) → Applies p i j r s
+      go f n h =
+          let u : i + 1 - 1 ≡ i = omega arith in
+          let v : j + 1 - 1 ≡ j = omega arith in
+          let li : i < p .count = omega (arith, n .first-most) in
+          let lj : j < p .count = omega (arith, n .second-most) in
+          let k = rw (u, v) at h in
+          let m = pair-steps (itemAt p i) (itemAt p j) (k .0) (k .1) r s .0 (k .2) in
+          let z : Small (Steps r s) = subst Small (k .2) (pair-small (itemAt p i) (itemAt p j) (record { in-range = f i li; is-eligible = k .0 }) (record { in-range = f j lj; is-eligible = k .1 })) in
+          record {
+            first-place = li;
+            second-place = lj;
+            different = λ e. n .different (omega arith);
+            first-integer = k .0 .integer;
+            second-integer = k .1 .integer;
+            pair = m .pair;
+            first-small = z .0;
+            second-small = z .1;
+          }

@@ -1,0 +1,71 @@
+-- `domination::fill_table` meets its contract. The loop's invariant: every entry below k is that of its places.
+use Prim.Native.Nat.{ℕ, _≤_, _<_, _-_, _+_, _/_, _%_}
+use mathlib.Core.Path.{_≡_, _∙_}
+use native.Mathlib.Omega.{arith}
+use borrow.Author.Needs.{needs}
+use borrow.Author.Count.{below-more}
+use lib.ListN.{length, getD, length-set}
+use lib.Seq.{getD-set-same, getD-set-other}
+use Rattle.domination.specs.declared.Pair.the-variants.{Missing}
+use Rattle.domination.specs.Pairs.{orMissing, numbered}
+use Rattle.domination.proofs.fill_table.Statement.{statement}
+use Rattle.domination.proofs.fill_table.Tie as tie
+
+abbrev Inv-loop : tie.InvT-loop
+Inv-loop p t₀ k₀ t k = (k ≤ 256) × ((length t ≡ 256) × ((j : ℕ) → j < k → getD t j Missing ≡ orMissing (numbered p (j / 16 + 1) (j % 16 + 1))))
+
+abbrev μ-loop : tie.MeasureT-loop
+μ-loop p t₀ k₀ t k = 256 - k
+
+no-pairs-requires : tie.Need-no-pairs-requires Inv-loop μ-loop
+no-pairs-requires c κs = search needs
+
+loop-holds : tie.Need-loop-holds Inv-loop μ-loop
+loop-holds c = (omega arith, (search needs, λ j h. absurd (omega arith)))
+
+entry-at-requires : tie.Need-entry-at-requires Inv-loop μ-loop
+entry-at-requires c κs = (c .before .before .before .pre, omega arith)
+
+mul-t : tie.Need-mul-t Inv-loop μ-loop
+mul-t c = omega arith
+
+array-set-from-t : tie.Need-array-set-from-t Inv-loop μ-loop
+array-set-from-t c = omega arith
+
+add-k : tie.Need-add-k Inv-loop μ-loop
+add-k c = omega arith
+
+loop-less : tie.Need-loop-less Inv-loop μ-loop
+loop-less c = omega arith
+
+loop-again : tie.Need-loop-again Inv-loop μ-loop
+loop-again c =
+    let k = c .before .before .loop .k in
+    let l = c .before .before .loop .t in (
+      omega arith,
+      (
+        simp length-set (omega arith),
+        below-more _ _
+            (λ j h. let ne : j ≡ k → ⊥ = omega arith in getD-set-other l k j _ Missing ne ∙ c .before .before .loop .inv .1 .1 j h)
+            (let lt : k < length l = omega arith in getD-set-same l k _ Missing lt ∙ c .entry-at .ensures),
+      ),
+    )
+
+returns : tie.Need-returns Inv-loop μ-loop
+returns c = λ j h. c .before .loop .inv .1 .1 j (omega arith)
+
+pub fill-table-spec : {M : Type 1} → statement M
+fill-table-spec =
+    tie.close
+    (tie.spec
+    Inv-loop
+    μ-loop
+    no-pairs-requires
+    loop-holds
+    entry-at-requires
+    mul-t
+    array-set-from-t
+    add-k
+    loop-less
+    loop-again
+    returns)

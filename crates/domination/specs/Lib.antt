@@ -1,0 +1,3 @@
+pub mod Eligible
+pub mod Trades
+pub mod Pairs

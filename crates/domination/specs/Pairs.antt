@@ -1,0 +1,124 @@
+-- Least pairs, computed. Paper 01, "Least pair"; the field's name is the minimal cost-domination pair.
+--   lessEfficient x y    x is worth less than y per unit of weight
+--   give x y, take x y   the least steps of x and y without sign, x the less efficient
+--   oneWay x y           those steps with their signs, if both items have room for them
+--   pairOf x y           the least pair of two eligible items, or Missing (01's none)
+--   leastPair p i j      the reply for items i and j, from 1: a refusal of the record, 9, 10, or a pair
+--   tabled p i j         the table's entry for places i and j, from 0: Missing where the reply is a refusal
+use mathlib.Core.Path.{_≡_}
+use mathlib.Core.Bool.{Bool, true, false, cond}
+use Prim.Native.Nat.{ℕ, _+_, _*_, _-_}
+use lib.Dec.{ltb, eqb}
+use lib.IntN.{ℤ, pos, negℤ, natAbs, _-ℤ_}
+use lib.Signed.{leZ, ltZ}
+use Rattle.arith.specs.Gcd.{signed}
+use Rattle.knapsack.specs.declared.Bound.{Bound}
+use Rattle.knapsack.specs.declared.Bound.the-variants.{Absent, At}
+use Rattle.knapsack.specs.declared.Mark.{Mark}
+use Rattle.knapsack.specs.declared.Mark.the-variants.{Integer, Continuous}
+use Rattle.knapsack.specs.declared.Item.{Item}
+use Rattle.knapsack.specs.declared.Problem.{Problem}
+use Rattle.knapsack.specs.declared.Verdict.{Verdict}
+use Rattle.knapsack.specs.declared.Verdict.the-variants.{Accepted, Refused as Rejected}
+use Rattle.knapsack.specs.Records.{itemAt, verdict, ItemInRange}
+use Rattle.domination.specs.declared.Pair.{Pair}
+use Rattle.domination.specs.declared.Pair.the-variants.{Missing, Steps}
+use Rattle.domination.specs.declared.PairReply.{PairReply}
+use Rattle.domination.specs.declared.PairReply.the-variants.{Refused, Found}
+use Rattle.domination.specs.declared.trade.Size.{Size}
+use Rattle.domination.specs.declared.trade.Trade.{Trade}
+use Rattle.domination.specs.Eligible.{Eligible}
+use Rattle.domination.specs.Trades.{partner, leastGive}
+
+-- whether there is room for n steps
+abbrev pub roomFor : Bound → Bound → ℕ → Bool
+roomFor Absent u n = true
+roomFor (At l) Absent n = true
+roomFor (At l) (At u) n = leZ (pos n) (u -ℤ l)
+
+-- weight and price without sign
+abbrev pub sizeOf : Item → Size
+sizeOf x = record { weight = natAbs (x .weight); price = natAbs (x .price) }
+
+abbrev pub lessEfficient : Item → Item → Bool
+lessEfficient x y = ltb (sizeOf x .price * sizeOf y .weight) (sizeOf x .weight * sizeOf y .price)
+
+-- the least steps of x and y without sign, x the less efficient
+abbrev pub give : Item → Item → ℕ
+give x y = leastGive (sizeOf x .weight) (sizeOf y .weight) (sizeOf x .price) (sizeOf y .price)
+
+abbrev pub take : Item → Item → ℕ
+take x y = partner (sizeOf x .price) (sizeOf y .price) (give x y)
+
+abbrev pub tradeOf : Item → Item → Trade
+tradeOf x y = record { give = give x y; take = take x y }
+
+-- the less efficient item's step has its weight's sign, the other's the opposite
+abbrev pub steps : Item → Item → ℕ → ℕ → Pair
+steps x y r t = Steps (signed (x .weight) r) (negℤ (signed (y .weight) t))
+
+unfoldable pub oneWay : Item → Item → Pair
+oneWay x y =
+    cond (roomFor (x .lower) (x .upper) (give x y))
+    (cond (roomFor (y .lower) (y .upper) (take x y)) (steps x y (give x y) (take x y)) Missing)
+    Missing
+
+abbrev pub swapped : Pair → Pair
+swapped Missing = Missing
+swapped (Steps r s) = Steps s r
+
+unfoldable pub pairOf : Item → Item → Pair
+pairOf x y = cond (lessEfficient x y) (oneWay x y) (cond (lessEfficient y x) (swapped (oneWay y x)) Missing)
+
+abbrev pub isInteger : Mark → Bool
+isInteger Integer = true
+isInteger Continuous = false
+
+abbrev pub oneSign : ℤ → ℤ → Bool
+oneSign w c = cond (ltZ (pos 0) w) (ltZ (pos 0) c) (cond (ltZ w (pos 0)) (ltZ c (pos 0)) false)
+
+abbrev pub eligible : Item → Bool
+eligible x = cond (isInteger (x .mark)) (oneSign (x .weight) (x .price)) false
+
+-- what the code asks of items: in range and eligible, and for a trade the first the less efficient
+pub record Fit (x : Item) : Type 0 where
+  pub in-range : ItemInRange x
+  pub is-eligible : Eligible x
+
+pub record Traded (x y : Item) : Type 0 where
+  pub first-fit : Fit x
+  pub second-fit : Fit y
+  pub direction : lessEfficient x y ≡ true
+
+-- an item number outside 1 to n
+abbrev pub wrongNumber : ℕ → ℕ → Bool
+wrongNumber n k = cond (eqb k 0) true (ltb n k)
+
+-- or one item twice
+abbrev pub wrongNumbers : ℕ → ℕ → ℕ → Bool
+wrongNumbers n i j = cond (wrongNumber n i) true (cond (wrongNumber n j) true (eqb i j))
+
+abbrev pub refuse : ℕ → PairReply
+refuse n = Refused (record { number = n; line = 0 })
+
+-- row 10 of the refusals
+unfoldable pub paired : Item → Item → PairReply
+paired x y = cond (eligible x) (cond (eligible y) (Found (pairOf x y)) (refuse 10)) (refuse 10)
+
+-- rows 9 and 10, on an accepted problem
+unfoldable pub numbered : Problem → ℕ → ℕ → PairReply
+numbered p i j = cond (wrongNumbers (p .count) i j) (refuse 9) (paired (itemAt p (i - 1)) (itemAt p (j - 1)))
+
+abbrev pub after : Verdict → PairReply → PairReply
+after Accepted q = q
+after (Rejected f) q = Refused f
+
+unfoldable pub leastPair : Problem → ℕ → ℕ → PairReply
+leastPair p i j = after (verdict p) (numbered p i j)
+
+abbrev pub orMissing : PairReply → Pair
+orMissing (Refused f) = Missing
+orMissing (Found q) = q
+
+abbrev pub tabled : Problem → ℕ → ℕ → Pair
+tabled p i j = orMissing (leastPair p (i + 1) (j + 1))

@@ -1,0 +1,149 @@
+// Domination pairs: the least steps of two integer items that leave the weight no lower and the value lower, so that a point from
+// which they can be taken away is not optimal (proofs/Discards); and the table of the pairs of all items of a problem.
+// Paper 01: "Least pair"; the field's name is the minimal cost-domination pair (document 000, theorem 3.2: proofs/Minimal).
+use knapsack::Item;
+use knapsack::Problem;
+use knapsack::Refusal;
+use knapsack::Verdict;
+use knapsack::check_record;
+use pairing::is_eligible;
+use pairing::pair_of;
+ghost use mathlib.Core.Path.{_≡_};
+ghost use Prim.Native.Nat.{ℕ, _+_, _*_, _/_, _%_, _<_};
+ghost use lib.ListN.{getD, replicate};
+ghost use Rattle.knapsack.specs.Records.{ItemInRange, InRange};
+ghost use Rattle.domination.specs.Pairs.{wrongNumber, wrongNumbers, refuse, paired, numbered, leastPair, orMissing, tabled};
+
+mod pairing; // pairing.rt: the least pair of two items
+mod trade; // trade.rt: the least steps without sign
+
+// 01's least pair of two items: none, or the steps r of the first and s of the second.
+pub enum Pair {
+    Missing,
+    Steps(i64, i64),
+}
+
+// What the entry replies.
+pub enum PairReply {
+    Refused(Refusal),
+    Found(Pair),
+}
+
+// A refusal with line 0.
+fn refusal(n: u64) -> PairReply
+    ensures { λ r. ⌜ r ≡ refuse n ⌝ }
+{
+    PairReply::Refused(Refusal { number: n, line: 0 })
+}
+
+// Whether an item number is outside 1 to n.
+fn is_wrong(n: usize, k: usize) -> bool
+    ensures { λ r. ⌜ r ≡ wrongNumber n k ⌝ }
+{
+    if k == 0 {
+        return true;
+    }
+    n < k
+}
+
+// Whether one of two item numbers is outside 1 to n, or both are one (01's refusal 9).
+fn are_wrong(n: usize, i: usize, j: usize) -> bool
+    ensures { λ r. ⌜ r ≡ wrongNumbers n i j ⌝ }
+{
+    if is_wrong(n, i) {
+        return true;
+    }
+    if is_wrong(n, j) {
+        return true;
+    }
+    i == j
+}
+
+// The reply for two items of an accepted problem.
+fn pair_items(x: Item, y: Item) -> PairReply
+    requires { ⌜ ItemInRange x × ItemInRange y ⌝ }
+    ensures { λ r. ⌜ r ≡ paired x y ⌝ }
+{
+    if is_eligible(x) {
+        if is_eligible(y) {
+            let q = pair_of(x, y);
+            return PairReply::Found(q);
+        }
+    }
+    refusal(10)
+}
+
+// The reply for two item numbers of an accepted problem.
+fn pair_numbered(p: Problem, i: usize, j: usize) -> PairReply
+    requires { ⌜ InRange p ⌝ }
+    ensures { λ r. ⌜ r ≡ numbered p i j ⌝ }
+{
+    let n = p.count;
+    if are_wrong(n, i, j) {
+        return refusal(9);
+    }
+    let x = p.items[i - 1];
+    let y = p.items[j - 1];
+    pair_items(x, y)
+}
+
+// 01's least pair of the items i and j, numbered from 1.
+pub fn least_pair(p: Problem, i: usize, j: usize) -> PairReply
+    ensures { λ r. ⌜ r ≡ leastPair p i j ⌝ }
+{
+    let v = check_record(p);
+    match v {
+        Verdict::Accepted => pair_numbered(p, i, j),
+        Verdict::Refused(f) => PairReply::Refused(f),
+    }
+}
+
+// The table before it is filled, and of a problem that is refused.
+fn no_pairs() -> [Pair; 256]
+    ensures { λ r. ⌜ r ≡ replicate 256 Pair.Missing ⌝ }
+{
+    [Pair::Missing; 256]
+}
+
+// A pair that the entry would refuse is none in the table.
+fn or_missing(q: PairReply) -> Pair
+    ensures { λ r. ⌜ r ≡ orMissing q ⌝ }
+{
+    match q {
+        PairReply::Refused(_) => Pair::Missing,
+        PairReply::Found(s) => s,
+    }
+}
+
+// The table's entry for places i and j of an accepted problem.
+fn entry_at(p: Problem, i: usize, j: usize) -> Pair
+    requires { ⌜ InRange p × ((i < 16) × (j < 16)) ⌝ }
+    ensures { λ r. ⌜ r ≡ orMissing (numbered p (i + 1) (j + 1)) ⌝ }
+{
+    let q = pair_numbered(p, i + 1, j + 1);
+    or_missing(q)
+}
+
+fn fill_table(p: Problem) -> [Pair; 256]
+    requires { ⌜ InRange p ⌝ }
+    ensures { λ r. ⌜ ((k : ℕ) → k < 256 → getD r k Pair.Missing ≡ orMissing (numbered p (k / 16 + 1) (k % 16 + 1))) ⌝ }
+{
+    let mut t = no_pairs();
+    let mut k: usize = 0;
+    while k < 256 {
+        t[k] = entry_at(p, k / 16, k % 16);
+        k += 1;
+    }
+    t
+}
+
+// The least pairs of all places i and j, from 0, of a problem: entry 16 i + j. Filled once, before a search.
+pub fn pair_table(p: Problem) -> [Pair; 256]
+    ensures { λ r. ⌜ ((i j : ℕ) → i < 16 → j < 16 → getD r (16 * i + j) Pair.Missing ≡ tabled p i j) ⌝ }
+{
+    let v = check_record(p);
+    match v {
+        Verdict::Accepted => fill_table(p),
+        Verdict::Refused(_) => no_pairs(),
+    }
+}

@@ -1,0 +1,91 @@
+-- Laws of the search for the first item whose amount breaks its mark or a bound.
+--   Found n p c m    what the number m found says of the first n items;  found: it is true of firstBroken
+-- keeps-iff: an amount that breaks nothing keeps its item's mark and bounds in the meaning's sense.
+use mathlib.Core.Path.{_≡_, refl, ap, _∙_, subst}
+use mathlib.Core.Bool.{Bool, true, false, cond}
+use mathlib.Core.Logic.{_↔_}
+use Prim.Native.Nat.{ℕ, zero, suc, _≤_, _<_, max}
+use native.Mathlib.Omega.{arith}
+use lib.Dec.{ltb}
+use lib.IntN.{ℤ, pos, natAbs, _*ℤ_}
+use borrow.Author.Tests.{le-ltb, ltb-false}
+use Rattle.arith.specs.Fractions.{frac}
+use Rattle.arith.specs.Gcd.{Divides}
+use Rattle.arith.specs.Sum.{Each}
+use Rattle.arith.specs.declared.Fraction.{Fraction}
+use Rattle.arith.proofs.Divisors.{gcd-is, divides-self}
+use Rattle.arith.proofs.Fractions.{over-int, over-frac, over-≤}
+use Rattle.arith.proofs.Integers.{split, zed, natAbs-times}
+use Rattle.arith.proofs.Words.{no-lt, le-no}
+use Rattle.knapsack.specs.declared.Bound.{Bound}
+use Rattle.knapsack.specs.declared.Bound.the-variants.{Absent, At}
+use Rattle.knapsack.specs.declared.Item.{Item}
+use Rattle.knapsack.specs.declared.Mark.{Mark}
+use Rattle.knapsack.specs.declared.Mark.the-variants.{Integer, Continuous}
+use Rattle.knapsack.specs.declared.Problem.{Problem}
+use Rattle.knapsack.specs.Records.{itemAt}
+use Rattle.knapsack.specs.Meaning.{KeepsMark, KeepsLower, KeepsUpper, Keeps}
+use Rattle.feasibility.specs.declared.Candidate.{Candidate}
+use Rattle.feasibility.specs.declared.Side.the-variants.{Lower, Upper}
+use Rattle.feasibility.specs.Amounts.{amountAt, GoodAmount}
+use Rattle.feasibility.specs.Check.{breaksMark, breaksBound, breaks, orElse, numbered, firstBroken}
+use Rattle.feasibility.proofs.Divisor.{neither, not-above, one-more}
+
+-- ---- what is found
+
+pub data Found (n : ℕ) (p : Problem) (c : Candidate) : ℕ → Type 0 where
+  none : Each n (λ k. breaks (itemAt p k) (amountAt c k) ≡ false) → Found n p c 0
+  first : (k : ℕ) → k < n → breaks (itemAt p k) (amountAt c k) ≡ true → Each k (λ j. breaks (itemAt p j) (amountAt c j) ≡ false) → Found n p c (suc k)
+
+pub found : (n : ℕ) (p : Problem) (c : Candidate) → Found n p c (firstBroken n p c)
+unfolding firstBroken
+found zero p c = none (λ k l. absurd (omega arith))
+found (suc n) p c = go (firstBroken n p c) (found n p c)
+  where
+    last : Each n (λ k. breaks (itemAt p k) (amountAt c k) ≡ false) → (b : Bool) → breaks (itemAt p n) (amountAt c n) ≡ b → Found (suc n) p c (cond b (suc n) 0)
+    last h true e = first n (omega arith) e h
+    last h false e = none (one-more n h e)
+
+    go : (m : ℕ) → Found n p c m → Found (suc n) p c (orElse m (numbered n (itemAt p n) (amountAt c n)))
+    go m (none h) = last h _ refl
+    go m (first k l e h) = first k (omega arith) e h
+
+-- ---- an amount that breaks nothing keeps its item
+
+-- in lowest terms a whole number has the divisor 1
+whole : (x : Fraction) (n : ℤ) → GoodAmount x → x .p ≡ n *ℤ pos (x .q) → x .q ≤ 1
+whole x n g e = not-above (x .q) (subst (Divides (x .q)) (g .lowest) (gcd-is (natAbs (x .p)) (x .q) .most (x .q) (natAbs n, ap natAbs e ∙ natAbs-times n (x .q)) (divides-self (x .q))))
+
+keeps-mark : (m : Mark) (x : Fraction) → GoodAmount x → (breaksMark m (x .q) ≡ false) ↔ KeepsMark m (frac (x .p) (x .q))
+keeps-mark Integer x g = (to, from)
+  where
+    own : max 1 (x .q) ≡ x .q
+    own = omega (arith, g .some)
+
+    once : (z : ℤ) → z ≡ z *ℤ pos 1
+    once = split _ (λ a b. simp zed (omega arith))
+
+    to : ltb 1 (x .q) ≡ false → (n : ℤ) × (x .p ≡ n *ℤ pos (max 1 (x .q)))
+    to h = let e : max 1 (x .q) ≡ 1 = omega (arith, g .some, ltb-false 1 (x .q) h) in (x .p, rw e (once (x .p)))
+
+    from : (n : ℤ) × (x .p ≡ n *ℤ pos (max 1 (x .q))) → ltb 1 (x .q) ≡ false
+    from (n, e) = le-ltb 1 (x .q) (whole x n g (rw own at e))
+keeps-mark Continuous x g = (λ h. tt, λ h. refl)
+
+keeps-lower : (b : Bound) (x : Fraction) → GoodAmount x → (breaksBound Lower b (x .p) (x .q) ≡ false) ↔ KeepsLower b (frac (x .p) (x .q))
+keeps-lower Absent x g = (λ h. tt, λ h. refl)
+keeps-lower (At l) x g = let o = over-≤ (g .some) (over-int (x .q) l) (over-frac (x .p) (x .q) (g .some)) in (λ h. o .1 (no-lt h), λ h. le-no (o .0 h))
+
+keeps-upper : (b : Bound) (x : Fraction) → GoodAmount x → (breaksBound Upper b (x .p) (x .q) ≡ false) ↔ KeepsUpper b (frac (x .p) (x .q))
+keeps-upper Absent x g = (λ h. tt, λ h. refl)
+keeps-upper (At u) x g = let o = over-≤ (g .some) (over-frac (x .p) (x .q) (g .some)) (over-int (x .q) u) in (λ h. o .1 (no-lt h), λ h. le-no (o .0 h))
+
+pub keeps-iff : (i : Item) (x : Fraction) → GoodAmount x → (breaks i x ≡ false) ↔ Keeps i (frac (x .p) (x .q))
+unfolding breaks
+keeps-iff i x g = (
+  λ h.
+      let m = neither (breaksMark (i .mark) (x .q)) _ h in
+      let b = neither (breaksBound Lower (i .lower) (x .p) (x .q)) _ (m .1) in
+      record { marked = keeps-mark (i .mark) x g .0 (m .0); above = keeps-lower (i .lower) x g .0 (b .0); below = keeps-upper (i .upper) x g .0 (b .1) },
+  λ k. rw (keeps-mark (i .mark) x g .1 (k .marked), keeps-lower (i .lower) x g .1 (k .above)) (keeps-upper (i .upper) x g .1 (k .below)),
+)

@@ -1,0 +1,4 @@
+pub mod Sizes
+pub mod Divisor
+pub mod Breaking
+pub mod Meaning

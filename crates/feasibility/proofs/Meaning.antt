@@ -1,0 +1,180 @@
+-- The point check tells the truth.
+-- told: what the reply says of the point holds.
+-- refused-iff, feasible-iff, weight-iff, item-iff: each kind of reply is given exactly where it should be.
+use mathlib.Core.Path.{_≡_, refl, sym, ap, _∙_, subst}
+use mathlib.Core.Bool.{Bool, true, false, cond, not}
+use mathlib.Core.Logic.{_↔_}
+use Prim.Native.Nat.{ℕ, zero, suc, _*_, _/_, _≤_, _<_, max}
+use native.Mathlib.Decide.{decLt}
+use native.Mathlib.Nat.{div-eq-of-eq-mul-left}
+use native.Mathlib.Omega.{arith}
+use lib.Dec.{eqb}
+use lib.IntN.{ℤ, pos, _*ℤ_}
+use lib.Signed.{ltZ, clashℤ}
+use borrow.Author.Tests.{eqb-true, eqb-false}
+use Rattle.arith.specs.Fractions.{Frac, frac, _·ᶠ_, _≤ᶠ_, _<ᶠ_, total}
+use Rattle.arith.specs.Gcd.{Divides, lowest}
+use Rattle.arith.specs.declared.Fraction.{Fraction}
+use Rattle.arith.proofs.Divisors.{lowest-den, lowest-value, lowest-coprime}
+use Rattle.arith.proofs.Fractions.{Over, over-int, over-total, over-≤, over-<, over-≈}
+use Rattle.arith.proofs.Integers.{split, zed}
+use Rattle.arith.proofs.Parts.{impossible}
+use Rattle.arith.proofs.Words.{yes-lt, no-lt}
+use Rattle.knapsack.specs.declared.Problem.{Problem}
+use Rattle.knapsack.specs.declared.Refusal.{Refusal}
+use Rattle.knapsack.specs.declared.Verdict.{Verdict}
+use Rattle.knapsack.specs.declared.Verdict.the-variants as verdicts
+use Rattle.knapsack.specs.Meaning.{Keeps, Feasible, instanceOf}
+use Rattle.knapsack.specs.Records.{itemAt, verdict, InRange}
+use Rattle.knapsack.proofs.Items.{accepted, in-range}
+use Rattle.feasibility.specs.declared.Candidate.{Candidate}
+use Rattle.feasibility.specs.declared.Figure.{Figure}
+use Rattle.feasibility.specs.declared.Figure.the-variants.{Weight, Price}
+use Rattle.feasibility.specs.declared.PointReply.{PointReply}
+use Rattle.feasibility.specs.declared.PointReply.the-variants as reply
+use Rattle.feasibility.specs.Amounts.{amountAt, GoodPoint, commonDivisor, numerator}
+use Rattle.feasibility.specs.Check.{breaks, firstBroken, figureOf, totalOf, afterItems, judged, refuse, amountCheck, afterRecord, pointCheck, pointOf, Proposed, RefusedAs, by-record, by-count, by-amounts, ToldWeight, ToldItem, Told}
+use Rattle.feasibility.proofs.Breaking.{Found, none, first, found, keeps-iff}
+use Rattle.feasibility.proofs.Divisor.{Serves, serves, divisor-iff}
+
+-- ---- amounts and values over the common divisor
+
+over-numerator : (d : ℕ) (x : Fraction) → 1 ≤ x .q → Divides (x .q) d → Over d (frac (x .p) (x .q)) (numerator d x)
+over-numerator d x l (m, e) =
+    let a : d / x .q ≡ m = div-eq-of-eq-mul-left l e in
+    let b : max 1 (x .q) ≡ x .q = omega arith in
+    record { eq = rw (a, b, e) (join (x .p) m (x .q)) }
+  where
+    join : (z : ℤ) (m q : ℕ) → z *ℤ pos (m * q) ≡ (z *ℤ pos m) *ℤ pos q
+    join = split _ (λ a b m q. simp zed (omega arith))
+
+over-lowest : (v : ℤ) (d : ℕ) → 1 ≤ d → Over d (frac (lowest v d .p) (lowest v d .q)) v
+over-lowest v d l =
+    let b : max 1 (lowest v d .q) ≡ lowest v d .q = omega (arith, lowest-den v d l) in
+    record { eq = rw b (lowest-value v d l) }
+
+-- ---- yes or no
+
+module _ (p : Problem) (c : Candidate) (d : ℕ) (asked : Proposed p c) (s : Serves (p .count) (amountAt c) d) where
+  total-over : (f : Figure) → Over d (total (p .count) (λ k. figureOf f (itemAt p k) ·ᶠ pointOf c k)) (totalOf f d (p .count) p c)
+  total-over f = over-total d (p .count) (pointOf c) (λ k. numerator d (amountAt c k)) (λ k l. over-numerator d (amountAt c k) (s .fine k l .some) (s .divides k l)) (λ k. figureOf f (itemAt p k))
+
+  kept : (k : ℕ) → k < p .count → (breaks (itemAt p k) (amountAt c k) ≡ false) ↔ Keeps (itemAt p k) (pointOf c k)
+  kept k l = keeps-iff (itemAt p k) (amountAt c k) (s .fine k l)
+
+  -- where every item is kept the weight decides
+  by-weight : ((k : ℕ) → k < p .count → Keeps (itemAt p k) (pointOf c k)) → (b : Bool) → ltZ (p .capacity *ℤ pos d) (totalOf Weight d (p .count) p c) ≡ b → Told p c (cond b (reply.Violates 0) (reply.Feasible (lowest (totalOf Price d (p .count) p c) d)))
+  by-weight k true e = record { proposed = asked; keeps = k; over = over-< (s .some) (over-int d (p .capacity)) (total-over Weight) (yes-lt e) }
+  by-weight k false e =
+      let v = totalOf Price d (p .count) p c in
+      record {
+        proposed = asked;
+        feasible = record { keeps = k; fits = over-≤ (s .some) (total-over Weight) (over-int d (p .capacity)) .1 (no-lt e) };
+        exact = over-≈ (over-lowest v d (s .some)) (total-over Price) (s .some) refl;
+        divisor = lowest-den v d (s .some);
+        lowest = lowest-coprime v d (s .some);
+      }
+
+  judged-told : Told p c (judged d p c)
+  unfolding judged
+  judged-told = go (firstBroken (p .count) p c) (found (p .count) p c)
+    where
+      go : (m : ℕ) → Found (p .count) p c m → Told p c (afterItems m (cond (ltZ (p .capacity *ℤ pos d) (totalOf Weight d (p .count) p c)) (reply.Violates 0) (reply.Feasible (lowest (totalOf Price d (p .count) p c) d))))
+      go m (none h) = by-weight (λ k l. kept k l .0 (h k l)) _ refl
+      go m (first k l e h) = record {
+        proposed = asked;
+        item = l;
+        broken = λ w. impossible (sym (kept k l .1 w) ∙ e);
+        before = λ j i. kept j (omega arith) .0 (h j i);
+      }
+
+-- ---- the refusals before it
+
+amounts-told : (p : Problem) (c : Candidate) → InRange p → Told p c (amountCheck p c)
+unfolding amountCheck
+amounts-told p c r = go _ refl _ refl
+  where
+    go : (b : Bool) → eqb (c .count) (p .count) ≡ b → (z : Bool) → eqb (commonDivisor (c .count) (amountAt c)) 0 ≡ z → Told p c (cond (not b) (refuse 7) (cond z (refuse 8) (judged (commonDivisor (c .count) (amountAt c)) p c)))
+    go false e z f = by-count r (eqb-false (c .count) (p .count) e)
+    go true e true f =
+        let n = eqb-true (c .count) (p .count) e in
+        by-amounts r n (λ g. divisor-iff (c .count) (amountAt c) .1 (rw n g) (eqb-true _ 0 f))
+    go true e false f =
+        let n = eqb-true (c .count) (p .count) e in
+        let h = eqb-false (commonDivisor (c .count) (amountAt c)) 0 f in
+        judged-told p c _ (record { problem = r; counted = n; amounts = subst (λ m. GoodPoint m (amountAt c)) n (divisor-iff (c .count) (amountAt c) .0 h) }) (subst (λ m. Serves m (amountAt c) (commonDivisor (c .count) (amountAt c))) n (serves (c .count) (amountAt c) h))
+
+pub told : (p : Problem) (c : Candidate) → Told p c (pointCheck p c)
+unfolding pointCheck
+told p c = go (verdict p) refl
+  where
+    go : (v : Verdict) → verdict p ≡ v → Told p c (afterRecord v (amountCheck p c))
+    go verdicts.Accepted e = amounts-told p c (accepted p e)
+    go (verdicts.Refused f) e = by-record f e
+
+-- ---- each reply exactly where it should be
+
+-- what is not refused is not refused
+no-refusal : {p : Problem} {c : Candidate} {f : Refusal} → Proposed p c → ¬ RefusedAs p c f
+no-refusal {p} a (by-record f e) = no-verdict (sym (in-range p (a .problem)) ∙ e)
+  where
+    taken : Verdict → Type 0
+    taken verdicts.Accepted = Unit {0}
+    taken (verdicts.Refused g) = ⊥
+
+    no-verdict : verdicts.Accepted ≡ verdicts.Refused f → ⊥
+    no-verdict h = subst taken h tt
+no-refusal a (by-count r n) = n (a .counted)
+no-refusal a (by-amounts r n g) = g (a .amounts)
+
+-- a weight that is over does not fit
+over-not-fits : (x y : Frac) → x <ᶠ y → ¬ (y ≤ᶠ x)
+unfolding _<ᶠ_ _≤ᶠ_
+over-not-fits x y l h = clashℤ l h
+
+module _ (p : Problem) (c : Candidate) where
+  -- what the reply says, once it is known
+  of-reply : {r : PointReply} → pointCheck p c ≡ r → Told p c r
+  of-reply e = subst (Told p c) e (told p c)
+
+  pub refused-iff : ((f : Refusal) × (pointCheck p c ≡ reply.Refused f)) ↔ (¬ Proposed p c)
+  refused-iff = (λ (f, e) a. no-refusal a (of-reply e), λ n. go n (pointCheck p c) refl)
+    where
+      go : ¬ Proposed p c → (r : PointReply) → pointCheck p c ≡ r → (f : Refusal) × (pointCheck p c ≡ reply.Refused f)
+      go n (reply.Refused f) e = (f, e)
+      go n (reply.Feasible v) e = absurd (n (of-reply e .proposed))
+      go n (reply.Violates zero) e = absurd (n (of-reply e .proposed))
+      go n (reply.Violates (suc k)) e = absurd (n (of-reply e .proposed))
+
+  pub feasible-iff : Proposed p c → ((v : Fraction) × (pointCheck p c ≡ reply.Feasible v)) ↔ Feasible (instanceOf p) (pointOf c)
+  feasible-iff a = (λ (v, e). of-reply e .feasible, λ x. go x (pointCheck p c) refl)
+    where
+      go : Feasible (instanceOf p) (pointOf c) → (r : PointReply) → pointCheck p c ≡ r → (v : Fraction) × (pointCheck p c ≡ reply.Feasible v)
+      go x (reply.Refused f) e = absurd (no-refusal a (of-reply e))
+      go x (reply.Feasible v) e = (v, e)
+      go x (reply.Violates zero) e = absurd (over-not-fits _ _ (of-reply e .over) (x .fits))
+      go x (reply.Violates (suc k)) e = let t = of-reply e in absurd (t .broken (x .keeps k (t .item)))
+
+  pub weight-iff : (pointCheck p c ≡ reply.Violates 0) ↔ ToldWeight p c
+  weight-iff = (λ e. of-reply e, λ w. go w (pointCheck p c) refl)
+    where
+      go : ToldWeight p c → (r : PointReply) → pointCheck p c ≡ r → pointCheck p c ≡ reply.Violates 0
+      go w (reply.Refused f) e = absurd (no-refusal (w .proposed) (of-reply e))
+      go w (reply.Feasible v) e = absurd (over-not-fits _ _ (w .over) (of-reply e .feasible .fits))
+      go w (reply.Violates zero) e = e
+      go w (reply.Violates (suc k)) e = let t = of-reply e in absurd (t .broken (w .keeps k (t .item)))
+
+  pub item-iff : (k : ℕ) → (pointCheck p c ≡ reply.Violates (suc k)) ↔ ToldItem p c k
+  item-iff k = (λ e. of-reply e, λ t. go t (pointCheck p c) refl)
+    where
+      -- of two first items neither comes before the other
+      same : (j : ℕ) → ToldItem p c k → ToldItem p c j → Dec (j < k) → Dec (k < j) → j ≡ k
+      same j t u (yes l) m = absurd (u .broken (t .before j l))
+      same j t u (no l) (yes m) = absurd (t .broken (u .before k m))
+      same j t u (no l) (no m) = omega arith
+
+      go : ToldItem p c k → (r : PointReply) → pointCheck p c ≡ r → pointCheck p c ≡ reply.Violates (suc k)
+      go t (reply.Refused f) e = absurd (no-refusal (t .proposed) (of-reply e))
+      go t (reply.Feasible v) e = absurd (t .broken (of-reply e .feasible .keeps k (t .item)))
+      go t (reply.Violates zero) e = absurd (t .broken (of-reply e .keeps k (t .item)))
+      go t (reply.Violates (suc j)) e = e ∙ ap (λ i. reply.Violates (suc i)) (same j t (of-reply e) (decLt j k) (decLt k j))

@@ -1,0 +1,57 @@
+-- `feasibility::check_amounts` meets its contract: where the common divisor is not 0 the amounts are ready for yes or no.
+use mathlib.Core.Path.{sym, _∙_}
+use borrow.Author.Needs.{needs}
+use borrow.Author.Tests.{eq-eqb, ne-eqb}
+use Rattle.feasibility.specs.Amounts.{amountAt}
+use Rattle.feasibility.specs.Check.{amountCheck}
+use Rattle.feasibility.proofs.Divisor.{Serves, serves}
+use Rattle.feasibility.proofs.check_amounts.Statement.{statement}
+use Rattle.feasibility.proofs.check_amounts.Tie as tie
+
+refused-requires : tie.Need-refused-requires
+refused-requires c κs = search needs
+
+returns : tie.Need-returns
+unfolding amountCheck
+returns c = rw (ne-eqb _ _ (c .before .if1 .taken)) (c .refused .ensures)
+
+common-divisor-requires : tie.Need-common-divisor-requires
+common-divisor-requires c κs = search needs
+
+refused-requires-2 : tie.Need-refused-requires-2
+refused-requires-2 c κs = search needs
+
+returns-2 : tie.Need-returns-2
+unfolding amountCheck
+returns-2 c =
+    let d = c .before .before in
+    rw (eq-eqb _ _ (d .before .if1 .left), eq-eqb _ _ (sym (d .common-divisor .ensures) ∙ c .before .if2 .taken)) (c .refused2 .ensures)
+
+served : (c : tie.Else2) → Serves (c .before .before .before .before .before .args .c .count) (amountAt (c .before .before .before .before .before .args .c)) (c .before .common-divisor .result)
+served c = let e = c .before .common-divisor .ensures in rw e (serves _ _ (λ z. c .if2 .left (e ∙ z)))
+
+judge-requires : tie.Need-judge-requires
+judge-requires c κs =
+    let d = c .before in
+    let s = d .before .before .before .before in
+    let v = served c in
+    ((v .some, v .few), record { problem = s .pre; amounts = λ k l. v .fine k (rw (d .before .if1 .left) l) })
+
+returns-3 : tie.Need-returns-3
+unfolding amountCheck
+returns-3 c =
+    let e = c .before in
+    let d = e .before in
+    rw (eq-eqb _ _ (d .before .if1 .left), sym (d .common-divisor .ensures), ne-eqb _ _ (e .if2 .left)) (c .judge .ensures)
+
+pub check-amounts-spec : {M : Type 1} → statement M
+check-amounts-spec =
+    tie.close
+    (tie.spec
+    refused-requires
+    returns
+    common-divisor-requires
+    refused-requires-2
+    returns-2
+    judge-requires
+    returns-3)

@@ -1,0 +1,57 @@
+-- `feasibility::common_divisor` meets its contract: d is the divisor of the amounts passed.
+use mathlib.Core.Path.{_≡_, refl}
+use Prim.Native.Nat.{_-_, _≤_}
+use native.Mathlib.Numerals.{add-one}
+use native.Mathlib.Omega.{arith}
+use Rattle.feasibility.specs.Amounts.{amountAt, commonDivisor}
+use Rattle.feasibility.proofs.common_divisor.Statement.{statement}
+use Rattle.feasibility.proofs.common_divisor.Tie as tie
+
+abbrev Inv-loop : tie.InvT-loop
+Inv-loop c n d₀ k₀ d k = (k ≤ n) × (d ≡ commonDivisor k (amountAt c))
+
+abbrev μ-loop : tie.MeasureT-loop
+μ-loop c n d₀ k₀ d k = n - k
+
+loop-holds : tie.Need-loop-holds Inv-loop μ-loop
+unfolding commonDivisor
+loop-holds c = (omega arith, refl)
+
+mul-x : tie.Need-mul-x Inv-loop μ-loop
+mul-x c = omega arith
+
+element-copy-out-x : tie.Need-element-copy-out-x Inv-loop μ-loop
+element-copy-out-x c = omega arith
+
+join-requires : tie.Need-join-requires Inv-loop μ-loop
+join-requires c κs = tt
+
+add-k : tie.Need-add-k Inv-loop μ-loop
+add-k c = omega arith
+
+loop-less : tie.Need-loop-less Inv-loop μ-loop
+loop-less c = omega arith
+
+loop-again : tie.Need-loop-again Inv-loop μ-loop
+unfolding commonDivisor
+loop-again c = (omega arith, rw add-one (rw (c .before .before .before .loop .inv .1) at (c .join .ensures)))
+
+returns : tie.Need-returns Inv-loop μ-loop
+returns c =
+    let e : c .before .loop .k ≡ c .before .before .args .t1 .count = omega arith in
+    rw e at (c .before .loop .inv .1)
+
+pub common-divisor-spec : {M : Type 1} → statement M
+common-divisor-spec =
+    tie.close
+    (tie.spec
+    Inv-loop
+    μ-loop
+    loop-holds
+    mul-x
+    element-copy-out-x
+    join-requires
+    add-k
+    loop-less
+    loop-again
+    returns)

@@ -1,0 +1,53 @@
+-- `feasibility::does_break` meets its contract: the tests are those of the definition, in its order.
+use mathlib.Core.Path.{_≡_, sym, _∙_}
+use mir.Syntax.{w64}
+use mir.Val.{SFits}
+use mir.Facts.{toZ-ofZ}
+use borrow.Author.Needs.{needs}
+use Rattle.feasibility.specs.Check.{breaksBound, breaks}
+use Rattle.feasibility.specs.declared.Side.the-variants.{Lower}
+use Rattle.feasibility.proofs.does_break.Statement.{statement}
+use Rattle.feasibility.proofs.does_break.Tie as tie
+
+lower-test : (c : tie.After-breaks-bound) → breaksBound Lower (c .before .before .before .before .args .i .lower) (c .before .before .before .before .args .x .p) (c .before .before .before .before .args .x .q) ≡ c .breaks-bound .result
+lower-test c =
+    let h : SFits w64 (c .before .before .before .before .args .x .p) = search needs in
+    sym (rw (toZ-ofZ h) at (c .breaks-bound .ensures))
+
+breaks-mark-requires : tie.Need-breaks-mark-requires
+breaks-mark-requires c κs = search needs
+
+returns : tie.Need-returns
+unfolding breaks
+returns c = rw (sym (c .before .breaks-mark .ensures) ∙ c .if1 .taken)
+
+breaks-bound-requires : tie.Need-breaks-bound-requires
+breaks-bound-requires c κs = search needs
+
+returns-2 : tie.Need-returns-2
+unfolding breaks
+returns-2 c =
+    let m = c .before .before in
+    rw (sym (m .before .breaks-mark .ensures) ∙ m .if1 .left, lower-test (c .before) ∙ c .if2 .taken)
+
+breaks-bound-requires-2 : tie.Need-breaks-bound-requires-2
+breaks-bound-requires-2 c κs = search needs
+
+returns-3 : tie.Need-returns-3
+unfolding breaks
+returns-3 c =
+    let l = c .before in
+    let m = l .before .before in
+    let h : SFits w64 (m .before .before .before .args .x .p) = search needs in
+    rw (sym (m .before .breaks-mark .ensures) ∙ m .if1 .left, lower-test (l .before) ∙ l .if2 .left) (rw (toZ-ofZ h) at (c .breaks-bound2 .ensures))
+
+pub does-break-spec : {M : Type 1} → statement M
+does-break-spec =
+    tie.close
+    (tie.spec
+    breaks-mark-requires
+    returns
+    breaks-bound-requires
+    returns-2
+    breaks-bound-requires-2
+    returns-3)

@@ -1,0 +1,279 @@
+// Point check: whether a proposed point is feasible, and what it is worth. Paper 01, "Parts that stand in public", rows 7 and 8 of "Refused, by place".
+// Once nothing is refused at most one amount has a divisor above 1; over that divisor every amount is an integer, and so are the sums of
+// weights and prices, below 2 · 10^17. What a reply means is `Told` in specs/Check, and that it is true is proved in proofs/Meaning.
+use arith::Fraction;
+use arith::gcd;
+use arith::magnitude;
+use arith::reduce;
+use knapsack::Bound;
+use knapsack::Item;
+use knapsack::Mark;
+use knapsack::Problem;
+use knapsack::Refusal;
+use knapsack::Verdict;
+use knapsack::check_record;
+ghost use mathlib.Core.Path.{_≡_};
+ghost use Prim.Native.Nat.{_*_, _≤_, _<_};
+ghost use lib.IntN.{pos, natAbs, _*ℤ_};
+ghost use Rattle.knapsack.specs.Records.{BoundInRange, ItemInRange, InRange};
+ghost use Rattle.feasibility.specs.Amounts.{amountAt, farther, badAmount, joined, commonDivisor, GoodAmount};
+ghost use Rattle.feasibility.specs.Check.{breaksMark, breaksBound, breaks, orElse, numbered, firstBroken, figureOf, term, totalOf, refuse, judged, amountCheck, pointCheck, Ready};
+
+// 01's proposed point: an amount for each item, at the first count places.
+pub struct Candidate {
+    pub amounts: [Fraction; 16],
+    pub count: usize,
+}
+
+// 01's yes with the exact value, or its no: the first item, from 1, that breaks its mark or a bound, or 0 where only the weight is over.
+pub enum PointReply {
+    Refused(Refusal),
+    Feasible(Fraction),
+    Violates(usize),
+}
+
+// Which bound of an item is tried.
+enum Side {
+    Lower,
+    Upper,
+}
+
+// Which figure of an item is summed.
+enum Figure {
+    Weight,
+    Price,
+}
+
+// v · q.
+fn times(v: i64, q: u64) -> i64
+    requires { ⌜ (natAbs v * q ≤ 1000000000000) × (q ≤ 1000) ⌝ }
+    ensures { λ r. ⌜ r ≡ v *ℤ pos q ⌝ }
+{
+    let n = q as i64;
+    v * n
+}
+
+// Whether p / q is outside ±1,000,000,000.
+fn is_farther(p: i64, q: u64) -> bool
+    requires { ⌜ q ≤ 1000 ⌝ }
+    ensures { λ r. ⌜ r ≡ farther p q ⌝ }
+{
+    let n = times(1000000000, q);
+    if p < 0 - n {
+        return true;
+    }
+    n < p
+}
+
+// Refusal 8 of an amount by itself. The size is tried before the common divisor, so that |p| is known to fit.
+fn is_bad_amount(x: Fraction) -> bool
+    ensures { λ r. ⌜ r ≡ badAmount x ⌝ }
+{
+    let q = x.q;
+    if q == 0 {
+        return true;
+    }
+    if 1000 < q {
+        return true;
+    }
+    let p = x.p;
+    if is_farther(p, q) {
+        return true;
+    }
+    let m = magnitude(p);
+    1 < gcd(m, q)
+}
+
+// The common divisor d of the amounts so far and of one more.
+fn join(d: u64, x: Fraction) -> u64
+    ensures { λ r. ⌜ r ≡ joined d x ⌝ }
+{
+    if is_bad_amount(x) {
+        return 0;
+    }
+    let q = x.q;
+    if q == 1 {
+        return d;
+    }
+    if d == 1 { q } else { 0 }
+}
+
+// The one divisor above 1, or 1; 0 where refusal 8 is due.
+fn common_divisor(c: Candidate) -> u64
+    requires { ⌜ c .count ≤ 16 ⌝ }
+    ensures { λ r. ⌜ r ≡ commonDivisor (c .count) (amountAt c) ⌝ }
+{
+    let n = c.count;
+    let mut d: u64 = 1;
+    let mut k: usize = 0;
+    while k < n {
+        let x = c.amounts[k];
+        d = join(d, x);
+        k += 1;
+    }
+    d
+}
+
+fn breaks_mark(m: Mark, q: u64) -> bool
+    ensures { λ r. ⌜ r ≡ breaksMark m q ⌝ }
+{
+    match m {
+        Mark::Integer => 1 < q,
+        Mark::Continuous => false,
+    }
+}
+
+// Whether p / q is past a bound on its side.
+fn breaks_bound(s: Side, b: Bound, p: i64, q: u64) -> bool
+    requires { ⌜ BoundInRange b × (q ≤ 1000) ⌝ }
+    ensures { λ r. ⌜ r ≡ breaksBound s b p q ⌝ }
+{
+    let Bound::At(v) = b else {
+        return false;
+    };
+    let n = times(v, q);
+    match s {
+        Side::Lower => p < n,
+        Side::Upper => n < p,
+    }
+}
+
+// Whether an amount breaks its item's mark or a bound.
+fn does_break(i: Item, x: Fraction) -> bool
+    requires { ⌜ ItemInRange i × GoodAmount x ⌝ }
+    ensures { λ r. ⌜ r ≡ breaks i x ⌝ }
+{
+    let p = x.p;
+    let q = x.q;
+    let m = i.mark;
+    if breaks_mark(m, q) {
+        return true;
+    }
+    let l = i.lower;
+    if breaks_bound(Side::Lower, l, p, q) {
+        return true;
+    }
+    let u = i.upper;
+    breaks_bound(Side::Upper, u, p, q)
+}
+
+// The number of the first item that breaks: the one found so far if it is not 0, or that of the item at place k, or 0.
+fn earlier(found: usize, k: usize, i: Item, x: Fraction) -> usize
+    requires { ⌜ (k < 16) × (ItemInRange i × GoodAmount x) ⌝ }
+    ensures { λ r. ⌜ r ≡ orElse found (numbered k i x) ⌝ }
+{
+    if found == 0 {
+        if does_break(i, x) { k + 1 } else { found }
+    } else {
+        found
+    }
+}
+
+// The first item, from 1, that breaks its mark or a bound; 0 where none does.
+fn first_broken(p: Problem, c: Candidate) -> usize
+    requires { ⌜ Ready p c ⌝ }
+    ensures { λ r. ⌜ r ≡ firstBroken (p .count) p c ⌝ }
+{
+    let n = p.count;
+    let mut found: usize = 0;
+    let mut k: usize = 0;
+    while k < n {
+        let i = p.items[k];
+        let x = c.amounts[k];
+        found = earlier(found, k, i, x);
+        k += 1;
+    }
+    found
+}
+
+fn figure_of(f: Figure, i: Item) -> i64
+    ensures { λ r. ⌜ r ≡ figureOf f i ⌝ }
+{
+    match f {
+        Figure::Weight => i.weight,
+        Figure::Price => i.price,
+    }
+}
+
+// An item's figure times its amount, over the divisor d: within 10^16.
+fn one_term(f: Figure, d: u64, i: Item, x: Fraction) -> i64
+    requires { ⌜ (d ≤ 1000) × (ItemInRange i × GoodAmount x) ⌝ }
+    ensures { λ r. ⌜ r ≡ term f d i x ⌝ }
+{
+    let a = figure_of(f, i);
+    let p = x.p;
+    let q = x.q;
+    let n = times(p, d / q);
+    a * n
+}
+
+// The sum of a figure times the amounts, over the divisor d.
+fn total(f: Figure, d: u64, p: Problem, c: Candidate) -> i64
+    requires { ⌜ (d ≤ 1000) × Ready p c ⌝ }
+    ensures { λ r. ⌜ r ≡ totalOf f d (p .count) p c ⌝ }
+{
+    let n = p.count;
+    let mut sum: i64 = 0;
+    let mut k: usize = 0;
+    while k < n {
+        let i = p.items[k];
+        let x = c.amounts[k];
+        sum = sum + one_term(f, d, i, x);
+        k += 1;
+    }
+    sum
+}
+
+// The reply where nothing is refused, d being the common divisor.
+fn judge(d: u64, p: Problem, c: Candidate) -> PointReply
+    requires { ⌜ ((1 ≤ d) × (d ≤ 1000)) × Ready p c ⌝ }
+    ensures { λ r. ⌜ r ≡ judged d p c ⌝ }
+{
+    let k = first_broken(p, c);
+    if 0 < k {
+        return PointReply::Violates(k);
+    }
+    let b = times(p.capacity, d);
+    let w = total(Figure::Weight, d, p, c);
+    if b < w {
+        return PointReply::Violates(0);
+    }
+    let v = total(Figure::Price, d, p, c);
+    PointReply::Feasible(reduce(v, d))
+}
+
+// A refusal has line 0: no sheet was read.
+fn refused(number: u64) -> PointReply
+    ensures { λ r. ⌜ r ≡ refuse number ⌝ }
+{
+    PointReply::Refused(Refusal {
+        number: number,
+        line: 0,
+    })
+}
+
+// The reply to a point of an accepted problem: refusals 7 and 8, then yes or no.
+fn check_amounts(p: Problem, c: Candidate) -> PointReply
+    requires { ⌜ InRange p ⌝ }
+    ensures { λ r. ⌜ r ≡ amountCheck p c ⌝ }
+{
+    if c.count != p.count {
+        return refused(7);
+    }
+    let d = common_divisor(c);
+    if d == 0 {
+        return refused(8);
+    }
+    judge(d, p, c)
+}
+
+// 01's point check.
+pub fn check_point(p: Problem, c: Candidate) -> PointReply
+    ensures { λ r. ⌜ r ≡ pointCheck p c ⌝ }
+{
+    let v = check_record(p);
+    match v {
+        Verdict::Accepted => check_amounts(p, c),
+        Verdict::Refused(f) => PointReply::Refused(f),
+    }
+}

@@ -1,0 +1,17 @@
+-- `pairing::pairs_of` meets its contract.
+use borrow.Author.Needs.{needs}
+use Rattle.pairing.proofs.Tables.{ready}
+use Rattle.pairing.proofs.pairs_of.Statement.{statement}
+use Rattle.pairing.proofs.pairs_of.Tie as tie
+
+pair-table-requires : tie.Need-pair-table-requires
+pair-table-requires c κs = search needs
+
+spread-requires : tie.Need-spread-requires
+spread-requires c κs = search needs
+
+returns : tie.Need-returns
+returns c = ready (c .before .before .args .p) (c .spread .result) (c .before .pair-table .result) (c .before .pair-table .ensures) (c .spread .ensures)
+
+pub pairs-of-spec : {M : Type 1} → statement M
+pairs-of-spec = tie.close (tie.spec pair-table-requires spread-requires returns)

@@ -1,0 +1,48 @@
+-- A table of pairs, spread over a table for each of the two steps.
+--   firstStep q, secondStep q   the steps of a pair; zero where there is none
+--   noSteps                     tables of zeros
+--   withPair r k q              the tables r with the steps of q at k
+--   Holds r k q                 the tables hold the steps of q at k
+--   Spread t n r                the tables hold the first n entries of t, and zeros from there on
+--   Agrees p c                  the columns hold the weights and prices of the problem's items
+use mathlib.Core.Path.{_≡_}
+use mathlib.Core.List.{List}
+use Prim.Native.Nat.{ℕ, _≤_, _<_}
+use lib.IntN.{ℤ, pos}
+use lib.ListN.{length, getD, set, replicate}
+use Rattle.knapsack.specs.declared.Problem.{Problem}
+use Rattle.knapsack.specs.Records.{itemAt}
+use Rattle.domination.specs.declared.Pair.{Pair}
+use Rattle.domination.specs.declared.Pair.the-variants.{Missing, Steps}
+use Rattle.greedy.specs.declared.Columns.{Columns}
+use Rattle.greedy.specs.Fill.{at, weightOf, priceOf}
+use Rattle.search.specs.declared.Pairs.{Pairs}
+
+abbrev pub firstStep : Pair → ℤ
+firstStep Missing = pos 0
+firstStep (Steps a b) = a
+
+abbrev pub secondStep : Pair → ℤ
+secondStep Missing = pos 0
+secondStep (Steps a b) = b
+
+abbrev pub noSteps : Pairs
+noSteps = record { first = replicate 256 (pos 0); second = replicate 256 (pos 0) }
+
+abbrev pub withPair : Pairs → ℕ → Pair → Pairs
+withPair r k Missing = r
+withPair r k (Steps a b) = record { first = set (r .first) k a; second = set (r .second) k b }
+
+pub record Holds (r : Pairs) (k : ℕ) (q : Pair) : Type 0 where
+  pub first-step : at (r .first) k ≡ firstStep q
+  pub second-step : at (r .second) k ≡ secondStep q
+
+pub record Spread (t : List Pair) (n : ℕ) (r : Pairs) : Type 0 where
+  pub first-length : length (r .first) ≡ 256
+  pub second-length : length (r .second) ≡ 256
+  pub held : (k : ℕ) → k < n → Holds r k (getD t k Missing)
+  pub rest : (k : ℕ) → n ≤ k → Holds r k Missing
+
+pub record Agrees (p : Problem) (c : Columns) : Type 0 where
+  pub weights-agree : (k : ℕ) → k < p .count → weightOf c k ≡ itemAt p k .weight
+  pub prices-agree : (k : ℕ) → k < p .count → priceOf c k ≡ itemAt p k .price

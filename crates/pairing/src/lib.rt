@@ -1,0 +1,58 @@
+// The least pairs of a problem as a search reads them: a table for each of the two steps, zero where there is no pair.
+// Paper 01, "Least pair": "All 16 by 16 replies may be tabled before a search."
+use domination::Pair;
+use domination::pair_table;
+use knapsack::Problem;
+use search::Pairs;
+ghost use mathlib.Core.Path.{_≡_};
+ghost use Prim.Native.Nat.{_<_};
+ghost use Rattle.greedy.specs.declared.Columns.{Columns};
+ghost use Rattle.search.specs.Ready.{ReadyPairs};
+ghost use Rattle.pairing.specs.Tables.{noSteps, withPair, Spread, Agrees};
+
+// The tables before they are filled.
+fn no_steps() -> Pairs
+    ensures { λ r. ⌜ r ≡ noSteps ⌝ }
+{
+    Pairs {
+        first: [0; 256],
+        second: [0; 256],
+    }
+}
+
+// The tables with the steps of q at k; where q has none they stay.
+fn with_pair(r: Pairs, k: usize, q: Pair) -> Pairs
+    requires { ⌜ k < 256 ⌝ }
+    ensures { λ s. ⌜ s ≡ withPair r k q ⌝ }
+{
+    let mut s = r;
+    match q {
+        Pair::Missing => s,
+        Pair::Steps(a, b) => {
+            s.first[k] = a;
+            s.second[k] = b;
+            s
+        }
+    }
+}
+
+fn spread(t: [Pair; 256]) -> Pairs
+    ensures { λ r. ⌜ Spread t 256 r ⌝ }
+{
+    let mut r = no_steps();
+    let mut k: usize = 0;
+    while k < 256 {
+        let q = t[k];
+        r = with_pair(r, k, q);
+        k += 1;
+    }
+    r
+}
+
+// The pairs of a problem, true of every columns that hold its weights and prices. A record that is refused has none.
+pub fn pairs_of(p: Problem) -> Pairs
+    ensures { λ r. ⌜ ((c : Columns) → Agrees p c → ReadyPairs c r) ⌝ }
+{
+    let t = pair_table(p);
+    spread(t)
+}

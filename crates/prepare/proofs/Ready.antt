@@ -1,0 +1,131 @@
+-- prepared: a setting that is made of a problem's columns, box, levels and grid is that of the problem, and ready for a search.
+use mathlib.Core.Path.{_≡_, refl, sym, _∙_}
+use mathlib.Core.Bool.{Bool, true, false}
+use mathlib.Core.Logic.{_≢_}
+use Prim.Native.Nat.{ℕ, _≤_, _<_}
+use native.Mathlib.Omega.{arith}
+use lib.IntN.{ℤ, pos, negsuc, natAbs}
+use lib.Signed.{_≤ℤ_}
+use Rattle.arith.proofs.Integers.{split, zed}
+use Rattle.arith.proofs.Parts.{zs}
+use Rattle.greedy.specs.Fill.{at, place}
+use Rattle.greedy.specs.Sized.{SizedEnds}
+use Rattle.greedy.specs.declared.Ends.{Ends}
+use Rattle.knapsack.specs.Records.{itemAt, BoundInRange, InOrder, InRange}
+use Rattle.knapsack.specs.declared.Bound.the-variants.{Absent, At}
+use Rattle.knapsack.specs.declared.Bound.{Bound}
+use Rattle.knapsack.specs.declared.Problem.{Problem}
+use Rattle.ordering.specs.Ranking.{Sorted}
+use Rattle.search.specs.Ready.{Gridded, Marked}
+use Rattle.search.specs.Search.{levelAt}
+use Rattle.search.specs.declared.Setting.{Setting}
+use Rattle.tables.proofs.Ranges.{low-within, high-within}
+use Rattle.tables.specs.Figures.{endOr, lowEnd, highEnd, figureOf, isInteger, passes, keyOf}
+use Rattle.tables.specs.Tables.{Tabled, listed, Leading}
+use Rattle.tables.specs.declared.Figure.the-variants.{Low, High}
+use Rattle.tables.specs.declared.Key.{Key}
+use Rattle.tables.specs.declared.Test.the-variants.{Level}
+use Rattle.prepare.specs.Prepared.{Columned, Boxed, Gridding, Prepared}
+use Rattle.prepare.proofs.Grid.{fixed-ends, grid-fixed, grid-divides}
+use Rattle.prepare.proofs.Levels.{Tells, level-in, level-once, level-integer, level-of, is-integer}
+use Rattle.prepare.proofs.Lists.{tabled-below, tabled-within}
+use Rattle.prepare.proofs.Order.{weight-is, price-is, columns-ordered, columns-sized}
+
+-- ---- the box
+
+above-reach : (v : ℤ) → natAbs v ≤ 10000 → negsuc 299999999 ≤ℤ v
+above-reach = split _ (λ a b. simp zed (omega arith))
+
+below-reach : (v : ℤ) → natAbs v ≤ 10000 → v ≤ℤ pos 300000000
+below-reach = split _ (λ a b. simp zed (omega arith))
+
+ends-in-order : (l u : Bound) → BoundInRange l → BoundInRange u → InOrder l u → endOr l (negsuc 299999999) ≤ℤ endOr u (pos 300000000)
+ends-in-order Absent Absent h g o = omega (arith, zs)
+ends-in-order Absent (At u) h g o = above-reach u g
+ends-in-order (At l) Absent h g o = below-reach l h
+ends-in-order (At l) (At u) h g o = o
+
+module _ (p : Problem) (r : InRange p) (e : Ends) (b : Boxed p e) where
+  pub low-is : (k : ℕ) → k < p .count → at (e .lo) k ≡ lowEnd (itemAt p k)
+  low-is = tabled-below (p .count) (λ k. figureOf Low (itemAt p k)) (e .lo) (b .lows)
+
+  pub high-is : (k : ℕ) → k < p .count → at (e .hi) k ≡ highEnd (itemAt p k)
+  high-is = tabled-below (p .count) (λ k. figureOf High (itemAt p k)) (e .hi) (b .highs)
+
+  pub box-sized : SizedEnds e
+  box-sized = record {
+    lo-in = tabled-within (p .count) (λ k. figureOf Low (itemAt p k)) (e .lo) (b .lows) 300000000 (λ k h. low-within (itemAt p k) (r .items-in k h));
+    hi-in = tabled-within (p .count) (λ k. figureOf High (itemAt p k)) (e .hi) (b .highs) 300000000 (λ k h. high-within (itemAt p k) (r .items-in k h));
+  }
+
+  box-in-order : (k : ℕ) → k < p .count → at (e .lo) k ≤ℤ at (e .hi) k
+  box-in-order k h = let i = r .items-in k h in rw (low-is k h, high-is k h) (ends-in-order (itemAt p k .lower) (itemAt p k .upper) (i .lower-in) (i .upper-in) (i .in-order))
+
+-- ---- the setting
+
+-- what its parts hold
+pub record Made (p : Problem) (by : Key) (s : Setting) : Type 0 where
+  pub columned : Columned p (s .cols)
+  pub boxed : Boxed p (s .ends)
+  pub tells : Tells by
+  pub sorted : Sorted (λ k. keyOf by (itemAt p k)) (p .count) (s .level)
+  pub leading : Leading (p .count) (λ u. passes Level (listed p (s .level) u)) (s .levels)
+  pub lows : Tabled (s .levels) (λ u. figureOf Low (listed p (s .level) u)) (s .low)
+  pub highs : Tabled (s .levels) (λ u. figureOf High (listed p (s .level) u)) (s .high)
+  pub gridding : Gridding p (s .level) (s .levels) (s .grid)
+
+module _ (p : Problem) (r : InRange p) (by : Key) (s : Setting) (m : Made p by s) where
+  inside : (d : ℕ) → d < s .levels → levelAt s d < p .count
+  inside = level-in p by (m .tells) (s .level) (s .levels) (m .sorted) (m .leading)
+
+  marked : Marked s (λ k. itemAt p k .mark)
+  marked = record {
+    integer = level-integer p by (m .tells) (s .level) (s .levels) (m .sorted) (m .leading);
+    level = λ k h e. level-of p by (m .tells) (s .level) (s .levels) (m .sorted) (m .leading) k (omega (arith, m .columned .count)) e;
+  }
+
+  low-at : (d : ℕ) → d < s .levels → at (s .low) d ≡ at (s .ends .lo) (levelAt s d)
+  low-at d h = tabled-below (s .levels) (λ u. figureOf Low (listed p (s .level) u)) (s .low) (m .lows) d h ∙ sym (low-is p r (s .ends) (m .boxed) (levelAt s d) (inside d h))
+
+  high-at : (d : ℕ) → d < s .levels → at (s .high) d ≡ at (s .ends .hi) (levelAt s d)
+  high-at d h = tabled-below (s .levels) (λ u. figureOf High (listed p (s .level) u)) (s .high) (m .highs) d h ∙ sym (high-is p r (s .ends) (m .boxed) (levelAt s d) (inside d h))
+
+  -- an item of no level is not integer
+  no-level : (k : ℕ) → k < p .count → ((j : ℕ) → j < s .levels → levelAt s j ≢ k) → isInteger (itemAt p k .mark) ≡ false
+  no-level k h n = go (isInteger (itemAt p k .mark)) refl
+    where
+      found : (d : ℕ) × (d < s .levels) × (levelAt s d ≡ k) → ⊥
+      found (d, l, e) = n d l e
+
+      go : (b : Bool) → isInteger (itemAt p k .mark) ≡ b → isInteger (itemAt p k .mark) ≡ false
+      go true e = absurd (found (marked .level k (omega (arith, m .columned .count)) (is-integer (itemAt p k .mark) e)))
+      go false e = e
+
+  gridded : (d : ℕ) → d < s .levels → place (s .grid) d ≢ 0 → Gridded s d
+  gridded d l nz = record {
+    fixed = λ k h n. let j : k < p .count = omega (arith, m .columned .count) in
+        low-is p r (s .ends) (m .boxed) k j ∙ fixed-ends (itemAt p k) (r .items-in k j .in-order) (grid-fixed p (s .level) (s .levels) (s .grid) (m .gridding) d nz k j) (no-level k j n) ∙ sym (high-is p r (s .ends) (m .boxed) k j);
+    multiples = λ j a b. rw (price-is p (s .cols) r (m .columned) (levelAt s j) (inside j b)) (grid-divides p (s .level) (s .levels) (s .grid) (m .gridding) d nz j l a b);
+  }
+
+  pub prepared : Prepared p s
+  prepared = record {
+    count = m .columned .count;
+    capacity = m .columned .capacity;
+    weights = weight-is p (s .cols) r (m .columned);
+    prices = price-is p (s .cols) r (m .columned);
+    lows = low-is p r (s .ends) (m .boxed);
+    highs = high-is p r (s .ends) (m .boxed);
+    ready = record {
+      sized = record { columns = columns-sized p (s .cols) r (m .columned); ends = box-sized p r (s .ends) (m .boxed) };
+      ordered = columns-ordered p (s .cols) r (m .columned);
+      in-order = λ k h. box-in-order p r (s .ends) (m .boxed) k (omega (arith, m .columned .count));
+      few = omega (arith, m .leading .most, r .few-items);
+      level-in = λ d h. omega (arith, m .columned .count, inside d h);
+      distinct = level-once p by (m .tells) (s .level) (s .levels) (m .sorted) (m .leading);
+      low-is = low-at;
+      high-is = high-at;
+      gridded = gridded;
+    };
+    marked = marked;
+  }

@@ -1,0 +1,64 @@
+-- What a search is given of an accepted problem.
+--   Columned p c     the columns c of the problem p: every array exactly, 0 beyond the count
+--   Boxed p e        its ends: an absent bound is 300,000,000 away (knapsack, proofs/Reach)
+--   criticalKey c f  how the items are ordered for branching where the filling f stops: by what an amount loses at the price
+--                    per weight of the critical item; by price alone where there is none
+--   Gridding p l n r r is the grid of the levels l: common divisors of the prices from a level on, 0 where a continuous item is free
+--   Prepared p s     the setting s is that of p, and in order
+use mathlib.Core.Path.{_≡_}
+use mathlib.Core.Bool.{true, false, cond}
+use mathlib.Core.List.{List}
+use Prim.Native.Nat.{ℕ, _-_, _<_}
+use lib.Dec.{ltb}
+use lib.IntN.{pos}
+use lib.Signed.{ltZ}
+use Rattle.greedy.specs.Fill.{at, place, weightOf, priceOf}
+use Rattle.greedy.specs.declared.Columns.{Columns}
+use Rattle.greedy.specs.declared.Ends.{Ends}
+use Rattle.greedy.specs.declared.Fill.{Fill}
+use Rattle.knapsack.specs.Records.{itemAt}
+use Rattle.knapsack.specs.declared.Problem.{Problem}
+use Rattle.ordering.specs.Ranking.{Sorted}
+use Rattle.search.specs.Ready.{ReadySetting, Marked}
+use Rattle.search.specs.declared.Setting.{Setting}
+use Rattle.tables.specs.Figures.{lowEnd, highEnd, figureOf, fixed, passes, keyOf}
+use Rattle.tables.specs.Tables.{Tabled, listed, Leading, Inverted, common}
+use Rattle.tables.specs.declared.Figure.the-variants.{Weight, Price, Low, High, Size, Rate}
+use Rattle.tables.specs.declared.Key.the-variants.{Filling, Branching}
+use Rattle.tables.specs.declared.Key.{Key}
+use Rattle.tables.specs.declared.Test.the-variants.{Live}
+
+pub record Columned (p : Problem) (c : Columns) : Type 0 where
+  pub count : c .count ≡ p .count
+  pub capacity : c .capacity ≡ p .capacity
+  pub weights : Tabled (p .count) (λ k. figureOf Weight (itemAt p k)) (c .weight)
+  pub prices : Tabled (p .count) (λ k. figureOf Price (itemAt p k)) (c .price)
+  pub order : Sorted (λ k. keyOf Filling (itemAt p k)) (p .count) (c .order)
+  pub rank : Inverted (p .count) (c .order) (c .rank)
+  pub sizes : Tabled (p .count) (λ u. figureOf Size (listed p (c .order) u)) (c .size)
+  pub rates : Tabled (p .count) (λ u. figureOf Rate (listed p (c .order) u)) (c .rate)
+  pub live : Leading (p .count) (λ u. passes Live (listed p (c .order) u)) (c .live)
+
+pub record Boxed (p : Problem) (e : Ends) : Type 0 where
+  pub lows : Tabled (p .count) (λ k. figureOf Low (itemAt p k)) (e .lo)
+  pub highs : Tabled (p .count) (λ k. figureOf High (itemAt p k)) (e .hi)
+
+abbrev pub byPrice : Key
+byPrice = Branching (pos 0) (pos 1)
+
+abbrev pub criticalKey : Columns → Fill → Key
+criticalKey c f = cond (ltZ (f .room) (pos 0)) byPrice (cond (ltb (f .at) (c .live)) (Branching (at (c .rate) (f .at)) (at (c .size) (f .at))) byPrice)
+
+pub record Gridding (p : Problem) (l : List ℕ) (n : ℕ) (r : List ℕ) : Type 0 where
+  pub free : (k : ℕ) → k < p .count → fixed (itemAt p k) ≡ false → (d : ℕ) → place r d ≡ 0
+  pub bound : ((k : ℕ) → k < p .count → fixed (itemAt p k) ≡ true) → (d : ℕ) → d < n → place r d ≡ common (λ j. listed p l j .price) d (n - d)
+
+pub record Prepared (p : Problem) (s : Setting) : Type 0 where
+  pub count : s .cols .count ≡ p .count
+  pub capacity : s .cols .capacity ≡ p .capacity
+  pub weights : (k : ℕ) → k < p .count → weightOf (s .cols) k ≡ itemAt p k .weight
+  pub prices : (k : ℕ) → k < p .count → priceOf (s .cols) k ≡ itemAt p k .price
+  pub lows : (k : ℕ) → k < p .count → at (s .ends .lo) k ≡ lowEnd (itemAt p k)
+  pub highs : (k : ℕ) → k < p .count → at (s .ends .hi) k ≡ highEnd (itemAt p k)
+  pub ready : ReadySetting s
+  pub marked : Marked s (λ k. itemAt p k .mark)

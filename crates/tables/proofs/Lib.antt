@@ -1,0 +1,3 @@
+pub mod Ranges
+pub mod Tables
+pub mod Keys
