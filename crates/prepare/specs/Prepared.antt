@@ -1,8 +1,8 @@
 -- What a search is given of an accepted problem.
---   Columned p c     the columns c of the problem p: every array exactly, 0 beyond the count
+--   Columned p c     the columns c of the problem p: its figures by item and by rank, 0 beyond the count, and the order of filling
 --   Boxed p e        its ends: an absent bound is 300,000,000 away (knapsack, proofs/Reach)
---   criticalKey c f  how the items are ordered for branching where the filling f stops: by what an amount loses at the price
---                    per weight of the critical item; by price alone where there is none
+--   criticalKey c f  how the items are ordered for branching where the filling f stops: by their reduced prices at the critical
+--                    item's price per weight; by price alone where there is none
 --   Gridding p l n r r is the grid of the levels l: common divisors of the prices from a level on, 0 where a continuous item is free
 --   Prepared p s     the setting s is that of p, and in order
 use mathlib.Core.Path.{_≡_}

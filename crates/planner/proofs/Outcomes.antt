@@ -1,0 +1,241 @@
+-- Why each answer of the planner is true: of a problem in range, and what its preparation, its rays and its search say.
+-- infeasible-corner: even the light ends do not fit.
+-- unbounded-corner: they fit, and there is a ray.
+-- optimal-found: there is no ray, and the search found a place.
+-- infeasible-searched: there is no ray, and the search found nothing.
+use mathlib.Core.Path.{_≡_, refl, sym, ap, ap₂, _∙_, subst, subst₂}
+use mathlib.Core.Bool.{Bool, true, false, cond}
+use mathlib.Core.List.{List}
+use mathlib.Core.Logic.{_≢_, _⊎_, inl, inr}
+use Prim.Native.Nat.{ℕ, zero, suc, _+_, _*_, _≤_, _<_}
+use native.Mathlib.Omega.{arith}
+use lib.Dec.{ltb, eqb}
+use lib.IntN.{ℤ, pos, negsuc, negℤ, natAbs, _+ℤ_, _-ℤ_, _*ℤ_}
+use lib.ListN.{getD}
+use lib.Signed.{_≤ℤ_, _<ℤ_, ltZ}
+use borrow.Author.Tests.{lt-ltb, le-ltb, ltb-true, ltb-false, eq-eqb, ne-eqb, eqb-true}
+use Rattle.arith.specs.Within.{Within}
+use Rattle.arith.specs.Fractions.{Frac, frac, _≈ᶠ_}
+use Rattle.arith.specs.Gcd.{Divides, gcdOf, lowest}
+use Rattle.arith.specs.Mixed.{Proper}
+use Rattle.arith.specs.Sum.{sum, Each}
+use Rattle.arith.specs.declared.Fraction.{Fraction}
+use Rattle.arith.specs.declared.Mixed.{Mixed}
+use Rattle.arith.proofs.Divisors.{lowest-den, lowest-coprime}
+use Rattle.arith.proofs.Fractions.{Over, over-total, over-≈}
+use Rattle.arith.proofs.Integers.{split, split2, zed}
+use Rattle.arith.proofs.Mixes.{over}
+use Rattle.arith.proofs.Parts.{within-mul, within-more, within-abs, abs-within, lt-le}
+use Rattle.arith.proofs.Sums.{sum-cong}
+use Rattle.arith.proofs.Words.{lt-yes, le-no}
+use Rattle.amounts.specs.Amounts.{takenBy, numerator, amountOf, Amounts}
+use Rattle.greedy.specs.declared.Columns.{Columns}
+use Rattle.greedy.specs.declared.Ends.{Ends}
+use Rattle.greedy.specs.declared.Fill.{Fill}
+use Rattle.greedy.specs.Fill.{at, weightOf, priceOf, itemOf, rankOf, lightest, lightOf, cornerWeight, begun, fill, bound, sizeOf, rateOf, sharedBy, unit, stand, taken, solution}
+use Rattle.greedy.specs.Ordered.{Ordered}
+use Rattle.knapsack.specs.Records.{itemAt, InRange}
+use Rattle.knapsack.specs.Meaning.{Instance, instanceOf, nought, amountAt, pointOf, stepsOf, weights, prices, Infeasible, Optimal, Unbounded, Shown, ShownSteps, ShownOptimal, ShownUnbounded, bare, AnswersAs, Answers}
+use Rattle.knapsack.specs.declared.Answer.{Answer}
+use Rattle.knapsack.specs.declared.Bound.{Bound}
+use Rattle.knapsack.specs.declared.Bound.the-variants.{At}
+use Rattle.knapsack.specs.declared.Item.{Item}
+use Rattle.knapsack.specs.declared.Kind.{Kind}
+use Rattle.knapsack.specs.declared.Kind.the-variants as kind
+use Rattle.knapsack.specs.declared.Problem.{Problem}
+use Rattle.knapsack.proofs.Bridge.{Reads, bridge-optimal, bridge-infeasible}
+use Rattle.knapsack.proofs.Common.{weighsᴰ, valueᴰ, Feasibleᴰ, Optimalᴰ}
+use Rattle.knapsack.proofs.Reach.{shut, reach-optimal, reach-empty}
+use Rattle.prepare.specs.Prepared.{Prepared}
+use Rattle.prepare.proofs.Box.{box, box-same, box-is-shut, box-optimal, box-empty}
+use Rattle.rays.specs.declared.RayReply.{RayReply}
+use Rattle.rays.specs.Rays.{RayFound, stepsAt}
+use Rattle.rays.proofs.Corner.{LightCorner, ranges-of, corner-infeasible, corner-shown, corner-unbounded}
+use Rattle.search.specs.declared.Incumbent.{Incumbent}
+use Rattle.search.specs.declared.Setting.{Setting}
+use Rattle.search.specs.Ready.{Searched, chosen}
+use Rattle.search.proofs.Boxes.{between}
+use Rattle.planner.specs.Outcomes.{unfilled, Cornered, boxAt, fillAt, valueAt, Best}
+use Rattle.planner.proofs.Terms.{over-lowest, lowest-one, lowest-whole, lowest-divides, lowest-small}
+
+-- ---- the light end of an item
+
+light-heavy : (a c l u : ℤ) → pos 0 <ℤ a → lightest a c l u ≡ l
+light-heavy a c l u h = rw (lt-yes h)
+
+light-light : (a c l u : ℤ) → a <ℤ pos 0 → lightest a c l u ≡ u
+light-light a c l u h = rw (le-no {a = pos 0} (lt-le h), lt-yes h)
+
+light-flat : (a c l u : ℤ) → a ≡ pos 0 → (lightest a c l u ≡ l) ⊎ (lightest a c l u ≡ u)
+light-flat a c l u h = rw h (go (ltZ (pos 0) c))
+  where
+    go : (b : Bool) → (cond b u l ≡ l) ⊎ (cond b u l ≡ u)
+    go true = inr refl
+    go false = inl refl
+
+-- ---- amounts of a filling
+
+-- an amount is whole, unless its item is the critical one
+whole-or-critical : (c : Columns) (e : Ends) (f : Fill) (q k : ℕ) → (numerator c e f q k ≡ stand c e (f .at) k *ℤ pos q) ⊎ ((rankOf c k ≡ f .at) × (f .at < c .live))
+whole-or-critical c e f q k = go (ltb (f .at) (c .live)) (eqb (rankOf c k) (f .at)) refl refl
+  where
+    none : (x : ℤ) → x +ℤ pos 0 ≡ x
+    none = split _ (λ a b. simp zed (omega arith))
+
+    go : (b t : Bool) → ltb (f .at) (c .live) ≡ b → eqb (rankOf c k) (f .at) ≡ t → (stand c e (f .at) k *ℤ pos q +ℤ cond b (cond t (unit (weightOf c k) *ℤ f .room) (pos 0)) (pos 0) ≡ stand c e (f .at) k *ℤ pos q) ⊎ ((rankOf c k ≡ f .at) × (f .at < c .live))
+    go false t x y = inl (none (stand c e (f .at) k *ℤ pos q))
+    go true false x y = inl (none (stand c e (f .at) k *ℤ pos q))
+    go true true x y = inr (eqb-true (rankOf c k) (f .at) y, ltb-true (f .at) (c .live) x)
+
+-- the divisor of a filling that ends at a live rank is that item's weight
+parts-critical : (c : Columns) (f : Fill) → Ordered c → (k : ℕ) → k < c .count → rankOf c k ≡ f .at → f .at < c .live → bound c f .parts ≡ natAbs (weightOf c k)
+unfolding bound
+parts-critical c f o k l r h = rw (lt-ltb (f .at) (c .live) h, o .sizes (f .at) h) (ap (λ (j : ℕ). natAbs (weightOf c j)) (ap (itemOf c) (sym r) ∙ o .item-rank k l))
+
+near-zero : (l u n : ℤ) (q : ℕ) → Within 300000000 l → Within 300000000 u → (l *ℤ pos q) ≤ℤ n → n ≤ℤ (u *ℤ pos q) → natAbs n ≤ 300000000 * q
+near-zero l u n q hl hu low high = within-abs n (between (l *ℤ pos q) (u *ℤ pos q) n (within-mul hl own) (within-mul hu own) low high)
+  where
+    own : Within q (pos q)
+    own = abs-within (pos q) (omega arith)
+
+module _ (p : Problem) (range : InRange p) (s : Setting) (q : Prepared p s) where
+  abbrev I : Instance
+  I = instanceOf p
+
+  abbrev c : Columns
+  c = s .cols
+
+  abbrev light : ℕ → ℤ
+  light k = lightOf (s .cols) (s .ends) k
+
+  abbrev lo : ℕ → ℤ
+  lo k = at (s .ends .lo) k
+
+  abbrev hi : ℕ → ℤ
+  hi k = at (s .ends .hi) k
+
+  in-box : (k : ℕ) → k < p .count → k < s .cols .count
+  in-box k l = omega (arith, q .count)
+
+  -- ---- the light corner
+
+  corner : LightCorner I lo hi light
+  corner = record {
+    lows = λ k l. sym (ap (λ (i : Item). i .lower) (box-same p s q .items k (in-box k l)));
+    highs = λ k l. sym (ap (λ (i : Item). i .upper) (box-same p s q .items k (in-box k l)));
+    ordered = λ k l. q .ready .in-order k (in-box k l);
+    heavy = λ k l h. light-heavy (weightOf c k) (priceOf c k) (lo k) (hi k) (rw (q .weights k l) h);
+    light = λ k l h. light-light (weightOf c k) (priceOf c k) (lo k) (hi k) (rw (q .weights k l) h);
+    flat = λ k l h. light-flat (weightOf c k) (priceOf c k) (lo k) (hi k) (q .weights k l ∙ h);
+  }
+
+  corner-weighs : cornerWeight (s .cols) (s .ends) (s .cols .count) ≡ weighsᴰ I light
+  corner-weighs = ap (cornerWeight (s .cols) (s .ends)) (q .count) ∙ sum-cong (p .count) (λ k. weightOf c k *ℤ light k) (λ k. weights I k *ℤ light k) (λ k l. ap (λ z. z *ℤ light k) (q .weights k l))
+
+  room-is : begun (s .cols) (s .ends) .room ≡ p .capacity -ℤ weighsᴰ I light
+  room-is = ap₂ _-ℤ_ (q .capacity) corner-weighs
+
+  pub infeasible-corner : begun (s .cols) (s .ends) .room <ℤ pos 0 → Answers I (bare kind.Infeasible)
+  infeasible-corner h = (corner-infeasible I (ranges-of p range) lo hi light corner (less (p .capacity) (weighsᴰ I light) (rw room-is at h)), refl)
+    where
+      less : (b w : ℤ) → (b -ℤ w) <ℤ pos 0 → b <ℤ w
+      less = split2 _ (λ a b c e. simp zed (omega arith))
+
+  corner-fits : pos 0 ≤ℤ begun (s .cols) (s .ends) .room → weighsᴰ I light ≤ℤ p .capacity
+  corner-fits h = more (p .capacity) (weighsᴰ I light) (rw room-is at h)
+    where
+      more : (b w : ℤ) → pos 0 ≤ℤ (b -ℤ w) → w ≤ℤ b
+      more = split2 _ (λ a b c e. simp zed (omega arith))
+
+  -- ---- the corner as an answer shows it
+
+  corner-numerator : (k : ℕ) → numerator (s .cols) (s .ends) unfilled 1 k ≡ light k *ℤ pos 1
+  corner-numerator k = rw (le-ltb (rankOf c k) 0 (omega arith)) (go (ltb 0 (c .live)) (eqb (rankOf c k) 0))
+    where
+      none : (x : ℤ) → x +ℤ pos 0 ≡ x
+      none = split _ (λ a b. simp zed (omega arith))
+
+      still : (x : ℤ) → x *ℤ pos 0 ≡ pos 0
+      still = split _ (λ a b. simp zed (omega arith))
+
+      go : (b t : Bool) → light k *ℤ pos 1 +ℤ cond b (cond t (unit (weightOf c k) *ℤ pos 0) (pos 0)) (pos 0) ≡ light k *ℤ pos 1
+      go false t = none _
+      go true false = none _
+      go true true = rw (still (unit (weightOf c k))) (none _)
+
+  corner-amount : (d : List ℤ) (a : Answer) → Cornered s d a → (k : ℕ) → k < p .count → amountAt a k ≡ record { p = light k; q = 1 }
+  corner-amount d a h k l = h .point-is .counted k (in-box k l) ∙ ap (λ z. lowest z 1) (corner-numerator k) ∙ lowest-one (light k) 1 (omega arith)
+
+  corner-reads : (d : List ℤ) (a : Answer) → Cornered s d a → Reads I 1 (pointOf a) light
+  corner-reads d a h k l = rw (corner-amount d a h k l) (record { eq = refl })
+
+  pub unbounded-corner : (r : RayReply) (a : Answer) → pos 0 ≤ℤ begun (s .cols) (s .ends) .room → RayFound p r → r .found ≡ true → Cornered s (r .steps) a → Answers I a
+  unbounded-corner r a fits found y h = rw (h .kind-is) (record {
+    unbounded = rw (h .steps-are) (corner-unbounded p r lo hi light (pointOf a) range found y corner (corner-reads (r .steps) a h) (corner-fits fits));
+    shown = corner-shown I (ranges-of p range) lo hi light corner (amountAt a) (corner-amount (r .steps) a h);
+    steps = rw (h .steps-are) (found .small);
+  })
+
+  -- ---- a search that found nothing
+
+  pub infeasible-searched : (r : RayReply) (b : Incumbent) → RayFound p r → r .found ≡ false → Searched s b → b .found ≡ false → Answers I (bare kind.Infeasible)
+  infeasible-searched r b ray n g y = (bridge-infeasible I (reach-empty I (ranges-of p range) (ray .none n) (box-empty p s q (g .empty y (λ k. itemAt p k .mark) (q .marked)))), refl)
+
+  -- ---- a search that found a place
+
+  module _ (b : Incumbent) (g : Searched s b) (y : b .found ≡ true) where
+    abbrev e : Ends
+    e = boxAt s (b .place)
+
+    abbrev f : Fill
+    f = fillAt s (b .place)
+
+    abbrev D : ℕ
+    D = valueAt s (b .place) .parts
+
+    abbrev N : ℕ → ℤ
+    N = solution (s .cols) e f
+
+    D≥1 : 1 ≤ D
+    D≥1 = subst (λ (v : Mixed). 1 ≤ v .parts) (g .parts-are y) (omega (arith, g .proper y .low))
+
+    best-box : Optimalᴰ (box p s q) D N
+    best-box = subst (λ (v : Mixed). Optimalᴰ (box p s q) (v .parts) N) (g .parts-are y) (g .optimal y (λ k. itemAt p k .mark) (q .marked))
+
+    best-value : valueᴰ I N ≡ over (valueAt s (b .place))
+    best-value = sym (box-is-shut p s q D N .1) ∙ g .value-is y (λ k. itemAt p k .mark) (q .marked) ∙ ap over (g .parts-are y)
+
+    amount-small : (k : ℕ) → k < p .count → natAbs (N k) ≤ 300000000 * D
+    amount-small k l = near-zero (lo k) (hi k) (N k) D (q .ready .sized .ends .lo-in k) (q .ready .sized .ends .hi-in k) (best-box .feasible .keeps k (in-box k l) .above) (best-box .feasible .keeps k (in-box k l) .below)
+
+    module _ (a : Answer) (h : Best s (b .place) a) where
+      shows : (k : ℕ) → k < p .count → amountAt a k ≡ lowest (N k) D
+      shows k l = h .point-is .counted k (in-box k l)
+
+      reads : Reads I D (pointOf a) N
+      reads k l = rw (shows k l) (over-lowest (N k) D D≥1)
+
+      critical : (k : ℕ) → k < p .count → amountAt a k .q ≢ 1 → (rankOf c k ≡ f .at) × (f .at < c .live)
+      critical k l n = go (whole-or-critical (s .cols) e f D k)
+        where
+          go : (N k ≡ stand (s .cols) e (f .at) k *ℤ pos D) ⊎ ((rankOf c k ≡ f .at) × (f .at < c .live)) → (rankOf c k ≡ f .at) × (f .at < c .live)
+          go (inl x) = absurd (n (ap (λ (z : Fraction). z .q) (shows k l) ∙ ap (λ z. lowest z D .q) x ∙ lowest-whole (stand (s .cols) e (f .at) k) D D≥1))
+          go (inr x) = x
+
+      shown : Shown I (amountAt a)
+      shown = record {
+        small = λ k l. rw (shows k l) (lowest-small (N k) D D≥1 (amount-small k l));
+        divisor = λ k l. rw (shows k l) (lowest-den (N k) D D≥1);
+        lowest = λ k l. rw (shows k l) (lowest-coprime (N k) D D≥1);
+        single = λ j k l m nj nk. sym (q .ready .ordered .item-rank j (in-box j l)) ∙ ap (itemOf c) (critical j l nj .0 ∙ sym (critical k m nk .0)) ∙ q .ready .ordered .item-rank k (in-box k m);
+        divides = λ k l n. subst₂ Divides (ap (λ (z : Fraction). z .q) (sym (shows k l))) (parts-critical (s .cols) f (q .ready .ordered) k (in-box k l) (critical k l n .0) (critical k l n .1) ∙ ap natAbs (q .weights k l)) (lowest-divides (N k) D D≥1);
+      }
+
+      pub optimal-found : (r : RayReply) → RayFound p r → r .found ≡ false → Answers I a
+      optimal-found r ray n = rw (h .kind-is) (record {
+        optimal = bridge-optimal I D (pointOf a) N D≥1 reads (reach-optimal I (ranges-of p range) (ray .none n) D N (box-optimal p s q D N best-box));
+        shown = shown;
+        exact = rw (h .value-is) (over-≈ (over-lowest (over (valueAt s (b .place))) D D≥1) (over-total D (p .count) (pointOf a) N reads (prices I)) D≥1 (sym best-value));
+        divisor = rw (h .value-is) (lowest-den (over (valueAt s (b .place))) D D≥1);
+        lowest = rw (h .value-is) (lowest-coprime (over (valueAt s (b .place))) D D≥1);
+      })

@@ -1,0 +1,49 @@
+-- The answers that a search and a ray are turned into.
+--   Joinable v        the value v fits one number of parts
+--   Cornered s d a    a shows the light ends of the box, and the steps d
+--   Best s x a        a shows the relaxation of the place x, and its value in lowest terms
+use mathlib.Core.Path.{_≡_}
+use mathlib.Core.List.{List}
+use Prim.Native.Nat.{ℕ, _≤_}
+use lib.IntN.{ℤ, pos, _*ℤ_}
+use Rattle.arith.specs.Within.{Within}
+use Rattle.arith.specs.Gcd.{lowest}
+use Rattle.arith.specs.declared.Mixed.{Mixed}
+use Rattle.arith.proofs.Mixes.{over}
+use Rattle.amounts.specs.Amounts.{Amounts}
+use Rattle.greedy.specs.declared.Ends.{Ends}
+use Rattle.greedy.specs.declared.Fill.{Fill}
+use Rattle.greedy.specs.Fill.{at, fill, bound}
+use Rattle.knapsack.specs.declared.Answer.{Answer}
+use Rattle.knapsack.specs.declared.Kind.the-variants as kind
+use Rattle.search.specs.declared.Setting.{Setting}
+use Rattle.search.specs.Search.{fixedBy}
+
+pub record Joinable (v : Mixed) : Type 0 where
+  pub whole-in : Within 201000000000000000 (v .whole)
+  pub product-in : Within 500000000000000000 (v .whole *ℤ pos (v .parts))
+  pub part-in : v .part ≤ 1000
+  pub parts-in : v .parts ≤ 1000
+
+abbrev pub unfilled : Fill
+unfilled = record { at = 0; room = pos 0; worth = pos 0 }
+
+pub record Cornered (s : Setting) (d : List ℤ) (a : Answer) : Type 0 where
+  pub kind-is : a .kind ≡ kind.Unbounded
+  pub point-is : Amounts (s .cols) (s .ends) unfilled 1 (a .point)
+  pub steps-are : a .steps ≡ d
+
+-- the box of the place, what its filling is, and its value
+abbrev pub boxAt : Setting → List ℤ → Ends
+boxAt s x = fixedBy s (at x) (s .levels)
+
+abbrev pub fillAt : Setting → List ℤ → Fill
+fillAt s x = fill (s .cols) (boxAt s x)
+
+abbrev pub valueAt : Setting → List ℤ → Mixed
+valueAt s x = bound (s .cols) (fillAt s x)
+
+pub record Best (s : Setting) (x : List ℤ) (a : Answer) : Type 0 where
+  pub kind-is : a .kind ≡ kind.Optimal
+  pub point-is : Amounts (s .cols) (boxAt s x) (fillAt s x) (valueAt s x .parts) (a .point)
+  pub value-is : a .value ≡ lowest (over (valueAt s x)) (valueAt s x .parts)

@@ -1,0 +1,121 @@
+// The planner: from a record to its answer. Paper 01, "The problem" and what it owes for each record: optimal, infeasible and
+// unbounded are said exactly when they are true, and a record out of range is refused.
+use amounts::amounts;
+use arith::Fraction;
+use arith::Mixed;
+use arith::reduce;
+use greedy::Fill;
+use greedy::begin;
+use greedy::bound_of;
+use greedy::fill_up;
+use knapsack::Answer;
+use knapsack::Kind;
+use knapsack::Problem;
+use knapsack::Verdict;
+use knapsack::check_record;
+use pairing::pairs_of;
+use prepare::prepare;
+use rays::find_ray;
+use search::Setting;
+use search::fixed;
+use search::run;
+ghost use mathlib.Core.Path.{_≡_};
+ghost use Rattle.arith.proofs.Mixes.{over};
+ghost use Rattle.greedy.specs.Fill.{at};
+ghost use Rattle.greedy.specs.Sized.{Sized};
+ghost use Rattle.knapsack.specs.Records.{InRange};
+ghost use Rattle.knapsack.specs.Meaning.{instanceOf, bare, Answers, Planned};
+ghost use Rattle.search.specs.Ready.{ReadySetting, Inside};
+ghost use Rattle.planner.specs.Outcomes.{Joinable, Cornered, Best};
+
+// A value as one number of parts.
+fn joined(v: Mixed) -> i64
+    requires { ⌜ Joinable v ⌝ }
+    ensures { λ r. ⌜ r ≡ over v ⌝ }
+{
+    v.whole * (v.parts as i64) + (v.part as i64)
+}
+
+// An answer with no point.
+fn no_point(k: Kind) -> Answer
+    ensures { λ r. ⌜ r ≡ bare k ⌝ }
+{
+    Answer {
+        kind: k,
+        point: [Fraction { p: 0, q: 1 }; 16],
+        steps: [0; 16],
+        value: Fraction { p: 0, q: 1 },
+    }
+}
+
+// The answer of a ray: its steps, from the point where every item is lightest.
+fn unbounded(s: Setting, steps: [i64; 16]) -> Answer
+    requires { ⌜ Sized (s .cols) (s .ends) ⌝ }
+    ensures { λ r. ⌜ Cornered s steps r ⌝ }
+{
+    let f = Fill { at: 0, room: 0, worth: 0 };
+    let x = amounts(s.cols, s.ends, f, 1);
+    let point = x.point;
+    Answer {
+        kind: Kind::Unbounded,
+        point: point,
+        steps: steps,
+        value: Fraction { p: 0, q: 1 },
+    }
+}
+
+// The answer of the place x of a search.
+fn optimal(s: Setting, x: [i64; 16]) -> Answer
+    requires { ⌜ ReadySetting s × Inside s (at x) ⌝ }
+    ensures { λ r. ⌜ Best s x r ⌝ }
+{
+    let e = fixed(s, x, s.levels);
+    let f = fill_up(s.cols, e);
+    let v = bound_of(s.cols, f);
+    let y = amounts(s.cols, e, f, v.parts);
+    let n = joined(v);
+    let value = reduce(n, v.parts);
+    let point = y.point;
+    Answer {
+        kind: Kind::Optimal,
+        point: point,
+        steps: [0; 16],
+        value: value,
+    }
+}
+
+// The answer of a problem in range.
+pub fn solve(p: Problem) -> Answer
+    requires { ⌜ InRange p ⌝ }
+    ensures { λ r. ⌜ Answers (instanceOf p) r ⌝ }
+{
+    let s = prepare(p);
+    let f = begin(s.cols, s.ends);
+    if f.room < 0 {
+        return no_point(Kind::Infeasible);
+    }
+    let ray = find_ray(p);
+    if ray.found {
+        let steps = ray.steps;
+        return unbounded(s, steps);
+    }
+    let pairs = pairs_of(p);
+    let q = run(s, pairs);
+    let best = q.best;
+    if best.found {
+        let place = best.place;
+        return optimal(s, place);
+    }
+    no_point(Kind::Infeasible)
+}
+
+// The planner's reply to any record.
+pub fn plan(p: Problem) -> Answer
+    ensures { λ r. ⌜ Planned p r ⌝ }
+{
+    let v = check_record(p);
+    match v {
+        Verdict::Accepted => solve(p),
+        Verdict::Refused(f) => no_point(Kind::Refused(f)),
+    }
+}
