@@ -37,7 +37,7 @@ fn joined(v: Mixed) -> i64
 }
 
 // An answer with no point.
-fn no_point(k: Kind) -> Answer
+pub fn no_point(k: Kind) -> Answer
     ensures { λ r. ⌜ r ≡ bare k ⌝ }
 {
     Answer {

@@ -1,0 +1,90 @@
+use denote.Ref.{now}
+use lib.IntN.{pos}
+use mir.Syntax.{w64}
+use mir.Val.{ofZ, toZ}
+use Rattle.lines.specs.Lines.{pairLine, prices}
+use Rattle.lines.specs.declared.number.Figure.the-variants.{In}
+use Rattle.lines.specs.declared.Pair.the-variants.{Numbers}
+use Rattle.lines.specs.Lines.{boundRead}
+use mathlib.Core.Path.{_≡_, sym, ap, _∙_}
+use Rattle.arith.proofs.Words.{back}
+use Rattle.arith.proofs.Parts.{cast-in}
+use Rattle.arith.proofs.Integers.{≤ℤ-trans}
+use Rattle.lines.proofs.Shapes.{pair-range}
+use lib.Signed.{leZ-yes}
+use borrow.Author.Tests.{le-leb, lt-leb}
+use borrow.Author.Needs.{needs}
+use Rattle.lines.proofs.bound_at.Statement.{statement}
+use Rattle.lines.proofs.bound_at.Tie as tie
+
+bound-line-requires : tie.Need-bound-line-requires
+bound-line-requires c κs = search needs
+
+enum-told : tie.Need-enum-told
+enum-told c = search needs
+
+enum-known-l : tie.Need-enum-known-l
+enum-known-l c = search needs
+
+enum-told-2 : tie.Need-enum-told-2
+enum-told-2 c = search needs
+
+enum-known-f : tie.Need-enum-known-f
+enum-known-f c = search needs
+
+abbrev start : tie.After-known-told2 → tie.Start
+start c = c .before .before .before .before .before .before .before .before
+
+back-z : (c : tie.After-known-told2) → toZ w64 (ofZ w64 (c .before .f .given .0 .0)) ≡ c .before .f .given .0 .0
+back-z c = back _ (c .known-told2 .given .0 .1)
+
+-- the line that was read
+read : (c : tie.After-known-told2) →
+    let k = c .before .before .before .before in
+    pairLine (record { lo = pos 1; hi = pos (start c .args .count) }) prices (now (start c .args .s)) (start c .args .at)
+    ≡ Numbers (In (c .before .f .given .0 .0)) (k .l .given .0 .1 .0) (k .l .given .0 .1 .1 .0)
+read c =
+    let k = c .before .before .before .before in
+    sym (k .before .before .bound-line .ensures)
+    ∙ k .l .given .1
+    ∙ ap (λ x. Numbers x (k .l .given .0 .1 .0) (k .l .given .0 .1 .1 .0)) (c .before .f .given .1)
+
+cast-k : tie.Need-cast-k
+cast-k c = rw (back-z c) (cast-in (≤ℤ-trans (leZ-yes tt) (pair-range _ _ _ _ _ _ _ (read c) .0)) (record { sfits = c .known-told2 .given .0 .1 }))
+
+returns : tie.Need-returns
+unfolding boundRead
+returns c = rw (read (c .before), le-leb _ _ (rw (back-z (c .before)) at (c .if1 .taken)))
+
+bound-of-requires : tie.Need-bound-of-requires
+bound-of-requires c κs = search needs
+
+returns-2 : tie.Need-returns-2
+unfolding boundRead
+returns-2 c = rw (sym (c .before .before .bound-line .ensures) ∙ c .enum-told .given .1)
+
+returns-3 : tie.Need-returns-3
+unfolding boundRead
+returns-3 c = let k = c .before .before in rw (sym (k .before .before .before .bound-line .ensures) ∙ k .before .l .given .1, c .enum-told2 .given .1)
+
+returns-4 : tie.Need-returns-4
+unfolding boundRead
+returns-4 c =
+    rw (read (c .before .before), lt-leb _ _ (rw (back-z (c .before .before)) at (c .before .if1 .left)))
+    (rw (back-z (c .before .before)) at (c .bound-of .ensures))
+
+pub bound-at-spec : {M : Type 1} → statement M
+bound-at-spec =
+    tie.close
+    (tie.spec
+    bound-line-requires
+    enum-told
+    enum-known-l
+    enum-told-2
+    enum-known-f
+    cast-k
+    returns
+    bound-of-requires
+    returns-2
+    returns-3
+    returns-4)

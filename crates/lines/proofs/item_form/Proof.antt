@@ -1,0 +1,59 @@
+use Rattle.lines.specs.Lines.{itemLine}
+use mathlib.Core.Path.{sym, _∙_}
+use borrow.Author.Needs.{needs}
+use Rattle.lines.proofs.item_form.Statement.{statement}
+use Rattle.lines.proofs.item_form.Tie as tie
+
+mark-field-requires : tie.Need-mark-field-requires
+mark-field-requires c κs = search needs
+
+enum-told : tie.Need-enum-told
+enum-told c = search needs
+
+enum-known-m : tie.Need-enum-known-m
+enum-known-m c = search needs
+
+pair-line-requires : tie.Need-pair-line-requires
+pair-line-requires c κs = search needs
+
+enum-told-2 : tie.Need-enum-told-2
+enum-told-2 c = search needs
+
+enum-known-p : tie.Need-enum-known-p
+enum-known-p c = search needs
+
+returns : tie.Need-returns
+unfolding itemLine
+returns c = rw (sym (c .before .before .mark-field .ensures) ∙ c .enum-told .given .1)
+
+returns-2 : tie.Need-returns-2
+unfolding itemLine
+returns-2 c =
+    let k = c .before .before .before in
+    rw (
+      sym (k .before .before .before .mark-field .ensures) ∙ k .before .m .given .1,
+      sym (c .before .before .pair-line .ensures) ∙ c .enum-told2 .given .1,
+    )
+
+returns-3 : tie.Need-returns-3
+unfolding itemLine
+returns-3 c =
+    let k = c .before .before .before .before in
+    rw (
+      sym (k .before .before .before .mark-field .ensures) ∙ k .before .m .given .1,
+      sym (c .before .before .before .pair-line .ensures) ∙ c .before .p .given .1,
+    )
+
+pub item-form-spec : {M : Type 1} → statement M
+item-form-spec =
+    tie.close
+    (tie.spec
+    mark-field-requires
+    enum-told
+    enum-known-m
+    pair-line-requires
+    enum-told-2
+    enum-known-p
+    returns
+    returns-2
+    returns-3)

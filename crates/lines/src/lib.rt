@@ -1,0 +1,216 @@
+// The lines of a sheet (paper 01, "The sheet", "Refused, by place"): places and numbers in the sheet's bytes, the form of a line, and
+// then what its values must be. A line's answer is an enum: its values and the place behind it, or the number of its refusal.
+pub mod text; // places, words, line ends; the part that holds a line
+pub mod number; // numbers of any length
+
+use crate::number::Field;
+use crate::number::Figure;
+use crate::number::Range;
+use crate::text::Place;
+use knapsack::Bound;
+use knapsack::Item;
+use knapsack::Mark;
+ghost use mathlib.Core.Path.{_≡_};
+ghost use Prim.Native.Nat.{_≤_};
+ghost use lib.IntN.{pos};
+ghost use lib.Signed.{_≤ℤ_};
+ghost use Rattle.lines.specs.Numbers.{Narrow};
+ghost use Rattle.lines.specs.Lines.{headingLine, pairLine, markAt, itemLine, prices, countAt, itemOf, itemRead, boundOf, boundRead};
+ghost use Rattle.lines.specs.declared.ItemLine.{ItemLine};
+
+pub enum Pair {
+    Malformed,
+    Numbers(Figure, Figure, usize),
+}
+
+pub enum Marked {
+    Malformed,
+    Mark(Mark, usize),
+}
+
+pub enum ItemLine {
+    Malformed,
+    Item(Mark, Figure, Figure, usize),
+}
+
+// What a line is told: the number of its refusal, or its values and the place behind it.
+pub enum Count {
+    Fault(u64),
+    Lines(usize, usize),
+}
+
+pub enum ItemRead {
+    Fault(u64),
+    Read(Item, usize),
+}
+
+pub enum BoundRead {
+    Fault(u64),
+    Read(usize, i64, usize),
+}
+
+fn heading_line(s: &[u8], at: usize, word: &[u8], range: Range) -> Field
+    requires { ⌜ Narrow range ⌝ }
+    ensures { λ r. ⌜ r ≡ headingLine (now (word .entry)) range (now (s .entry)) at ⌝ }
+{
+    let w = crate::text::after_word(s, at, word);
+    match w {
+        Place::Nothing => Field::Malformed,
+        Place::At(b) => {
+            let p = crate::text::after_byte(s, b, b' ');
+            match p {
+                Place::Nothing => Field::Malformed,
+                Place::At(next) => crate::number::closed_number(s, next, range, b'\n'),
+            }
+        }
+    }
+}
+
+fn pair_line(s: &[u8], at: usize, first: Range, second: Range) -> Pair
+    requires { ⌜ Narrow first × Narrow second ⌝ }
+    ensures { λ r. ⌜ r ≡ pairLine first second (now (s .entry)) at ⌝ }
+{
+    let f = crate::number::closed_number(s, at, first, b' ');
+    match f {
+        Field::Malformed => Pair::Malformed,
+        Field::Number(x, next) => {
+            let g = crate::number::closed_number(s, next, second, b'\n');
+            match g {
+                Field::Malformed => Pair::Malformed,
+                Field::Number(y, end) => Pair::Numbers(x, y, end),
+            }
+        }
+    }
+}
+
+fn mark_field(s: &[u8], at: usize) -> Marked
+    ensures { λ r. ⌜ r ≡ markAt (now (s .entry)) at ⌝ }
+{
+    let w = crate::text::after_word(s, at, b"W ");
+    match w {
+        Place::At(next) => Marked::Mark(Mark::Integer, next),
+        Place::Nothing => {
+            let l = crate::text::after_word(s, at, b"L ");
+            match l {
+                Place::At(next) => Marked::Mark(Mark::Continuous, next),
+                Place::Nothing => Marked::Malformed,
+            }
+        }
+    }
+}
+
+fn item_form(s: &[u8], at: usize) -> ItemLine
+    ensures { λ r. ⌜ r ≡ itemLine (now (s .entry)) at ⌝ }
+{
+    let m = mark_field(s, at);
+    match m {
+        Marked::Malformed => ItemLine::Malformed,
+        Marked::Mark(mark, next) => {
+            let weights = Range {
+                lo: -1000,
+                hi: 1000,
+            };
+            let prices = Range {
+                lo: -10_000,
+                hi: 10_000,
+            };
+            let p = pair_line(s, next, weights, prices);
+            match p {
+                Pair::Malformed => ItemLine::Malformed,
+                Pair::Numbers(a, c, end) => ItemLine::Item(mark, a, c, end),
+            }
+        }
+    }
+}
+
+// The count of a heading: 2 for its form, 3 outside the range.
+pub fn heading(s: &[u8], at: usize, word: &[u8], range: Range) -> Count
+    requires { ⌜ Narrow range × (pos 0 ≤ℤ range .lo) ⌝ }
+    ensures { λ r. ⌜ r ≡ countAt (now (word .entry)) range (now (s .entry)) at ⌝ }
+{
+    let f = heading_line(s, at, word, range);
+    match f {
+        Field::Malformed => Count::Fault(2),
+        Field::Number(g, next) => match g {
+            Figure::Out => Count::Fault(3),
+            Figure::In(n) => Count::Lines(n as usize, next),
+        },
+    }
+}
+
+fn item_of(mark: Mark, weight: Figure, price: Figure, next: usize) -> ItemRead
+    ensures { λ r. ⌜ r ≡ itemOf (ItemLine.Item mark weight price next) ⌝ }
+{
+    match weight {
+        Figure::Out => ItemRead::Fault(4),
+        Figure::In(a) => match price {
+            Figure::Out => ItemRead::Fault(4),
+            Figure::In(c) => {
+                let item = Item {
+                    mark,
+                    weight: a,
+                    price: c,
+                    lower: Bound::Absent,
+                    upper: Bound::Absent,
+                };
+                ItemRead::Read(item, next)
+            }
+        },
+    }
+}
+
+// An item: 2 for the line's form, 4 for its weight and then its price.
+pub fn item_at(s: &[u8], at: usize) -> ItemRead
+    ensures { λ r. ⌜ r ≡ itemRead (now (s .entry)) at ⌝ }
+{
+    let l = item_form(s, at);
+    match l {
+        ItemLine::Malformed => ItemRead::Fault(2),
+        ItemLine::Item(mark, a, c, next) => item_of(mark, a, c, next),
+    }
+}
+
+fn bound_of(k: usize, v: Figure, next: usize) -> BoundRead
+    ensures { λ r. ⌜ r ≡ boundOf k v next ⌝ }
+{
+    match v {
+        Figure::Out => BoundRead::Fault(4),
+        Figure::In(z) => BoundRead::Read(k, z, next),
+    }
+}
+
+fn bound_line(s: &[u8], at: usize, count: usize) -> Pair
+    requires { ⌜ count ≤ 16 ⌝ }
+    ensures { λ r. ⌜ r ≡ pairLine (record { lo = pos 1; hi = pos count }) prices (now (s .entry)) at ⌝ }
+{
+    let numbers = Range {
+        lo: 1,
+        hi: count as i64,
+    };
+    let bounds = Range {
+        lo: -10_000,
+        hi: 10_000,
+    };
+    pair_line(s, at, numbers, bounds)
+}
+
+// An item number and its bound: 2 for the line's form, 5 for the number, 4 for the bound.
+pub fn bound_at(s: &[u8], at: usize, count: usize, before: usize) -> BoundRead
+    requires { ⌜ count ≤ 16 ⌝ }
+    ensures { λ r. ⌜ r ≡ boundRead count before (now (s .entry)) at ⌝ }
+{
+    let l = bound_line(s, at, count);
+    match l {
+        Pair::Malformed => BoundRead::Fault(2),
+        Pair::Numbers(f, v, next) => match f {
+            Figure::Out => BoundRead::Fault(5),
+            Figure::In(z) => {
+                let k = z as usize;
+                if k <= before {
+                    return BoundRead::Fault(5);
+                }
+                bound_of(k, v, next)
+            }
+        },
+    }
+}

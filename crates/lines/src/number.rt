@@ -1,0 +1,150 @@
+// Numbers as a sheet writes them: `0`, or an optional minus, a digit 1 to 9 and further digits, of any length.
+use crate::text::Place;
+ghost use mathlib.Core.Path.{_≡_};
+ghost use Prim.Native.Nat.{_+_, _*_, _-_, _≤_, min};
+ghost use lib.ListN.{drop};
+ghost use Rattle.lines.specs.Text.{byteAt};
+ghost use Rattle.lines.specs.Numbers.{Narrow, isLeading, digitCount, valueAfter, signedOf, unsignedAt, numberAt, figure, inRange, fieldAt};
+
+// The numbers from lo to hi.
+pub struct Range {
+    pub lo: i64,
+    pub hi: i64,
+}
+
+// A number, if it lies in the range that was asked for.
+pub enum Figure {
+    In(i64),
+    Out,
+}
+
+// What stands in a number's place, and the place behind it.
+pub enum Field {
+    Malformed,
+    Number(Figure, usize),
+}
+
+// A run of digits: what it writes, or 1,000,000,000 where that is more, and the place behind it.
+pub struct Digits {
+    pub value: u64,
+    pub next: usize,
+}
+
+// One digit more. The value stops at 1,000,000,000, beyond every range.
+fn push(value: u64, digit: u8) -> u64
+    requires { ⌜ (value ≤ 1000000000) × (48 ≤ digit) ⌝ }
+    ensures { λ r. ⌜ r ≡ min (10 * value + (digit - 48)) 1000000000 ⌝ }
+{
+    let v = 10 * value + (digit - 48) as u64;
+    if v < 1_000_000_000 { v } else { 1_000_000_000 }
+}
+
+fn digits_from(s: &[u8], from: usize) -> Digits
+    ensures { λ r. ⌜ (r .value ≡ min (valueAfter 0 (drop from (now (s .entry)))) 1000000000) × (r .next ≡ from + digitCount (drop from (now (s .entry)))) ⌝ }
+{
+    let mut value: u64 = 0;
+    let mut at = from;
+    while at < s.len() {
+        let b = s[at];
+        if b < 48 {
+            return Digits { value, next: at };
+        }
+        if 57 < b {
+            return Digits { value, next: at };
+        }
+        value = push(value, b);
+        at += 1;
+    }
+    Digits { value, next: at }
+}
+
+fn ranged(z: i64, range: Range) -> Figure
+    ensures { λ r. ⌜ r ≡ figure range z ⌝ }
+{
+    let lo = range.lo;
+    let hi = range.hi;
+    if z < lo {
+        return Figure::Out;
+    }
+    if hi < z {
+        return Figure::Out;
+    }
+    Figure::In(z)
+}
+
+fn signed(negative: bool, n: u64) -> i64
+    requires { ⌜ n ≤ 1000000000 ⌝ }
+    ensures { λ r. ⌜ r ≡ signedOf negative n ⌝ }
+{
+    if negative { 0 - (n as i64) } else { n as i64 }
+}
+
+// Whether a digit 1 to 9 stands at a place.
+fn leads(s: &[u8], at: usize) -> bool
+    ensures { λ r. ⌜ r ≡ isLeading (byteAt (now (s .entry)) at) ⌝ }
+{
+    if s.len() <= at {
+        return false;
+    }
+    let b = s[at];
+    if b < 49 {
+        return false;
+    }
+    if 57 < b {
+        return false;
+    }
+    true
+}
+
+// The number behind its sign.
+fn unsigned(s: &[u8], at: usize, negative: bool, range: Range) -> Field
+    requires { ⌜ Narrow range ⌝ }
+    ensures { λ r. ⌜ r ≡ inRange range (unsignedAt negative (now (s .entry)) at) ⌝ }
+{
+    if leads(s, at) {
+        let d = digits_from(s, at);
+        let z = signed(negative, d.value);
+        let f = ranged(z, range);
+        Field::Number(f, d.next)
+    } else {
+        Field::Malformed
+    }
+}
+
+fn number(s: &[u8], at: usize, range: Range) -> Field
+    requires { ⌜ Narrow range ⌝ }
+    ensures { λ r. ⌜ r ≡ inRange range (numberAt (now (s .entry)) at) ⌝ }
+{
+    let zero = crate::text::after_byte(s, at, b'0');
+    match zero {
+        Place::At(next) => {
+            let f = ranged(0, range);
+            Field::Number(f, next)
+        }
+        Place::Nothing => {
+            let minus = crate::text::after_byte(s, at, b'-');
+            match minus {
+                Place::At(next) => unsigned(s, next, true, range),
+                Place::Nothing => unsigned(s, at, false, range),
+            }
+        }
+    }
+}
+
+// A number and the byte that closes it.
+pub fn closed_number(s: &[u8], at: usize, range: Range, close: u8) -> Field
+    requires { ⌜ Narrow range ⌝ }
+    ensures { λ r. ⌜ r ≡ fieldAt close range (now (s .entry)) at ⌝ }
+{
+    let f = number(s, at, range);
+    match f {
+        Field::Malformed => Field::Malformed,
+        Field::Number(g, next) => {
+            let p = crate::text::after_byte(s, next, close);
+            match p {
+                Place::Nothing => Field::Malformed,
+                Place::At(n) => Field::Number(g, n),
+            }
+        }
+    }
+}

@@ -1,0 +1,153 @@
+// Places in a text, and its lines: paper 01, "The sheet", the part that holds a line.
+use knapsack::Refusal;
+use knapsack::Verdict;
+ghost use mathlib.Core.Path.{_≡_};
+ghost use lib.ListN.{drop};
+ghost use Rattle.lines.specs.Text.{afterByte, afterWord, firstEnd, lineOf, closedLine, askedLine, linePart, checkLine};
+
+// A place of the text, where there is one.
+pub enum Place {
+    Nothing,
+    At(usize),
+}
+
+// A line that the text closes: its bytes stand from the first place up to the second, where its byte 10 is.
+pub enum Span {
+    Nothing,
+    Line(usize, usize),
+}
+
+// The first byte 10 from a place on.
+pub fn first_line_end(s: &[u8], from: usize) -> Place
+    ensures { λ r. ⌜ r ≡ firstEnd from (drop from (now (s .entry))) ⌝ }
+{
+    let mut at = from;
+    while at < s.len() {
+        if s[at] == 10 {
+            return Place::At(at);
+        }
+        at += 1;
+    }
+    Place::Nothing
+}
+
+// The place behind a byte, if it stands at the place.
+pub fn after_byte(s: &[u8], at: usize, b: u8) -> Place
+    ensures { λ r. ⌜ r ≡ afterByte (now (s .entry)) at b ⌝ }
+{
+    if s.len() <= at {
+        return Place::Nothing;
+    }
+    if s[at] == b {
+        Place::At(at + 1)
+    } else {
+        Place::Nothing
+    }
+}
+
+// The place behind a word, if it stands at the place.
+pub fn after_word(s: &[u8], from: usize, w: &[u8]) -> Place
+    ensures { λ r. ⌜ r ≡ afterWord (now (s .entry)) from (now (w .entry)) ⌝ }
+{
+    let mut at = from;
+    let mut i: usize = 0;
+    while i < w.len() {
+        let p = after_byte(s, at, w[i]);
+        match p {
+            Place::Nothing => {
+                return Place::Nothing;
+            }
+            Place::At(next) => {
+                at = next;
+            }
+        }
+        i += 1;
+    }
+    Place::At(at)
+}
+
+// The number of the line that holds a place.
+pub fn line_at(s: &[u8], at: usize) -> u64
+    ensures { λ r. ⌜ r ≡ lineOf (now (s .entry)) at ⌝ }
+{
+    let mut line: u64 = 1;
+    let mut from: usize = 0;
+    loop {
+        let p = first_line_end(s, from);
+        match p {
+            Place::Nothing => {
+                return line;
+            }
+            Place::At(e) => {
+                if at <= e {
+                    return line;
+                }
+                line += 1;
+                from = e + 1;
+            }
+        }
+    }
+}
+
+// The line behind n line ends.
+fn closed_line(s: &[u8], n: u64) -> Span
+    ensures { λ r. ⌜ r ≡ closedLine n (now (s .entry)) 0 ⌝ }
+{
+    let mut from: usize = 0;
+    let mut left = n;
+    loop {
+        let p = first_line_end(s, from);
+        match p {
+            Place::Nothing => {
+                return Span::Nothing;
+            }
+            Place::At(e) => {
+                if left == 0 {
+                    return Span::Line(from, e);
+                }
+                left -= 1;
+                from = e + 1;
+            }
+        }
+    }
+}
+
+fn asked_line(s: &[u8], line: u64) -> Span
+    ensures { λ r. ⌜ r ≡ askedLine (now (s .entry)) line ⌝ }
+{
+    if 4096 < s.len() {
+        return Span::Nothing;
+    }
+    if line == 0 {
+        return Span::Nothing;
+    }
+    closed_line(s, line - 1)
+}
+
+// A line of the sheet without its byte 10; empty where check_line refuses.
+pub fn line_part(s: &[u8], line: u64) -> &[u8]
+    ensures { λ r. ⌜ now r ≡ linePart (now (s .entry)) line ⌝ }
+{
+    let span = asked_line(s, line);
+    match span {
+        Span::Nothing => &s[0..0],
+        Span::Line(a, e) => &s[a..e],
+    }
+}
+
+// Whether line_part gives a line of the sheet.
+pub fn check_line(s: &[u8], line: u64) -> Verdict
+    ensures { λ r. ⌜ r ≡ checkLine (now (s .entry)) line ⌝ }
+{
+    if 4096 < s.len() {
+        return Verdict::Refused(Refusal { number: 1, line: 0 });
+    }
+    if line == 0 {
+        return Verdict::Refused(Refusal { number: 1, line: 0 });
+    }
+    let span = closed_line(s, line - 1);
+    match span {
+        Span::Nothing => Verdict::Refused(Refusal { number: 2, line }),
+        Span::Line(_, _) => Verdict::Accepted,
+    }
+}

@@ -1,0 +1,47 @@
+// From end to end: what is printed for a sheet, and the text of a record's reply in a lent buffer. Paper 01, "What `charge` prints"
+// and the text among the parts that stand in public.
+use knapsack::Answer;
+use knapsack::Kind;
+use knapsack::Problem;
+use knapsack::Verdict;
+use listing::Listed;
+use listing::Text;
+use listing::list_reply;
+use listing::text_of;
+use planner::no_point;
+use planner::plan;
+use sheet::Reading;
+use sheet::read;
+ghost use mathlib.Core.Path.{_≡_};
+ghost use Rattle.replies.specs.Replies.{Answered, Replies, Lists};
+
+// The answer of what was read.
+fn answered(r: Reading) -> Answer
+    ensures { λ a. ⌜ Answered r a ⌝ }
+{
+    let v = r.verdict;
+    let p = r.problem;
+    match v {
+        Verdict::Accepted => plan(p),
+        Verdict::Refused(f) => no_point(Kind::Refused(f)),
+    }
+}
+
+// What is printed for a sheet.
+pub fn reply_to(sheet: &[u8]) -> Text
+    ensures { λ t. ⌜ Replies (now (sheet .entry)) t ⌝ }
+{
+    let r = read(sheet);
+    let a = answered(r);
+    let p = r.problem;
+    text_of(a, p.count)
+}
+
+// The text of a record's reply in a lent buffer: its refusal, or refusal 11 if the buffer is too short, and no byte changes; else
+// the text at the start of the buffer, and the bytes behind it stay.
+pub fn list(p: Problem, out: &mut [u8]) -> Listed
+    ensures { λ r. ⌜ Lists p (now (out .entry)) (now (out .exit)) r ⌝ }
+{
+    let a = plan(p);
+    list_reply(a, p.count, out)
+}

@@ -1,0 +1,62 @@
+use Rattle.sheet.specs.Reading.{boundStep}
+use mathlib.Core.Path.{sym, _∙_}
+use native.Mathlib.Omega.{arith}
+use Rattle.arith.proofs.Words.{back}
+use Rattle.lines.proofs.Shapes.{bound-parts}
+use borrow.Author.Needs.{needs}
+use Rattle.sheet.proofs.bound_step.Statement.{statement}
+use Rattle.sheet.proofs.bound_step.Tie as tie
+
+enum-told : tie.Need-enum-told
+enum-told c = search needs
+
+enum-told-2 : tie.Need-enum-told-2
+enum-told-2 c = search needs
+
+bound-at-requires : tie.Need-bound-at-requires
+bound-at-requires c κs = search needs
+
+enum-known-r : tie.Need-enum-known-r
+enum-known-r c = search needs
+
+refused-requires : tie.Need-refused-requires
+refused-requires c κs = search needs
+
+enum-known-r-2 : tie.Need-enum-known-r-2
+enum-known-r-2 c = search needs
+
+with-bound-requires : tie.Need-with-bound-requires
+with-bound-requires c κs =
+    let k = c .before .before .before in let p = bound-parts _ _ _ _ _ _ _ (sym (k .bound-at .ensures) ∙ c .before .r2 .given .1) in omega arith
+
+returns : tie.Need-returns
+unfolding boundStep
+returns c = rw (c .enum-told .given .1)
+
+returns-2 : tie.Need-returns-2
+unfolding boundStep
+returns-2 c =
+    let k = c .before .before .before .before in
+    rw (k .before .before .enum-told2 .given .1, sym (k .bound-at .ensures) ∙ c .before .before .r .given .1) (c .refused .ensures)
+
+returns-3 : tie.Need-returns-3
+unfolding boundStep
+returns-3 c =
+    let k = c .before .before .before .before in
+    rw (k .before .before .enum-told2 .given .1, sym (k .bound-at .ensures) ∙ c .before .before .r2 .given .1)
+    (rw (back (c .before .before .r2 .given .0 .1 .0) (c .before .known-told2 .given .1 .0 .1)) at (c .with-bound .ensures))
+
+pub bound-step-spec : {M : Type 1} → statement M
+bound-step-spec =
+    tie.close
+    (tie.spec
+    enum-told
+    enum-told-2
+    bound-at-requires
+    enum-known-r
+    refused-requires
+    enum-known-r-2
+    with-bound-requires
+    returns
+    returns-2
+    returns-3)

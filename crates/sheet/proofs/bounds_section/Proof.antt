@@ -1,0 +1,67 @@
+use Rattle.sheet.specs.Reading.{boundsSection}
+use mathlib.Core.Path.{sym, _∙_}
+use native.Mathlib.Omega.{arith}
+use borrow.Author.Needs.{needs}
+use Rattle.sheet.proofs.bounds_section.Statement.{statement}
+use Rattle.sheet.proofs.bounds_section.Tie as tie
+
+enum-told : tie.Need-enum-told
+enum-told c = search needs
+
+enum-told-2 : tie.Need-enum-told-2
+enum-told-2 c = search needs
+
+bounds-heading-requires : tie.Need-bounds-heading-requires
+bounds-heading-requires c κs = search needs
+
+enum-known-c : tie.Need-enum-known-c
+enum-known-c c = search needs
+
+refused-requires : tie.Need-refused-requires
+refused-requires c κs = search needs
+
+enum-known-c-2 : tie.Need-enum-known-c-2
+enum-known-c-2 c = search needs
+
+from-place-requires : tie.Need-from-place-requires
+from-place-requires c κs = search needs
+
+bound-lines-requires : tie.Need-bound-lines-requires
+bound-lines-requires c κs = rw (c .from-place .ensures) (omega arith)
+
+returns : tie.Need-returns
+unfolding boundsSection
+returns c = rw (c .enum-told .given .1)
+
+returns-2 : tie.Need-returns-2
+unfolding boundsSection
+returns-2 c =
+    let k = c .before .before .before .before in
+    rw (k .before .before .enum-told2 .given .1, sym (k .bounds-heading .ensures) ∙ c .before .before .c .given .1) (c .refused .ensures)
+
+returns-3 : tie.Need-returns-3
+unfolding boundsSection
+returns-3 c =
+    let k = c .before .before .before .before .before in
+    rw (
+      k .before .before .enum-told2 .given .1,
+      sym (k .bounds-heading .ensures) ∙ c .before .before .before .c2 .given .1,
+      ← c .before .from-place .ensures,
+    )
+    (c .bound-lines .ensures)
+
+pub bounds-section-spec : {M : Type 1} → statement M
+bounds-section-spec =
+    tie.close
+    (tie.spec
+    enum-told
+    enum-told-2
+    bounds-heading-requires
+    enum-known-c
+    refused-requires
+    enum-known-c-2
+    from-place-requires
+    bound-lines-requires
+    returns
+    returns-2
+    returns-3)

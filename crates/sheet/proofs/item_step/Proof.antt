@@ -1,0 +1,57 @@
+use Rattle.sheet.specs.Reading.{itemStep}
+use mathlib.Core.Path.{sym, _∙_}
+use borrow.Author.Needs.{needs}
+use Rattle.sheet.proofs.item_step.Statement.{statement}
+use Rattle.sheet.proofs.item_step.Tie as tie
+
+enum-told : tie.Need-enum-told
+enum-told c = search needs
+
+enum-told-2 : tie.Need-enum-told-2
+enum-told-2 c = search needs
+
+item-at-requires : tie.Need-item-at-requires
+item-at-requires c κs = search needs
+
+enum-known-r : tie.Need-enum-known-r
+enum-known-r c = search needs
+
+refused-requires : tie.Need-refused-requires
+refused-requires c κs = search needs
+
+enum-known-r-2 : tie.Need-enum-known-r-2
+enum-known-r-2 c = search needs
+
+with-item-requires : tie.Need-with-item-requires
+with-item-requires c κs = search needs
+
+returns : tie.Need-returns
+unfolding itemStep
+returns c = rw (c .enum-told .given .1)
+
+returns-2 : tie.Need-returns-2
+unfolding itemStep
+returns-2 c =
+    let k = c .before .before .before .before in
+    rw (k .before .enum-told2 .given .1, sym (k .item-at .ensures) ∙ c .before .before .r .given .1) (c .refused .ensures)
+
+returns-3 : tie.Need-returns-3
+unfolding itemStep
+returns-3 c =
+    let k = c .before .before .before .before in
+    rw (k .before .enum-told2 .given .1, sym (k .item-at .ensures) ∙ c .before .before .r2 .given .1) (c .with-item .ensures)
+
+pub item-step-spec : {M : Type 1} → statement M
+item-step-spec =
+    tie.close
+    (tie.spec
+    enum-told
+    enum-told-2
+    item-at-requires
+    enum-known-r
+    refused-requires
+    enum-known-r-2
+    with-item-requires
+    returns
+    returns-2
+    returns-3)

@@ -1,0 +1,75 @@
+use Rattle.sheet.specs.Reading.{itemsSection}
+use mathlib.Core.Path.{sym, _∙_}
+use native.Mathlib.Omega.{arith}
+use Rattle.lines.proofs.Shapes.{count-parts}
+use Rattle.sheet.specs.Reading.{items}
+use borrow.Author.Needs.{needs}
+use Rattle.sheet.proofs.items_section.Statement.{statement}
+use Rattle.sheet.proofs.items_section.Tie as tie
+
+enum-told : tie.Need-enum-told
+enum-told c = search needs
+
+enum-told-2 : tie.Need-enum-told-2
+enum-told-2 c = search needs
+
+slice-aggregate-heading : tie.Need-slice-aggregate-heading
+slice-aggregate-heading c = search needs
+
+heading-requires : tie.Need-heading-requires
+heading-requires c κs = search needs
+
+enum-known-c : tie.Need-enum-known-c
+enum-known-c c = search needs
+
+refused-requires : tie.Need-refused-requires
+refused-requires c κs = search needs
+
+enum-known-c-2 : tie.Need-enum-known-c-2
+enum-known-c-2 c = search needs
+
+with-count-requires : tie.Need-with-count-requires
+with-count-requires c κs = search needs
+
+item-lines-requires : tie.Need-item-lines-requires
+item-lines-requires c κs =
+    let k = c .before .before .before .before in
+    rw (c .with-count .ensures) (omega (arith, count-parts items 1 16 _ _ _ _ (sym (k .heading .ensures) ∙ c .before .before .c2 .given .1) .most))
+
+returns : tie.Need-returns
+unfolding itemsSection
+returns c = rw (c .enum-told .given .1)
+
+returns-2 : tie.Need-returns-2
+unfolding itemsSection
+returns-2 c =
+    let k = c .before .before .before .before in
+    rw (k .before .before .enum-told2 .given .1, sym (k .heading .ensures) ∙ c .before .before .c .given .1) (c .refused .ensures)
+
+returns-3 : tie.Need-returns-3
+unfolding itemsSection
+returns-3 c =
+    let k = c .before .before .before .before .before in
+    rw (
+      k .before .before .enum-told2 .given .1,
+      sym (k .heading .ensures) ∙ c .before .before .before .c2 .given .1,
+      ← c .before .with-count .ensures,
+    )
+    (c .item-lines .ensures)
+
+pub items-section-spec : {M : Type 1} → statement M
+items-section-spec =
+    tie.close
+    (tie.spec
+    enum-told
+    enum-told-2
+    slice-aggregate-heading
+    heading-requires
+    enum-known-c
+    refused-requires
+    enum-known-c-2
+    with-count-requires
+    item-lines-requires
+    returns
+    returns-2
+    returns-3)

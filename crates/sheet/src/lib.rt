@@ -1,0 +1,457 @@
+// The sheet of paper 01: the reader ("The sheet", "Refused, by place"), and the part of a sheet that holds a line.
+// read gives every sheet its problem or its numbered refusal; line_part and check_line give a line for the display.
+// A line is read in two steps, its form and then its values (crate lines); a section is a loop over its lines.
+use knapsack::Bound;
+use knapsack::Item;
+use knapsack::Problem;
+use knapsack::Refusal;
+use knapsack::Verdict;
+use lines::BoundRead;
+use lines::Count;
+use lines::ItemRead;
+use lines::number::Field;
+use lines::number::Figure;
+use lines::number::Range;
+pub use lines::text::check_line;
+pub use lines::text::first_line_end;
+pub use lines::text::line_part;
+ghost use mathlib.Core.Path.{_≡_};
+ghost use Prim.Native.Nat.{_+_, _^_, _≤_, _<_};
+ghost use lib.IntN.{pos};
+ghost use Rattle.knapsack.specs.Records.{itemAt, crossed};
+ghost use Rattle.lines.specs.Lines.{countAt};
+ghost use Rattle.sheet.specs.Reading.{
+  wordOf,
+  stoppedBy,
+  refusedAt,
+  withCapacity,
+  capacityLine,
+  limitSection,
+  withCount,
+  withItem,
+  itemStep,
+  itemLines,
+  itemsSection,
+  bounded,
+  withBound,
+  boundStep,
+  boundLines,
+  fromPlace,
+  boundsSection,
+  endOfSheet,
+  upperLine,
+  crossFrom,
+  crossCheck,
+  wholeOf,
+  readSheet,
+};
+
+// The two sections of bounds.
+pub enum Side {
+    Lower,
+    Upper,
+}
+
+// What a sheet gives: its problem, or a refusal beside the empty record.
+pub struct Reading {
+    pub verdict: Verdict,
+    pub problem: Problem,
+}
+
+// A sheet read up to a place. item is the number of the section's last item so far, 0 at its start.
+pub struct Progress {
+    pub verdict: Verdict,
+    pub problem: Problem,
+    pub at: usize,
+    pub item: usize,
+}
+
+fn stopped(refusal: Refusal) -> Progress
+    ensures { λ r. ⌜ r ≡ stoppedBy refusal ⌝ }
+{
+    let problem = knapsack::empty_problem();
+    Progress {
+        verdict: Verdict::Refused(refusal),
+        problem,
+        at: 0,
+        item: 0,
+    }
+}
+
+// A refusal, told at the line that holds a place.
+fn refused(s: &[u8], number: u64, at: usize) -> Progress
+    ensures { λ r. ⌜ r ≡ refusedAt (now (s .entry)) number at ⌝ }
+{
+    let line = lines::text::line_at(s, at);
+    stopped(Refusal { number, line })
+}
+
+// ---- limit 1, and a line with b
+
+fn with_capacity(b: i64, next: usize) -> Progress
+    ensures { λ r. ⌜ r ≡ withCapacity b next ⌝ }
+{
+    let empty = knapsack::empty_problem();
+    let items = empty.items;
+    let problem = Problem {
+        items,
+        count: 0,
+        capacity: b,
+    };
+    Progress {
+        verdict: Verdict::Accepted,
+        problem,
+        at: next,
+        item: 0,
+    }
+}
+
+fn capacity_line(s: &[u8], at: usize) -> Progress
+    ensures { λ r. ⌜ r ≡ capacityLine (now (s .entry)) at ⌝ }
+{
+    let limits = Range {
+        lo: -100_000_000,
+        hi: 100_000_000,
+    };
+    let f = lines::number::closed_number(s, at, limits, b'\n');
+    match f {
+        Field::Malformed => refused(s, 2, at),
+        Field::Number(g, next) => match g {
+            Figure::Out => refused(s, 4, at),
+            Figure::In(b) => with_capacity(b, next),
+        },
+    }
+}
+
+fn limit_section(s: &[u8]) -> Progress
+    ensures { λ r. ⌜ r ≡ limitSection (now (s .entry)) ⌝ }
+{
+    let c = lines::heading(s, 0, b"limit", Range { lo: 1, hi: 1 });
+    match c {
+        Count::Fault(n) => refused(s, n, 0),
+        Count::Lines(_, next) => capacity_line(s, next),
+    }
+}
+
+// ---- items n, and n lines
+
+fn with_count(p: Progress, n: usize, next: usize) -> Progress
+    ensures { λ r. ⌜ r ≡ withCount p n next ⌝ }
+{
+    let q = p.problem;
+    let items = q.items;
+    let problem = Problem {
+        items,
+        count: n,
+        capacity: q.capacity,
+    };
+    Progress {
+        verdict: Verdict::Accepted,
+        problem,
+        at: next,
+        item: 0,
+    }
+}
+
+fn with_item(p: Progress, item: Item, next: usize) -> Progress
+    requires { ⌜ p .item < 16 ⌝ }
+    ensures { λ r. ⌜ r ≡ withItem p item next ⌝ }
+{
+    let q = p.problem;
+    let k = p.item;
+    let mut items = q.items;
+    items[k] = item;
+    let problem = Problem {
+        items,
+        count: q.count,
+        capacity: q.capacity,
+    };
+    Progress {
+        verdict: Verdict::Accepted,
+        problem,
+        at: next,
+        item: k + 1,
+    }
+}
+
+fn item_step(s: &[u8], p: Progress) -> Progress
+    requires { ⌜ p .item < 16 ⌝ }
+    ensures { λ r. ⌜ r ≡ itemStep (now (s .entry)) p ⌝ }
+{
+    let verdict = p.verdict;
+    match verdict {
+        Verdict::Refused(_) => p,
+        Verdict::Accepted => {
+            let at = p.at;
+            let r = lines::item_at(s, at);
+            match r {
+                ItemRead::Fault(n) => refused(s, n, at),
+                ItemRead::Read(item, next) => with_item(p, item, next),
+            }
+        }
+    }
+}
+
+fn item_lines(s: &[u8], n: usize, p: Progress) -> Progress
+    requires { ⌜ p .item + n ≤ 16 ⌝ }
+    ensures { λ r. ⌜ r ≡ itemLines n (now (s .entry)) p ⌝ }
+{
+    let mut r = p;
+    let mut left = n;
+    while 0 < left {
+        r = item_step(s, r);
+        left -= 1;
+    }
+    r
+}
+
+fn items_section(s: &[u8], p: Progress) -> Progress
+    ensures { λ r. ⌜ r ≡ itemsSection (now (s .entry)) p ⌝ }
+{
+    let verdict = p.verdict;
+    match verdict {
+        Verdict::Refused(_) => p,
+        Verdict::Accepted => {
+            let at = p.at;
+            let c = lines::heading(s, at, b"items", Range { lo: 1, hi: 16 });
+            match c {
+                Count::Fault(n) => refused(s, n, at),
+                Count::Lines(n, next) => item_lines(s, n, with_count(p, n, next)),
+            }
+        }
+    }
+}
+
+// ---- lower m and upper m, and m lines
+
+fn with_side(item: Item, side: Side, v: i64) -> Item
+    ensures { λ r. ⌜ r ≡ bounded side v item ⌝ }
+{
+    let mark = item.mark;
+    let weight = item.weight;
+    let price = item.price;
+    let lower = item.lower;
+    let upper = item.upper;
+    match side {
+        Side::Lower => Item {
+            mark,
+            weight,
+            price,
+            lower: Bound::At(v),
+            upper,
+        },
+        Side::Upper => Item {
+            mark,
+            weight,
+            price,
+            lower,
+            upper: Bound::At(v),
+        },
+    }
+}
+
+fn with_bound(p: Progress, side: Side, k: usize, v: i64, next: usize) -> Progress
+    requires { ⌜ (1 ≤ k) × (k ≤ 16) ⌝ }
+    ensures { λ r. ⌜ r ≡ withBound p side k v next ⌝ }
+{
+    let q = p.problem;
+    let mut items = q.items;
+    let i = k - 1;
+    let item = items[i];
+    items[i] = with_side(item, side, v);
+    let problem = Problem {
+        items,
+        count: q.count,
+        capacity: q.capacity,
+    };
+    Progress {
+        verdict: Verdict::Accepted,
+        problem,
+        at: next,
+        item: k,
+    }
+}
+
+fn bound_step(s: &[u8], side: Side, p: Progress) -> Progress
+    requires { ⌜ p .problem .count ≤ 16 ⌝ }
+    ensures { λ r. ⌜ r ≡ boundStep (now (s .entry)) side p ⌝ }
+{
+    let verdict = p.verdict;
+    match verdict {
+        Verdict::Refused(_) => p,
+        Verdict::Accepted => {
+            let at = p.at;
+            let q = p.problem;
+            let r = lines::bound_at(s, at, q.count, p.item);
+            match r {
+                BoundRead::Fault(n) => refused(s, n, at),
+                BoundRead::Read(k, v, next) => with_bound(p, side, k, v, next),
+            }
+        }
+    }
+}
+
+fn bound_lines(s: &[u8], side: Side, m: usize, p: Progress) -> Progress
+    requires { ⌜ p .problem .count ≤ 16 ⌝ }
+    ensures { λ r. ⌜ r ≡ boundLines m (now (s .entry)) side p ⌝ }
+{
+    let mut r = p;
+    let mut left = m;
+    while 0 < left {
+        r = bound_step(s, side, r);
+        left -= 1;
+    }
+    r
+}
+
+fn bounds_heading(s: &[u8], side: Side, at: usize, n: usize) -> Count
+    requires { ⌜ n ≤ 16 ⌝ }
+    ensures { λ r. ⌜ r ≡ countAt (wordOf side) (record { lo = pos 0; hi = pos n }) (now (s .entry)) at ⌝ }
+{
+    let range = Range {
+        lo: 0,
+        hi: n as i64,
+    };
+    match side {
+        Side::Lower => lines::heading(s, at, b"lower", range),
+        Side::Upper => lines::heading(s, at, b"upper", range),
+    }
+}
+
+fn from_place(p: Progress, at: usize) -> Progress
+    ensures { λ r. ⌜ r ≡ fromPlace p at ⌝ }
+{
+    let problem = p.problem;
+    Progress {
+        verdict: Verdict::Accepted,
+        problem,
+        at,
+        item: 0,
+    }
+}
+
+fn bounds_section(s: &[u8], side: Side, p: Progress) -> Progress
+    requires { ⌜ p .problem .count ≤ 16 ⌝ }
+    ensures { λ r. ⌜ r ≡ boundsSection (now (s .entry)) side p ⌝ }
+{
+    let verdict = p.verdict;
+    match verdict {
+        Verdict::Refused(_) => p,
+        Verdict::Accepted => {
+            let at = p.at;
+            let q = p.problem;
+            let c = bounds_heading(s, side, at, q.count);
+            match c {
+                Count::Fault(n) => refused(s, n, at),
+                Count::Lines(m, next) => bound_lines(s, side, m, from_place(p, next)),
+            }
+        }
+    }
+}
+
+// ---- behind the last section
+
+fn end_of_sheet(s: &[u8], p: Progress) -> Progress
+    ensures { λ r. ⌜ r ≡ endOfSheet (now (s .entry)) p ⌝ }
+{
+    let verdict = p.verdict;
+    match verdict {
+        Verdict::Refused(_) => p,
+        Verdict::Accepted => {
+            let at = p.at;
+            if at < s.len() { refused(s, 2, at) } else { p }
+        }
+    }
+}
+
+fn cross(lower: Bound, upper: Bound) -> bool
+    ensures { λ r. ⌜ r ≡ crossed lower upper ⌝ }
+{
+    match lower {
+        Bound::Absent => false,
+        Bound::At(l) => match upper {
+            Bound::Absent => false,
+            Bound::At(u) => u < l,
+        },
+    }
+}
+
+fn upper_line(upper: Bound, line: u64) -> u64
+    requires { ⌜ line + 1 < 2 ^ 64 ⌝ }
+    ensures { λ r. ⌜ r ≡ upperLine upper line ⌝ }
+{
+    match upper {
+        Bound::Absent => line,
+        Bound::At(_) => line + 1,
+    }
+}
+
+// The first item whose bounds cross; heading is the line of `upper m`.
+fn crossing(problem: Problem, heading: u64) -> Verdict
+    requires { ⌜ (problem .count ≤ 16) × (heading ≤ 2 ^ 63) ⌝ }
+    ensures { λ r. ⌜ r ≡ crossFrom (problem .count) (itemAt problem) 0 heading ⌝ }
+{
+    let n = problem.count;
+    let mut line = heading;
+    let mut k: usize = 0;
+    while k < n {
+        let item = problem.items[k];
+        let lower = item.lower;
+        let upper = item.upper;
+        line = upper_line(upper, line);
+        if cross(lower, upper) {
+            return Verdict::Refused(Refusal { number: 6, line });
+        }
+        k += 1;
+    }
+    Verdict::Accepted
+}
+
+// heading is a place of the line `upper m`.
+fn uncrossed(s: &[u8], heading: usize, p: Progress) -> Progress
+    requires { ⌜ p .problem .count ≤ 16 ⌝ }
+    ensures { λ r. ⌜ r ≡ crossCheck (now (s .entry)) heading p ⌝ }
+{
+    let verdict = p.verdict;
+    match verdict {
+        Verdict::Refused(_) => p,
+        Verdict::Accepted => {
+            let q = p.problem;
+            let told = crossing(q, lines::text::line_at(s, heading));
+            match told {
+                Verdict::Accepted => p,
+                Verdict::Refused(r) => stopped(r),
+            }
+        }
+    }
+}
+
+// ---- the sheet
+
+fn whole(s: &[u8]) -> Progress
+    ensures { λ r. ⌜ r ≡ wholeOf (now (s .entry)) ⌝ }
+{
+    let limit = limit_section(s);
+    let items = items_section(s, limit);
+    let lower = bounds_section(s, Side::Lower, items);
+    let upper = bounds_section(s, Side::Upper, lower);
+    let end = end_of_sheet(s, upper);
+    uncrossed(s, lower.at, end)
+}
+
+// Every sheet gets its problem or its refusal.
+pub fn read(sheet: &[u8]) -> Reading
+    ensures { λ r. ⌜ r ≡ readSheet (now (sheet .entry)) ⌝ }
+{
+    if 4096 < sheet.len() {
+        let problem = knapsack::empty_problem();
+        return Reading {
+            verdict: Verdict::Refused(Refusal { number: 1, line: 0 }),
+            problem,
+        };
+    }
+    let p = whole(sheet);
+    let verdict = p.verdict;
+    let problem = p.problem;
+    Reading { verdict, problem }
+}
