@@ -1,8 +1,8 @@
 -- Laws of numbers on a sheet (specs/Numbers.antt).
 -- digit-yes, digit-low, digit-high, leading-…: what a byte is.
--- run-more, run-stop, run-end: digitCount and valueAfter, a byte at a time.
+-- count-more, value-more, count-stop, value-stop, count-end, value-end: a run of digits, a byte at a time.
 -- saturate: a value that stops at a bound stays right up to the bound; figure-saturated: no narrow range sees the difference.
--- figure-in: a figure that is in lies in its range.
+-- figure-in: a figure that is in is the number itself, and lies in its range.
 use mathlib.Core.Path.{_≡_, refl, sym, _∙_}
 use mathlib.Core.Bool.{Bool, true, false, cond}
 use mathlib.Core.List.{List, [], _∷_}

@@ -2,6 +2,7 @@
 -- after-hit, after-miss, after-end: what stands at a place decides afterByte.
 -- word-more, word-not, word-done: afterWord, a byte of the word at a time.
 -- end-here, end-later, end-none: firstEnd, a byte of the text at a time; end-within: where it stands.
+-- end-first, end-nowhere: what firstEnd means.
 -- ends-before, ends-past, ends-none: how many bytes 10 there are before a place, by the first one.
 -- closed-last, closed-more, closed-none: closedLine, a line at a time; closed-within: where it stands.
 use mathlib.Core.Path.{_≡_, refl, sym, _∙_}

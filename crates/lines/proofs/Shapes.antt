@@ -142,7 +142,8 @@ item-parts s at i end h = go (markAt s at) refl h
           mark = e ∙ ap (λ (x : Item). MarkOf (x .mark) n) j;
           numbers = f ∙ v;
           lower = sym (ap (λ (x : Item). x .lower) j);
-          upper = sym (ap (λ (x : Item). x .upper) j) }
+          upper = sym (ap (λ (x : Item). x .upper) j);
+        }
 
     go : (x : Marked) → markAt s at ≡ x → itemOf (marked s x) ≡ ItemIs i end → ItemParts s at i end
     go NoMark e h = fault h

@@ -18,6 +18,7 @@ ghost use Rattle.lines.specs.Numbers.{Narrow};
 ghost use Rattle.lines.specs.Lines.{headingLine, pairLine, markAt, itemLine, prices, countAt, itemOf, itemRead, boundOf, boundRead};
 ghost use Rattle.lines.specs.declared.ItemLine.{ItemLine};
 
+// The form of a line: its fields and the place behind it.
 pub enum Pair {
     Malformed,
     Numbers(Figure, Figure, usize),
@@ -33,7 +34,7 @@ pub enum ItemLine {
     Item(Mark, Figure, Figure, usize),
 }
 
-// What a line is told: the number of its refusal, or its values and the place behind it.
+// What a line gives: the number of its refusal, or its values and the place behind it.
 pub enum Count {
     Fault(u64),
     Lines(usize, usize),
@@ -49,6 +50,7 @@ pub enum BoundRead {
     Read(usize, i64, usize),
 }
 
+// Word, blank, count, end.
 fn heading_line(s: &[u8], at: usize, word: &[u8], range: Range) -> Field
     requires { ⌜ Narrow range ⌝ }
     ensures { λ r. ⌜ r ≡ headingLine (now (word .entry)) range (now (s .entry)) at ⌝ }
@@ -66,6 +68,7 @@ fn heading_line(s: &[u8], at: usize, word: &[u8], range: Range) -> Field
     }
 }
 
+// Number, blank, number, end.
 fn pair_line(s: &[u8], at: usize, first: Range, second: Range) -> Pair
     requires { ⌜ Narrow first × Narrow second ⌝ }
     ensures { λ r. ⌜ r ≡ pairLine first second (now (s .entry)) at ⌝ }
@@ -83,6 +86,7 @@ fn pair_line(s: &[u8], at: usize, first: Range, second: Range) -> Pair
     }
 }
 
+// Mark and blank.
 fn mark_field(s: &[u8], at: usize) -> Marked
     ensures { λ r. ⌜ r ≡ markAt (now (s .entry)) at ⌝ }
 {
@@ -99,6 +103,7 @@ fn mark_field(s: &[u8], at: usize) -> Marked
     }
 }
 
+// Mark, weight, price.
 fn item_form(s: &[u8], at: usize) -> ItemLine
     ensures { λ r. ⌜ r ≡ itemLine (now (s .entry)) at ⌝ }
 {
@@ -138,6 +143,7 @@ pub fn heading(s: &[u8], at: usize, word: &[u8], range: Range) -> Count
     }
 }
 
+// The weight is tried before the price.
 fn item_of(mark: Mark, weight: Figure, price: Figure, next: usize) -> ItemRead
     ensures { λ r. ⌜ r ≡ itemOf (ItemLine.Item mark weight price next) ⌝ }
 {
@@ -179,6 +185,7 @@ fn bound_of(k: usize, v: Figure, next: usize) -> BoundRead
     }
 }
 
+// Item number and bound.
 fn bound_line(s: &[u8], at: usize, count: usize) -> Pair
     requires { ⌜ count ≤ 16 ⌝ }
     ensures { λ r. ⌜ r ≡ pairLine (record { lo = pos 1; hi = pos count }) prices (now (s .entry)) at ⌝ }

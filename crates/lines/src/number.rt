@@ -6,6 +6,9 @@ ghost use lib.ListN.{drop};
 ghost use Rattle.lines.specs.Text.{byteAt};
 ghost use Rattle.lines.specs.Numbers.{Narrow, isLeading, digitCount, valueAfter, signedOf, unsignedAt, numberAt, figure, inRange, fieldAt};
 
+// Where the value of a run of digits stops: beyond every range that a sheet knows (Narrow), so that no digit is lost that counts.
+const BEYOND: u64 = 1_000_000_000;
+
 // The numbers from lo to hi.
 pub struct Range {
     pub lo: i64,
@@ -24,21 +27,22 @@ pub enum Field {
     Number(Figure, usize),
 }
 
-// A run of digits: what it writes, or 1,000,000,000 where that is more, and the place behind it.
+// A run of digits: what it writes, BEYOND where that is more, and the place behind it.
 pub struct Digits {
     pub value: u64,
     pub next: usize,
 }
 
-// One digit more. The value stops at 1,000,000,000, beyond every range.
+// One digit more.
 fn push(value: u64, digit: u8) -> u64
     requires { ⌜ (value ≤ 1000000000) × (48 ≤ digit) ⌝ }
     ensures { λ r. ⌜ r ≡ min (10 * value + (digit - 48)) 1000000000 ⌝ }
 {
     let v = 10 * value + (digit - 48) as u64;
-    if v < 1_000_000_000 { v } else { 1_000_000_000 }
+    if v < BEYOND { v } else { BEYOND }
 }
 
+// The digits from a place on, as far as they go.
 fn digits_from(s: &[u8], from: usize) -> Digits
     ensures { λ r. ⌜ (r .value ≡ min (valueAfter 0 (drop from (now (s .entry)))) 1000000000) × (r .next ≡ from + digitCount (drop from (now (s .entry)))) ⌝ }
 {
@@ -58,6 +62,7 @@ fn digits_from(s: &[u8], from: usize) -> Digits
     Digits { value, next: at }
 }
 
+// A number by its range.
 fn ranged(z: i64, range: Range) -> Figure
     ensures { λ r. ⌜ r ≡ figure range z ⌝ }
 {
@@ -111,6 +116,7 @@ fn unsigned(s: &[u8], at: usize, negative: bool, range: Range) -> Field
     }
 }
 
+// The number at a place, `0` or signed.
 fn number(s: &[u8], at: usize, range: Range) -> Field
     requires { ⌜ Narrow range ⌝ }
     ensures { λ r. ⌜ r ≡ inRange range (numberAt (now (s .entry)) at) ⌝ }

@@ -5,6 +5,9 @@ ghost use mathlib.Core.Path.{_≡_};
 ghost use lib.ListN.{drop};
 ghost use Rattle.lines.specs.Text.{afterByte, afterWord, firstEnd, lineOf, closedLine, askedLine, linePart, checkLine};
 
+// The most bytes that a sheet may have.
+pub const LONGEST: usize = 4096;
+
 // A place of the text, where there is one.
 pub enum Place {
     Nothing,
@@ -112,10 +115,11 @@ fn closed_line(s: &[u8], n: u64) -> Span
     }
 }
 
+// The line with a number, where line_part and check_line give one.
 fn asked_line(s: &[u8], line: u64) -> Span
     ensures { λ r. ⌜ r ≡ askedLine (now (s .entry)) line ⌝ }
 {
-    if 4096 < s.len() {
+    if LONGEST < s.len() {
         return Span::Nothing;
     }
     if line == 0 {
@@ -139,7 +143,7 @@ pub fn line_part(s: &[u8], line: u64) -> &[u8]
 pub fn check_line(s: &[u8], line: u64) -> Verdict
     ensures { λ r. ⌜ r ≡ checkLine (now (s .entry)) line ⌝ }
 {
-    if 4096 < s.len() {
+    if LONGEST < s.len() {
         return Verdict::Refused(Refusal { number: 1, line: 0 });
     }
     if line == 0 {

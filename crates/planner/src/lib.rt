@@ -53,7 +53,11 @@ fn unbounded(s: Setting, steps: [i64; 16]) -> Answer
     requires { ⌜ Sized (s .cols) (s .ends) ⌝ }
     ensures { λ r. ⌜ Cornered s steps r ⌝ }
 {
-    let f = Fill { at: 0, room: 0, worth: 0 };
+    let f = Fill {
+        at: 0,
+        room: 0,
+        worth: 0,
+    };
     let x = amounts(s.cols, s.ends, f, 1);
     let point = x.point;
     Answer {

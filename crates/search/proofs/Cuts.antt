@@ -316,7 +316,7 @@ module _ (s : Setting) (r : ReadySetting s) (long : Long (s .ends)) (marks : ℕ
         value-is t =
             let q = sum-multiples (s .cols .count) (place (s .grid) d * D) (λ k. priceOf (s .cols) k *ℤ (N k -ℤ stand (s .cols) e (f .at) k *ℤ pos D)) (λ k n. term (f .at) k n) in
             let whole : sum (s .cols .count) (λ k. priceOf (s .cols) k *ℤ (stand (s .cols) e (f .at) k *ℤ pos D)) ≡ f .worth *ℤ pos D =
-                sum-times (s .cols .count) (priceOf (s .cols)) (stand (s .cols) e (f .at)) D ∙ ap (λ x. x *ℤ pos D) (t .good .worth-is) in
+            sum-times (s .cols .count) (priceOf (s .cols)) (stand (s .cols) e (f .at)) D ∙ ap (λ x. x *ℤ pos D) (t .good .worth-is) in
             let parts = sum-diff (s .cols .count) (priceOf (s .cols)) N (λ k. stand (s .cols) e (f .at) k *ℤ pos D) in
             (q .0, solve (valueᴰ (box s marks) N) (f .worth) (q .0) (sym parts ∙ q .1) whole)
           where
@@ -349,7 +349,7 @@ module _ (s : Setting) (r : ReadySetting s) (long : Long (s .ends)) (marks : ℕ
               let up : (f .worth +ℤ v .0 *ℤ pos G) ≤ℤ (b .whole) = whole-most D (b .parts) (b .part) d≥1 (proper .low) (f .worth +ℤ v .0 *ℤ pos G) (b .whole) (subst (λ u. (u *ℤ pos (b .parts)) ≤ℤ (over b *ℤ pos D)) (v .1) most) in
               let down = round-down G (x .0) (positive G nz) (v .0) (f .worth) (subst (λ u. (f .worth +ℤ v .0 *ℤ pos G) ≤ℤ u) (x .1) up) in
               final (valueᴰ (box s marks) N) (f .worth +ℤ v .0 *ℤ pos G) (f .worth +ℤ pos (natAbs (b .whole -ℤ f .worth) - natAbs (b .whole -ℤ f .worth) % G)) (v .1)
-                  (subst (λ n. (f .worth +ℤ v .0 *ℤ pos G) ≤ℤ (f .worth +ℤ pos (n - n % G))) (excess (b .whole) (f .worth) (x .0) (x .1)) down)
+              (subst (λ n. (f .worth +ℤ v .0 *ℤ pos G) ≤ℤ (f .worth +ℤ pos (n - n % G))) (excess (b .whole) (f .worth) (x .0) (x .1)) down)
             where
               positive : (n : ℕ) → n ≢ 0 → 1 ≤ n
               positive zero h = absurd (h refl)

@@ -1,9 +1,18 @@
 // The search for the best place: a place is an amount for each level, a level is an integer item. A step looks at one place and
-// sets aside a run of places from it on, with the lemma that allows it: see proofs/Look. A step depends on the place and the
+// sets aside a run of places from it on, with the lemma that allows it: see proofs/Settle. A step depends on the place and the
 // incumbent alone.
-use arith::{Mixed, less, magnitude};
-use greedy::{Columns, Ends, Fill, bound_of, fill_up, start_of};
-use places::{Moved, Settled, past};
+use arith::Mixed;
+use arith::less;
+use arith::magnitude;
+use greedy::Columns;
+use greedy::Ends;
+use greedy::Fill;
+use greedy::bound_of;
+use greedy::fill_up;
+use greedy::start_of;
+use places::Moved;
+use places::Settled;
+use places::past;
 ghost use mathlib.Core.Path.{_≡_};
 ghost use mathlib.Core.Bool.{Bool, true, false};
 ghost use Prim.Native.Nat.{ℕ, _≤_, _<_};
@@ -147,7 +156,7 @@ pub fn coarsen(g: u64, f: Fill, b: Mixed) -> Mixed
     }
 }
 
-// Whether the box e holds nothing better than the incumbent: cut by relaxation, see proofs/Look (cut-settles).
+// Whether the box e holds nothing better than the incumbent: cut by relaxation, see proofs/Settle (cut-settles).
 pub fn cut(s: Setting, e: Ends, d: usize, best: Incumbent) -> bool
     requires { ⌜ Judges s e d best ⌝ }
     ensures { λ r. ⌜ r ≡ cutBy s e d best ⌝ }
@@ -221,7 +230,7 @@ pub fn applies(s: Setting, p: Pairs, x: [i64; 16], d: usize, j: usize) -> bool
     false
 }
 
-// Whether a domination pair discards x: cut by a pair, see proofs/Look (pair-settles).
+// Whether a domination pair discards x: cut by a pair, see proofs/Settle (pair-settles).
 pub fn paired(s: Setting, p: Pairs, x: [i64; 16], d: usize) -> bool
     requires { ⌜ Ready s p × (Inside s (at x) × (d < s .levels)) ⌝ }
     ensures { λ r. ⌜ (r ≡ true → Applies s p (at x) d) ⌝ }
@@ -304,11 +313,7 @@ pub fn no_incumbent() -> Incumbent
 
 // One more, as long as it fits.
 pub fn counted(n: u64) -> u64 {
-    if n < 18446744073709551615 {
-        n + 1
-    } else {
-        n
-    }
+    if n < 18446744073709551615 { n + 1 } else { n }
 }
 
 // The path with the amount v at level j, and the levels below at their starts.

@@ -1,7 +1,8 @@
--- Laws of numbers as text (specs/Printing.antt).
+-- Numbers and words as text (specs/Printing.antt): what was read is what stands there.
 --   Has s a w b     the text s has w at the place a, and goes on at the place b
--- digits-any: enough turns are enough; decimal-step: one digit more; run-text: a run of digits is the printing of its value.
--- has-join, byte-has, word-has, number-has: what was read is what stands there.
+--   Bytes w         every number of w is a byte
+-- digits-any: enough turns are enough. onto-step, run-text, leading-text: a run of digits is the printing of its value.
+-- has-join, byte-has, word-has, number-has: texts that stand one behind the other, and what reading a byte, a word, a number tells.
 use mathlib.Core.Path.{_≡_, refl, sym, ap, ap₂, _∙_}
 use mathlib.Core.Bool.{Bool, true, false, cond}
 use mathlib.Core.List.{List, [], _∷_, _++_, append-assoc, append-nil}

@@ -1,7 +1,9 @@
 -- A sheet that is accepted is the printing of its problem, a line and then a section at a time.
 -- field-has, count-has, item-has, bound-has: a line that was read stands there as specs/Printing.antt writes it.
--- step-taken, …: what an accepted step did.
---   Items, Bounds    what holds while the lines of a section are read
+-- went, item-step, bound-step: what an accepted step did.
+--   Items, Bounds                     what holds while the lines of a section are read
+--   LimitRead, ItemsRead, SideRead    what an accepted section is, by limit-read, items-read, side-read
+--   Kept side i j                     j has all of i but the bound of one side
 use mathlib.Core.Path.{_≡_, refl, sym, ap, ap₂, _∙_}
 use mathlib.Core.Bool.{false}
 use mathlib.Core.List.{List, [], _∷_, _++_, append-assoc, append-nil}

@@ -1,5 +1,9 @@
 -- The printing of a problem reads back as that problem, a line and then a section at a time.
--- byte-reads, word-reads, number-reads, field-reads, …: a text that stands at a place is read there, and the reading goes on behind it.
+-- byte-reads, word-reads, number-reads, field-reads, pair-reads, heading-reads, item-reads, bound-reads: a text that stands at a place is
+--   read there, and the reading goes on behind it.
+-- onto-…, decimal-…: the digits of a number are read as that number.
+--   ItemsBack, BoundsBack    what holds while the lines of a section are read back
+-- items-all, bounds-all: all lines of a section. limit-reads, items-section, side-section: the sections.
 use mathlib.Core.Path.{_≡_, refl, sym, ap, _∙_}
 use mathlib.Core.Bool.{Bool, true, false, cond}
 use mathlib.Core.List.{List, [], _∷_, _++_, append-assoc, append-nil}
@@ -278,7 +282,7 @@ items-split j (suc m) f =
     rw e (items-split (suc j) m f ∙ append-assoc (itemsText j f) (itemText (f j)) (itemsFrom (suc j) m f))
 
 -- j items of p have been read, and l is left
-pub record Items (p : Problem) (s : List ℕ) (j : ℕ) (l : List ℕ) (q : Progress) : Type 0 where
+pub record ItemsBack (p : Problem) (s : List ℕ) (j : ℕ) (l : List ℕ) (q : Progress) : Type 0 where
   pub accepted : q .verdict ≡ Accepted
   pub left : drop (q .at) s ≡ l
   pub number : q .item ≡ j
@@ -288,8 +292,8 @@ pub record Items (p : Problem) (s : List ℕ) (j : ℕ) (l : List ℕ) (q : Prog
   pub count : q .problem .count ≡ p .count
   pub capacity : q .problem .capacity ≡ p .capacity
 
-next-item : (p : Problem) (s : List ℕ) (j n : ℕ) (l m : List ℕ) (q : Progress) → Items p s j l q → j < 16 → drop n s ≡ m →
-    Items p s (suc j) m (withItem q (bareOf (itemAt p j)) n)
+next-item : (p : Problem) (s : List ℕ) (j n : ℕ) (l m : List ℕ) (q : Progress) → ItemsBack p s j l q → j < 16 → drop n s ≡ m →
+    ItemsBack p s (suc j) m (withItem q (bareOf (itemAt p j)) n)
 next-item p s j n l m q g b h = record {
   accepted = refl;
   left = h;
@@ -312,7 +316,7 @@ next-item p s j n l m q g b h = record {
     either k m (no e) = old k e ∙ g .done k (omega arith)
 
 items-go : (m j : ℕ) (p : Problem) (s l : List ℕ) (q : Progress) → j + m ≤ 16 → Each (j + m) (λ k. badFigure (itemAt p k) ≡ false) →
-    Items p s j (itemsFrom j m (itemAt p) ++ l) q → Items p s (j + m) l (itemLines m s q)
+    ItemsBack p s j (itemsFrom j m (itemAt p) ++ l) q → ItemsBack p s (j + m) l (itemLines m s q)
 unfolding itemLines itemsFrom
 items-go zero j p s l q b f g = let e : j + 0 ≡ j = omega arith in rw e g
 items-go (suc m) j p s l q b f g =
@@ -325,7 +329,7 @@ items-go (suc m) j p s l q b f g =
 
 -- all of them
 pub items-all : (p : Problem) (s l : List ℕ) (q : Progress) → p .count ≤ 16 → Each (p .count) (λ k. badFigure (itemAt p k) ≡ false) →
-    Items p s 0 (itemsText (p .count) (itemAt p) ++ l) q → Items p s (p .count) l (itemLines (p .count) s q)
+    ItemsBack p s 0 (itemsText (p .count) (itemAt p) ++ l) q → ItemsBack p s (p .count) l (itemLines (p .count) s q)
 unfolding itemsText
 items-all p s l q b f g =
     let e : 0 + p .count ≡ p .count = omega arith in
@@ -355,7 +359,7 @@ counts-split j zero f = let e : j + 0 ≡ j = omega arith in rw e (omega arith)
 counts-split j (suc m) f = let e : j + suc m ≡ suc j + m = omega arith in rw e (counts-split (suc j) m f ∙ omega arith)
 
 -- the bounds of the first j items of p have been read over the problem o, and l is left
-pub record Bounds (side : Side) (p o : Problem) (s : List ℕ) (j : ℕ) (l : List ℕ) (q : Progress) : Type 0 where
+pub record BoundsBack (side : Side) (p o : Problem) (s : List ℕ) (j : ℕ) (l : List ℕ) (q : Progress) : Type 0 where
   pub accepted : q .verdict ≡ Accepted
   pub left : drop (q .at) s ≡ l
   pub number : q .item ≤ j
@@ -367,8 +371,9 @@ pub record Bounds (side : Side) (p o : Problem) (s : List ℕ) (j : ℕ) (l : Li
   pub same : (k : ℕ) → Kept side (itemAt o k) (itemAt (q .problem) k)
 
 -- an item that is not listed
-skip-bound : (side : Side) (p o : Problem) (s : List ℕ) (j : ℕ) (l : List ℕ) (q : Progress) → Bounds side p o s j l q → boundAt side p j ≡ Absent →
-    Bounds side p o s (suc j) l q
+skip-bound : (side : Side) (p o : Problem) (s : List ℕ) (j : ℕ) (l : List ℕ) (q : Progress) → BoundsBack side p o s j l q →
+    boundAt side p j ≡ Absent →
+    BoundsBack side p o s (suc j) l q
 skip-bound side p o s j l q g e = record {
   accepted = g .accepted;
   left = g .left;
@@ -385,8 +390,8 @@ skip-bound side p o s j l q g e = record {
     either k m (yes d) = rw d (g .rest j (omega arith) ∙ sym e)
     either k m (no d) = g .done k (omega arith)
 
-next-bound : (side : Side) (p o : Problem) (s : List ℕ) (j n : ℕ) (v : ℤ) (l m : List ℕ) (q : Progress) → Bounds side p o s j l q → j < 16 →
-    boundAt side p j ≡ AtBound v → drop n s ≡ m → Bounds side p o s (suc j) m (withBound q side (suc j) v n)
+next-bound : (side : Side) (p o : Problem) (s : List ℕ) (j n : ℕ) (v : ℤ) (l m : List ℕ) (q : Progress) → BoundsBack side p o s j l q → j < 16 →
+    boundAt side p j ≡ AtBound v → drop n s ≡ m → BoundsBack side p o s (suc j) m (withBound q side (suc j) v n)
 next-bound side p o s j n v l m q g b e h = record {
   accepted = refl;
   left = h;
@@ -424,8 +429,8 @@ unfolding boundLines
 one-more n s side q = refl
 
 bounds-go : (m j : ℕ) (side : Side) (p o : Problem) (s l : List ℕ) (q : Progress) → j + m ≡ p .count → p .count ≤ 16 →
-    Each (j + m) (λ k. badBound (boundAt side p k) ≡ false) → Bounds side p o s j (boundsFrom j m (boundAt side p) ++ l) q →
-    Bounds side p o s (j + m) l (boundLines (countFrom j m (boundAt side p)) s side q)
+    Each (j + m) (λ k. badBound (boundAt side p k) ≡ false) → BoundsBack side p o s j (boundsFrom j m (boundAt side p) ++ l) q →
+    BoundsBack side p o s (j + m) l (boundLines (countFrom j m (boundAt side p)) s side q)
 unfolding boundLines boundsFrom countFrom
 bounds-go zero j side p o s l q n b f g = let e : j + 0 ≡ j = omega arith in rw e g
 bounds-go (suc m) j side p o s l q n b f g =
@@ -439,8 +444,8 @@ bounds-go (suc m) j side p o s l q n b f g =
     more = countFrom (suc j) m (boundAt side p)
 
     go : (x : Bound) → boundAt side p j ≡ x →
-        ((q : Progress) → suc j + m ≡ p .count → p .count ≤ 16 → Each (suc j + m) (λ k. badBound (boundAt side p k) ≡ false) → Bounds side p o s (suc j) left q → Bounds side p o s (suc j + m) l (boundLines more s side q)) →
-        Bounds side p o s (suc j + m) l (boundLines (listed (boundAt side p j) + more) s side q)
+        ((q : Progress) → suc j + m ≡ p .count → p .count ≤ 16 → Each (suc j + m) (λ k. badBound (boundAt side p k) ≡ false) → BoundsBack side p o s (suc j) left q → BoundsBack side p o s (suc j + m) l (boundLines more s side q)) →
+        BoundsBack side p o s (suc j + m) l (boundLines (listed (boundAt side p j) + more) s side q)
     go Absent e ih =
         let c : listed (boundAt side p j) + more ≡ more = rw e (omega arith) in
         rw c (ih q (omega arith) b (λ k i. f k (omega arith)) (skip-bound side p o s j left q (rw e at g) e))
@@ -454,8 +459,8 @@ bounds-go (suc m) j side p o s l q n b f g =
 
 -- all of them
 pub bounds-all : (side : Side) (p o : Problem) (s l : List ℕ) (q : Progress) → p .count ≤ 16 →
-    Each (p .count) (λ k. badBound (boundAt side p k) ≡ false) → Bounds side p o s 0 (boundsText (p .count) (boundAt side p) ++ l) q →
-    Bounds side p o s (p .count) l (boundLines (boundsCount (p .count) (boundAt side p)) s side q)
+    Each (p .count) (λ k. badBound (boundAt side p k) ≡ false) → BoundsBack side p o s 0 (boundsText (p .count) (boundAt side p) ++ l) q →
+    BoundsBack side p o s (p .count) l (boundLines (boundsCount (p .count) (boundAt side p)) s side q)
 unfolding boundsText boundsCount
 bounds-all side p o s l q b f g =
     let e : 0 + p .count ≡ p .count = omega arith in
@@ -475,7 +480,7 @@ limit-reads s b l f h =
     (d .0, rw (c .1, d .1), d .2)
 
 pub items-section : (p : Problem) (s l : List ℕ) (n : ℕ) → InRange p → drop n s ≡ itemsPart p ++ l →
-    Items p s (p .count) l (itemsSection s (withCapacity (p .capacity) n))
+    ItemsBack p s (p .count) l (itemsSection s (withCapacity (p .capacity) n))
 unfolding itemsSection
 items-section p s l n r h =
     let c = heading-reads items 1 16 s n (p .count) (itemsText (p .count) (itemAt p) ++ l) (r .least) (r .most) (h ∙ append-assoc (headingText items (p .count)) _ l) in
@@ -501,7 +506,7 @@ counts-small (suc n) f = go (f n) (counts-small n f)
 
 pub side-section : (side : Side) (p : Problem) (s l : List ℕ) (q : Progress) → InRange p → q .verdict ≡ Accepted → q .problem .count ≡ p .count →
     q .problem .capacity ≡ p .capacity → length (q .problem .items) ≡ 16 → ((k : ℕ) → boundAt side (q .problem) k ≡ Absent) →
-    drop (q .at) s ≡ sideText side p ++ l → Bounds side p (q .problem) s (p .count) l (boundsSection s side q)
+    drop (q .at) s ≡ sideText side p ++ l → BoundsBack side p (q .problem) s (p .count) l (boundsSection s side q)
 unfolding boundsSection
 side-section side p s l q r a e b z free h =
     let m = boundsCount (p .count) (boundAt side p) in

@@ -27,14 +27,13 @@ use Rattle.sheet.specs.declared.Side.the-variants.{Lower, Upper}
 use Rattle.sheet.specs.declared.Progress.{Progress}
 use Rattle.sheet.specs.declared.Reading.{Reading}
 use Rattle.lines.specs.Text.{lineOf, refusal}
-use Rattle.sheet.specs.Reading.{items, wordOf, refusedAt, onward, withCapacity, limitSection, itemsSection, boundsSection, endOfSheet}
+use Rattle.sheet.specs.Reading.{items, wordOf, refusedAt, withCapacity, limitSection, itemsSection, boundsSection, endOfSheet}
 use Rattle.sheet.specs.Reading.{crossFrom, crossOf, crossCheck, itemsOf, lowerOf, upperOf, wholeOf, readSheet}
 use Rattle.sheet.specs.Printing.{headingText, itemText, boundAt, sideText, limitText, itemsPart, printing, Tidy, SheetOf}
 use Rattle.sheet.proofs.Decimals.{has-join}
 use Rattle.sheet.proofs.Verdicts.{no-refusal, cross-all, all-cross, InRange, accepted, in-range}
 use Rattle.sheet.proofs.Lengths.{printing-short}
-use Rattle.sheet.proofs.Rereading as Reread
-use Rattle.sheet.proofs.Rereading.{bareOf, limit-reads, items-section, side-section}
+use Rattle.sheet.proofs.Rereading.{bareOf, ItemsBack, BoundsBack, limit-reads, items-section, side-section}
 use Rattle.sheet.proofs.Printed.{went, Bare, Kept, items-cong, bounds-cong, counts-cong, LimitRead, limit-read, ItemsRead, items-read}
 use Rattle.sheet.proofs.Printed.{SideRead, side-read}
 
@@ -253,7 +252,7 @@ module _ (p : Problem) (r : InRange p) (tidy : Tidy p) where
   unfolding sheet printing behind-items
   limit-back = limit-reads sheet (p .capacity) (itemsPart p ++ behind-items) (r .capacity) refl
 
-  items-back : Reread.Items p sheet (p .count) behind-items (itemsOf sheet)
+  items-back : ItemsBack p sheet (p .count) behind-items (itemsOf sheet)
   unfolding itemsOf
   items-back = rw (limit-back .1) (items-section p sheet behind-items (limit-back .0) r (limit-back .2))
 
@@ -266,13 +265,13 @@ module _ (p : Problem) (r : InRange p) (tidy : Tidy p) where
       go Lower (no l) = ap (λ (i : Item). i .lower) (items-back .rest k (omega arith))
       go Upper (no l) = ap (λ (i : Item). i .upper) (items-back .rest k (omega arith))
 
-  lower-back : Reread.Bounds Lower p (itemsOf sheet .problem) sheet (p .count) (sideText Upper p) (lowerOf sheet)
+  lower-back : BoundsBack Lower p (itemsOf sheet .problem) sheet (p .count) (sideText Upper p) (lowerOf sheet)
   unfolding lowerOf behind-items
   lower-back =
       let i = items-back in
       side-section Lower p sheet (sideText Upper p) (itemsOf sheet) r (i .accepted) (i .count) (i .capacity) (i .places) (no-bounds-yet Lower) (i .left)
 
-  upper-back : Reread.Bounds Upper p (lowerOf sheet .problem) sheet (p .count) [] (upperOf sheet)
+  upper-back : BoundsBack Upper p (lowerOf sheet .problem) sheet (p .count) [] (upperOf sheet)
   unfolding upperOf
   upper-back =
       let l = lower-back in

@@ -1,7 +1,8 @@
--- What a step of the reader keeps (specs/Reading.antt).
+-- What a step of the reader keeps (specs/Reading.antt), for what the code's functions require.
+--   Few p          the problem has at most 16 items
 -- onward-ind: what holds of a reading and of what follows it holds on the way.
--- step-item, lines-item: the item number rises by at most one with each item's line.
--- items-few, bounds-few, …: a problem never has more than 16 items.
+-- step-item: an item's line raises the item number by at most one.
+-- limit-few, items-few, section-few, end-few, bound-few: no section and no line makes a problem of more than 16 items.
 use mathlib.Core.Path.{_≡_, refl}
 use mathlib.Core.Bool.{Bool, true, false, cond}
 use mathlib.Core.List.{List}

@@ -58,7 +58,7 @@ pub struct Reading {
     pub problem: Problem,
 }
 
-// A sheet read up to a place. item is the number of the section's last item so far, 0 at its start.
+// A sheet read up to the place at. item is the number of the item that the section's last line was about, 0 at its start.
 pub struct Progress {
     pub verdict: Verdict,
     pub problem: Problem,
@@ -66,6 +66,7 @@ pub struct Progress {
     pub item: usize,
 }
 
+// The end of a reading: a refusal has the empty record.
 fn stopped(refusal: Refusal) -> Progress
     ensures { λ r. ⌜ r ≡ stoppedBy refusal ⌝ }
 {
@@ -88,6 +89,7 @@ fn refused(s: &[u8], number: u64, at: usize) -> Progress
 
 // ---- limit 1, and a line with b
 
+// A problem with a limit and nothing else.
 fn with_capacity(b: i64, next: usize) -> Progress
     ensures { λ r. ⌜ r ≡ withCapacity b next ⌝ }
 {
@@ -135,6 +137,7 @@ fn limit_section(s: &[u8]) -> Progress
 
 // ---- items n, and n lines
 
+// A problem with n items, blank as yet.
 fn with_count(p: Progress, n: usize, next: usize) -> Progress
     ensures { λ r. ⌜ r ≡ withCount p n next ⌝ }
 {
@@ -153,6 +156,7 @@ fn with_count(p: Progress, n: usize, next: usize) -> Progress
     }
 }
 
+// The next item.
 fn with_item(p: Progress, item: Item, next: usize) -> Progress
     requires { ⌜ p .item < 16 ⌝ }
     ensures { λ r. ⌜ r ≡ withItem p item next ⌝ }
@@ -174,6 +178,7 @@ fn with_item(p: Progress, item: Item, next: usize) -> Progress
     }
 }
 
+// One line of an item; after a refusal nothing is read.
 fn item_step(s: &[u8], p: Progress) -> Progress
     requires { ⌜ p .item < 16 ⌝ }
     ensures { λ r. ⌜ r ≡ itemStep (now (s .entry)) p ⌝ }
@@ -224,6 +229,7 @@ fn items_section(s: &[u8], p: Progress) -> Progress
 
 // ---- lower m and upper m, and m lines
 
+// An item with one more bound.
 fn with_side(item: Item, side: Side, v: i64) -> Item
     ensures { λ r. ⌜ r ≡ bounded side v item ⌝ }
 {
@@ -250,6 +256,7 @@ fn with_side(item: Item, side: Side, v: i64) -> Item
     }
 }
 
+// A bound of item k.
 fn with_bound(p: Progress, side: Side, k: usize, v: i64, next: usize) -> Progress
     requires { ⌜ (1 ≤ k) × (k ≤ 16) ⌝ }
     ensures { λ r. ⌜ r ≡ withBound p side k v next ⌝ }
@@ -272,6 +279,7 @@ fn with_bound(p: Progress, side: Side, k: usize, v: i64, next: usize) -> Progres
     }
 }
 
+// One line of a bound.
 fn bound_step(s: &[u8], side: Side, p: Progress) -> Progress
     requires { ⌜ p .problem .count ≤ 16 ⌝ }
     ensures { λ r. ⌜ r ≡ boundStep (now (s .entry)) side p ⌝ }
@@ -304,6 +312,7 @@ fn bound_lines(s: &[u8], side: Side, m: usize, p: Progress) -> Progress
     r
 }
 
+// The heading of a section of bounds, over n items.
 fn bounds_heading(s: &[u8], side: Side, at: usize, n: usize) -> Count
     requires { ⌜ n ≤ 16 ⌝ }
     ensures { λ r. ⌜ r ≡ countAt (wordOf side) (record { lo = pos 0; hi = pos n }) (now (s .entry)) at ⌝ }
@@ -318,6 +327,7 @@ fn bounds_heading(s: &[u8], side: Side, at: usize, n: usize) -> Count
     }
 }
 
+// The section's lines begin.
 fn from_place(p: Progress, at: usize) -> Progress
     ensures { λ r. ⌜ r ≡ fromPlace p at ⌝ }
 {
@@ -364,6 +374,7 @@ fn end_of_sheet(s: &[u8], p: Progress) -> Progress
     }
 }
 
+// Whether a lower bound is above an upper.
 fn cross(lower: Bound, upper: Bound) -> bool
     ensures { λ r. ⌜ r ≡ crossed lower upper ⌝ }
 {
@@ -376,6 +387,7 @@ fn cross(lower: Bound, upper: Bound) -> bool
     }
 }
 
+// The line in `upper` of an item that has the bound, if the last one before it had the line given.
 fn upper_line(upper: Bound, line: u64) -> u64
     requires { ⌜ line + 1 < 2 ^ 64 ⌝ }
     ensures { λ r. ⌜ r ≡ upperLine upper line ⌝ }
@@ -443,7 +455,7 @@ fn whole(s: &[u8]) -> Progress
 pub fn read(sheet: &[u8]) -> Reading
     ensures { λ r. ⌜ r ≡ readSheet (now (sheet .entry)) ⌝ }
 {
-    if 4096 < sheet.len() {
+    if lines::text::LONGEST < sheet.len() {
         let problem = knapsack::empty_problem();
         return Reading {
             verdict: Verdict::Refused(Refusal { number: 1, line: 0 }),

@@ -45,7 +45,7 @@ module _ (c : tie.After-known-told) where
       let s = k .before .before .before in
       let w = k .look .result .settled in
       move-in (s .args .s) (s .pre .0 .setting) (s .pre .1 .0 .long) (at (s .args .q .path .place)) (s .pre .1 .0 .inside) w (settled-in k) (c .before .o .given .0 .0) (c .before .o .given .0 .1 .0)
-          (sym (past-started (s .args .s) (s .args .q .path) w (s .pre .1 .0) (settled-in k)) ∙ went)
+      (sym (past-started (s .args .s) (s .args .q .path) w (s .pre .1 .0) (settled-in k)) ∙ went)
 
 turn-requires : tie.Need-turn-requires
 turn-requires c κs =

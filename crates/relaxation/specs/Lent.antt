@@ -1,0 +1,73 @@
+-- The relaxation's entry over a lent list. Paper 01, "Relaxation": items are numbered by their places at entry, and on every accepted
+-- problem the list holds the same items afterwards, in order.
+--   filled n l          the first n items of l, and blank items where l ends
+--   loaded b n l        a problem of n items of which those of l are loaded
+--   problemOf b l       the problem of a capacity and a list: the list's length is the count
+--   withItem p i x      the problem with x at place i
+--   ifAccepted v x y    x if the verdict is that the record is accepted, else y
+--   after b l           the list afterwards
+--   settled p           the problem with its items in order if it is accepted, else as it came
+--   loose x             the item, continuous
+--   Loosened p k q      q is p with its first k items continuous
+--   Settles p o         what the core gives
+--   Relaxes b l m r     what the entry does: the list l becomes m, and r answers
+--   usable n            how many items of a list of n are looked at
+use mathlib.Core.List.{List, [], _∷_}
+use mathlib.Core.Path.{_≡_}
+use Prim.Native.Nat.{ℕ, zero, suc, _<_, min}
+use lib.IntN.{ℤ}
+use lib.ListN.{length, getD, set}
+use Rattle.knapsack.specs.declared.Answer.{Answer}
+use Rattle.knapsack.specs.declared.Item.{Item}
+use Rattle.knapsack.specs.declared.Mark.the-variants.{Continuous}
+use Rattle.knapsack.specs.declared.Problem.{Problem}
+use Rattle.knapsack.specs.declared.Verdict.{Verdict}
+use Rattle.knapsack.specs.declared.Verdict.the-variants.{Accepted, Refused}
+use Rattle.knapsack.specs.Meaning.{Relaxed}
+use Rattle.knapsack.specs.Records.{blank, itemAt, verdict}
+use Rattle.ordering.specs.Order.{orderedItems}
+use Rattle.ordering.specs.Ranking.{arranged}
+use Rattle.relaxation.specs.declared.Outcome.{Outcome}
+
+unfoldable pub filled : ℕ → List Item → List Item
+filled zero l = []
+filled (suc n) [] = blank ∷ filled n []
+filled (suc n) (x ∷ l) = x ∷ filled n l
+
+abbrev pub loaded : ℤ → ℕ → List Item → Problem
+loaded b n l = record { items = filled 16 l; count = n; capacity = b }
+
+abbrev pub problemOf : ℤ → List Item → Problem
+problemOf b l = loaded b (length l) l
+
+abbrev pub withItem : Problem → ℕ → Item → Problem
+withItem p i x = record { items = set (p .items) i x; count = p .count; capacity = p .capacity }
+
+abbrev pub ifAccepted : {A : Type 0} → Verdict → A → A → A
+ifAccepted Accepted x y = x
+ifAccepted (Refused f) x y = y
+
+unfoldable pub after : ℤ → List Item → List Item
+after b l = ifAccepted (verdict (problemOf b l)) (orderedItems (λ k. getD l k blank) (length l)) l
+
+unfoldable pub settled : Problem → Problem
+settled p = ifAccepted (verdict p) (arranged p) p
+
+abbrev pub loose : Item → Item
+loose x = record { mark = Continuous; weight = x .weight; price = x .price; lower = x .lower; upper = x .upper }
+
+pub record Loosened (p : Problem) (k : ℕ) (q : Problem) : Type 0 where
+  pub count : q .count ≡ p .count
+  pub capacity : q .capacity ≡ p .capacity
+  pub items : (j : ℕ) → j < k → itemAt q j ≡ loose (itemAt p j)
+
+pub record Settles (p : Problem) (o : Outcome) : Type 0 where
+  pub reply : Relaxed p (o .answer)
+  pub problem : o .problem ≡ settled p
+
+pub record Relaxes (b : ℤ) (l m : List Item) (r : Answer) : Type 0 where
+  pub list : m ≡ after b l
+  pub reply : Relaxed (problemOf b l) r
+
+abbrev pub usable : ℕ → ℕ
+usable n = min n 16

@@ -1,0 +1,155 @@
+// The relaxation's public entry (paper 01, "Relaxation"): a capacity and a lent list of items, which is left in order.
+// One thin function, proved by hand, over a core that is covered: the list is copied into a problem, the core answers it and puts its
+// items in order, and the items are stored back.
+use knapsack::Answer;
+use knapsack::Item;
+use knapsack::Kind;
+use knapsack::Mark;
+use knapsack::Problem;
+use knapsack::Verdict;
+use knapsack::check_record;
+use ordering::arrange;
+use planner::no_point;
+use planner::solve;
+ghost use mathlib.Core.Path.{_≡_};
+ghost use Prim.Native.Nat.{_≤_, _<_};
+ghost use mathlib.Core.List.{[]};
+ghost use Rattle.knapsack.specs.Meaning.{instanceOf, relaxed, Answers};
+ghost use Rattle.knapsack.specs.Records.{itemAt, InRange};
+ghost use Rattle.relaxation.specs.Lent.{usable, loaded, withItem, loose, Loosened, Settles, Relaxes};
+
+// What the core gives: the answer, and the problem whose items are stored back.
+pub struct Outcome {
+    pub answer: Answer,
+    pub problem: Problem,
+}
+
+// How many items of a list of n are looked at.
+fn usable_of(n: usize) -> usize
+    ensures { λ r. ⌜ r ≡ usable n ⌝ }
+{
+    if n < 16 { n } else { 16 }
+}
+
+// A problem with no items loaded yet.
+fn opened(capacity: i64, count: usize) -> Problem
+    ensures { λ r. ⌜ r ≡ loaded capacity count [] ⌝ }
+{
+    let p = knapsack::empty_problem();
+    let items = p.items;
+    Problem {
+        items: items,
+        count: count,
+        capacity: capacity,
+    }
+}
+
+// The problem with an item stored.
+fn with(p: Problem, i: usize, x: Item) -> Problem
+    requires { ⌜ i < 16 ⌝ }
+    ensures { λ r. ⌜ r ≡ withItem p i x ⌝ }
+{
+    let mut q = p;
+    q.items[i] = x;
+    q
+}
+
+// The item that is stored back at a place.
+fn nth(o: Outcome, i: usize) -> Item
+    requires { ⌜ i < 16 ⌝ }
+    ensures { λ r. ⌜ r ≡ itemAt (o .problem) i ⌝ }
+{
+    let p = o.problem;
+    p.items[i]
+}
+
+fn answer_of(o: Outcome) -> Answer
+    ensures { λ r. ⌜ r ≡ o .answer ⌝ }
+{
+    o.answer
+}
+
+// The item, continuous.
+fn loose_item(x: Item) -> Item
+    ensures { λ r. ⌜ r ≡ loose x ⌝ }
+{
+    let lower = x.lower;
+    let upper = x.upper;
+    Item {
+        mark: Mark::Continuous,
+        weight: x.weight,
+        price: x.price,
+        lower: lower,
+        upper: upper,
+    }
+}
+
+// The problem with its items continuous.
+fn loosen(p: Problem) -> Problem
+    requires { ⌜ p .count ≤ 16 ⌝ }
+    ensures { λ r. ⌜ Loosened p (p .count) r ⌝ }
+{
+    let n = p.count;
+    let mut q = p;
+    let mut k: usize = 0;
+    while k < n {
+        let x = loose_item(p.items[k]);
+        q = with(q, k, x);
+        k += 1;
+    }
+    q
+}
+
+// The answer of the relaxation of a problem in range.
+fn relaxed_answer(p: Problem) -> Answer
+    requires { ⌜ InRange p ⌝ }
+    ensures { λ r. ⌜ Answers (relaxed (instanceOf p)) r ⌝ }
+{
+    let q = loosen(p);
+    solve(q)
+}
+
+// The core: the record check, then the relaxation, and the items in order.
+fn core(p: Problem) -> Outcome
+    ensures { λ r. ⌜ Settles p r ⌝ }
+{
+    let v = check_record(p);
+    match v {
+        Verdict::Accepted => {
+            let a = relaxed_answer(p);
+            let q = arrange(p);
+            Outcome {
+                answer: a,
+                problem: q,
+            }
+        }
+        Verdict::Refused(f) => {
+            let a = no_point(Kind::Refused(f));
+            Outcome {
+                answer: a,
+                problem: p,
+            }
+        }
+    }
+}
+
+// The relaxation of the problem that a capacity and a list of items make; the list is left in order where the problem is accepted.
+pub fn relax_with(capacity: i64, items: &mut [Item]) -> Answer
+    ensures { λ r. ⌜ Relaxes capacity (now (items .entry)) (now (items .exit)) r ⌝ }
+{
+    let len = items.len();
+    let n = usable_of(len);
+    let mut p = opened(capacity, len);
+    let mut i: usize = 0;
+    while i < n {
+        p = with(p, i, items[i]);
+        i += 1;
+    }
+    let o = core(p);
+    i = 0;
+    while i < n {
+        items[i] = nth(o, i);
+        i += 1;
+    }
+    answer_of(o)
+}
