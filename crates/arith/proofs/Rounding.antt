@@ -2,6 +2,7 @@
 --   IsFloor n d q   q ≤ n / d < q + 1, times d
 -- floor-same, floor-less: a quotient towards zero, less one where its remainder asks it, is the quotient rounded down.
 -- floor-is, floor-unique: floorDiv is that number, and no other is.
+-- floor-most: what fits is at most the quotient.
 -- floor-within, ceil-within: neither is farther from zero than the dividend.
 use mathlib.Core.Path.{_≡_, refl, sym, ap, _∙_}
 use mathlib.Core.Logic.{_⊎_, inl, inr}
@@ -93,6 +94,15 @@ floor-unique n (negsuc m) f g z h k =
 
     dn : (n f : ℤ) → (negsuc m *ℤ f +ℤ negsuc m) <ℤ n → negℤ n <ℤ (pos (suc m) *ℤ f +ℤ pos (suc m))
     dn = split2 _ (λ a b c e. simp zed (omega arith))
+
+-- what fits d times is at most the quotient
+pub floor-most : (n d x : ℤ) → pos 0 <ℤ d → (d *ℤ x) ≤ℤ n → x ≤ℤ floorDiv n d
+floor-most n (pos zero) x p h = absurd (p .lt)
+floor-most n (pos (suc m)) x p h = meet (suc m) n x (floorDiv n (pos (suc m))) h (floor-is n (pos (suc m)) (λ e. apart e) .positive p .1)
+  where
+    apart : pos (suc m) ≡ pos 0 → ⊥
+    apart = simp zed (omega arith)
+floor-most n (negsuc m) x p h = absurd (p .lt)
 
 -- the quotient is no farther from zero than the dividend
 by-within : {m : ℕ} (n : ℤ) (d : ℕ) → Within m n → Within m (floorBy n d)

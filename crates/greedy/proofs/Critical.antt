@@ -62,7 +62,7 @@ light-end p q E i m nz h e = let s = score-down p q (i .weight) (i .price) h in 
 
 -- ---- the item k of weight g * q and price g * p, g = 1 or -1, takes what the whole ends e leave
 
-own-score : (p q : ℕ) (g a c : ℤ) → a ≡ g *ℤ pos q → c ≡ g *ℤ pos p → score p q a c ≡ pos 0
+pub own-score : (p q : ℕ) (g a c : ℤ) → a ≡ g *ℤ pos q → c ≡ g *ℤ pos p → score p q a c ≡ pos 0
 unfolding score
 own-score p q = split3 _ (λ a b c e f g. simp zed (λ h k. omega (arith, ap (λ (n : ℕ). p * n) h, ap (λ (n : ℕ). q * n) k)))
 

@@ -111,7 +111,7 @@ unit-abs (negsuc n) = go (negsuc n) refl
     go : (z : ℤ) → z ≡ negsuc n → z ≡ negsuc 0 *ℤ pos (suc n)
     go = split _ (λ a b. simp zed (omega arith))
 
-price-abs : (a c : ℤ) → pos 0 <ℤ turned a c → c ≡ unit a *ℤ pos (natAbs c)
+pub price-abs : (a c : ℤ) → pos 0 <ℤ turned a c → c ≡ unit a *ℤ pos (natAbs c)
 price-abs (pos n) c h = go c h
   where
     go : (c : ℤ) → pos 0 <ℤ c → c ≡ pos 1 *ℤ pos (natAbs c)
@@ -442,6 +442,41 @@ module _ (s : Instance) (lo hi : ℕ → ℤ) (b : Boxed s lo hi) where
         fit : (w r l : ℤ) → w +ℤ r ≡ l → pos 0 ≤ℤ r → w ≤ℤ (l *ℤ pos 1)
         fit = split3 _ (λ a b c e f g. simp zed (omega arith))
 
+    -- ---- at the ratio of the item k of place t
+
+    -- every other item stands at its end
+    pub standing : (t k : ℕ) (e : ℕ → ℤ) (r : ℤ) → k < s .count → rank k ≡ t → weights s k ≢ pos 0 → pos 0 <ℤ turned (weights s k) (prices s k) → Inv s lo hi rank t e r → (j : ℕ) → j < s .count → j ≢ k
+        → AtEnd (natAbs (weights s k)) (score (natAbs (prices s k)) (natAbs (weights s k)) (weights s j) (prices s j)) (s .item j) (e j *ℤ pos (natAbs (weights s k)))
+    standing t k e r l at nz worth i j m ne = ends j m ne (stand t e r j m i)
+      where
+        q : ℕ
+        q = natAbs (weights s k)
+
+        p : ℕ
+        p = natAbs (prices s k)
+
+        tk : turned (weights s k) (prices s k) ≡ pos p
+        tk = turned-abs (weights s k) (prices s k) worth
+
+        comm≤ : (m n : ℕ) (x y : ℤ) → (pos m *ℤ x) ≤ℤ (y *ℤ pos n) → (pos m *ℤ x) ≤ℤ (pos n *ℤ y)
+        comm≤ m n = split2 _ (λ a b c e. simp zed (omega arith))
+
+        comm≥ : (m n : ℕ) (x y : ℤ) → (y *ℤ pos n) ≤ℤ (pos m *ℤ x) → (pos n *ℤ y) ≤ℤ (pos m *ℤ x)
+        comm≥ m n = split2 _ (λ a b c e. simp zed (omega arith))
+
+        poorer : (m n : ℕ) (x : ℤ) (k : ℕ) → x ≤ℤ pos 0 → (pos n *ℤ x) ≤ℤ (pos m *ℤ pos k)
+        poorer m n = split _ (λ a b k. simp zed (λ h. omega (arith, mul-le-mul-left n h)))
+
+        ends : (j : ℕ) → j < s .count → j ≢ k → Stand t e j → AtEnd q (score p q (weights s j) (prices s j)) (s .item j) (e j *ℤ pos q)
+        ends j m ne (flat z h) = flat-at p q j (e j) m z h
+        ends j m ne (poor nz′ w h) = light-at p q j (e j) m nz′ (poorer p q (turned (weights s j) (prices s j)) (natAbs (weights s j)) w) h
+        ends j m ne (raised nz′ o w h) = heavy-at p q j (e j) m nz′ (comm≤ p q (pos (natAbs (weights s j))) (turned (weights s j) (prices s j)) (rw tk at (rk .falls j k m l (omega arith) nz′ nz))) h
+        ends j m ne (later nz′ o h) = go (ℕ-discrete (rank j) (rank k))
+          where
+            go : Dec (rank j ≡ rank k) → AtEnd q (score p q (weights s j) (prices s j)) (s .item j) (e j *ℤ pos q)
+            go (yes f) = absurd (ne (rk .distinct j k m l f))
+            go (no f) = light-at p q j (e j) m nz′ (comm≥ p q (pos (natAbs (weights s j))) (turned (weights s j) (prices s j)) (rw tk at (rk .falls k j l m (omega arith) nz nz′))) h
+
     -- ---- the second exit: the item k of place t does not fit, and takes the room that is left
 
     pub critical : (t k : ℕ) (e M : ℕ → ℤ) (r : ℤ) → k < s .count → rank k ≡ t → weights s k ≢ pos 0 → pos 0 <ℤ turned (weights s k) (prices s k) → r <ℤ (pos (natAbs (weights s k)) *ℤ (hi k -ℤ lo k))
@@ -478,27 +513,8 @@ module _ (s : Instance) (lo hi : ℕ → ℤ) (b : Boxed s lo hi) where
         is j m (yes f) = rw (f, bump-same (λ n. e n *ℤ pos q) k (unit (weights s k) *ℤ (s .capacity -ℤ weighsᴰ s e)), left (weighsᴰ s e) r (s .capacity) (i .level)) (sym own)
         is j m (no f) = bump-other (λ n. e n *ℤ pos q) k (unit (weights s k) *ℤ (s .capacity -ℤ weighsᴰ s e)) j f ∙ sym (others j m f)
 
-        comm≤ : (m n : ℕ) (x y : ℤ) → (pos m *ℤ x) ≤ℤ (y *ℤ pos n) → (pos m *ℤ x) ≤ℤ (pos n *ℤ y)
-        comm≤ m n = split2 _ (λ a b c e. simp zed (omega arith))
-
-        comm≥ : (m n : ℕ) (x y : ℤ) → (y *ℤ pos n) ≤ℤ (pos m *ℤ x) → (pos n *ℤ y) ≤ℤ (pos m *ℤ x)
-        comm≥ m n = split2 _ (λ a b c e. simp zed (omega arith))
-
-        poorer : (m n : ℕ) (x : ℤ) (k : ℕ) → x ≤ℤ pos 0 → (pos n *ℤ x) ≤ℤ (pos m *ℤ pos k)
-        poorer m n = split _ (λ a b k. simp zed (λ h. omega (arith, mul-le-mul-left n h)))
-
-        ends : (j : ℕ) → j < s .count → j ≢ k → Stand t e j → AtEnd q (score p q (weights s j) (prices s j)) (s .item j) (e j *ℤ pos q)
-        ends j m ne (flat z h) = flat-at p q j (e j) m z h
-        ends j m ne (poor nz′ w h) = light-at p q j (e j) m nz′ (poorer p q (turned (weights s j) (prices s j)) (natAbs (weights s j)) w) h
-        ends j m ne (raised nz′ o w h) = heavy-at p q j (e j) m nz′ (comm≤ p q (pos (natAbs (weights s j))) (turned (weights s j) (prices s j)) (rw tk at (rk .falls j k m l (omega arith) nz′ nz))) h
-        ends j m ne (later nz′ o h) = go (ℕ-discrete (rank j) (rank k))
-          where
-            go : Dec (rank j ≡ rank k) → AtEnd q (score p q (weights s j) (prices s j)) (s .item j) (e j *ℤ pos q)
-            go (yes f) = absurd (ne (rk .distinct j k m l f))
-            go (no f) = light-at p q j (e j) m nz′ (comm≥ p q (pos (natAbs (weights s j))) (turned (weights s j) (prices s j)) (rw tk at (rk .falls k j l m (omega arith) nz nz′))) h
-
         at-ends : (j : ℕ) → j < s .count → j ≢ k → AtEnd q (score p q (weights s j) (prices s j)) (s .item j) (e j *ℤ pos q)
-        at-ends j m ne = ends j m ne (stand t e r j m i)
+        at-ends j m ne = standing t k e r l at nz worth i j m ne
 
         within-j : (j : ℕ) → j < s .count → Dec (j ≡ k) → Within q (s .item j) (M j)
         within-j j m (yes f) = rw (f, own) (let g = part (weights s k) (prices s k) (lo k) (hi k) (e k) r nz (i .light k l (inl (omega arith))) (i .room) full in inside q k (e k *ℤ pos q +ℤ unit (weights s k) *ℤ r) l (g .0) (g .1))

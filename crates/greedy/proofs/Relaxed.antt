@@ -2,9 +2,10 @@
 --   boxOf c e marks   the instance of columns and ends, all bounds present
 -- fill-empty: a room below 0 says that nothing is feasible.
 -- fill-bound: otherwise nothing feasible is worth more than the bound.
+-- fill-slope: more weight than that of the whole amounts gains at most its price at the critical item.
 -- fill-point: and the solution is feasible and worth the bound, if every integer item is fixed.
 -- start-inside: a start lies between its ends.
-use mathlib.Core.Path.{_≡_, refl, sym, ap, ap₂, _∙_, subst}
+use mathlib.Core.Path.{_≡_, refl, sym, ap, ap₂, _∙_, subst, subst₂}
 use mathlib.Core.Bool.{Bool, true, false, cond}
 use mathlib.Core.Logic.{_≢_, _⊎_, inl, inr}
 use Prim.Native.Nat.{ℕ, zero, suc, _+_, _*_, _/_, _%_, _≤_, _<_}
@@ -27,14 +28,15 @@ use Rattle.knapsack.specs.declared.Mark.{Mark}
 use Rattle.knapsack.specs.declared.Mark.the-variants.{Integer, Continuous}
 use Rattle.knapsack.specs.Meaning.{Instance, weights, prices}
 use Rattle.knapsack.proofs.Common.{KeepsMarkᴰ, Keepsᴰ, weighsᴰ, valueᴰ, Feasibleᴰ}
-use Rattle.knapsack.proofs.Dual.{Certificate, certified, Within}
+use Rattle.knapsack.proofs.Dual.{score, AtEnd, Certificate, certified, Within, within, slope}
 use Rattle.knapsack.proofs.Branch.{AtMost, leaf, TooHeavy, empty}
 use Rattle.greedy.specs.declared.Columns.{Columns}
 use Rattle.greedy.specs.declared.Ends.{Ends}
 use Rattle.greedy.specs.declared.Fill.{Fill}
 use Rattle.greedy.specs.Fill.{at, weightOf, priceOf, itemOf, rankOf, lightest, heaviest, turned, lightOf, heavyOf, width, begun, raised, raisedBy, fillFrom, fill, sizeOf, rateOf, sharedBy, bound, towards, start, unit, stand, taken, solution}
 use Rattle.greedy.specs.Ordered.{Idle, weightAt, rateAt, Ordered}
-use Rattle.greedy.proofs.Greedy.{Boxed, LightAt, HeavyAt, Ranked, Inv, Critical, too-heavy, begin, raise, finish, inv-feasible, critical, not-idle, abs≥1, turned-abs, light-in, heavy-in, sign-of, turned-up, turned-dn, unit-abs}
+use Rattle.greedy.proofs.Greedy.{Boxed, LightAt, HeavyAt, Ranked, Inv, Critical, too-heavy, begin, raise, finish, inv-feasible, standing, critical, not-idle, abs≥1, turned-abs, light-in, heavy-in, sign-of, turned-up, turned-dn, unit-abs, price-abs}
+use Rattle.greedy.proofs.Critical.{own-score}
 use Rattle.greedy.proofs.Sides.{is-lightest, is-heaviest, lift-price}
 
 abbrev pub boxOf : Columns → Ends → (ℕ → Mark) → Instance
@@ -279,6 +281,41 @@ module _ (c : Columns) (e : Ends) (marks : ℕ → Mark) (o : Ordered c) (b : In
 
     at-limit : Critical s q (solution c e f)
     at-limit = critical s lo hi boxed (rankOf c) ranked (f .at) k (stand c e (f .at)) (solution c e f) (f .room) (k-in (f .at) l) (its-rank (f .at) l) nz (o .live-rate (f .at) l) (rw need-is at short) (g .inv) others-stand own-stand
+
+    rate-is : at (c .rate) (f .at) ≡ pos (natAbs (priceOf c k))
+    rate-is = o .rates (f .at) l ∙ turned-abs (weightOf c k) (priceOf c k) (o .live-rate (f .at) l)
+
+    -- at the critical item's ratio every item stands at its end
+    at-ends : (j : ℕ) → j < c .count → Dec (j ≡ k) → AtEnd q (score (natAbs (priceOf c k)) q (weightOf c j) (priceOf c j)) (s .item j) (stand c e (f .at) j *ℤ pos q)
+    at-ends j m (yes h) = rw (h, own-score (natAbs (priceOf c k)) q (unit (weightOf c k)) (weightOf c k) (priceOf c k) (unit-abs (weightOf c k)) (price-abs (weightOf c k) (priceOf c k) (o .live-rate (f .at) l))) (record { good = λ z. absurd (z .lt); bad = λ z. absurd (z .lt) })
+    at-ends j m (no h) = standing s lo hi boxed (rankOf c) ranked (f .at) k (stand c e (f .at)) (f .room) (k-in (f .at) l) (its-rank (f .at) l) nz (o .live-rate (f .at) l) (g .inv) j m h
+
+    -- more weight than that of the whole amounts gains at most its price at the critical item
+    pub fill-slope : (D : ℕ) (N : ℕ → ℤ) → ((j : ℕ) → j < c .count → Keepsᴰ D (s .item j) (N j)) → (at (c .size) (f .at) *ℤ (valueᴰ s N -ℤ f .worth *ℤ pos D)) ≤ℤ (at (c .rate) (f .at) *ℤ (weighsᴰ s N -ℤ (c .capacity -ℤ f .room) *ℤ pos D))
+    fill-slope D N h = rw (o .sizes (f .at) l, rate-is)
+        (close p q D q≥1 (valueᴰ s N) (weighsᴰ s N) (f .worth) (c .capacity -ℤ f .room)
+        (subst₂ (λ v w. (pos q *ℤ (valueᴰ s N *ℤ pos q) -ℤ pos p *ℤ (weighsᴰ s N *ℤ pos q)) ≤ℤ (pos q *ℤ (v *ℤ pos D) -ℤ pos p *ℤ (w *ℤ pos D)))
+        (sum-times (c .count) (priceOf c) (stand c e (f .at)) q ∙ ap (λ z. z *ℤ pos q) (g .worth-is))
+        (sum-times (c .count) (weightOf c) (stand c e (f .at)) q ∙ ap (λ z. z *ℤ pos q) (left (weighsᴰ s (stand c e (f .at))) (f .room) (c .capacity) (g .inv .level)))
+        (slope s p q q (λ j. stand c e (f .at) j *ℤ pos q) (λ j m. at-ends j m (ℕ-discrete j k)) D N (λ j m. within (h j m)))))
+      where
+        p : ℕ
+        p = natAbs (priceOf c k)
+
+        left : (w r b : ℤ) → w +ℤ r ≡ b → w ≡ b -ℤ r
+        left = split3 _ (λ a b c e f g. simp zed (omega arith))
+
+        close : (p q D : ℕ) → 1 ≤ q → (v w x y : ℤ) → (pos q *ℤ (v *ℤ pos q) -ℤ pos p *ℤ (w *ℤ pos q)) ≤ℤ (pos q *ℤ ((x *ℤ pos q) *ℤ pos D) -ℤ pos p *ℤ ((y *ℤ pos q) *ℤ pos D)) → (pos q *ℤ (v -ℤ x *ℤ pos D)) ≤ℤ (pos p *ℤ (w -ℤ y *ℤ pos D))
+        close p q D q≥1 v w x y h = apart p q D v w x y (times-≤-back q (pos q *ℤ v -ℤ pos p *ℤ w) (pos q *ℤ (x *ℤ pos D) -ℤ pos p *ℤ (y *ℤ pos D)) q≥1 (subst₂ _≤ℤ_ (out p q v w) (out′ p q D x y) h))
+          where
+            out : (p q : ℕ) (v w : ℤ) → pos q *ℤ (v *ℤ pos q) -ℤ pos p *ℤ (w *ℤ pos q) ≡ (pos q *ℤ v -ℤ pos p *ℤ w) *ℤ pos q
+            out p q = split2 _ (λ a b c e. simp zed (omega arith))
+
+            out′ : (p q D : ℕ) (x y : ℤ) → pos q *ℤ ((x *ℤ pos q) *ℤ pos D) -ℤ pos p *ℤ ((y *ℤ pos q) *ℤ pos D) ≡ (pos q *ℤ (x *ℤ pos D) -ℤ pos p *ℤ (y *ℤ pos D)) *ℤ pos q
+            out′ p q D = split2 _ (λ a b c e. simp zed (omega arith))
+
+            apart : (p q D : ℕ) (v w x y : ℤ) → (pos q *ℤ v -ℤ pos p *ℤ w) ≤ℤ (pos q *ℤ (x *ℤ pos D) -ℤ pos p *ℤ (y *ℤ pos D)) → (pos q *ℤ (v -ℤ x *ℤ pos D)) ≤ℤ (pos p *ℤ (w -ℤ y *ℤ pos D))
+            apart p q D = split4 _ (λ a b c e f g h i. simp zed (omega arith))
 
     -- what the solution is worth
     value-is : valueᴰ s (solution c e f) ≡ f .worth *ℤ pos q +ℤ turned (weightOf c k) (priceOf c k) *ℤ f .room

@@ -94,6 +94,20 @@ pub record Certificate (s : Instance) (E : ℕ) (M : ℕ → ℤ) : Type 0 where
   pub ends : (k : ℕ) → k < s .count → AtEnd E (score p q (s .item k .weight) (s .item k .price)) (s .item k) (M k)
   pub tight : pos p *ℤ weighsᴰ s M ≡ pos p *ℤ (s .capacity *ℤ pos E)
 
+-- where every item of M / E stands at its end, more weight than M's gains at most its price
+pub slope : (s : Instance) (p q E : ℕ) (M : ℕ → ℤ) → ((k : ℕ) → k < s .count → AtEnd E (score p q (s .item k .weight) (s .item k .price)) (s .item k) (M k)) → (D : ℕ) (N : ℕ → ℤ) → ((k : ℕ) → k < s .count → Within D (s .item k) (N k))
+    → (pos q *ℤ (valueᴰ s N *ℤ pos E) -ℤ pos p *ℤ (weighsᴰ s N *ℤ pos E)) ≤ℤ (pos q *ℤ (valueᴰ s M *ℤ pos D) -ℤ pos p *ℤ (weighsᴰ s M *ℤ pos D))
+slope s p q E M ends D N inside = subst₂ _≤ℤ_ (scored N E) (scored M D) (sum-mono (s .count) _ _ (λ k l. at-end D E _ (s .item k) (N k) (M k) (inside k l) (ends k l)))
+  where
+    weights : ℕ → ℤ
+    weights k = s .item k .weight
+
+    prices : ℕ → ℤ
+    prices k = s .item k .price
+
+    scored : (X : ℕ → ℤ) (F : ℕ) → sum (s .count) (λ k. score p q (weights k) (prices k) *ℤ (X k *ℤ pos F)) ≡ pos q *ℤ (valueᴰ s X *ℤ pos F) -ℤ pos p *ℤ (weighsᴰ s X *ℤ pos F)
+    scored X F = sum-score (s .count) p q weights prices (λ k. X k *ℤ pos F) ∙ ap₂ (λ x y. pos q *ℤ x -ℤ pos p *ℤ y) (sum-times (s .count) prices X F) (sum-times (s .count) weights X F)
+
 -- no feasible point is worth more than M / E, be M feasible or not
 pub certified : (s : Instance) (E : ℕ) (M : ℕ → ℤ) → 1 ≤ E → Certificate s E M → (D : ℕ) (N : ℕ → ℤ) → 1 ≤ D → Feasibleᴰ s D N → (valueᴰ s N *ℤ pos E) ≤ℤ (valueᴰ s M *ℤ pos D)
 certified s E M e c D N d p = subst₂ _≤ℤ_ (sum-times (s .count) prices N E) (sum-times (s .count) prices M D)

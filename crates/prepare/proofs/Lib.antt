@@ -1,6 +1,6 @@
 pub mod Lists
 pub mod Order
 pub mod Levels
-pub mod Grid
+pub mod Lattices
 pub mod Ready
 pub mod Box

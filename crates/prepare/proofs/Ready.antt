@@ -1,4 +1,4 @@
--- prepared: a setting that is made of a problem's columns, box, levels and grid is that of the problem, and ready for a search.
+-- prepared: a setting that is made of a problem's columns, box, levels and lattices is that of the problem, and ready for a search.
 use mathlib.Core.Path.{_≡_, refl, sym, _∙_}
 use mathlib.Core.Bool.{Bool, true, false}
 use mathlib.Core.Logic.{_≢_}
@@ -8,7 +8,7 @@ use lib.IntN.{ℤ, pos, negsuc, natAbs}
 use lib.Signed.{_≤ℤ_}
 use Rattle.arith.proofs.Integers.{split, zed}
 use Rattle.arith.proofs.Parts.{zs}
-use Rattle.greedy.specs.Fill.{at, place}
+use Rattle.greedy.specs.Fill.{at}
 use Rattle.greedy.specs.Sized.{SizedEnds}
 use Rattle.greedy.specs.declared.Ends.{Ends}
 use Rattle.knapsack.specs.Records.{itemAt, BoundInRange, InOrder, InRange}
@@ -16,7 +16,8 @@ use Rattle.knapsack.specs.declared.Bound.the-variants.{Absent, At}
 use Rattle.knapsack.specs.declared.Bound.{Bound}
 use Rattle.knapsack.specs.declared.Problem.{Problem}
 use Rattle.ordering.specs.Ranking.{Sorted}
-use Rattle.search.specs.Ready.{Gridded, Marked}
+use Rattle.lattice.specs.Lattice.{latticeAt}
+use Rattle.search.specs.Ready.{Changes, Marked}
 use Rattle.search.specs.Search.{levelAt}
 use Rattle.search.specs.declared.Setting.{Setting}
 use Rattle.tables.proofs.Ranges.{low-within, high-within}
@@ -25,8 +26,8 @@ use Rattle.tables.specs.Tables.{Tabled, listed, Leading}
 use Rattle.tables.specs.declared.Figure.the-variants.{Low, High}
 use Rattle.tables.specs.declared.Key.{Key}
 use Rattle.tables.specs.declared.Test.the-variants.{Level}
-use Rattle.prepare.specs.Prepared.{Columned, Boxed, Gridding, Prepared}
-use Rattle.prepare.proofs.Grid.{fixed-ends, grid-fixed, grid-divides}
+use Rattle.prepare.specs.Prepared.{Columned, Boxed, Latticing, Prepared}
+use Rattle.prepare.proofs.Lattices.{fixed-ends, lattice-fixed}
 use Rattle.prepare.proofs.Levels.{Tells, level-in, level-once, level-integer, level-of, is-integer}
 use Rattle.prepare.proofs.Lists.{tabled-below, tabled-within}
 use Rattle.prepare.proofs.Order.{weight-is, price-is, columns-ordered, columns-sized}
@@ -72,9 +73,12 @@ pub record Made (p : Problem) (by : Key) (s : Setting) : Type 0 where
   pub leading : Leading (p .count) (λ u. passes Level (listed p (s .level) u)) (s .levels)
   pub lows : Tabled (s .levels) (λ u. figureOf Low (listed p (s .level) u)) (s .low)
   pub highs : Tabled (s .levels) (λ u. figureOf High (listed p (s .level) u)) (s .high)
-  pub gridding : Gridding p (s .level) (s .levels) (s .grid)
+  pub latticing : Latticing p (s .level) (s .levels) (s .lattice)
 
 module _ (p : Problem) (r : InRange p) (by : Key) (s : Setting) (m : Made p by s) where
+  few : s .levels ≤ 16
+  few = omega (arith, m .leading .most, r .few-items)
+
   inside : (d : ℕ) → d < s .levels → levelAt s d < p .count
   inside = level-in p by (m .tells) (s .level) (s .levels) (m .sorted) (m .leading)
 
@@ -101,11 +105,11 @@ module _ (p : Problem) (r : InRange p) (by : Key) (s : Setting) (m : Made p by s
       go true e = absurd (found (marked .level k (omega (arith, m .columned .count)) (is-integer (itemAt p k .mark) e)))
       go false e = e
 
-  gridded : (d : ℕ) → d < s .levels → place (s .grid) d ≢ 0 → Gridded s d
-  gridded d l nz = record {
+  changes : (d : ℕ) → d < s .levels → latticeAt (s .lattice) d .stride ≢ pos 0 → Changes s d
+  changes d l nz = record {
     fixed = λ k h n. let j : k < p .count = omega (arith, m .columned .count) in
-        low-is p r (s .ends) (m .boxed) k j ∙ fixed-ends (itemAt p k) (r .items-in k j .in-order) (grid-fixed p (s .level) (s .levels) (s .grid) (m .gridding) d nz k j) (no-level k j n) ∙ sym (high-is p r (s .ends) (m .boxed) k j);
-    multiples = λ j a b. rw (price-is p (s .cols) r (m .columned) (levelAt s j) (inside j b)) (grid-divides p (s .level) (s .levels) (s .grid) (m .gridding) d nz j l a b);
+        low-is p r (s .ends) (m .boxed) k j ∙ fixed-ends (itemAt p k) (r .items-in k j .in-order) (lattice-fixed p (s .level) (s .levels) (s .lattice) (m .latticing) d (omega (arith, few)) nz k j) (no-level k j n) ∙ sym (high-is p r (s .ends) (m .boxed) k j);
+    on = λ j a b. rw (weight-is p (s .cols) r (m .columned) (levelAt s j) (inside j b), price-is p (s .cols) r (m .columned) (levelAt s j) (inside j b)) (m .latticing .on d l nz j a b);
   }
 
   pub prepared : Prepared p s
@@ -120,12 +124,13 @@ module _ (p : Problem) (r : InRange p) (by : Key) (s : Setting) (m : Made p by s
       sized = record { columns = columns-sized p (s .cols) r (m .columned); ends = box-sized p r (s .ends) (m .boxed) };
       ordered = columns-ordered p (s .cols) r (m .columned);
       in-order = λ k h. box-in-order p r (s .ends) (m .boxed) k (omega (arith, m .columned .count));
-      few = omega (arith, m .leading .most, r .few-items);
+      few = few;
       level-in = λ d h. omega (arith, m .columned .count, inside d h);
       distinct = level-once p by (m .tells) (s .level) (s .levels) (m .sorted) (m .leading);
       low-is = low-at;
       high-is = high-at;
-      gridded = gridded;
+      tame = m .latticing .tame;
+      changes = changes;
     };
     marked = marked;
   }

@@ -3,26 +3,30 @@
 --   Boxed p e        its ends: an absent bound is 300,000,000 away (knapsack, proofs/Reach)
 --   criticalKey c f  how the items are ordered for branching where the filling f stops: by their reduced prices at the critical
 --                    item's price per weight; by price alone where there is none
---   Gridding p l n r r is the grid of the levels l: common divisors of the prices from a level on, 0 where a continuous item is free
+--   Latticing p l n r  r holds lattices of the levels l: of what the items from a level on change; nothing is known where a
+--                    continuous item is free
 --   Prepared p s     the setting s is that of p, and in order
 use mathlib.Core.Path.{_≡_}
 use mathlib.Core.Bool.{true, false, cond}
 use mathlib.Core.List.{List}
-use Prim.Native.Nat.{ℕ, _-_, _<_}
+use mathlib.Core.Logic.{_≢_}
+use Prim.Native.Nat.{ℕ, _≤_, _<_}
 use lib.Dec.{ltb}
 use lib.IntN.{pos}
 use lib.Signed.{ltZ}
-use Rattle.greedy.specs.Fill.{at, place, weightOf, priceOf}
+use Rattle.greedy.specs.Fill.{at, weightOf, priceOf}
 use Rattle.greedy.specs.declared.Columns.{Columns}
 use Rattle.greedy.specs.declared.Ends.{Ends}
 use Rattle.greedy.specs.declared.Fill.{Fill}
 use Rattle.knapsack.specs.Records.{itemAt}
 use Rattle.knapsack.specs.declared.Problem.{Problem}
+use Rattle.lattice.specs.Lattice.{On, Tame, latticeAt}
+use Rattle.lattice.specs.declared.Lattice.{Lattice}
 use Rattle.ordering.specs.Ranking.{Sorted}
 use Rattle.search.specs.Ready.{ReadySetting, Marked}
 use Rattle.search.specs.declared.Setting.{Setting}
 use Rattle.tables.specs.Figures.{lowEnd, highEnd, figureOf, fixed, passes, keyOf}
-use Rattle.tables.specs.Tables.{Tabled, listed, Leading, Inverted, common}
+use Rattle.tables.specs.Tables.{Tabled, listed, Leading, Inverted}
 use Rattle.tables.specs.declared.Figure.the-variants.{Weight, Price, Low, High, Size, Rate}
 use Rattle.tables.specs.declared.Key.the-variants.{Filling, Branching}
 use Rattle.tables.specs.declared.Key.{Key}
@@ -49,9 +53,10 @@ byPrice = Branching (pos 0) (pos 1)
 abbrev pub criticalKey : Columns → Fill → Key
 criticalKey c f = cond (ltZ (f .room) (pos 0)) byPrice (cond (ltb (f .at) (c .live)) (Branching (at (c .rate) (f .at)) (at (c .size) (f .at))) byPrice)
 
-pub record Gridding (p : Problem) (l : List ℕ) (n : ℕ) (r : List ℕ) : Type 0 where
-  pub free : (k : ℕ) → k < p .count → fixed (itemAt p k) ≡ false → (d : ℕ) → place r d ≡ 0
-  pub bound : ((k : ℕ) → k < p .count → fixed (itemAt p k) ≡ true) → (d : ℕ) → d < n → place r d ≡ common (λ j. listed p l j .price) d (n - d)
+pub record Latticing (p : Problem) (l : List ℕ) (n : ℕ) (r : List Lattice) : Type 0 where
+  pub tame : (d : ℕ) → d < 16 → Tame (latticeAt r d)
+  pub free : (k : ℕ) → k < p .count → fixed (itemAt p k) ≡ false → (d : ℕ) → d < 16 → latticeAt r d .stride ≡ pos 0
+  pub on : (d : ℕ) → d < n → latticeAt r d .stride ≢ pos 0 → (j : ℕ) → d ≤ j → j < n → On (latticeAt r d) (listed p l j .weight) (listed p l j .price)
 
 pub record Prepared (p : Problem) (s : Setting) : Type 0 where
   pub count : s .cols .count ≡ p .count

@@ -1,16 +1,18 @@
 // From an accepted problem, everything that a search needs: the columns in the order of filling, the box, and the integer items as
-// levels in the order of branching, with their ends and the grid of their values. Paper 01, "Relaxation", has the order of filling;
+// levels in the order of branching, with their ends and the lattices of what they change. Paper 01, "Relaxation", has the order of filling;
 // ties are parted for small answers, see tables, fillingKey.
 use greedy::Columns;
 use greedy::Ends;
 use greedy::fill_up;
 use knapsack::Problem;
+use lattice::Lattice;
+use lattice::lattices;
+use lattice::unknown_lattices;
 use search::Setting;
 use tables::Figure;
 use tables::Key;
 use tables::Test;
 use tables::all_places;
-use tables::divisors;
 use tables::inverse;
 use tables::leading;
 use tables::ranking_by;
@@ -20,7 +22,7 @@ ghost use Prim.Native.Nat.{ℕ, _≤_, _<_};
 ghost use Rattle.greedy.specs.Fill.{fill};
 ghost use Rattle.greedy.specs.Sized.{Sized};
 ghost use Rattle.knapsack.specs.Records.{InRange};
-ghost use Rattle.prepare.specs.Prepared.{Columned, Boxed, criticalKey, Gridding, Prepared};
+ghost use Rattle.prepare.specs.Prepared.{Columned, Boxed, criticalKey, Latticing, Prepared};
 ghost use Rattle.tables.specs.Tables.{Listing};
 
 // The problem by columns.
@@ -79,18 +81,19 @@ fn branching(cols: Columns, ends: Ends) -> Key
     Key::Branching(0, 1)
 }
 
-// The grid of the first n levels.
-fn grid_of(p: Problem, level: [usize; 16], n: usize) -> [u64; 16]
+// The lattices of the first n levels; where a continuous item is free, nothing is known.
+fn lattices_of(p: Problem, level: [usize; 16], n: usize) -> [Lattice; 16]
     requires { ⌜ Listing p level n ⌝ }
-    ensures { λ r. ⌜ Gridding p level n r ⌝ }
+    ensures { λ r. ⌜ Latticing p level n r ⌝ }
 {
     let items = all_places();
     let fixed = leading(p, items, Test::Fixed);
     if fixed < p.count {
-        return [0; 16];
+        return unknown_lattices();
     }
+    let weight = table(p, level, n, Figure::Weight);
     let price = table(p, level, n, Figure::Price);
-    divisors(price, n)
+    lattices(weight, price, n)
 }
 
 // Everything that a search needs.
@@ -105,14 +108,14 @@ pub fn prepare(p: Problem) -> Setting
     let levels = leading(p, level, Test::Level);
     let low = table(p, level, levels, Figure::Low);
     let high = table(p, level, levels, Figure::High);
-    let grid = grid_of(p, level, levels);
+    let lattice = lattices_of(p, level, levels);
     Setting {
         cols: cols,
         ends: ends,
         level: level,
         low: low,
         high: high,
-        grid: grid,
+        lattice: lattice,
         levels: levels,
     }
 }

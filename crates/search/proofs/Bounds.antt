@@ -1,21 +1,27 @@
 -- How large a filling's bound is, and that it can be compared.
-use mathlib.Core.Path.{_≡_, refl}
+use mathlib.Core.Path.{_≡_, refl, sym, subst}
 use mathlib.Core.Bool.{Bool, true, false, cond}
-use Prim.Native.Nat.{ℕ, _*_, _-_, _/_, _%_, _≤_, _<_}
+use Prim.Native.Nat.{ℕ, _*_, _/_, _%_, _≤_, _<_}
 use native.Mathlib.Nat.{div-le-self, mod-lt, mul-le-mul}
 use native.Mathlib.Omega.{arith}
-use lib.Dec.{ltb, eqb}
-use lib.IntN.{ℤ, pos, natAbs, _+ℤ_, _-ℤ_}
+use lib.Dec.{ltb}
+use lib.IntN.{ℤ, pos, natAbs, _+ℤ_}
+use lib.Signed.{_<ℤ_}
 use borrow.Author.Tests.{ltb-true}
 use Rattle.arith.specs.Within.{Within}
 use Rattle.arith.specs.Mixed.{Proper}
 use Rattle.arith.specs.declared.Mixed.{Mixed}
-use Rattle.arith.proofs.Parts.{within-add, within-more, within-abs}
+use Rattle.arith.proofs.Integers.{_⊖_, zed}
+use Rattle.arith.proofs.Parts.{within-add, within-more, within-abs, lt-le}
 use Rattle.greedy.specs.declared.Columns.{Columns}
 use Rattle.greedy.specs.declared.Fill.{Fill}
 use Rattle.greedy.specs.Fill.{at, sizeOf, rateOf, sharedBy, bound}
 use Rattle.greedy.specs.Sized.{SizedFill}
-use Rattle.search.specs.Search.{coarse}
+use Rattle.greedy.specs.Ordered.{weightAt, Ordered}
+use Rattle.greedy.proofs.Greedy.{abs≥1}
+use Rattle.lattice.specs.Lattice.{Steep}
+use Rattle.search.specs.declared.Setting.{Setting}
+use Rattle.search.specs.Search.{slopeOf}
 
 module _ (c : Columns) (f : Fill) (z : SizedFill c f) where
   pub bound-proper : Proper (bound c f)
@@ -40,9 +46,15 @@ module _ (c : Columns) (f : Fill) (z : SizedFill c f) where
       go true = within-more (omega arith) (within-add (z .worth-in) share-within)
       go false = within-more (omega arith) (z .worth-in)
 
-pub coarse-proper : (g : ℕ) (f : Fill) (b : Mixed) → Proper b → Proper (coarse g f b)
-coarse-proper g f b h = go (eqb g 0)
+-- the slope of a filling that ends at a rank
+pub steep : (s : Setting) (f : Fill) → Ordered (s .cols) → SizedFill (s .cols) f → f .at < s .cols .live → Steep (slopeOf (s .cols) f)
+steep s f o z l = record {
+  worth-in = z .worth-in;
+  rate-in = z .columns .rates-in (f .at);
+  rate≥0 = lt-le (subst (λ x. pos 0 <ℤ x) (sym (o .rates (f .at) l)) (o .live-rate (f .at) l));
+  size-in = z .columns .sizes-in (f .at);
+  size≥1 = subst (λ x. pos 0 <ℤ x) (sym (o .sizes (f .at) l)) (above (natAbs (weightAt (s .cols) (f .at))) (abs≥1 (weightAt (s .cols) (f .at)) (o .live-weight (f .at) l)));
+}
   where
-    go : (t : Bool) → Proper (cond t b (record { whole = f .worth +ℤ pos (natAbs (b .whole -ℤ f .worth) - natAbs (b .whole -ℤ f .worth) % g); part = 0; parts = 1 }))
-    go true = h
-    go false = record { low = omega arith; few = omega arith }
+    above : (n : ℕ) → 1 ≤ n → pos 0 <ℤ pos n
+    above n h = simp zed (omega arith)

@@ -25,6 +25,7 @@ module _ (s : Setting) (r : ReadySetting s) (long : Long (s .ends)) (P : ℕ →
     in-order = fixed-order s r long P d l;
     level-in = n;
     proper = p;
+    tame = r .tame k n;
   }
 
   pub run-judged : (v : ℤ) (d : ℕ) (b : Incumbent) → d < s .levels → ProperBest b → Judges s (runEnds s P v d) d b
@@ -43,6 +44,7 @@ module _ (s : Setting) (r : ReadySetting s) (long : Long (s .ends)) (P : ℕ →
         in-order = span-order s r long e (levelAt s d) x y (fixed-long s r long P d) (item<16 s r long d l) h (fixed-order s r long P d (omega arith));
         level-in = omega (arith, r .few);
         proper = p;
+        tame = r .tame d (omega (arith, r .few));
       }
 
       go : (t : Bool) → Judges s (cond t (spanned e (levelAt s d) (at (s .low) d) (P d)) (spanned e (levelAt s d) (P d) (at (s .high) d))) d b

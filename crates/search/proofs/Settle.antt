@@ -1,9 +1,9 @@
 -- Each verdict of a look settles what it covers.
--- cut-settles: a run whose relaxation is empty or no better than the incumbent.
+-- cut-settles: a run whose relaxation is empty or no better than the incumbent, or whose lattice has nothing better.
 -- pair-settles: a prefix from which a domination pair can be taken away.
 -- tried-settles, tried-keeps: the place itself, and that what was settled stays so.
 use mathlib.Core.Path.{_≡_, refl, sym, ap, ap₂, _∙_, subst, subst₂}
-use mathlib.Core.Bool.{Bool, true, false, cond, not}
+use mathlib.Core.Bool.{Bool, true, false, cond}
 use mathlib.Core.List.{List}
 use mathlib.Core.Logic.{_≢_, _⊎_, inl, inr}
 use Prim.Native.Nat.{ℕ, zero, suc, _+_, _*_, _≤_, _<_}
@@ -30,17 +30,21 @@ use Rattle.places.proofs.Places.{Agree, Run}
 use Rattle.search.specs.declared.Setting.{Setting}
 use Rattle.search.specs.declared.Pairs.{Pairs}
 use Rattle.search.specs.declared.Incumbent.{Incumbent}
-use Rattle.search.specs.Search.{levelAt, fixedBy, startBy, runEnds, coarse, cutBy, betters, triedBy, pairIndex, Applies}
+use Rattle.search.specs.Search.{levelAt, fixedBy, startBy, runEnds, sparseBy, cutBy, betters, triedBy, pairIndex, Applies}
 use Rattle.search.specs.Ready.{ReadySetting, ReadyPairs, TruePair, Inside, Marked}
 use Rattle.search.specs.Steps.{Long, ProperBest, Judges}
 use Rattle.search.proofs.Boxes.{orderOf, item<16}
-use Rattle.search.proofs.Bounds.{bound-proper, coarse-proper}
+use Rattle.search.proofs.Bounds.{bound-proper}
 use Rattle.search.proofs.Runs.{fixed-judged, run-judged}
-use Rattle.search.proofs.Cuts.{box, AtPlace, AtMostBest, Bettered, Settled, no-better, rebox, in-fixed, in-run, rounded}
+use Rattle.search.proofs.Cuts.{box, AtPlace, AtMostBest, Bettered, Settled, no-better, rebox, in-fixed, in-run, bounded, sparse-most}
 
 -- a value that betters an incumbent's is above what the incumbent is above
 passed-on : (d e f : ℕ) → 1 ≤ e → (x y z : ℤ) → (x *ℤ pos e) ≤ℤ (y *ℤ pos d) → (y *ℤ pos f) <ℤ (z *ℤ pos e) → (x *ℤ pos f) ≤ℤ (z *ℤ pos d)
 passed-on d e f e≥1 = split3 _ (λ a b c g h i. simp zed (λ k l. le-of-mul-le-mul-right {k = e} (omega (arith, mul-le-mul-left f k, mul-le-mul-left d l)) e≥1))
+
+-- what is at most the whole part is at most the number
+whole-most : (n k D : ℕ) (v w : ℤ) → v ≤ℤ (w *ℤ pos D) → (v *ℤ pos n) ≤ℤ ((w *ℤ pos n +ℤ pos k) *ℤ pos D)
+whole-most n k D = split2 _ (λ a b c e. simp zed (λ h. omega (arith, mul-le-mul-right n h)))
 
 module _ (s : Setting) (r : ReadySetting s) (long : Long (s .ends)) (marks : ℕ → Mark) (m : Marked s marks) (P : ℕ → ℤ) (inside : Inside s P) where
   pub cut-settles : (d : ℕ) (b : Incumbent) → d < s .levels → ProperBest b → cutBy s (runEnds s P (startBy s P d) d) d b ≡ true → (y : ℕ → ℤ) → Run (orderOf s) d P y → Settled s marks b y
@@ -60,28 +64,29 @@ module _ (s : Setting) (r : ReadySetting s) (long : Long (s .ends)) (marks : ℕ
       in-e = rebox (s .cols) (s .ends) e marks D N (in-run s r long marks m D N d≥1 p y a P d l run) p
 
       v : Mixed
-      v = coarse (place (s .grid) d) f (bound (s .cols) f)
+      v = bound (s .cols) f
 
-      v-proper : Proper (bound (s .cols) f)
+      v-proper : Proper v
       v-proper = bound-proper (s .cols) f (fill-sized (s .cols) e (j .sized))
 
-      compared : Stopped (s .cols) e marks (r .ordered) (j .in-order) f → (t : Bool) → b .found ≡ t → cond t (not (lessMixed (b .value) v)) false ≡ true → AtMostBest s marks b D N ⊎ Bettered s marks D N
-      compared st false q k = absurd (impossible k)
-      compared st true q k = inl (no-better s marks b v D N q (proper q) (coarse-proper (place (s .grid) d) f (bound (s .cols) f) v-proper) (turned (lessMixed (b .value) v) k) (rounded s r long marks m D N d≥1 p y a P d l run (j .in-order) st v-proper))
-        where
-          turned : (t : Bool) → not t ≡ true → t ≡ false
-          turned true z = sym z
-          turned false z = refl
+      -- where the bound is no better, and where it is but the run is sparse
+      better? : Stopped (s .cols) e marks (r .ordered) (j .in-order) f → b .found ≡ true → (t : Bool) → lessMixed (b .value) v ≡ t → cond t (sparseBy s f d (b .value .whole)) true ≡ true → AtMostBest s marks b D N ⊎ Bettered s marks D N
+      better? st q false z k = inl (no-better s marks b v D N q (proper q) v-proper z (bounded s r long marks m D N d≥1 p y a P d l run (j .in-order) st))
+      better? st q true z k = inl (q, whole-most (b .value .parts) (b .value .part) D (valueᴰ (box s marks) N) (b .value .whole) (sparse-most s r long marks m D N d≥1 p y a P d l run (j .in-order) st (fill-sized (s .cols) e (j .sized)) (b .value .whole) k))
 
-      empty? : (t : Bool) → ltZ (f .room) (pos 0) ≡ t → cond (ltZ (f .room) (pos 0)) true (cond (b .found) (not (lessMixed (b .value) v)) false) ≡ true → AtMostBest s marks b D N ⊎ Bettered s marks D N
+      compared : Stopped (s .cols) e marks (r .ordered) (j .in-order) f → (t : Bool) → b .found ≡ t → cond t (cond (lessMixed (b .value) v) (sparseBy s f d (b .value .whole)) true) false ≡ true → AtMostBest s marks b D N ⊎ Bettered s marks D N
+      compared st false q k = absurd (impossible k)
+      compared st true q k = better? st q (lessMixed (b .value) v) refl k
+
+      empty? : (t : Bool) → ltZ (f .room) (pos 0) ≡ t → cond (ltZ (f .room) (pos 0)) true (cond (b .found) (cond (lessMixed (b .value) v) (sparseBy s f d (b .value .whole)) true) false) ≡ true → AtMostBest s marks b D N ⊎ Bettered s marks D N
       empty? true q k = absurd (fill-empty (s .cols) e marks (r .ordered) (j .in-order) (yes-lt q) D N d≥1 in-e)
       empty? false q k = compared (fill-stopped (s .cols) e marks (r .ordered) (j .in-order) (no-lt q)) (b .found) refl (rw q at k)
 
   pub pair-settles : (ps : Pairs) → ReadyPairs (s .cols) ps → (d : ℕ) (b : Incumbent) → d < s .levels → Applies s ps P d → (y : ℕ → ℤ) → Agree (suc d) P y → Settled s marks b y
   pair-settles ps rp d b l q y h D N d≥1 p a =
       inr (pair-discard (box s marks) D N i k rr tt′ (r .level-in d l) (r .level-in (q .above) above-in) ne p (true-pair .heavy) (true-pair .loss)
-      (record { above = low d l (q .low); below = high d l (q .high) })
-      (record { above = low′ (q .above-low); below = high′ (q .above-high) }))
+      (record { above = low d l (q .here .own .low); below = high d l (q .here .own .high) })
+      (record { above = low′ (q .here .other .low); below = high′ (q .here .other .high) }))
     where
       i : ℕ
       i = levelAt s d
@@ -99,7 +104,7 @@ module _ (s : Setting) (r : ReadySetting s) (long : Long (s .ends)) (marks : ℕ
       above-in = omega (arith, q .is-above)
 
       true-pair : TruePair (s .cols) ps i k
-      true-pair = rp .pairs i k (item<16 s r long d l) (item<16 s r long (q .above) above-in) (q .moves)
+      true-pair = rp .pairs i k (item<16 s r long d l) (item<16 s r long (q .above) above-in) (q .here .moves)
 
       ne : k ≢ i
       ne z = apart (r .distinct (q .above) d above-in l z)

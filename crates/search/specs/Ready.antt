@@ -1,5 +1,5 @@
 -- What a search relies on, and what it gives.
---   ReadySetting s   the setting is in order: sizes, the order by price per weight, the levels, the grid
+--   ReadySetting s   the setting is in order: sizes, the order by price per weight, the levels, the lattices
 --   ReadyPairs c p   the pairs are true of the columns
 --   Inside s x       a place is in the box
 --   Marked s marks   the integer items are those of the levels
@@ -10,26 +10,26 @@ use mathlib.Core.Logic.{_≢_}
 use Prim.Native.Nat.{ℕ, _≤_, _<_}
 use lib.IntN.{ℤ, pos, natAbs, _+ℤ_, _*ℤ_}
 use lib.Signed.{_≤ℤ_, _<ℤ_}
-use Rattle.arith.specs.Gcd.{Divides}
 use Rattle.knapsack.specs.declared.Mark.{Mark}
 use Rattle.knapsack.specs.declared.Mark.the-variants.{Integer}
 use Rattle.arith.specs.Mixed.{Proper}
 use Rattle.arith.proofs.Mixes.{over}
 use Rattle.knapsack.proofs.Common.{valueᴰ, Feasibleᴰ, Optimalᴰ}
 use Rattle.greedy.specs.declared.Columns.{Columns}
-use Rattle.greedy.specs.Fill.{at, place, weightOf, priceOf, fill, bound, solution}
+use Rattle.greedy.specs.Fill.{at, weightOf, priceOf, fill, bound, solution}
 use Rattle.greedy.specs.Sized.{Sized}
 use Rattle.greedy.specs.Ordered.{Ordered}
 use Rattle.greedy.proofs.Relaxed.{boxOf, InOrder}
+use Rattle.lattice.specs.Lattice.{On, Tame, latticeAt}
 use Rattle.search.specs.declared.Setting.{Setting}
 use Rattle.search.specs.declared.Pairs.{Pairs}
 use Rattle.search.specs.declared.Incumbent.{Incumbent}
 use Rattle.search.specs.Search.{levelAt, fixedBy, pairIndex}
 
--- at grid d, every item of no level is fixed, and the prices of the levels from d on are multiples
-pub record Gridded (s : Setting) (d : ℕ) : Type 0 where
+-- every item of no level is fixed, and what the levels from d on change is on d's lattice
+pub record Changes (s : Setting) (d : ℕ) : Type 0 where
   pub fixed : (k : ℕ) → k < s .cols .count → ((j : ℕ) → j < s .levels → levelAt s j ≢ k) → at (s .ends .lo) k ≡ at (s .ends .hi) k
-  pub multiples : (j : ℕ) → d ≤ j → j < s .levels → Divides (place (s .grid) d) (natAbs (priceOf (s .cols) (levelAt s j)))
+  pub on : (j : ℕ) → d ≤ j → j < s .levels → On (latticeAt (s .lattice) d) (weightOf (s .cols) (levelAt s j)) (priceOf (s .cols) (levelAt s j))
 
 -- taking the pair's steps away weighs no more and is worth more
 pub record TruePair (c : Columns) (p : Pairs) (i j : ℕ) : Type 0 where
@@ -45,7 +45,8 @@ pub record ReadySetting (s : Setting) : Type 0 where
   pub distinct : (i j : ℕ) → i < s .levels → j < s .levels → levelAt s i ≡ levelAt s j → i ≡ j
   pub low-is : (d : ℕ) → d < s .levels → at (s .low) d ≡ at (s .ends .lo) (levelAt s d)
   pub high-is : (d : ℕ) → d < s .levels → at (s .high) d ≡ at (s .ends .hi) (levelAt s d)
-  pub gridded : (d : ℕ) → d < s .levels → place (s .grid) d ≢ 0 → Gridded s d
+  pub tame : (d : ℕ) → d < 16 → Tame (latticeAt (s .lattice) d)
+  pub changes : (d : ℕ) → d < s .levels → latticeAt (s .lattice) d .stride ≢ pos 0 → Changes s d
 
 pub record ReadyPairs (c : Columns) (p : Pairs) : Type 0 where
   pub steps-in : (k : ℕ) → (natAbs (at (p .first) k) ≤ 1000) × (natAbs (at (p .second) k) ≤ 1000)

@@ -3,17 +3,17 @@
 --   fixedBy s P d       the search's box with the first d levels fixed at P
 --   startBy s P d       where level d starts below P's first d amounts: its item's amount in the relaxation, rounded to the light end
 --   runBox, runEnds     the box of P's run at level d, which starts at v: what is left of its segment there, and all below
---   coarse g f b        the bound b rounded down, where all values differ by multiples of g
+--   sparseBy s f d b    no value above b is found on the lattice of level d, within the room and the slope of the filling f
 --   cutBy s e d best    the box e holds nothing, or nothing better than the incumbent
 --   triedBy s e x best  the better of the incumbent and the relaxation of e, a place with all levels fixed at x
 --   Applies s p x d     a domination pair of level d's item and one above can be taken away from x within the box
 use mathlib.Core.Path.{_≡_}
-use mathlib.Core.Bool.{Bool, true, false, cond, not}
+use mathlib.Core.Bool.{Bool, true, false, cond}
 use mathlib.Core.List.{List}
 use mathlib.Core.Logic.{_≢_}
-use Prim.Native.Nat.{ℕ, zero, suc, _+_, _*_, _-_, _%_, _≤_, _<_}
-use lib.Dec.{eqb}
-use lib.IntN.{ℤ, pos, natAbs, _+ℤ_, _-ℤ_, _*ℤ_}
+use Prim.Native.Nat.{ℕ, zero, suc, _+_, _*_, _≤_, _<_}
+use lib.Dec.{ltb}
+use lib.IntN.{ℤ, pos, _-ℤ_}
 use lib.ListN.{getD, set}
 use lib.Signed.{ltZ, _≤ℤ_}
 use Rattle.arith.specs.Mixed.{lessMixed}
@@ -22,6 +22,8 @@ use Rattle.greedy.specs.declared.Columns.{Columns}
 use Rattle.greedy.specs.declared.Ends.{Ends}
 use Rattle.greedy.specs.declared.Fill.{Fill}
 use Rattle.greedy.specs.Fill.{at, place, fill, bound, start}
+use Rattle.lattice.specs.declared.Slope.{Slope}
+use Rattle.lattice.specs.Lattice.{latticeAt, barrenBy}
 use Rattle.search.specs.declared.Setting.{Setting}
 use Rattle.search.specs.declared.Pairs.{Pairs}
 use Rattle.search.specs.declared.Incumbent.{Incumbent}
@@ -46,14 +48,17 @@ runBox s e d x v = cond (ltZ x v) (spanned e (levelAt s d) (at (s .low) d) x) (s
 abbrev pub runEnds : Setting → (ℕ → ℤ) → ℤ → ℕ → Ends
 runEnds s P v d = runBox s (fixedBy s P d) d (P d) v
 
--- the bound's excess over the whole amounts' worth, rounded down to a multiple of g; g = 0: no rounding
-abbrev pub coarse : ℕ → Fill → Mixed → Mixed
-coarse g f b = cond (eqb g 0) b (record { whole = f .worth +ℤ pos (natAbs (b .whole -ℤ f .worth) - natAbs (b .whole -ℤ f .worth) % g); part = 0; parts = 1 })
+-- the critical item's price for its weight, from the whole amounts' worth on
+abbrev pub slopeOf : Columns → Fill → Slope
+slopeOf c f = record { worth = f .worth; rate = at (c .rate) (f .at); size = at (c .size) (f .at) }
+
+unfoldable pub sparseBy : Setting → Fill → ℕ → ℤ → Bool
+sparseBy s f d b = cond (ltb (f .at) (s .cols .live)) (barrenBy (latticeAt (s .lattice) d) (slopeOf (s .cols) f) (f .room) b) false
 
 unfoldable pub cutBy : Setting → Ends → ℕ → Incumbent → Bool
 cutBy s e d best =
     cond (ltZ (fill (s .cols) e .room) (pos 0)) true
-    (cond (best .found) (not (lessMixed (best .value) (coarse (place (s .grid) d) (fill (s .cols) e) (bound (s .cols) (fill (s .cols) e))))) false)
+    (cond (best .found) (cond (lessMixed (best .value) (bound (s .cols) (fill (s .cols) e))) (sparseBy s (fill (s .cols) e) d (best .value .whole)) true) false)
 
 -- whether a value is better than the incumbent's
 abbrev pub betters : Mixed → Incumbent → Bool
@@ -64,15 +69,27 @@ triedBy s e x best =
     cond (ltZ (fill (s .cols) e .room) (pos 0)) best
     (cond (betters (bound (s .cols) (fill (s .cols) e)) best) (record { found = true; place = x; value = bound (s .cols) (fill (s .cols) e) }) best)
 
+-- x less r lies within l and u
+pub record Stays (x r l u : ℤ) : Type 0 where
+  pub low : l ≤ℤ (x -ℤ r)
+  pub high : (x -ℤ r) ≤ℤ u
+
 -- the steps of the pair of two items
 abbrev pub pairIndex : ℕ → ℕ → ℕ
 pairIndex i j = 16 * i + j
 
+-- the pair of the items of level d and of the level j above can be taken away from x within the box
+pub record AppliesAt (s : Setting) (p : Pairs) (x : ℕ → ℤ) (d j : ℕ) : Type 0 where
+  pub moves : at (p .first) (pairIndex (levelAt s d) (levelAt s j)) ≢ pos 0
+  pub own : Stays (x d) (at (p .first) (pairIndex (levelAt s d) (levelAt s j))) (at (s .low) d) (at (s .high) d)
+  pub other : Stays (x j) (at (p .second) (pairIndex (levelAt s d) (levelAt s j))) (at (s .low) j) (at (s .high) j)
+
 pub record Applies (s : Setting) (p : Pairs) (x : ℕ → ℤ) (d : ℕ) : Type 0 where
   pub above : ℕ
   pub is-above : above < d
-  pub moves : at (p .first) (pairIndex (levelAt s d) (levelAt s above)) ≢ pos 0
-  pub low : at (s .low) d ≤ℤ (x d -ℤ at (p .first) (pairIndex (levelAt s d) (levelAt s above)))
-  pub high : (x d -ℤ at (p .first) (pairIndex (levelAt s d) (levelAt s above))) ≤ℤ at (s .high) d
-  pub above-low : at (s .low) above ≤ℤ (x above -ℤ at (p .second) (pairIndex (levelAt s d) (levelAt s above)))
-  pub above-high : (x above -ℤ at (p .second) (pairIndex (levelAt s d) (levelAt s above))) ≤ℤ at (s .high) above
+  pub here : AppliesAt s p x d above
+
+-- a test and what it decides
+pub record Decides (P : Type 0) (b : Bool) : Type 0 where
+  pub holds : b ≡ true → P
+  pub fails : b ≡ false → ¬ P

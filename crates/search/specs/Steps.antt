@@ -13,13 +13,12 @@ use lib.ListN.{length, set, replicate}
 use lib.Signed.{_≤ℤ_}
 use Rattle.arith.specs.Mixed.{Proper}
 use Rattle.greedy.specs.Fill.{at, fill, start}
-use Rattle.arith.specs.Within.{Within}
-use Rattle.arith.specs.declared.Mixed.{Mixed}
 use Rattle.greedy.specs.declared.Ends.{Ends}
 use Rattle.greedy.specs.declared.Fill.{Fill}
-use Rattle.greedy.specs.Sized.{Sized}
+use Rattle.greedy.specs.Sized.{Sized, SizedFill}
 use Rattle.greedy.specs.Ordered.{Ordered}
 use Rattle.greedy.proofs.Relaxed.{InOrder}
+use Rattle.lattice.specs.Lattice.{Tame, latticeAt}
 use Rattle.places.specs.declared.Settled.{Settled}
 use Rattle.places.specs.declared.Settled.the-variants.{Run, Prefix}
 use Rattle.places.specs.Moves.{pastOf}
@@ -56,10 +55,12 @@ pub record Dived (s : Setting) (j : ℕ) (p r : Path) : Type 0 where
 
 -- ---- looking
 
--- a bound and its filling can be rounded
-pub record Coarsens (f : Fill) (b : Mixed) : Type 0 where
-  pub worth-in : Within 200000000000000 (f .worth)
-  pub whole-in : Within 201000000000000000 (b .whole)
+-- a filling's slope and level d's lattice can be compared
+pub record Slopes (s : Setting) (f : Fill) (d : ℕ) : Type 0 where
+  pub filled : SizedFill (s .cols) f
+  pub ordered : Ordered (s .cols)
+  pub level-in : d < 16
+  pub tame : Tame (latticeAt (s .lattice) d)
 
 -- the lists of a box have a place for each item
 pub record Long (e : Ends) : Type 0 where
@@ -82,6 +83,7 @@ pub record Judges (s : Setting) (e : Ends) (d : ℕ) (b : Incumbent) : Type 0 wh
   pub in-order : InOrder (s .cols) e
   pub level-in : d < 16
   pub proper : ProperBest b
+  pub tame : Tame (latticeAt (s .lattice) d)
 
 abbrev pub LookedAs : Setting → Pairs → Path → Incumbent → Incumbent → Settled → Type 0
 LookedAs s p t b b′ (Run d) = (d < s .levels) × ((b′ ≡ b) × (cutBy s (runEnds s (at (t .place)) (at (t .starts) d) d) d b ≡ true))

@@ -3,38 +3,38 @@
 // incumbent alone.
 use arith::Mixed;
 use arith::less;
-use arith::magnitude;
 use greedy::Columns;
 use greedy::Ends;
 use greedy::Fill;
 use greedy::bound_of;
 use greedy::fill_up;
 use greedy::start_of;
+use lattice::Lattice;
+use lattice::Slope;
+use lattice::barren;
 use places::Moved;
 use places::Settled;
 use places::past;
 ghost use mathlib.Core.Path.{_≡_};
-ghost use mathlib.Core.Bool.{Bool, true, false};
 ghost use Prim.Native.Nat.{ℕ, _≤_, _<_};
-ghost use lib.IntN.{ℤ, pos, _-ℤ_};
-ghost use lib.Signed.{_≤ℤ_};
+ghost use lib.IntN.{ℤ, pos};
 ghost use Rattle.arith.specs.Within.{Within};
 ghost use Rattle.arith.specs.Mixed.{Proper};
 ghost use Rattle.greedy.specs.Fill.{at};
 ghost use Rattle.greedy.specs.Sized.{Sized};
-ghost use Rattle.search.specs.Search.{spanned, fixedBy, runBox, coarse, cutBy, triedBy, Applies};
+ghost use Rattle.search.specs.Search.{spanned, fixedBy, runBox, sparseBy, cutBy, triedBy, Stays, AppliesAt, Applies, Decides};
 ghost use Rattle.search.specs.Ready.{ReadySetting, Ready, Inside, InsideTo, Searched};
-ghost use Rattle.search.specs.Steps.{Descends, descended, Dived, Coarsens, Judges, ProperBest, Started, Looked, nobody, Turnable, Turned, Stepped};
+ghost use Rattle.search.specs.Steps.{Descends, descended, Dived, Slopes, Judges, ProperBest, Started, Looked, nobody, Turnable, Turned, Stepped};
 
-// What does not change during a search: the columns, the box by item, and by level the item, its ends, and the grid: 0, or a
-// number by whose multiples all values below that level differ.
+// What does not change during a search: the columns, the box by item, and by level the item, its ends, and the lattice of what the
+// items from that level on change, where no continuous item is free.
 pub struct Setting {
     pub cols: Columns,
     pub ends: Ends,
     pub level: [usize; 16],
     pub low: [i64; 16],
     pub high: [i64; 16],
-    pub grid: [u64; 16],
+    pub lattice: [Lattice; 16],
     pub levels: usize,
 }
 
@@ -140,20 +140,24 @@ pub fn dive(s: Setting, p: Path, j: usize) -> Path
     t.path
 }
 
-// The bound b of the filling f, rounded down to the grid.
-pub fn coarsen(g: u64, f: Fill, b: Mixed) -> Mixed
-    requires { ⌜ Coarsens f b ⌝ }
-    ensures { λ r. ⌜ r ≡ coarse g f b ⌝ }
+// Whether the items from level d on can make no value above b, whatever the relaxation promises.
+pub fn sparse(s: Setting, f: Fill, d: usize, b: i64) -> bool
+    requires { ⌜ Slopes s f d ⌝ }
+    ensures { λ r. ⌜ r ≡ sparseBy s f d b ⌝ }
 {
-    if g == 0 {
-        return b;
+    let c = s.cols;
+    let u = f.at;
+    let n = c.live;
+    if u < n {
+        let l = s.lattice[d];
+        let p = Slope {
+            worth: f.worth,
+            rate: c.rate[u],
+            size: c.size[u],
+        };
+        return barren(l, p, f.room, b);
     }
-    let q = magnitude(b.whole - f.worth);
-    Mixed {
-        whole: f.worth + (q - q % g) as i64,
-        part: 0,
-        parts: 1,
-    }
+    false
 }
 
 // Whether the box e holds nothing better than the incumbent: cut by relaxation, see proofs/Settle (cut-settles).
@@ -167,10 +171,12 @@ pub fn cut(s: Setting, e: Ends, d: usize, best: Incumbent) -> bool
         return true;
     }
     if best.found {
-        let g = s.grid[d];
-        let v = coarsen(g, f, bound_of(c, f));
+        let v = bound_of(c, f);
         let b = best.value;
-        return !less(b, v);
+        if less(b, v) {
+            return sparse(s, f, d, b.whole);
+        }
+        return true;
     }
     false
 }
@@ -202,19 +208,19 @@ pub fn tried(s: Setting, e: Ends, x: [i64; 16], best: Incumbent) -> Incumbent
 // Whether x less r lies within l and u.
 pub fn within(x: i64, r: i64, l: i64, u: i64) -> bool
     requires { ⌜ Within 300000000 x × Within 1000 r ⌝ }
-    ensures { λ y. ⌜ (y ≡ true → (l ≤ℤ (x -ℤ r)) × ((x -ℤ r) ≤ℤ u)) ⌝ }
+    ensures { λ y. ⌜ Decides (Stays x r l u) y ⌝ }
 {
     let y = x - r;
     if y < l {
         return false;
     }
-    y <= u
+    !(u < y)
 }
 
 // Whether the pair of the items of level d and a level above can be taken away from x within the box.
 pub fn applies(s: Setting, p: Pairs, x: [i64; 16], d: usize, j: usize) -> bool
     requires { ⌜ Ready s p × (Inside s (at x) × ((d < s .levels) × (j < d))) ⌝ }
-    ensures { λ r. ⌜ (r ≡ true → Applies s p (at x) d) ⌝ }
+    ensures { λ r. ⌜ Decides (AppliesAt s p (at x) d j) r ⌝ }
 {
     let a = s.level[d];
     let b = s.level[j];
@@ -233,7 +239,7 @@ pub fn applies(s: Setting, p: Pairs, x: [i64; 16], d: usize, j: usize) -> bool
 // Whether a domination pair discards x: cut by a pair, see proofs/Settle (pair-settles).
 pub fn paired(s: Setting, p: Pairs, x: [i64; 16], d: usize) -> bool
     requires { ⌜ Ready s p × (Inside s (at x) × (d < s .levels)) ⌝ }
-    ensures { λ r. ⌜ (r ≡ true → Applies s p (at x) d) ⌝ }
+    ensures { λ r. ⌜ Decides (Applies s p (at x) d) r ⌝ }
 {
     let mut j: usize = 0;
     while j < d {

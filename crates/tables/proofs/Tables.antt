@@ -2,7 +2,6 @@
 --   Filled n f u l    the array at place u of n: so far it is tabled
 --   Passed n t u      the places before u pass the test
 --   Turned n l u r    the places before u are led back
---   Divided f n d r   from place d on, the array holds common divisors
 -- …-none, …-more: before the first turn, and after one turn more. listing-inside: a listed place is one of the array's.
 use mathlib.Core.Path.{_≡_, refl, sym, ap, _∙_}
 use mathlib.Core.Bool.{Bool, true, false, cond}
@@ -15,12 +14,11 @@ use lib.Dec.{ltb}
 use lib.IntN.{ℤ, pos, natAbs}
 use lib.ListN.{length, getD, set, replicate, length-set}
 use lib.Seq.{getD-set-same, getD-set-other}
-use Rattle.arith.specs.Gcd.{gcdOf}
 use Rattle.greedy.specs.Fill.{at, place}
 use Rattle.knapsack.specs.Records.{blank}
 use Rattle.knapsack.specs.declared.Item.{Item}
 use Rattle.knapsack.specs.declared.Problem.{Problem}
-use Rattle.tables.specs.Tables.{Tabled, Listing, Leading, Permuted, common}
+use Rattle.tables.specs.Tables.{Tabled, Listing, Leading, Permuted}
 
 -- ---- entries of a list
 
@@ -104,49 +102,3 @@ item-set l k j x h g y e old = entry (ℕ-discrete j k)
     entry : Dec (j ≡ k) → getD (set l k x) j blank ≡ y j
     entry (yes q) = rw (q, getD-set-same l k x blank g) e
     entry (no q) = rw (getD-set-other l k j x blank q) (old j (omega arith))
-
--- ---- common divisors
-
-pub record Divided (f : ℕ → ℤ) (n d g : ℕ) (r : List ℕ) : Type 0 where
-  pub most : d ≤ n
-  pub long : length r ≡ 16
-  pub here : g ≡ common f d (n - d)
-  pub so-far : (e : ℕ) → d ≤ e → place r e ≡ common f e (n - e)
-
-common-none : (f : ℕ → ℤ) (d n : ℕ) → n ≤ d → common f d (n - d) ≡ 0
-unfolding common
-common-none f d n h = let e : n - d ≡ 0 = omega arith in rw e
-
-common-more : (f : ℕ → ℤ) (d n : ℕ) → d < n → common f d (n - d) ≡ gcdOf (natAbs (f d)) (common f (suc d) (n - suc d))
-unfolding common
-common-more f d n h = let e : n - d ≡ suc (n - suc d) = apart d n h in rw e
-  where
-    apart : (d n : ℕ) → d < n → n - d ≡ suc (n - suc d)
-    apart d n h = omega arith
-
-pub divided-none : (f : ℕ → ℤ) (n : ℕ) → Divided f n n 0 (replicate 16 0)
-divided-none f n = record {
-  most = omega arith;
-  long = refl;
-  here = sym (common-none f n n (omega arith));
-  so-far = λ e h. nothing-at 0 16 e ∙ sym (common-none f e n h);
-}
-
-pub divided-more : (f : ℕ → ℤ) (n d g x : ℕ) (r : List ℕ) → n ≤ 16 → 0 < d → x ≡ gcdOf (natAbs (f (d - 1))) g → Divided f n d g r → Divided f n (d - 1) x (set r (d - 1) x)
-divided-more f n zero g x r few z e v = absurd (omega arith)
-divided-more f n (suc d) g x r few z e v = rw back-one (record {
-  most = omega (arith, v .most);
-  long = length-set r d x ∙ v .long;
-  here = here;
-  so-far = λ j h. entry j (ℕ-discrete j d) h;
-})
-  where
-    back-one : suc d - 1 ≡ d
-    back-one = omega arith
-
-    here : x ≡ common f d (n - d)
-    here = (rw (back-one, v .here) at e) ∙ sym (common-more f d n (omega (arith, v .most)))
-
-    entry : (j : ℕ) → Dec (j ≡ d) → d ≤ j → place (set r d x) j ≡ common f j (n - j)
-    entry j (yes q) h = rw (q, getD-set-same r d x 0 (omega (arith, v .long, v .most))) here
-    entry j (no q) h = getD-set-other r d j x 0 q ∙ v .so-far j (omega arith)

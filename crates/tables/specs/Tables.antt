@@ -6,14 +6,12 @@
 --   Permuted n l      the first n entries of l are the first n places in some order
 --   Inverted n l r    r leads from a place to where l has it
 --   Keyed b p r       the items of r are the keys of the items of p
---   common f d n      the greatest common divisor of f d, …, f (d + n - 1)
 use mathlib.Core.Path.{_≡_}
 use mathlib.Core.Bool.{Bool, true, false, cond}
 use mathlib.Core.List.{List}
-use Prim.Native.Nat.{ℕ, zero, suc, _≤_, _<_}
+use Prim.Native.Nat.{ℕ, _≤_, _<_}
 use lib.Dec.{ltb}
-use lib.IntN.{ℤ, pos, natAbs}
-use Rattle.arith.specs.Gcd.{gcdOf}
+use lib.IntN.{ℤ, pos}
 use Rattle.greedy.specs.Fill.{at, place}
 use Rattle.knapsack.specs.Records.{itemAt, InRange}
 use Rattle.knapsack.specs.declared.Item.{Item}
@@ -49,7 +47,3 @@ Inverted n l r = (u : ℕ) → u < n → place r (place l u) ≡ u
 pub record Keyed (by : Key) (p r : Problem) : Type 0 where
   pub count : r .count ≡ p .count
   pub keys : (k : ℕ) → k < p .count → itemAt r k ≡ keyOf by (itemAt p k)
-
-unfoldable pub common : (ℕ → ℤ) → ℕ → ℕ → ℕ
-common f d zero = 0
-common f d (suc n) = gcdOf (natAbs (f d)) (common f (suc d) n)

@@ -49,8 +49,8 @@ table-requires c κs = by-level c
 table-requires-2 : tie.Need-table-requires-2
 table-requires-2 c κs = by-level (c .before)
 
-grid-of-requires : tie.Need-grid-of-requires
-grid-of-requires c κs = by-level (c .before .before)
+lattices-of-requires : tie.Need-lattices-of-requires
+lattices-of-requires c κs = by-level (c .before .before)
 
 returns : tie.Need-returns
 returns c =
@@ -68,7 +68,7 @@ returns c =
       leading = l .leading .ensures;
       lows = c .before .before .table .ensures;
       highs = c .before .table2 .ensures;
-      gridding = c .grid-of .ensures;
+      latticing = c .lattices-of .ensures;
     })
 
 pub prepare-spec : {M : Type 1} → statement M
@@ -82,5 +82,5 @@ prepare-spec =
     leading-requires
     table-requires
     table-requires-2
-    grid-of-requires
+    lattices-of-requires
     returns)

@@ -1,17 +1,18 @@
 -- `search::applies` meets its contract.
 use mathlib.Core.Path.{_≡_, sym, ap, _∙_}
-use mathlib.Core.Bool.{true}
+use mathlib.Core.Bool.{true, false}
 use Prim.Native.Nat.{ℕ, _+_, _*_, _<_}
 use native.Mathlib.Omega.{arith}
-use lib.IntN.{ℤ, pos, _-ℤ_}
-use lib.Signed.{_≤ℤ_}
+use lib.Dec.{lit<}
+use lib.IntN.{ℤ, pos}
 use mir.Syntax.{w64}
 use mir.Val.{ofZ}
 use Rattle.arith.specs.Within.{Within}
-use Rattle.arith.proofs.Parts.{impossible, within-back, abs-within}
+use Rattle.arith.proofs.Parts.{impossible, within-back, within-sfits, abs-within}
+use Rattle.arith.proofs.Quotients.{bits-zero}
 use Rattle.arith.proofs.Words.{back}
 use Rattle.greedy.specs.Fill.{at}
-use Rattle.search.specs.Search.{levelAt, pairIndex, Applies}
+use Rattle.search.specs.Search.{levelAt, pairIndex, Stays, AppliesAt, Decides}
 use Rattle.search.proofs.Boxes.{between}
 use borrow.Author.Needs.{needs}
 use Rattle.search.proofs.applies.Statement.{statement}
@@ -55,6 +56,9 @@ module _ (s : tie.Start) where
   second-within : (k : ℕ) → Within 1000 (at (s .args .t2 .second) k)
   second-within k = abs-within _ (s .pre .0 .true-pairs .steps-in k .1)
 
+abbrev Of : tie.After-within → tie.Start
+Of w = w .before .before .before .before .before .before .before .before .before
+
 mul-k : tie.Need-mul-k
 mul-k c = record { fits = omega (arith, first<16 (c .before .before)) }
 
@@ -68,7 +72,10 @@ element-copy-out-r : tie.Need-element-copy-out-r
 element-copy-out-r c = index<256 (c .before .before)
 
 returns : tie.Need-returns
-returns c = λ e. absurd (impossible e)
+returns c =
+    let s = c .before .before .before .before in
+    let k = pairIndex (levelAt (s .args .t1) (s .args .d)) (levelAt (s .args .t1) (s .args .j)) in
+    record { holds = λ e. absurd (impossible e); fails = λ e q. q .moves (bits-zero (at (s .args .t2 .first) k) (within-sfits (lit< tt) (first-within s k)) (c .if1 .taken)) }
 
 mul-t : tie.Need-mul-t
 mul-t c = record { fits = omega (arith, index<256 (c .before .before .before .before)) }
@@ -126,26 +133,27 @@ within-requires-2 c κs =
     let r = second-within s (pairIndex (levelAt (s .args .t1) (s .args .d)) (levelAt (s .args .t1) (s .args .j))) in
     rw (within-back tt x, within-back tt r) (x, r)
 
+-- what the first test decides, of the figures themselves
+own : (c : tie.After-within) → Decides (Stays (at (Of c .args .t3) (Of c .args .d)) (at (Of c .args .t2 .first) (pairIndex (levelAt (Of c .args .t1) (Of c .args .d)) (levelAt (Of c .args .t1) (Of c .args .j)))) (at (Of c .args .t1 .low) (Of c .args .d)) (at (Of c .args .t1 .high) (Of c .args .d))) (c .within .result)
+own w =
+    let s = Of w in
+    let k = pairIndex (levelAt (s .args .t1) (s .args .d)) (levelAt (s .args .t1) (s .args .j)) in
+    rw (within-back tt (amount-within s (s .args .d) (s .pre .1 .1 .0)), within-back tt (first-within s k), back (at (s .args .t1 .low) (s .args .d)) (w .before .before .within-arg2 .given), back (at (s .args .t1 .high) (s .args .d)) (w .before .within-arg3 .given)) at (w .within .ensures)
+
 returns-2 : tie.Need-returns-2
-returns-2 c = λ e.
+returns-2 c =
     let u = c .before .before .before .before in
     let w = u .before in
-    let s = w .before .before .before .before .before .before .before .before .before in
+    let s = Of w in
     let k = pairIndex (levelAt (s .args .t1) (s .args .d)) (levelAt (s .args .t1) (s .args .j)) in
-    let own = rw (within-back tt (amount-within s (s .args .d) (s .pre .1 .1 .0)), within-back tt (first-within s k), back (at (s .args .t1 .low) (s .args .d)) (w .before .before .within-arg2 .given), back (at (s .args .t1 .high) (s .args .d)) (w .before .within-arg3 .given)) at (w .within .ensures (u .if2 .taken)) in
-    let other = rw (within-back tt (amount-within s (s .args .j) (j-in s)), within-back tt (second-within s k), back (at (s .args .t1 .low) (s .args .j)) (c .before .before .within-arg5 .given), back (at (s .args .t1 .high) (s .args .j)) (c .before .within-arg6 .given)) at (c .within2 .ensures e) in
+    let other = rw (within-back tt (amount-within s (s .args .j) (j-in s)), within-back tt (second-within s k), back (at (s .args .t1 .low) (s .args .j)) (c .before .before .within-arg5 .given), back (at (s .args .t1 .high) (s .args .j)) (c .before .within-arg6 .given)) at (c .within2 .ensures) in
     record {
-      above = s .args .j;
-      is-above = s .pre .1 .1 .1;
-      moves = λ z. w .before .before .before .before .before .if1 .left (ap (ofZ w64) z);
-      low = own .0;
-      high = own .1;
-      above-low = other .0;
-      above-high = other .1;
+      holds = λ e. record { moves = λ z. w .before .before .before .before .before .if1 .left (ap (ofZ w64) z); own = own w .holds (u .if2 .taken); other = other .holds e };
+      fails = λ e q. other .fails e (q .other);
     }
 
 returns-3 : tie.Need-returns-3
-returns-3 c = λ e. absurd (impossible e)
+returns-3 c = record { holds = λ e. absurd (impossible e); fails = λ e q. own (c .before) .fails (c .if2 .left) (q .own) }
 
 pub applies-spec : {M : Type 1} → statement M
 applies-spec =

@@ -1,17 +1,17 @@
 -- `search::cut` meets its contract: the tests are those of the definition, in its order.
 use mathlib.Core.Path.{_≡_, sym, ap, _∙_}
-use mathlib.Core.Bool.{true, false, not}
-use Prim.Native.Nat.{ℕ, _<_}
+use mathlib.Core.Bool.{true, false}
 use native.Mathlib.Omega.{arith}
 use lib.IntN.{ℤ, pos}
 use lib.Signed.{ltZ}
 use Rattle.arith.specs.Mixed.{lessMixed}
 use Rattle.arith.proofs.Parts.{within-back}
-use Rattle.greedy.specs.Fill.{place, fill, bound}
+use Rattle.arith.proofs.Words.{back}
+use Rattle.greedy.specs.Fill.{fill, bound}
 use Rattle.greedy.specs.Sized.{SizedFill}
 use Rattle.greedy.proofs.Sizes.{fill-sized}
-use Rattle.search.specs.Search.{coarse, cutBy}
-use Rattle.search.proofs.Bounds.{bound-proper, bound-within, coarse-proper}
+use Rattle.search.specs.Search.{sparseBy, cutBy}
+use Rattle.search.proofs.Bounds.{bound-proper}
 use borrow.Author.Needs.{needs}
 use Rattle.search.proofs.cut.Statement.{statement}
 use Rattle.search.proofs.cut.Tie as tie
@@ -19,8 +19,8 @@ use Rattle.search.proofs.cut.Tie as tie
 fill-up-requires : tie.Need-fill-up-requires
 fill-up-requires c κs = search needs
 
-sized : (s : tie.Start) → SizedFill (s .args .t1 .cols) (fill (s .args .t1 .cols) (s .args .e))
-sized s = fill-sized (s .args .t1 .cols) (s .args .e) (s .pre .sized)
+sized : (s : tie.Start) → SizedFill (s .args .s .cols) (fill (s .args .s .cols) (s .args .e))
+sized s = fill-sized (s .args .s .cols) (s .args .e) (s .pre .sized)
 
 returns : tie.Need-returns
 unfolding cutBy
@@ -30,48 +30,51 @@ returns c =
     let t = rw (f, within-back tt (sized s .room-in)) at (c .if1 .taken) in
     rw t
 
-not-empty : (c : tie.Else1) → ltZ (fill (c .before .before .before .before .before .args .t1 .cols) (c .before .before .before .before .before .args .e) .room) (pos 0) ≡ false
+not-empty : (c : tie.Else1) → ltZ (fill (c .before .before .before .before .before .args .s .cols) (c .before .before .before .before .before .args .e) .room) (pos 0) ≡ false
 not-empty c =
     let s = c .before .before .before .before .before in
     rw (c .before .before .before .fill-up .ensures, within-back tt (sized s .room-in)) at (c .if1 .left)
 
-mul-g : tie.Need-mul-g
-mul-g c = search needs
-
-element-copy-out-g : tie.Need-element-copy-out-g
-element-copy-out-g c = search needs
-
 bound-of-requires : tie.Need-bound-of-requires
-bound-of-requires c κs = let s = c .before .before .before .before .before .before .before in rw (c .before .before .before .before .before .fill-up .ensures) (sized s)
+bound-of-requires c κs = let s = c .before .before .before .before .before .before in rw (c .before .before .before .before .fill-up .ensures) (sized s)
 
-bound-is : (c : tie.After-bound-of) → c .bound-of .result ≡ bound (c .before .before .before .before .before .before .before .before .args .t1 .cols) (fill (c .before .before .before .before .before .before .before .before .args .t1 .cols) (c .before .before .before .before .before .before .before .before .args .e))
-bound-is c = rw (c .before .before .before .before .before .before .fill-up .ensures) at (c .bound-of .ensures)
-
-coarsen-requires : tie.Need-coarsen-requires
-coarsen-requires c κs =
-    let s = c .before .before .before .before .before .before .before .before in
-    rw (c .before .before .before .before .before .before .fill-up .ensures, bound-is c) (record { worth-in = sized s .worth-in; whole-in = bound-within _ _ (sized s) })
-
-coarse-is : (c : tie.After-coarsen) → c .coarsen .result ≡ coarse (place (c .before .before .before .before .before .before .before .before .before .args .t1 .grid) (c .before .before .before .before .before .before .before .before .before .args .d)) (fill (c .before .before .before .before .before .before .before .before .before .args .t1 .cols) (c .before .before .before .before .before .before .before .before .before .args .e)) (bound (c .before .before .before .before .before .before .before .before .before .args .t1 .cols) (fill (c .before .before .before .before .before .before .before .before .before .args .t1 .cols) (c .before .before .before .before .before .before .before .before .before .args .e)))
-coarse-is c = rw (c .before .before .before .before .before .before .before .fill-up .ensures, bound-is (c .before)) at (c .coarsen .ensures)
+bound-is : (c : tie.After-bound-of) → c .bound-of .result ≡ bound (c .before .before .before .before .before .before .before .args .s .cols) (fill (c .before .before .before .before .before .before .before .args .s .cols) (c .before .before .before .before .before .before .before .args .e))
+bound-is c = rw (c .before .before .before .before .before .fill-up .ensures) at (c .bound-of .ensures)
 
 less-requires : tie.Need-less-requires
 less-requires c κs =
-    let t = c .before .before .before .before in
+    let t = c .before .before in
     let s = t .before .before .before .before .before .before in
-    (s .pre .proper (t .if2 .taken), rw (coarse-is (c .before)) (coarse-proper (place (s .args .t1 .grid) (s .args .d)) (fill (s .args .t1 .cols) (s .args .e)) (bound (s .args .t1 .cols) (fill (s .args .t1 .cols) (s .args .e))) (bound-proper (s .args .t1 .cols) (fill (s .args .t1 .cols) (s .args .e)) (sized s))))
+    (s .pre .proper (t .if2 .taken), rw (bound-is (c .before)) (bound-proper (s .args .s .cols) (fill (s .args .s .cols) (s .args .e)) (sized s)))
+
+-- what the comparison said
+less-is : (c : tie.After-less) → c .less .result ≡ lessMixed (c .before .before .before .before .before .before .before .before .before .args .best .value) (bound (c .before .before .before .before .before .before .before .before .before .args .s .cols) (fill (c .before .before .before .before .before .before .before .before .before .args .s .cols) (c .before .before .before .before .before .before .before .before .before .args .e)))
+less-is c = let s = c .before .before .before .before .before .before .before .before .before in c .less .ensures ∙ ap (λ v. lessMixed (s .args .best .value) v) (bound-is (c .before .before))
+
+sparse-requires : tie.Need-sparse-requires
+sparse-requires c κs =
+    let t = c .before .before .before .before .before in
+    let s = t .before .before .before .before .before .before in
+    rw (t .before .before .before .before .fill-up .ensures) (record { filled = sized s; ordered = s .pre .ordered; level-in = s .pre .level-in; tame = s .pre .tame })
 
 returns-2 : tie.Need-returns-2
 unfolding cutBy
 returns-2 c =
-    let d = c .before in
-    let t = d .before .before .before .before in
+    let h = c .before .before in
+    let t = h .before .before .before .before in
     let s = t .before .before .before .before .before .before in
-    rw (not-empty (t .before), t .if2 .taken) (ap not (c .less .ensures ∙ ap (λ v. lessMixed (s .args .best .value) v) (coarse-is (d .before))))
+    let e = rw (back (s .args .best .value .whole) (c .before .struct-told2 .given .0 .1), t .before .before .before .before .fill-up .ensures) at (c .sparse .ensures) in
+    rw (not-empty (t .before), t .if2 .taken, sym (less-is (h .before)) ∙ h .if3 .taken) e
 
 returns-3 : tie.Need-returns-3
 unfolding cutBy
-returns-3 c = rw (not-empty (c .before), c .if2 .left)
+returns-3 c =
+    let t = c .before .before .before .before in
+    rw (not-empty (t .before), t .if2 .taken, sym (less-is (c .before)) ∙ c .if3 .left)
+
+returns-4 : tie.Need-returns-4
+unfolding cutBy
+returns-4 c = rw (not-empty (c .before), c .if2 .left)
 
 pub cut-spec : {M : Type 1} → statement M
 cut-spec =
@@ -79,10 +82,9 @@ cut-spec =
     (tie.spec
     fill-up-requires
     returns
-    mul-g
-    element-copy-out-g
     bound-of-requires
-    coarsen-requires
     less-requires
+    sparse-requires
     returns-2
-    returns-3)
+    returns-3
+    returns-4)

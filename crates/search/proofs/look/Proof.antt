@@ -79,7 +79,7 @@ returns-2 c =
     let p = c .before in
     let b = p .before .before .before in
     let i = b .before .before .before in
-    (omega (arith, i .loop-test .taken), inr (refl, (i .before .loop .d, add-one (i .before .loop .d), p .paired .ensures (c .if2 .taken))))
+    (omega (arith, i .loop-test .taken), inr (refl, (i .before .loop .d, add-one (i .before .loop .d), p .paired .ensures .holds (c .if2 .taken))))
 
 mul-i : tie.Need-mul-i Inv-loop μ-loop
 mul-i c = record { fits = omega (arith, d<16 (c .before .before .before .before .before .before .before)) }

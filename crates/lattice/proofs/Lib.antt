@@ -1,0 +1,4 @@
+pub mod Ranges
+pub mod Descent
+pub mod Members
+pub mod Levels

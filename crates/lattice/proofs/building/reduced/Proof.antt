@@ -1,0 +1,78 @@
+-- `lattice::building::reduced` meets its contract: what is left is lighter than what was taken.
+use mathlib.Core.Path.{_≡_}
+use native.Mathlib.Omega.{arith}
+use lib.Dec.{lit<}
+use lib.IntN.{ℤ, _-ℤ_, _*ℤ_}
+use mir.Syntax.{w64}
+use mir.Val.{toZ, ofZ}
+use Rattle.arith.specs.Within.{Within}
+use Rattle.arith.specs.Division.{floorDiv}
+use Rattle.arith.proofs.Parts.{within-mul, within-sub, within-more, within-sfits, within-back}
+use Rattle.arith.proofs.Rounding.{floor-within}
+use Rattle.arith.proofs.Words.{back}
+use Rattle.lattice.specs.Building.{restOf}
+use Rattle.lattice.proofs.Levels.{rest-low, rest-high}
+use Rattle.lattice.proofs.Ranges.{nonzero, rest-within}
+use Rattle.lattice.proofs.building.reduced.Statement.{statement}
+use Rattle.lattice.proofs.building.reduced.Tie as tie
+
+abbrev Q : tie.Start → ℤ
+Q s = floorDiv (s .args .u .weight) (s .args .v .weight)
+
+product : (s : tie.Start) → Within 100000000000 (s .args .v .worth *ℤ Q s)
+product s = within-mul (s .pre .second .worth-in) (floor-within (s .args .u .weight) (s .args .v .weight) (s .pre .first .weight-in))
+
+worth : (s : tie.Start) → Within 100100000000 (s .args .u .worth -ℤ s .args .v .worth *ℤ Q s)
+worth s = within-sub (s .pre .first .worth-in) (product s)
+
+floor-div-requires : tie.Need-floor-div-requires
+floor-div-requires c κs =
+    let s = c .before .before in
+    rw (within-back tt (s .pre .first .weight-in), within-back tt (s .pre .second .weight-in)) (within-more (omega arith) (s .pre .first .weight-in), nonzero (s .args .v .weight) (s .pre .weight≥1))
+
+-- the second worth times the quotient, as the locals hold them
+multiple : (c : tie.After-floor-div) → toZ w64 (ofZ w64 (c .before .before .before .args .v .worth)) *ℤ toZ w64 (ofZ w64 (c .floor-div .result)) ≡ c .before .before .before .args .v .worth *ℤ Q (c .before .before .before)
+multiple c =
+    let s = c .before .before .before in
+    let e = rw (within-back tt (s .pre .first .weight-in), within-back tt (s .pre .second .weight-in)) at (c .floor-div .ensures) in
+    rw (within-back tt (s .pre .second .worth-in), back (c .floor-div .result) (c .floor-div .ok), e)
+
+mul-z : tie.Need-mul-z
+mul-z c = let f = c .before .before in rw (multiple f) (within-sfits (lit< tt) (product (f .before .before .before)))
+
+sub-z : tie.Need-sub-z
+sub-z c =
+    let f = c .before .before .before .before in
+    let s = f .before .before .before in
+    rw (multiple f, within-back tt (product s), within-back tt (s .pre .first .worth-in)) (within-sfits (lit< tt) (worth s))
+
+rest-requires : tie.Need-rest-requires
+rest-requires c κs =
+    let s = c .before .before .before .before .before .before .before in
+    rw (within-back tt (s .pre .first .weight-in), within-back tt (s .pre .second .weight-in))
+    (record { dividend-in = within-more (omega arith) (s .pre .first .weight-in); divisor-in = within-more (omega arith) (s .pre .second .weight-in); divisor≥1 = s .pre .weight≥1 })
+
+tame-requires : tie.Need-tame-requires
+tame-requires c κs =
+    let f = c .before .before .before .before .before in
+    let s = f .before .before .before in
+    rw (multiple f, within-back tt (product s), within-back tt (s .pre .first .worth-in), within-back tt (worth s), within-back tt (s .pre .gap-in)) (within-more (omega arith) (worth s), s .pre .gap-in)
+
+-- what the weight leaves, as the local holds it
+left : (c : tie.After-rest) → toZ w64 (ofZ w64 (c .rest .result)) ≡ restOf (c .before .before .before .before .before .before .before .before .args .u .weight) (c .before .before .before .before .before .before .before .before .args .v .weight)
+left c =
+    let s = c .before .before .before .before .before .before .before .before in
+    rw (back (c .rest .result) (c .rest .ok)) (rw (within-back tt (s .pre .first .weight-in), within-back tt (s .pre .second .weight-in)) at (c .rest .ensures))
+
+returns : tie.Need-returns
+returns c =
+    let d = c .before in
+    let s = d .before .before .before .before .before .before .before .before in
+    let x = s .args .u .weight in
+    let a = s .args .v .weight in
+    rw (left d, back (c .tame .result) (c .tame .ok))
+    (record { weight-in = rest-within x a (s .pre .weight≥1) (s .pre .first .weight-in) (s .pre .second .weight-in); weight≥0 = rest-low x a (s .pre .weight≥1); worth-in = c .tame .ensures }, rest-high x a (s .pre .weight≥1))
+
+pub reduced-spec : {M : Type 1} → statement M
+reduced-spec =
+    tie.close (tie.spec floor-div-requires mul-z sub-z rest-requires tame-requires returns)

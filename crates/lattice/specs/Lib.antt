@@ -1,0 +1,2 @@
+pub mod Lattice
+pub mod Building
