@@ -1,0 +1,62 @@
+-- The measure is the places left.
+use Prim.Native.Nat.{_-_}
+use borrow.Author.Needs.{needs}
+use Rattle.relaxation_test.proofs.loosened.Statement.{statement}
+use Rattle.relaxation_test.proofs.loosened.Tie as tie
+
+abbrev Inv-loop : tie.InvT-loop
+Inv-loop s list items₀ k₀ items k = Unit {0}
+
+abbrev μ-loop : tie.MeasureT-loop
+μ-loop s list items₀ k₀ items k = 16 - k
+
+blank-item-requires : tie.Need-blank-item-requires Inv-loop μ-loop
+blank-item-requires c κs = search needs
+
+loop-holds : tie.Need-loop-holds Inv-loop μ-loop
+loop-holds c = search needs
+
+mul-loose : tie.Need-mul-loose Inv-loop μ-loop
+mul-loose c = search needs
+
+array-copy-out-loose : tie.Need-array-copy-out-loose Inv-loop μ-loop
+array-copy-out-loose c = search needs
+
+loose-requires : tie.Need-loose-requires Inv-loop μ-loop
+loose-requires c κs = search needs
+
+mul-items : tie.Need-mul-items Inv-loop μ-loop
+mul-items c = search needs
+
+array-set-from-items : tie.Need-array-set-from-items Inv-loop μ-loop
+array-set-from-items c = search needs
+
+add-k : tie.Need-add-k Inv-loop μ-loop
+add-k c = search needs
+
+loop-less : tie.Need-loop-less Inv-loop μ-loop
+loop-less c = search needs
+
+loop-again : tie.Need-loop-again Inv-loop μ-loop
+loop-again c = search needs
+
+returns : tie.Need-returns Inv-loop μ-loop
+returns c = search needs
+
+pub loosened-spec : {M : Type 1} → statement M
+loosened-spec =
+    tie.close
+    (tie.spec
+    Inv-loop
+    μ-loop
+    blank-item-requires
+    loop-holds
+    mul-loose
+    array-copy-out-loose
+    loose-requires
+    mul-items
+    array-set-from-items
+    add-k
+    loop-less
+    loop-again
+    returns)

@@ -1,0 +1,33 @@
+// The public entry over a lent list, called with a part of a local array. A reference to structs is not covered by the automatic
+// prover, so this one function is walked by hand; all others pass a sheet by value.
+use knapsack::Answer;
+use knapsack::Item;
+use relaxation::relax_with;
+ghost use Prim.Native.Nat.{_≤_};
+ghost use Rattle.relaxation_test.specs.Lends.{Lends};
+
+// A capacity and a list, of which the first count items are lent.
+pub struct Sheet {
+    pub items: [Item; 18],
+    pub count: usize,
+    pub capacity: i64,
+}
+
+// What a call leaves: its answer, and the list as it stands afterwards.
+pub struct Lent {
+    pub answer: Answer,
+    pub items: [Item; 18],
+}
+
+pub fn relaxed(s: Sheet) -> Lent
+    requires { ⌜ s .count ≤ 18 ⌝ }
+    ensures { λ r. ⌜ Lends s r ⌝ }
+{
+    let mut items = s.items;
+    let n = s.count;
+    let answer = relax_with(s.capacity, &mut items[..n]);
+    Lent {
+        answer: answer,
+        items: items,
+    }
+}

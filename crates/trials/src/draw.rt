@@ -1,0 +1,146 @@
+// Problems drawn from a seed, by a linear congruential generator. What is drawn from a state comes of its higher bits.
+use crate::exact::times;
+use knapsack::Bound;
+use knapsack::Item;
+use knapsack::Mark;
+use knapsack::Problem;
+use knapsack::blank_item;
+ghost use Prim.Native.Nat.{_≤_};
+
+// No figure is farther from zero than its span, and the capacity is a multiple of the unit. Of four bounds so many are absent, and of
+// four items so many continuous.
+pub struct Spans {
+    pub weight: u64,
+    pub price: u64,
+    pub bound: u64,
+    pub capacity: u64,
+    pub unit: i64,
+    pub absent: u64,
+    pub loose: u64,
+}
+
+pub struct DrawnItem {
+    pub item: Item,
+    pub state: u64,
+}
+
+pub struct DrawnProblem {
+    pub problem: Problem,
+    pub state: u64,
+}
+
+pub fn next(state: u64) -> u64 {
+    (state % 2147483648 * 1103515245 + 12345) % 2147483648
+}
+
+// From 0 to span, for a span below 32,768.
+pub fn below(state: u64, span: u64) -> u64
+    ensures { λ r. ⌜ r ≤ span ⌝ }
+{
+    if span > 32767 {
+        return 0;
+    }
+    state / 65536 % (span + 1)
+}
+
+// From -span to span, for a span up to 10,000.
+pub fn figure(state: u64, span: u64) -> i64 {
+    if span > 10000 {
+        return 0;
+    }
+    let n = below(state, 2 * span);
+    n as i64 - span as i64
+}
+
+fn drawn_mark(state: u64, s: Spans) -> Mark {
+    if below(state, 3) < s.loose {
+        Mark::Continuous
+    } else {
+        Mark::Integer
+    }
+}
+
+// One weight in eight is 0.
+fn drawn_weight(state: u64, s: Spans) -> i64 {
+    if below(state, 7) == 0 {
+        return 0;
+    }
+    figure(state, s.weight)
+}
+
+// One price in four is twice the weight, for equal ratios.
+fn drawn_price(state: u64, weight: i64, s: Spans) -> i64 {
+    if below(state, 3) == 0 {
+        return times(weight, 2);
+    }
+    figure(state, s.price)
+}
+
+fn drawn_bound(state: u64, at: i64, s: Spans) -> Bound {
+    if below(state, 3) < s.absent {
+        Bound::Absent
+    } else {
+        Bound::At(at)
+    }
+}
+
+fn lesser(a: i64, b: i64) -> i64 {
+    if a < b { a } else { b }
+}
+
+fn greater(a: i64, b: i64) -> i64 {
+    if a < b { b } else { a }
+}
+
+pub fn drawn_item(state: u64, s: Spans) -> DrawnItem {
+    let m = next(state);
+    let a = next(m);
+    let c = next(a);
+    let l = next(c);
+    let u = next(l);
+    let i = next(u);
+    let j = next(i);
+    let mark = drawn_mark(m, s);
+    let weight = drawn_weight(a, s);
+    let first = figure(l, s.bound);
+    let second = figure(u, s.bound);
+    let lower = drawn_bound(i, lesser(first, second), s);
+    let upper = drawn_bound(j, greater(first, second), s);
+    let x = Item {
+        mark: mark,
+        weight: weight,
+        price: drawn_price(c, weight, s),
+        lower: lower,
+        upper: upper,
+    };
+    DrawnItem { item: x, state: j }
+}
+
+pub fn drawn_capacity(state: u64, s: Spans) -> i64 {
+    times(figure(state, s.capacity), s.unit)
+}
+
+// A problem of so many items; the places beyond them are drawn too.
+pub fn drawn_problem(state: u64, count: usize, s: Spans) -> DrawnProblem {
+    let blank = blank_item();
+    let mut items = [blank; 16];
+    let mut now = next(state);
+    let capacity = drawn_capacity(now, s);
+    let mut k: usize = 0;
+    while k < 16 {
+        let d = drawn_item(now, s);
+        let x = d.item;
+        items[k] = x;
+        now = d.state;
+        k += 1;
+    }
+    let p = Problem {
+        items: items,
+        count: count,
+        capacity: capacity,
+    };
+    DrawnProblem {
+        problem: p,
+        state: now,
+    }
+}

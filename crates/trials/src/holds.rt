@@ -1,0 +1,143 @@
+// Whether an answer's point is one, by the point check, and whether its steps are a ray (paper 01, "Unbounded"), by plain sums.
+use crate::exact::is_far;
+use crate::exact::plus;
+use crate::exact::times;
+use arith::Fraction;
+use feasibility::Candidate;
+use feasibility::PointReply;
+use feasibility::check_point;
+use knapsack::Answer;
+use knapsack::Bound;
+use knapsack::Item;
+use knapsack::Problem;
+ghost use Prim.Native.Nat.{_≤_};
+
+fn checked(p: Problem, a: Answer) -> PointReply {
+    let amounts = a.point;
+    check_point(
+        p,
+        Candidate {
+            amounts: amounts,
+            count: p.count,
+        },
+    )
+}
+
+fn is_worth(r: PointReply, v: Fraction) -> bool {
+    match r {
+        PointReply::Feasible(w) => { if v.p == w.p { v.q == w.q } else { false } }
+        PointReply::Violates(_) => false,
+        PointReply::Refused(_) => false,
+    }
+}
+
+fn is_feasible(r: PointReply) -> bool {
+    match r {
+        PointReply::Feasible(_) => true,
+        PointReply::Violates(_) => false,
+        PointReply::Refused(_) => false,
+    }
+}
+
+// Feasible, within the limits of paper 01, and worth the value told.
+pub fn point_holds(p: Problem, a: Answer) -> bool {
+    let v = a.value;
+    is_worth(checked(p, a), v)
+}
+
+// What is known of the steps so far: none meets a bound, how many move, and their weight and gain.
+struct Ray {
+    open: bool,
+    moved: usize,
+    weight: i64,
+    gain: i64,
+}
+
+fn is_absent(b: Bound) -> bool {
+    match b {
+        Bound::Absent => true,
+        Bound::At(_) => false,
+    }
+}
+
+// Whether an item may take its step for ever.
+fn may_move(x: Item, s: i64) -> bool {
+    if s < 0 {
+        let l = x.lower;
+        return is_absent(l);
+    }
+    if s > 0 {
+        let u = x.upper;
+        return is_absent(u);
+    }
+    true
+}
+
+// One more, and 3 for all above 2.
+fn one_more(n: usize, s: i64) -> usize {
+    if s == 0 {
+        return n;
+    }
+    if n < 3 { n + 1 } else { n }
+}
+
+fn with_step(r: Ray, x: Item, s: i64) -> Ray {
+    let open = if may_move(x, s) { r.open } else { false };
+    Ray {
+        open: open,
+        moved: one_more(r.moved, s),
+        weight: plus(r.weight, times(x.weight, s)),
+        gain: plus(r.gain, times(x.price, s)),
+    }
+}
+
+// The steps of the first n items.
+fn ray_of(p: Problem, steps: [i64; 16], n: usize) -> Ray
+    requires { ⌜ n ≤ 16 ⌝ }
+{
+    let items = p.items;
+    let mut r = Ray {
+        open: true,
+        moved: 0,
+        weight: 0,
+        gain: 0,
+    };
+    let mut k: usize = 0;
+    while k < n {
+        let x = items[k];
+        let s = steps[k];
+        r = with_step(r, x, s);
+        k += 1;
+    }
+    r
+}
+
+// Steps on one or two items, which weigh nothing or less, and gain.
+fn is_ray(r: Ray) -> bool {
+    if !r.open {
+        return false;
+    }
+    if r.moved == 0 || r.moved == 3 {
+        return false;
+    }
+    if is_far(r.weight) || is_far(r.gain) {
+        return false;
+    }
+    if r.weight > 0 {
+        return false;
+    }
+    r.gain > 0
+}
+
+// The start is feasible and within the limits, and the steps are a ray.
+pub fn ray_holds(p: Problem, a: Answer) -> bool {
+    if p.count > 16 {
+        return false;
+    }
+    let steps = a.steps;
+    if is_ray(ray_of(p, steps, p.count)) {
+        is_feasible(checked(p, a))
+    } else {
+        false
+    }
+}

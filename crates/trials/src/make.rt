@@ -1,0 +1,72 @@
+// Items and problems made by hand.
+use knapsack::Bound;
+use knapsack::Item;
+use knapsack::Mark;
+use knapsack::Problem;
+use knapsack::empty_problem;
+
+fn item(weight: i64, price: i64, lower: Bound, upper: Bound) -> Item {
+    Item {
+        mark: Mark::Integer,
+        weight: weight,
+        price: price,
+        lower: lower,
+        upper: upper,
+    }
+}
+
+// With both bounds.
+pub fn held(weight: i64, price: i64, lower: i64, upper: i64) -> Item {
+    item(weight, price, Bound::At(lower), Bound::At(upper))
+}
+
+// From 0 on, with no upper bound.
+pub fn from_zero(weight: i64, price: i64) -> Item {
+    item(weight, price, Bound::At(0), Bound::Absent)
+}
+
+// Up to 0, with no lower bound.
+pub fn to_zero(weight: i64, price: i64) -> Item {
+    item(weight, price, Bound::Absent, Bound::At(0))
+}
+
+// With no bound at all.
+pub fn free(weight: i64, price: i64) -> Item {
+    item(weight, price, Bound::Absent, Bound::Absent)
+}
+
+// The same item, continuous.
+pub fn loose(x: Item) -> Item {
+    let l = x.lower;
+    let u = x.upper;
+    Item {
+        mark: Mark::Continuous,
+        weight: x.weight,
+        price: x.price,
+        lower: l,
+        upper: u,
+    }
+}
+
+pub fn one(capacity: i64, x: Item) -> Problem {
+    let p = empty_problem();
+    let mut items = p.items;
+    items[0] = x;
+    Problem {
+        items: items,
+        count: 1,
+        capacity: capacity,
+    }
+}
+
+pub fn two(capacity: i64, x: Item, y: Item) -> Problem {
+    let p = empty_problem();
+    let mut items = p.items;
+    items[0] = x;
+    items[1] = y;
+    Problem {
+        items: items,
+        count: 2,
+        capacity: capacity,
+    }
+}
