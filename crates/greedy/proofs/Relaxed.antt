@@ -16,6 +16,7 @@ use lib.Dec.{ltb, eqb}
 use lib.IntN.{ℤ, pos, negsuc, negℤ, natAbs, _+ℤ_, _-ℤ_, _*ℤ_}
 use lib.Signed.{_≤ℤ_, _<ℤ_, ≤ℤ-refl, ltZ, clashℤ}
 use borrow.Author.Tests.{lt-ltb, le-ltb, ltb-true, ltb-false, eq-eqb, ne-eqb, eqb-true}
+use Rattle.arith.specs.Division.{floorBy, floorDiv, ceilDiv}
 use Rattle.arith.specs.Sum.{sum, Each, bump}
 use Rattle.arith.specs.declared.Mixed.{Mixed}
 use Rattle.arith.proofs.Integers.{_⊖_, split, split2, split3, split4, zed, ≤ℤ-trans, ≤ℤ-or-<, times-≤, times-≤-back}
@@ -33,7 +34,7 @@ use Rattle.knapsack.proofs.Branch.{AtMost, leaf, TooHeavy, empty}
 use Rattle.greedy.specs.declared.Columns.{Columns}
 use Rattle.greedy.specs.declared.Ends.{Ends}
 use Rattle.greedy.specs.declared.Fill.{Fill}
-use Rattle.greedy.specs.Fill.{at, weightOf, priceOf, itemOf, rankOf, lightest, heaviest, turned, lightOf, heavyOf, width, begun, raised, raisedBy, fillFrom, fill, sizeOf, rateOf, sharedBy, bound, towards, start, unit, stand, taken, solution}
+use Rattle.greedy.specs.Fill.{at, weightOf, priceOf, itemOf, rankOf, lightest, heaviest, turned, lightOf, heavyOf, width, begun, raised, raisedBy, fillFrom, fill, sizeOf, rateOf, sharedBy, bound, fitted, start, unit, stand, taken, solution}
 use Rattle.greedy.specs.Ordered.{Idle, weightAt, rateAt, Ordered}
 use Rattle.greedy.proofs.Greedy.{Boxed, LightAt, HeavyAt, Ranked, Inv, Critical, too-heavy, begin, raise, finish, inv-feasible, standing, critical, not-idle, abs≥1, turned-abs, light-in, heavy-in, sign-of, turned-up, turned-dn, unit-abs, price-abs}
 use Rattle.greedy.proofs.Critical.{own-score}
@@ -435,18 +436,30 @@ module _ (c : Columns) (e : Ends) (marks : ℕ → Mark) (o : Ordered c) (b : In
       go (inl x) = x
       go (inr x) = absurd (clash w (n / m) (n % m) (div-add-mod' n m) h x)
 
-  towards-in : (a l u : ℤ) (d : ℕ) → pos d ≤ℤ (u -ℤ l) → (l ≤ℤ towards a l u (pos d)) × (towards a l u (pos d) ≤ℤ u)
-  towards-in a l u d h = go (ltZ a (pos 0))
+  -- rounded up by a divisor below 0
+  ceil-below : (n m : ℕ) → ceilDiv (pos n) (negsuc m) ≡ negℤ (pos (n / suc m))
+  unfolding ceilDiv floorDiv floorBy
+  ceil-below zero m = refl
+  ceil-below (suc n) m = refl
+
+  -- what just fits less than the width is between the ends
+  fitted-in : (a l u : ℤ) (n : ℕ) → l ≤ℤ u → pos n <ℤ (pos (natAbs a) *ℤ (u -ℤ l)) → (l ≤ℤ fitted a l u (pos n)) × (fitted a l u (pos n) ≤ℤ u)
+  unfolding floorDiv floorBy
+  fitted-in (pos zero) l u n o h = (≤ℤ-refl l, o)
+  fitted-in (pos (suc m)) l u n o h = rw (le-no not-below, lt-yes above) (rise l u (n / suc m) (units-in n (suc m) (u -ℤ l) h))
     where
-      down : (l u : ℤ) → pos d ≤ℤ (u -ℤ l) → (l ≤ℤ (u -ℤ pos d)) × ((u -ℤ pos d) ≤ℤ u)
-      down = split2 _ (λ a b c e. simp zed (λ x. (omega arith, omega arith)))
+      not-below : pos 0 ≤ℤ pos (suc m)
+      not-below = simp zed (omega arith)
 
-      up : (l u : ℤ) → pos d ≤ℤ (u -ℤ l) → (l ≤ℤ (l +ℤ pos d)) × ((l +ℤ pos d) ≤ℤ u)
-      up = split2 _ (λ a b c e. simp zed (λ x. (omega arith, omega arith)))
+      above : pos 0 <ℤ pos (suc m)
+      above = simp zed (omega arith)
 
-      go : (t : Bool) → (l ≤ℤ cond t (u -ℤ pos d) (l +ℤ pos d)) × (cond t (u -ℤ pos d) (l +ℤ pos d) ≤ℤ u)
-      go true = down l u h
-      go false = up l u h
+      rise : (l u : ℤ) (d : ℕ) → pos d ≤ℤ (u -ℤ l) → (l ≤ℤ (l +ℤ pos d)) × ((l +ℤ pos d) ≤ℤ u)
+      rise = split2 _ (λ a b c e d. simp zed (λ x. (omega arith, omega arith)))
+  fitted-in (negsuc m) l u n o h = rw (ceil-below n m) (sink l u (n / suc m) (units-in n (suc m) (u -ℤ l) h))
+    where
+      sink : (l u : ℤ) (d : ℕ) → pos d ≤ℤ (u -ℤ l) → (l ≤ℤ (u +ℤ negℤ (pos d))) × ((u +ℤ negℤ (pos d)) ≤ℤ u)
+      sink = split2 _ (λ a b c e d. simp zed (λ x. (omega arith, omega arith)))
 
   light-inside : (j : ℕ) → j < c .count → (lo j ≤ℤ lightOf c e j) × (lightOf c e j ≤ℤ hi j)
   light-inside j l = light-in (weightOf c j) (priceOf c j) (lo j) (hi j) (lightOf c e j) (b j l) (is-lightest (weightOf c j) (priceOf c j) (lo j) (hi j))
@@ -468,8 +481,8 @@ module _ (c : Columns) (e : Ends) (marks : ℕ → Mark) (o : Ordered c) (b : In
       f : Fill
       f = fill c e
 
-      raised-in : f .at < c .live → rankOf c j ≡ f .at → Stopped f → Inside j (towards (weightOf c j) (lo j) (hi j) (pos (natAbs (f .room) / sizeOf c f)))
-      raised-in h r t = towards-in (weightOf c j) (lo j) (hi j) (natAbs (f .room) / sizeOf c f) (units-in (natAbs (f .room)) (sizeOf c f) (hi j -ℤ lo j) (short (t .why)))
+      raised-in : f .at < c .live → rankOf c j ≡ f .at → Stopped f → Inside j (fitted (weightOf c j) (lo j) (hi j) (f .room))
+      raised-in h r t = subst (λ z. Inside j (fitted (weightOf c j) (lo j) (hi j) z)) (nonneg-abs (f .room) (t .good .inv .room)) (fitted-in (weightOf c j) (lo j) (hi j) (natAbs (f .room)) (b j l) (short (t .why)))
         where
           its : itemOf c (f .at) ≡ j
           its = sym (ap (itemOf c) r) ∙ o .item-rank j l
@@ -478,25 +491,25 @@ module _ (c : Columns) (e : Ends) (marks : ℕ → Mark) (o : Ordered c) (b : In
           nonneg-abs (pos n) x = refl
           nonneg-abs (negsuc n) x = absurd (x .le)
 
-          size-abs : pos (sizeOf c f) ≡ at (c .size) (f .at)
-          size-abs = ap (λ z. pos (natAbs z)) (o .sizes (f .at) h) ∙ sym (o .sizes (f .at) h)
+          size-abs : pos (natAbs (weightOf c j)) ≡ at (c .size) (f .at)
+          size-abs = ap (λ i. pos (natAbs (weightOf c i))) (sym its) ∙ sym (o .sizes (f .at) h)
 
-          short : (f .at ≡ c .live) ⊎ ((f .at < c .live) × (f .room <ℤ (at (c .size) (f .at) *ℤ width c e (f .at)))) → pos (natAbs (f .room)) <ℤ (pos (sizeOf c f) *ℤ (hi j -ℤ lo j))
+          short : (f .at ≡ c .live) ⊎ ((f .at < c .live) × (f .room <ℤ (at (c .size) (f .at) *ℤ width c e (f .at)))) → pos (natAbs (f .room)) <ℤ (pos (natAbs (weightOf c j)) *ℤ (hi j -ℤ lo j))
           short (inl x) = absurd (omega arith)
           short (inr (x, y)) = rw (nonneg-abs (f .room) (t .good .inv .room), size-abs) (subst (λ i. f .room <ℤ (at (c .size) (f .at) *ℤ (at (e .hi) i -ℤ at (e .lo) i))) its y)
 
-      live? : rankOf c j ≡ f .at → Stopped f → (x : Bool) → ltb (f .at) (c .live) ≡ x → Inside j (cond x (towards (weightOf c j) (lo j) (hi j) (pos (natAbs (f .room) / sizeOf c f))) (lightOf c e j))
+      live? : rankOf c j ≡ f .at → Stopped f → (x : Bool) → ltb (f .at) (c .live) ≡ x → Inside j (cond x (fitted (weightOf c j) (lo j) (hi j) (f .room)) (lightOf c e j))
       live? r t true h = raised-in (ltb-true (f .at) (c .live) h) r t
       live? r t false h = light-inside j l
 
-      own? : Stopped f → (x : Bool) → eqb (rankOf c j) (f .at) ≡ x → Inside j (cond x (cond (ltb (f .at) (c .live)) (towards (weightOf c j) (lo j) (hi j) (pos (natAbs (f .room) / sizeOf c f))) (lightOf c e j)) (lightOf c e j))
+      own? : Stopped f → (x : Bool) → eqb (rankOf c j) (f .at) ≡ x → Inside j (cond x (cond (ltb (f .at) (c .live)) (fitted (weightOf c j) (lo j) (hi j) (f .room)) (lightOf c e j)) (lightOf c e j))
       own? t true h = live? (eqb-true (rankOf c j) (f .at) h) t (ltb (f .at) (c .live)) refl
       own? t false h = light-inside j l
 
-      before? : Stopped f → (x : Bool) → Inside j (cond x (heavyOf c e j) (cond (eqb (rankOf c j) (f .at)) (cond (ltb (f .at) (c .live)) (towards (weightOf c j) (lo j) (hi j) (pos (natAbs (f .room) / sizeOf c f))) (lightOf c e j)) (lightOf c e j)))
+      before? : Stopped f → (x : Bool) → Inside j (cond x (heavyOf c e j) (cond (eqb (rankOf c j) (f .at)) (cond (ltb (f .at) (c .live)) (fitted (weightOf c j) (lo j) (hi j) (f .room)) (lightOf c e j)) (lightOf c e j)))
       before? t true = heavy-inside j l
       before? t false = own? t (eqb (rankOf c j) (f .at)) refl
 
-      empty? : (x : Bool) → ltZ (f .room) (pos 0) ≡ x → Inside j (cond x (lightOf c e j) (cond (ltb (rankOf c j) (f .at)) (heavyOf c e j) (cond (eqb (rankOf c j) (f .at)) (cond (ltb (f .at) (c .live)) (towards (weightOf c j) (lo j) (hi j) (pos (natAbs (f .room) / sizeOf c f))) (lightOf c e j)) (lightOf c e j))))
+      empty? : (x : Bool) → ltZ (f .room) (pos 0) ≡ x → Inside j (cond x (lightOf c e j) (cond (ltb (rankOf c j) (f .at)) (heavyOf c e j) (cond (eqb (rankOf c j) (f .at)) (cond (ltb (f .at) (c .live)) (fitted (weightOf c j) (lo j) (hi j) (f .room)) (lightOf c e j)) (lightOf c e j))))
       empty? true h = light-inside j l
       empty? false h = before? (fill-stopped (no-lt h)) (ltb (rankOf c j) (f .at))

@@ -11,6 +11,7 @@ use lib.Dec.{ltb, eqb}
 use lib.IntN.{ℤ, pos, negsuc, negℤ, natAbs, _+ℤ_, _-ℤ_, _*ℤ_}
 use lib.ListN.{getD}
 use lib.Signed.{ltZ}
+use Rattle.arith.specs.Division.{floorDiv, ceilDiv}
 use Rattle.arith.specs.Sum.{sum}
 use Rattle.arith.specs.declared.Mixed.{Mixed}
 use Rattle.greedy.specs.declared.Columns.{Columns}
@@ -111,16 +112,16 @@ sharedBy f s p = record { whole = f .worth +ℤ pos ((p * natAbs (f .room)) / s)
 unfoldable pub bound : Columns → Fill → Mixed
 bound c f = cond (ltb (f .at) (c .live)) (sharedBy f (sizeOf c f) (rateOf c f)) (record { whole = f .worth; part = 0; parts = 1 })
 
--- q units from the light end to the heavy one
-abbrev pub towards : ℤ → ℤ → ℤ → ℤ → ℤ
-towards a l u q = cond (ltZ a (pos 0)) (u -ℤ q) (l +ℤ q)
+-- the amount that just fits the room r, from the light end on: rounded down for a limit from above, up for one from below
+abbrev pub fitted : ℤ → ℤ → ℤ → ℤ → ℤ
+fitted a l u r = cond (ltZ a (pos 0)) (u +ℤ ceilDiv r a) (cond (ltZ (pos 0) a) (l +ℤ floorDiv r a) l)
 
 unfoldable pub start : Columns → Ends → Fill → ℕ → ℤ
 start c e f k =
     cond (ltZ (f .room) (pos 0)) (lightOf c e k)
     (cond (ltb (rankOf c k) (f .at)) (heavyOf c e k)
     (cond (eqb (rankOf c k) (f .at))
-    (cond (ltb (f .at) (c .live)) (towards (weightOf c k) (at (e .lo) k) (at (e .hi) k) (pos (natAbs (f .room) / sizeOf c f))) (lightOf c e k))
+    (cond (ltb (f .at) (c .live)) (fitted (weightOf c k) (at (e .lo) k) (at (e .hi) k) (f .room)) (lightOf c e k))
     (lightOf c e k)))
 
 -- item k's whole amount while the first t ranks are raised

@@ -1,6 +1,7 @@
 -- What the arithmetic of the filling asks so that nothing overflows.
 --   Sized c e       every figure of the columns and every end is in its range
 --   Raisable f …    the same of one turn of the filling
+--   Fittable l u r  the same of an amount that just fits
 use Prim.Native.Nat.{ℕ, _≤_, _<_}
 use lib.IntN.{ℤ, pos, natAbs}
 use Rattle.arith.specs.Within.{Within}
@@ -46,3 +47,8 @@ pub record Shareable (f : Fill) (s p : ℕ) : Type 0 where
   pub worth-in : Within 200000000000000 (f .worth)
   pub size-in : 0 < s
   pub rate-in : p ≤ 10000
+
+pub record Fittable (l u room : ℤ) : Type 0 where
+  pub low-in : Within 300000000 l
+  pub high-in : Within 300000000 u
+  pub room-in : Within 20000000000000 room

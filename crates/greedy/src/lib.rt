@@ -2,13 +2,15 @@
 // The mathematics is document 000, chapter 3: a prefix of the order by price per weight stands at its heavy end, the rest at its
 // light end, and at most one item between (the critical item).
 use arith::Mixed;
+use arith::ceil_div;
+use arith::floor_div;
 use arith::magnitude;
 ghost use mathlib.Core.Path.{_≡_};
-ghost use Prim.Native.Nat.{ℕ, _≤_, _<_, _/_};
-ghost use lib.IntN.{ℤ, pos, natAbs};
-ghost use Rattle.greedy.specs.Fill.{lightest, weightOf, priceOf, cornerWeight, cornerWorth, heaviest, towards, begun, withItem, turnBy, fill, bound, sharedBy, start};
+ghost use Prim.Native.Nat.{ℕ, _≤_, _<_};
+ghost use lib.IntN.{ℤ};
+ghost use Rattle.greedy.specs.Fill.{lightest, weightOf, priceOf, cornerWeight, cornerWorth, heaviest, fitted, begun, withItem, turnBy, fill, bound, sharedBy, start};
 ghost use Rattle.arith.specs.Within.{Within};
-ghost use Rattle.greedy.specs.Sized.{Sized, SizedFill, Raisable, Shareable};
+ghost use Rattle.greedy.specs.Sized.{Sized, SizedFill, Raisable, Shareable, Fittable};
 
 // A problem by columns. By item: weight and price. By rank, in the order of falling price per weight: the item, its weight and
 // price without the sign of the weight. rank is order turned round; the first live ranks are worth their weight.
@@ -196,18 +198,10 @@ pub fn start_of(cols: Columns, ends: Ends, f: Fill, k: usize) -> i64
     }
     if v == u {
         if u < n {
-            return raised_end(a, l, h, units(r, cols.size[u]));
+            return fitting(a, l, h, r);
         }
     }
     x
-}
-
-// How many units of that weight the room holds.
-pub fn units(room: i64, size: i64) -> i64
-    requires { ⌜ Within 20000000000000 room × (Within 1000 size × (0 < natAbs size)) ⌝ }
-    ensures { λ r. ⌜ r ≡ pos (natAbs room / natAbs size) ⌝ }
-{
-    (magnitude(room) / magnitude(size)) as i64
 }
 
 pub fn heavy_end(a: i64, l: i64, u: i64) -> i64
@@ -216,10 +210,17 @@ pub fn heavy_end(a: i64, l: i64, u: i64) -> i64
     if a < 0 { l } else { u }
 }
 
-// q units from the light end.
-pub fn raised_end(a: i64, l: i64, u: i64, q: i64) -> i64
-    requires { ⌜ Within 300000000 l × (Within 300000000 u × Within 20000000000000 q) ⌝ }
-    ensures { λ r. ⌜ r ≡ towards a l u q ⌝ }
+// The amount of an item that just fits a room, from its light end on. Paper 01, "Dividing": rounded down for a limit from above, and up
+// for one from below.
+pub fn fitting(a: i64, l: i64, u: i64, room: i64) -> i64
+    requires { ⌜ Fittable l u room ⌝ }
+    ensures { λ r. ⌜ r ≡ fitted a l u room ⌝ }
 {
-    if a < 0 { u - q } else { l + q }
+    if a < 0 {
+        return u + ceil_div(room, a);
+    }
+    if 0 < a {
+        return l + floor_div(room, a);
+    }
+    l
 }

@@ -1,19 +1,16 @@
 -- `greedy::start_of` meets its contract: the tests are those of the definition, in its order.
 use mathlib.Core.Path.{_≡_, refl, sym, ap, _∙_}
 use mathlib.Core.Bool.{true, false}
-use Prim.Native.Nat.{ℕ, _<_, _≤_, _/_}
-use native.Mathlib.Nat.{div-le-self}
-use native.Mathlib.Omega.{arith}
+use Prim.Native.Nat.{ℕ, _<_, _≤_}
 use lib.Dec.{ltb, eqb}
-use lib.IntN.{ℤ, pos, natAbs}
+use lib.IntN.{ℤ, pos}
 use lib.Signed.{ltZ}
 use mir.Syntax.{w64}
 use mir.Val.{toZ, ofZ}
 use borrow.Author.Tests.{lt-ltb, le-ltb, eq-eqb, ne-eqb}
-use Rattle.arith.specs.Within.{Within}
-use Rattle.arith.proofs.Parts.{within-more, within-abs, within-back}
+use Rattle.arith.proofs.Parts.{within-back}
 use Rattle.arith.proofs.Words.{back}
-use Rattle.greedy.specs.Fill.{at, weightOf, priceOf, rankOf, lightest, heaviest, lightOf, heavyOf, towards, sizeOf, start}
+use Rattle.greedy.specs.Fill.{at, weightOf, priceOf, rankOf, lightest, heaviest, lightOf, heavyOf, start}
 use borrow.Author.Needs.{needs}
 use Rattle.greedy.proofs.start_of.Statement.{statement}
 use Rattle.greedy.proofs.start_of.Tie as tie
@@ -86,48 +83,21 @@ returns-2 c =
     let e = rw (within-back tt (s .pre .0 .columns .weights-in k), within-back tt (s .pre .0 .ends .lo-in k), within-back tt (s .pre .0 .ends .hi-in k)) at (c .heavy-end .ensures) in
     rw (not-empty (t .before), lt-ltb _ _ (t .if2 .taken)) (back (c .heavy-end .result) (c .heavy-end .ok) ∙ e)
 
-mul-units : tie.Need-mul-units
-mul-units c = search needs
-
-element-copy-out-units : tie.Need-element-copy-out-units
-element-copy-out-units c = search needs
-
-units-requires : tie.Need-units-requires
+fitting-requires : tie.Need-fitting-requires
 unfolding S
-units-requires c κs =
-    let t = c .before in
-    let s = S (t .before .before .before .before) in
-    let u = s .args .f .at in
-    rw (within-back tt (s .pre .1 .0 .room-in), within-back tt (s .pre .0 .columns .sizes-in u)) (s .pre .1 .0 .room-in, (s .pre .0 .columns .sizes-in u, s .pre .0 .columns .live-sizes u (t .if4 .taken)))
-
-units-is : (c : tie.After-units) → c .units .result ≡ pos (natAbs (S (c .before .before .before .before .before .before) .args .f .room) / sizeOf (S (c .before .before .before .before .before .before) .args .t1) (S (c .before .before .before .before .before .before) .args .f))
-unfolding S
-units-is c =
-    let s = S (c .before .before .before .before .before .before) in
-    rw (within-back tt (s .pre .1 .0 .room-in), within-back tt (s .pre .0 .columns .sizes-in (s .args .f .at))) at (c .units .ensures)
-
-units-within : (c : tie.After-units) → Within 20000000000000 (c .units .result)
-unfolding S
-units-within c =
-    let s = S (c .before .before .before .before .before .before) in
-    rw (units-is c) (record { above = omega (arith, div-le-self (natAbs (s .args .f .room)) (sizeOf (s .args .t1) (s .args .f)), within-abs (s .args .f .room) (s .pre .1 .0 .room-in)); below = omega arith })
-
-raised-end-requires : tie.Need-raised-end-requires
-unfolding S
-raised-end-requires c κs =
-    let s = S (c .before .before .before .before .before .before) in
+fitting-requires c κs =
+    let s = S (c .before .before .before .before) in
     let k = s .args .k in
-    rw (within-back tt (s .pre .0 .ends .lo-in k), within-back tt (s .pre .0 .ends .hi-in k), within-back tt (units-within c)) (s .pre .0 .ends .lo-in k, (s .pre .0 .ends .hi-in k, units-within c))
+    rw (within-back tt (s .pre .0 .ends .lo-in k), within-back tt (s .pre .0 .ends .hi-in k), within-back tt (s .pre .1 .0 .room-in)) (record { low-in = s .pre .0 .ends .lo-in k; high-in = s .pre .0 .ends .hi-in k; room-in = s .pre .1 .0 .room-in })
 
 returns-3 : tie.Need-returns-3
 unfolding start S
 returns-3 c =
-    let d = c .before in
-    let t = d .before .before in
+    let t = c .before in
     let s = S (t .before .before .before .before) in
     let k = s .args .k in
-    let e = rw (within-back tt (s .pre .0 .columns .weights-in k), within-back tt (s .pre .0 .ends .lo-in k), within-back tt (s .pre .0 .ends .hi-in k), within-back tt (units-within d), units-is d) at (c .raised-end .ensures) in
-    rw (not-empty (t .before .before .before), le-ltb _ _ (t .before .before .if2 .left), eq-eqb _ _ (t .before .if3 .taken), lt-ltb _ _ (t .if4 .taken)) (back (c .raised-end .result) (c .raised-end .ok) ∙ e)
+    let e = rw (within-back tt (s .pre .0 .columns .weights-in k), within-back tt (s .pre .0 .ends .lo-in k), within-back tt (s .pre .0 .ends .hi-in k), within-back tt (s .pre .1 .0 .room-in)) at (c .fitting .ensures) in
+    rw (not-empty (t .before .before .before), le-ltb _ _ (t .before .before .if2 .left), eq-eqb _ _ (t .before .if3 .taken), lt-ltb _ _ (t .if4 .taken)) (back (c .fitting .result) (c .fitting .ok) ∙ e)
 
 returns-4 : tie.Need-returns-4
 unfolding start S
@@ -157,10 +127,7 @@ start-of-spec =
     returns
     heavy-end-requires
     returns-2
-    mul-units
-    element-copy-out-units
-    units-requires
-    raised-end-requires
+    fitting-requires
     returns-3
     returns-4
     returns-5)
