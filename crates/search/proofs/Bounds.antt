@@ -20,7 +20,6 @@ use Rattle.greedy.specs.Sized.{SizedFill}
 use Rattle.greedy.specs.Ordered.{weightAt, Ordered}
 use Rattle.greedy.proofs.Greedy.{abs≥1}
 use Rattle.lattice.specs.Lattice.{Steep}
-use Rattle.search.specs.declared.Setting.{Setting}
 use Rattle.search.specs.Search.{slopeOf}
 
 module _ (c : Columns) (f : Fill) (z : SizedFill c f) where
@@ -47,13 +46,13 @@ module _ (c : Columns) (f : Fill) (z : SizedFill c f) where
       go false = within-more (omega arith) (z .worth-in)
 
 -- the slope of a filling that ends at a rank
-pub steep : (s : Setting) (f : Fill) → Ordered (s .cols) → SizedFill (s .cols) f → f .at < s .cols .live → Steep (slopeOf (s .cols) f)
-steep s f o z l = record {
+pub steep : (c : Columns) (f : Fill) → Ordered c → SizedFill c f → f .at < c .live → Steep (slopeOf c f)
+steep c f o z l = record {
   worth-in = z .worth-in;
   rate-in = z .columns .rates-in (f .at);
   rate≥0 = lt-le (subst (λ x. pos 0 <ℤ x) (sym (o .rates (f .at) l)) (o .live-rate (f .at) l));
   size-in = z .columns .sizes-in (f .at);
-  size≥1 = subst (λ x. pos 0 <ℤ x) (sym (o .sizes (f .at) l)) (above (natAbs (weightAt (s .cols) (f .at))) (abs≥1 (weightAt (s .cols) (f .at)) (o .live-weight (f .at) l)));
+  size≥1 = subst (λ x. pos 0 <ℤ x) (sym (o .sizes (f .at) l)) (above (natAbs (weightAt c (f .at))) (abs≥1 (weightAt c (f .at)) (o .live-weight (f .at) l)));
 }
   where
     above : (n : ℕ) → 1 ≤ n → pos 0 <ℤ pos n

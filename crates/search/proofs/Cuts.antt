@@ -245,7 +245,7 @@ module _ (s : Setting) (r : ReadySetting s) (long : Long (s .ends)) (marks : ℕ
             differ c w h = sum-diff (s .cols .count) c N (λ k. stand (s .cols) e (f .at) k *ℤ pos D) ∙ ap (λ x. sum (s .cols .count) (λ k. c k *ℤ N k) -ℤ x) (sum-times (s .cols .count) c (stand (s .cols) e (f .at)) D ∙ ap (λ x. x *ℤ pos D) h)
 
       -- nothing in a sparse run is worth more than b
-      pub sparse-most : Stopped (s .cols) e marks (r .ordered) ordered f → SizedFill (s .cols) f → (b : ℤ) → sparseBy s f d b ≡ true → valueᴰ (box s marks) N ≤ℤ (b *ℤ pos D)
+      pub sparse-most : Stopped (s .cols) e marks (r .ordered) ordered f → SizedFill (s .cols) f → (b : ℤ) → sparseBy (s .cols) L f b ≡ true → valueᴰ (box s marks) N ≤ℤ (b *ℤ pos D)
       unfolding sparseBy
       sparse-most t z b h = go (ltb (f .at) (s .cols .live)) refl h (t .why)
         where
@@ -255,7 +255,7 @@ module _ (s : Setting) (r : ReadySetting s) (long : Long (s .ends)) (marks : ℕ
               let rise = fill-slope (s .cols) e marks (r .ordered) ordered f (t .good) k short D N (in-e .keeps) in
               let slope = cancel D d≥1 (at (s .cols .size) (f .at)) (at (s .cols .rate) (f .at)) (q .worth) (q .weight) (subst₂ (λ v w. (at (s .cols .size) (f .at) *ℤ v) ≤ℤ (at (s .cols .rate) (f .at) *ℤ w)) (q .worth-is) (q .weight-is) rise) in
               let room = fits D d≥1 (q .weight) (weighsᴰ (box s marks) N) (s .cols .capacity) (f .room) (q .weight-is) (p .fits) in
-              up (valueᴰ (box s marks) N) (f .worth) (q .worth) b (q .worth-is) (barren-true L (f .room) (r .tame d (omega (arith, r .few))) (slopeOf (s .cols) f) (steep s (f) (r .ordered) z k) b h (q .weight) (q .worth) (q .on) room slope)
+              up (valueᴰ (box s marks) N) (f .worth) (q .worth) b (q .worth-is) (barren-true L (f .room) (r .tame d (omega (arith, r .few))) (slopeOf (s .cols) f) (steep (s .cols) f (r .ordered) z k) b h (q .weight) (q .worth) (q .on) room slope)
             where
               cancel : (D : ℕ) → 1 ≤ D → (x y v w : ℤ) → (x *ℤ (v *ℤ pos D)) ≤ℤ (y *ℤ (w *ℤ pos D)) → (x *ℤ v) ≤ℤ (y *ℤ w)
               cancel D d≥1 x y v w h = times-≤-back D (x *ℤ v) (y *ℤ w) d≥1 (subst₂ _≤ℤ_ (out x v) (out y w) h)

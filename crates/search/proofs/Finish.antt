@@ -29,6 +29,7 @@ use Rattle.greedy.specs.declared.Fill.{Fill}
 use Rattle.greedy.specs.Fill.{at, fill, bound, solution}
 use Rattle.greedy.proofs.Relaxed.{boxOf, InOrder, Stopped, fill-stopped, fill-empty, fill-bound, fill-value, fill-point, parts≥1}
 use Rattle.greedy.proofs.Sizes.{fill-sized}
+use Rattle.lattice.specs.Lattice.{latticeAt}
 use Rattle.places.specs.declared.Settled.{Settled}
 use Rattle.places.specs.declared.Settled.the-variants.{Run, Prefix}
 use Rattle.places.specs.Moves.{SettledIn, pastOf}
@@ -61,7 +62,7 @@ pub record GoodBest (s : Setting) (b : Incumbent) : Type 0 where
   pub value-is : b .found ≡ true → b .value ≡ bound (s .cols) (fill (s .cols) (placeEnds s (b .place)))
 
 module _ (s : Setting) (r : ReadySetting s) (long : Long (s .ends)) where
-  pub tried-good : (x : List ℤ) (b : Incumbent) → Inside s (at x) → GoodBest s b → GoodBest s (triedBy s (placeEnds s x) x b)
+  pub tried-good : (x : List ℤ) (b : Incumbent) → Inside s (at x) → GoodBest s b → GoodBest s (triedBy (s .cols) (placeEnds s x) x b)
   unfolding triedBy
   tried-good x b inside g = empty? (ltZ (f .room) (pos 0)) refl
     where
@@ -71,8 +72,8 @@ module _ (s : Setting) (r : ReadySetting s) (long : Long (s .ends)) where
       f : Fill
       f = fill (s .cols) e
 
-      j : Judges s e 0 b
-      j = fixed-judged s r long (at x) inside (s .levels) 0 b (omega arith) (omega arith) (g .proper)
+      j : Judges (s .cols) e b
+      j = fixed-judged s r long (at x) inside (s .levels) b (omega arith) (g .proper)
 
       new : ltZ (f .room) (pos 0) ≡ false → GoodBest s (record { found = true; place = x; value = bound (s .cols) f })
       new q = record { proper = λ z. bound-proper (s .cols) f (fill-sized (s .cols) e (j .sized)); inside = λ z. inside; roomy = λ z. no-lt q; value-is = λ z. refl }
@@ -100,7 +101,7 @@ module _ (s : Setting) (r : ReadySetting s) (long : Long (s .ends)) where
       keeps-settled (Prefix n) (l, inr (e, c)) y h = rw e h
 
       pub settles-verdict : (w : Settled) → LookedAs s ps t b b′ w → Settles (orderOf s) w (at (t .place)) (SettledAt s marks b′)
-      settles-verdict (Run d) (l, (e, c)) = λ y bx run. rw e (cut-settles s r long marks m (at (t .place)) (started .inside) d b l (g .proper) (subst (λ v. cutBy s (runEnds s (at (t .place)) v d) d b ≡ true) (started .starts d l) c) y run)
+      settles-verdict (Run d) (l, (e, c)) = λ y bx run. rw e (cut-settles s r long marks m (at (t .place)) (started .inside) d b l (g .proper) (subst (λ v. cutBy (s .cols) (latticeAt (s .lattice) d) (runEnds s (at (t .place)) v d) b ≡ true) (started .starts d l) c) y run)
       settles-verdict (Prefix n) (l, inl (q, e)) = λ y bx a. rw e (tried-settles s r long marks m (at (t .place)) (started .inside) (t .place) b (g .proper) y (subst (λ k. Agree k (at (t .place)) y) q a))
       settles-verdict (Prefix n) (l, inr (e, (d, q, c))) = λ y bx a. rw e (pair-settles s r long marks m (at (t .place)) (started .inside) ps rp d b (omega arith) c y (subst (λ k. Agree k (at (t .place)) y) q a))
 

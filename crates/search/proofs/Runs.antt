@@ -18,17 +18,15 @@ use Rattle.search.specs.Steps.{Long, ProperBest, Judges}
 use Rattle.search.proofs.Boxes.{item<16, fixed-long, fixed-sized, fixed-order, span-long, span-sized, span-order, low-within, high-within, inside-within}
 
 module _ (s : Setting) (r : ReadySetting s) (long : Long (s .ends)) (P : ℕ → ℤ) (inside : Inside s P) where
-  pub fixed-judged : (d k : ℕ) (b : Incumbent) → d ≤ s .levels → k < 16 → ProperBest b → Judges s (fixedBy s P d) k b
-  fixed-judged d k b l n p = record {
+  pub fixed-judged : (d : ℕ) (b : Incumbent) → d ≤ s .levels → ProperBest b → Judges (s .cols) (fixedBy s P d) b
+  fixed-judged d b l p = record {
     sized = record { columns = r .sized .columns; ends = fixed-sized s r long P d l (λ j m. inside j (omega arith)) };
     ordered = r .ordered;
     in-order = fixed-order s r long P d l;
-    level-in = n;
     proper = p;
-    tame = r .tame k n;
   }
 
-  pub run-judged : (v : ℤ) (d : ℕ) (b : Incumbent) → d < s .levels → ProperBest b → Judges s (runEnds s P v d) d b
+  pub run-judged : (v : ℤ) (d : ℕ) (b : Incumbent) → d < s .levels → ProperBest b → Judges (s .cols) (runEnds s P v d) b
   run-judged v d b l p = go (ltZ (P d) v)
     where
       e : Ends
@@ -37,16 +35,14 @@ module _ (s : Setting) (r : ReadySetting s) (long : Long (s .ends)) (P : ℕ →
       x-in : Within 300000000 (P d)
       x-in = inside-within s r long P (s .levels) d (omega arith) l inside
 
-      narrowed : (x y : ℤ) → Within 300000000 x → Within 300000000 y → x ≤ℤ y → Judges s (spanned e (levelAt s d) x y) d b
+      narrowed : (x y : ℤ) → Within 300000000 x → Within 300000000 y → x ≤ℤ y → Judges (s .cols) (spanned e (levelAt s d) x y) b
       narrowed x y wx wy h = record {
         sized = record { columns = r .sized .columns; ends = span-sized e (levelAt s d) x y (fixed-long s r long P d) (item<16 s r long d l) wx wy (fixed-sized s r long P d (omega arith) (λ j m. inside j (omega arith))) };
         ordered = r .ordered;
         in-order = span-order s r long e (levelAt s d) x y (fixed-long s r long P d) (item<16 s r long d l) h (fixed-order s r long P d (omega arith));
-        level-in = omega (arith, r .few);
         proper = p;
-        tame = r .tame d (omega (arith, r .few));
       }
 
-      go : (t : Bool) → Judges s (cond t (spanned e (levelAt s d) (at (s .low) d) (P d)) (spanned e (levelAt s d) (P d) (at (s .high) d))) d b
+      go : (t : Bool) → Judges (s .cols) (cond t (spanned e (levelAt s d) (at (s .low) d) (P d)) (spanned e (levelAt s d) (P d) (at (s .high) d))) b
       go true = narrowed (at (s .low) d) (P d) (low-within s r long d l) x-in (inside d l .0)
       go false = narrowed (P d) (at (s .high) d) x-in (high-within s r long d l) (inside d l .1)

@@ -26,6 +26,7 @@ use Rattle.greedy.specs.Fill.{at, place, fill, bound}
 use Rattle.greedy.specs.Sized.{Sized}
 use Rattle.greedy.proofs.Relaxed.{boxOf, InOrder, Stopped, fill-stopped, fill-empty, fill-bound}
 use Rattle.greedy.proofs.Sizes.{fill-sized}
+use Rattle.lattice.specs.Lattice.{latticeAt}
 use Rattle.places.proofs.Places.{Agree, Run}
 use Rattle.search.specs.declared.Setting.{Setting}
 use Rattle.search.specs.declared.Pairs.{Pairs}
@@ -47,7 +48,7 @@ whole-most : (n k D : ℕ) (v w : ℤ) → v ≤ℤ (w *ℤ pos D) → (v *ℤ p
 whole-most n k D = split2 _ (λ a b c e. simp zed (λ h. omega (arith, mul-le-mul-right n h)))
 
 module _ (s : Setting) (r : ReadySetting s) (long : Long (s .ends)) (marks : ℕ → Mark) (m : Marked s marks) (P : ℕ → ℤ) (inside : Inside s P) where
-  pub cut-settles : (d : ℕ) (b : Incumbent) → d < s .levels → ProperBest b → cutBy s (runEnds s P (startBy s P d) d) d b ≡ true → (y : ℕ → ℤ) → Run (orderOf s) d P y → Settled s marks b y
+  pub cut-settles : (d : ℕ) (b : Incumbent) → d < s .levels → ProperBest b → cutBy (s .cols) (latticeAt (s .lattice) d) (runEnds s P (startBy s P d) d) b ≡ true → (y : ℕ → ℤ) → Run (orderOf s) d P y → Settled s marks b y
   unfolding cutBy
   cut-settles d b l proper h y run D N d≥1 p a = empty? (ltZ (f .room) (pos 0)) refl (subst (λ t. t ≡ true) refl h)
     where
@@ -57,7 +58,7 @@ module _ (s : Setting) (r : ReadySetting s) (long : Long (s .ends)) (marks : ℕ
       f : Fill
       f = fill (s .cols) e
 
-      j : Judges s e d b
+      j : Judges (s .cols) e b
       j = run-judged s r long P inside (startBy s P d) d b l proper
 
       in-e : Feasibleᴰ (boxOf (s .cols) e marks) D N
@@ -70,15 +71,15 @@ module _ (s : Setting) (r : ReadySetting s) (long : Long (s .ends)) (marks : ℕ
       v-proper = bound-proper (s .cols) f (fill-sized (s .cols) e (j .sized))
 
       -- where the bound is no better, and where it is but the run is sparse
-      better? : Stopped (s .cols) e marks (r .ordered) (j .in-order) f → b .found ≡ true → (t : Bool) → lessMixed (b .value) v ≡ t → cond t (sparseBy s f d (b .value .whole)) true ≡ true → AtMostBest s marks b D N ⊎ Bettered s marks D N
+      better? : Stopped (s .cols) e marks (r .ordered) (j .in-order) f → b .found ≡ true → (t : Bool) → lessMixed (b .value) v ≡ t → cond t (sparseBy (s .cols) (latticeAt (s .lattice) d) f (b .value .whole)) true ≡ true → AtMostBest s marks b D N ⊎ Bettered s marks D N
       better? st q false z k = inl (no-better s marks b v D N q (proper q) v-proper z (bounded s r long marks m D N d≥1 p y a P d l run (j .in-order) st))
       better? st q true z k = inl (q, whole-most (b .value .parts) (b .value .part) D (valueᴰ (box s marks) N) (b .value .whole) (sparse-most s r long marks m D N d≥1 p y a P d l run (j .in-order) st (fill-sized (s .cols) e (j .sized)) (b .value .whole) k))
 
-      compared : Stopped (s .cols) e marks (r .ordered) (j .in-order) f → (t : Bool) → b .found ≡ t → cond t (cond (lessMixed (b .value) v) (sparseBy s f d (b .value .whole)) true) false ≡ true → AtMostBest s marks b D N ⊎ Bettered s marks D N
+      compared : Stopped (s .cols) e marks (r .ordered) (j .in-order) f → (t : Bool) → b .found ≡ t → cond t (cond (lessMixed (b .value) v) (sparseBy (s .cols) (latticeAt (s .lattice) d) f (b .value .whole)) true) false ≡ true → AtMostBest s marks b D N ⊎ Bettered s marks D N
       compared st false q k = absurd (impossible k)
       compared st true q k = better? st q (lessMixed (b .value) v) refl k
 
-      empty? : (t : Bool) → ltZ (f .room) (pos 0) ≡ t → cond (ltZ (f .room) (pos 0)) true (cond (b .found) (cond (lessMixed (b .value) v) (sparseBy s f d (b .value .whole)) true) false) ≡ true → AtMostBest s marks b D N ⊎ Bettered s marks D N
+      empty? : (t : Bool) → ltZ (f .room) (pos 0) ≡ t → cond (ltZ (f .room) (pos 0)) true (cond (b .found) (cond (lessMixed (b .value) v) (sparseBy (s .cols) (latticeAt (s .lattice) d) f (b .value .whole)) true) false) ≡ true → AtMostBest s marks b D N ⊎ Bettered s marks D N
       empty? true q k = absurd (fill-empty (s .cols) e marks (r .ordered) (j .in-order) (yes-lt q) D N d≥1 in-e)
       empty? false q k = compared (fill-stopped (s .cols) e marks (r .ordered) (j .in-order) (no-lt q)) (b .found) refl (rw q at k)
 
@@ -142,8 +143,8 @@ module _ (s : Setting) (r : ReadySetting s) (long : Long (s .ends)) (marks : ℕ
     abbrev f : Fill
     f = fill (s .cols) e
 
-    j : Judges s e 0 b
-    j = fixed-judged s r long P inside (s .levels) 0 b (omega arith) (omega arith) proper
+    j : Judges (s .cols) e b
+    j = fixed-judged s r long P inside (s .levels) b (omega arith) proper
 
     abbrev v : Mixed
     v = bound (s .cols) f
@@ -152,7 +153,7 @@ module _ (s : Setting) (r : ReadySetting s) (long : Long (s .ends)) (marks : ℕ
     v-proper = bound-proper (s .cols) f (fill-sized (s .cols) e (j .sized))
 
     -- an incumbent that is kept, or the place
-    pub tried-settles : (y : ℕ → ℤ) → Agree (s .levels) P y → Settled s marks (triedBy s e x b) y
+    pub tried-settles : (y : ℕ → ℤ) → Agree (s .levels) P y → Settled s marks (triedBy (s .cols) e x b) y
     unfolding triedBy
     tried-settles y h D N d≥1 p a = empty? (ltZ (f .room) (pos 0)) refl
       where
@@ -172,7 +173,7 @@ module _ (s : Setting) (r : ReadySetting s) (long : Long (s .ends)) (marks : ℕ
         empty? true q = absurd (fill-empty (s .cols) e marks (r .ordered) (j .in-order) (yes-lt q) D N d≥1 in-e)
         empty? false q = better? (fill-stopped (s .cols) e marks (r .ordered) (j .in-order) (no-lt q)) (b .found) refl (lessMixed (b .value) v) refl
 
-    pub tried-keeps : (y : ℕ → ℤ) → Settled s marks b y → Settled s marks (triedBy s e x b) y
+    pub tried-keeps : (y : ℕ → ℤ) → Settled s marks b y → Settled s marks (triedBy (s .cols) e x b) y
     unfolding triedBy
     tried-keeps y h D N d≥1 p a = keep (h D N d≥1 p a)
       where
@@ -181,6 +182,6 @@ module _ (s : Setting) (r : ReadySetting s) (long : Long (s .ends)) (marks : ℕ
         kept (q, k) false true z = rw q (refl, passed-on D (b .value .parts) (v .parts) (omega (arith, proper q .low)) (valueᴰ (box s marks) N) (over (b .value)) (over v) k (less-true (b .value) v (proper q) v-proper z))
         kept (q, k) false false z = rw q (refl, k)
 
-        keep : AtMostBest s marks b D N ⊎ Bettered s marks D N → AtMostBest s marks (triedBy s e x b) D N ⊎ Bettered s marks D N
+        keep : AtMostBest s marks b D N ⊎ Bettered s marks D N → AtMostBest s marks (triedBy (s .cols) e x b) D N ⊎ Bettered s marks D N
         keep (inl k) = inl (kept k (ltZ (f .room) (pos 0)) (lessMixed (b .value) v) refl)
         keep (inr k) = inr k

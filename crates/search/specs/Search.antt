@@ -3,9 +3,9 @@
 --   fixedBy s P d       the search's box with the first d levels fixed at P
 --   startBy s P d       where level d starts below P's first d amounts: its item's amount in the relaxation, rounded to the light end
 --   runBox, runEnds     the box of P's run at level d, which starts at v: what is left of its segment there, and all below
---   sparseBy s f d b    no value above b is found on the lattice of level d, within the room and the slope of the filling f
---   cutBy s e d best    the box e holds nothing, or nothing better than the incumbent
---   triedBy s e x best  the better of the incumbent and the relaxation of e, a place with all levels fixed at x
+--   sparseBy c l f b    no value above b is found on the lattice l, within the room and the slope of the filling f
+--   cutBy c l e best    the box e holds nothing, or nothing better than the incumbent
+--   triedBy c e x best  the better of the incumbent and the relaxation of e, a place with all levels fixed at x
 --   Applies s p x d     a domination pair of level d's item and one above can be taken away from x within the box
 use mathlib.Core.Path.{_≡_}
 use mathlib.Core.Bool.{Bool, true, false, cond}
@@ -22,8 +22,9 @@ use Rattle.greedy.specs.declared.Columns.{Columns}
 use Rattle.greedy.specs.declared.Ends.{Ends}
 use Rattle.greedy.specs.declared.Fill.{Fill}
 use Rattle.greedy.specs.Fill.{at, place, fill, bound, start}
+use Rattle.lattice.specs.declared.Lattice.{Lattice}
 use Rattle.lattice.specs.declared.Slope.{Slope}
-use Rattle.lattice.specs.Lattice.{latticeAt, barrenBy}
+use Rattle.lattice.specs.Lattice.{barrenBy}
 use Rattle.search.specs.declared.Setting.{Setting}
 use Rattle.search.specs.declared.Pairs.{Pairs}
 use Rattle.search.specs.declared.Incumbent.{Incumbent}
@@ -42,32 +43,32 @@ unfoldable pub startBy : Setting → (ℕ → ℤ) → ℕ → ℤ
 startBy s P d = start (s .cols) (fixedBy s P d) (fill (s .cols) (fixedBy s P d)) (levelAt s d)
 
 -- up to the upper end from the start on, down to the lower end below it
-abbrev pub runBox : Setting → Ends → ℕ → ℤ → ℤ → Ends
-runBox s e d x v = cond (ltZ x v) (spanned e (levelAt s d) (at (s .low) d) x) (spanned e (levelAt s d) x (at (s .high) d))
+abbrev pub runBox : Ends → ℕ → ℤ → ℤ → ℤ → ℤ → Ends
+runBox e i l h x v = cond (ltZ x v) (spanned e i l x) (spanned e i x h)
 
 abbrev pub runEnds : Setting → (ℕ → ℤ) → ℤ → ℕ → Ends
-runEnds s P v d = runBox s (fixedBy s P d) d (P d) v
+runEnds s P v d = runBox (fixedBy s P d) (levelAt s d) (at (s .low) d) (at (s .high) d) (P d) v
 
 -- the critical item's price for its weight, from the whole amounts' worth on
 abbrev pub slopeOf : Columns → Fill → Slope
 slopeOf c f = record { worth = f .worth; rate = at (c .rate) (f .at); size = at (c .size) (f .at) }
 
-unfoldable pub sparseBy : Setting → Fill → ℕ → ℤ → Bool
-sparseBy s f d b = cond (ltb (f .at) (s .cols .live)) (barrenBy (latticeAt (s .lattice) d) (slopeOf (s .cols) f) (f .room) b) false
+unfoldable pub sparseBy : Columns → Lattice → Fill → ℤ → Bool
+sparseBy c l f b = cond (ltb (f .at) (c .live)) (barrenBy l (slopeOf c f) (f .room) b) false
 
-unfoldable pub cutBy : Setting → Ends → ℕ → Incumbent → Bool
-cutBy s e d best =
-    cond (ltZ (fill (s .cols) e .room) (pos 0)) true
-    (cond (best .found) (cond (lessMixed (best .value) (bound (s .cols) (fill (s .cols) e))) (sparseBy s (fill (s .cols) e) d (best .value .whole)) true) false)
+unfoldable pub cutBy : Columns → Lattice → Ends → Incumbent → Bool
+cutBy c l e best =
+    cond (ltZ (fill c e .room) (pos 0)) true
+    (cond (best .found) (cond (lessMixed (best .value) (bound c (fill c e))) (sparseBy c l (fill c e) (best .value .whole)) true) false)
 
 -- whether a value is better than the incumbent's
 abbrev pub betters : Mixed → Incumbent → Bool
 betters v best = cond (best .found) (lessMixed (best .value) v) true
 
-unfoldable pub triedBy : Setting → Ends → List ℤ → Incumbent → Incumbent
-triedBy s e x best =
-    cond (ltZ (fill (s .cols) e .room) (pos 0)) best
-    (cond (betters (bound (s .cols) (fill (s .cols) e)) best) (record { found = true; place = x; value = bound (s .cols) (fill (s .cols) e) }) best)
+unfoldable pub triedBy : Columns → Ends → List ℤ → Incumbent → Incumbent
+triedBy c e x best =
+    cond (ltZ (fill c e .room) (pos 0)) best
+    (cond (betters (bound c (fill c e)) best) (record { found = true; place = x; value = bound c (fill c e) }) best)
 
 -- x less r lies within l and u
 pub record Stays (x r l u : ℤ) : Type 0 where
@@ -78,11 +79,15 @@ pub record Stays (x r l u : ℤ) : Type 0 where
 abbrev pub pairIndex : ℕ → ℕ → ℕ
 pairIndex i j = 16 * i + j
 
+-- steps of r and t, of which r is not 0, can be taken away from x and y within their ends
+pub record Removable (r t x y l u m w : ℤ) : Type 0 where
+  pub moves : r ≢ pos 0
+  pub own : Stays x r l u
+  pub other : Stays y t m w
+
 -- the pair of the items of level d and of the level j above can be taken away from x within the box
-pub record AppliesAt (s : Setting) (p : Pairs) (x : ℕ → ℤ) (d j : ℕ) : Type 0 where
-  pub moves : at (p .first) (pairIndex (levelAt s d) (levelAt s j)) ≢ pos 0
-  pub own : Stays (x d) (at (p .first) (pairIndex (levelAt s d) (levelAt s j))) (at (s .low) d) (at (s .high) d)
-  pub other : Stays (x j) (at (p .second) (pairIndex (levelAt s d) (levelAt s j))) (at (s .low) j) (at (s .high) j)
+abbrev pub AppliesAt : Setting → Pairs → (ℕ → ℤ) → ℕ → ℕ → Type 0
+AppliesAt s p x d j = Removable (at (p .first) (pairIndex (levelAt s d) (levelAt s j))) (at (p .second) (pairIndex (levelAt s d) (levelAt s j))) (x d) (x j) (at (s .low) d) (at (s .high) d) (at (s .low) j) (at (s .high) j)
 
 pub record Applies (s : Setting) (p : Pairs) (x : ℕ → ℤ) (d : ℕ) : Type 0 where
   pub above : ℕ
@@ -93,3 +98,9 @@ pub record Applies (s : Setting) (p : Pairs) (x : ℕ → ℤ) (d : ℕ) : Type 
 pub record Decides (P : Type 0) (b : Bool) : Type 0 where
   pub holds : b ≡ true → P
   pub fails : b ≡ false → ¬ P
+
+-- the first level that a pair discards, or the number of levels
+pub record FirstPaired (s : Setting) (p : Pairs) (x : ℕ → ℤ) (r : ℕ) : Type 0 where
+  pub most : r ≤ s .levels
+  pub here : r < s .levels → Applies s p x r
+  pub before : (d : ℕ) → d < r → ¬ Applies s p x d

@@ -18,6 +18,8 @@ use Rattle.greedy.specs.declared.Fill.{Fill}
 use Rattle.greedy.specs.Sized.{Sized, SizedFill}
 use Rattle.greedy.specs.Ordered.{Ordered}
 use Rattle.greedy.proofs.Relaxed.{InOrder}
+use Rattle.greedy.specs.declared.Columns.{Columns}
+use Rattle.lattice.specs.declared.Lattice.{Lattice}
 use Rattle.lattice.specs.Lattice.{Tame, latticeAt}
 use Rattle.places.specs.declared.Settled.{Settled}
 use Rattle.places.specs.declared.Settled.the-variants.{Run, Prefix}
@@ -55,12 +57,11 @@ pub record Dived (s : Setting) (j : ℕ) (p r : Path) : Type 0 where
 
 -- ---- looking
 
--- a filling's slope and level d's lattice can be compared
-pub record Slopes (s : Setting) (f : Fill) (d : ℕ) : Type 0 where
-  pub filled : SizedFill (s .cols) f
-  pub ordered : Ordered (s .cols)
-  pub level-in : d < 16
-  pub tame : Tame (latticeAt (s .lattice) d)
+-- a filling's slope and a lattice can be compared
+pub record Slopes (c : Columns) (l : Lattice) (f : Fill) : Type 0 where
+  pub filled : SizedFill c f
+  pub ordered : Ordered c
+  pub tame : Tame l
 
 -- the lists of a box have a place for each item
 pub record Long (e : Ends) : Type 0 where
@@ -77,17 +78,15 @@ pub record Started (s : Setting) (t : Path) : Type 0 where
 abbrev pub ProperBest : Incumbent → Type 0
 ProperBest b = b .found ≡ true → Proper (b .value)
 
-pub record Judges (s : Setting) (e : Ends) (d : ℕ) (b : Incumbent) : Type 0 where
-  pub sized : Sized (s .cols) e
-  pub ordered : Ordered (s .cols)
-  pub in-order : InOrder (s .cols) e
-  pub level-in : d < 16
+pub record Judges (c : Columns) (e : Ends) (b : Incumbent) : Type 0 where
+  pub sized : Sized c e
+  pub ordered : Ordered c
+  pub in-order : InOrder c e
   pub proper : ProperBest b
-  pub tame : Tame (latticeAt (s .lattice) d)
 
 abbrev pub LookedAs : Setting → Pairs → Path → Incumbent → Incumbent → Settled → Type 0
-LookedAs s p t b b′ (Run d) = (d < s .levels) × ((b′ ≡ b) × (cutBy s (runEnds s (at (t .place)) (at (t .starts) d) d) d b ≡ true))
-LookedAs s p t b b′ (Prefix n) = (n ≤ s .levels) × (((n ≡ s .levels) × (b′ ≡ triedBy s (fixedBy s (at (t .place)) (s .levels)) (t .place) b)) ⊎ ((b′ ≡ b) × ((d : ℕ) × (n ≡ suc d) × Applies s p (at (t .place)) d)))
+LookedAs s p t b b′ (Run d) = (d < s .levels) × ((b′ ≡ b) × (cutBy (s .cols) (latticeAt (s .lattice) d) (runEnds s (at (t .place)) (at (t .starts) d) d) b ≡ true))
+LookedAs s p t b b′ (Prefix n) = (n ≤ s .levels) × (((n ≡ s .levels) × (b′ ≡ triedBy (s .cols) (fixedBy s (at (t .place)) (s .levels)) (t .place) b)) ⊎ ((b′ ≡ b) × ((d : ℕ) × (n ≡ suc d) × Applies s p (at (t .place)) d)))
 
 abbrev pub Looked : Setting → Pairs → Path → Incumbent → Sighting → Type 0
 Looked s p t b r = LookedAs s p t b (r .best) (r .settled)

@@ -21,8 +21,8 @@ ghost use lib.IntN.{ℤ, pos};
 ghost use Rattle.arith.specs.Within.{Within};
 ghost use Rattle.arith.specs.Mixed.{Proper};
 ghost use Rattle.greedy.specs.Fill.{at};
-ghost use Rattle.greedy.specs.Sized.{Sized};
-ghost use Rattle.search.specs.Search.{spanned, fixedBy, runBox, sparseBy, cutBy, triedBy, Stays, AppliesAt, Applies, Decides};
+ghost use Rattle.lattice.specs.Lattice.{Tame};
+ghost use Rattle.search.specs.Search.{spanned, fixedBy, runBox, sparseBy, cutBy, triedBy, Stays, Removable, Decides, FirstPaired};
 ghost use Rattle.search.specs.Ready.{ReadySetting, Ready, Inside, InsideTo, Searched};
 ghost use Rattle.search.specs.Steps.{Descends, descended, Dived, Slopes, Judges, ProperBest, Started, Looked, nobody, Turnable, Turned, Stepped};
 
@@ -140,16 +140,14 @@ pub fn dive(s: Setting, p: Path, j: usize) -> Path
     t.path
 }
 
-// Whether the items from level d on can make no value above b, whatever the relaxation promises.
-pub fn sparse(s: Setting, f: Fill, d: usize, b: i64) -> bool
-    requires { ⌜ Slopes s f d ⌝ }
-    ensures { λ r. ⌜ r ≡ sparseBy s f d b ⌝ }
+// Whether the items of a lattice can make no value above b, whatever the relaxation promises.
+pub fn sparse(c: Columns, l: Lattice, f: Fill, b: i64) -> bool
+    requires { ⌜ Slopes c l f ⌝ }
+    ensures { λ r. ⌜ r ≡ sparseBy c l f b ⌝ }
 {
-    let c = s.cols;
     let u = f.at;
     let n = c.live;
     if u < n {
-        let l = s.lattice[d];
         let p = Slope {
             worth: f.worth,
             rate: c.rate[u],
@@ -161,11 +159,10 @@ pub fn sparse(s: Setting, f: Fill, d: usize, b: i64) -> bool
 }
 
 // Whether the box e holds nothing better than the incumbent: cut by relaxation, see proofs/Settle (cut-settles).
-pub fn cut(s: Setting, e: Ends, d: usize, best: Incumbent) -> bool
-    requires { ⌜ Judges s e d best ⌝ }
-    ensures { λ r. ⌜ r ≡ cutBy s e d best ⌝ }
+pub fn cut(c: Columns, l: Lattice, e: Ends, best: Incumbent) -> bool
+    requires { ⌜ Judges c e best × Tame l ⌝ }
+    ensures { λ r. ⌜ r ≡ cutBy c l e best ⌝ }
 {
-    let c = s.cols;
     let f = fill_up(c, e);
     if f.room < 0 {
         return true;
@@ -174,7 +171,7 @@ pub fn cut(s: Setting, e: Ends, d: usize, best: Incumbent) -> bool
         let v = bound_of(c, f);
         let b = best.value;
         if less(b, v) {
-            return sparse(s, f, d, b.whole);
+            return sparse(c, l, f, b.whole);
         }
         return true;
     }
@@ -182,11 +179,10 @@ pub fn cut(s: Setting, e: Ends, d: usize, best: Incumbent) -> bool
 }
 
 // The better of the incumbent and the place x, whose levels are all fixed in e.
-pub fn tried(s: Setting, e: Ends, x: [i64; 16], best: Incumbent) -> Incumbent
-    requires { ⌜ Judges s e 0 best ⌝ }
-    ensures { λ r. ⌜ r ≡ triedBy s e x best ⌝ }
+pub fn tried(c: Columns, e: Ends, x: [i64; 16], best: Incumbent) -> Incumbent
+    requires { ⌜ Judges c e best ⌝ }
+    ensures { λ r. ⌜ r ≡ triedBy c e x best ⌝ }
 {
-    let c = s.cols;
     let f = fill_up(c, e);
     if f.room < 0 {
         return best;
@@ -217,48 +213,51 @@ pub fn within(x: i64, r: i64, l: i64, u: i64) -> bool
     !(u < y)
 }
 
-// Whether the pair of the items of level d and a level above can be taken away from x within the box.
-pub fn applies(s: Setting, p: Pairs, x: [i64; 16], d: usize, j: usize) -> bool
-    requires { ⌜ Ready s p × (Inside s (at x) × ((d < s .levels) × (j < d))) ⌝ }
-    ensures { λ r. ⌜ Decides (AppliesAt s p (at x) d j) r ⌝ }
+// Whether steps of r and t, if r is not 0, can be taken away from x and y within their ends.
+pub fn removable(r: i64, t: i64, x: i64, y: i64, l: i64, u: i64, m: i64, w: i64) -> bool
+    requires { ⌜ Within 1000 r × (Within 1000 t × (Within 300000000 x × Within 300000000 y)) ⌝ }
+    ensures { λ z. ⌜ Decides (Removable r t x y l u m w) z ⌝ }
 {
-    let a = s.level[d];
-    let b = s.level[j];
-    let k = 16 * a + b;
-    let r = p.first[k];
     if r == 0 {
         return false;
     }
-    let t = p.second[k];
-    if within(x[d], r, s.low[d], s.high[d]) {
-        return within(x[j], t, s.low[j], s.high[j]);
+    if within(x, r, l, u) {
+        return within(y, t, m, w);
     }
     false
 }
 
-// Whether a domination pair discards x: cut by a pair, see proofs/Settle (pair-settles).
-pub fn paired(s: Setting, p: Pairs, x: [i64; 16], d: usize) -> bool
-    requires { ⌜ Ready s p × (Inside s (at x) × (d < s .levels)) ⌝ }
-    ensures { λ r. ⌜ Decides (Applies s p (at x) d) r ⌝ }
+// The first level whose item makes a domination pair with one above that discards x: cut by a pair, see proofs/Settle (pair-settles).
+// Structs are copied at a call, and these two are large: one loop over both levels needs them once for each look.
+pub fn first_paired(s: Setting, p: Pairs, x: [i64; 16]) -> usize
+    requires { ⌜ Ready s p × Inside s (at x) ⌝ }
+    ensures { λ r. ⌜ FirstPaired s p (at x) r ⌝ }
 {
+    let n = s.levels;
+    let mut d: usize = 0;
     let mut j: usize = 0;
-    while j < d {
-        if applies(s, p, x, d, j) {
-            return true;
+    while d < n {
+        if j < d {
+            let k = 16 * s.level[d] + s.level[j];
+            let r = p.first[k];
+            let t = p.second[k];
+            if removable(r, t, x[d], x[j], s.low[d], s.high[d], s.low[j], s.high[j]) {
+                return d;
+            }
+            j += 1;
+        } else {
+            d += 1;
+            j = 0;
         }
-        j += 1;
     }
-    false
+    n
 }
 
-// The box of the run at level d from x on, where the level starts at v.
-pub fn run_box(s: Setting, e: Ends, d: usize, x: i64, v: i64) -> Ends
-    requires { ⌜ ReadySetting s × (d < s .levels) ⌝ }
-    ensures { λ r. ⌜ r ≡ runBox s e d x v ⌝ }
+// The box of a run of item i from x on, where the level starts at v and has the ends l and h.
+pub fn run_box(e: Ends, i: usize, l: i64, h: i64, x: i64, v: i64) -> Ends
+    requires { ⌜ i < 16 ⌝ }
+    ensures { λ r. ⌜ r ≡ runBox e i l h x v ⌝ }
 {
-    let i = s.level[d];
-    let l = s.low[d];
-    let h = s.high[d];
     if x < v {
         span(e, i, l, x)
     } else {
@@ -274,28 +273,30 @@ pub fn look(s: Setting, p: Pairs, t: Path, best: Incumbent) -> Sighting
     let n = s.levels;
     let x = t.place;
     let v = t.starts;
+    let c = s.cols;
+    let m = first_paired(s, p, x);
     let mut e = s.ends;
     let mut d: usize = 0;
     while d < n {
         let a = x[d];
-        let r = run_box(s, e, d, a, v[d]);
-        if cut(s, r, d, best) {
+        let i = s.level[d];
+        let r = run_box(e, i, s.low[d], s.high[d], a, v[d]);
+        if cut(c, s.lattice[d], r, best) {
             return Sighting {
                 settled: Settled::Run(d),
                 best: best,
             };
         }
-        if paired(s, p, x, d) {
+        if d == m {
             return Sighting {
                 settled: Settled::Prefix(d + 1),
                 best: best,
             };
         }
-        let i = s.level[d];
         e = span(e, i, a, a);
         d += 1;
     }
-    let b = tried(s, e, x, best);
+    let b = tried(c, e, x, best);
     Sighting {
         settled: Settled::Prefix(n),
         best: b,

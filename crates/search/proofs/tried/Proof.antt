@@ -17,32 +17,32 @@ use Rattle.search.proofs.tried.Tie as tie
 fill-up-requires : tie.Need-fill-up-requires
 fill-up-requires c κs = search needs
 
-sized : (s : tie.Start) → SizedFill (s .args .s .cols) (fill (s .args .s .cols) (s .args .e))
-sized s = fill-sized (s .args .s .cols) (s .args .e) (s .pre .sized)
+sized : (s : tie.Start) → SizedFill (s .args .c) (fill (s .args .c) (s .args .e))
+sized s = fill-sized (s .args .c) (s .args .e) (s .pre .sized)
 
 returns : tie.Need-returns
 unfolding triedBy
 returns c =
-    let s = c .before .before .before .before .before in
+    let s = c .before .before .before .before in
     let f = c .before .before .before .fill-up .ensures in
     let t = rw (f, within-back tt (sized s .room-in)) at (c .if1 .taken) in
     rw t
 
-not-empty : (c : tie.Else1) → ltZ (fill (c .before .before .before .before .before .args .s .cols) (c .before .before .before .before .before .args .e) .room) (pos 0) ≡ false
+not-empty : (c : tie.Else1) → ltZ (fill (c .before .before .before .before .args .c) (c .before .before .before .before .args .e) .room) (pos 0) ≡ false
 not-empty c =
-    let s = c .before .before .before .before .before in
+    let s = c .before .before .before .before in
     rw (c .before .before .before .fill-up .ensures, within-back tt (sized s .room-in)) at (c .if1 .left)
 
 bound-of-requires : tie.Need-bound-of-requires
-bound-of-requires c κs = let s = c .before .before .before .before .before in rw (c .before .before .before .fill-up .ensures) (sized s)
+bound-of-requires c κs = let s = c .before .before .before .before in rw (c .before .before .before .fill-up .ensures) (sized s)
 
-bound-is : (c : tie.After-bound-of) → c .bound-of .result ≡ bound (c .before .before .before .before .before .before .args .s .cols) (fill (c .before .before .before .before .before .before .args .s .cols) (c .before .before .before .before .before .before .args .e))
+bound-is : (c : tie.After-bound-of) → c .bound-of .result ≡ bound (c .before .before .before .before .before .args .c) (fill (c .before .before .before .before .before .args .c) (c .before .before .before .before .before .args .e))
 bound-is c = rw (c .before .before .before .before .fill-up .ensures) at (c .bound-of .ensures)
 
 less-requires : tie.Need-less-requires
 less-requires c κs =
     let t = c .before in
-    let s = t .before .before .before .before .before .before .before in
+    let s = t .before .before .before .before .before .before in
     (s .pre .proper (t .if2 .taken), rw (bound-is (t .before)) (bound-proper _ _ (sized s)))
 
 -- a test that is turned round
@@ -54,8 +54,8 @@ turned-false : (b : Bool) → not b ≡ false → b ≡ true
 turned-false true h = refl
 turned-false false h = sym h
 
-compared : (c : tie.After-less) → c .less .result ≡ lessMixed (c .before .before .before .before .before .before .before .before .before .args .best .value) (bound (c .before .before .before .before .before .before .before .before .before .args .s .cols) (fill (c .before .before .before .before .before .before .before .before .before .args .s .cols) (c .before .before .before .before .before .before .before .before .before .args .e)))
-compared c = c .less .ensures ∙ ap (λ v. lessMixed (c .before .before .before .before .before .before .before .before .before .args .best .value) v) (bound-is (c .before .before .before))
+compared : (c : tie.After-less) → c .less .result ≡ lessMixed (c .before .before .before .before .before .before .before .before .args .best .value) (bound (c .before .before .before .before .before .before .before .before .args .c) (fill (c .before .before .before .before .before .before .before .before .args .c) (c .before .before .before .before .before .before .before .before .args .e)))
+compared c = c .less .ensures ∙ ap (λ v. lessMixed (c .before .before .before .before .before .before .before .before .args .best .value) v) (bound-is (c .before .before .before))
 
 returns-2 : tie.Need-returns-2
 unfolding triedBy
@@ -69,11 +69,11 @@ unfolding triedBy
 returns-3 c =
     let d = c .before in
     let t = d .before .before in
-    rw (not-empty (t .before .before), t .if2 .taken, sym (compared d) ∙ turned-false (d .less .result) (c .if3 .left)) (ap (λ v. record { found = true; place = t .before .before .before .before .before .before .before .args .x; value = v }) (bound-is (t .before)))
+    rw (not-empty (t .before .before), t .if2 .taken, sym (compared d) ∙ turned-false (d .less .result) (c .if3 .left)) (ap (λ v. record { found = true; place = t .before .before .before .before .before .before .args .x; value = v }) (bound-is (t .before)))
 
 returns-4 : tie.Need-returns-4
 unfolding triedBy
-returns-4 c = rw (not-empty (c .before .before), c .if2 .left) (ap (λ v. record { found = true; place = c .before .before .before .before .before .before .before .args .x; value = v }) (bound-is (c .before)))
+returns-4 c = rw (not-empty (c .before .before), c .if2 .left) (ap (λ v. record { found = true; place = c .before .before .before .before .before .before .args .x; value = v }) (bound-is (c .before)))
 
 pub tried-spec : {M : Type 1} → statement M
 tried-spec =
