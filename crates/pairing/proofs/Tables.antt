@@ -1,7 +1,7 @@
 -- Tables of pairs, spread.
 -- spread-first, spread-step: the turns of the loop that spreads them.
 -- ready: what is spread from the table of a problem's least pairs is true of its columns.
-use mathlib.Core.Path.{_≡_, refl, sym, _∙_}
+use mathlib.Core.Path.{_≡_, refl, sym, _∙_, subst}
 use mathlib.Core.List.{List}
 use mathlib.Core.Logic.{_≢_}
 use Prim.Native.Nat.{ℕ, zero, suc, _+_, _*_, _/_, _%_, _≤_, _<_}
@@ -93,15 +93,18 @@ module _ (p : Problem) where
           loss = rw (h .first-step, h .second-step, g .prices-agree i (s .first-place), g .prices-agree j (s .second-place)) (s .pair .loss);
         }
 
+    entry : (t : List Pair) → Tabled p t → (k : ℕ) → k < 256 → getD t k Missing ≡ tabled p (k / 16) (k % 16)
+    entry t f k l = let e : 16 * (k / 16) + k % 16 ≡ k = omega arith in rw e at (f (k / 16) (k % 16) (omega arith) (omega arith))
+
+    pub held : (t : List Pair) → Tabled p t → Spread t 256 r → (k : ℕ) → k < 256 → Holds r k (tabled p (k / 16) (k % 16))
+    held t f s k l = subst (Holds r k) (entry t f k l) (s .held k l)
+
     pub ready : (t : List Pair) → Tabled p t → Spread t 256 r → (c : Columns) → Agrees p c → ReadyPairs c r
     ready t f s c g = record {
       steps-in = λ k. steps-in k (decLt k 256);
       pairs = λ i j hi hj. true-pair c g i j (getD t (16 * i + j) Missing) (sym (f i j hi hj)) (s .held (16 * i + j) (omega arith));
     }
       where
-        entry : (k : ℕ) → k < 256 → tabled p (k / 16) (k % 16) ≡ getD t k Missing
-        entry k l = let e : 16 * (k / 16) + k % 16 ≡ k = omega arith in sym (rw e at (f (k / 16) (k % 16) (omega arith) (omega arith)))
-
         steps-in : (k : ℕ) → Dec (k < 256) → (natAbs (at (r .first) k) ≤ 1000) × (natAbs (at (r .second) k) ≤ 1000)
-        steps-in k (yes l) = small-at k (getD t k Missing) (s .held k l) (steps-small (k / 16) (k % 16) (getD t k Missing) (entry k l))
+        steps-in k (yes l) = small-at k (getD t k Missing) (s .held k l) (steps-small (k / 16) (k % 16) (getD t k Missing) (sym (entry t f k l)))
         steps-in k (no l) = small-at k Missing (s .rest k (omega arith)) (omega arith, omega arith)

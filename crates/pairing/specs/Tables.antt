@@ -5,18 +5,21 @@
 --   Holds r k q                 the tables hold the steps of q at k
 --   Spread t n r                the tables hold the first n entries of t, and zeros from there on
 --   Agrees p c                  the columns hold the weights and prices of the problem's items
+--   PairsOf p r                 the tables hold the least pairs of p, and are true of all columns of p
 use mathlib.Core.Path.{_≡_}
 use mathlib.Core.List.{List}
-use Prim.Native.Nat.{ℕ, _≤_, _<_}
+use Prim.Native.Nat.{ℕ, _/_, _%_, _≤_, _<_}
 use lib.IntN.{ℤ, pos}
 use lib.ListN.{length, getD, set, replicate}
 use Rattle.knapsack.specs.declared.Problem.{Problem}
 use Rattle.knapsack.specs.Records.{itemAt}
 use Rattle.domination.specs.declared.Pair.{Pair}
 use Rattle.domination.specs.declared.Pair.the-variants.{Missing, Steps}
+use Rattle.domination.specs.Pairs.{tabled}
 use Rattle.greedy.specs.declared.Columns.{Columns}
 use Rattle.greedy.specs.Fill.{at, weightOf, priceOf}
 use Rattle.search.specs.declared.Pairs.{Pairs}
+use Rattle.search.specs.Ready.{ReadyPairs}
 
 abbrev pub firstStep : Pair → ℤ
 firstStep Missing = pos 0
@@ -46,3 +49,7 @@ pub record Spread (t : List Pair) (n : ℕ) (r : Pairs) : Type 0 where
 pub record Agrees (p : Problem) (c : Columns) : Type 0 where
   pub weights-agree : (k : ℕ) → k < p .count → weightOf c k ≡ itemAt p k .weight
   pub prices-agree : (k : ℕ) → k < p .count → priceOf c k ≡ itemAt p k .price
+
+pub record PairsOf (p : Problem) (r : Pairs) : Type 0 where
+  pub held : (k : ℕ) → k < 256 → Holds r k (tabled p (k / 16) (k % 16))
+  pub ready : (c : Columns) → Agrees p c → ReadyPairs c r

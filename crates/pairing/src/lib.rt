@@ -6,9 +6,7 @@ use knapsack::Problem;
 use search::Pairs;
 ghost use mathlib.Core.Path.{_≡_};
 ghost use Prim.Native.Nat.{_<_};
-ghost use Rattle.greedy.specs.declared.Columns.{Columns};
-ghost use Rattle.search.specs.Ready.{ReadyPairs};
-ghost use Rattle.pairing.specs.Tables.{noSteps, withPair, Spread, Agrees};
+ghost use Rattle.pairing.specs.Tables.{noSteps, withPair, Spread, PairsOf};
 
 // The tables before they are filled.
 fn no_steps() -> Pairs
@@ -49,9 +47,9 @@ fn spread(t: [Pair; 256]) -> Pairs
     r
 }
 
-// The pairs of a problem, true of every columns that hold its weights and prices. A record that is refused has none.
+// The least pairs of a problem, true of every columns that hold its weights and prices. A record that is refused has none.
 pub fn pairs_of(p: Problem) -> Pairs
-    ensures { λ r. ⌜ ((c : Columns) → Agrees p c → ReadyPairs c r) ⌝ }
+    ensures { λ r. ⌜ PairsOf p r ⌝ }
 {
     let t = pair_table(p);
     spread(t)

@@ -25,7 +25,7 @@ use Rattle.ordering.proofs.Order as keyed
 use Rattle.ordering.proofs.Permutations.{onto}
 use Rattle.ordering.specs.Ranking.{Sorted}
 use Rattle.tables.proofs.Ranges.{zero-within}
-use Rattle.tables.specs.Figures.{isInteger, passes, keyItem, reducedPrice, keyOf, SmallKey}
+use Rattle.tables.specs.Figures.{isInteger, passes, keyItem, branchingPrice, keyOf, SmallKey}
 use Rattle.tables.specs.Tables.{listed, Leading}
 use Rattle.tables.specs.declared.Key.the-variants.{Branching}
 use Rattle.tables.specs.declared.Key.{Key}
@@ -52,7 +52,7 @@ Tells b = (i : Item) → keyOf b i .weight ≡ cond (isInteger (i .mark)) (pos 1
 branching-tells : (p q : ℤ) → Tells (Branching p q)
 branching-tells p q i = go (isInteger (i .mark))
   where
-    go : (b : Bool) → cond b (keyItem (pos 1) (pos (natAbs (reducedPrice p q i)))) (keyItem (pos 0) (pos 0)) .weight ≡ cond b (pos 1) (pos 0)
+    go : (b : Bool) → cond b (keyItem (pos 1) (branchingPrice p q i)) (keyItem (pos 0) (pos 0)) .weight ≡ cond b (pos 1) (pos 0)
     go true = refl
     go false = refl
 

@@ -1,5 +1,5 @@
-// The public entry over a lent list, called with a part of a local array. A reference to structs is not covered by the automatic
-// prover, so this one function is walked by hand; all others pass a sheet by value.
+// The public entry over a lent list, called with the first items of a local array. This one function makes a reference to structs, and
+// is proved by hand; all others take a sheet by value.
 use knapsack::Answer;
 use knapsack::Item;
 use relaxation::relax_with;

@@ -4,7 +4,8 @@ use mathlib.Core.Bool.{Bool, true, false, cond}
 use mathlib.Core.List.{List}
 use Prim.Native.Nat.{ℕ, _<_}
 use native.Mathlib.Omega.{arith}
-use lib.IntN.{pos, natAbs}
+use lib.Dec.{eqb}
+use lib.IntN.{pos, negsuc, natAbs}
 use Rattle.arith.proofs.Parts.{within-more}
 use Rattle.knapsack.specs.Records.{itemAt, ItemInRange, InRange}
 use Rattle.knapsack.specs.declared.Item.{Item}
@@ -19,11 +20,12 @@ use Rattle.tables.proofs.Ranges.{zero-within, size-within, weight-withi
 
 key-small : (by : Key) (i : Item) → ItemInRange i → SmallKey by → Small (keyOf by i)
 key-small Filling i r s = record { weight = size-within (i .weight) (weight-within i r); price = within-more (omega arith) (key-within i r) }
-key-small (Branching p q) i r s = go (isInteger (i .mark))
+key-small (Branching p q) i r s = go (isInteger (i .mark)) (eqb (natAbs (i .weight)) 0)
   where
-    go : (b : Bool) → Small (cond b (keyItem (pos 1) (pos (natAbs (reducedPrice p q i)))) (keyItem (pos 0) (pos 0)))
-    go true = record { weight = record { above = omega arith; below = omega arith }; price = within-more (omega arith) (size-within (reducedPrice p q i) (reduced-within i r p q s)) }
-    go false = record { weight = zero-within; price = zero-within }
+    go : (b t : Bool) → Small (cond b (keyItem (pos 1) (cond t (negsuc 0) (pos (natAbs (reducedPrice p q i))))) (keyItem (pos 0) (pos 0)))
+    go true true = record { weight = record { above = omega arith; below = omega arith }; price = record { above = omega arith; below = omega arith } }
+    go true false = record { weight = record { above = omega arith; below = omega arith }; price = within-more (omega arith) (size-within (reducedPrice p q i) (reduced-within i r p q s)) }
+    go false t = record { weight = zero-within; price = zero-within }
 
 module _ (p r : Problem) (by : Key) (k : Keyed by p r) where
   pub keys-ranged : InRange p → SmallKey by → Ranged r

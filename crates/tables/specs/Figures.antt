@@ -5,12 +5,12 @@
 --   passes t i          the item i passes the test t: worth its weight; integer; integer or with only one amount
 --   fillingKey i        the key for filling: falling price per weight; of equals, those that lack the light end first
 --   reducedPrice p q i  what a unit of the item is worth beyond its weight at the price p for a weight of q, times q
---   branchingKey p q i  the key for branching: falling reduced price, the continuous items last
+--   branchingKey p q i  the key for branching: falling reduced price, then what weighs nothing, the continuous items last
 --   keyOf b i           one of these
 --   SmallKey b          the key's numbers are a price and a weight
 use mathlib.Core.Bool.{Bool, true, false, cond, not}
 use lib.Dec.{eqb}
-use lib.IntN.{ℤ, pos, negℤ, natAbs, _+ℤ_, _-ℤ_, _*ℤ_}
+use lib.IntN.{ℤ, pos, negsuc, negℤ, natAbs, _+ℤ_, _-ℤ_, _*ℤ_}
 use lib.Signed.{ltZ}
 use Rattle.arith.specs.Within.{Within}
 use Rattle.greedy.specs.Fill.{turned}
@@ -97,8 +97,12 @@ fillingKey i = keyItem (pos (natAbs (i .weight))) (pos 2000000 *ℤ turned (i .w
 abbrev pub reducedPrice : ℤ → ℤ → Item → ℤ
 reducedPrice p q i = q *ℤ i .price -ℤ p *ℤ i .weight
 
+-- what weighs nothing comes after what does
+abbrev pub branchingPrice : ℤ → ℤ → Item → ℤ
+branchingPrice p q i = cond (eqb (natAbs (i .weight)) 0) (negsuc 0) (pos (natAbs (reducedPrice p q i)))
+
 abbrev pub branchingKey : ℤ → ℤ → Item → Item
-branchingKey p q i = cond (isInteger (i .mark)) (keyItem (pos 1) (pos (natAbs (reducedPrice p q i)))) (keyItem (pos 0) (pos 0))
+branchingKey p q i = cond (isInteger (i .mark)) (keyItem (pos 1) (branchingPrice p q i)) (keyItem (pos 0) (pos 0))
 
 abbrev pub keyOf : Key → Item → Item
 keyOf Filling i = fillingKey i

@@ -1,6 +1,6 @@
 -- `pairing::pairs_of` meets its contract.
 use borrow.Author.Needs.{needs}
-use Rattle.pairing.proofs.Tables.{ready}
+use Rattle.pairing.proofs.Tables.{held, ready}
 use Rattle.pairing.proofs.pairs_of.Statement.{statement}
 use Rattle.pairing.proofs.pairs_of.Tie as tie
 
@@ -11,7 +11,12 @@ spread-requires : tie.Need-spread-requires
 spread-requires c κs = search needs
 
 returns : tie.Need-returns
-returns c = ready (c .before .before .args .p) (c .spread .result) (c .before .pair-table .result) (c .before .pair-table .ensures) (c .spread .ensures)
+returns c =
+    let t = c .before .pair-table in
+    record {
+      held = held (c .before .before .args .p) (c .spread .result) (t .result) (t .ensures) (c .spread .ensures);
+      ready = ready (c .before .before .args .p) (c .spread .result) (t .result) (t .ensures) (c .spread .ensures);
+    }
 
 pub pairs-of-spec : {M : Type 1} → statement M
 pairs-of-spec = tie.close (tie.spec pair-table-requires spread-requires returns)

@@ -56,7 +56,7 @@ pairs-of-requires c κs = search needs
 run-requires : tie.Need-run-requires
 run-requires c κs =
     let q = c .before .before .before .before .before .before .before .prepare .ensures in
-    record { setting = q .ready; true-pairs = c .pairs-of .ensures (c .before .before .before .before .before .before .before .prepare .result .cols) (record { weights-agree = q .weights; prices-agree = q .prices }) }
+    record { setting = q .ready; true-pairs = c .pairs-of .ensures .ready (c .before .before .before .before .before .before .before .prepare .result .cols) (record { weights-agree = q .weights; prices-agree = q .prices }) }
 
 optimal-requires : tie.Need-optimal-requires
 optimal-requires c κs =

@@ -1,0 +1,103 @@
+//! Our reply held to the independent one: kind, refusal and value exactly; what is free, the point and the steps, held to the sheet.
+
+use crate::independent::Reply;
+use crate::problem::{gcd, Item, Problem};
+
+/// The figures of item k's line, behind its number; written as the paper writes numbers.
+fn figures(line: Option<&str>, k: usize, count: usize) -> Result<Vec<i128>, String> {
+    let line = line.ok_or("too few lines")?;
+    let numbers: Vec<i128> = line.split(' ').filter_map(|f| f.parse().ok()).collect();
+    let written: Vec<String> = numbers.iter().map(i128::to_string).collect();
+    if numbers.len() != count + 1 || numbers[0] != k as i128 + 1 || written.join(" ") != line {
+        return Err(format!("line `{line}`"));
+    }
+    Ok(numbers[1..].to_vec())
+}
+
+fn amount_keeps(i: &Item, p: i128, q: i128) -> bool {
+    q >= 1
+        && gcd(p, q) == 1
+        && p.abs() <= 1_000_000_000 * q
+        && (q == 1 || (!i.integer && i.weight as i128 % q == 0))
+        && i.lower.is_none_or(|l| l as i128 * q <= p)
+        && i.upper.is_none_or(|u| p <= u as i128 * q)
+}
+
+/// The sum of figure times amount, over the largest divisor: no other is above 1.
+fn total(p: &Problem, point: &[(i128, i128)], figure: impl Fn(&Item) -> i64) -> (i128, i128) {
+    let d = point.iter().map(|x| x.1).max().unwrap_or(1);
+    (p.items.iter().zip(point).map(|(i, x)| figure(i) as i128 * x.0 * (d / x.1)).sum(), d)
+}
+
+fn check_point(p: &Problem, point: &[(i128, i128)]) -> Result<(), String> {
+    for (k, (i, x)) in p.items.iter().zip(point).enumerate() {
+        if !amount_keeps(i, x.0, x.1) {
+            return Err(format!("amount of item {}", k + 1));
+        }
+    }
+    if point.iter().filter(|x| x.1 > 1).count() > 1 {
+        return Err("two fractions".into());
+    }
+    let (weight, d) = total(p, point, |i| i.weight);
+    if weight > p.limit as i128 * d {
+        Err("weight".into())
+    } else {
+        Ok(())
+    }
+}
+
+fn check_best<'a>(p: &Problem, value: (i128, i128), mut lines: impl Iterator<Item = &'a str>) -> Result<(), String> {
+    if lines.next() != Some(format!("best {} {}", value.0, value.1).as_str()) {
+        return Err("value".into());
+    }
+    let mut point = vec![];
+    for k in 0..p.items.len() {
+        let x = figures(lines.next(), k, 2)?;
+        point.push((x[0], x[1]));
+    }
+    check_point(p, &point)?;
+    let (worth, d) = total(p, &point, |i| i.price);
+    if worth * value.1 != value.0 * d {
+        return Err("the point is not worth the value".into());
+    }
+    lines.next().map_or(Ok(()), |_| Err("too many lines".into()))
+}
+
+fn check_unbounded<'a>(p: &Problem, mut lines: impl Iterator<Item = &'a str>) -> Result<(), String> {
+    if lines.next() != Some("unbounded") {
+        return Err("kind".into());
+    }
+    let (mut point, mut steps) = (vec![], vec![]);
+    for k in 0..p.items.len() {
+        let x = figures(lines.next(), k, 3)?;
+        point.push((x[0], x[1]));
+        steps.push(x[2]);
+    }
+    check_point(p, &point)?;
+    let moving = steps.iter().filter(|&&s| s != 0).count();
+    let free = p
+        .items
+        .iter()
+        .zip(&steps)
+        .all(|(i, &s)| s.abs() <= 1000 && !(s > 0 && i.upper.is_some()) && !(s < 0 && i.lower.is_some()));
+    let sum = |figure: fn(&Item) -> i64| p.items.iter().zip(&steps).map(|(i, s)| figure(i) as i128 * s).sum::<i128>();
+    if !(1..=2).contains(&moving) || !free || sum(|i| i.weight) > 0 || sum(|i| i.price) <= 0 {
+        return Err("steps".into());
+    }
+    lines.next().map_or(Ok(()), |_| Err("too many lines".into()))
+}
+
+/// Our text for the sheet of a problem, if it was accepted, held to the expected reply.
+pub fn check(problem: Option<&Problem>, expected: Reply, text: &str) -> Result<(), String> {
+    let same = |line: String| if text == line { Ok(()) } else { Err("reply".into()) };
+    if !text.ends_with('\n') {
+        return Err("the last line is not closed".into());
+    }
+    match (expected, problem) {
+        (Reply::Refused(f), _) => same(format!("refused {} {}\n", f.number, f.line)),
+        (Reply::Infeasible, _) => same("infeasible\n".into()),
+        (Reply::Unbounded, Some(p)) => check_unbounded(p, text[..text.len() - 1].split('\n')),
+        (Reply::Best(n, d), Some(p)) => check_best(p, (n, d), text[..text.len() - 1].split('\n')),
+        _ => Err("no problem".into()),
+    }
+}

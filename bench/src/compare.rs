@@ -1,0 +1,120 @@
+//! Our replies beside those of the independent planner, on drawn sheets of mixed kinds.
+
+use crate::check::check;
+use crate::draw::{kind, Rng, KINDS};
+use crate::independent::{self, Reply};
+use crate::ours;
+use crate::twin::{self, Cut};
+use std::time::{Duration, Instant};
+
+/// How often each reply came: refused, infeasible, unbounded, best; and what was left out.
+#[derive(Clone, Copy, Default)]
+struct Counts {
+    replies: [u64; 4],
+    left_out: u64,
+    twin_agrees: u64,
+    differ: u64,
+}
+
+fn column(r: Reply) -> usize {
+    match r {
+        Reply::Refused(_) => 0,
+        Reply::Infeasible => 1,
+        Reply::Unbounded => 2,
+        Reply::Best(..) => 3,
+    }
+}
+
+fn check_verdict(sheet: &[u8], expected: Reply) -> Result<(), String> {
+    let verdict = match expected {
+        Reply::Refused(f) => (f.number, f.line),
+        _ => (0, 0),
+    };
+    if ours::read(sheet) == verdict {
+        Ok(())
+    } else {
+        Err("verdict".into())
+    }
+}
+
+/// Lent buffers that just do and just do not hold the text.
+fn check_buffers(sheet: &[u8], text: &str) -> Result<(), String> {
+    let mut tight = vec![7; text.len()];
+    let mut short = vec![7; text.len() - 1];
+    if ours::plan_into(sheet, &mut tight) != text.len() || tight != text.as_bytes() {
+        return Err("a buffer of the text's length".into());
+    }
+    if ours::plan_into(sheet, &mut short) != 0 || short.iter().any(|&b| b != 7) {
+        return Err("a buffer that is too short".into());
+    }
+    Ok(())
+}
+
+fn compare_sheet(sheet: &[u8], cut: Cut, limit: u64, counts: &mut Counts) -> Result<(), String> {
+    let problem = independent::read(sheet);
+    let twin = problem.as_ref().ok().map(|p| twin::plan(p, cut, limit));
+    if let Some(None) = twin {
+        counts.left_out += 1;
+        return Ok(());
+    }
+    let expected = match &problem {
+        Ok(p) => independent::plan(p),
+        Err(f) => Reply::Refused(*f),
+    };
+    let text = ours::plan(sheet);
+    counts.replies[column(expected)] += 1;
+    let twin = twin.flatten();
+    counts.twin_agrees += twin.as_ref().is_some_and(|t| t.text == text) as u64;
+    check(problem.as_ref().ok(), expected, &text)
+        .and_then(|_| check_verdict(sheet, expected))
+        .and_then(|_| if twin.is_none_or(|t| t.steps < 1000) { check_buffers(sheet, &text) } else { Ok(()) })
+        .map_err(|what| format!("{what}; expected {expected:?}, ours is\n{text}"))
+}
+
+/// Whether no sheet differs.
+pub fn compare(seed: u64, count: u64, cut: Cut, limit: u64) -> bool {
+    println!("Comparison with the independent planner: {count} sheets, seed {seed}");
+    let mut rng = Rng(seed);
+    let mut counts = [Counts::default(); KINDS.len()];
+    let mut shown = Instant::now();
+    for done in 0..count {
+        if shown.elapsed() > Duration::from_secs(2) {
+            eprintln!("  {done} of {count} sheets compared, {} differ", counts.iter().map(|c| c.differ).sum::<u64>());
+            shown = Instant::now();
+        }
+        let k = kind(&mut rng);
+        let sheet = KINDS[k].2(&mut rng);
+        if let Err(what) = compare_sheet(&sheet, cut, limit, &mut counts[k]) {
+            counts[k].differ += 1;
+            println!("sheet {done} differs: {what}for\n{}", String::from_utf8_lossy(&sheet));
+        }
+    }
+    show(&counts, limit);
+    counts.iter().all(|c| c.differ == 0)
+}
+
+fn show(counts: &[Counts], limit: u64) {
+    println!(
+        "{:20} {:>8} {:>11} {:>10} {:>8} {:>9} {:>7}",
+        "kind", "refused", "infeasible", "unbounded", "best", "left out", "differ"
+    );
+    let mut sum = Counts::default();
+    for (c, k) in counts.iter().zip(KINDS) {
+        row(k.0, c);
+        (0..4).for_each(|i| sum.replies[i] += c.replies[i]);
+        sum.left_out += c.left_out;
+        sum.differ += c.differ;
+        sum.twin_agrees += c.twin_agrees;
+    }
+    row("all", &sum);
+    let accepted: u64 = sum.replies[1..].iter().sum();
+    println!(
+        "Left out: more than {limit} steps of the search. The twin's text is ours on {} of {accepted} accepted sheets.",
+        sum.twin_agrees
+    );
+}
+
+fn row(name: &str, c: &Counts) {
+    let r = c.replies;
+    println!("{name:20} {:>8} {:>11} {:>10} {:>8} {:>9} {:>7}", r[0], r[1], r[2], r[3], c.left_out, c.differ);
+}

@@ -1,0 +1,330 @@
+//! Drawn sheets. Every draw comes from one seed, by splitmix64.
+
+use crate::problem::{Item, Problem};
+
+pub struct Rng(pub u64);
+
+impl Rng {
+    pub fn next(&mut self) -> u64 {
+        self.0 = self.0.wrapping_add(0x9E37_79B9_7F4A_7C15);
+        let mut z = self.0;
+        z = (z ^ (z >> 30)).wrapping_mul(0xBF58_476D_1CE4_E5B9);
+        z = (z ^ (z >> 27)).wrapping_mul(0x94D0_49BB_1331_11EB);
+        z ^ (z >> 31)
+    }
+
+    /// A number of lo ..= hi.
+    pub fn between(&mut self, lo: i64, hi: i64) -> i64 {
+        lo + (self.next() % (hi - lo + 1) as u64) as i64
+    }
+
+    pub fn chance(&mut self, percent: i64) -> bool {
+        self.between(1, 100) <= percent
+    }
+
+    pub fn pick<T: Copy>(&mut self, list: &[T]) -> T {
+        list[self.between(0, list.len() as i64 - 1) as usize]
+    }
+}
+
+// ---- the families of the speed table
+
+#[derive(Clone, Copy, PartialEq)]
+pub enum Family {
+    Uncorrelated,
+    Weakly,
+    Strongly,
+    Inversely,
+    SubsetSum,
+    EvenOdd,
+    Similar,
+}
+
+pub const FAMILIES: [(Family, &str); 7] = [
+    (Family::Uncorrelated, "uncorrelated"),
+    (Family::Weakly, "weakly correlated"),
+    (Family::Strongly, "strongly correlated"),
+    (Family::Inversely, "inversely correlated"),
+    (Family::SubsetSum, "subset sum"),
+    (Family::EvenOdd, "even weights, odd limit"),
+    (Family::Similar, "similar weights"),
+];
+
+fn weight_and_price(rng: &mut Rng, family: Family) -> (i64, i64) {
+    let a = rng.between(1, 1000);
+    match family {
+        Family::Uncorrelated => (a, rng.between(1, 1000)),
+        Family::Weakly => (a, rng.between(a - 100, a + 100).max(1)),
+        Family::Strongly => (a, a + 100),
+        Family::Inversely => {
+            let c = rng.between(1, 900);
+            (c + 100, c)
+        }
+        Family::SubsetSum => (a, a),
+        Family::EvenOdd => {
+            let even = 2 * rng.between(1, 500);
+            (even, even)
+        }
+        Family::Similar => (rng.between(900, 1000), rng.between(1, 1000)),
+    }
+}
+
+/// 16 items from 0 to `bound`, the last of them continuous; the limit is half of what all weigh, at most 100,000,000.
+pub fn family(rng: &mut Rng, family: Family, bound: i64, continuous: usize) -> Problem {
+    let items: Vec<Item> = (0..16)
+        .map(|k| {
+            let (weight, price) = weight_and_price(rng, family);
+            Item { integer: k + continuous < 16, weight, price, lower: Some(0), upper: Some(bound) }
+        })
+        .collect();
+    let half = items.iter().map(|i| i.weight * bound).sum::<i64>() / 2;
+    let limit = match family {
+        Family::EvenOdd => (half | 1).min(99_999_999),
+        _ => half.min(100_000_000),
+    };
+    Problem { limit, items }
+}
+
+/// An item of weight and price 1.
+pub fn unit_item() -> Item {
+    Item { integer: true, weight: 1, price: 1, lower: Some(0), upper: Some(9) }
+}
+
+// ---- sheets of mixed kinds, for the comparison
+
+/// A kind of sheet, and how many of a thousand are of it.
+pub type Kind = (&'static str, i64, fn(&mut Rng) -> Vec<u8>);
+
+pub const KINDS: [Kind; 10] = [
+    ("small", 300, |rng| small(rng).sheet()),
+    ("equal ratios", 100, |rng| equal_ratios(rng).sheet()),
+    ("absent bounds", 150, |rng| open(rng).sheet()),
+    ("wide", 60, |rng| wide(rng, 100).sheet()),
+    ("widest", 5, |rng| wide(rng, 1000).sheet()),
+    ("ends of the ranges", 10, |rng| at_the_ends(rng).sheet()),
+    ("far out", 5, |rng| far_out(rng).sheet()),
+    ("families", 30, |rng| some_family(rng).sheet()),
+    ("damaged", 300, damaged),
+    ("long", 40, long),
+];
+
+pub fn kind(rng: &mut Rng) -> usize {
+    let mut left = rng.between(0, KINDS.iter().map(|k| k.1).sum::<i64>() - 1);
+    KINDS
+        .iter()
+        .position(|k| {
+            left -= k.1;
+            left < 0
+        })
+        .unwrap()
+}
+
+fn item(rng: &mut Rng, weight: i64, price: i64, lower: i64, upper: i64, absent: i64) -> Item {
+    Item {
+        integer: rng.chance(67),
+        weight,
+        price,
+        lower: (!rng.chance(absent)).then_some(lower),
+        upper: (!rng.chance(absent)).then_some(upper),
+    }
+}
+
+fn small(rng: &mut Rng) -> Problem {
+    let (a, c, b) = rng.pick(&[(2, 3, 2), (5, 7, 4), (10, 20, 6), (30, 50, 20)]);
+    let absent = rng.pick(&[0, 0, 20]);
+    let items = (0..rng.between(1, 6))
+        .map(|_| {
+            let lower = rng.between(-b, b);
+            let upper = if rng.chance(1) { lower - 1 } else { lower + rng.between(0, 2 * b) };
+            let (weight, price) = (rng.between(-a, a), rng.between(-c, c));
+            item(rng, weight, price, lower, upper, absent)
+        })
+        .collect();
+    Problem { limit: rng.between(-a * b, 3 * a * b), items }
+}
+
+fn equal_ratios(rng: &mut Rng) -> Problem {
+    let ratio = rng.between(-1, 3);
+    let items = (0..rng.between(2, 8))
+        .map(|_| {
+            let weight = rng.pick(&[-6, -4, -3, -2, -1, 1, 2, 3, 4, 6, 9, 10, 15]);
+            let lower = rng.between(-3, 3);
+            let upper = lower + rng.between(0, 5);
+            let price = weight * ratio + rng.pick(&[0, 0, 0, 0, 1]);
+            item(rng, weight, price, lower, upper, 20)
+        })
+        .collect();
+    Problem { limit: rng.between(-30, 30), items }
+}
+
+fn open(rng: &mut Rng) -> Problem {
+    let mut p = small(rng);
+    for i in &mut p.items {
+        if rng.chance(50) {
+            i.upper = None;
+        }
+        if rng.chance(40) {
+            i.lower = None;
+        }
+    }
+    p.limit = rng.pick(&[p.limit, p.limit, 0, -100_000_000, 100_000_000, -12_345_678]);
+    p
+}
+
+/// What the items weigh at least and at most, absent bounds taken at the ends of their range.
+fn weights(items: &[Item]) -> (i64, i64) {
+    let ends = |i: &Item| {
+        let (l, u) = (i.weight * i.lower.unwrap_or(-10_000), i.weight * i.upper.unwrap_or(10_000));
+        (l.min(u), l.max(u))
+    };
+    items.iter().map(ends).fold((0, 0), |sum, e| (sum.0 + e.0, sum.1 + e.1))
+}
+
+fn wide(rng: &mut Rng, heaviest: i64) -> Problem {
+    let absent = rng.pick(&[0, 0, 10, 30]);
+    let near = rng.chance(30);
+    let items: Vec<Item> = (0..rng.pick(&[1, 2, 3, 5, 8, 12, 16, 16]))
+        .map(|_| {
+            let weight = rng.between(-heaviest, heaviest);
+            let price = if near { 9 * weight + rng.between(-40, 40) } else { rng.between(-10_000, 10_000) };
+            let lower = rng.pick(&[0, -10_000, -50, -7, 3]);
+            let upper = lower + rng.pick(&[1, 10, 100, 10_000]);
+            item(rng, weight, price, lower, upper.min(10_000), absent)
+        })
+        .collect();
+    let (least, most) = weights(&items);
+    let limit = match rng.between(0, 5) {
+        0 => least - 1,
+        1 => least,
+        2 => most,
+        _ => rng.between(least, most),
+    };
+    Problem { limit: limit.clamp(-100_000_000, 100_000_000), items }
+}
+
+fn at_the_ends(rng: &mut Rng) -> Problem {
+    let mut end = |m: i64| rng.pick(&[-m, m, -m, m, 0, 1, -1, m - 1, 1 - m]);
+    let limit = end(100_000_000);
+    let figures: Vec<[i64; 4]> = (0..16).map(|_| [end(1000), end(10_000), end(10_000), end(10_000)]).collect();
+    let count = rng.pick(&[1, 2, 3, 16]);
+    let items = figures[..count].iter().map(|f| item(rng, f[0], f[1], f[2].min(f[3]), f[2].max(f[3]), 25)).collect();
+    Problem { limit, items }
+}
+
+/// Amounts driven far out: free items against heavy ones.
+fn far_out(rng: &mut Rng) -> Problem {
+    let items = (0..rng.pick(&[2, 4, 16]))
+        .map(|k| {
+            let weight = if k < 2 { rng.pick(&[1, -1, 2, 3, -3, 7]) } else { rng.pick(&[300, -300, 299, -299, 297]) };
+            let price = weight * rng.pick(&[1, 2, 3, 9]);
+            let (lower, upper) = (rng.pick(&[-10_000, 0]), rng.pick(&[10_000, 0]));
+            item(rng, weight, price, lower, upper, if k < 2 { 60 } else { 10 })
+        })
+        .collect();
+    Problem { limit: rng.pick(&[100_000_000, -100_000_000, 30_000_000]), items }
+}
+
+fn some_family(rng: &mut Rng) -> Problem {
+    let (f, _) = rng.pick(&FAMILIES);
+    let (bound, continuous) = (rng.pick(&[1, 1, 1, 2, 2, 5, 5, 10, 100, 10_000]), rng.pick(&[0, 0, 1, 2]));
+    let mut p = family(rng, f, bound, continuous);
+    p.items.truncate(rng.pick(&[4, 8, 16]));
+    p.limit = p.limit.min(weights(&p.items).1 / 2);
+    p
+}
+
+const BAD_FIELDS: [&[u8]; 36] = [
+    b"", b"00", b"01", b"-0", b"-01", b"+1", b"-", b"--1", b"1-", b"1.0", b"1e3", b"0x1", b"1,0", b"none", b"a", b"W", b"L",
+    b"w", b"WL", b"X", b"\t1", b"1\t", b"1\r", b"\0", b"\xff", b"/", b":", b"1/2", b"007", b"limit", b"items", b"item", b"Limit",
+    b"lower", b"upper", b"uppers",
+];
+
+const EDGES: [&[u8]; 28] = [
+    b"0",
+    b"1",
+    b"-1",
+    b"2",
+    b"3",
+    b"15",
+    b"16",
+    b"17",
+    b"-16",
+    b"999",
+    b"1000",
+    b"1001",
+    b"-1000",
+    b"-1001",
+    b"9999",
+    b"10000",
+    b"10001",
+    b"-10000",
+    b"-10001",
+    b"100000000",
+    b"100000001",
+    b"-100000000",
+    b"-100000001",
+    b"4294967297",
+    b"18446744073709551617",
+    b"-9223372036854775809",
+    b"9223372036854775807",
+    b"340282366920938463463374607431768211457",
+];
+
+/// A sheet with one thing changed; it may still be one.
+fn damaged(rng: &mut Rng) -> Vec<u8> {
+    let sheet = if rng.chance(80) { small(rng) } else { wide(rng, 30) }.sheet();
+    let mut lines: Vec<Vec<Vec<u8>>> =
+        sheet[..sheet.len() - 1].split(|&b| b == b'\n').map(|l| l.split(|&b| b == b' ').map(<[u8]>::to_vec).collect()).collect();
+    let k = rng.between(0, lines.len() as i64 - 1) as usize;
+    let f = rng.between(0, lines[k].len() as i64 - 1) as usize;
+    match rng.between(0, 13) {
+        0 | 1 => lines[k][f] = rng.pick(&BAD_FIELDS).to_vec(),
+        2 | 3 => *lines[k].last_mut().unwrap() = rng.pick(&EDGES).to_vec(),
+        4 => lines[k][f] = rng.pick(&EDGES).to_vec(),
+        5 => drop(lines[k].remove(f)),
+        6 => lines[k].insert(f, rng.pick(&BAD_FIELDS).to_vec()),
+        7 => drop(lines.remove(k)),
+        8 => lines.insert(k, lines[k].clone()),
+        9 => lines.insert(k, vec![vec![]]),
+        10 => {
+            let j = rng.between(0, lines.len() as i64 - 1) as usize;
+            lines.swap(j, k);
+        }
+        _ => return damaged_bytes(rng, sheet),
+    }
+    [lines.iter().map(|l| l.join(&b' ')).collect::<Vec<_>>().join(&b'\n'), vec![b'\n']].concat()
+}
+
+fn damaged_bytes(rng: &mut Rng, mut sheet: Vec<u8>) -> Vec<u8> {
+    let at = rng.between(0, sheet.len() as i64 - 1) as usize;
+    let byte = if rng.chance(50) { rng.pick(b"\n 0123456789-WL") } else { rng.next() as u8 };
+    match rng.between(0, 4) {
+        0 => sheet.truncate(at),
+        1 => sheet.push(byte),
+        2 => sheet[at] = byte,
+        3 => sheet.insert(at, byte),
+        _ => drop(sheet.remove(at)),
+    }
+    sheet
+}
+
+/// Sheets around the greatest length: a figure of thousands of digits, lines too many, or noise.
+fn long(rng: &mut Rng) -> Vec<u8> {
+    let mut sheet = small(rng).sheet();
+    let length = rng.pick(&[4094, 4095, 4096, 4097, 4098, 4500, 9000]);
+    match rng.between(0, 2) {
+        0 => {
+            let at = sheet.iter().rposition(|b| matches!(b, b'1'..=b'9')).unwrap();
+            let digits = vec![rng.pick(b"0123456789"); rng.between(1, 4200) as usize];
+            sheet.splice(at + 1..at + 1, digits);
+        }
+        1 => {
+            let more = rng.pick(&[b"1 1\n".as_slice(), b"\n", b"0"]);
+            while sheet.len() < length {
+                sheet.extend(more);
+            }
+        }
+        _ => sheet = (0..length).map(|_| rng.next() as u8).collect(),
+    }
+    sheet
+}

@@ -1,0 +1,337 @@
+//! A second planner, written from paper 01 alone and by other means: the dual of the relaxation, and dynamic programming over weights
+//! in a window around the relaxation's point. It names the kind of reply and the best value, and no point.
+
+use crate::problem::{gcd, Item, Problem};
+
+#[derive(Clone, Copy, Debug, PartialEq)]
+pub struct Refusal {
+    pub number: u64,
+    pub line: u64,
+}
+
+#[derive(Clone, Copy, Debug, PartialEq)]
+pub enum Reply {
+    Refused(Refusal),
+    Infeasible,
+    Unbounded,
+    Best(i128, i128),
+}
+
+// ---- reading a sheet
+
+struct Lines<'a> {
+    rest: &'a [u8],
+    line: u64,
+}
+
+impl<'a> Lines<'a> {
+    fn refuse<T>(&self, number: u64) -> Result<T, Refusal> {
+        Err(Refusal { number, line: self.line })
+    }
+
+    /// The fields of the next line, which has to have as many.
+    fn fields(&mut self, count: usize) -> Result<Vec<&'a [u8]>, Refusal> {
+        self.line += 1;
+        let Some(end) = self.rest.iter().position(|&b| b == b'\n') else {
+            return self.refuse(2);
+        };
+        let fields: Vec<&[u8]> = self.rest[..end].split(|&b| b == b' ').collect();
+        self.rest = &self.rest[end + 1..];
+        if fields.len() == count {
+            Ok(fields)
+        } else {
+            self.refuse(2)
+        }
+    }
+
+    /// A number of any length; one beyond every range is cut to a trillion.
+    fn number(&self, field: &[u8]) -> Result<i64, Refusal> {
+        let (minus, digits) = match field {
+            [b'-', rest @ ..] => (true, rest),
+            all => (false, all),
+        };
+        let plain = matches!(digits, [b'1'..=b'9', ..]) && digits.iter().all(u8::is_ascii_digit);
+        if !plain && field != b"0" {
+            return self.refuse(2);
+        }
+        let size = digits.iter().fold(0i64, |n, d| (10 * n + (d - b'0') as i64).min(1_000_000_000_000));
+        Ok(if minus { -size } else { size })
+    }
+
+    /// The count of a heading `word m`, within lo to hi.
+    fn heading(&mut self, word: &[u8], lo: i64, hi: i64) -> Result<i64, Refusal> {
+        let fields = self.fields(2)?;
+        if fields[0] != word {
+            return self.refuse(2);
+        }
+        let count = self.number(fields[1])?;
+        if lo <= count && count <= hi {
+            Ok(count)
+        } else {
+            self.refuse(3)
+        }
+    }
+
+    fn figure(&self, value: i64, range: i64) -> Result<i64, Refusal> {
+        if value.abs() <= range {
+            Ok(value)
+        } else {
+            self.refuse(4)
+        }
+    }
+
+    fn item(&mut self) -> Result<Item, Refusal> {
+        let fields = self.fields(3)?;
+        let integer = match fields[0] {
+            b"W" => true,
+            b"L" => false,
+            _ => return self.refuse(2),
+        };
+        let (weight, price) = (self.number(fields[1])?, self.number(fields[2])?);
+        Ok(Item { integer, weight: self.figure(weight, 1000)?, price: self.figure(price, 10_000)?, lower: None, upper: None })
+    }
+
+    /// A section of bounds: item, bound and line of each.
+    fn bounds(&mut self, word: &[u8], n: i64) -> Result<Vec<(usize, i64, u64)>, Refusal> {
+        let mut list = vec![];
+        let mut last = 0;
+        for _ in 0..self.heading(word, 0, n)? {
+            let fields = self.fields(2)?;
+            let (k, value) = (self.number(fields[0])?, self.number(fields[1])?);
+            if k <= last || k > n {
+                return self.refuse(5);
+            }
+            list.push((k as usize - 1, self.figure(value, 10_000)?, self.line));
+            last = k;
+        }
+        Ok(list)
+    }
+}
+
+pub fn read(sheet: &[u8]) -> Result<Problem, Refusal> {
+    if sheet.len() > 4096 {
+        return Err(Refusal { number: 1, line: 0 });
+    }
+    let mut lines = Lines { rest: sheet, line: 0 };
+    lines.heading(b"limit", 1, 1)?;
+    let fields = lines.fields(1)?;
+    let limit = lines.figure(lines.number(fields[0])?, 100_000_000)?;
+    let n = lines.heading(b"items", 1, 16)?;
+    let mut items = (0..n).map(|_| lines.item()).collect::<Result<Vec<Item>, Refusal>>()?;
+    for (k, value, _) in lines.bounds(b"lower", n)? {
+        items[k].lower = Some(value);
+    }
+    let uppers = lines.bounds(b"upper", n)?;
+    if !lines.rest.is_empty() {
+        return Err(Refusal { number: 2, line: lines.line + 1 });
+    }
+    for (k, value, line) in uppers {
+        items[k].upper = Some(value);
+        if items[k].lower.is_some_and(|l| l > value) {
+            return Err(Refusal { number: 6, line });
+        }
+    }
+    Ok(Problem { limit, items })
+}
+
+// ---- the dual of the relaxation
+
+/// The dual at the price p / q for a unit of weight: no point within the room r is worth more than (p r + rest) / q.
+#[derive(Clone, Copy)]
+struct Line {
+    p: i64,
+    q: i64,
+    rest: i64,
+}
+
+impl Line {
+    fn reduced(&self, i: &Item) -> i64 {
+        self.q * i.price - self.p * i.weight
+    }
+
+    fn at(&self, room: i64) -> i128 {
+        self.p as i128 * room as i128 + self.rest as i128
+    }
+}
+
+/// The dual's corners. The least of them is the relaxation's value, where anything is feasible; with none, the value has no end.
+fn dual(items: &[Item]) -> Vec<Line> {
+    let ratios = items.iter().filter(|i| i.weight != 0).map(|i| (i.price * i.weight.signum(), i.weight.abs()));
+    let corners = std::iter::once((0, 1)).chain(ratios.filter(|&(p, _)| p > 0));
+    corners.filter_map(|(p, q)| corner(items, Line { p, q, rest: 0 })).collect()
+}
+
+fn corner(items: &[Item], mut line: Line) -> Option<Line> {
+    for i in items {
+        let gain = line.reduced(i);
+        line.rest += match gain.signum() {
+            1 => gain * i.upper?,
+            -1 => gain * i.lower?,
+            _ => 0,
+        };
+    }
+    Some(line)
+}
+
+fn least(lines: &[Line], room: i64) -> Option<Line> {
+    lines.iter().copied().min_by(|l, m| (l.at(room) * m.q as i128).cmp(&(m.at(room) * l.q as i128)))
+}
+
+/// What the items weigh at least; none if they have no least weight.
+fn lightest(items: &[Item]) -> Option<i64> {
+    items.iter().filter(|i| i.weight != 0).try_fold(0, |sum, i| {
+        let end = if i.weight > 0 { i.lower } else { i.upper };
+        Some(sum + i.weight * end?)
+    })
+}
+
+/// The relaxation's point, its one fraction rounded: each item where the dual's best corner has it; those that it leaves open start at
+/// a bound, or at 0, and fill the room up, or give way where it is overdrawn.
+fn relaxed_point(p: &Problem, line: Line) -> Vec<i64> {
+    let start = |i: &Item| match line.reduced(i).signum() {
+        1 => i.upper.unwrap(),
+        -1 => i.lower.unwrap(),
+        _ => i.lower.or(i.upper).unwrap_or(0),
+    };
+    let mut point: Vec<i64> = p.items.iter().map(start).collect();
+    let mut room = p.limit - p.items.iter().zip(&point).map(|(i, x)| i.weight * x).sum::<i64>();
+    for (i, x) in p.items.iter().zip(&mut point) {
+        let wanted = if line.p > 0 { room } else { room.min(0) };
+        if line.reduced(i) != 0 || i.weight == 0 || wanted == 0 {
+            continue;
+        }
+        let end = if (wanted > 0) == (i.weight > 0) { i.upper } else { i.lower };
+        match end {
+            Some(e) if (i.weight * (e - *x)).abs() <= wanted.abs() => {
+                room -= i.weight * (e - *x);
+                *x = e;
+            }
+            _ => {
+                room -= wanted;
+                *x += wanted.div_euclid(i.weight);
+            }
+        }
+    }
+    assert!(room == 0 || (line.p == 0 && room > 0), "the corner is the dual's least");
+    point
+}
+
+// ---- dynamic programming
+
+/// The most that the integer items are worth for each weight of a window, both counted from a point.
+struct Table {
+    low: i64,
+    worth: Vec<i64>,
+}
+
+const NEVER: i64 = i64::MIN;
+
+impl Table {
+    fn high(&self) -> i64 {
+        self.low + self.worth.len() as i64 - 1
+    }
+
+    /// With an item more, of weight a above 0 and price c, in from ..= to units; within the window.
+    fn with(&self, a: i64, c: i64, from: i64, to: i64, window: i64) -> Table {
+        let low = (self.low + a * from).max(-window);
+        let high = (self.high() + a * to).min(window);
+        let mut worth = vec![NEVER; (high - low + 1) as usize];
+        for class in 0..a.min(high - low + 1) {
+            self.with_class(a, c, from, to, low + class, &mut worth[class as usize..]);
+        }
+        Table { low, worth }
+    }
+
+    /// The weights first, first + a, …: new[w] = max over t of old[w - a t] + c t. What is behind the queue's front in both place and
+    /// worth is never the most again.
+    fn with_class(&self, a: i64, c: i64, from: i64, to: i64, first: i64, worth: &mut [i64]) {
+        let mut queue = std::collections::VecDeque::new();
+        let mut next = (first - a * to).max(self.low + (first - self.low).rem_euclid(a));
+        for (j, new) in worth.iter_mut().step_by(a as usize).enumerate() {
+            let w = first + a * j as i64;
+            while next <= (w - a * from).min(self.high()) {
+                let old = self.worth[(next - self.low) as usize];
+                if old != NEVER {
+                    let level = old - c * ((next - first).div_euclid(a));
+                    while queue.back().is_some_and(|&(_, l)| l <= level) {
+                        queue.pop_back();
+                    }
+                    queue.push_back((next, level));
+                }
+                next += a;
+            }
+            while queue.front().is_some_and(|&(v, _)| v < w - a * to) {
+                queue.pop_front();
+            }
+            if let Some(&(_, level)) = queue.front() {
+                *new = level + c * j as i64;
+            }
+        }
+    }
+}
+
+/// Let the integer items weigh at most D each, x be the relaxation's point, and z the best point whose integer amounts are nearest to
+/// x. Take the way from x to z in unit steps of integer items, and parts of continuous items, the unused room being one of them. No
+/// steps with such parts weigh 0 together: without them z would be no worse and nearer, for with them x would be no better. So, if
+/// steps that weigh more than 0 and less than 0 are taken in turns that keep the sum within (-D, D], no sum comes twice: fewer than 2 D
+/// steps. Steps that are left then all have one sign; the parts that could balance one weigh less than it; so, with the fraction that
+/// rounding x took, they weigh less than 2 D. Each sign weighs at most D D + 2 D in all, and D more for rounding x. So no item is
+/// farther than 4 D from x, and in whatever order the items come, no sum leaves D D + 3 D.
+fn integer_table(p: &Problem, point: &[i64]) -> Table {
+    let integers: Vec<(&Item, i64)> =
+        p.items.iter().zip(point.iter().copied()).filter(|(i, _)| i.integer && i.weight != 0).collect();
+    let most = integers.iter().map(|(i, _)| i.weight.abs()).max().unwrap_or(0);
+    let window = most * most + 3 * most;
+    let far = 4 * most;
+    let mut table = Table { low: 0, worth: vec![0] };
+    for (i, x) in integers {
+        let down = i.lower.map_or(far, |l| far.min(x - l));
+        let up = i.upper.map_or(far, |u| far.min(u - x));
+        table = if i.weight > 0 {
+            table.with(i.weight, i.price, -down, up, window)
+        } else {
+            table.with(-i.weight, -i.price, -up, down, window)
+        };
+    }
+    table
+}
+
+/// The best value, where the relaxation has one.
+fn best_value(p: &Problem, line: Line) -> (i128, i128) {
+    let point = relaxed_point(p, line);
+    let table = integer_table(p, &point);
+    let continuous: Vec<Item> = p.items.iter().filter(|i| !i.integer).copied().collect();
+    let lines = dual(&continuous);
+    let need = lightest(&continuous);
+    let fixed = || p.items.iter().zip(&point).filter(|(i, _)| i.integer);
+    let room = p.limit - fixed().map(|(i, x)| i.weight * x).sum::<i64>();
+    let worth = fixed().map(|(i, x)| i.price * x).sum::<i64>();
+    let mut best: Option<(i128, i128)> = None;
+    for (k, &gain) in table.worth.iter().enumerate() {
+        let left = room - table.low - k as i64;
+        if gain == NEVER || need.is_some_and(|n| left < n) {
+            continue;
+        }
+        let rest = least(&lines, left).expect("a dual of the continuous items");
+        let value = (rest.at(left) + (worth + gain) as i128 * rest.q as i128, rest.q as i128);
+        if best.is_none_or(|b| b.0 * value.1 < value.0 * b.1) {
+            best = Some(value);
+        }
+    }
+    let (n, d) = best.expect("a feasible point");
+    (n / gcd(n, d), d / gcd(n, d))
+}
+
+/// The light corner is a point, so a problem is infeasible only if that is too heavy.
+pub fn plan(p: &Problem) -> Reply {
+    if lightest(&p.items).is_some_and(|w| w > p.limit) {
+        return Reply::Infeasible;
+    }
+    match least(&dual(&p.items), p.limit) {
+        None => Reply::Unbounded,
+        Some(line) => {
+            let (n, d) = best_value(p, line);
+            Reply::Best(n, d)
+        }
+    }
+}

@@ -1,0 +1,79 @@
+//! The bench: our proved planner beside an independent one and beside its own twin in Rust. See bench/run.
+
+mod check;
+mod compare;
+mod draw;
+mod independent;
+mod ours;
+mod problem;
+mod rivals;
+mod speed;
+mod twin;
+
+use twin::Cut;
+
+const USAGE: &str = "bench/run [quick] [compare | speed] [--seed N] [--sheets N] [--steps N] [--cut grid | lattice]
+  compare    our replies held to those of an independent planner, on 120,000 drawn sheets (--sheets)
+  speed      the speed table, 100 sheets a row (--sheets)
+  quick      fewer sheets
+  --seed     the seed of the draw (1)
+  --steps    a sheet that takes the twin more steps is left out and counted (compare 200,000; speed 1,000,000)
+  --cut      the twin's cut (lattice)
+  bench/run example builds and runs example.c";
+
+struct Arguments {
+    words: Vec<String>,
+}
+
+impl Arguments {
+    /// Whether a word stands there; it is taken out.
+    fn word(&mut self, word: &str) -> bool {
+        let at = self.words.iter().position(|w| w == word);
+        at.map(|k| self.words.remove(k)).is_some()
+    }
+
+    /// What stands behind an option; both are taken out.
+    fn value(&mut self, option: &str) -> Option<String> {
+        let k = self.words.iter().position(|w| w == option)?;
+        self.words.remove(k);
+        (k < self.words.len()).then(|| self.words.remove(k))
+    }
+
+    fn number(&mut self, option: &str) -> Option<u64> {
+        self.value(option).map(|v| v.parse().unwrap_or_else(|_| usage()))
+    }
+}
+
+fn usage() -> ! {
+    eprintln!("{USAGE}");
+    std::process::exit(2)
+}
+
+fn main() {
+    let mut a = Arguments { words: std::env::args().skip(1).collect() };
+    let quick = a.word("quick");
+    let (compare, speed) = (a.word("compare"), a.word("speed"));
+    let seed = a.number("--seed").unwrap_or(1);
+    let sheets = a.number("--sheets");
+    let steps = a.number("--steps");
+    let cut = match a.value("--cut").as_deref() {
+        Some("grid") => Cut::Grid,
+        Some("lattice") | None => Cut::Lattice,
+        Some(_) => usage(),
+    };
+    if !a.words.is_empty() {
+        usage();
+    }
+    let mut good = true;
+    if compare || !speed {
+        let count = sheets.unwrap_or(if quick { 5000 } else { 120_000 });
+        good = compare::compare(seed, count, cut, steps.unwrap_or(200_000));
+        println!();
+    }
+    if speed || !compare {
+        let (count, rival_sheets) = if quick { (10, 1) } else { (100, 3) };
+        let limit = steps.unwrap_or(if quick { 100_000 } else { 1_000_000 });
+        speed::speed(&speed::Options { seed, sheets: sheets.unwrap_or(count) as usize, rival_sheets, cut, limit });
+    }
+    std::process::exit(if good { 0 } else { 1 });
+}

@@ -1,0 +1,36 @@
+//! The proved planner: the entries of `crates/embed`, as `charge.h` declares them.
+
+extern "C" {
+    fn charge_room() -> usize;
+    fn charge_read(sheet: *const u8, len: usize, line: *mut u64) -> u64;
+    fn charge_plan(sheet: *const u8, len: usize, out: *mut u8, room: usize) -> usize;
+    fn charge_steps(sheet: *const u8, len: usize) -> u64;
+}
+
+/// How many bytes hold every reply.
+pub fn room() -> usize {
+    unsafe { charge_room() }
+}
+
+/// A sheet's verdict: number and line of its refusal, zeros if it is accepted.
+pub fn read(sheet: &[u8]) -> (u64, u64) {
+    let mut line = 0;
+    let number = unsafe { charge_read(sheet.as_ptr(), sheet.len(), &mut line) };
+    (number, line)
+}
+
+/// The reply at the start of `out`, and its length; 0 if `out` is too short.
+pub fn plan_into(sheet: &[u8], out: &mut [u8]) -> usize {
+    unsafe { charge_plan(sheet.as_ptr(), sheet.len(), out.as_mut_ptr(), out.len()) }
+}
+
+pub fn plan(sheet: &[u8]) -> String {
+    let mut out = vec![0; room()];
+    let n = plan_into(sheet, &mut out);
+    String::from_utf8_lossy(&out[..n]).into_owned()
+}
+
+/// The steps of the search; 0 if there is none.
+pub fn steps(sheet: &[u8]) -> u64 {
+    unsafe { charge_steps(sheet.as_ptr(), sheet.len()) }
+}

@@ -1,0 +1,44 @@
+-- `embed::searched` meets its contract: a prepared search is ready, as in `planner::solve`.
+use borrow.Author.Needs.{needs}
+use Rattle.embed.proofs.searched.Statement.{statement}
+use Rattle.embed.proofs.searched.Tie as tie
+
+prepare-requires : tie.Need-prepare-requires
+prepare-requires c κs = search needs
+
+begin-requires : tie.Need-begin-requires
+begin-requires c κs = c .prepare .ensures .ready .sized
+
+returns : tie.Need-returns
+returns c = search needs
+
+find-ray-requires : tie.Need-find-ray-requires
+find-ray-requires c κs = search needs
+
+returns-2 : tie.Need-returns-2
+returns-2 c = search needs
+
+pairs-of-requires : tie.Need-pairs-of-requires
+pairs-of-requires c κs = search needs
+
+run-requires : tie.Need-run-requires
+run-requires c κs =
+    let a = c .before .before .before .before .before .before .before in
+    let q = a .prepare .ensures in
+    record { setting = q .ready; true-pairs = c .pairs-of .ensures .ready (a .prepare .result .cols) (record { weights-agree = q .weights; prices-agree = q .prices }) }
+
+returns-3 : tie.Need-returns-3
+returns-3 c = search needs
+
+pub searched-spec : {M : Type 1} → statement M
+searched-spec =
+    tie.close
+    (tie.spec
+    prepare-requires
+    begin-requires
+    returns
+    find-ray-requires
+    returns-2
+    pairs-of-requires
+    run-requires
+    returns-3)

@@ -1,0 +1,44 @@
+-- What the entries reply.
+--   numberOf v         the number of a refusal, 0 where there is none
+--   lineOf v           the line of a refusal, 0 where there is none
+--   lengthOf w         how long the text is that was handed over, 0 where none was
+--   UnlessRefused v n  n is 0 where v is a refusal
+--   Plans s b c r      the buffer b becomes c, and r says so, for a true answer to the sheet s
+use mathlib.Core.Path.{_≡_}
+use mathlib.Core.List.{List}
+use Prim.Native.Nat.{ℕ}
+use Rattle.knapsack.specs.declared.Answer.{Answer}
+use Rattle.knapsack.specs.declared.Verdict.{Verdict}
+use Rattle.knapsack.specs.declared.Verdict.the-variants.{Accepted, Refused}
+use Rattle.listing.specs.declared.Listed.{Listed}
+use Rattle.listing.specs.declared.Listed.the-variants.{Written, Refused as NotWritten}
+use Rattle.listing.specs.Listing.{told, filled}
+use Rattle.listing.specs.Printing.{printed}
+use Rattle.replies.specs.Replies.{Answered}
+use Rattle.sheet.specs.Reading.{readSheet}
+
+abbrev pub numberOf : Verdict → ℕ
+numberOf Accepted = 0
+numberOf (Refused f) = f .number
+
+abbrev pub lineOf : Verdict → ℕ
+lineOf Accepted = 0
+lineOf (Refused f) = f .line
+
+abbrev pub lengthOf : Listed → ℕ
+lengthOf (Written n) = n
+lengthOf (NotWritten f) = 0
+
+abbrev pub UnlessRefused : Verdict → ℕ → Type 0
+UnlessRefused Accepted n = Unit {0}
+UnlessRefused (Refused f) n = n ≡ 0
+
+-- the text of an answer to the sheet
+abbrev pub replyText : List ℕ → Answer → List ℕ
+replyText s a = printed (readSheet s .problem .count) a
+
+pub record Plans (s b c : List ℕ) (r : ℕ) : Type 0 where
+  pub answer : Answer
+  pub is-true : Answered (readSheet s) answer
+  pub length-is : r ≡ lengthOf (told (replyText s answer) b)
+  pub left-is : c ≡ filled (replyText s answer) b

@@ -1,0 +1,134 @@
+// Entries for programs in C and Rust, on bytes and numbers: a sheet's verdict, its reply in a lent buffer, and how many steps its search
+// takes. bench/charge.h declares them. Paper 01, "The sheet" and "What `charge` prints". Nothing is asked of a caller but that each
+// pointer has as many bytes behind it as the length beside it says.
+use greedy::begin;
+use knapsack::Problem;
+use knapsack::Verdict;
+use knapsack::check_record;
+use listing::Listed;
+use listing::ROOM;
+use listing::hand_over;
+use pairing::pairs_of;
+use prepare::prepare;
+use rays::find_ray;
+use replies::reply_to;
+use search::run;
+use sheet::Reading;
+use sheet::read;
+ghost use mathlib.Core.Path.{_≡_};
+ghost use Rattle.knapsack.specs.Records.{InRange, verdict};
+ghost use Rattle.sheet.specs.Reading.{readSheet};
+ghost use Rattle.embed.specs.Entries.{numberOf, lineOf, lengthOf, Plans, UnlessRefused};
+
+// 01's number of a refusal, 0 where there is none.
+fn number_of(v: Verdict) -> u64
+    ensures { λ r. ⌜ r ≡ numberOf v ⌝ }
+{
+    match v {
+        Verdict::Accepted => 0,
+        Verdict::Refused(f) => f.number,
+    }
+}
+
+// The line of a refusal, 0 where there is none.
+fn line_of(v: Verdict) -> u64
+    ensures { λ r. ⌜ r ≡ lineOf v ⌝ }
+{
+    match v {
+        Verdict::Accepted => 0,
+        Verdict::Refused(f) => f.line,
+    }
+}
+
+// How long the text is that was handed over, 0 where none was.
+fn length_of(w: Listed) -> usize
+    ensures { λ r. ⌜ r ≡ lengthOf w ⌝ }
+{
+    match w {
+        Listed::Written(n) => n,
+        Listed::Refused(_) => 0,
+    }
+}
+
+// The steps of the search for a problem in range; none where its lightest point is too heavy, or where it has a ray.
+fn searched(p: Problem) -> u64
+    requires { ⌜ InRange p ⌝ }
+{
+    let s = prepare(p);
+    let f = begin(s.cols, s.ends);
+    if f.room < 0 {
+        return 0;
+    }
+    let ray = find_ray(p);
+    if ray.found {
+        return 0;
+    }
+    let pairs = pairs_of(p);
+    let q = run(s, pairs);
+    q.steps
+}
+
+// The same for any record.
+fn steps_for(p: Problem) -> u64
+    ensures { λ r. ⌜ UnlessRefused (verdict p) r ⌝ }
+{
+    let v = check_record(p);
+    match v {
+        Verdict::Accepted => searched(p),
+        Verdict::Refused(_) => 0,
+    }
+}
+
+// The same for what was read.
+fn steps_of(r: Reading) -> u64
+    ensures { λ n. ⌜ UnlessRefused (r .verdict) n ⌝ }
+{
+    let v = r.verdict;
+    let p = r.problem;
+    match v {
+        Verdict::Accepted => steps_for(p),
+        Verdict::Refused(_) => 0,
+    }
+}
+
+// How many bytes hold every reply.
+#[no_mangle]
+pub extern "C" fn charge_room() -> usize
+    ensures { λ r. ⌜ r ≡ 1440 ⌝ }
+{
+    ROOM
+}
+
+// A sheet's verdict: 0, or the number of its refusal; line gets the refusal's line, or 0.
+#[no_mangle]
+pub extern "C" fn charge_read(sheet: &[u8], line: &mut u64) -> u64
+    ensures { λ r. ⌜ r ≡ numberOf (readSheet (now (sheet .entry)) .verdict) ⌝ }
+    ensures { λ r. ⌜ now (line .exit) ≡ lineOf (readSheet (now (sheet .entry)) .verdict) ⌝ }
+{
+    let r = read(sheet);
+    let v = r.verdict;
+    *line = line_of(v);
+    number_of(v)
+}
+
+// What `charge` prints for a sheet, at the start of a lent buffer, and its length. 0, and no byte changes, where the buffer is shorter
+// (refusal 11): no reply is empty.
+#[no_mangle]
+pub extern "C" fn charge_plan(sheet: &[u8], out: &mut [u8]) -> usize
+    ensures { λ r. ⌜ Plans (now (sheet .entry)) (now (out .entry)) (now (out .exit)) r ⌝ }
+{
+    let t = reply_to(sheet);
+    let bytes = t.bytes;
+    let len = t.len;
+    let w = hand_over(&bytes[..len], out);
+    length_of(w)
+}
+
+// The steps of the search for a sheet; none where it is refused, or where no search is needed.
+#[no_mangle]
+pub extern "C" fn charge_steps(sheet: &[u8]) -> u64
+    ensures { λ r. ⌜ UnlessRefused (readSheet (now (sheet .entry)) .verdict) r ⌝ }
+{
+    let r = read(sheet);
+    steps_of(r)
+}

@@ -1,0 +1,272 @@
+// The best value of a small problem whose bounds are all present, by trying every point that can be best. An integer item takes every
+// amount of its box. A continuous one stands at one of its ends, but for one of them, the filler, which may take what the others leave
+// of the capacity: a point of a box under one limit that is best for given integer amounts can be had so. With no order, no
+// relaxation and no cut this has nothing of the planner.
+use crate::exact::plus;
+use crate::exact::times;
+use crate::print::size_of;
+use knapsack::Bound;
+use knapsack::Item;
+use knapsack::Mark;
+use knapsack::Problem;
+ghost use Prim.Native.Nat.{_≤_};
+
+// The best value p / q so far, of the feasible points that were tried.
+pub struct Best {
+    pub found: bool,
+    pub p: i64,
+    pub q: i64,
+}
+
+// The amounts that an item takes: first, first + step, … so many.
+struct Choices {
+    first: i64,
+    step: i64,
+    number: u64,
+}
+
+// What is left of a point's number, and the weight and the value of its first items.
+struct Sums {
+    rest: u64,
+    weight: i64,
+    value: i64,
+}
+
+fn minus(a: i64, b: i64) -> i64 {
+    plus(a, times(b, -1))
+}
+
+// A bound that is present; 0 for an absent one, which a problem that is enumerated has not.
+fn at(b: Bound) -> i64 {
+    match b {
+        Bound::Absent => 0,
+        Bound::At(v) => v,
+    }
+}
+
+fn low(x: Item) -> i64 {
+    let l = x.lower;
+    at(l)
+}
+
+fn high(x: Item) -> i64 {
+    let u = x.upper;
+    at(u)
+}
+
+fn is_continuous(x: Item) -> bool {
+    let m = x.mark;
+    match m {
+        Mark::Integer => false,
+        Mark::Continuous => true,
+    }
+}
+
+// The filler is left out: it takes 0 for the time being.
+fn choices_of(x: Item, filler: bool) -> Choices {
+    if filler {
+        return Choices {
+            first: 0,
+            step: 0,
+            number: 1,
+        };
+    }
+    let span = minus(high(x), low(x));
+    if is_continuous(x) {
+        return Choices {
+            first: low(x),
+            step: span,
+            number: 2,
+        };
+    }
+    Choices {
+        first: low(x),
+        step: 1,
+        number: size_of(plus(span, 1)),
+    }
+}
+
+// n · m, for small ones.
+fn scaled(n: u64, m: u64) -> u64 {
+    if n > 1000000 {
+        return n;
+    }
+    if m > 1000000 {
+        return m;
+    }
+    n * m
+}
+
+fn as_signed(n: u64) -> i64 {
+    if n > 1000000000 {
+        return 0;
+    }
+    n as i64
+}
+
+// How many points there are.
+fn points(p: Problem, filler: usize, n: usize) -> u64
+    requires { ⌜ n ≤ 16 ⌝ }
+{
+    let items = p.items;
+    let mut total: u64 = 1;
+    let mut k: usize = 0;
+    while k < n {
+        let x = items[k];
+        let c = choices_of(x, k == filler);
+        total = scaled(total, c.number);
+        k += 1;
+    }
+    total
+}
+
+// One item more: its amount is the next digit of the point's number.
+fn with_item(s: Sums, x: Item, filler: bool) -> Sums {
+    let c = choices_of(x, filler);
+    if c.number == 0 {
+        return s;
+    }
+    let digit = s.rest % c.number;
+    let amount = plus(c.first, times(c.step, as_signed(digit)));
+    Sums {
+        rest: s.rest / c.number,
+        weight: plus(s.weight, times(x.weight, amount)),
+        value: plus(s.value, times(x.price, amount)),
+    }
+}
+
+// The weight and the value of a point.
+fn sums_of(p: Problem, filler: usize, n: usize, number: u64) -> Sums
+    requires { ⌜ n ≤ 16 ⌝ }
+{
+    let items = p.items;
+    let mut s = Sums {
+        rest: number,
+        weight: 0,
+        value: 0,
+    };
+    let mut k: usize = 0;
+    while k < n {
+        let x = items[k];
+        s = with_item(s, x, k == filler);
+        k += 1;
+    }
+    s
+}
+
+// Whether a / b is below c / d, for divisors above 0.
+pub fn below(a: i64, b: i64, c: i64, d: i64) -> bool {
+    times(a, d) < times(c, b)
+}
+
+fn offered(best: Best, p: i64, q: i64) -> Best {
+    let better = Best {
+        found: true,
+        p: p,
+        q: q,
+    };
+    if !best.found {
+        return better;
+    }
+    if below(best.p, best.q, p, q) {
+        better
+    } else {
+        best
+    }
+}
+
+// A point with no filler.
+fn with_corner(best: Best, p: Problem, s: Sums) -> Best {
+    if p.capacity < s.weight {
+        return best;
+    }
+    offered(best, s.value, 1)
+}
+
+fn between(a: i64, x: i64, b: i64) -> bool {
+    if x < a {
+        return false;
+    }
+    x <= b
+}
+
+// A point whose filler x, of weight above 0, takes room / weight.
+fn with_filled(best: Best, x: Item, room: i64, value: i64) -> Best {
+    let a = x.weight;
+    if between(times(low(x), a), room, times(high(x), a)) {
+        return offered(best, plus(times(value, a), times(x.price, room)), a);
+    }
+    best
+}
+
+// The same of weight below 0: room and weight both change their sign.
+fn with_lightened(best: Best, x: Item, room: i64, value: i64) -> Best {
+    let a = times(x.weight, -1);
+    let over = times(room, -1);
+    if between(times(low(x), a), over, times(high(x), a)) {
+        return offered(best, plus(times(value, a), times(x.price, over)), a);
+    }
+    best
+}
+
+fn with_filler(best: Best, p: Problem, x: Item, s: Sums) -> Best {
+    let room = minus(p.capacity, s.weight);
+    if x.weight > 0 {
+        return with_filled(best, x, room, s.value);
+    }
+    if x.weight < 0 {
+        return with_lightened(best, x, room, s.value);
+    }
+    best
+}
+
+// All points with one filler, or with none where its number is n.
+fn with_points(start: Best, p: Problem, filler: usize, n: usize) -> Best
+    requires { ⌜ n ≤ 15 ⌝ }
+{
+    let items = p.items;
+    let total = points(p, filler, n);
+    let mut best = start;
+    let mut i: u64 = 0;
+    while i < total {
+        let s = sums_of(p, filler, n, i);
+        if filler < n {
+            let x = items[filler];
+            best = with_filler(best, p, x, s);
+        } else {
+            best = with_corner(best, p, s);
+        }
+        i += 1;
+    }
+    best
+}
+
+fn can_fill(x: Item) -> bool {
+    if is_continuous(x) {
+        x.weight != 0
+    } else {
+        false
+    }
+}
+
+// The best value of a problem of at most 15 items with every bound present.
+pub fn best_value(p: Problem, n: usize) -> Best
+    requires { ⌜ n ≤ 15 ⌝ }
+{
+    let items = p.items;
+    let none = Best {
+        found: false,
+        p: 0,
+        q: 1,
+    };
+    let mut best = with_points(none, p, n, n);
+    let mut k: usize = 0;
+    while k < n {
+        let x = items[k];
+        if can_fill(x) {
+            best = with_points(best, p, k, n);
+        }
+        k += 1;
+    }
+    best
+}
