@@ -4,7 +4,7 @@ use crate::check::check;
 use crate::draw::{kind, Rng, KINDS};
 use crate::independent::{self, Reply};
 use crate::ours;
-use crate::twin::{self, Cut};
+use crate::twin;
 use std::time::{Duration, Instant};
 
 /// How often each reply came: refused, infeasible, unbounded, best; and what was left out.
@@ -50,9 +50,9 @@ fn check_buffers(sheet: &[u8], text: &str) -> Result<(), String> {
     Ok(())
 }
 
-fn compare_sheet(sheet: &[u8], cut: Cut, limit: u64, counts: &mut Counts) -> Result<(), String> {
+fn compare_sheet(sheet: &[u8], limit: u64, counts: &mut Counts) -> Result<(), String> {
     let problem = independent::read(sheet);
-    let twin = problem.as_ref().ok().map(|p| twin::plan(p, cut, limit));
+    let twin = problem.as_ref().ok().map(|p| twin::plan(p, limit));
     if let Some(None) = twin {
         counts.left_out += 1;
         return Ok(());
@@ -72,7 +72,7 @@ fn compare_sheet(sheet: &[u8], cut: Cut, limit: u64, counts: &mut Counts) -> Res
 }
 
 /// Whether no sheet differs.
-pub fn compare(seed: u64, count: u64, cut: Cut, limit: u64) -> bool {
+pub fn compare(seed: u64, count: u64, limit: u64) -> bool {
     println!("Comparison with the independent planner: {count} sheets, seed {seed}");
     let mut rng = Rng(seed);
     let mut counts = [Counts::default(); KINDS.len()];
@@ -84,7 +84,7 @@ pub fn compare(seed: u64, count: u64, cut: Cut, limit: u64) -> bool {
         }
         let k = kind(&mut rng);
         let sheet = KINDS[k].2(&mut rng);
-        if let Err(what) = compare_sheet(&sheet, cut, limit, &mut counts[k]) {
+        if let Err(what) = compare_sheet(&sheet, limit, &mut counts[k]) {
             counts[k].differ += 1;
             println!("sheet {done} differs: {what}for\n{}", String::from_utf8_lossy(&sheet));
         }

@@ -10,15 +10,12 @@ mod rivals;
 mod speed;
 mod twin;
 
-use twin::Cut;
-
-const USAGE: &str = "bench/run [quick] [compare | speed] [--seed N] [--sheets N] [--steps N] [--cut grid | lattice]
+const USAGE: &str = "bench/run [quick] [compare | speed] [--seed N] [--sheets N] [--steps N]
   compare    our replies held to those of an independent planner, on 120,000 drawn sheets (--sheets)
   speed      the speed table, 100 sheets a row (--sheets)
   quick      fewer sheets
   --seed     the seed of the draw (1)
   --steps    a sheet that takes the twin more steps is left out and counted (compare 200,000; speed 1,000,000)
-  --cut      the twin's cut (lattice)
   bench/run example builds and runs example.c";
 
 struct Arguments {
@@ -56,24 +53,19 @@ fn main() {
     let seed = a.number("--seed").unwrap_or(1);
     let sheets = a.number("--sheets");
     let steps = a.number("--steps");
-    let cut = match a.value("--cut").as_deref() {
-        Some("grid") => Cut::Grid,
-        Some("lattice") | None => Cut::Lattice,
-        Some(_) => usage(),
-    };
     if !a.words.is_empty() {
         usage();
     }
     let mut good = true;
     if compare || !speed {
         let count = sheets.unwrap_or(if quick { 5000 } else { 120_000 });
-        good = compare::compare(seed, count, cut, steps.unwrap_or(200_000));
+        good = compare::compare(seed, count, steps.unwrap_or(200_000));
         println!();
     }
     if speed || !compare {
         let (count, rival_sheets) = if quick { (10, 1) } else { (100, 3) };
         let limit = steps.unwrap_or(if quick { 100_000 } else { 1_000_000 });
-        speed::speed(&speed::Options { seed, sheets: sheets.unwrap_or(count) as usize, rival_sheets, cut, limit });
+        speed::speed(&speed::Options { seed, sheets: sheets.unwrap_or(count) as usize, rival_sheets, limit });
     }
     std::process::exit(if good { 0 } else { 1 });
 }

@@ -5,14 +5,13 @@ use crate::independent;
 use crate::ours;
 use crate::problem::Problem;
 use crate::rivals::{self, Rival};
-use crate::twin::{self, Cut};
+use crate::twin;
 use std::time::Instant;
 
 pub struct Options {
     pub seed: u64,
     pub sheets: usize,
     pub rival_sheets: usize,
-    pub cut: Cut,
     pub limit: u64,
 }
 
@@ -54,7 +53,7 @@ fn timed<T>(mut work: impl FnMut() -> T) -> (T, f64) {
 
 fn measure(p: &Problem, o: &Options, row: &mut Row) {
     let sheet = p.sheet();
-    let (twin, twin_time) = timed(|| independent::read(&sheet).ok().and_then(|p| twin::plan(&p, o.cut, o.limit)));
+    let (twin, twin_time) = timed(|| independent::read(&sheet).ok().and_then(|p| twin::plan(&p, o.limit)));
     let Some(twin) = twin else {
         row.over += 1;
         row.steps.push(u64::MAX);

@@ -6,16 +6,11 @@ use crate::problem::{Item, Problem};
 /// What stands for an absent bound.
 const REACH: i64 = 300_000_000;
 
-/// How many weights below the limit the lattice cut tries.
-const TRIES: i64 = 8;
+/// How many changes of weight the lattice cut looks at.
+const TRIES: i64 = 100;
 
-/// How a run is cut when no continuous item is free: its bound rounded down to the grid of prices; or by the lattice of weights and
-/// prices.
-#[derive(Clone, Copy, PartialEq)]
-pub enum Cut {
-    Grid,
-    Lattice,
-}
+/// Stands for gap 0: beyond all worths of a search.
+const FAR: i64 = 100_000_000;
 
 pub struct Outcome {
     pub text: String,
@@ -31,7 +26,7 @@ struct Ends {
 }
 
 /// By item: weight, price, rank. By rank, in the order of filling: item, size and rate (weight and price without the weight's sign).
-/// By level, in the order of branching: item, grid and lattice.
+/// By level, in the order of branching: item and lattice.
 #[derive(Default)]
 struct Setting {
     count: usize,
@@ -47,7 +42,6 @@ struct Setting {
     levels: usize,
     level: [usize; 16],
     free: bool,
-    grid: [i64; 16],
     lattice: [Lattice; 16],
     pairs: Vec<Option<(i64, i64)>>,
 }
@@ -122,7 +116,7 @@ fn branching_order(p: &Problem, s: &Setting) -> Vec<usize> {
     let f = s.fill(&s.ends);
     let (c, a) = if f.room >= 0 && f.at < s.live { (s.rate[f.at], s.size[f.at]) } else { (0, 1) };
     let mut order: Vec<usize> = (0..s.count).filter(|&k| p.items[k].integer).collect();
-    order.sort_by_key(|&k| -(a * s.price[k] - c * s.weight[k]).abs());
+    order.sort_by_key(|&k| if s.weight[k] == 0 { 1 } else { -(a * s.price[k] - c * s.weight[k]).abs() });
     order
 }
 
@@ -146,14 +140,28 @@ fn prepare(p: &Problem) -> Setting {
     }
     s.free = p.items.iter().any(|i| !i.integer && (i.lower.is_none() || i.lower != i.upper));
     let mut lattice = Lattice::default();
-    let mut grid = 0;
     for d in (0..s.levels).rev() {
         let k = s.level[d];
-        grid = gcd(s.price[k], grid);
         lattice = lattice.with(s.weight[k], s.price[k]);
-        (s.grid[d], s.lattice[d]) = (grid, lattice);
+        s.lattice[d] = lattice;
     }
     s
+}
+
+/// How far a search has to go, by the problem's own figures.
+fn reach(p: &Problem) -> i64 {
+    let weight = p.items.iter().map(|i| i.weight.abs()).max().unwrap_or(0);
+    let bound = p.items.iter().flat_map(|i| [i.lower, i.upper]).flatten().map(i64::abs).max().unwrap_or(0);
+    p.limit.abs() + 16 * weight * (bound + weight) + weight + bound
+}
+
+impl Setting {
+    /// No end lies beyond r.
+    fn narrow(&mut self, r: i64) {
+        for end in self.ends.lo.iter_mut().chain(&mut self.ends.hi) {
+            *end = (*end).clamp(-r, r);
+        }
+    }
 }
 
 // ---- domination pairs
@@ -325,7 +333,6 @@ enum Settled {
 
 struct Search<'a> {
     s: &'a Setting,
-    cut: Cut,
     path: Path,
     best: Option<Incumbent>,
     steps: u64,
@@ -363,21 +370,7 @@ impl Search<'_> {
         let Some(best) = self.best else {
             return false;
         };
-        if self.s.free {
-            return !less(best.value, self.s.bound(f));
-        }
-        match self.cut {
-            Cut::Grid => self.off_grid(f, d, best.value.whole),
-            Cut::Lattice => self.off_lattice(f, d, best.value.whole),
-        }
-    }
-
-    /// The bound rounded down to the grid is not above b.
-    fn off_grid(&self, f: Fill, d: usize, b: i64) -> bool {
-        let bound = self.s.bound(f).whole;
-        let g = self.s.grid[d];
-        let rest = if g == 0 { 0 } else { (bound - f.worth) % g };
-        bound - rest <= b
+        !less(best.value, self.s.bound(f)) || !self.s.free && self.off_lattice(f, d, best.value.whole)
     }
 
     /// No point of the lattice within the limit and under the relaxation is worth more than b; the heaviest weights are tried.
@@ -385,22 +378,17 @@ impl Search<'_> {
         let s = self.s;
         let l = s.lattice[d];
         if f.at >= s.live || l.weight == 0 {
-            return self.off_grid(f, d, b);
+            return false;
         }
         let (rate, size) = (s.rate[f.at], s.size[f.at]);
+        let gap = if l.gap == 0 { FAR } else { l.gap };
         let heaviest = f.room / l.weight;
         for n in (heaviest - TRIES + 1..=heaviest).rev() {
             let top = f.worth + (rate * l.weight * n).div_euclid(size);
             if top <= b {
                 return true;
             }
-            let on = f.worth + l.price * n;
-            let highest = match l.gap {
-                0 if on <= top => on,
-                0 => continue,
-                gap => top - (top - on).rem_euclid(gap),
-            };
-            if highest > b {
+            if top - (top - f.worth - l.price * n).rem_euclid(gap) > b {
                 return false;
             }
         }
@@ -568,7 +556,7 @@ fn unbounded_text(s: &Setting, steps: &[i64; 16]) -> String {
 }
 
 /// The reply, and the steps of the search; none if it takes more than `limit`.
-pub fn plan(p: &Problem, cut: Cut, limit: u64) -> Option<Outcome> {
+pub fn plan(p: &Problem, limit: u64) -> Option<Outcome> {
     let mut s = prepare(p);
     if s.begin(&s.ends).room < 0 {
         return Some(Outcome { text: "infeasible\n".into(), steps: 0 });
@@ -576,8 +564,9 @@ pub fn plan(p: &Problem, cut: Cut, limit: u64) -> Option<Outcome> {
     if let Some(steps) = ray(p) {
         return Some(Outcome { text: unbounded_text(&s, &steps), steps: 0 });
     }
+    s.narrow(reach(p));
     s.pairs = pair_table(p);
-    let mut search = Search { s: &s, cut, path: Path::default(), best: None, steps: 0 };
+    let mut search = Search { s: &s, path: Path::default(), best: None, steps: 0 };
     if !search.run(limit) {
         return None;
     }

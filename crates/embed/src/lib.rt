@@ -9,7 +9,9 @@ use listing::Listed;
 use listing::ROOM;
 use listing::hand_over;
 use pairing::pairs_of;
+use prepare::narrowed;
 use prepare::prepare;
+use prepare::reach_of;
 use rays::find_ray;
 use replies::reply_to;
 use search::run;
@@ -63,8 +65,9 @@ fn searched(p: Problem) -> u64
     if ray.found {
         return 0;
     }
+    let near = narrowed(s, reach_of(p));
     let pairs = pairs_of(p);
-    let q = run(s, pairs);
+    let q = run(near, pairs);
     q.steps
 }
 

@@ -1,4 +1,9 @@
--- No ray: amounts beyond 300,000,000 are pointless. Whole steps towards 0, which do not lower the value, lead within that reach.
+-- No ray: amounts beyond a reach are pointless. Steps towards 0, which do not lower the value, lead within it.
+--   RangesAt A B C s    at most 16 items, weights within ±A, present bounds within ±B, the capacity within ±C
+--   Reaches A B C R     R is a reach for such problems
+--   shutAt R s          s with its absent bounds at ±R
+-- reach-at-most-at, reach-empty-at, reach-optimal-at: what holds of shutAt R s holds of s.
+-- Ranges, shut, reach-at-most, reach-empty, reach-optimal: the same at the limits of the format, where 300,000,000 is a reach.
 use mathlib.Core.Path.{_≡_, refl, sym, ap, ap₂, _∙_, subst, subst₂}
 use mathlib.Core.Logic.{_↔_, _≢_, _⊎_, inl, inr}
 use Prim.Native.Nat.{ℕ, zero, suc, _+_, _*_, _-_, _≤_, _<_}
@@ -12,14 +17,15 @@ use Rattle.arith.proofs.Sums.{bump-other, each-bump, sum-bump, sum-scale, part-
 use Rattle.arith.specs.Sum.{sum, Each, bump}
 use Rattle.knapsack.proofs.Branch.{AtMost, boxed, into-box}
 use Rattle.knapsack.proofs.Climb.{descend}
-use Rattle.knapsack.proofs.Common.{KeepsLowerᴰ, KeepsUpperᴰ, Keepsᴰ, weighsᴰ, valueᴰ, Feasibleᴰ, Optimalᴰ}
+use Rattle.knapsack.proofs.Common.{KeepsMarkᴰ, KeepsLowerᴰ, KeepsUpperᴰ, Keepsᴰ, weighsᴰ, valueᴰ, Feasibleᴰ, Optimalᴰ}
 use Rattle.knapsack.proofs.Dual.{Within, within}
-use Rattle.knapsack.proofs.Moves.{keeps-step, shift, sum-shift, keeps-shift}
+use Rattle.knapsack.proofs.Moves.{mark-step, shift, sum-shift, keeps-shift}
 use Rattle.knapsack.specs.Meaning.{Instance, weights, prices}
 use Rattle.knapsack.specs.declared.Bound.{Bound}
 use Rattle.knapsack.specs.declared.Bound.the-variants.{Absent, At}
 use Rattle.knapsack.specs.declared.Item.{Item}
 use Rattle.knapsack.specs.declared.Mark.{Mark}
+use Rattle.knapsack.specs.declared.Mark.the-variants.{Integer, Continuous}
 
 -- ---- directions
 
@@ -42,16 +48,21 @@ pub record NoRay (s : Instance) : Type 0 where
       → pos 0 <ℤ turn v (weights s i) → pos 0 <ℤ turn v (prices s i) → turn w (weights s j) <ℤ pos 0
       → (turn v (prices s i) *ℤ negℤ (turn w (weights s j)) +ℤ turn w (prices s j) *ℤ turn v (weights s i)) ≤ℤ pos 0
 
-abbrev pub Around : Bound → Type 0
-Around Absent = Unit {0}
-Around (At b) = natAbs b ≤ 10000
+abbrev pub AroundAt : ℕ → Bound → Type 0
+AroundAt B Absent = Unit {0}
+AroundAt B (At b) = natAbs b ≤ B
 
-pub record Ranges (s : Instance) : Type 0 where
+pub record RangesAt (A B C : ℕ) (s : Instance) : Type 0 where
   pub few : s .count ≤ 16
-  pub light : (k : ℕ) → k < s .count → natAbs (weights s k) ≤ 1000
-  pub lowers : (k : ℕ) → k < s .count → Around (s .item k .lower)
-  pub uppers : (k : ℕ) → k < s .count → Around (s .item k .upper)
-  pub limited : natAbs (s .capacity) ≤ 100000000
+  pub light : (k : ℕ) → k < s .count → natAbs (weights s k) ≤ A
+  pub lowers : (k : ℕ) → k < s .count → AroundAt B (s .item k .lower)
+  pub uppers : (k : ℕ) → k < s .count → AroundAt B (s .item k .upper)
+  pub limited : natAbs (s .capacity) ≤ C
+
+-- beyond B + A an item may go back; where none does, the capacity and the other terms hold the weight of each within C + 16 * (A * (B + A)) + A
+pub record Reaches (A B C R : ℕ) : Type 0 where
+  pub enough : C + 16 * (A * (B + A)) + A ≤ R
+  pub far : B + A ≤ R
 
 -- the way from 0 to n
 abbrev pub way : ℤ → Way
@@ -65,70 +76,88 @@ ahead a (negsuc n) = flip a
     flip : (a : ℤ) → a *ℤ negsuc n ≡ negℤ a *ℤ pos (suc n)
     flip = split _ (λ a b. simp zed (omega arith))
 
--- ---- a far amount n / D may go u units back
+-- ---- a far amount n / D may go e / D back
 
-pub record Back (D u : ℕ) (i : Item) (n : ℤ) : Type 0 where
+pub record Back (D e : ℕ) (i : Item) (n : ℤ) : Type 0 where
   pub free : Free (way n) i
-  pub inside : Within D i (n +ℤ turn (way n) (negℤ (pos u)) *ℤ pos D)
-  pub nearer : natAbs ((n +ℤ turn (way n) (negℤ (pos u)) *ℤ pos D) -ℤ pos 0) + u * D ≤ natAbs (n -ℤ pos 0)
+  pub inside : Within D i (n +ℤ turn (way n) (negℤ (pos e)))
+  pub nearer : natAbs ((n +ℤ turn (way n) (negℤ (pos e))) -ℤ pos 0) + e ≤ natAbs (n -ℤ pos 0)
 
-diff : (a c : ℕ) → (a - c) + (c - a) ≤ 10000 → (a ≤ 10000 + c) × (c ≤ 10000 + a)
-diff a c h = (omega arith, omega arith)
+diff : (B a c : ℕ) → (a - c) + (c - a) ≤ B → (a ≤ B + c) × (c ≤ B + a)
+diff B a c h = (omega arith, omega arith)
 
-back : (D u : ℕ) (i : Item) (n : ℤ) → Around (i .lower) → Around (i .upper) → Within D i n → (10000 + u) * D < natAbs n → Back D u i n
-back D u i (pos m) al au k h = record { free = free (i .upper) au (k .below); inside = record { above = lo (i .lower) al; below = up (i .upper) (k .below) }; nearer = near }
+back : (B D e : ℕ) (i : Item) (n : ℤ) → AroundAt B (i .lower) → AroundAt B (i .upper) → Within D i n → B * D < natAbs n → B * D + e ≤ natAbs n → Back D e i n
+back B D e i (pos m) al au k h h′ = record { free = free (i .upper) au (k .below); inside = record { above = lo (i .lower) al; below = up (i .upper) (k .below) }; nearer = near }
   where
-    over : (b : ℤ) → natAbs b ≤ 10000 → pos m ≤ℤ (b *ℤ pos D) → ⊥
-    over = split _ (λ a c. simp zed (λ e f. omega (arith, mul-le-mul-right D (diff a c e .0))))
+    over : (b : ℤ) → natAbs b ≤ B → pos m ≤ℤ (b *ℤ pos D) → ⊥
+    over = split _ (λ a c. simp zed (λ r f. omega (arith, mul-le-mul-right D (diff B a c r .0))))
 
-    free : (b : Bound) → Around b → KeepsUpperᴰ D b (pos m) → b ≡ Absent
+    free : (b : Bound) → AroundAt B b → KeepsUpperᴰ D b (pos m) → b ≡ Absent
     free Absent r f = refl
     free (At b) r f = absurd (over b r f)
 
-    lo′ : (b : ℤ) → natAbs b ≤ 10000 → (b *ℤ pos D) ≤ℤ (pos m +ℤ negℤ (pos u) *ℤ pos D)
-    lo′ = split _ (λ a c. simp zed (λ e. omega (arith, mul-le-mul-right D (diff a c e .0))))
+    lo′ : (b : ℤ) → natAbs b ≤ B → (b *ℤ pos D) ≤ℤ (pos m +ℤ negℤ (pos e))
+    lo′ = split _ (λ a c. simp zed (λ r. omega (arith, mul-le-mul-right D (diff B a c r .0))))
 
-    lo : (b : Bound) → Around b → KeepsLowerᴰ D b (pos m +ℤ negℤ (pos u) *ℤ pos D)
+    lo : (b : Bound) → AroundAt B b → KeepsLowerᴰ D b (pos m +ℤ negℤ (pos e))
     lo Absent r = tt
     lo (At b) r = lo′ b r
 
-    up′ : (b : ℤ) → pos m ≤ℤ (b *ℤ pos D) → (pos m +ℤ negℤ (pos u) *ℤ pos D) ≤ℤ (b *ℤ pos D)
+    up′ : (b : ℤ) → pos m ≤ℤ (b *ℤ pos D) → (pos m +ℤ negℤ (pos e)) ≤ℤ (b *ℤ pos D)
     up′ = split _ (λ a c. simp zed (omega arith))
 
-    up : (b : Bound) → KeepsUpperᴰ D b (pos m) → KeepsUpperᴰ D b (pos m +ℤ negℤ (pos u) *ℤ pos D)
+    up : (b : Bound) → KeepsUpperᴰ D b (pos m) → KeepsUpperᴰ D b (pos m +ℤ negℤ (pos e))
     up Absent f = tt
     up (At b) f = up′ b f
 
-    near : natAbs ((pos m +ℤ negℤ (pos u) *ℤ pos D) -ℤ pos 0) + u * D ≤ natAbs (pos m -ℤ pos 0)
+    near : natAbs ((pos m +ℤ negℤ (pos e)) -ℤ pos 0) + e ≤ natAbs (pos m -ℤ pos 0)
     near = simp zed (omega arith)
-back D u i (negsuc m) al au k h = record { free = free (i .lower) al (k .above); inside = record { above = lo (i .lower) (k .above); below = up (i .upper) au }; nearer = near }
+back B D e i (negsuc m) al au k h h′ = record { free = free (i .lower) al (k .above); inside = record { above = lo (i .lower) (k .above); below = up (i .upper) au }; nearer = near }
   where
-    over : (b : ℤ) → natAbs b ≤ 10000 → (b *ℤ pos D) ≤ℤ negsuc m → ⊥
-    over = split _ (λ a c. simp zed (λ e f. omega (arith, mul-le-mul-right D (diff a c e .1))))
+    over : (b : ℤ) → natAbs b ≤ B → (b *ℤ pos D) ≤ℤ negsuc m → ⊥
+    over = split _ (λ a c. simp zed (λ r f. omega (arith, mul-le-mul-right D (diff B a c r .1))))
 
-    free : (b : Bound) → Around b → KeepsLowerᴰ D b (negsuc m) → b ≡ Absent
+    free : (b : Bound) → AroundAt B b → KeepsLowerᴰ D b (negsuc m) → b ≡ Absent
     free Absent r f = refl
     free (At b) r f = absurd (over b r f)
 
-    up′ : (b : ℤ) → natAbs b ≤ 10000 → (negsuc m +ℤ negℤ (negℤ (pos u)) *ℤ pos D) ≤ℤ (b *ℤ pos D)
-    up′ = split _ (λ a c. simp zed (λ e. omega (arith, mul-le-mul-right D (diff a c e .1))))
+    up′ : (b : ℤ) → natAbs b ≤ B → (negsuc m +ℤ negℤ (negℤ (pos e))) ≤ℤ (b *ℤ pos D)
+    up′ = split _ (λ a c. simp zed (λ r. omega (arith, mul-le-mul-right D (diff B a c r .1))))
 
-    up : (b : Bound) → Around b → KeepsUpperᴰ D b (negsuc m +ℤ negℤ (negℤ (pos u)) *ℤ pos D)
+    up : (b : Bound) → AroundAt B b → KeepsUpperᴰ D b (negsuc m +ℤ negℤ (negℤ (pos e)))
     up Absent r = tt
     up (At b) r = up′ b r
 
-    lo′ : (b : ℤ) → (b *ℤ pos D) ≤ℤ negsuc m → (b *ℤ pos D) ≤ℤ (negsuc m +ℤ negℤ (negℤ (pos u)) *ℤ pos D)
+    lo′ : (b : ℤ) → (b *ℤ pos D) ≤ℤ negsuc m → (b *ℤ pos D) ≤ℤ (negsuc m +ℤ negℤ (negℤ (pos e)))
     lo′ = split _ (λ a c. simp zed (omega arith))
 
-    lo : (b : Bound) → KeepsLowerᴰ D b (negsuc m) → KeepsLowerᴰ D b (negsuc m +ℤ negℤ (negℤ (pos u)) *ℤ pos D)
+    lo : (b : Bound) → KeepsLowerᴰ D b (negsuc m) → KeepsLowerᴰ D b (negsuc m +ℤ negℤ (negℤ (pos e)))
     lo Absent f = tt
     lo (At b) f = lo′ b f
 
-    near′ : (n : ℤ) → n ≡ negsuc m → natAbs ((n +ℤ negℤ (negℤ (pos u)) *ℤ pos D) -ℤ pos 0) + u * D ≤ natAbs (n -ℤ pos 0)
+    near′ : (n : ℤ) → n ≡ negsuc m → natAbs ((n +ℤ negℤ (negℤ (pos e))) -ℤ pos 0) + e ≤ natAbs (n -ℤ pos 0)
     near′ = split _ (λ a b. simp zed (omega arith))
 
-    near : natAbs ((negsuc m +ℤ negℤ (negℤ (pos u)) *ℤ pos D) -ℤ pos 0) + u * D ≤ natAbs (negsuc m -ℤ pos 0)
+    near : natAbs ((negsuc m +ℤ negℤ (negℤ (pos e))) -ℤ pos 0) + e ≤ natAbs (negsuc m -ℤ pos 0)
     near = near′ (negsuc m) refl
+
+-- u units back is a whole step
+units : (D u : ℕ) (w : Way) → turn w (negℤ (pos u)) *ℤ pos D ≡ turn w (negℤ (pos (u * D)))
+units D u fore = simp zed (omega arith)
+units D u aft = simp zed (omega arith)
+
+one-unit : (D : ℕ) (w : Way) → turn w (negℤ (pos 1)) *ℤ pos D ≡ turn w (negℤ (pos D))
+one-unit D fore = simp zed (omega arith)
+one-unit D aft = simp zed (omega arith)
+
+-- F units from 0 is a whole amount
+resting : (D F : ℕ) (m : Mark) (n : ℤ) → F * D < natAbs n → KeepsMarkᴰ D m (n +ℤ turn (way n) (negℤ (pos (natAbs n - F * D))))
+resting D F Continuous n h = tt
+resting D F Integer (pos m) h = (pos F, simp zed (omega arith))
+resting D F Integer (negsuc m) h = (negℤ (pos F), go (negsuc m) refl)
+  where
+    go : (n : ℤ) → n ≡ negsuc m → n +ℤ negℤ (negℤ (pos (suc m - F * D))) ≡ negℤ (pos F) *ℤ pos D
+    go = split _ (λ a b. simp zed (omega arith))
 
 -- ---- effects
 
@@ -146,6 +175,15 @@ abs-up aft = split _ (λ a b. simp zed (omega arith))
 pub abs-dn : (w : Way) (a : ℤ) → turn w a <ℤ pos 0 → pos (natAbs a) ≡ negℤ (turn w a)
 abs-dn fore = split _ (λ a b. simp zed (omega arith))
 abs-dn aft = split _ (λ a b. simp zed (omega arith))
+
+-- what has a sign is something
+some-up : (w : Way) (a : ℤ) → pos 0 <ℤ turn w a → 1 ≤ natAbs a
+some-up fore = split _ (λ a b. simp zed (omega arith))
+some-up aft = split _ (λ a b. simp zed (omega arith))
+
+some-dn : (w : Way) (a : ℤ) → turn w a <ℤ pos 0 → 1 ≤ natAbs a
+some-dn fore = split _ (λ a b. simp zed (omega arith))
+some-dn aft = split _ (λ a b. simp zed (omega arith))
 
 -- the sign of a product with a natural number
 sign-up : (x : ℤ) (m c : ℕ) → pos c <ℤ (x *ℤ pos m) → pos 0 <ℤ x
@@ -173,7 +211,8 @@ weak< = split2 _ (λ a b c e. simp zed (omega arith))
 
 -- ---- moves
 
-module _ (s : Instance) (D : ℕ) (D≥1 : 1 ≤ D) (g : Ranges s) (nr : NoRay s) where
+-- an item farther than F may step back; a term beyond G is one of such an item
+module _ (A B C F G R : ℕ) (F-far : B + A ≤ F) (G-far : A * F ≤ G) (R-enough : C + 16 * G + A ≤ R) (R-far : F ≤ R) (s : Instance) (D : ℕ) (D≥1 : 1 ≤ D) (g : RangesAt A B C s) (nr : NoRay s) where
   size : (ℕ → ℤ) → ℕ
   size = far (s .count) (λ k. pos 0)
 
@@ -181,46 +220,37 @@ module _ (s : Instance) (D : ℕ) (D≥1 : 1 ≤ D) (g : Ranges s) (nr : NoRay s
   abbrev Next : (ℕ → ℤ) → Type 0
   Next N = (N′ : ℕ → ℤ) × Feasibleᴰ s D N′ × (valueᴰ s N ≤ℤ valueᴰ s N′) × (size N′ < size N)
 
-  -- one item goes one unit back
-  ease : (N : ℕ → ℤ) → Feasibleᴰ s D N → (i : ℕ) → i < s .count → (b : Back D 1 (s .item i) (N i))
-      → (weighsᴰ s N -ℤ turn (way (N i)) (weights s i) *ℤ pos D) ≤ℤ (s .capacity *ℤ pos D) → turn (way (N i)) (prices s i) ≤ℤ pos 0 → Next N
+  -- one item goes back
+  ease : (N : ℕ → ℤ) → Feasibleᴰ s D N → (i : ℕ) → i < s .count → (e : ℕ) → 1 ≤ e → (b : Back D e (s .item i) (N i)) → KeepsMarkᴰ D (s .item i .mark) (N i +ℤ turn (way (N i)) (negℤ (pos e)))
+      → (weighsᴰ s N -ℤ turn (way (N i)) (weights s i) *ℤ pos e) ≤ℤ (s .capacity *ℤ pos D) → turn (way (N i)) (prices s i) ≤ℤ pos 0 → Next N
   unfolding size
-  ease N p i li b room loss = (
-    bump N i (r *ℤ pos D),
+  ease N p i li e e≥1 b m room loss = (
+    bump N i r,
     record {
-      keeps = each-bump (λ k. Keepsᴰ D (s .item k)) N i (r *ℤ pos D) (s .count) (p .keeps) (keeps-step D (s .item i) (N i) r (p .keeps i li) (b .inside));
-      fits = rw (sum-bump (s .count) (weights s) N i (r *ℤ pos D) li, effect (weights s i)) (less (weighsᴰ s N) (turn (way (N i)) (weights s i)) (s .capacity *ℤ pos D) room);
+      keeps = each-bump (λ k. Keepsᴰ D (s .item k)) N i r (s .count) (p .keeps) (record { marked = m; above = b .inside .above; below = b .inside .below });
+      fits = rw (sum-bump (s .count) (weights s) N i r li, turn-mul (way (N i)) (weights s i) (negℤ (pos e))) (less (weighsᴰ s N) (turn (way (N i)) (weights s i)) (s .capacity *ℤ pos D) room);
     },
-    rw (sum-bump (s .count) (prices s) N i (r *ℤ pos D) li, effect (prices s i)) (more (valueᴰ s N) (turn (way (N i)) (prices s i)) loss),
-    omega (arith, far-bump (s .count) (λ k. pos 0) N i (r *ℤ pos D) (1 * D) li (b .nearer), D≥1),
+    rw (sum-bump (s .count) (prices s) N i r li, turn-mul (way (N i)) (prices s i) (negℤ (pos e))) (more (valueᴰ s N) (turn (way (N i)) (prices s i)) loss),
+    omega (arith, far-bump (s .count) (λ k. pos 0) N i r e li (b .nearer), e≥1),
   )
     where
       r : ℤ
-      r = turn (way (N i)) (negℤ (pos 1))
+      r = turn (way (N i)) (negℤ (pos e))
 
-      assoc : (a r : ℤ) → a *ℤ (r *ℤ pos D) ≡ (a *ℤ r) *ℤ pos D
-      assoc = split2 _ (λ a b c e. simp zed (omega arith))
-
-      unit : (x : ℤ) → (x *ℤ negℤ (pos 1)) *ℤ pos D ≡ negℤ x *ℤ pos D
-      unit = split _ (λ a b. simp zed (omega arith))
-
-      effect : (a : ℤ) → a *ℤ (r *ℤ pos D) ≡ negℤ (turn (way (N i)) a) *ℤ pos D
-      effect a = assoc a r ∙ ap (λ z. z *ℤ pos D) (turn-mul (way (N i)) a (negℤ (pos 1))) ∙ unit (turn (way (N i)) a)
-
-      less : (w x l : ℤ) → (w -ℤ x *ℤ pos D) ≤ℤ l → (w +ℤ negℤ x *ℤ pos D) ≤ℤ l
+      less : (w x l : ℤ) → (w -ℤ x *ℤ pos e) ≤ℤ l → (w +ℤ x *ℤ negℤ (pos e)) ≤ℤ l
       less = split3 _ (λ a b c e f g. simp zed (omega arith))
 
-      more : (v x : ℤ) → x ≤ℤ pos 0 → v ≤ℤ (v +ℤ negℤ x *ℤ pos D)
-      more = split2 _ (λ a b c e. simp zed (λ h. omega (arith, mul-le-mul-left D h)))
+      more : (v x : ℤ) → x ≤ℤ pos 0 → v ≤ℤ (v +ℤ x *ℤ negℤ (pos e))
+      more = split2 _ (λ a b c f. simp zed (λ h. omega (arith, mul-le-mul-left e h)))
 
   -- a heavy item goes back, and a light one to the same weight
-  swap : (N : ℕ → ℤ) → Feasibleᴰ s D N → (i j : ℕ) → i < s .count → j < s .count → j ≢ i → (b : Back D (natAbs (weights s j)) (s .item i) (N i)) → (e : Back D (natAbs (weights s i)) (s .item j) (N j))
+  swap : (N : ℕ → ℤ) → Feasibleᴰ s D N → (i j : ℕ) → i < s .count → j < s .count → j ≢ i → (b : Back D (natAbs (weights s j) * D) (s .item i) (N i)) → (e : Back D (natAbs (weights s i) * D) (s .item j) (N j))
       → pos 0 <ℤ turn (way (N i)) (weights s i) → pos 0 <ℤ turn (way (N i)) (prices s i) → turn (way (N j)) (weights s j) <ℤ pos 0 → Next N
   unfolding size
   swap N p i j li lj ne b e hw hp lw = (
     shift D N i r j t,
     record {
-      keeps = keeps-shift s D N i j r t li lj ne (p .keeps) (b .inside) (e .inside);
+      keeps = keeps-shift s D N i j r t li lj ne (p .keeps) (rw (units D (natAbs (weights s j)) (way (N i))) (b .inside)) (rw (units D (natAbs (weights s i)) (way (N j))) (e .inside));
       fits = rw (sum-shift (s .count) D (weights s) N i j r t li lj, effect (weights s)) (same (weighsᴰ s N) (s .capacity *ℤ pos D) (turn (way (N i)) (weights s i)) (turn (way (N j)) (weights s j)) (p .fits));
     },
     rw (sum-shift (s .count) D (prices s) N i j r t li lj, effect (prices s)) (more (valueᴰ s N) _ (opp (turn (way (N i)) (prices s i)) (turn (way (N j)) (prices s j)) (turn (way (N i)) (weights s i)) (turn (way (N j)) (weights s j)) (nr .two i j li lj (way (N i)) (way (N j)) (b .free) (e .free) hw hp lw))),
@@ -253,197 +283,258 @@ module _ (s : Instance) (D : ℕ) (D≥1 : 1 ≤ D) (g : Ranges s) (nr : NoRay s
       1≤ = split _ (λ a b m. simp zed (omega arith))
 
       first : far (s .count) (λ k. pos 0) (bump N i (r *ℤ pos D)) + natAbs (weights s j) * D ≤ far (s .count) (λ k. pos 0) N
-      first = far-bump (s .count) (λ k. pos 0) N i (r *ℤ pos D) (natAbs (weights s j) * D) li (b .nearer)
+      first = far-bump (s .count) (λ k. pos 0) N i (r *ℤ pos D) (natAbs (weights s j) * D) li (rw (units D (natAbs (weights s j)) (way (N i))) (b .nearer))
 
       second : far (s .count) (λ k. pos 0) (shift D N i r j t) + natAbs (weights s i) * D ≤ far (s .count) (λ k. pos 0) (bump N i (r *ℤ pos D))
-      second = far-bump (s .count) (λ k. pos 0) (bump N i (r *ℤ pos D)) j (t *ℤ pos D) (natAbs (weights s i) * D) lj (rw (bump-other N i (r *ℤ pos D) j ne) (e .nearer))
+      second = far-bump (s .count) (λ k. pos 0) (bump N i (r *ℤ pos D)) j (t *ℤ pos D) (natAbs (weights s i) * D) lj (rw (bump-other N i (r *ℤ pos D) j ne, units D (natAbs (weights s i)) (way (N j))) (e .nearer))
 
   -- ---- where no move is left
 
-  abbrev pub Near : (ℕ → ℤ) → Type 0
-  Near N = (k : ℕ) → k < s .count → natAbs (N k) ≤ 300000000 * D
+  abbrev Near : (ℕ → ℤ) → Type 0
+  Near N = (k : ℕ) → k < s .count → natAbs (N k) ≤ R * D
 
   -- an item that weighs something is no farther than its weight
   abbrev Held : (ℕ → ℤ) → ℕ → Type 0
-  Held N k = (natAbs (N k) ≤ 11000 * D) ⊎ (1 ≤ natAbs (weights s k))
+  Held N k = (natAbs (N k) ≤ F * D) ⊎ (1 ≤ natAbs (weights s k))
 
-  held : (N : ℕ → ℤ) (k : ℕ) → Held N k → natAbs (weights s k *ℤ N k) ≤ 276001000 * D → natAbs (N k) ≤ 300000000 * D
-  held N k (inl h) l = omega arith
-  held N k (inr h) l = omega (arith, natAbs-mul (weights s k) (N k), mul-le-mul-right (natAbs (N k)) h)
+  held : (N : ℕ → ℤ) (k : ℕ) → Held N k → natAbs (weights s k *ℤ N k) ≤ (C + 16 * G + A) * D → natAbs (N k) ≤ R * D
+  held N k (inl h) l = omega (arith, mul-le-mul-right D R-far)
+  held N k (inr h) l = omega (arith, natAbs-mul (weights s k) (N k), mul-le-mul-right (natAbs (N k)) h, mul-le-mul-right D R-enough)
 
-  limits : (l : ℤ) → natAbs l ≤ 100000000 → ((l *ℤ pos D) ≤ℤ pos (100000000 * D)) × (negℤ (pos (100000000 * D)) ≤ℤ (l *ℤ pos D))
+  limits : (l : ℤ) → natAbs l ≤ C → ((l *ℤ pos D) ≤ℤ pos (C * D)) × (negℤ (pos (C * D)) ≤ℤ (l *ℤ pos D))
   limits = split _ (λ a b. simp zed (λ h. (omega (arith, mul-le-mul-right D (one a b h)), omega (arith, mul-le-mul-right D (one b a (swp a b h))))))
     where
-      swp : (a b : ℕ) → (a - b) + (b - a) ≤ 100000000 → (b - a) + (a - b) ≤ 100000000
+      swp : (a b : ℕ) → (a - b) + (b - a) ≤ C → (b - a) + (a - b) ≤ C
       swp a b h = omega arith
 
-      one : (a b : ℕ) → (a - b) + (b - a) ≤ 100000000 → a ≤ 100000000 + b
+      one : (a b : ℕ) → (a - b) + (b - a) ≤ C → a ≤ C + b
       one a b h = omega arith
 
-  -- count * (11,000,000 * D)
-  many : s .count * (11000000 * D) ≤ 176000000 * D
-  many = omega (arith, mul-le-mul-right (11000000 * D) (g .few))
+  many : s .count * (G * D) ≤ 16 * (G * D)
+  many = mul-le-mul-right (G * D) (g .few)
 
-  near-low : (N : ℕ → ℤ) → Feasibleᴰ s D N → Each (s .count) (Held N) → Each (s .count) (λ k. negℤ (pos (11000000 * D)) ≤ℤ (weights s k *ℤ N k)) → Near N
-  near-low N p h low k l = held N k (h k l) (fin (weights s k *ℤ N k) (weighsᴰ s N) (s .capacity *ℤ pos D) (s .count * (11000000 * D)) many (p .fits) (limits (s .capacity) (g .limited) .0) (low k l)
-      (part-of-sum (s .count) (λ j. weights s j *ℤ N j) (11000000 * D) low k l))
+  near-low : (N : ℕ → ℤ) → Feasibleᴰ s D N → Each (s .count) (Held N) → Each (s .count) (λ k. negℤ (pos (G * D)) ≤ℤ (weights s k *ℤ N k)) → Near N
+  near-low N p h low k l = held N k (h k l) (fin (weights s k *ℤ N k) (weighsᴰ s N) (s .capacity *ℤ pos D) (s .count * (G * D)) many (p .fits) (limits (s .capacity) (g .limited) .0) (low k l)
+      (part-of-sum (s .count) (λ j. weights s j *ℤ N j) (G * D) low k l))
     where
-      fin : (y w l : ℤ) (m : ℕ) → m ≤ 176000000 * D → w ≤ℤ l → l ≤ℤ pos (100000000 * D) → negℤ (pos (11000000 * D)) ≤ℤ y → y ≤ℤ (w +ℤ pos m) → natAbs y ≤ 276001000 * D
+      fin : (y w l : ℤ) (m : ℕ) → m ≤ 16 * (G * D) → w ≤ℤ l → l ≤ℤ pos (C * D) → negℤ (pos (G * D)) ≤ℤ y → y ≤ℤ (w +ℤ pos m) → natAbs y ≤ (C + 16 * G + A) * D
       fin = split3 _ (λ a b c e f g m. simp zed (omega arith))
 
-  near-high : (N : ℕ → ℤ) → Each (s .count) (Held N) → Each (s .count) (λ k. (weights s k *ℤ N k) ≤ℤ pos (11000000 * D)) → (s .capacity *ℤ pos D) ≤ℤ (weighsᴰ s N +ℤ pos (1000 * D)) → Near N
-  near-high N h high full k l = held N k (h k l) (fin (weights s k *ℤ N k) (weighsᴰ s N) (s .capacity *ℤ pos D) (s .count * (11000000 * D)) many full (limits (s .capacity) (g .limited) .1) (high k l)
-      (rw (sum-scale (s .count) (negsuc 0) (λ j. weights s j *ℤ N j)) at (part-of-sum (s .count) (λ j. negsuc 0 *ℤ (weights s j *ℤ N j)) (11000000 * D) (λ j m. flip (weights s j *ℤ N j) (high j m)) k l)))
+  near-high : (N : ℕ → ℤ) → Each (s .count) (Held N) → Each (s .count) (λ k. (weights s k *ℤ N k) ≤ℤ pos (G * D)) → (s .capacity *ℤ pos D) ≤ℤ (weighsᴰ s N +ℤ pos (A * D)) → Near N
+  near-high N h high full k l = held N k (h k l) (fin (weights s k *ℤ N k) (weighsᴰ s N) (s .capacity *ℤ pos D) (s .count * (G * D)) many full (limits (s .capacity) (g .limited) .1) (high k l)
+      (rw (sum-scale (s .count) (negsuc 0) (λ j. weights s j *ℤ N j)) at (part-of-sum (s .count) (λ j. negsuc 0 *ℤ (weights s j *ℤ N j)) (G * D) (λ j m. flip (weights s j *ℤ N j) (high j m)) k l)))
     where
-      flip : (y : ℤ) → y ≤ℤ pos (11000000 * D) → negℤ (pos (11000000 * D)) ≤ℤ (negsuc 0 *ℤ y)
+      flip : (y : ℤ) → y ≤ℤ pos (G * D) → negℤ (pos (G * D)) ≤ℤ (negsuc 0 *ℤ y)
       flip = split _ (λ a b. simp zed (omega arith))
 
-      fin : (y w l : ℤ) (m : ℕ) → m ≤ 176000000 * D → l ≤ℤ (w +ℤ pos (1000 * D)) → negℤ (pos (100000000 * D)) ≤ℤ l → y ≤ℤ pos (11000000 * D) → (negsuc 0 *ℤ y) ≤ℤ (negsuc 0 *ℤ w +ℤ pos m) → natAbs y ≤ 276001000 * D
+      fin : (y w l : ℤ) (m : ℕ) → m ≤ 16 * (G * D) → l ≤ℤ (w +ℤ pos (A * D)) → negℤ (pos (C * D)) ≤ℤ l → y ≤ℤ pos (G * D) → (negsuc 0 *ℤ y) ≤ℤ (negsuc 0 *ℤ w +ℤ pos m) → natAbs y ≤ (C + 16 * G + A) * D
       fin = split3 _ (λ a b c e f g m. simp zed (omega arith))
 
-  step : (N : ℕ → ℤ) → Feasibleᴰ s D N → Near N ⊎ Next N
-  step N p = idle (find (s .count) (λ k. (11000 * D < natAbs (N k)) × (weights s k ≡ pos 0)) (Held N) (λ k. rests (weights s k) (decLt (11000 * D) (natAbs (N k)))))
+  -- a weight of at most A and a term beyond G: an amount beyond F
+  beyond : (a n : ℕ) → a ≤ A → G * D < a * n → Dec (F * D < n) → F * D < n
+  beyond a n h k (yes f) = f
+  beyond a n h k (no f) = absurd (clash (mul-le-mul h (bound f)))
     where
-      rests : (a : ℤ) → {n : ℕ} → Dec (11000 * D < n) → ((11000 * D < n) × (a ≡ pos 0)) ⊎ ((n ≤ 11000 * D) ⊎ (1 ≤ natAbs a))
+      bound : ¬ (F * D < n) → n ≤ F * D
+      bound f = omega arith
+
+      clash : a * n ≤ A * (F * D) → ⊥
+      clash l = omega (arith, mul-le-mul-right D G-far)
+
+  step : (N : ℕ → ℤ) → Feasibleᴰ s D N → Near N ⊎ Next N
+  step N p = idle (find (s .count) (λ k. (F * D < natAbs (N k)) × (weights s k ≡ pos 0)) (Held N) (λ k. rests (weights s k) (decLt (F * D) (natAbs (N k)))))
+    where
+      rests : (a : ℤ) → {n : ℕ} → Dec (F * D < n) → ((F * D < n) × (a ≡ pos 0)) ⊎ ((n ≤ F * D) ⊎ (1 ≤ natAbs a))
       rests a (no h) = inr (inl (omega arith))
       rests (pos zero) (yes h) = inl (h, refl)
       rests (pos (suc n)) (yes h) = inr (inr (omega arith))
       rests (negsuc n) (yes h) = inr (inr (omega arith))
 
-      other : {A B : Type 0} → A ⊎ B → B ⊎ A
+      other : {P Q : Type 0} → P ⊎ Q → Q ⊎ P
       other (inl a) = inr a
       other (inr b) = inl b
 
-      away : (u k : ℕ) → k < s .count → u ≤ 1000 → 11000 * D < natAbs (N k) → Back D u (s .item k) (N k)
-      away u k l h f = back D u (s .item k) (N k) (g .lowers k l) (g .uppers k l) (within (p .keeps k l)) (omega (arith, mul-le-mul-right D h))
+      away : (u k : ℕ) → k < s .count → u ≤ A → F * D < natAbs (N k) → Back D (u * D) (s .item k) (N k)
+      away u k l h f = back B D (u * D) (s .item k) (N k) (g .lowers k l) (g .uppers k l) (within (p .keeps k l)) (omega (arith, mul-le-mul-right D F-far)) (omega (arith, mul-le-mul-right D h, mul-le-mul-right D F-far))
+
+      -- one unit back, of an item that weighs something
+      unit : (k : ℕ) → k < s .count → 1 ≤ natAbs (weights s k) → F * D < natAbs (N k) → Back D D (s .item k) (N k)
+      unit k l h f = back B D D (s .item k) (N k) (g .lowers k l) (g .uppers k l) (within (p .keeps k l)) (omega (arith, mul-le-mul-right D F-far)) (omega (arith, mul-le-mul-right D h, mul-le-mul-right D (g .light k l), mul-le-mul-right D F-far))
+
+      whole : (k : ℕ) → k < s .count → KeepsMarkᴰ D (s .item k .mark) (N k +ℤ turn (way (N k)) (negℤ (pos D)))
+      whole k l = rw (one-unit D (way (N k))) at (mark-step D (s .item k .mark) (N k) (turn (way (N k)) (negℤ (pos 1))) (p .keeps k l .marked))
+
+      -- an item that weighs nothing goes back to F
+      rest : (k : ℕ) → k < s .count → F * D < natAbs (N k) → Back D (natAbs (N k) - F * D) (s .item k) (N k)
+      rest k l f = back B D (natAbs (N k) - F * D) (s .item k) (N k) (g .lowers k l) (g .uppers k l) (within (p .keeps k l)) (omega (arith, mul-le-mul-right D F-far)) (omega (arith, mul-le-mul-right D F-far))
 
       y : ℕ → ℤ
       y k = weights s k *ℤ N k
 
       High : ℕ → Type 0
-      High k = pos (11000000 * D) <ℤ y k
+      High k = pos (G * D) <ℤ y k
 
       Low : ℕ → Type 0
-      Low k = y k <ℤ negℤ (pos (11000000 * D))
+      Low k = y k <ℤ negℤ (pos (G * D))
 
-      high-far : (k : ℕ) → k < s .count → High k → (11000 * D < natAbs (N k)) × (pos 0 <ℤ turn (way (N k)) (weights s k))
-      high-far k l h = (omega (arith, size-of (y k) h, natAbs-mul (weights s k) (N k), mul-le-mul-right (natAbs (N k)) (g .light k l)), sign-up (turn (way (N k)) (weights s k)) (natAbs (N k)) (11000000 * D) (rw (ahead (weights s k) (N k)) at h))
+      high-far : (k : ℕ) → k < s .count → High k → (F * D < natAbs (N k)) × (pos 0 <ℤ turn (way (N k)) (weights s k))
+      high-far k l h = (beyond (natAbs (weights s k)) (natAbs (N k)) (g .light k l) (rw (natAbs-mul (weights s k) (N k)) at (size-of (y k) h)) (decLt (F * D) (natAbs (N k))), sign-up (turn (way (N k)) (weights s k)) (natAbs (N k)) (G * D) (rw (ahead (weights s k) (N k)) at h))
         where
-          size-of : (y : ℤ) → pos (11000000 * D) <ℤ y → 11000000 * D < natAbs y
+          size-of : (y : ℤ) → pos (G * D) <ℤ y → G * D < natAbs y
           size-of = split _ (λ a b. simp zed (omega arith))
 
-      low-far : (k : ℕ) → k < s .count → Low k → (11000 * D < natAbs (N k)) × (turn (way (N k)) (weights s k) <ℤ pos 0)
-      low-far k l h = (omega (arith, size-of (y k) h, natAbs-mul (weights s k) (N k), mul-le-mul-right (natAbs (N k)) (g .light k l)), sign-dn (turn (way (N k)) (weights s k)) (natAbs (N k)) (11000000 * D) (rw (ahead (weights s k) (N k)) at h))
+      low-far : (k : ℕ) → k < s .count → Low k → (F * D < natAbs (N k)) × (turn (way (N k)) (weights s k) <ℤ pos 0)
+      low-far k l h = (beyond (natAbs (weights s k)) (natAbs (N k)) (g .light k l) (rw (natAbs-mul (weights s k) (N k)) at (size-of (y k) h)) (decLt (F * D) (natAbs (N k))), sign-dn (turn (way (N k)) (weights s k)) (natAbs (N k)) (G * D) (rw (ahead (weights s k) (N k)) at h))
         where
-          size-of : (y : ℤ) → y <ℤ negℤ (pos (11000000 * D)) → 11000000 * D < natAbs y
+          size-of : (y : ℤ) → y <ℤ negℤ (pos (G * D)) → G * D < natAbs y
           size-of = split _ (λ a b. simp zed (omega arith))
 
       apart : (i j : ℕ) → High i → Low j → j ≢ i
       apart i j h l e = clash (y i) h (rw e at l)
         where
-          clash : (y : ℤ) → pos (11000000 * D) <ℤ y → y <ℤ negℤ (pos (11000000 * D)) → ⊥
+          clash : (y : ℤ) → pos (G * D) <ℤ y → y <ℤ negℤ (pos (G * D)) → ⊥
           clash = split _ (λ a b. simp zed (omega arith))
 
       -- back in a heavy way, there is room
-      room : (w l x : ℤ) → w ≤ℤ l → pos 0 ≤ℤ x → (w -ℤ x *ℤ pos D) ≤ℤ l
-      room = split3 _ (λ a b c e f g. simp zed (λ h k. omega (arith, mul-le-mul-right D k)))
+      room : (e : ℕ) (w l x : ℤ) → w ≤ℤ l → pos 0 ≤ℤ x → (w -ℤ x *ℤ pos e) ≤ℤ l
+      room e = split3 _ (λ a b c d f g. simp zed (λ h k. omega (arith, mul-le-mul-right e k)))
 
       swapped : (i j : ℕ) → i < s .count → j < s .count → High i → Low j → (turn (way (N i)) (prices s i) ≤ℤ pos 0) ⊎ (pos 0 <ℤ turn (way (N i)) (prices s i)) → Next N
       swapped i j li lj hi hj (inl c) = let fi = high-far i li hi in
-          ease N p i li (away 1 i li (omega arith) (fi .0)) (room (weighsᴰ s N) (s .capacity *ℤ pos D) (turn (way (N i)) (weights s i)) (p .fits) (weak< _ _ (fi .1))) c
+          ease N p i li D D≥1 (unit i li (some-up (way (N i)) (weights s i) (fi .1)) (fi .0)) (whole i li) (room D (weighsᴰ s N) (s .capacity *ℤ pos D) (turn (way (N i)) (weights s i)) (p .fits) (weak< _ _ (fi .1))) c
       swapped i j li lj hi hj (inr c) = let fi = high-far i li hi in let fj = low-far j lj hj in
           swap N p i j li lj (apart i j hi hj) (away (natAbs (weights s j)) i li (g .light j lj) (fi .0)) (away (natAbs (weights s i)) j lj (g .light i li) (fj .0)) (fi .1) c (fj .1)
 
-      full : (w : Way) (a x l : ℤ) → natAbs a ≤ 1000 → l <ℤ (x -ℤ turn w a *ℤ pos D) → l ≤ℤ (x +ℤ pos (1000 * D))
+      full : (w : Way) (a x l : ℤ) → natAbs a ≤ A → l <ℤ (x -ℤ turn w a *ℤ pos D) → l ≤ℤ (x +ℤ pos (A * D))
       full fore a x l = go a x l
         where
-          one : (a b : ℕ) → (a - b) + (b - a) ≤ 1000 → b ≤ 1000 + a
+          one : (a b : ℕ) → (a - b) + (b - a) ≤ A → b ≤ A + a
           one a b h = omega arith
 
-          go : (a x l : ℤ) → natAbs a ≤ 1000 → l <ℤ (x -ℤ a *ℤ pos D) → l ≤ℤ (x +ℤ pos (1000 * D))
+          go : (a x l : ℤ) → natAbs a ≤ A → l <ℤ (x -ℤ a *ℤ pos D) → l ≤ℤ (x +ℤ pos (A * D))
           go = split3 _ (λ a b c e f g. simp zed (λ h k. omega (arith, mul-le-mul-right D (one a b h))))
       full aft a x l = go a x l
         where
-          one : (a b : ℕ) → (a - b) + (b - a) ≤ 1000 → a ≤ 1000 + b
+          one : (a b : ℕ) → (a - b) + (b - a) ≤ A → a ≤ A + b
           one a b h = omega arith
 
-          go : (a x l : ℤ) → natAbs a ≤ 1000 → l <ℤ (x -ℤ negℤ a *ℤ pos D) → l ≤ℤ (x +ℤ pos (1000 * D))
+          go : (a x l : ℤ) → natAbs a ≤ A → l <ℤ (x -ℤ negℤ a *ℤ pos D) → l ≤ℤ (x +ℤ pos (A * D))
           go = split3 _ (λ a b c e f g. simp zed (λ h k. omega (arith, mul-le-mul-right D (one a b h))))
 
-      slack : (j : ℕ) → j < s .count → Low j → Each (s .count) (Held N) → Each (s .count) (λ k. y k ≤ℤ pos (11000000 * D))
+      slack : (j : ℕ) → j < s .count → Low j → Each (s .count) (Held N) → Each (s .count) (λ k. y k ≤ℤ pos (G * D))
           → ((weighsᴰ s N -ℤ turn (way (N j)) (weights s j) *ℤ pos D) ≤ℤ (s .capacity *ℤ pos D)) ⊎ ((s .capacity *ℤ pos D) <ℤ (weighsᴰ s N -ℤ turn (way (N j)) (weights s j) *ℤ pos D)) → Near N ⊎ Next N
-      slack j lj hj h high (inl r) = let fj = low-far j lj hj in let b = away 1 j lj (omega arith) (fj .0) in inr (ease N p j lj b r (nr .one j lj (way (N j)) (b .free) (weak< _ _ (fj .1))))
+      slack j lj hj h high (inl r) = let fj = low-far j lj hj in let b = unit j lj (some-dn (way (N j)) (weights s j) (fj .1)) (fj .0) in inr (ease N p j lj D D≥1 b (whole j lj) r (nr .one j lj (way (N j)) (b .free) (weak< _ _ (fj .1))))
       slack j lj hj h high (inr f) = inl (near-high N h high (full (way (N j)) (weights s j) (weighsᴰ s N) (s .capacity *ℤ pos D) (g .light j lj) f))
 
-      highs : (j : ℕ) → j < s .count → Low j → Each (s .count) (Held N) → ((k : ℕ) × (k < s .count) × High k) ⊎ Each (s .count) (λ k. y k ≤ℤ pos (11000000 * D)) → Near N ⊎ Next N
+      highs : (j : ℕ) → j < s .count → Low j → Each (s .count) (Held N) → ((k : ℕ) × (k < s .count) × High k) ⊎ Each (s .count) (λ k. y k ≤ℤ pos (G * D)) → Near N ⊎ Next N
       highs j lj hj h (inl (i, li, hi)) = inr (swapped i j li lj hi hj (≤ℤ-or-< (turn (way (N i)) (prices s i)) (pos 0)))
       highs j lj hj h (inr high) = slack j lj hj h high (≤ℤ-or-< (weighsᴰ s N -ℤ turn (way (N j)) (weights s j) *ℤ pos D) (s .capacity *ℤ pos D))
 
-      lows : Each (s .count) (Held N) → ((k : ℕ) × (k < s .count) × Low k) ⊎ Each (s .count) (λ k. negℤ (pos (11000000 * D)) ≤ℤ y k) → Near N ⊎ Next N
-      lows h (inl (j, lj, hj)) = highs j lj hj h (find (s .count) High (λ k. y k ≤ℤ pos (11000000 * D)) (λ k. other (≤ℤ-or-< (y k) (pos (11000000 * D)))))
+      lows : Each (s .count) (Held N) → ((k : ℕ) × (k < s .count) × Low k) ⊎ Each (s .count) (λ k. negℤ (pos (G * D)) ≤ℤ y k) → Near N ⊎ Next N
+      lows h (inl (j, lj, hj)) = highs j lj hj h (find (s .count) High (λ k. y k ≤ℤ pos (G * D)) (λ k. other (≤ℤ-or-< (y k) (pos (G * D)))))
       lows h (inr low) = inl (near-low N p h low)
 
       still : (w : Way) (a : ℤ) → a ≡ pos 0 → turn w a ≡ pos 0
       still fore a h = h
       still aft a h = ap negℤ h
 
-      idle : ((k : ℕ) × (k < s .count) × ((11000 * D < natAbs (N k)) × (weights s k ≡ pos 0))) ⊎ Each (s .count) (Held N) → Near N ⊎ Next N
-      idle (inl (k, l, (f, z))) = let b = away 1 k l (omega arith) f in let e = still (way (N k)) (weights s k) z in
-          inr (ease N p k l b (room (weighsᴰ s N) (s .capacity *ℤ pos D) (turn (way (N k)) (weights s k)) (p .fits) (≤ℤ-reflexive (sym e))) (nr .one k l (way (N k)) (b .free) (≤ℤ-reflexive e)))
-      idle (inr h) = lows h (find (s .count) Low (λ k. negℤ (pos (11000000 * D)) ≤ℤ y k) (λ k. other (≤ℤ-or-< (negℤ (pos (11000000 * D))) (y k))))
+      idle : ((k : ℕ) × (k < s .count) × ((F * D < natAbs (N k)) × (weights s k ≡ pos 0))) ⊎ Each (s .count) (Held N) → Near N ⊎ Next N
+      idle (inl (k, l, (f, z))) = let b = rest k l f in let o = still (way (N k)) (weights s k) z in
+          inr (ease N p k l (natAbs (N k) - F * D) (omega arith) b (resting D F (s .item k .mark) (N k) f) (room (natAbs (N k) - F * D) (weighsᴰ s N) (s .capacity *ℤ pos D) (turn (way (N k)) (weights s k)) (p .fits) (≤ℤ-reflexive (sym o))) (nr .one k l (way (N k)) (b .free) (≤ℤ-reflexive o)))
+      idle (inr h) = lows h (find (s .count) Low (λ k. negℤ (pos (G * D)) ≤ℤ y k) (λ k. other (≤ℤ-or-< (negℤ (pos (G * D))) (y k))))
 
-  -- THE REACH: every feasible point has one of no lower value within 300,000,000
-  pub reach : (N : ℕ → ℤ) → Feasibleᴰ s D N → (N′ : ℕ → ℤ) × Feasibleᴰ s D N′ × Near N′ × (valueᴰ s N ≤ℤ valueᴰ s N′)
+  -- THE REACH: every feasible point has one of no lower value within R
+  reach : (N : ℕ → ℤ) → Feasibleᴰ s D N → (N′ : ℕ → ℤ) × Feasibleᴰ s D N′ × Near N′ × (valueᴰ s N ≤ℤ valueᴰ s N′)
   reach = descend (Feasibleᴰ s D) Near (λ N N′. valueᴰ s N ≤ℤ valueᴰ s N′) (λ N. ≤ℤ-refl (valueᴰ s N)) (λ x y z. ≤ℤ-trans) size step
 
--- ---- so a instance with no ray may be closed at ±300,000,000
+-- ---- so an instance with no ray may be closed at ±R
 
 abbrev pub closed : Bound → ℤ → Bound
 closed Absent d = At d
 closed (At b) d = At b
 
-abbrev pub lowers : Instance → ℕ → Bound
-lowers s k = closed (s .item k .lower) (negℤ (pos 300000000))
+abbrev pub lowersAt : ℕ → Instance → ℕ → Bound
+lowersAt R s k = closed (s .item k .lower) (negℤ (pos R))
 
-abbrev pub uppers : Instance → ℕ → Bound
-uppers s k = closed (s .item k .upper) (pos 300000000)
+abbrev pub uppersAt : ℕ → Instance → ℕ → Bound
+uppersAt R s k = closed (s .item k .upper) (pos R)
 
-abbrev pub shut : Instance → Instance
-shut s = boxed s (lowers s) (uppers s)
+abbrev pub shutAt : ℕ → Instance → Instance
+shutAt R s = boxed s (lowersAt R s) (uppersAt R s)
 
-pub into-shut : (s : Instance) (D : ℕ) (N : ℕ → ℤ) → Feasibleᴰ s D N → Each (s .count) (λ k. natAbs (N k) ≤ 300000000 * D) → Feasibleᴰ (shut s) D N
-into-shut s D N p h = into-box s (lowers s) (uppers s) D N p (λ k l. (lo (s .item k .lower) (N k) (p .keeps k l .above) (h k l), up (s .item k .upper) (N k) (p .keeps k l .below) (h k l)))
+pub into-shut-at : (R : ℕ) (s : Instance) (D : ℕ) (N : ℕ → ℤ) → Feasibleᴰ s D N → Each (s .count) (λ k. natAbs (N k) ≤ R * D) → Feasibleᴰ (shutAt R s) D N
+into-shut-at R s D N p h = into-box s (lowersAt R s) (uppersAt R s) D N p (λ k l. (lo (s .item k .lower) (N k) (p .keeps k l .above) (h k l), up (s .item k .upper) (N k) (p .keeps k l .below) (h k l)))
   where
-    lo′ : (n : ℤ) → natAbs n ≤ 300000000 * D → (negℤ (pos 300000000) *ℤ pos D) ≤ℤ n
+    lo′ : (n : ℤ) → natAbs n ≤ R * D → (negℤ (pos R) *ℤ pos D) ≤ℤ n
     lo′ = split _ (λ a b. simp zed (omega arith))
 
-    lo : (b : Bound) (n : ℤ) → KeepsLowerᴰ D b n → natAbs n ≤ 300000000 * D → KeepsLowerᴰ D (closed b (negℤ (pos 300000000))) n
+    lo : (b : Bound) (n : ℤ) → KeepsLowerᴰ D b n → natAbs n ≤ R * D → KeepsLowerᴰ D (closed b (negℤ (pos R))) n
     lo Absent n k h = lo′ n h
     lo (At b) n k h = k
 
-    up′ : (n : ℤ) → natAbs n ≤ 300000000 * D → n ≤ℤ (pos 300000000 *ℤ pos D)
+    up′ : (n : ℤ) → natAbs n ≤ R * D → n ≤ℤ (pos R *ℤ pos D)
     up′ = split _ (λ a b. simp zed (omega arith))
 
-    up : (b : Bound) (n : ℤ) → KeepsUpperᴰ D b n → natAbs n ≤ 300000000 * D → KeepsUpperᴰ D (closed b (pos 300000000)) n
+    up : (b : Bound) (n : ℤ) → KeepsUpperᴰ D b n → natAbs n ≤ R * D → KeepsUpperᴰ D (closed b (pos R)) n
     up Absent n k h = up′ n h
     up (At b) n k h = k
 
-pub out-of-shut : (s : Instance) (D : ℕ) (N : ℕ → ℤ) → Feasibleᴰ (shut s) D N → Feasibleᴰ s D N
-out-of-shut s D N p = record { keeps = λ k l. record { marked = p .keeps k l .marked; above = lo (s .item k .lower) (N k) (p .keeps k l .above); below = up (s .item k .upper) (N k) (p .keeps k l .below) }; fits = p .fits }
+pub out-of-shut-at : (R : ℕ) (s : Instance) (D : ℕ) (N : ℕ → ℤ) → Feasibleᴰ (shutAt R s) D N → Feasibleᴰ s D N
+out-of-shut-at R s D N p = record { keeps = λ k l. record { marked = p .keeps k l .marked; above = lo (s .item k .lower) (N k) (p .keeps k l .above); below = up (s .item k .upper) (N k) (p .keeps k l .below) }; fits = p .fits }
   where
-    lo : (b : Bound) (n : ℤ) → KeepsLowerᴰ D (closed b (negℤ (pos 300000000))) n → KeepsLowerᴰ D b n
+    lo : (b : Bound) (n : ℤ) → KeepsLowerᴰ D (closed b (negℤ (pos R))) n → KeepsLowerᴰ D b n
     lo Absent n k = tt
     lo (At b) n k = k
 
-    up : (b : Bound) (n : ℤ) → KeepsUpperᴰ D (closed b (pos 300000000)) n → KeepsUpperᴰ D b n
+    up : (b : Bound) (n : ℤ) → KeepsUpperᴰ D (closed b (pos R)) n → KeepsUpperᴰ D b n
     up Absent n k = tt
     up (At b) n k = k
 
+-- every feasible point of s has one of no lower value in shutAt R s
+pub reach-within : {A B C R : ℕ} (s : Instance) → RangesAt A B C s → Reaches A B C R → NoRay s → (D : ℕ) → 1 ≤ D → (N : ℕ → ℤ) → Feasibleᴰ s D N
+    → (N′ : ℕ → ℤ) × Feasibleᴰ (shutAt R s) D N′ × (valueᴰ s N ≤ℤ valueᴰ s N′)
+reach-within {A} {B} {C} {R} s g e nr D d N p = let r = reach A B C (B + A) (A * (B + A)) R (omega arith) (omega arith) (e .enough) (e .far) s D d g nr N p in (r .0, into-shut-at R s D (r .0) (r .1) (r .2), r .3)
+
+pub reach-at-most-at : {A B C R : ℕ} (s : Instance) → RangesAt A B C s → Reaches A B C R → NoRay s → (W : ℤ) (E : ℕ) → AtMost (shutAt R s) W E → AtMost s W E
+reach-at-most-at s g e nr W E a D N d p = let r = reach-within s g e nr D d N p in ≤ℤ-trans (times-≤ E (valueᴰ s N) (valueᴰ s (r .0)) (r .2)) (a D (r .0) d (r .1))
+
+pub reach-empty-at : {A B C R : ℕ} (s : Instance) → RangesAt A B C s → Reaches A B C R → NoRay s → ((D : ℕ) (N : ℕ → ℤ) → 1 ≤ D → ¬ Feasibleᴰ (shutAt R s) D N) → (D : ℕ) (N : ℕ → ℤ) → 1 ≤ D → ¬ Feasibleᴰ s D N
+reach-empty-at s g e nr h D N d p = let r = reach-within s g e nr D d N p in h D (r .0) d (r .1)
+
+pub reach-optimal-at : {A B C R : ℕ} (s : Instance) → RangesAt A B C s → Reaches A B C R → NoRay s → (E : ℕ) (M : ℕ → ℤ) → Optimalᴰ (shutAt R s) E M → Optimalᴰ s E M
+reach-optimal-at {R = R} s g e nr E M b = record { feasible = out-of-shut-at R s E M (b .feasible); highest = reach-at-most-at s g e nr (valueᴰ s M) E (b .highest) }
+
+-- ---- at the limits of the format, ±300,000,000
+
+abbrev pub Around : Bound → Type 0
+Around b = AroundAt 10000 b
+
+abbrev pub Ranges : Instance → Type 0
+Ranges s = RangesAt 1000 10000 100000000 s
+
+pub format-reaches : Reaches 1000 10000 100000000 300000000
+format-reaches = record { enough = omega arith; far = omega arith }
+
+abbrev pub lowers : Instance → ℕ → Bound
+lowers s k = lowersAt 300000000 s k
+
+abbrev pub uppers : Instance → ℕ → Bound
+uppers s k = uppersAt 300000000 s k
+
+abbrev pub shut : Instance → Instance
+shut s = shutAt 300000000 s
+
+pub into-shut : (s : Instance) (D : ℕ) (N : ℕ → ℤ) → Feasibleᴰ s D N → Each (s .count) (λ k. natAbs (N k) ≤ 300000000 * D) → Feasibleᴰ (shut s) D N
+into-shut s D N p h = into-shut-at 300000000 s D N p h
+
+pub out-of-shut : (s : Instance) (D : ℕ) (N : ℕ → ℤ) → Feasibleᴰ (shut s) D N → Feasibleᴰ s D N
+out-of-shut s D N p = out-of-shut-at 300000000 s D N p
+
 pub reach-at-most : (s : Instance) → Ranges s → NoRay s → (W : ℤ) (E : ℕ) → AtMost (shut s) W E → AtMost s W E
-reach-at-most s g nr W E a D N d p = let r = reach s D d g nr N p in ≤ℤ-trans (times-≤ E (valueᴰ s N) (valueᴰ s (r .0)) (r .3)) (a D (r .0) d (into-shut s D (r .0) (r .1) (r .2)))
+reach-at-most s g nr W E a = reach-at-most-at s g format-reaches nr W E a
 
 pub reach-empty : (s : Instance) → Ranges s → NoRay s → ((D : ℕ) (N : ℕ → ℤ) → 1 ≤ D → ¬ Feasibleᴰ (shut s) D N) → (D : ℕ) (N : ℕ → ℤ) → 1 ≤ D → ¬ Feasibleᴰ s D N
-reach-empty s g nr h D N d p = let r = reach s D d g nr N p in h D (r .0) d (into-shut s D (r .0) (r .1) (r .2))
+reach-empty s g nr h = reach-empty-at s g format-reaches nr h
 
 pub reach-optimal : (s : Instance) → Ranges s → NoRay s → (E : ℕ) (M : ℕ → ℤ) → Optimalᴰ (shut s) E M → Optimalᴰ s E M
-reach-optimal s g nr E M b = record { feasible = out-of-shut s E M (b .feasible); highest = reach-at-most s g nr (valueᴰ s M) E (b .highest) }
+reach-optimal s g nr E M b = reach-optimal-at s g format-reaches nr E M b

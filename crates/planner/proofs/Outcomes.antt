@@ -45,9 +45,10 @@ use Rattle.knapsack.specs.declared.Kind.the-variants as kind
 use Rattle.knapsack.specs.declared.Problem.{Problem}
 use Rattle.knapsack.proofs.Bridge.{Reads, bridge-optimal, bridge-infeasible}
 use Rattle.knapsack.proofs.Common.{weighsᴰ, valueᴰ, Feasibleᴰ, Optimalᴰ}
-use Rattle.knapsack.proofs.Reach.{shut, reach-optimal, reach-empty}
-use Rattle.prepare.specs.Prepared.{Prepared}
+use Rattle.prepare.specs.Narrowing.{reachOf}
+use Rattle.prepare.specs.Prepared.{PreparedAt, Prepared}
 use Rattle.prepare.proofs.Box.{box, box-same, box-is-shut, box-optimal, box-empty}
+use Rattle.prepare.proofs.Nearer.{near-optimal, near-empty}
 use Rattle.rays.specs.declared.RayReply.{RayReply}
 use Rattle.rays.specs.Rays.{RayFound, stepsAt}
 use Rattle.rays.proofs.Corner.{LightCorner, ranges-of, corner-infeasible, corner-shown, corner-unbounded}
@@ -176,10 +177,22 @@ module _ (p : Problem) (range : InRange p) (s : Setting) (q : Prepared p s) wher
     steps = rw (h .steps-are) (found .small);
   })
 
+-- ---- what a search says, where an absent bound is at the problem's reach
+
+module _ (p : Problem) (range : InRange p) (s : Setting) (q : PreparedAt (reachOf p) p s) where
+  abbrev J : Instance
+  J = instanceOf p
+
+  abbrev d : Columns
+  d = s .cols
+
+  in-near : (k : ℕ) → k < p .count → k < s .cols .count
+  in-near k l = omega (arith, q .count)
+
   -- ---- a search that found nothing
 
-  pub infeasible-searched : (r : RayReply) (b : Incumbent) → RayFound p r → r .found ≡ false → Searched s b → b .found ≡ false → Answers I (bare kind.Infeasible)
-  infeasible-searched r b ray n g y = (bridge-infeasible I (reach-empty I (ranges-of p range) (ray .none n) (box-empty p s q (g .empty y (λ k. itemAt p k .mark) (q .marked)))), refl)
+  pub infeasible-searched : (r : RayReply) (b : Incumbent) → RayFound p r → r .found ≡ false → Searched s b → b .found ≡ false → Answers J (bare kind.Infeasible)
+  infeasible-searched r b ray n g y = (bridge-infeasible J (near-empty p range (ray .none n) (box-empty p s q (g .empty y (λ k. itemAt p k .mark) (q .marked)))), refl)
 
   -- ---- a search that found a place
 
@@ -202,40 +215,40 @@ module _ (p : Problem) (range : InRange p) (s : Setting) (q : Prepared p s) wher
     best-box : Optimalᴰ (box p s q) D N
     best-box = subst (λ (v : Mixed). Optimalᴰ (box p s q) (v .parts) N) (g .parts-are y) (g .optimal y (λ k. itemAt p k .mark) (q .marked))
 
-    best-value : valueᴰ I N ≡ over (valueAt s (b .place))
+    best-value : valueᴰ J N ≡ over (valueAt s (b .place))
     best-value = sym (box-is-shut p s q D N .1) ∙ g .value-is y (λ k. itemAt p k .mark) (q .marked) ∙ ap over (g .parts-are y)
 
     amount-small : (k : ℕ) → k < p .count → natAbs (N k) ≤ 300000000 * D
-    amount-small k l = near-zero (lo k) (hi k) (N k) D (q .ready .sized .ends .lo-in k) (q .ready .sized .ends .hi-in k) (best-box .feasible .keeps k (in-box k l) .above) (best-box .feasible .keeps k (in-box k l) .below)
+    amount-small k l = near-zero (at (s .ends .lo) k) (at (s .ends .hi) k) (N k) D (q .ready .sized .ends .lo-in k) (q .ready .sized .ends .hi-in k) (best-box .feasible .keeps k (in-near k l) .above) (best-box .feasible .keeps k (in-near k l) .below)
 
     module _ (a : Answer) (h : Best s (b .place) a) where
       shows : (k : ℕ) → k < p .count → amountAt a k ≡ lowest (N k) D
-      shows k l = h .point-is .counted k (in-box k l)
+      shows k l = h .point-is .counted k (in-near k l)
 
-      reads : Reads I D (pointOf a) N
+      reads : Reads J D (pointOf a) N
       reads k l = rw (shows k l) (over-lowest (N k) D D≥1)
 
-      critical : (k : ℕ) → k < p .count → amountAt a k .q ≢ 1 → (rankOf c k ≡ f .at) × (f .at < c .live)
+      critical : (k : ℕ) → k < p .count → amountAt a k .q ≢ 1 → (rankOf d k ≡ f .at) × (f .at < d .live)
       critical k l n = go (whole-or-critical (s .cols) e f D k)
         where
-          go : (N k ≡ stand (s .cols) e (f .at) k *ℤ pos D) ⊎ ((rankOf c k ≡ f .at) × (f .at < c .live)) → (rankOf c k ≡ f .at) × (f .at < c .live)
+          go : (N k ≡ stand (s .cols) e (f .at) k *ℤ pos D) ⊎ ((rankOf d k ≡ f .at) × (f .at < d .live)) → (rankOf d k ≡ f .at) × (f .at < d .live)
           go (inl x) = absurd (n (ap (λ (z : Fraction). z .q) (shows k l) ∙ ap (λ z. lowest z D .q) x ∙ lowest-whole (stand (s .cols) e (f .at) k) D D≥1))
           go (inr x) = x
 
-      shown : Shown I (amountAt a)
+      shown : Shown J (amountAt a)
       shown = record {
         small = λ k l. rw (shows k l) (lowest-small (N k) D D≥1 (amount-small k l));
         divisor = λ k l. rw (shows k l) (lowest-den (N k) D D≥1);
         lowest = λ k l. rw (shows k l) (lowest-coprime (N k) D D≥1);
-        single = λ j k l m nj nk. sym (q .ready .ordered .item-rank j (in-box j l)) ∙ ap (itemOf c) (critical j l nj .0 ∙ sym (critical k m nk .0)) ∙ q .ready .ordered .item-rank k (in-box k m);
-        divides = λ k l n. subst₂ Divides (ap (λ (z : Fraction). z .q) (sym (shows k l))) (parts-critical (s .cols) f (q .ready .ordered) k (in-box k l) (critical k l n .0) (critical k l n .1) ∙ ap natAbs (q .weights k l)) (lowest-divides (N k) D D≥1);
+        single = λ j k l m nj nk. sym (q .ready .ordered .item-rank j (in-near j l)) ∙ ap (itemOf d) (critical j l nj .0 ∙ sym (critical k m nk .0)) ∙ q .ready .ordered .item-rank k (in-near k m);
+        divides = λ k l n. subst₂ Divides (ap (λ (z : Fraction). z .q) (sym (shows k l))) (parts-critical (s .cols) f (q .ready .ordered) k (in-near k l) (critical k l n .0) (critical k l n .1) ∙ ap natAbs (q .weights k l)) (lowest-divides (N k) D D≥1);
       }
 
-      pub optimal-found : (r : RayReply) → RayFound p r → r .found ≡ false → Answers I a
+      pub optimal-found : (r : RayReply) → RayFound p r → r .found ≡ false → Answers J a
       optimal-found r ray n = rw (h .kind-is) (record {
-        optimal = bridge-optimal I D (pointOf a) N D≥1 reads (reach-optimal I (ranges-of p range) (ray .none n) D N (box-optimal p s q D N best-box));
+        optimal = bridge-optimal J D (pointOf a) N D≥1 reads (near-optimal p range (ray .none n) D N (box-optimal p s q D N best-box));
         shown = shown;
-        exact = rw (h .value-is) (over-≈ (over-lowest (over (valueAt s (b .place))) D D≥1) (over-total D (p .count) (pointOf a) N reads (prices I)) D≥1 (sym best-value));
+        exact = rw (h .value-is) (over-≈ (over-lowest (over (valueAt s (b .place))) D D≥1) (over-total D (p .count) (pointOf a) N reads (prices J)) D≥1 (sym best-value));
         divisor = rw (h .value-is) (lowest-den (over (valueAt s (b .place))) D D≥1);
         lowest = rw (h .value-is) (lowest-coprime (over (valueAt s (b .place))) D D≥1);
       })

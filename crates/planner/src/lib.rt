@@ -14,7 +14,9 @@ use knapsack::Problem;
 use knapsack::Verdict;
 use knapsack::check_record;
 use pairing::pairs_of;
+use prepare::narrowed;
 use prepare::prepare;
+use prepare::reach_of;
 use rays::find_ray;
 use search::Setting;
 use search::fixed;
@@ -103,12 +105,13 @@ pub fn solve(p: Problem) -> Answer
         let steps = ray.steps;
         return unbounded(s, steps);
     }
+    let near = narrowed(s, reach_of(p));
     let pairs = pairs_of(p);
-    let q = run(s, pairs);
+    let q = run(near, pairs);
     let best = q.best;
     if best.found {
         let place = best.place;
-        return optimal(s, place);
+        return optimal(near, place);
     }
     no_point(Kind::Infeasible)
 }

@@ -1,6 +1,6 @@
 -- The search's box is the problem with its absent bounds closed.
 -- same-feasible, same-value: instances that agree at the items of the problem have the same feasible points and values.
--- box-is-shut: the box of a prepared setting and the problem shut at ±300,000,000 are such; box-optimal, box-empty: so are their answers.
+-- box-is-shut: the box of a setting that is prepared at r and the problem shut at ±r are such; box-optimal, box-empty: so are their answers.
 use mathlib.Core.Path.{_≡_, refl, sym, ap, _∙_, subst, subst₂}
 use mathlib.Core.Logic.{_↔_}
 use Prim.Native.Nat.{ℕ, _≤_, _<_}
@@ -11,7 +11,7 @@ use Rattle.arith.proofs.Sums.{sum-cong}
 use Rattle.arith.specs.Sum.{sum, Each}
 use Rattle.greedy.proofs.Relaxed.{boxOf}
 use Rattle.knapsack.proofs.Common.{Keepsᴰ, valueᴰ, Feasibleᴰ, Optimalᴰ}
-use Rattle.knapsack.proofs.Reach.{closed, shut}
+use Rattle.knapsack.proofs.Reach.{closed, shutAt}
 use Rattle.knapsack.specs.Meaning.{Instance, instanceOf, weights, prices}
 use Rattle.knapsack.specs.Records.{itemAt}
 use Rattle.knapsack.specs.declared.Bound.the-variants.{Absent, At}
@@ -20,7 +20,7 @@ use Rattle.knapsack.specs.declared.Item.{Item}
 use Rattle.knapsack.specs.declared.Problem.{Problem}
 use Rattle.search.specs.declared.Setting.{Setting}
 use Rattle.tables.specs.Figures.{endOr}
-use Rattle.prepare.specs.Prepared.{Prepared}
+use Rattle.prepare.specs.Prepared.{PreparedAt}
 
 -- two instances that agree
 pub record Same (s t : Instance) : Type 0 where
@@ -55,24 +55,24 @@ closed-is : (b : Bound) (d : ℤ) → At (endOr b d) ≡ closed b d
 closed-is Absent d = refl
 closed-is (At v) d = refl
 
-module _ (p : Problem) (s : Setting) (q : Prepared p s) where
+module _ {r : ℕ} (p : Problem) (s : Setting) (q : PreparedAt r p s) where
   abbrev pub box : Instance
   box = boxOf (s .cols) (s .ends) (λ k. itemAt p k .mark)
 
-  pub box-same : Same box (shut (instanceOf p))
+  pub box-same : Same box (shutAt r (instanceOf p))
   box-same = record { capacity = q .capacity; count = q .count; items = λ k h. item k (omega (arith, q .count)) }
     where
-      item : (k : ℕ) → k < p .count → box .item k ≡ shut (instanceOf p) .item k
-      item k h = rw (q .weights k h, q .prices k h, q .lows k h, q .highs k h, closed-is (itemAt p k .lower) (negℤ (pos 300000000)), closed-is (itemAt p k .upper) (pos 300000000))
+      item : (k : ℕ) → k < p .count → box .item k ≡ shutAt r (instanceOf p) .item k
+      item k h = rw (q .weights k h, q .prices k h, q .lows k h, q .highs k h, closed-is (itemAt p k .lower) (negℤ (pos r)), closed-is (itemAt p k .upper) (pos r))
 
-  pub box-is-shut : (D : ℕ) (N : ℕ → ℤ) → (Feasibleᴰ box D N ↔ Feasibleᴰ (shut (instanceOf p)) D N) × (valueᴰ box N ≡ valueᴰ (shut (instanceOf p)) N)
+  pub box-is-shut : (D : ℕ) (N : ℕ → ℤ) → (Feasibleᴰ box D N ↔ Feasibleᴰ (shutAt r (instanceOf p)) D N) × (valueᴰ box N ≡ valueᴰ (shutAt r (instanceOf p)) N)
   box-is-shut D N = (
-    (same-feasible box (shut (instanceOf p)) box-same D N, same-feasible (shut (instanceOf p)) box (same-turned box (shut (instanceOf p)) box-same) D N),
-    same-value box (shut (instanceOf p)) box-same N,
+    (same-feasible box (shutAt r (instanceOf p)) box-same D N, same-feasible (shutAt r (instanceOf p)) box (same-turned box (shutAt r (instanceOf p)) box-same) D N),
+    same-value box (shutAt r (instanceOf p)) box-same N,
   )
 
-  pub box-optimal : (E : ℕ) (M : ℕ → ℤ) → Optimalᴰ box E M → Optimalᴰ (shut (instanceOf p)) E M
-  box-optimal = same-optimal box (shut (instanceOf p)) box-same
+  pub box-optimal : (E : ℕ) (M : ℕ → ℤ) → Optimalᴰ box E M → Optimalᴰ (shutAt r (instanceOf p)) E M
+  box-optimal = same-optimal box (shutAt r (instanceOf p)) box-same
 
-  pub box-empty : ((D : ℕ) (N : ℕ → ℤ) → 1 ≤ D → ¬ Feasibleᴰ box D N) → (D : ℕ) (N : ℕ → ℤ) → 1 ≤ D → ¬ Feasibleᴰ (shut (instanceOf p)) D N
+  pub box-empty : ((D : ℕ) (N : ℕ → ℤ) → 1 ≤ D → ¬ Feasibleᴰ box D N) → (D : ℕ) (N : ℕ → ℤ) → 1 ≤ D → ¬ Feasibleᴰ (shutAt r (instanceOf p)) D N
   box-empty h D N d f = h D N d (box-is-shut D N .0 .1 f)

@@ -4,3 +4,4 @@ pub mod Levels
 pub mod Lattices
 pub mod Ready
 pub mod Box
+pub mod Nearer

@@ -8,6 +8,8 @@ use knapsack::Problem;
 use lattice::Lattice;
 use lattice::lattices;
 use lattice::unknown_lattices;
+pub use narrowing::narrowed;
+pub use narrowing::reach_of;
 use search::Setting;
 use tables::Figure;
 use tables::Key;
@@ -24,6 +26,14 @@ ghost use Rattle.greedy.specs.Sized.{Sized};
 ghost use Rattle.knapsack.specs.Records.{InRange};
 ghost use Rattle.prepare.specs.Prepared.{Columned, Boxed, criticalKey, Latticing, Prepared};
 ghost use Rattle.tables.specs.Tables.{Listing};
+
+mod narrowing; // narrowing.rt: the nearer box of a search
+
+// The greatest weight and the greatest bound of some items, without sign.
+pub struct Most {
+    pub weight: u64,
+    pub bound: u64,
+}
 
 // The problem by columns.
 fn columns(p: Problem) -> Columns

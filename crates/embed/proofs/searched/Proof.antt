@@ -1,5 +1,8 @@
 -- `embed::searched` meets its contract: a prepared search is ready, as in `planner::solve`.
+use mathlib.Core.Path.{subst}
 use borrow.Author.Needs.{needs}
+use Rattle.prepare.specs.Narrowing.{Narrowed}
+use Rattle.prepare.proofs.Nearer.{reach-small, narrowed-prepared}
 use Rattle.embed.proofs.searched.Statement.{statement}
 use Rattle.embed.proofs.searched.Tie as tie
 
@@ -18,14 +21,23 @@ find-ray-requires c κs = search needs
 returns-2 : tie.Need-returns-2
 returns-2 c = search needs
 
+reach-of-requires : tie.Need-reach-of-requires
+reach-of-requires c κs = search needs
+
+narrowed-requires : tie.Need-narrowed-requires
+narrowed-requires c κs = let s = c .before .before .before .before .before .before .before .before in rw (c .reach-of .ensures) (reach-small (s .args .p) (s .pre))
+
 pairs-of-requires : tie.Need-pairs-of-requires
 pairs-of-requires c κs = search needs
 
 run-requires : tie.Need-run-requires
 run-requires c κs =
-    let a = c .before .before .before .before .before .before .before in
-    let q = a .prepare .ensures in
-    record { setting = q .ready; true-pairs = c .pairs-of .ensures .ready (a .prepare .result .cols) (record { weights-agree = q .weights; prices-agree = q .prices }) }
+    let n = c .before in
+    let o = n .before in
+    let a = o .before .before .before .before .before .before .before in
+    let s = a .before in
+    let q = narrowed-prepared (s .args .p) (s .pre) (a .prepare .result) (n .narrowed .result) (a .prepare .ensures) (subst (λ r. Narrowed (a .prepare .result) r (n .narrowed .result)) (o .reach-of .ensures) (n .narrowed .ensures)) in
+    record { setting = q .ready; true-pairs = c .pairs-of .ensures .ready (n .narrowed .result .cols) (record { weights-agree = q .weights; prices-agree = q .prices }) }
 
 returns-3 : tie.Need-returns-3
 returns-3 c = search needs
@@ -39,6 +51,8 @@ searched-spec =
     returns
     find-ray-requires
     returns-2
+    reach-of-requires
+    narrowed-requires
     pairs-of-requires
     run-requires
     returns-3)

@@ -8,7 +8,9 @@ use Rattle.arith.proofs.Parts.{within-back}
 use Rattle.arith.proofs.Words.{yes-lt, no-lt}
 use Rattle.greedy.specs.Fill.{begun}
 use Rattle.knapsack.specs.Meaning.{instanceOf, Answers}
-use Rattle.prepare.specs.Prepared.{Prepared}
+use Rattle.prepare.specs.Narrowing.{reachOf, Narrowed}
+use Rattle.prepare.specs.Prepared.{PreparedAt}
+use Rattle.prepare.proofs.Nearer.{reach-small, narrowed-prepared}
 use Rattle.planner.proofs.Outcomes.{infeasible-corner, unbounded-corner, infeasible-searched, optimal-found}
 use Rattle.planner.proofs.Values.{begun-within}
 use Rattle.planner.proofs.solve.Statement.{statement}
@@ -50,40 +52,65 @@ returns-2 c =
     let t = rw (b .begin .ensures, within-back tt (begun-within (s .cols) (s .ends) (q .ready .sized))) at (e .if1 .left) in
     unbounded-corner (a .before .args .p) (a .before .pre) s q (r .find-ray .result) (c .unbounded .result) (no-lt t) (r .find-ray .ensures) (t2 .if2 .taken) (c .unbounded .ensures)
 
+reach-of-requires : tie.Need-reach-of-requires
+reach-of-requires c κs = search needs
+
+-- the preparation, from where there is no ray
+Prep : tie.Else2 → tie.After-prepare
+Prep e = e .before .before .before .before .before .before
+
+narrowed-requires : tie.Need-narrowed-requires
+unfolding Prep
+narrowed-requires c κs = let s = Prep (c .before) .before in rw (c .reach-of .ensures) (reach-small (s .args .p) (s .pre))
+
+-- the nearer setting is the problem's
+near : (c : tie.After-narrowed) → PreparedAt (reachOf (Prep (c .before .before) .before .args .p)) (Prep (c .before .before) .before .args .p) (c .narrowed .result)
+unfolding Prep
+near c =
+    let a = Prep (c .before .before) in
+    let s = a .before in
+    narrowed-prepared (s .args .p) (s .pre) (a .prepare .result) (c .narrowed .result) (a .prepare .ensures) (subst (λ r. Narrowed (a .prepare .result) r (c .narrowed .result)) (c .before .reach-of .ensures) (c .narrowed .ensures))
+
 pairs-of-requires : tie.Need-pairs-of-requires
 pairs-of-requires c κs = search needs
 
 run-requires : tie.Need-run-requires
+unfolding Prep
 run-requires c κs =
-    let q = c .before .before .before .before .before .before .before .prepare .ensures in
-    record { setting = q .ready; true-pairs = c .pairs-of .ensures .ready (c .before .before .before .before .before .before .before .prepare .result .cols) (record { weights-agree = q .weights; prices-agree = q .prices }) }
+    let n = c .before in
+    let q = near n in
+    record { setting = q .ready; true-pairs = c .pairs-of .ensures .ready (n .narrowed .result .cols) (record { weights-agree = q .weights; prices-agree = q .prices }) }
 
 optimal-requires : tie.Need-optimal-requires
+unfolding Prep
 optimal-requires c κs =
     let n = c .before .before .before in
-    let q = n .before .before .before .before .before .before .before .before .prepare .ensures in
-    (q .ready, n .run .ensures .inside (c .before .if3 .taken))
+    (near (n .before .before) .ready, n .run .ensures .inside (c .before .if3 .taken))
 
 returns-3 : tie.Need-returns-3
+unfolding Prep
 returns-3 c =
     let t3 = c .before .before in
     let n = t3 .before .before in
-    let e2 = n .before .before in
+    let w = n .before .before in
+    let e2 = w .before .before in
     let r = e2 .before in
-    let a = r .before .before .before .before .before in
-    optimal-found (a .before .args .p) (a .before .pre) (a .prepare .result) (a .prepare .ensures) (n .run .result .best) (n .run .ensures) (t3 .if3 .taken) (c .optimal .result) (c .optimal .ensures) (r .find-ray .result) (r .find-ray .ensures) (e2 .if2 .left)
+    let s = Prep e2 .before in
+    optimal-found (s .args .p) (s .pre) (w .narrowed .result) (near w) (n .run .result .best) (n .run .ensures) (t3 .if3 .taken) (c .optimal .result) (c .optimal .ensures) (r .find-ray .result) (r .find-ray .ensures) (e2 .if2 .left)
 
 no-point-requires-2 : tie.Need-no-point-requires-2
 no-point-requires-2 c κs = search needs
 
 returns-4 : tie.Need-returns-4
+unfolding Prep
 returns-4 c =
     let e3 = c .before in
     let n = e3 .before .before in
-    let e2 = n .before .before in
+    let w = n .before .before in
+    let e2 = w .before .before in
     let r = e2 .before in
-    let a = r .before .before .before .before .before in
-    rw (c .no-point2 .ensures) (infeasible-searched (a .before .args .p) (a .before .pre) (a .prepare .result) (a .prepare .ensures) (r .find-ray .result) (n .run .result .best) (r .find-ray .ensures) (e2 .if2 .left) (n .run .ensures) (e3 .if3 .left))
+    let s = Prep e2 .before in
+    rw (c .no-point2 .ensures) (infeasible-searched (s .args .p) (s .pre) (w .narrowed .result) (near w) (r .find-ray .result) (n .run .result .best) (r .find-ray .ensures) (e2 .if2 .left) (n .run .ensures) (e3 .if3 .left))
 
 pub solve-spec : {M : Type 1} → statement M
 solve-spec =
@@ -96,6 +123,8 @@ solve-spec =
     find-ray-requires
     unbounded-requires
     returns-2
+    reach-of-requires
+    narrowed-requires
     pairs-of-requires
     run-requires
     optimal-requires

@@ -1,0 +1,281 @@
+-- A nearer box: what the reach of a problem covers, and that a narrowed setting is prepared at that reach.
+-- most-covers, most-small: the greatest weight and bound are at least each item's, and in range.
+-- reach-small: the reach is within the general one. near-optimal, near-empty: it is enough.
+use mathlib.Core.Path.{_≡_, refl, sym, ap, _∙_, subst}
+use mathlib.Core.Bool.{Bool, true, false, cond}
+use mathlib.Core.List.{List}
+use Prim.Native.Nat.{ℕ, zero, suc, _+_, _*_, _≤_, _<_}
+use native.Mathlib.Decide.{decLt, ℕ-discrete}
+use native.Mathlib.Nat.{mul-le-mul}
+use native.Mathlib.Omega.{arith}
+use borrow.Author.Tests.{ltb-true, ltb-false}
+use lib.Dec.{ltb}
+use lib.IntN.{ℤ, pos, negℤ, natAbs}
+use lib.ListN.{length, List·getD-eq-default}
+use lib.Signed.{_≤ℤ_, _<ℤ_, ≤ℤ-refl, ltZ}
+use Rattle.arith.specs.Within.{Within}
+use Rattle.arith.proofs.Integers.{_⊖_, split, split2, zed, ≤ℤ-trans, ≤ℤ-antisym}
+use Rattle.arith.proofs.Parts.{neg-within, abs-within}
+use Rattle.arith.proofs.Words.{yes-lt, no-lt, le-no}
+use Rattle.knapsack.proofs.Common.{Feasibleᴰ, Optimalᴰ}
+use Rattle.knapsack.proofs.Reach.{NoRay, AroundAt, RangesAt, Reaches, shutAt, reach-empty-at, reach-optimal-at}
+use Rattle.knapsack.specs.Meaning.{Instance, instanceOf}
+use Rattle.knapsack.specs.Records.{itemAt, BoundInRange, InRange}
+use Rattle.knapsack.specs.declared.Bound.the-variants.{Absent, At}
+use Rattle.knapsack.specs.declared.Bound.{Bound}
+use Rattle.knapsack.specs.declared.Problem.{Problem}
+use Rattle.greedy.specs.Fill.{at}
+use Rattle.search.specs.Search.{levelAt}
+use Rattle.search.specs.declared.Setting.{Setting}
+use Rattle.tables.specs.Figures.{endOr}
+use Rattle.prepare.specs.Narrowing.{larger, boundSize, grownBy, mostOf, reachBy, reachOf, clampTo, Narrowed}
+use Rattle.prepare.specs.Prepared.{PreparedAt, Prepared}
+
+-- ---- the greatest figures
+
+larger-left : (a b : ℕ) → a ≤ larger a b
+larger-left a b = go (ltb a b) refl
+  where
+    go : (t : Bool) → ltb a b ≡ t → a ≤ cond t b a
+    go true e = let h = ltb-true a b e in omega arith
+    go false e = omega arith
+
+larger-right : (a b : ℕ) → b ≤ larger a b
+larger-right a b = go (ltb a b) refl
+  where
+    go : (t : Bool) → ltb a b ≡ t → b ≤ cond t b a
+    go true e = omega arith
+    go false e = let h = ltb-false a b e in omega arith
+
+larger-most : (a b m : ℕ) → a ≤ m → b ≤ m → larger a b ≤ m
+larger-most a b m h k = go (ltb a b)
+  where
+    go : (t : Bool) → cond t b a ≤ m
+    go true = k
+    go false = h
+
+bound-small : (b : Bound) → BoundInRange b → boundSize b ≤ 10000
+bound-small Absent h = omega arith
+bound-small (At v) h = h
+
+pub product-small : (a b : ℕ) → a ≤ 1000 → b ≤ 10000 → a * (b + a) ≤ 11000000
+product-small a b ha hb = let h : b + a ≤ 11000 = omega arith in mul-le-mul ha h
+
+module _ (p : Problem) (r : InRange p) where
+  pub most-small : (n : ℕ) → n ≤ p .count → (mostOf p n .weight ≤ 1000) × (mostOf p n .bound ≤ 10000)
+  unfolding mostOf
+  most-small zero h = (omega arith, omega arith)
+  most-small (suc n) h =
+      let m = most-small n (omega arith) in
+      let i = r .items-in n h in (
+        larger-most (mostOf p n .weight) (natAbs (itemAt p n .weight)) 1000 (m .0) (i .weight-in),
+        larger-most (larger (mostOf p n .bound) (boundSize (itemAt p n .lower))) (boundSize (itemAt p n .upper)) 10000 (larger-most (mostOf p n .bound) (boundSize (itemAt p n .lower)) 10000 (m .1) (bound-small (itemAt p n .lower) (i .lower-in))) (bound-small (itemAt p n .upper) (i .upper-in)),
+      )
+
+  pub reach-small : reachOf p ≤ 300000000
+  unfolding reachOf
+  reach-small = go (natAbs (p .capacity)) (mostOf p (p .count) .weight) (mostOf p (p .count) .bound) (r .capacity-in) (most-small (p .count) (omega arith) .0) (most-small (p .count) (omega arith) .1)
+    where
+      go : (c a b : ℕ) → c ≤ 100000000 → a ≤ 1000 → b ≤ 10000 → c + 16 * (a * (b + a)) + a + b ≤ 300000000
+      go c a b hc ha hb = omega (arith, product-small a b ha hb)
+
+-- each of the first n items is covered
+pub record Covers (p : Problem) (a b k : ℕ) : Type 0 where
+  pub weight : natAbs (itemAt p k .weight) ≤ a
+  pub lower : boundSize (itemAt p k .lower) ≤ b
+  pub upper : boundSize (itemAt p k .upper) ≤ b
+
+pub most-covers : (p : Problem) (n k : ℕ) → k < n → Covers p (mostOf p n .weight) (mostOf p n .bound) k
+unfolding mostOf
+most-covers p zero k h = absurd (omega arith)
+most-covers p (suc n) k h = go (ℕ-discrete k n) (most-covers p n k)
+  where
+    M : ℕ
+    M = larger (mostOf p n .bound) (boundSize (itemAt p n .lower))
+
+    go : Dec (k ≡ n) → (k < n → Covers p (mostOf p n .weight) (mostOf p n .bound) k) → Covers p (grownBy (mostOf p n) (itemAt p n) .weight) (grownBy (mostOf p n) (itemAt p n) .bound) k
+    go (yes q) ih = rw q (record {
+      weight = larger-right (mostOf p n .weight) (natAbs (itemAt p n .weight));
+      lower = omega (arith, larger-right (mostOf p n .bound) (boundSize (itemAt p n .lower)), larger-left M (boundSize (itemAt p n .upper)));
+      upper = larger-right M (boundSize (itemAt p n .upper));
+    })
+    go (no q) ih = let c = ih (omega arith) in record {
+      weight = omega (arith, c .weight, larger-left (mostOf p n .weight) (natAbs (itemAt p n .weight)));
+      lower = omega (arith, c .lower, larger-left (mostOf p n .bound) (boundSize (itemAt p n .lower)), larger-left M (boundSize (itemAt p n .upper)));
+      upper = omega (arith, c .upper, larger-left (mostOf p n .bound) (boundSize (itemAt p n .lower)), larger-left M (boundSize (itemAt p n .upper)));
+    }
+
+-- ---- the reach is enough
+
+module _ (p : Problem) (range : InRange p) where
+  abbrev I : Instance
+  I = instanceOf p
+
+  abbrev A : ℕ
+  A = mostOf p (p .count) .weight
+
+  abbrev B : ℕ
+  B = mostOf p (p .count) .bound
+
+  around : (b : Bound) → boundSize b ≤ B → AroundAt B b
+  around Absent h = tt
+  around (At v) h = h
+
+  ranges : RangesAt A B (natAbs (p .capacity)) I
+  ranges = record {
+    few = range .few-items;
+    light = λ k l. most-covers p (p .count) k l .weight;
+    lowers = λ k l. around (itemAt p k .lower) (most-covers p (p .count) k l .lower);
+    uppers = λ k l. around (itemAt p k .upper) (most-covers p (p .count) k l .upper);
+    limited = omega arith;
+  }
+
+  reaches : Reaches A B (natAbs (p .capacity)) (reachOf p)
+  unfolding reachOf
+  reaches = record { enough = omega arith; far = omega arith }
+
+  -- what holds of the problem closed at its reach holds of the problem
+  pub near-optimal : NoRay I → (E : ℕ) (M : ℕ → ℤ) → Optimalᴰ (shutAt (reachOf p) I) E M → Optimalᴰ I E M
+  near-optimal = reach-optimal-at I ranges reaches
+
+  pub near-empty : NoRay I → ((D : ℕ) (N : ℕ → ℤ) → 1 ≤ D → ¬ Feasibleᴰ (shutAt (reachOf p) I) D N) → (D : ℕ) (N : ℕ → ℤ) → 1 ≤ D → ¬ Feasibleᴰ I D N
+  near-empty = reach-empty-at I ranges reaches
+
+-- ---- a narrowed setting
+
+clamp-low : (r : ℕ) (x : ℤ) → x ≤ℤ negℤ (pos r) → clampTo r x ≡ negℤ (pos r)
+clamp-low r x h = go (ltZ x (negℤ (pos r))) refl
+  where
+    same : (x y : ℤ) → x ≤ℤ y → y ≤ℤ x → x ≡ y
+    same x y a b = ≤ℤ-antisym a b
+
+    between : (n : ℕ) → negℤ (pos n) ≤ℤ pos n
+    between n = simp zed (omega arith)
+
+    go : (t : Bool) → ltZ x (negℤ (pos r)) ≡ t → cond t (negℤ (pos r)) (cond (ltZ (pos r) x) (pos r) x) ≡ negℤ (pos r)
+    go true e = refl
+    go false e = let q = same x (negℤ (pos r)) h (no-lt e) in rw (q, le-no (between r))
+
+clamp-high : (r : ℕ) (x : ℤ) → pos r ≤ℤ x → clampTo r x ≡ pos r
+clamp-high r x h = go (ltZ (pos r) x) refl
+  where
+    above : (n : ℕ) (x : ℤ) → pos n ≤ℤ x → negℤ (pos n) ≤ℤ x
+    above n = split _ (λ a b. simp zed (omega arith))
+
+    go : (t : Bool) → ltZ (pos r) x ≡ t → cond (ltZ x (negℤ (pos r))) (negℤ (pos r)) (cond t (pos r) x) ≡ pos r
+    go true e = rw (le-no (above r x h))
+    go false e = rw (le-no (above r x h)) (≤ℤ-antisym (no-lt e) h)
+
+clamp-same : (r : ℕ) (x : ℤ) → natAbs x ≤ r → clampTo r x ≡ x
+clamp-same r x h = rw (le-no (low r x h), le-no (high r x h))
+  where
+    low : (n : ℕ) (x : ℤ) → natAbs x ≤ n → negℤ (pos n) ≤ℤ x
+    low n = split _ (λ a b. simp zed (omega arith))
+
+    high : (n : ℕ) (x : ℤ) → natAbs x ≤ n → x ≤ℤ pos n
+    high n = split _ (λ a b. simp zed (omega arith))
+
+clamp-within : {m : ℕ} (r : ℕ) (x : ℤ) → r ≤ m → Within m (clampTo r x)
+clamp-within {m} r x h = go (ltZ x (negℤ (pos r))) refl (ltZ (pos r) x) refl
+  where
+    inside : (n : ℕ) (x : ℤ) → negℤ (pos n) ≤ℤ x → x ≤ℤ pos n → natAbs x ≤ n
+    inside n = split _ (λ a b. simp zed (omega arith))
+
+    go : (t : Bool) → ltZ x (negℤ (pos r)) ≡ t → (u : Bool) → ltZ (pos r) x ≡ u → Within m (cond t (negℤ (pos r)) (cond u (pos r) x))
+    go true e u f = neg-within r h
+    go false e true f = record { above = h; below = omega arith }
+    go false e false f = abs-within x (omega (arith, h, inside r x (no-lt e) (no-lt f)))
+
+clamp-mono : (r : ℕ) (x y : ℤ) → x ≤ℤ y → clampTo r x ≤ℤ clampTo r y
+clamp-mono r x y h = go (ltZ x (negℤ (pos r))) refl (ltZ (pos r) x) refl (ltZ y (negℤ (pos r))) refl (ltZ (pos r) y) refl
+  where
+    both : (n : ℕ) → negℤ (pos n) ≤ℤ pos n
+    both n = simp zed (omega arith)
+
+    clash : (x y : ℤ) → x <ℤ y → y ≤ℤ x → ⊥
+    clash = split2 _ (λ a b c e. simp zed (omega arith))
+
+    go : (a : Bool) → ltZ x (negℤ (pos r)) ≡ a → (b : Bool) → ltZ (pos r) x ≡ b → (c : Bool) → ltZ y (negℤ (pos r)) ≡ c → (d : Bool) → ltZ (pos r) y ≡ d
+        → cond a (negℤ (pos r)) (cond b (pos r) x) ≤ℤ cond c (negℤ (pos r)) (cond d (pos r) y)
+    go true e b f true g d k = ≤ℤ-refl (negℤ (pos r))
+    go true e b f false g true k = both r
+    go true e b f false g false k = no-lt g
+    go false e b f true g d k = absurd (clash y (negℤ (pos r)) (yes-lt g) (≤ℤ-trans (no-lt e) h))
+    go false e true f false g true k = ≤ℤ-refl (pos r)
+    go false e true f false g false k = absurd (clash (pos r) x (yes-lt f) (≤ℤ-trans h (no-lt k)))
+    go false e false f false g true k = no-lt f
+    go false e false f false g false k = h
+
+module _ (p : Problem) (range : InRange p) (s t : Setting) (q : Prepared p s) (n : Narrowed s (reachOf p) t) where
+  abbrev R : ℕ
+  R = reachOf p
+
+  -- an absent bound was closed beyond the reach, and a bound is within it
+  low-end : (b : Bound) → boundSize b ≤ R → clampTo R (endOr b (negℤ (pos 300000000))) ≡ endOr b (negℤ (pos R))
+  low-end Absent h = clamp-low R (negℤ (pos 300000000)) (far 300000000 R (reach-small p range))
+    where
+      far : (m r : ℕ) → r ≤ m → negℤ (pos m) ≤ℤ negℤ (pos r)
+      far m r h = simp zed (omega arith)
+  low-end (At v) h = clamp-same R v h
+
+  high-end : (b : Bound) → boundSize b ≤ R → clampTo R (endOr b (pos 300000000)) ≡ endOr b (pos R)
+  high-end Absent h = clamp-high R (pos 300000000) (far 300000000 R (reach-small p range))
+    where
+      far : (m r : ℕ) → r ≤ m → pos r ≤ℤ pos m
+      far m r h = simp zed (omega arith)
+  high-end (At v) h = clamp-same R v h
+
+  bounds≤ : mostOf p (p .count) .bound ≤ R
+  unfolding reachOf
+  bounds≤ = omega arith
+
+  item<16 : (k : ℕ) → k < p .count → k < 16
+  item<16 k h = omega (arith, range .few-items)
+
+  ends-in : (xs : List ℤ) → length xs ≡ 16 → (f : ℕ → ℤ) → ((k : ℕ) → k < 16 → at xs k ≡ clampTo R (f k)) → (k : ℕ) → Within 300000000 (at xs k)
+  ends-in xs l f h k = go (decLt k 16)
+    where
+      go : Dec (k < 16) → Within 300000000 (at xs k)
+      go (yes m) = rw (h k m) (clamp-within R (f k) (reach-small p range))
+      go (no m) = rw (List·getD-eq-default xs (pos 0) {n = k} (omega (arith, l))) (record { above = omega arith; below = omega arith })
+
+  level-in : (d : ℕ) → d < s .levels → levelAt s d < 16
+  level-in d h = omega (arith, q .ready .level-in d h, q .count, range .few-items)
+
+  levels≤ : (d : ℕ) → d < s .levels → d < 16
+  levels≤ d h = omega (arith, q .ready .few)
+
+  pub narrowed-prepared : PreparedAt R p t
+  narrowed-prepared = made t (n .cols) (n .level) (n .levels) (n .lattice) (n .lo) (n .hi) (n .low) (n .high) (n .lengths)
+    where
+      made : (t : Setting) → t .cols ≡ s .cols → t .level ≡ s .level → t .levels ≡ s .levels → t .lattice ≡ s .lattice
+          → ((k : ℕ) → k < 16 → at (t .ends .lo) k ≡ clampTo R (at (s .ends .lo) k)) → ((k : ℕ) → k < 16 → at (t .ends .hi) k ≡ clampTo R (at (s .ends .hi) k))
+          → ((d : ℕ) → d < 16 → at (t .low) d ≡ clampTo R (at (s .low) d)) → ((d : ℕ) → d < 16 → at (t .high) d ≡ clampTo R (at (s .high) d))
+          → (length (t .ends .lo) ≡ 16) × (length (t .ends .hi) ≡ 16) → PreparedAt R p t
+      made t ec el en ea lo hi low high long = record {
+        count = rw ec (q .count);
+        capacity = rw ec (q .capacity);
+        weights = rw ec (q .weights);
+        prices = rw ec (q .prices);
+        lows = λ k h. lo k (item<16 k h) ∙ ap (clampTo R) (q .lows k h) ∙ low-end (itemAt p k .lower) (omega (arith, most-covers p (p .count) k h .lower, bounds≤));
+        highs = λ k h. hi k (item<16 k h) ∙ ap (clampTo R) (q .highs k h) ∙ high-end (itemAt p k .upper) (omega (arith, most-covers p (p .count) k h .upper, bounds≤));
+        ready = record {
+          sized = record { columns = rw ec (q .ready .sized .columns); ends = record { lo-in = ends-in (t .ends .lo) (long .0) (λ k. at (s .ends .lo) k) lo; hi-in = ends-in (t .ends .hi) (long .1) (λ k. at (s .ends .hi) k) hi } };
+          ordered = rw ec (q .ready .ordered);
+          in-order = λ k h. let m : k < s .cols .count = rw ec at h in let f : k < 16 = omega (arith, q .count, range .few-items) in rw (lo k f, hi k f) (clamp-mono R (at (s .ends .lo) k) (at (s .ends .hi) k) (q .ready .in-order k m));
+          few = rw en (q .ready .few);
+          level-in = rw (ec, el, en) (q .ready .level-in);
+          distinct = rw (el, en) (q .ready .distinct);
+          low-is = λ d h. let m : d < s .levels = rw en at h in low d (levels≤ d m) ∙ ap (clampTo R) (q .ready .low-is d m) ∙ sym (rw el (lo (levelAt s d) (level-in d m)));
+          high-is = λ d h. let m : d < s .levels = rw en at h in high d (levels≤ d m) ∙ ap (clampTo R) (q .ready .high-is d m) ∙ sym (rw el (hi (levelAt s d) (level-in d m)));
+          tame = rw ea (q .ready .tame);
+          changes = λ d h nz.
+              let m : d < s .levels = rw en at h in
+              let c = q .ready .changes d m (rw ea at nz) in
+              record {
+                fixed = λ k l f. let x : k < s .cols .count = rw ec at l in let y : k < 16 = omega (arith, q .count, range .few-items) in lo k y ∙ ap (clampTo R) (c .fixed k x (rw (el, en) at f)) ∙ sym (hi k y);
+                on = rw (ec, el, en, ea) (c .on);
+              };
+        };
+        marked = record { integer = rw (el, en) (q .marked .integer); level = rw (ec, el, en) (q .marked .level) };
+      }
