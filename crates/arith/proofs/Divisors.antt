@@ -2,14 +2,13 @@
 --   IsGcd a b g     g divides both, and each common divisor divides g
 -- gcd-is, gcd-unique: gcdOf is that number, and no other is.
 -- lowest-…: lowest p q has the value p / q, a divisor from 1 on and no common divisor above 1.
-use mathlib.Core.Path.{_≡_, refl, sym, ap, _∙_}
-use mathlib.Core.Path.{subst}
+use mathlib.Core.Path.{_≡_, refl, ap, _∙_}
 use lib.IntN.{ℤ, pos, negsuc, negℤ, natAbs, _*ℤ_}
 use Rattle.arith.specs.Gcd.{Divides, gcdIn, gcdOf, signed, lowest}
 use Rattle.arith.proofs.Integers.{split, zed, natAbs-neg}
 use Prim.Native.Nat.{ℕ, zero, suc, _+_, _*_, _-_, _/_, _%_, _≤_, _<_}
 use native.Mathlib.Omega.{arith}
-use native.Mathlib.Nat.{div-add-mod, mod-lt, mul-sub, mul-comm, mul-le-mul-right, eq-of-mul-eq-mul-right, mul-div-cancel}
+use native.Mathlib.Nat.{div-add-mod, mod-lt, mul-sub, mul-comm, eq-of-mul-eq-mul-right, mul-div-cancel}
 
 -- g is the greatest common divisor of a and b: it divides both, and each common divisor divides it
 pub record IsGcd (a b g : ℕ) : Type 0 where

@@ -3,7 +3,7 @@
 --   Common n x      a divisor that serves the first n of the fractions x
 -- over-…: sums, multiples and orders of fractions are those of the numerators over D.
 -- common: there is such a divisor.
-use mathlib.Core.Path.{_≡_, refl, sym, ap, ap₂, _∙_, subst, subst₂}
+use mathlib.Core.Path.{_≡_, sym, ap, ap₂, _∙_, subst, subst₂}
 use mathlib.Core.Logic.{_↔_, _⊎_, inl, inr}
 use Prim.Native.Nat.{ℕ, zero, suc, _+_, _*_, _≤_, _<_}
 use native.Mathlib.Omega.{arith}
@@ -13,7 +13,7 @@ use lib.IntN.{ℤ, pos, _+ℤ_, _*ℤ_}
 use lib.Signed.{_≤ℤ_, _<ℤ_, clashℤ}
 use Rattle.arith.specs.Sum.{sum, Each, pick}
 use Rattle.arith.specs.Fractions.{Frac, int, frac, _+ᶠ_, _·ᶠ_, _≤ᶠ_, _<ᶠ_, _≈ᶠ_, total}
-use Rattle.arith.proofs.Integers.{_⊖_, split, split2, zed, ≤ℤ-or-<, times-≤, times-≤-back, times-≡-back}
+use Rattle.arith.proofs.Integers.{split, split2, zed, ≤ℤ-or-<, times-≤, times-≤-back, times-≡-back}
 use Rattle.arith.proofs.Sums.{pick-ind}
 
 -- x = n / D

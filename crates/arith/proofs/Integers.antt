@@ -5,16 +5,16 @@
 -- zed: the ruleset that turns sums, products, signs, orders and equations of differences into those of naturals, so that
 --   `split3 _ (λ a b c e f g. simp zed (omega arith))` proves any linear law and any ring identity.
 -- ≤ℤ-trans, +ℤ-mono, times-≤ …: the order's laws; natAbs-…: the absolute value.
-use mathlib.Core.Path.{_≡_, refl, sym, ap, ap₂, _∙_, subst, subst₂}
+use mathlib.Core.Path.{_≡_, refl, sym, ap, subst}
 use mathlib.Core.Bool.{Bool, true, false, cond, not}
-use mathlib.Core.Logic.{_↔_, _⊎_, inl, inr, ⊎-elim}
+use mathlib.Core.Logic.{_↔_, _⊎_, inl, inr}
 use native.Mathlib.Nat.{mul-le-mul-right, le-of-mul-le-mul-right}
 use Prim.Native.Nat.{ℕ, zero, suc, _+_, _*_, _-_, _≤_, _<_, min, max}
 use native.Mathlib.Omega.{arith}
 use native.Mathlib.Decide.{decLt}
-use lib.IntN.{ℤ, pos, negsuc, negℤ, natAbs, subℕ, _+ℤ_, _-ℤ_, _*ℤ_}
+use lib.IntN.{ℤ, pos, negsuc, negℤ, natAbs, subℕ, _+ℤ_, _*ℤ_}
 use lib.Signed.{_≤ℤ_, _<ℤ_, leZ, ltZ, leZ-yes, ltZ-yes, ltZ-no}
-use lib.Dec.{T, ltb, leb, ltb→lt, nltb→le, leb→le, le→leb, lt→ltb}
+use lib.Dec.{T, ltb, leb, ltb→lt, leb→le, le→leb, lt→ltb}
 use borrow.Author.Tests.{lt-ltb, le-ltb}
 
 -- z is a minus b

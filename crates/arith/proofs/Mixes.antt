@@ -3,16 +3,16 @@
 -- less-true, less-false: the order of two numbers from the test.
 use mathlib.Core.Path.{_≡_, refl, sym, _∙_}
 use mathlib.Core.Bool.{Bool, true, false, cond}
-use Prim.Native.Nat.{ℕ, suc, _+_, _*_, _<_, _≤_}
-use native.Mathlib.Nat.{mul-le-mul, mul-le-mul-left, mul-le-mul-right}
+use Prim.Native.Nat.{ℕ, _+_, _*_, _<_, _≤_}
+use native.Mathlib.Nat.{mul-le-mul, mul-le-mul-right}
 use native.Mathlib.Omega.{arith}
 use lib.Dec.{ltb}
-use lib.IntN.{ℤ, pos, negsuc, _+ℤ_, _*ℤ_}
+use lib.IntN.{ℤ, pos, _+ℤ_, _*ℤ_}
 use lib.Signed.{_≤ℤ_, _<ℤ_, ltZ}
 use borrow.Author.Tests.{ltb-true, ltb-false}
 use Rattle.arith.specs.declared.Mixed.{Mixed}
 use Rattle.arith.specs.Mixed.{Proper, lessMixed}
-use Rattle.arith.proofs.Integers.{_⊖_, split, split2, zed, ≤ℤ-antisym}
+use Rattle.arith.proofs.Integers.{split, split2, zed, ≤ℤ-antisym}
 use Rattle.arith.proofs.Parts.{impossible}
 use Rattle.arith.proofs.Words.{yes-lt, no-lt}
 

@@ -6,7 +6,7 @@
 use mathlib.Core.Path.{_≡_, refl, sym, ap, ap₂, _∙_, subst}
 use Prim.Native.Nat.{_^_, max, ℕ, zero, suc, _+_, _*_, _-_, _≤_, _<_}
 use native.Mathlib.Omega.{arith}
-use lib.IntN.{ℤ, pos, negsuc, negℤ, subℕ, _+ℤ_, _-ℤ_, _*ℤ_}
+use lib.IntN.{ℤ, pos, negsuc, negℤ, _+ℤ_, _-ℤ_, _*ℤ_}
 use lib.Signed.{nonNeg, _≤ℤ_, _<ℤ_, leZ, ltZ, leZ-yes, ltZ-yes, ltZ-no}
 use borrow.Author.Tests.{leb-false}
 use mir.Syntax.{w64}
@@ -15,9 +15,9 @@ use mir.Facts.{toZ-ofZ}
 use mathlib.Core.Bool.{Bool, true, false, not}
 use lib.IntN.{natAbs}
 use native.Mathlib.Nat.{mul-le-mul}
-use lib.Dec.{T, ltb, leb, ltb→lt, nltb→le, leb→le, le→leb, lt→ltb}
+use lib.Dec.{T, ltb, leb, ltb→lt, leb→le, lt→ltb}
 use Rattle.arith.specs.Within.{up, dn, Within}
-use Rattle.arith.proofs.Integers.{split, zed, Is, is-add, is-neg, is-mul, is-unique, is-le, le-is}
+use Rattle.arith.proofs.Integers.{split, zed, Is, is-add, is-neg, is-mul, is-le, le-is}
 
 abbrev yes-type : Bool → Type 0
 yes-type true = Unit {0}

@@ -1,15 +1,15 @@
 -- Division towards zero and its remainder.
-use mathlib.Core.Path.{_≡_, refl, sym, ap, ap₂, _∙_, subst}
-use Prim.Native.Nat.{ℕ, zero, suc, _+_, _*_, _-_, _/_, _%_, _^_, _≤_, _<_}
+use mathlib.Core.Path.{_≡_, refl, sym, ap}
+use Prim.Native.Nat.{ℕ, zero, suc, _+_, _*_, _-_, _/_, _%_, _<_}
 use native.Mathlib.Nat.{div-add-mod, mod-lt, div-le-self, mod-le}
 use native.Mathlib.Omega.{arith}
 use lib.IntN.{ℤ, pos, negsuc, negℤ, natAbs, _+ℤ_, _-ℤ_, _*ℤ_}
-use lib.Signed.{_≤ℤ_, _<ℤ_, quotZ, remZ}
+use lib.Signed.{quotZ, remZ}
 use mir.Syntax.{w64}
 use mir.Val.{SFits, ofZ}
-use Rattle.arith.proofs.Integers.{_⊖_, zed, split, split3}
+use Rattle.arith.proofs.Integers.{zed, split, split3}
 use Rattle.arith.specs.Within.{up, dn, Within}
-use Rattle.arith.proofs.Parts.{zs, neg-within}
+use Rattle.arith.proofs.Parts.{neg-within}
 
 pub mul-sub : (x y z : ℤ) → x *ℤ (y -ℤ z) ≡ x *ℤ y -ℤ x *ℤ z
 mul-sub = split3 _ (λ a b c e f g. simp zed (omega arith))

@@ -10,12 +10,12 @@ use Prim.Native.Nat.{ℕ, zero, suc, _+_, _*_, _/_, _%_, _≤_, _<_}
 use native.Mathlib.Nat.{div-add-mod', div-le-self, mod-lt, mul-le-mul-left}
 use native.Mathlib.Omega.{arith}
 use lib.IntN.{ℤ, pos, negsuc, negℤ, _+ℤ_, _-ℤ_, _*ℤ_}
-use lib.Signed.{_≤ℤ_, _<ℤ_, ltZ-yes, quotZ, remZ}
+use lib.Signed.{_≤ℤ_, _<ℤ_, ltZ-yes}
 use Rattle.arith.specs.Within.{up, dn, Within}
 use Rattle.arith.proofs.Parts.{zs, sum, diff, above-dn, below-up, lt-le, within-neg}
-use Rattle.arith.proofs.Quotients.{quot-rem, rem-small, mul-sub, mul-add, mul-one}
+use Rattle.arith.proofs.Quotients.{mul-sub, mul-one}
 use Rattle.arith.specs.Division.{floorBy, floorDiv, ceilDiv}
-use Rattle.arith.proofs.Integers.{_⊖_, split, split2, split3, zed, ≤ℤ-or-<, ≤ℤ-antisym}
+use Rattle.arith.proofs.Integers.{split, split2, split3, zed, ≤ℤ-or-<, ≤ℤ-antisym}
 
 pub record IsFloor (n d q : ℤ) : Type 0 where
   pub positive : pos 0 <ℤ d → ((d *ℤ q) ≤ℤ n) × (n <ℤ (d *ℤ q +ℤ d))

@@ -4,16 +4,15 @@
 -- sum-least, part-of-sum: bounds of a sum and of its parts.
 --   far n X N      the distance of N from X, place by place; far-bump: how a change at one place lowers it
 -- find: a place where the one holds, or the other everywhere.
-use mathlib.Core.Path.{_≡_, refl, sym, ap, ap₂, _∙_, subst}
-use mathlib.Core.Bool.{Bool, true, false, cond}
-use mathlib.Core.Logic.{_↔_, _≢_, _⊎_, inl, inr}
+use mathlib.Core.Path.{_≡_, refl, sym, ap, ap₂, _∙_}
+use mathlib.Core.Logic.{_≢_, _⊎_, inl, inr}
 use Prim.Native.Nat.{ℕ, zero, suc, _+_, _*_, _≤_, _<_}
 use native.Mathlib.Omega.{arith}
-use native.Mathlib.Decide.{decLt, ℕ-discrete}
-use lib.IntN.{*ℤ-zero, *ℤ-comm, ℤ, pos, negsuc, negℤ, natAbs, _+ℤ_, _-ℤ_, _*ℤ_}
-use lib.Signed.{_≤ℤ_, _<ℤ_}
+use native.Mathlib.Decide.{ℕ-discrete}
+use lib.IntN.{*ℤ-zero, *ℤ-comm, ℤ, pos, negℤ, natAbs, _+ℤ_, _-ℤ_, _*ℤ_}
+use lib.Signed.{_≤ℤ_}
 use Rattle.arith.specs.Sum.{sum, Each, pick, bump}
-use Rattle.arith.proofs.Integers.{_⊖_, split, split2, split3, split4, zed, ≤ℤ-trans, ≤ℤ-reflexive, +ℤ-mono, times-≤}
+use Rattle.arith.proofs.Integers.{split, split2, split3, split4, zed, ≤ℤ-reflexive, +ℤ-mono}
 
 pub sum-mono : (n : ℕ) (f g : ℕ → ℤ) → Each n (λ k. f k ≤ℤ g k) → sum n f ≤ℤ sum n g
 sum-mono zero f g h = ≤ℤ-reflexive refl

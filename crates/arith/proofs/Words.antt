@@ -1,15 +1,15 @@
 -- Facts for proofs of code on signed integers: what a test says, and what fits.
 use mathlib.Core.Path.{_≡_, refl, sym, ap, _∙_, subst, subst₂}
 use mathlib.Core.Bool.{Bool, true, false, not}
-use Prim.Native.Nat.{ℕ, zero, suc, _+_, _≤_, _<_, _^_}
+use Prim.Native.Nat.{suc, _+_, _≤_, _<_, _^_}
 use native.Mathlib.Omega.{arith}
 use lib.IntN.{ℤ, pos, negsuc, _+ℤ_, _-ℤ_}
 use lib.Signed.{_≤ℤ_, _<ℤ_, ltZ, mag, ltZ-yes, ltZ-no, clashℤ}
 use lib.Dec.{T, leb→le}
 use mir.Syntax.{Width, w64}
-use mir.Val.{SFits, hbits, toZ, ofZ}
+use mir.Val.{SFits, toZ, ofZ}
 use mir.Facts.{toZ-ofZ}
-use Rattle.arith.proofs.Integers.{_⊖_, split, split2, split3, zed}
+use Rattle.arith.proofs.Integers.{split, split2, zed}
 
 -- a signed test `a < b` on two values that fit, as a condition leaves it: on the numbers themselves
 pub on-values : {w : Width} {a b : ℤ} {t : Bool} → SFits w a → SFits w b → ltZ (toZ w (ofZ w a)) (toZ w (ofZ w b)) ≡ t → ltZ a b ≡ t

@@ -2,7 +2,7 @@
 --   Proper m        part < parts ≤ 1000
 --   lessMixed a b   a is below b
 use mathlib.Core.Bool.{Bool, true, false, cond}
-use Prim.Native.Nat.{ℕ, _*_, _<_, _≤_}
+use Prim.Native.Nat.{_*_, _<_, _≤_}
 use lib.Dec.{ltb}
 use lib.Signed.{ltZ}
 use Rattle.arith.specs.declared.Mixed.{Mixed}

@@ -4,7 +4,6 @@
 --   bump f k r      f with r added at place k
 use Prim.Native.Nat.{ℕ, zero, suc, _<_}
 use native.Mathlib.Decide.{ℕ-discrete}
-use mathlib.Core.Path.{_≡_}
 use lib.IntN.{ℤ, pos, _+ℤ_}
 
 abbrev pub sum : ℕ → (ℕ → ℤ) → ℤ

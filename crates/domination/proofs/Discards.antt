@@ -19,18 +19,17 @@ use lib.IntN.{ℤ, pos, negℤ, _+ℤ_, _-ℤ_, _*ℤ_}
 use lib.Signed.{_≤ℤ_, _<ℤ_, clashℤ}
 use Rattle.arith.specs.Fractions.{Frac, int, frac, _+ᶠ_}
 use Rattle.arith.specs.Sum.{sum, Each, bump}
-use Rattle.arith.proofs.Fractions.{Over, over-int, over-frac, over-+, over-≤, common}
+use Rattle.arith.proofs.Fractions.{Over, over-int, over-frac, over-+, common}
 use Rattle.arith.proofs.Integers.{split, split2, split3, split4, zed, ≤ℤ-reflexive}
 use Rattle.arith.proofs.Parts.{lt-le}
 use Rattle.arith.proofs.Sums.{bump-same, bump-other}
-use Rattle.knapsack.specs.declared.Bound.{Bound}
-use Rattle.knapsack.specs.declared.Bound.the-variants.{Absent, At}
+use Rattle.knapsack.specs.declared.Bound.the-variants.{At}
 use Rattle.knapsack.specs.declared.Item.{Item}
 use Rattle.knapsack.specs.declared.Problem.{Problem}
 use Rattle.knapsack.specs.Records.{itemAt}
-use Rattle.knapsack.specs.Meaning.{Instance, instanceOf, Point, KeepsLower, KeepsUpper, Keeps, weights, prices, Optimal, CostPair, EqualPair}
-use Rattle.knapsack.proofs.Common.{KeepsLowerᴰ, KeepsUpperᴰ, Keepsᴰ, weighsᴰ, valueᴰ, Feasibleᴰ}
-use Rattle.knapsack.proofs.Bridge.{Reads, bridge-feasible, bridge-value}
+use Rattle.knapsack.specs.Meaning.{Instance, instanceOf, Point, Keeps, weights, prices, Optimal, CostPair, EqualPair}
+use Rattle.knapsack.proofs.Common.{Keepsᴰ, weighsᴰ, valueᴰ, Feasibleᴰ}
+use Rattle.knapsack.proofs.Bridge.{over-lower, over-upper, Reads, bridge-feasible, bridge-value}
 use Rattle.knapsack.proofs.Dual.{Within}
 use Rattle.knapsack.proofs.Moves.{shift, sum-shift, keeps-shift}
 use Rattle.domination.specs.declared.Pair.the-variants.{Steps}
@@ -104,18 +103,10 @@ module _ (s : Instance) (D : ℕ) (N : ℕ → ℤ) (i j : ℕ) (r t : ℤ) (h :
 
 -- ---- the same of points
 
-lower-over : {D : ℕ} {x : Frac} {n : ℤ} → 1 ≤ D → Over D x n → (b : Bound) → KeepsLower b x → KeepsLowerᴰ D b n
-lower-over d h Absent k = tt
-lower-over {D} d h (At l) k = over-≤ d (over-int D l) h .0 k
-
-upper-over : {D : ℕ} {x : Frac} {n : ℤ} → 1 ≤ D → Over D x n → (b : Bound) → KeepsUpper b x → KeepsUpperᴰ D b n
-upper-over d h Absent k = tt
-upper-over {D} d h (At u) k = over-≤ d h (over-int D u) .0 k
-
 within-over : (D : ℕ) (x : Frac) (n r : ℤ) (i : Item) → 1 ≤ D → Over D x n → Keeps i (x +ᶠ int (negℤ r)) → Within D i (n -ℤ r *ℤ pos D)
 within-over D x n r i d h k =
     let o = over-+ h (over-int D (negℤ r)) in
-    rw (away D n r) (record { above = lower-over d o (i .lower) (k .above); below = upper-over d o (i .upper) (k .below) })
+    rw (away D n r) (record { above = over-lower d o (i .lower) .0 (k .above); below = over-upper d o (i .upper) .0 (k .below) })
 
 pub cost-not-optimal : (s : Instance) (x : Point) (i j : ℕ) (r t : ℤ) → i < s .count → j < s .count → j ≢ i → CostPair (s .item i) (s .item j) r t
     → Keeps (s .item i) (x i +ᶠ int (negℤ r)) → Keeps (s .item j) (x j +ᶠ int (negℤ t)) → ¬ Optimal s x

@@ -29,7 +29,8 @@ use Rattle.feasibility.specs.declared.Candidate.{Candidate}
 use Rattle.feasibility.specs.declared.Side.the-variants.{Lower, Upper}
 use Rattle.feasibility.specs.Amounts.{amountAt, GoodAmount}
 use Rattle.feasibility.specs.Check.{breaksMark, breaksBound, breaks, orElse, numbered, firstBroken}
-use Rattle.feasibility.proofs.Divisor.{neither, not-above, one-more}
+use Rattle.knapsack.proofs.Items.{neither}
+use Rattle.feasibility.proofs.Divisor.{not-above, one-more}
 
 -- ---- what is found
 

@@ -4,7 +4,7 @@
 -- serves: the common divisor does, where it is not 0.
 -- divisor-iff: it is 0 exactly if row 8 refuses the amounts.
 use mathlib.Core.Path.{_≡_, refl, sym, ap, _∙_, subst}
-use mathlib.Core.Bool.{Bool, true, false, cond}
+use mathlib.Core.Bool.{Bool, true, false}
 use mathlib.Core.Logic.{_↔_, _≢_}
 use Prim.Native.Nat.{ℕ, zero, suc, _*_, _≤_, _<_}
 use native.Mathlib.Decide.{ℕ-discrete}
@@ -16,13 +16,8 @@ use Rattle.arith.specs.Gcd.{Divides, gcdOf}
 use Rattle.arith.specs.Sum.{Each}
 use Rattle.arith.specs.declared.Fraction.{Fraction}
 use Rattle.arith.proofs.Divisors.{gcd-is, divisor-pos}
-use Rattle.arith.proofs.Parts.{impossible}
+use Rattle.knapsack.proofs.Items.{neither}
 use Rattle.feasibility.specs.Amounts.{GoodAmount, GoodPoint, badAmount, joined, commonDivisor}
-
--- of two tests in a row neither holds
-pub neither : (a b : Bool) → cond a true b ≡ false → (a ≡ false) × (b ≡ false)
-neither true b h = absurd (impossible (sym h))
-neither false b h = (refl, h)
 
 good : (x : Fraction) → badAmount x ≡ false → GoodAmount x
 unfolding badAmount

@@ -1,6 +1,6 @@
 -- How large the numbers get once nothing is refused: every product and sum of the check fits 64 bits.
 -- numerator-small: an amount over the common divisor; term-within, total-within: what is summed, and the sums.
-use Prim.Native.Nat.{ℕ, zero, suc, _+_, _*_, _/_, _≤_}
+use Prim.Native.Nat.{ℕ, zero, suc, _*_, _/_, _≤_}
 use native.Mathlib.Nat.{mul-le-mul-left, mul-le-mul-right, mul-div-le}
 use native.Mathlib.Omega.{arith}
 use lib.IntN.{natAbs}

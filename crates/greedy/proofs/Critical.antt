@@ -1,22 +1,20 @@
 -- The relaxation's certificate: items of a better ratio at their heavy end, of a worse one at their light end, and one item filled up to the capacity.
-use mathlib.Core.Path.{_≡_, refl, sym, ap, ap₂, _∙_, subst}
-use mathlib.Core.Logic.{_≢_, _⊎_, inl, inr}
-use Prim.Native.Nat.{ℕ, zero, suc, _+_, _*_, _≤_, _<_}
+use mathlib.Core.Path.{_≡_, refl, ap, ap₂, _∙_}
+use mathlib.Core.Logic.{_≢_}
+use Prim.Native.Nat.{ℕ, suc, _+_, _*_, _≤_, _<_}
 use native.Mathlib.Omega.{arith}
-use native.Mathlib.Nat.{mul-le-mul-left}
 use native.Mathlib.Decide.{ℕ-discrete}
 use lib.IntN.{ℤ, pos, negsuc, negℤ, natAbs, _+ℤ_, _-ℤ_, _*ℤ_}
 use lib.Signed.{_≤ℤ_, _<ℤ_}
-use Rattle.arith.proofs.Integers.{_⊖_, split, split2, split3, split4, zed}
-use Rattle.arith.proofs.Sums.{bump-same, bump-other, sum-bump, sum-times}
-use Rattle.arith.specs.Sum.{sum, Each, bump}
-use Rattle.knapsack.proofs.Common.{weighsᴰ, valueᴰ, Feasibleᴰ}
+use Rattle.arith.proofs.Integers.{split, split2, split3, zed}
+use Rattle.arith.proofs.Sums.{bump-other, sum-bump, sum-times}
+use Rattle.arith.specs.Sum.{sum, bump}
+use Rattle.knapsack.proofs.Common.{weighsᴰ}
 use Rattle.knapsack.proofs.Dual.{score, AtBound, AtEnd, Certificate}
 use Rattle.knapsack.specs.Meaning.{Instance, weights, prices}
 use Rattle.knapsack.specs.declared.Bound.{Bound}
-use Rattle.knapsack.specs.declared.Bound.the-variants.{Absent, At}
+use Rattle.knapsack.specs.declared.Bound.the-variants.{At}
 use Rattle.knapsack.specs.declared.Item.{Item}
-use Rattle.knapsack.specs.declared.Mark.{Mark}
 use Rattle.greedy.specs.Fill.{turned}
 
 -- the end where an item weighs most, and where it weighs least

@@ -1,25 +1,24 @@
 -- The relaxation of a box, item by item: every item at its light end, then those that are worth their weight to their heavy end, by falling ratio, until one does not fit.
-use mathlib.Core.Path.{_≡_, refl, sym, ap, ap₂, _∙_, subst, subst₂}
-use mathlib.Core.Logic.{_↔_, _≢_, _⊎_, inl, inr}
+use mathlib.Core.Path.{_≡_, refl, sym, ap, ap₂, _∙_, subst}
+use mathlib.Core.Logic.{_≢_, _⊎_, inl, inr}
 use Prim.Native.Nat.{ℕ, zero, suc, _+_, _*_, _≤_, _<_}
 use native.Mathlib.Omega.{arith}
 use native.Mathlib.Nat.{mul-le-mul, mul-le-mul-left, mul-le-mul-right}
 use native.Mathlib.Decide.{decLt, ℕ-discrete}
-use lib.IntN.{ℤ, pos, negsuc, negℤ, natAbs, _+ℤ_, _-ℤ_, _*ℤ_, *ℤ-comm}
+use lib.IntN.{ℤ, pos, negsuc, negℤ, natAbs, _+ℤ_, _-ℤ_, _*ℤ_}
 use lib.Signed.{_≤ℤ_, _<ℤ_, ≤ℤ-refl}
-use Rattle.arith.proofs.Integers.{_⊖_, split, split2, split3, split4, zed, ≤ℤ-trans, ≤ℤ-reflexive, ≤ℤ-or-<, times-≤}
+use Rattle.arith.proofs.Integers.{split, split2, split3, zed, ≤ℤ-trans, ≤ℤ-reflexive, ≤ℤ-or-<, times-≤}
 use Rattle.arith.proofs.Sums.{bump-same, bump-other, sum-bump, sum-cong}
 use Rattle.arith.specs.Sum.{sum, Each, bump}
 use Rattle.greedy.specs.Fill.{turned, unit}
 use Rattle.greedy.specs.Ordered.{Idle}
-use Rattle.greedy.proofs.Critical.{HeavyEnd, LightEnd, heavy-end, light-end, filled, fill, fill-price}
+use Rattle.greedy.proofs.Critical.{heavy-end, light-end, filled, fill, fill-price}
 use Rattle.knapsack.proofs.Branch.{TooHeavy}
-use Rattle.knapsack.proofs.Common.{KeepsMarkᴰ, KeepsLowerᴰ, KeepsUpperᴰ, Keepsᴰ, weighsᴰ, valueᴰ, Feasibleᴰ}
+use Rattle.knapsack.proofs.Common.{KeepsMarkᴰ, KeepsLowerᴰ, KeepsUpperᴰ, weighsᴰ, Feasibleᴰ}
 use Rattle.knapsack.proofs.Dual.{score, AtBound, AtEnd, Certificate, Within}
 use Rattle.knapsack.specs.Meaning.{Instance, weights, prices}
 use Rattle.knapsack.specs.declared.Bound.{Bound}
-use Rattle.knapsack.specs.declared.Bound.the-variants.{Absent, At}
-use Rattle.knapsack.specs.declared.Item.{Item}
+use Rattle.knapsack.specs.declared.Bound.the-variants.{At}
 use Rattle.knapsack.specs.declared.Mark.{Mark}
 use Rattle.knapsack.specs.declared.Mark.the-variants.{Integer, Continuous}
 

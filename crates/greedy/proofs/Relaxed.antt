@@ -19,24 +19,23 @@ use borrow.Author.Tests.{lt-ltb, le-ltb, ltb-true, ltb-false, eq-eqb, ne-eqb, eq
 use Rattle.arith.specs.Division.{floorBy, floorDiv, ceilDiv}
 use Rattle.arith.specs.Sum.{sum, Each, bump}
 use Rattle.arith.specs.declared.Mixed.{Mixed}
-use Rattle.arith.proofs.Integers.{_⊖_, split, split2, split3, split4, zed, ≤ℤ-trans, ≤ℤ-or-<, times-≤, times-≤-back}
+use Rattle.arith.proofs.Integers.{split, split2, split3, split4, zed, ≤ℤ-or-<, times-≤, times-≤-back}
 use Rattle.arith.proofs.Sums.{bump-same, bump-other, sum-bump, sum-cong, sum-times}
 use Rattle.arith.proofs.Words.{yes-lt, no-lt, lt-yes, le-no}
-use Rattle.arith.proofs.Parts.{impossible}
 use Rattle.arith.proofs.Mixes.{over}
 use Rattle.knapsack.specs.declared.Bound.the-variants.{At}
 use Rattle.knapsack.specs.declared.Mark.{Mark}
 use Rattle.knapsack.specs.declared.Mark.the-variants.{Integer, Continuous}
-use Rattle.knapsack.specs.Meaning.{Instance, weights, prices}
+use Rattle.knapsack.specs.Meaning.{Instance}
 use Rattle.knapsack.proofs.Common.{KeepsMarkᴰ, Keepsᴰ, weighsᴰ, valueᴰ, Feasibleᴰ}
-use Rattle.knapsack.proofs.Dual.{score, AtEnd, Certificate, certified, Within, within, slope}
-use Rattle.knapsack.proofs.Branch.{AtMost, leaf, TooHeavy, empty}
+use Rattle.knapsack.proofs.Dual.{score, AtEnd, Certificate, within, slope}
+use Rattle.knapsack.proofs.Branch.{AtMost, leaf, empty}
 use Rattle.greedy.specs.declared.Columns.{Columns}
 use Rattle.greedy.specs.declared.Ends.{Ends}
 use Rattle.greedy.specs.declared.Fill.{Fill}
-use Rattle.greedy.specs.Fill.{at, weightOf, priceOf, itemOf, rankOf, lightest, heaviest, turned, lightOf, heavyOf, width, begun, raised, raisedBy, fillFrom, fill, sizeOf, rateOf, sharedBy, bound, fitted, start, unit, stand, taken, solution}
-use Rattle.greedy.specs.Ordered.{Idle, weightAt, rateAt, Ordered}
-use Rattle.greedy.proofs.Greedy.{Boxed, LightAt, HeavyAt, Ranked, Inv, Critical, too-heavy, begin, raise, finish, inv-feasible, standing, critical, not-idle, abs≥1, turned-abs, light-in, heavy-in, sign-of, turned-up, turned-dn, unit-abs, price-abs}
+use Rattle.greedy.specs.Fill.{at, weightOf, priceOf, itemOf, rankOf, lightest, heaviest, turned, lightOf, heavyOf, width, begun, raised, fillFrom, fill, sizeOf, rateOf, sharedBy, bound, fitted, start, unit, stand, solution}
+use Rattle.greedy.specs.Ordered.{Idle, weightAt, Ordered}
+use Rattle.greedy.proofs.Greedy.{Boxed, LightAt, HeavyAt, Ranked, Inv, Critical, too-heavy, begin, raise, finish, inv-feasible, standing, critical, not-idle, abs≥1, turned-abs, light-in, heavy-in, unit-abs, price-abs}
 use Rattle.greedy.proofs.Critical.{own-score}
 use Rattle.greedy.proofs.Sides.{is-lightest, is-heaviest, lift-price}
 

@@ -3,11 +3,11 @@
 use mathlib.Core.Path.{_≡_, refl, sym, ap, ap₂, _∙_}
 use mathlib.Core.Bool.{Bool, true, false, cond}
 use mathlib.Core.Logic.{_≢_, _⊎_, inl, inr}
-use Prim.Native.Nat.{ℕ, zero, suc}
+use Prim.Native.Nat.{zero}
 use native.Mathlib.Omega.{arith}
-use lib.IntN.{ℤ, pos, negsuc, negℤ, natAbs, _+ℤ_, _-ℤ_, _*ℤ_}
+use lib.IntN.{ℤ, pos, negℤ, _-ℤ_, _*ℤ_}
 use lib.Signed.{_≤ℤ_, _<ℤ_, ltZ, clashℤ}
-use Rattle.arith.proofs.Integers.{_⊖_, split, split2, split3, zed, ≤ℤ-antisym}
+use Rattle.arith.proofs.Integers.{split, split3, zed}
 use Rattle.arith.proofs.Words.{yes-lt, no-lt}
 use Rattle.greedy.specs.Fill.{lightest, heaviest, turned}
 use Rattle.greedy.proofs.Greedy.{LightAt, HeavyAt, sign-of, turned-up, turned-dn}

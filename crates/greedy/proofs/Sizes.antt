@@ -1,11 +1,10 @@
 -- How large the numbers of a filling get.
 -- light-within, heavy-within: an end is in the range of ends; corner-weight-within, corner-worth-within: sums of light ends.
 -- fill-sized: a filling's numbers.
-use mathlib.Core.Path.{_≡_, refl}
 use mathlib.Core.Bool.{Bool, true, false, cond}
-use Prim.Native.Nat.{ℕ, zero, suc, _+_, _*_, _≤_, _<_}
+use Prim.Native.Nat.{ℕ, zero, suc, _+_, _*_, _≤_}
 use native.Mathlib.Omega.{arith}
-use lib.IntN.{ℤ, pos, _+ℤ_, _-ℤ_, _*ℤ_}
+use lib.IntN.{ℤ, pos, _*ℤ_}
 use lib.Signed.{ltZ}
 use Rattle.arith.specs.Sum.{sum}
 use Rattle.arith.specs.Within.{Within}
@@ -13,8 +12,8 @@ use Rattle.arith.proofs.Parts.{within-mul, within-add, within-sub, within-more}
 use Rattle.greedy.specs.declared.Columns.{Columns}
 use Rattle.greedy.specs.declared.Ends.{Ends}
 use Rattle.greedy.specs.declared.Fill.{Fill}
-use Rattle.greedy.specs.Fill.{at, weightOf, priceOf, lightest, heaviest, lightOf, heavyOf, width, cornerWeight, cornerWorth, begun, raised, fillFrom, fill}
-use Rattle.greedy.specs.Sized.{SizedColumns, SizedEnds, Sized, SizedFill}
+use Rattle.greedy.specs.Fill.{at, weightOf, priceOf, lightest, lightOf, heavyOf, width, cornerWeight, cornerWorth, begun, raised, fillFrom, fill}
+use Rattle.greedy.specs.Sized.{Sized, SizedFill}
 
 -- one of two numbers in a range is in it
 pub cond-within : {m : ℕ} {x y : ℤ} (b : Bool) → Within m x → Within m y → Within m (cond b x y)

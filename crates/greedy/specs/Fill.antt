@@ -4,7 +4,7 @@
 --   bound c e f     the value of the relaxation, where the room is not below 0
 --   start c e f k   item k's amount in the relaxation, rounded towards its light end
 --   solution c e f  the relaxation's point, over the divisor of its bound
-use mathlib.Core.Bool.{Bool, true, false, cond}
+use mathlib.Core.Bool.{true, false, cond}
 use mathlib.Core.List.{List}
 use Prim.Native.Nat.{ℕ, zero, suc, _+_, _*_, _/_, _%_}
 use lib.Dec.{ltb, eqb}

@@ -3,12 +3,12 @@
 --   Raisable f …    the same of one turn of the filling
 --   Fittable l u r  the same of an amount that just fits
 use Prim.Native.Nat.{ℕ, _≤_, _<_}
-use lib.IntN.{ℤ, pos, natAbs}
+use lib.IntN.{ℤ, natAbs}
 use Rattle.arith.specs.Within.{Within}
 use Rattle.greedy.specs.declared.Columns.{Columns}
 use Rattle.greedy.specs.declared.Ends.{Ends}
 use Rattle.greedy.specs.declared.Fill.{Fill}
-use Rattle.greedy.specs.Fill.{at, place, itemOf, rankOf, weightOf, priceOf}
+use Rattle.greedy.specs.Fill.{at, itemOf, weightOf, priceOf}
 
 pub record SizedColumns (c : Columns) : Type 0 where
   pub few : c .count ≤ 16

@@ -1,21 +1,17 @@
 -- A point of fractions and its numerators over one common denominator say the same.
-use mathlib.Core.Path.{_≡_, refl, sym, ap, ap₂, _∙_, subst, subst₂}
-use mathlib.Core.Logic.{_↔_, _≢_, _⊎_, inl, inr}
-use Prim.Native.Nat.{ℕ, zero, suc, _+_, _*_, _≤_, _<_}
+use mathlib.Core.Path.{_≡_, sym, ap, _∙_}
+use mathlib.Core.Logic.{_↔_}
+use Prim.Native.Nat.{ℕ, _*_, _≤_, _<_}
 use native.Mathlib.Omega.{arith}
 use native.Mathlib.Nat.{mul-le-mul, mul-comm}
-use native.Mathlib.Decide.{ℕ-discrete}
-use lib.IntN.{ℤ, pos, negsuc, negℤ, _+ℤ_, _-ℤ_, _*ℤ_}
-use lib.Signed.{_≤ℤ_, _<ℤ_}
-use Rattle.arith.proofs.Integers.{_⊖_, split, split2, split3, split4, zed, ≤ℤ-trans, ≤ℤ-reflexive, +ℤ-mono, times-≤, times-≤-back, times-≤-iff, times-≡-back}
-use Rattle.arith.proofs.Sums.{pick-ind}
-use Rattle.arith.specs.Fractions.{Frac, int, frac, _+ᶠ_, _·ᶠ_, _≤ᶠ_, _<ᶠ_, total}
-use Rattle.arith.specs.Sum.{Each, pick, sum}
+use lib.IntN.{ℤ, pos, _*ℤ_}
+use lib.Signed.{_≤ℤ_}
+use Rattle.arith.proofs.Integers.{split, zed, times-≡-back}
+use Rattle.arith.specs.Fractions.{Frac, int, _≤ᶠ_, total}
 use Rattle.knapsack.proofs.Common.{KeepsMarkᴰ, KeepsLowerᴰ, KeepsUpperᴰ, Keepsᴰ, weighsᴰ, valueᴰ, Feasibleᴰ, Optimalᴰ}
 use Rattle.knapsack.specs.Meaning.{Instance, Point, KeepsMark, KeepsLower, KeepsUpper, Keeps, weighs, value, Feasible, Optimal, Infeasible}
 use Rattle.knapsack.specs.declared.Bound.{Bound}
 use Rattle.knapsack.specs.declared.Bound.the-variants.{Absent, At}
-use Rattle.knapsack.specs.declared.Item.{Item}
 use Rattle.knapsack.specs.declared.Mark.{Mark}
 use Rattle.knapsack.specs.declared.Mark.the-variants.{Integer, Continuous}
 use Rattle.arith.proofs.Fractions.{Over, over-int, over-≤, over-total, over-scale, Common, common}
@@ -32,11 +28,11 @@ over-mark {D} {x} {n} d h Integer = (
     swap = split _ (λ a b s D. simp zed (omega arith))
 over-mark d h Continuous = (λ w. tt, λ w. tt)
 
-over-lower : {D : ℕ} {x : Frac} {n : ℤ} → 1 ≤ D → Over D x n → (b : Bound) → KeepsLower b x ↔ KeepsLowerᴰ D b n
+pub over-lower : {D : ℕ} {x : Frac} {n : ℤ} → 1 ≤ D → Over D x n → (b : Bound) → KeepsLower b x ↔ KeepsLowerᴰ D b n
 over-lower d h Absent = (λ w. tt, λ w. tt)
 over-lower {D} d h (At l) = over-≤ d (over-int D l) h
 
-over-upper : {D : ℕ} {x : Frac} {n : ℤ} → 1 ≤ D → Over D x n → (b : Bound) → KeepsUpper b x ↔ KeepsUpperᴰ D b n
+pub over-upper : {D : ℕ} {x : Frac} {n : ℤ} → 1 ≤ D → Over D x n → (b : Bound) → KeepsUpper b x ↔ KeepsUpperᴰ D b n
 over-upper d h Absent = (λ w. tt, λ w. tt)
 over-upper {D} d h (At u) = over-≤ d h (over-int D u)
 

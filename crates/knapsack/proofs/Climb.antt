@@ -1,12 +1,12 @@
 -- Arguments that end: improving a value that is bounded, and lowering a measure.
-use mathlib.Core.Path.{_≡_, refl, sym, ap, _∙_}
+use mathlib.Core.Path.{refl, ap}
 use mathlib.Core.Logic.{_⊎_, inl, inr}
 use Prim.Native.Nat.{ℕ, zero, suc, _+_, _*_, _≤_, _<_}
 use native.Mathlib.Omega.{arith}
 use native.Mathlib.Nat.{mul-le-mul-right}
 use lib.IntN.{ℤ, pos, natAbs, _+ℤ_, _-ℤ_}
-use lib.Signed.{_≤ℤ_, _<ℤ_, ≤ℤ-refl}
-use Rattle.arith.proofs.Integers.{_⊖_, split2, split3, split4, zed, ≤ℤ-trans}
+use lib.Signed.{_≤ℤ_, ≤ℤ-refl}
+use Rattle.arith.proofs.Integers.{split2, split3, zed, ≤ℤ-trans}
 
 -- each number is at most some natural number above any other
 pub gap : (u v : ℤ) → (n : ℕ) × (u ≤ℤ (v +ℤ pos n))

@@ -1,21 +1,18 @@
 -- Weak duality: a price p / q for a unit of weight bounds the value of every feasible point.
-use mathlib.Core.Path.{_≡_, refl, sym, ap, ap₂, _∙_, subst, subst₂}
-use mathlib.Core.Logic.{_↔_, _≢_, _⊎_, inl, inr}
+use mathlib.Core.Path.{_≡_, refl, ap, ap₂, _∙_, subst, subst₂}
 use Prim.Native.Nat.{ℕ, zero, suc, _+_, _*_, _≤_, _<_}
 use native.Mathlib.Omega.{arith}
-use native.Mathlib.Nat.{mul-le-mul, mul-le-mul-left, le-of-mul-le-mul-left, mul-comm}
-use lib.IntN.{ℤ, pos, negsuc, negℤ, _+ℤ_, _-ℤ_, _*ℤ_, *ℤ-comm, zero-*ℤ}
-use lib.Signed.{_≤ℤ_, _<ℤ_, ltZ-yes}
-use Rattle.arith.proofs.Integers.{_⊖_, split, split2, split3, split4, zed, ≤ℤ-trans, ≤ℤ-reflexive, +ℤ-mono, times-≤, times-≤-back, times-≤-iff, times-≡-back}
-use Rattle.arith.proofs.Sums.{sum-mono, sum-cong, sum-lin, sum-scale, sum-times}
+use native.Mathlib.Nat.{mul-le-mul, mul-le-mul-left, le-of-mul-le-mul-left}
+use lib.IntN.{ℤ, pos, negsuc, negℤ, _+ℤ_, _-ℤ_, _*ℤ_, zero-*ℤ}
+use lib.Signed.{_≤ℤ_, _<ℤ_}
+use Rattle.arith.proofs.Integers.{split, split2, split3, split4, zed, ≤ℤ-reflexive, times-≤}
+use Rattle.arith.proofs.Sums.{sum-mono, sum-cong, sum-lin, sum-times}
 use Rattle.arith.specs.Sum.{sum, Each}
-use Rattle.knapsack.proofs.Common.{Keepsᴰ, KeepsLowerᴰ, KeepsUpperᴰ, weighsᴰ, valueᴰ, Feasibleᴰ, Optimalᴰ}
+use Rattle.knapsack.proofs.Common.{Keepsᴰ, KeepsLowerᴰ, KeepsUpperᴰ, weighsᴰ, valueᴰ, Feasibleᴰ}
 use Rattle.knapsack.specs.Meaning.{Instance}
 use Rattle.knapsack.specs.declared.Bound.{Bound}
 use Rattle.knapsack.specs.declared.Bound.the-variants.{Absent, At}
 use Rattle.knapsack.specs.declared.Item.{Item}
-use Rattle.knapsack.specs.declared.Mark.{Mark}
-use Rattle.knapsack.specs.declared.Mark.the-variants.{Integer, Continuous}
 
 -- what one unit of an item of weight a and price c brings beyond the price of its weight, times q
 unfoldable pub score : ℕ → ℕ → ℤ → ℤ → ℤ

@@ -1,13 +1,13 @@
 -- `NoRay` is complete: where it fails there is a ray of one or two items. So every instance escapes or stays in reach.
-use mathlib.Core.Path.{_≡_, refl, sym, ap, ap₂, _∙_, subst, subst₂}
+use mathlib.Core.Path.{_≡_, refl, sym, ap, ap₂, _∙_, subst}
 use mathlib.Core.Logic.{_≢_, _⊎_, inl, inr}
 use Prim.Native.Nat.{ℕ, zero, suc, _+_, _*_, _≤_, _<_}
 use native.Mathlib.Omega.{arith}
 use native.Mathlib.Decide.{ℕ-discrete}
-use lib.IntN.{ℤ, pos, negsuc, negℤ, natAbs, _+ℤ_, _-ℤ_, _*ℤ_, *ℤ-zero}
+use lib.IntN.{ℤ, pos, negℤ, natAbs, _+ℤ_, _*ℤ_, *ℤ-zero}
 use lib.Signed.{_≤ℤ_, _<ℤ_}
-use Rattle.arith.proofs.Integers.{_⊖_, split, split2, split3, split4, zed, ≤ℤ-or-<}
-use Rattle.arith.proofs.Sums.{bump-same, bump-other, each-bump, sum-bump, find}
+use Rattle.arith.proofs.Integers.{split, split2, zed, ≤ℤ-or-<}
+use Rattle.arith.proofs.Sums.{bump-same, bump-other, each-bump, sum-bump}
 use Rattle.arith.specs.Sum.{sum, Each, bump}
 use Rattle.knapsack.proofs.Rays.{Ray, ray-unbounded}
 use Rattle.knapsack.proofs.Reach.{Way, fore, aft, turn, Free, NoRay, turn-mul, abs-up, abs-dn}
@@ -15,7 +15,6 @@ use Rattle.knapsack.specs.Meaning.{Instance, Point, Feasible, Unbounded,
 use Rattle.knapsack.specs.declared.Bound.{Bound}
 use Rattle.knapsack.specs.declared.Bound.the-variants.{Absent, At}
 use Rattle.knapsack.specs.declared.Item.{Item}
-use Rattle.knapsack.specs.declared.Mark.{Mark}
 
 -- steps on i and j alone that make the instance unbounded
 pub record Escape (s : Instance) : Type 0 where

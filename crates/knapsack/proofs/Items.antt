@@ -19,7 +19,7 @@ use Rattle.knapsack.specs.declared.Problem.{Problem}
 use Rattle.knapsack.specs.declared.Trial.the-variants.{Figures, Crossing}
 use Rattle.knapsack.specs.declared.Verdict.{Verdict}
 use Rattle.knapsack.specs.declared.Verdict.the-variants.{Accepted, Refused}
-use Rattle.knapsack.specs.Records.{itemAt, outside, badBound, badFigure, crossed, failing, someItem, badCount, refuse, verdict, BoundInRange, InOrder, ItemInRange, InRange}
+use Rattle.knapsack.specs.Records.{itemAt, outside, badBound, crossed, failing, someItem, badCount, refuse, verdict, BoundInRange, InOrder, ItemInRange, InRange}
 
 pub some-more : (k : ℕ) (f : ℕ → Item) (test : Item → Bool) → someItem k f test ≡ false → test (f k) ≡ false → someItem (suc k) f test ≡ false
 unfolding someItem
@@ -56,10 +56,10 @@ rows false false true e h = absurd (subst Taken (sym h) tt)
 rows false false false true h = absurd (subst Taken (sym h) tt)
 rows false false false false h = (refl, refl, refl, refl)
 
--- of two tests in a row
-either : (a b : Bool) → cond a true b ≡ false → (a ≡ false) × (b ≡ false)
-either true b h = absurd (impossible (sym h))
-either false b h = (refl, h)
+-- of two tests in a row neither holds
+pub neither : (a b : Bool) → cond a true b ≡ false → (a ≡ false) × (b ≡ false)
+neither true b h = absurd (impossible (sym h))
+neither false b h = (refl, h)
 
 inside : (n : ℕ) (z : ℤ) → outside n z ≡ false → natAbs z ≤ n
 inside n z h = ltb-false n (natAbs z) h
@@ -87,9 +87,9 @@ in-order (At l) (At u) h = le-no h
 
 item-in : (i : Item) → failing Figures i ≡ false → failing Crossing i ≡ false → ItemInRange i
 item-in i h k =
-    let w = either (outside 1000 (i .weight)) _ h in
-    let c = either (outside 10000 (i .price)) _ (w .1) in
-    let b = either (badBound (i .lower)) _ (c .1) in
+    let w = neither (outside 1000 (i .weight)) _ h in
+    let c = neither (outside 10000 (i .price)) _ (w .1) in
+    let b = neither (badBound (i .lower)) _ (c .1) in
     record {
       weight-in = inside 1000 (i .weight) (w .0);
       price-in = inside 10000 (i .price) (c .0);
@@ -111,7 +111,7 @@ pub accepted : (p : Problem) → verdict p ≡ Accepted → InRange p
 unfolding verdict
 accepted p h =
     let r = rows (badCount (p .count)) (outside 100000000 (p .capacity)) (someItem (p .count) (itemAt p) (failing Figures)) (someItem (p .count) (itemAt p) (failing Crossing)) h in
-    let n = either (eqb (p .count) 0) (ltb 16 (p .count)) (r .0) in
+    let n = neither (eqb (p .count) 0) (ltb 16 (p .count)) (r .0) in
     record {
       some-items = positive (p .count) (eqb-false (p .count) 0 (n .0));
       few-items = ltb-false 16 (p .count) (n .1);

@@ -1,26 +1,23 @@
 -- Unbounded: what a planner has to find, and that it excludes a best point.
-use mathlib.Core.Path.{_≡_, refl, sym, ap, ap₂, _∙_, subst, subst₂}
-use mathlib.Core.Logic.{_↔_, _≢_, _⊎_, inl, inr}
-use Prim.Native.Nat.{ℕ, zero, suc, _+_, _*_, _≤_, _<_}
+use mathlib.Core.Path.{_≡_, sym, ap, _∙_, subst}
+use mathlib.Core.Logic.{_≢_, _⊎_, inl, inr}
+use Prim.Native.Nat.{ℕ, suc, _+_, _*_, _≤_, _<_}
 use native.Mathlib.Omega.{arith}
-use native.Mathlib.Nat.{mul-comm, mul-le-mul, mul-le-mul-left, mul-le-mul-right}
-use lib.IntN.{ℤ, pos, negsuc, negℤ, natAbs, _+ℤ_, _-ℤ_, _*ℤ_, *ℤ-comm}
-use lib.Signed.{_≤ℤ_, _<ℤ_, ≤ℤ-refl, clashℤ}
+use native.Mathlib.Nat.{mul-comm, mul-le-mul, mul-le-mul-left}
+use lib.IntN.{ℤ, pos, _+ℤ_, _*ℤ_}
+use lib.Signed.{_≤ℤ_, _<ℤ_, clashℤ}
 use Rattle.arith.proofs.Fractions.{over-<, Over, over-int, over-+, over-≤, over-total, over-scale, Common, common}
-use Rattle.arith.proofs.Integers.{_⊖_, split, split2, split3, split4, zed, ≤ℤ-trans, ≤ℤ-reflexive, ≤ℤ-or-<, times-≤, times-≤-back}
+use Rattle.arith.proofs.Integers.{split, split2, split3, zed, ≤ℤ-or-<}
 use Rattle.arith.proofs.Sums.{sum-cong, sum-lin}
-use Rattle.arith.specs.Fractions.{Frac, int, _+ᶠ_, _·ᶠ_, _≤ᶠ_, _<ᶠ_, total}
-use Rattle.arith.specs.Sum.{sum, Each}
+use Rattle.arith.specs.Fractions.{Frac, int, _≤ᶠ_, _<ᶠ_, total}
+use Rattle.arith.specs.Sum.{sum}
 use Rattle.knapsack.proofs.Bridge.{Reads, bridge-feasible}
 use Rattle.knapsack.proofs.Climb.{gap}
-use Rattle.knapsack.proofs.Common.{KeepsMarkᴰ, KeepsLowerᴰ, KeepsUpperᴰ, Keepsᴰ, weighsᴰ, valueᴰ, Feasibleᴰ}
+use Rattle.knapsack.proofs.Common.{KeepsLowerᴰ, KeepsUpperᴰ, weighsᴰ, valueᴰ, Feasibleᴰ}
 use Rattle.knapsack.proofs.Moves.{mark-step}
 use Rattle.knapsack.specs.Meaning.{Instance, Point, value, Feasible, Optimal, Infeasible, stepped, Unbounded, weights, prices}
 use Rattle.knapsack.specs.declared.Bound.{Bound}
 use Rattle.knapsack.specs.declared.Bound.the-variants.{Absent, At}
-use Rattle.knapsack.specs.declared.Item.{Item}
-use Rattle.knapsack.specs.declared.Mark.{Mark}
-use Rattle.knapsack.specs.declared.Mark.the-variants.{Integer, Continuous}
 
 -- the numerators after t times the steps d
 abbrev pub steppedᴰ : ℕ → (ℕ → ℤ) → (ℕ → ℤ) → ℕ → ℕ → ℤ

@@ -1,26 +1,24 @@
 -- The starred rows of paper 01's table, from the meaning alone: certificates, branches and one ray.
 --   starred : StarredTable
-use mathlib.Core.Path.{_≡_, refl, sym, ap, _∙_}
-use mathlib.Core.Logic.{_≢_, _⊎_, inl, inr}
+use mathlib.Core.Path.{_≡_, refl, ap}
+use mathlib.Core.Logic.{_≢_}
 use Prim.Native.Nat.{ℕ, zero, suc, _+_, _*_, _≤_, _<_}
 use native.Mathlib.Omega.{arith}
 use native.Mathlib.Decide.{ℕ-discrete}
-use lib.IntN.{ℤ, pos, negsuc, negℤ, natAbs, _+ℤ_, _-ℤ_, _*ℤ_}
+use lib.IntN.{ℤ, pos, negsuc, natAbs, _+ℤ_, _*ℤ_}
 use lib.Signed.{_≤ℤ_, _<ℤ_, leZ-yes, ltZ-yes}
-use Rattle.arith.specs.Fractions.{Frac, frac, int, _+ᶠ_, _·ᶠ_, _≈ᶠ_}
+use Rattle.arith.specs.Fractions.{frac, int, _+ᶠ_, _·ᶠ_, _≈ᶠ_}
 use Rattle.arith.specs.Sum.{Each}
-use Rattle.arith.proofs.Fractions.{Over}
-use Rattle.arith.proofs.Integers.{_⊖_, split, split2, zed}
-use Rattle.knapsack.specs.declared.Bound.{Bound}
+use Rattle.arith.proofs.Integers.{split, split2, zed}
 use Rattle.knapsack.specs.declared.Bound.the-variants.{Absent, At}
 use Rattle.knapsack.specs.declared.Item.{Item}
-use Rattle.knapsack.specs.Meaning.{Instance, Point, value, Feasible, Optimal, Infeasible, Unbounded, relaxed, TwoSteps, CostPair, LeastPair, NoPair}
-use Rattle.knapsack.specs.Table.{item, sheet, at, by, A, B, C, D, E, F, G, H, I, J, K, M, Best, StarredTable}
-use Rattle.knapsack.proofs.Common.{Keepsᴰ, Feasibleᴰ, Optimalᴰ}
+use Rattle.knapsack.specs.Meaning.{Instance, Point, value, Feasible, Optimal, Infeasible, Unbounded, relaxed, LeastPair, NoPair}
+use Rattle.knapsack.specs.Table.{item, at, by, A, B, C, D, E, F, G, H, I, J, K, M, Best, StarredTable}
+use Rattle.knapsack.proofs.Common.{Feasibleᴰ}
 use Rattle.knapsack.proofs.Bridge.{Reads, bridge-optimal, bridge-infeasible, bridge-feasible}
-use Rattle.knapsack.proofs.Dual.{score, AtEnd, AtBound, Certificate, certified}
-use Rattle.knapsack.proofs.Branch.{AtMost, leaf, leaf-empty, TooHeavy, empty, narrow, branch, at-most-optimal}
-use Rattle.knapsack.proofs.Rays.{Ray, ray-unbounded}
+use Rattle.knapsack.proofs.Dual.{score, AtEnd, Certificate, certified}
+use Rattle.knapsack.proofs.Branch.{AtMost, leaf, leaf-empty, empty, narrow, branch, at-most-optimal}
+use Rattle.knapsack.proofs.Rays.{ray-unbounded}
 
 -- ---- each of one or two places
 

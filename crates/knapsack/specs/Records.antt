@@ -5,7 +5,6 @@
 --   InRange p       the record is a problem: the ranges of the paper's table
 --   verdict p       accepted, or refusal 3 (count), 4 (a figure), 6 (a lower bound above its upper), line 0
 use mathlib.Core.Bool.{Bool, true, false, cond}
-use mathlib.Core.List.{List}
 use Prim.Native.Nat.{ℕ, zero, suc, _≤_, _<_}
 use lib.Dec.{ltb, eqb}
 use lib.IntN.{ℤ, pos, natAbs}
@@ -16,7 +15,6 @@ use Rattle.knapsack.specs.declared.Bound.the-variants.{Absent, At}
 use Rattle.knapsack.specs.declared.Mark.the-variants.{Integer}
 use Rattle.knapsack.specs.declared.Item.{Item}
 use Rattle.knapsack.specs.declared.Problem.{Problem}
-use Rattle.knapsack.specs.declared.Refusal.{Refusal}
 use Rattle.knapsack.specs.declared.Trial.{Trial}
 use Rattle.knapsack.specs.declared.Trial.the-variants.{Figures, Crossing}
 use Rattle.knapsack.specs.declared.Verdict.{Verdict}

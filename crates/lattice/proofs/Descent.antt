@@ -3,19 +3,18 @@ use mathlib.Core.Path.{_≡_, refl, sym, ap, _∙_, subst}
 use mathlib.Core.Bool.{Bool, true, false, cond}
 use mathlib.Core.Logic.{_⊎_, inl, inr}
 use Prim.Native.Nat.{ℕ, zero, suc, _+_, _*_, _-_, _≤_, _<_}
-use native.Mathlib.Nat.{mul-le-mul-left, mul-le-mul-right, le-of-mul-le-mul-right}
+use native.Mathlib.Nat.{mul-le-mul-left}
 use native.Mathlib.Omega.{arith}
 use lib.IntN.{ℤ, pos, negsuc, _+ℤ_, _-ℤ_, _*ℤ_}
 use lib.Signed.{ltZ, _≤ℤ_, _<ℤ_}
 use Rattle.arith.specs.Division.{floorDiv}
-use Rattle.arith.proofs.Integers.{_⊖_, split, split2, split3, split4, zed, ≤ℤ-trans, ≤ℤ-reflexive, ≤ℤ-antisym, ≤ℤ-or-<, *ℤ-nonneg}
+use Rattle.arith.proofs.Integers.{split, split2, split3, split4, zed, ≤ℤ-trans, ≤ℤ-antisym, ≤ℤ-or-<, *ℤ-nonneg}
 use Rattle.arith.proofs.Parts.{impossible, lt-le}
 use Rattle.arith.proofs.Rounding.{floor-most}
 use Rattle.arith.proofs.Words.{yes-lt, no-lt}
 use Rattle.lattice.specs.declared.Lattice.{Lattice}
 use Rattle.lattice.specs.declared.Change.{Change}
 use Rattle.lattice.specs.declared.Slope.{Slope}
-use Rattle.lattice.specs.declared.Find.{Find}
 use Rattle.lattice.specs.declared.Find.the-variants.{Nothing, Better, Unknown}
 use Rattle.lattice.specs.Lattice.{On, Tame, Steep, heightOf, highestOf, judged, lower, firstRung, verdict, barrenFrom, barrenBy}
 

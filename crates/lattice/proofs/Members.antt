@@ -5,7 +5,7 @@ use Prim.Native.Nat.{ℕ, zero, suc}
 use native.Mathlib.Omega.{arith}
 use lib.IntN.{ℤ, pos, _+ℤ_, _*ℤ_}
 use Rattle.arith.specs.Sum.{sum, Each}
-use Rattle.arith.proofs.Integers.{_⊖_, split, split2, split3, split4, zed}
+use Rattle.arith.proofs.Integers.{split, split2, split3, split4, zed}
 use Rattle.lattice.specs.declared.Lattice.{Lattice}
 use Rattle.lattice.specs.Lattice.{On}
 

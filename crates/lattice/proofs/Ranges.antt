@@ -4,11 +4,11 @@
 use mathlib.Core.Path.{_≡_}
 use Prim.Native.Nat.{ℕ, _+_}
 use native.Mathlib.Omega.{arith}
-use lib.IntN.{ℤ, pos, _+ℤ_, _-ℤ_, _*ℤ_}
+use lib.IntN.{ℤ, pos, _-ℤ_, _*ℤ_}
 use lib.Signed.{_<ℤ_}
 use Rattle.arith.specs.Within.{Within}
 use Rattle.arith.specs.Division.{floorDiv}
-use Rattle.arith.proofs.Integers.{_⊖_, split, zed}
+use Rattle.arith.proofs.Integers.{split, zed}
 use Rattle.arith.proofs.Parts.{zs, sum, diff, to-within, within-mul}
 use Rattle.arith.proofs.Rounding.{floor-is, floor-within}
 use Rattle.lattice.specs.declared.Lattice.{Lattice}

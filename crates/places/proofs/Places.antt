@@ -4,18 +4,18 @@
 --   μ t P           how many places are left
 --   Covers t S P    every place is settled or still to come
 -- What a step sets aside, where it goes, that nothing else is lost, and that a measure falls.
-use mathlib.Core.Path.{_≡_, refl, sym, ap, ap₂, _∙_, subst, subst₂}
+use mathlib.Core.Path.{_≡_, refl, sym, _∙_, subst, subst₂}
 use mathlib.Core.Bool.{Bool, true, false, cond, not}
-use mathlib.Core.Logic.{_↔_, _≢_, _⊎_, inl, inr, ⊎-elim}
+use mathlib.Core.Logic.{_≢_, _⊎_, inl, inr, ⊎-elim}
 use mathlib.Core.Option.{Option, none, some}
 use Prim.Native.Nat.{ℕ, zero, suc, _+_, _*_, _≤_, _<_}
 use native.Mathlib.Omega.{arith}
 use native.Mathlib.Nat.{mul-le-mul-right}
 use native.Mathlib.Decide.{decLt, ℕ-discrete}
-use lib.IntN.{ℤ, pos, negsuc, natAbs, _+ℤ_, _-ℤ_, _*ℤ_}
+use lib.IntN.{ℤ, pos, natAbs, _+ℤ_, _-ℤ_}
 use lib.Signed.{_≤ℤ_, _<ℤ_, ltZ, ltZ-yes, ltZ-no}
 use lib.Dec.{T}
-use Rattle.arith.proofs.Integers.{_⊖_, split, split2, split3, split4, zed, ≤ℤ-or-<, ≤ℤ-antisym}
+use Rattle.arith.proofs.Integers.{split, split2, split3, split4, zed, ≤ℤ-or-<, ≤ℤ-antisym}
 use Rattle.arith.specs.Sum.{Each, pick}
 use Rattle.arith.proofs.Sums.{pick-ind}
 use Rattle.places.specs.Moves.{turn, nextValue, nextSegment, orElse, carry, carrySegment}

@@ -3,16 +3,13 @@
 -- moved-at, moved-done: an answer read back.
 --   Settles t w P S   all that the verdict w covers is settled
 --   Goes t S P r      a step's end, or that the invariant holds at the new place and the measure fell
-use mathlib.Core.Path.{_≡_, refl, sym, ap, _∙_}
-use mathlib.Core.Bool.{Bool, true, false}
-use mathlib.Core.Logic.{_⊎_, inl, inr}
+use mathlib.Core.Path.{_≡_, refl, ap}
 use mathlib.Core.Option.{Option, none, some}
-use Prim.Native.Nat.{ℕ, zero, suc, _+_, _-_, _≤_, _<_}
+use Prim.Native.Nat.{ℕ, zero, suc, _-_, _≤_, _<_}
 use native.Mathlib.Numerals.{sub-one}
 use native.Mathlib.Omega.{arith}
-use lib.IntN.{ℤ, pos}
+use lib.IntN.{ℤ}
 use Rattle.arith.specs.Sum.{Each}
-use Rattle.places.specs.declared.Next.{Next}
 use Rattle.places.specs.declared.Next.the-variants.{Nothing, Amount}
 use Rattle.places.specs.declared.Moved.the-variants.{Done, At}
 use Rattle.places.specs.declared.Settled.{Settled}

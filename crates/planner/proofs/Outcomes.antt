@@ -7,54 +7,50 @@ use mathlib.Core.Path.{_≡_, refl, sym, ap, ap₂, _∙_, subst, subst₂}
 use mathlib.Core.Bool.{Bool, true, false, cond}
 use mathlib.Core.List.{List}
 use mathlib.Core.Logic.{_≢_, _⊎_, inl, inr}
-use Prim.Native.Nat.{ℕ, zero, suc, _+_, _*_, _≤_, _<_}
+use Prim.Native.Nat.{ℕ, zero, _+_, _*_, _≤_, _<_}
 use native.Mathlib.Omega.{arith}
 use lib.Dec.{ltb, eqb}
-use lib.IntN.{ℤ, pos, negsuc, negℤ, natAbs, _+ℤ_, _-ℤ_, _*ℤ_}
-use lib.ListN.{getD}
+use lib.IntN.{ℤ, pos, natAbs, _+ℤ_, _-ℤ_, _*ℤ_}
 use lib.Signed.{_≤ℤ_, _<ℤ_, ltZ}
-use borrow.Author.Tests.{lt-ltb, le-ltb, ltb-true, ltb-false, eq-eqb, ne-eqb, eqb-true}
+use borrow.Author.Tests.{lt-ltb, le-ltb, ltb-true, eqb-true}
 use Rattle.arith.specs.Within.{Within}
-use Rattle.arith.specs.Fractions.{Frac, frac, _≈ᶠ_}
-use Rattle.arith.specs.Gcd.{Divides, gcdOf, lowest}
-use Rattle.arith.specs.Mixed.{Proper}
-use Rattle.arith.specs.Sum.{sum, Each}
+use Rattle.arith.specs.Fractions.{Frac}
+use Rattle.arith.specs.Gcd.{Divides, lowest}
+use Rattle.arith.specs.Sum.{sum}
 use Rattle.arith.specs.declared.Fraction.{Fraction}
 use Rattle.arith.specs.declared.Mixed.{Mixed}
 use Rattle.arith.proofs.Divisors.{lowest-den, lowest-coprime}
-use Rattle.arith.proofs.Fractions.{Over, over-total, over-≈}
+use Rattle.arith.proofs.Fractions.{over-total, over-≈}
 use Rattle.arith.proofs.Integers.{split, split2, zed}
 use Rattle.arith.proofs.Mixes.{over}
-use Rattle.arith.proofs.Parts.{within-mul, within-more, within-abs, abs-within, lt-le}
+use Rattle.arith.proofs.Parts.{within-mul, within-abs, abs-within, lt-le}
 use Rattle.arith.proofs.Sums.{sum-cong}
 use Rattle.arith.proofs.Words.{lt-yes, le-no}
-use Rattle.amounts.specs.Amounts.{takenBy, numerator, amountOf, Amounts}
+use Rattle.amounts.specs.Amounts.{numerator}
 use Rattle.greedy.specs.declared.Columns.{Columns}
 use Rattle.greedy.specs.declared.Ends.{Ends}
 use Rattle.greedy.specs.declared.Fill.{Fill}
-use Rattle.greedy.specs.Fill.{at, weightOf, priceOf, itemOf, rankOf, lightest, lightOf, cornerWeight, begun, fill, bound, sizeOf, rateOf, sharedBy, unit, stand, taken, solution}
+use Rattle.greedy.specs.Fill.{at, weightOf, priceOf, itemOf, rankOf, lightest, lightOf, cornerWeight, begun, fill, bound, unit, stand, solution}
 use Rattle.greedy.specs.Ordered.{Ordered}
 use Rattle.knapsack.specs.Records.{itemAt, InRange}
-use Rattle.knapsack.specs.Meaning.{Instance, instanceOf, nought, amountAt, pointOf, stepsOf, weights, prices, Infeasible, Optimal, Unbounded, Shown, ShownSteps, ShownOptimal, ShownUnbounded, bare, AnswersAs, Answers}
+use Rattle.knapsack.specs.Meaning.{Instance, instanceOf, amountAt, pointOf, weights, prices, Infeasible, Optimal, Shown, bare, Answers}
 use Rattle.knapsack.specs.declared.Answer.{Answer}
-use Rattle.knapsack.specs.declared.Bound.{Bound}
 use Rattle.knapsack.specs.declared.Bound.the-variants.{At}
 use Rattle.knapsack.specs.declared.Item.{Item}
-use Rattle.knapsack.specs.declared.Kind.{Kind}
 use Rattle.knapsack.specs.declared.Kind.the-variants as kind
 use Rattle.knapsack.specs.declared.Problem.{Problem}
 use Rattle.knapsack.proofs.Bridge.{Reads, bridge-optimal, bridge-infeasible}
-use Rattle.knapsack.proofs.Common.{weighsᴰ, valueᴰ, Feasibleᴰ, Optimalᴰ}
+use Rattle.knapsack.proofs.Common.{weighsᴰ, valueᴰ, Optimalᴰ}
 use Rattle.prepare.specs.Narrowing.{reachOf}
 use Rattle.prepare.specs.Prepared.{PreparedAt, Prepared}
 use Rattle.prepare.proofs.Box.{box, box-same, box-is-shut, box-optimal, box-empty}
 use Rattle.prepare.proofs.Nearer.{near-optimal, near-empty}
 use Rattle.rays.specs.declared.RayReply.{RayReply}
-use Rattle.rays.specs.Rays.{RayFound, stepsAt}
+use Rattle.rays.specs.Rays.{RayFound}
 use Rattle.rays.proofs.Corner.{LightCorner, ranges-of, corner-infeasible, corner-shown, corner-unbounded}
 use Rattle.search.specs.declared.Incumbent.{Incumbent}
 use Rattle.search.specs.declared.Setting.{Setting}
-use Rattle.search.specs.Ready.{Searched, chosen}
+use Rattle.search.specs.Ready.{Searched}
 use Rattle.search.proofs.Boxes.{between}
 use Rattle.planner.specs.Outcomes.{unfilled, Cornered, boxAt, fillAt, valueAt, Best}
 use Rattle.planner.proofs.Terms.{over-lowest, lowest-one, lowest-whole, lowest-divides, lowest-small}

@@ -3,11 +3,11 @@
 -- lowest-whole: a whole amount has the divisor 1.
 -- lowest-divides: the divisor divides the old one.
 -- lowest-small: an amount within ±300,000,000 shows a numerator within ±1,000,000,000 times its divisor.
-use mathlib.Core.Path.{_≡_, refl, sym, ap, ap₂, _∙_, subst}
-use Prim.Native.Nat.{ℕ, zero, suc, _+_, _*_, _/_, _≤_, _<_}
+use mathlib.Core.Path.{_≡_, sym, ap, ap₂, _∙_, subst}
+use Prim.Native.Nat.{ℕ, _*_, _/_, _≤_, _<_}
 use native.Mathlib.Omega.{arith}
 use native.Mathlib.Decide.{decLt}
-use native.Mathlib.Nat.{mul-le-mul-right, mul-le-mul-left, mul-div-cancel, mul-comm}
+use native.Mathlib.Nat.{mul-le-mul-right, mul-div-cancel, mul-comm}
 use lib.IntN.{ℤ, pos, natAbs, _*ℤ_}
 use Rattle.arith.specs.Fractions.{Frac, frac}
 use Rattle.arith.specs.Gcd.{Divides, gcdOf, lowest}

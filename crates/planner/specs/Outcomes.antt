@@ -4,7 +4,7 @@
 --   Best s x a        a shows the relaxation of the place x, and its value in lowest terms
 use mathlib.Core.Path.{_≡_}
 use mathlib.Core.List.{List}
-use Prim.Native.Nat.{ℕ, _≤_}
+use Prim.Native.Nat.{_≤_}
 use lib.IntN.{ℤ, pos, _*ℤ_}
 use Rattle.arith.specs.Within.{Within}
 use Rattle.arith.specs.Gcd.{lowest}

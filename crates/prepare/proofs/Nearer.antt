@@ -1,7 +1,7 @@
 -- A nearer box: what the reach of a problem covers, and that a narrowed setting is prepared at that reach.
 -- most-covers, most-small: the greatest weight and bound are at least each item's, and in range.
 -- reach-small: the reach is within the general one. near-optimal, near-empty: it is enough.
-use mathlib.Core.Path.{_≡_, refl, sym, ap, _∙_, subst}
+use mathlib.Core.Path.{_≡_, refl, sym, ap, _∙_}
 use mathlib.Core.Bool.{Bool, true, false, cond}
 use mathlib.Core.List.{List}
 use Prim.Native.Nat.{ℕ, zero, suc, _+_, _*_, _≤_, _<_}
@@ -14,7 +14,7 @@ use lib.IntN.{ℤ, pos, negℤ, natAbs}
 use lib.ListN.{length, List·getD-eq-default}
 use lib.Signed.{_≤ℤ_, _<ℤ_, ≤ℤ-refl, ltZ}
 use Rattle.arith.specs.Within.{Within}
-use Rattle.arith.proofs.Integers.{_⊖_, split, split2, zed, ≤ℤ-trans, ≤ℤ-antisym}
+use Rattle.arith.proofs.Integers.{split, split2, zed, ≤ℤ-trans, ≤ℤ-antisym}
 use Rattle.arith.proofs.Parts.{neg-within, abs-within}
 use Rattle.arith.proofs.Words.{yes-lt, no-lt, le-no}
 use Rattle.knapsack.proofs.Common.{Feasibleᴰ, Optimalᴰ}
@@ -28,7 +28,7 @@ use Rattle.greedy.specs.Fill.{at}
 use Rattle.search.specs.Search.{levelAt}
 use Rattle.search.specs.declared.Setting.{Setting}
 use Rattle.tables.specs.Figures.{endOr}
-use Rattle.prepare.specs.Narrowing.{larger, boundSize, grownBy, mostOf, reachBy, reachOf, clampTo, Narrowed}
+use Rattle.prepare.specs.Narrowing.{larger, boundSize, grownBy, mostOf, reachOf, clampTo, Narrowed}
 use Rattle.prepare.specs.Prepared.{PreparedAt, Prepared}
 
 -- ---- the greatest figures

@@ -8,7 +8,7 @@
 --   PreparedAt r p s the setting s is that of p, and in order; an absent bound is r away
 --   Prepared p s     the same at 300,000,000
 use mathlib.Core.Path.{_≡_}
-use mathlib.Core.Bool.{true, false, cond}
+use mathlib.Core.Bool.{false, cond}
 use mathlib.Core.List.{List}
 use mathlib.Core.Logic.{_≢_}
 use Prim.Native.Nat.{ℕ, _≤_, _<_}

@@ -1,17 +1,16 @@
 -- How large a filling's bound is, and that it can be compared.
 use mathlib.Core.Path.{_≡_, refl, sym, subst}
 use mathlib.Core.Bool.{Bool, true, false, cond}
-use Prim.Native.Nat.{ℕ, _*_, _/_, _%_, _≤_, _<_}
+use Prim.Native.Nat.{ℕ, _*_, _/_, _≤_, _<_}
 use native.Mathlib.Nat.{div-le-self, mod-lt, mul-le-mul}
 use native.Mathlib.Omega.{arith}
 use lib.Dec.{ltb}
-use lib.IntN.{ℤ, pos, natAbs, _+ℤ_}
+use lib.IntN.{ℤ, pos, natAbs}
 use lib.Signed.{_<ℤ_}
 use borrow.Author.Tests.{ltb-true}
 use Rattle.arith.specs.Within.{Within}
 use Rattle.arith.specs.Mixed.{Proper}
-use Rattle.arith.specs.declared.Mixed.{Mixed}
-use Rattle.arith.proofs.Integers.{_⊖_, zed}
+use Rattle.arith.proofs.Integers.{zed}
 use Rattle.arith.proofs.Parts.{within-add, within-more, within-abs, lt-le}
 use Rattle.greedy.specs.declared.Columns.{Columns}
 use Rattle.greedy.specs.declared.Fill.{Fill}

@@ -3,7 +3,7 @@
 -- fixed-level, fixed-other: the ends of a fixed level's item, and of the others.
 -- fixed-sized, fixed-order: a box with levels fixed inside stays in its ranges and in order.
 -- order-laws: starts hang on the levels above, and lie within their ends.
-use mathlib.Core.Path.{_≡_, refl, sym, ap, ap₂, _∙_, subst, subst₂}
+use mathlib.Core.Path.{_≡_, refl, sym, ap, ap₂, _∙_, subst}
 use mathlib.Core.List.{List}
 use mathlib.Core.Logic.{_≢_}
 use Prim.Native.Nat.{ℕ, zero, suc, _≤_, _<_}

@@ -6,50 +6,47 @@
 --   Settled b y       every feasible point at y is the one or the other
 -- cut-settles, pair-settles, tried-settles: the three cuts of a look.
 use mathlib.Core.Path.{_≡_, refl, sym, ap, ap₂, _∙_, subst, subst₂}
-use mathlib.Core.Bool.{Bool, true, false, cond, not}
+use mathlib.Core.Bool.{Bool, true, false, cond}
 use mathlib.Core.Logic.{_≢_, _⊎_, inl, inr}
-use Prim.Native.Nat.{ℕ, zero, suc, _+_, _*_, _-_, _/_, _%_, _≤_, _<_}
+use Prim.Native.Nat.{ℕ, zero, suc, _+_, _*_, _-_, _≤_, _<_}
 use native.Mathlib.Nat.{mul-le-mul-left, mul-le-mul-right, le-of-mul-le-mul-right}
 use native.Mathlib.Omega.{arith}
 use native.Mathlib.Decide.{decLt, ℕ-discrete}
-use lib.Dec.{ltb, eqb}
-use lib.IntN.{ℤ, pos, negsuc, negℤ, natAbs, _+ℤ_, _-ℤ_, _*ℤ_}
+use lib.Dec.{ltb}
+use lib.IntN.{ℤ, pos, _+ℤ_, _-ℤ_, _*ℤ_}
 use lib.Signed.{_≤ℤ_, _<ℤ_, ≤ℤ-refl, ltZ, clashℤ}
 use borrow.Author.Tests.{ltb-true}
-use Rattle.arith.specs.Sum.{sum, Each}
+use Rattle.arith.specs.Sum.{sum}
 use Rattle.arith.specs.Mixed.{Proper, lessMixed}
 use Rattle.arith.specs.declared.Mixed.{Mixed}
-use Rattle.arith.proofs.Integers.{_⊖_, split, split2, split3, split4, zed, ≤ℤ-trans, ≤ℤ-reflexive, ≤ℤ-antisym, times-≤, times-≤-back}
+use Rattle.arith.proofs.Integers.{split, split2, split3, split4, zed, ≤ℤ-reflexive, ≤ℤ-antisym, times-≤, times-≤-back}
 use Rattle.arith.proofs.Sums.{sum-times, sum-diff}
 use Rattle.arith.proofs.Parts.{impossible}
 use Rattle.arith.proofs.Words.{yes-lt, no-lt}
-use Rattle.arith.proofs.Mixes.{over, less-true, less-false}
+use Rattle.arith.proofs.Mixes.{over, less-false}
 use Rattle.knapsack.specs.declared.Mark.{Mark}
 use Rattle.knapsack.specs.declared.Mark.the-variants.{Integer, Continuous}
 use Rattle.knapsack.specs.Meaning.{Instance}
-use Rattle.knapsack.proofs.Common.{KeepsMarkᴰ, weighsᴰ, valueᴰ, Feasibleᴰ}
+use Rattle.knapsack.proofs.Common.{weighsᴰ, valueᴰ, Feasibleᴰ}
 use Rattle.knapsack.proofs.Branch.{AtMost}
-use Rattle.knapsack.proofs.Moves.{pair-discard}
 use Rattle.greedy.specs.declared.Columns.{Columns}
 use Rattle.greedy.specs.declared.Ends.{Ends}
 use Rattle.greedy.specs.declared.Fill.{Fill}
-use Rattle.greedy.specs.Fill.{at, place, weightOf, priceOf, rankOf, fill, width, bound, stand, solution}
-use Rattle.greedy.proofs.Relaxed.{boxOf, InOrder, Stopped, fill-stopped, fill-empty, fill-bound, fill-slope}
+use Rattle.greedy.specs.Fill.{at, weightOf, priceOf, rankOf, fill, width, bound, stand}
+use Rattle.greedy.proofs.Relaxed.{boxOf, InOrder, Stopped, fill-bound, fill-slope}
 use Rattle.greedy.specs.Sized.{SizedFill}
-use Rattle.greedy.proofs.Sizes.{fill-sized}
 use Rattle.lattice.specs.declared.Lattice.{Lattice}
 use Rattle.lattice.specs.Lattice.{latticeAt, barrenBy}
 use Rattle.lattice.proofs.Members.{on-zero, on-scale, Lies, sum-lies}
 use Rattle.lattice.proofs.Descent.{barren-true, known}
 use Rattle.places.proofs.Places.{Agree, Run}
 use Rattle.search.specs.declared.Setting.{Setting}
-use Rattle.search.specs.declared.Pairs.{Pairs}
 use Rattle.search.specs.declared.Incumbent.{Incumbent}
-use Rattle.search.specs.Search.{levelAt, spanned, fixedBy, startBy, runEnds, slopeOf, sparseBy, cutBy, betters, triedBy, pairIndex, Applies}
-use Rattle.search.specs.Ready.{ReadySetting, ReadyPairs, Changes, TruePair, Inside, Marked}
-use Rattle.search.specs.Steps.{Long, ProperBest}
-use Rattle.search.proofs.Boxes.{at-same, at-other, orderOf, item<16, fixed-long, fixed-order, fixed-own, fixed-level, fixed-other}
-use Rattle.search.proofs.Bounds.{bound-proper, steep}
+use Rattle.search.specs.Search.{levelAt, spanned, fixedBy, startBy, runEnds, slopeOf, sparseBy}
+use Rattle.search.specs.Ready.{ReadySetting, Changes, Marked}
+use Rattle.search.specs.Steps.{Long}
+use Rattle.search.proofs.Boxes.{at-same, at-other, orderOf, item<16, fixed-long, fixed-level, fixed-other}
+use Rattle.search.proofs.Bounds.{steep}
 
 -- ---- points of a box
 

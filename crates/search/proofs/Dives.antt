@@ -8,7 +8,7 @@ use native.Mathlib.Numerals.{add-one}
 use native.Mathlib.Omega.{arith}
 use native.Mathlib.Decide.{decLt, ℕ-discrete}
 use lib.ListN.{length, set, length-set}
-use lib.IntN.{ℤ, pos}
+use lib.IntN.{ℤ}
 use lib.Signed.{_≤ℤ_}
 use Rattle.greedy.specs.declared.Ends.{Ends}
 use Rattle.greedy.specs.Fill.{at, fill, start}
@@ -18,7 +18,7 @@ use Rattle.search.specs.declared.Path.{Path}
 use Rattle.search.specs.declared.Trail.{Trail}
 use Rattle.search.specs.Search.{levelAt, spanned, fixedBy, startBy}
 use Rattle.search.specs.Ready.{ReadySetting, InsideTo}
-use Rattle.search.specs.Steps.{Long, startIn, descended, Dived, Started, Turnable, Turned}
+use Rattle.search.specs.Steps.{Long, startIn, descended, Dived, Turnable, Turned}
 use Rattle.search.proofs.Boxes.{at-same, at-other, fixed-cong, start-cong, start-in, fixed-sized}
 
 pub record LongPath (p : Path) : Type 0 where

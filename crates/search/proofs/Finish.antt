@@ -2,21 +2,20 @@
 --   GoodBest s b     the incumbent stands for a place of the box, and its value is that place's
 --   Covered s b q    every place is settled or still to come; at the end, all are settled
 -- tried-good, settles-verdict, step-covers: a step keeps this; searched: what it comes to.
-use mathlib.Core.Path.{_≡_, refl, sym, ap, ap₂, _∙_, subst, subst₂}
+use mathlib.Core.Path.{_≡_, refl, sym, ap, _∙_, subst, subst₂}
 use mathlib.Core.Bool.{Bool, true, false, cond}
 use mathlib.Core.List.{List}
-use mathlib.Core.Logic.{_≢_, _⊎_, inl, inr}
+use mathlib.Core.Logic.{_⊎_, inl, inr}
 use mathlib.Core.Option.{Option, none, some}
-use Prim.Native.Nat.{ℕ, zero, suc, _+_, _*_, _≤_, _<_}
-use native.Mathlib.Nat.{mul-le-mul, mul-le-mul-right}
+use Prim.Native.Nat.{ℕ, suc, _*_, _≤_, _<_}
 use native.Mathlib.Omega.{arith}
 use native.Mathlib.Decide.{decLt}
-use lib.IntN.{ℤ, pos, _+ℤ_, _-ℤ_, _*ℤ_}
-use lib.Signed.{_≤ℤ_, _<ℤ_, ≤ℤ-refl, ltZ}
+use lib.IntN.{ℤ, pos, _-ℤ_, _*ℤ_}
+use lib.Signed.{_≤ℤ_, _<ℤ_, ltZ}
 use Rattle.arith.specs.Sum.{Each}
-use Rattle.arith.specs.Mixed.{Proper, lessMixed}
+use Rattle.arith.specs.Mixed.{Proper}
 use Rattle.arith.specs.declared.Mixed.{Mixed}
-use Rattle.arith.proofs.Integers.{_⊖_, split, split2, split3, zed, ≤ℤ-trans, ≤ℤ-or-<, times-≤, times-≤-back}
+use Rattle.arith.proofs.Integers.{split, zed, ≤ℤ-trans, ≤ℤ-or-<, times-≤, times-≤-back}
 use Rattle.arith.proofs.Parts.{impossible}
 use Rattle.arith.proofs.Words.{no-lt}
 use Rattle.arith.proofs.Mixes.{over}
@@ -26,7 +25,7 @@ use Rattle.knapsack.proofs.Common.{KeepsMarkᴰ, valueᴰ, Feasibleᴰ, Optimal
 use Rattle.knapsack.proofs.Branch.{AtMost, at-most-climb}
 use Rattle.greedy.specs.declared.Ends.{Ends}
 use Rattle.greedy.specs.declared.Fill.{Fill}
-use Rattle.greedy.specs.Fill.{at, fill, bound, solution}
+use Rattle.greedy.specs.Fill.{at, fill, bound}
 use Rattle.greedy.proofs.Relaxed.{boxOf, InOrder, Stopped, fill-stopped, fill-empty, fill-bound, fill-value, fill-point, parts≥1}
 use Rattle.greedy.proofs.Sizes.{fill-sized}
 use Rattle.lattice.specs.Lattice.{latticeAt}
@@ -41,13 +40,13 @@ use Rattle.search.specs.declared.Incumbent.{Incumbent}
 use Rattle.search.specs.declared.Path.{Path}
 use Rattle.search.specs.declared.State.{State}
 use Rattle.search.specs.Search.{levelAt, fixedBy, startBy, runEnds, cutBy, betters, triedBy}
-use Rattle.search.specs.Ready.{ReadySetting, ReadyPairs, Ready, Inside, InsideTo, Marked, chosen, Searched}
+use Rattle.search.specs.Ready.{ReadySetting, ReadyPairs, Ready, Inside, Marked, chosen, Searched}
 use Rattle.search.specs.Steps.{Long, Started, ProperBest, Judges, LookedAs, Dived, nobody, Turned, WentOn, Stepped}
-use Rattle.search.proofs.Boxes.{orderOf, order-laws, item<16, fixed-order, fixed-level, fixed-other, start-cong}
+use Rattle.search.proofs.Boxes.{orderOf, order-laws, fixed-order, fixed-level, fixed-other}
 use Rattle.search.proofs.Bounds.{bound-proper}
 use Rattle.search.proofs.Runs.{fixed-judged}
 use Rattle.search.proofs.Turns.{looked-in, past-started}
-use Rattle.search.proofs.Cuts.{box, AtPlace, AtMostBest, Bettered, InBox, in-box, rebox}
+use Rattle.search.proofs.Cuts.{box, AtPlace, AtMostBest, Bettered, InBox, rebox}
 use Rattle.search.proofs.Cuts.{Settled as SettledAt}
 use Rattle.search.proofs.Settle.{cut-settles, pair-settles, tried-settles, tried-keeps}
 

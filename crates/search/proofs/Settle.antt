@@ -2,29 +2,28 @@
 -- cut-settles: a run whose relaxation is empty or no better than the incumbent, or whose lattice has nothing better.
 -- pair-settles: a prefix from which a domination pair can be taken away.
 -- tried-settles, tried-keeps: the place itself, and that what was settled stays so.
-use mathlib.Core.Path.{_≡_, refl, sym, ap, ap₂, _∙_, subst, subst₂}
+use mathlib.Core.Path.{_≡_, refl, sym, ap, _∙_, subst, subst₂}
 use mathlib.Core.Bool.{Bool, true, false, cond}
 use mathlib.Core.List.{List}
 use mathlib.Core.Logic.{_≢_, _⊎_, inl, inr}
-use Prim.Native.Nat.{ℕ, zero, suc, _+_, _*_, _≤_, _<_}
+use Prim.Native.Nat.{ℕ, suc, _+_, _*_, _≤_, _<_}
 use native.Mathlib.Nat.{mul-le-mul-left, mul-le-mul-right, le-of-mul-le-mul-right}
 use native.Mathlib.Omega.{arith}
-use lib.IntN.{ℤ, pos, negℤ, _+ℤ_, _-ℤ_, _*ℤ_}
+use lib.IntN.{ℤ, pos, _+ℤ_, _-ℤ_, _*ℤ_}
 use lib.Signed.{_≤ℤ_, _<ℤ_, ltZ}
 use Rattle.arith.specs.Mixed.{Proper, lessMixed}
 use Rattle.arith.specs.declared.Mixed.{Mixed}
-use Rattle.arith.proofs.Integers.{_⊖_, split2, split3, zed, times-≤}
+use Rattle.arith.proofs.Integers.{split2, split3, zed}
 use Rattle.arith.proofs.Parts.{impossible}
 use Rattle.arith.proofs.Words.{yes-lt, no-lt}
-use Rattle.arith.proofs.Mixes.{over, less-true, less-false}
+use Rattle.arith.proofs.Mixes.{over, less-true}
 use Rattle.knapsack.specs.declared.Mark.{Mark}
 use Rattle.knapsack.proofs.Common.{valueᴰ, Feasibleᴰ}
 use Rattle.knapsack.proofs.Moves.{pair-discard}
 use Rattle.greedy.specs.declared.Ends.{Ends}
 use Rattle.greedy.specs.declared.Fill.{Fill}
 use Rattle.greedy.specs.Fill.{at, place, fill, bound}
-use Rattle.greedy.specs.Sized.{Sized}
-use Rattle.greedy.proofs.Relaxed.{boxOf, InOrder, Stopped, fill-stopped, fill-empty, fill-bound}
+use Rattle.greedy.proofs.Relaxed.{boxOf, Stopped, fill-stopped, fill-empty, fill-bound}
 use Rattle.greedy.proofs.Sizes.{fill-sized}
 use Rattle.lattice.specs.Lattice.{latticeAt}
 use Rattle.places.proofs.Places.{Agree, Run}
@@ -37,7 +36,7 @@ use Rattle.search.specs.Steps.{Long, ProperBest, Judges}
 use Rattle.search.proofs.Boxes.{orderOf, item<16}
 use Rattle.search.proofs.Bounds.{bound-proper}
 use Rattle.search.proofs.Runs.{fixed-judged, run-judged}
-use Rattle.search.proofs.Cuts.{box, AtPlace, AtMostBest, Bettered, Settled, no-better, rebox, in-fixed, in-run, bounded, sparse-most}
+use Rattle.search.proofs.Cuts.{box, AtMostBest, Bettered, Settled, no-better, rebox, in-fixed, in-run, bounded, sparse-most}
 
 -- a value that betters an incumbent's is above what the incumbent is above
 passed-on : (d e f : ℕ) → 1 ≤ e → (x y z : ℤ) → (x *ℤ pos e) ≤ℤ (y *ℤ pos d) → (y *ℤ pos f) <ℤ (z *ℤ pos e) → (x *ℤ pos f) ≤ℤ (z *ℤ pos d)

@@ -1,6 +1,6 @@
 -- Where a verdict leads: to a level and an amount within its ends.
-use mathlib.Core.Path.{_≡_, refl, sym, _∙_, subst}
-use mathlib.Core.Option.{Option, none, some}
+use mathlib.Core.Path.{_≡_, subst}
+use mathlib.Core.Option.{some}
 use Prim.Native.Nat.{ℕ, suc, _≤_, _<_}
 use native.Mathlib.Omega.{arith}
 use lib.IntN.{ℤ}
@@ -9,7 +9,7 @@ use Rattle.greedy.specs.Fill.{at}
 use Rattle.places.specs.declared.Settled.{Settled}
 use Rattle.places.specs.declared.Settled.the-variants.{Run, Prefix}
 use Rattle.places.specs.Moves.{SettledIn, pastOf}
-use Rattle.places.proofs.Places.{Sound, carry-sound, run-sound, pastPrefix, pastRun}
+use Rattle.places.proofs.Places.{Sound, carry-sound, run-sound}
 use Rattle.places.proofs.Steps.{past-cong}
 use Rattle.search.specs.declared.Setting.{Setting}
 use Rattle.search.specs.declared.Pairs.{Pairs}

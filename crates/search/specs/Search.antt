@@ -14,7 +14,7 @@ use mathlib.Core.Logic.{_≢_}
 use Prim.Native.Nat.{ℕ, zero, suc, _+_, _*_, _≤_, _<_}
 use lib.Dec.{ltb}
 use lib.IntN.{ℤ, pos, _-ℤ_}
-use lib.ListN.{getD, set}
+use lib.ListN.{set}
 use lib.Signed.{ltZ, _≤ℤ_}
 use Rattle.arith.specs.Mixed.{lessMixed}
 use Rattle.arith.specs.declared.Mixed.{Mixed}

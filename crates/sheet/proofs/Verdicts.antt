@@ -1,5 +1,5 @@
 -- Laws of knapsack's verdict of a record, and of the reader's last checks.
--- some-none, none-some: a test that holds of no item.
+-- some-none: a test that holds of no item; knapsack, proofs/Items has the converse, none-fails.
 -- cross-all, all-cross: no item's bounds cross.
 -- accepted, in-range: what an accepted record is.
 use mathlib.Core.Path.{_≡_, refl}
@@ -7,7 +7,6 @@ use mathlib.Core.Bool.{Bool, true, false, cond}
 use Prim.Native.Nat.{ℕ, zero, suc, _+_, _≤_, _<_}
 use native.Mathlib.Omega.{arith}
 use borrow.Author.Tests.{le-ltb, ltb-false, eqb-false, ne-eqb}
-use native.Mathlib.Decide.{ℕ-discrete}
 use lib.Dec.{eqb, ltb}
 use Rattle.arith.specs.Sum.{Each}
 use Rattle.knapsack.specs.Records.{itemAt, outside, badFigure, crosses, someItem, refuse, verdict}
@@ -15,6 +14,7 @@ use Rattle.knapsack.specs.declared.Item.{Item}
 use Rattle.knapsack.specs.declared.Problem.{Problem}
 use Rattle.knapsack.specs.declared.Refusal.{Refusal}
 use Rattle.knapsack.specs.declared.Verdict.the-variants.{Accepted, Refused}
+use Rattle.knapsack.proofs.Items.{none-fails}
 use Rattle.lines.specs.Text.{refusal}
 use Rattle.sheet.specs.Reading.{upperLine, crossFrom}
 
@@ -28,17 +28,6 @@ pub some-none : (n : ℕ) (f : ℕ → Item) (test : Item → Bool) → Each n (
 unfolding someItem
 some-none zero f test h = refl
 some-none (suc n) f test h = rw (some-none n f test (λ k l. h k (omega arith)), h n (omega arith))
-
-pub none-some : (n : ℕ) (f : ℕ → Item) (test : Item → Bool) → someItem n f test ≡ false → Each n (λ k. test (f k) ≡ false)
-unfolding someItem
-none-some zero f test h k l = absurd (omega arith)
-none-some (suc n) f test h k l = go (someItem n f test) refl h (λ e. none-some n f test e k) (ℕ-discrete k n)
-  where
-    go : (t : Bool) → someItem n f test ≡ t → cond t true (test (f n)) ≡ false → (someItem n f test ≡ false → k < n → test (f k) ≡ false) →
-        Dec (k ≡ n) → test (f k) ≡ false
-    go true e h ih d = no-truth h
-    go false e h ih (yes d) = rw d h
-    go false e h ih (no d) = ih e (omega arith)
 
 pub cross-all : (n : ℕ) (f : ℕ → Item) (k line : ℕ) → crossFrom n f k line ≡ Accepted → Each n (λ j. crosses (f (k + j)) ≡ false)
 unfolding crossFrom
@@ -97,4 +86,4 @@ in-range p h =
     go false false false false true p1 p2 p3 p4 p5 h = no-refusal h
     go false false false false false p1 p2 p3 p4 p5 h =
         let ne = eqb-false (p .count) 0 p1 in
-        record { least = omega arith; most = ltb-false 16 (p .count) p2; capacity = p3; figures = none-some (p .count) (itemAt p) badFigure p4; uncrossed = none-some (p .count) (itemAt p) crosses p5 }
+        record { least = omega arith; most = ltb-false 16 (p .count) p2; capacity = p3; figures = none-fails (p .count) (itemAt p) badFigure p4; uncrossed = none-fails (p .count) (itemAt p) crosses p5 }

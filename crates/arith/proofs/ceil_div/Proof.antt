@@ -1,6 +1,5 @@
 -- `arith::ceil_div` meets its contract: rounding up is rounding down the negative.
-use mathlib.Core.Path.{_≡_, ap, _∙_}
-use native.Mathlib.Omega.{arith}
+use mathlib.Core.Path.{_≡_}
 use lib.Dec.{lit<}
 use lib.IntN.{ℤ, pos, negℤ, _-ℤ_}
 use mir.Syntax.{w64}
@@ -9,7 +8,7 @@ use mir.Facts.{toZ-ofZ}
 use Rattle.arith.specs.Within.{Within}
 use Rattle.arith.specs.Division.{floorDiv, ceilDiv}
 use Rattle.arith.proofs.Parts.{zero-less, within-neg, within-sfits}
-use Rattle.arith.proofs.Rounding.{floor-within, ceil-within}
+use Rattle.arith.proofs.Rounding.{floor-within}
 use Rattle.arith.proofs.ceil_div.Statement.{statement}
 use Rattle.arith.proofs.ceil_div.Tie as tie
 

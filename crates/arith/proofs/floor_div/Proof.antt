@@ -1,15 +1,15 @@
-use mathlib.Core.Path.{_≡_, ap, ap₂, _∙_}
+use mathlib.Core.Path.{_≡_, ap, ap₂}
 use Prim.Native.Nat.{_<_, _+_}
 use native.Mathlib.Omega.{arith}
 use lib.Dec.{lit<}
-use lib.IntN.{ℤ, pos, _+ℤ_, _-ℤ_}
+use lib.IntN.{ℤ, pos, _-ℤ_}
 use lib.Signed.{_≤ℤ_, _<ℤ_, ≤ℤ-refl, quotZ, remZ}
 use mir.Syntax.{w64}
 use mir.Val.{SFits, toZ, ofZ}
 use mir.Facts.{toZ-ofZ}
-use Rattle.arith.specs.Within.{up, dn, Within}
+use Rattle.arith.specs.Within.{up, dn}
 use Rattle.arith.specs.Division.{floorDiv}
-use Rattle.arith.proofs.Parts.{zs, diff, sum, within-sfits, above-dn, below-up, lt-le}
+use Rattle.arith.proofs.Parts.{zs, diff, within-sfits, above-dn, lt-le}
 use Rattle.arith.proofs.Quotients.{quot-rem, rem-small, quot-within, rem-within, bits-zero, bits-pos}
 use Rattle.arith.proofs.Rounding.{IsFloor, nonzero, floor-same, floor-less, floor-is, floor-unique}
 use Rattle.arith.proofs.floor_div.Statement.{statement}

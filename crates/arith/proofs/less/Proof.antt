@@ -1,5 +1,5 @@
 -- `arith::less` meets its contract: the tests are those of the definition, and a product of a remainder and a divisor is below a million.
-use Prim.Native.Nat.{_*_, _<_, _≤_}
+use Prim.Native.Nat.{_*_, _≤_}
 use native.Mathlib.Nat.{mul-le-mul}
 use native.Mathlib.Omega.{arith}
 use mir.Syntax.{w64}

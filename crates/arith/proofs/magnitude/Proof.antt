@@ -1,16 +1,15 @@
 -- `arith::magnitude` meets its contract.
-use mathlib.Core.Path.{_≡_, _∙_}
+use mathlib.Core.Path.{_≡_}
 use native.Mathlib.Omega.{arith}
 use lib.Dec.{lit<}
 use lib.IntN.{ℤ, pos, negℤ, natAbs, _-ℤ_}
-use lib.Signed.{_≤ℤ_, _<ℤ_}
+use lib.Signed.{_≤ℤ_}
 use mir.Syntax.{w64}
 use mir.Val.{SFits, toZ, ofZ}
 use mir.Facts.{toZ-ofZ}
 use borrow.Author.Needs.{needs}
-use Rattle.arith.specs.Within.{Within}
 use Rattle.arith.proofs.Integers.{natAbs-neg}
-use Rattle.arith.proofs.Parts.{zs, neg, zero-less, within-neg, within-sfits, cast-in, plain-lt}
+use Rattle.arith.proofs.Parts.{zs, neg, zero-less, within-neg, within-sfits, cast-in}
 use Rattle.arith.proofs.magnitude.Statement.{statement}
 use Rattle.arith.proofs.magnitude.Tie as tie
 

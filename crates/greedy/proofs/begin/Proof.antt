@@ -1,18 +1,16 @@
 -- `greedy::begin` meets its contract: after k items the room and the worth are those of the first k light ends.
-use mathlib.Core.Path.{_≡_, refl, sym, ap₂, _∙_}
-use Prim.Native.Nat.{ℕ, _+_, _-_, _≤_, _<_}
+use mathlib.Core.Path.{_≡_, refl, ap₂, _∙_}
+use Prim.Native.Nat.{ℕ, _+_, _-_, _≤_}
 use native.Mathlib.Numerals.{add-one}
 use native.Mathlib.Omega.{arith}
 use lib.IntN.{ℤ, pos, _+ℤ_, _-ℤ_, _*ℤ_}
 use borrow.Author.Needs.{needs}
-use Rattle.arith.specs.Within.{Within}
 use Rattle.arith.proofs.Integers.{split, split3, zed}
 use Rattle.arith.proofs.Parts.{within-sub, within-more, within-back}
 use Rattle.greedy.specs.declared.Columns.{Columns}
 use Rattle.greedy.specs.declared.Ends.{Ends}
 use Rattle.greedy.specs.declared.Fill.{Fill}
-use Rattle.greedy.specs.Fill.{at, weightOf, priceOf, lightest, lightOf, cornerWeight, cornerWorth, withItem}
-use Rattle.greedy.specs.Sized.{Sized}
+use Rattle.greedy.specs.Fill.{at, weightOf, priceOf, lightOf, cornerWeight, cornerWorth, withItem}
 use Rattle.greedy.proofs.Sizes.{light-within, corner-weight-within, corner-worth-within}
 use Rattle.greedy.proofs.begin.Statement.{statement}
 use Rattle.greedy.proofs.begin.Tie as tie

@@ -1,23 +1,21 @@
 -- `greedy::fill_up` meets its contract: what is left of the filling from here is the filling.
 use mathlib.Core.Path.{_≡_, refl, sym, ap, _∙_}
 use mathlib.Core.Bool.{Bool, true, false}
-use mathlib.Core.Logic.{⊎-elim}
 use Prim.Native.Nat.{ℕ, zero, suc, _+_, _*_, _-_, _≤_, _<_}
 use native.Mathlib.Omega.{arith}
 use lib.Dec.{lit<}
 use lib.Signed.{ltZ}
-use lib.IntN.{ℤ, pos, _+ℤ_, _-ℤ_, _*ℤ_}
+use lib.IntN.{ℤ, pos, _*ℤ_}
 use mir.Syntax.{w64}
-use mir.Val.{Fits, SFits, toZ, ofZ}
-use borrow.Author.Needs.{needs}
+use mir.Val.{Fits}
 use Rattle.arith.specs.Within.{Within}
 use Rattle.arith.proofs.Parts.{within-add, within-sub, within-more, within-sfits, within-back, within-mul, impossible}
 use Rattle.greedy.specs.declared.Columns.{Columns}
 use Rattle.greedy.specs.declared.Ends.{Ends}
 use Rattle.greedy.specs.declared.Fill.{Fill}
 use Rattle.greedy.specs.declared.Turn.{Turn}
-use Rattle.greedy.specs.Fill.{at, place, itemOf, width, begun, raised, raisedBy, turnBy, fillFrom, fill}
-use Rattle.greedy.specs.Sized.{Sized, Raisable}
+use Rattle.greedy.specs.Fill.{at, itemOf, width, begun, raised, raisedBy, turnBy, fillFrom, fill}
+use Rattle.greedy.specs.Sized.{Sized}
 use Rattle.greedy.proofs.Sizes.{corner-weight-within, corner-worth-within, width-within}
 use Rattle.greedy.proofs.fill_up.Statement.{statement}
 use Rattle.greedy.proofs.fill_up.Tie as tie

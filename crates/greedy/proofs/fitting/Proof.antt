@@ -1,5 +1,5 @@
 -- `greedy::fitting` meets its contract.
-use mathlib.Core.Path.{_≡_, sym, ap}
+use mathlib.Core.Path.{_≡_}
 use native.Mathlib.Omega.{arith}
 use lib.Dec.{lit<}
 use lib.IntN.{ℤ, pos, _+ℤ_}
@@ -9,7 +9,7 @@ use mir.Val.{toZ, ofZ}
 use mir.Facts.{toZ-ofZ}
 use Rattle.arith.specs.Within.{Within}
 use Rattle.arith.specs.Division.{floorDiv, ceilDiv}
-use Rattle.arith.proofs.Integers.{_⊖_, split, zed}
+use Rattle.arith.proofs.Integers.{split, zed}
 use Rattle.arith.proofs.Parts.{within-add, within-more, within-sfits, within-back}
 use Rattle.arith.proofs.Rounding.{floor-within, ceil-within}
 use Rattle.arith.proofs.Words.{back, yes-lt}

@@ -1,6 +1,5 @@
 -- `greedy::light_end` meets its contract: the tests are those of the definition.
 use mir.Facts.{toZ-ofZ}
-use Rattle.arith.proofs.Parts.{plain-lt}
 use Rattle.greedy.proofs.light_end.Statement.{statement}
 use Rattle.greedy.proofs.light_end.Tie as tie
 

@@ -1,6 +1,6 @@
 -- `greedy::share` meets its contract: nothing overflows.
 use mathlib.Core.Path.{_≡_}
-use Prim.Native.Nat.{ℕ, _*_, _<_, _≤_, _/_}
+use Prim.Native.Nat.{_*_, _<_, _≤_, _/_}
 use native.Mathlib.Nat.{div-le-self, mul-le-mul}
 use native.Mathlib.Omega.{arith}
 use lib.Dec.{lit<}
@@ -8,7 +8,6 @@ use lib.IntN.{ℤ, pos, natAbs, _+ℤ_}
 use mir.Syntax.{w64}
 use mir.Val.{toZ}
 use mir.Facts.{toZ-pos}
-use borrow.Author.Needs.{needs}
 use Rattle.arith.specs.Within.{Within}
 use Rattle.arith.proofs.Parts.{within-more, within-abs, within-add, within-sfits, within-back}
 use Rattle.greedy.proofs.share.Statement.{statement}

@@ -1,16 +1,15 @@
 -- `greedy::start_of` meets its contract: the tests are those of the definition, in its order.
-use mathlib.Core.Path.{_≡_, refl, sym, ap, _∙_}
-use mathlib.Core.Bool.{true, false}
-use Prim.Native.Nat.{ℕ, _<_, _≤_}
+use mathlib.Core.Path.{_≡_, _∙_}
+use mathlib.Core.Bool.{false}
 use lib.Dec.{ltb, eqb}
-use lib.IntN.{ℤ, pos}
+use lib.IntN.{pos}
 use lib.Signed.{ltZ}
 use mir.Syntax.{w64}
 use mir.Val.{toZ, ofZ}
 use borrow.Author.Tests.{lt-ltb, le-ltb, eq-eqb, ne-eqb}
 use Rattle.arith.proofs.Parts.{within-back}
 use Rattle.arith.proofs.Words.{back}
-use Rattle.greedy.specs.Fill.{at, weightOf, priceOf, rankOf, lightest, heaviest, lightOf, heavyOf, start}
+use Rattle.greedy.specs.Fill.{at, lightOf, start}
 use borrow.Author.Needs.{needs}
 use Rattle.greedy.proofs.start_of.Statement.{statement}
 use Rattle.greedy.proofs.start_of.Tie as tie

@@ -1,12 +1,10 @@
 -- `greedy::with_item` meets its contract: nothing overflows.
-use mathlib.Core.Path.{_≡_, ap₂, _∙_}
-use native.Mathlib.Omega.{arith}
+use mathlib.Core.Path.{_≡_}
 use lib.Dec.{lit<}
-use lib.IntN.{ℤ, pos, _+ℤ_, _-ℤ_, _*ℤ_}
+use lib.IntN.{ℤ, _+ℤ_, _-ℤ_, _*ℤ_}
 use mir.Syntax.{w64}
 use mir.Val.{SFits, toZ, ofZ}
 use mir.Facts.{toZ-ofZ}
-use Rattle.arith.specs.Within.{Within}
 use Rattle.arith.proofs.Parts.{within-mul, within-add, within-sub, within-sfits}
 use Rattle.greedy.proofs.with_item.Statement.{statement}
 use Rattle.greedy.proofs.with_item.Tie as tie

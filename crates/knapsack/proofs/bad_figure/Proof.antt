@@ -5,7 +5,7 @@ use mir.Syntax.{w64}
 use mir.Val.{SFits}
 use mir.Facts.{toZ-ofZ}
 use borrow.Author.Needs.{needs}
-use Rattle.knapsack.specs.Records.{outside, badBound}
+use Rattle.knapsack.specs.Records.{outside}
 use Rattle.knapsack.proofs.bad_figure.Statement.{statement}
 use Rattle.knapsack.proofs.bad_figure.Tie as tie
 

@@ -1,15 +1,12 @@
 -- `knapsack::check_record` meets its contract: the tests are those of the definition, in its order.
-use mathlib.Core.Path.{_≡_, refl, sym, ap, _∙_}
-use mathlib.Core.Bool.{Bool, true, false, cond}
-use Prim.Native.Nat.{ℕ, _≤_, _<_}
-use native.Mathlib.Omega.{arith}
+use mathlib.Core.Path.{_≡_, sym, ap, _∙_}
+use mathlib.Core.Bool.{false}
 use lib.Dec.{ltb, eqb}
 use mir.Syntax.{w64}
 use mir.Val.{SFits}
 use mir.Facts.{toZ-ofZ}
 use borrow.Author.Tests.{eq-eqb, ne-eqb, lt-ltb, le-ltb}
-use Rattle.knapsack.specs.Records.{outside, badCount, itemAt, someItem, failing, verdict}
-use Rattle.knapsack.specs.declared.Trial.the-variants.{Figures, Crossing}
+use Rattle.knapsack.specs.Records.{outside, badCount, verdict}
 use borrow.Author.Needs.{needs}
 use Rattle.knapsack.proofs.check_record.Statement.{statement}
 use Rattle.knapsack.proofs.check_record.Tie as tie

@@ -1,11 +1,10 @@
 -- `knapsack::some_fails` meets its contract: the items passed do not fail.
 use mathlib.Core.Path.{_≡_, refl, sym, _∙_}
-use mathlib.Core.Bool.{Bool, true, false}
-use Prim.Native.Nat.{ℕ, _+_, _-_, _≤_, _<_}
+use mathlib.Core.Bool.{false}
+use Prim.Native.Nat.{_-_, _≤_}
 use native.Mathlib.Numerals.{add-one}
 use native.Mathlib.Omega.{arith}
 use borrow.Author.Needs.{needs}
-use lib.ListN.{length}
 use Rattle.knapsack.specs.Records.{itemAt, someItem, failing}
 use Rattle.knapsack.proofs.Items.{some-found, some-more}
 use Rattle.knapsack.proofs.some_fails.Statement.{statement}

@@ -1,9 +1,9 @@
 -- `lattice::barren` meets its contract: what is left of the descent is the whole of it.
-use mathlib.Core.Path.{_≡_, refl, sym, ap, _∙_}
-use mathlib.Core.Bool.{true, false}
-use Prim.Native.Nat.{ℕ, suc, zero, _+_, _*_, _-_, _≤_, _<_}
+use mathlib.Core.Path.{_≡_, sym, ap, _∙_}
+use mathlib.Core.Bool.{true}
+use Prim.Native.Nat.{_+_, _*_, _-_, _≤_}
 use native.Mathlib.Omega.{arith}
-use lib.IntN.{ℤ, pos}
+use lib.IntN.{pos}
 use lib.Signed.{ltZ}
 use mir.Syntax.{w64}
 use mir.Val.{toZ, ofZ}
@@ -11,7 +11,7 @@ use mir.Facts.{toZ-ofZ}
 use Rattle.arith.specs.Within.{Within}
 use Rattle.arith.proofs.Parts.{within-back, within-more, within-sub}
 use Rattle.arith.proofs.Words.{yes-lt}
-use Rattle.lattice.specs.Lattice.{Starts, judged, lower, firstRung, verdict, barrenFrom, barrenBy}
+use Rattle.lattice.specs.Lattice.{Starts, lower, firstRung, verdict, barrenFrom, barrenBy}
 use Rattle.lattice.proofs.Descent.{step-of}
 use Rattle.lattice.proofs.Ranges.{first-weight, first-worth}
 use borrow.Author.Needs.{needs}

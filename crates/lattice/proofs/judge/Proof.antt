@@ -1,7 +1,6 @@
 -- `lattice::judge` meets its contract: its tests are those of the definition.
 use mathlib.Core.Path.{_≡_, ap}
-use mathlib.Core.Bool.{true, false}
-use native.Mathlib.Omega.{arith}
+use mathlib.Core.Bool.{true}
 use lib.Dec.{lit<}
 use lib.IntN.{ℤ, _+ℤ_, _-ℤ_, _*ℤ_}
 use lib.Signed.{ltZ}
@@ -9,13 +8,11 @@ use mir.Syntax.{w64}
 use mir.Val.{toZ, ofZ}
 use mir.Facts.{toZ-ofZ}
 use Rattle.arith.specs.Within.{Within}
-use Rattle.arith.specs.Division.{floorDiv}
-use Rattle.arith.proofs.Parts.{within-mul, within-add, within-sub, within-more, within-sfits, within-back}
+use Rattle.arith.proofs.Parts.{within-mul, within-add, within-sub, within-sfits, within-back}
 use Rattle.arith.proofs.Rounding.{floor-within}
 use Rattle.arith.proofs.Words.{back}
 use Rattle.lattice.specs.Lattice.{heightOf, highestOf, judged}
 use Rattle.lattice.proofs.Ranges.{multiple-within}
-use borrow.Author.Needs.{needs}
 use Rattle.lattice.proofs.judge.Statement.{statement}
 use Rattle.lattice.proofs.judge.Tie as tie
 

@@ -1,5 +1,4 @@
 -- `lattice::less_stride` meets its contract.
-use mathlib.Core.Path.{_≡_}
 use lib.Dec.{lit<}
 use lib.IntN.{ℤ, _-ℤ_}
 use Rattle.arith.specs.Within.{Within}

@@ -1,7 +1,4 @@
 -- `places::next_value` meets its contract.
-use mathlib.Core.Path.{_≡_}
-use mathlib.Core.Bool.{true, false}
-use lib.Signed.{ltZ}
 use mir.Facts.{toZ-ofZ}
 use Rattle.places.specs.Moves.{nextValue, turn}
 use Rattle.arith.proofs.Words.{on-values, yes-lt, less-fits, more-fits}

@@ -1,7 +1,7 @@
 -- `places::past` meets its contract.
-use mathlib.Core.Path.{_≡_, subst}
+use mathlib.Core.Path.{subst}
 use borrow.Author.Needs.{needs}
-use Rattle.places.specs.Moves.{SettledIn, pastOf}
+use Rattle.places.specs.Moves.{SettledIn}
 use Rattle.places.proofs.past.Statement.{statement}
 use Rattle.places.proofs.past.Tie as tie
 

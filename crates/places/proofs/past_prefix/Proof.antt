@@ -1,12 +1,11 @@
 -- `places::past_prefix` meets its contract.
-use mathlib.Core.Path.{_≡_, refl, sym, ap, _∙_}
-use Prim.Native.Nat.{ℕ, suc, _≤_, _<_, _-_}
+use mathlib.Core.Path.{_≡_, sym, _∙_}
+use Prim.Native.Nat.{_≤_, _-_}
 use native.Mathlib.Omega.{arith}
 use borrow.Author.Needs.{needs}
-use lib.ListN.{length, getD}
-use Rattle.places.specs.Moves.{nextValue, carry}
+use Rattle.places.specs.Moves.{carry}
 use Rattle.arith.proofs.Words.{back}
-use Rattle.places.specs.Moves.{at, nextOf, movedOf}
+use Rattle.places.specs.Moves.{at}
 use Rattle.places.proofs.Steps.{carry-here, carry-on, carry-end}
 use Rattle.places.proofs.past_prefix.Statement.{statement}
 use Rattle.places.proofs.past_prefix.Tie as tie

@@ -1,10 +1,7 @@
 -- `planner::optimal` meets its contract.
-use mathlib.Core.Path.{_≡_, refl, sym, ap, ap₂, _∙_, subst}
+use mathlib.Core.Path.{_≡_, refl, ap, _∙_}
 use native.Mathlib.Omega.{arith}
-use lib.IntN.{ℤ}
 use borrow.Author.Needs.{needs}
-use Rattle.arith.specs.Gcd.{lowest}
-use Rattle.arith.specs.Within.{Within}
 use Rattle.arith.proofs.Mixes.{over}
 use Rattle.arith.proofs.Parts.{within-more}
 use Rattle.arith.proofs.Words.{back}
@@ -14,7 +11,7 @@ use Rattle.greedy.proofs.Sizes.{fill-sized}
 use Rattle.search.specs.Steps.{Long}
 use Rattle.search.proofs.Boxes.{fixed-sized}
 use Rattle.search.proofs.Bounds.{bound-proper}
-use Rattle.planner.specs.Outcomes.{boxAt, fillAt, valueAt, Best}
+use Rattle.planner.specs.Outcomes.{boxAt, fillAt, valueAt}
 use Rattle.planner.proofs.Values.{bound-joins, joined-within}
 use Rattle.planner.proofs.optimal.Statement.{statement}
 use Rattle.planner.proofs.optimal.Tie as tie

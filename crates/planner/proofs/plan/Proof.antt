@@ -1,5 +1,5 @@
 -- `planner::plan` meets its contract.
-use mathlib.Core.Path.{_≡_, sym, _∙_, subst}
+use mathlib.Core.Path.{sym, _∙_, subst}
 use borrow.Author.Needs.{needs}
 use Rattle.knapsack.specs.Meaning.{instanceOf, RepliesAs}
 use Rattle.knapsack.proofs.Items.{accepted}

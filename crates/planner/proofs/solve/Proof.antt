@@ -1,13 +1,10 @@
 -- `planner::solve` meets its contract.
-use mathlib.Core.Path.{_≡_, refl, sym, ap, _∙_, subst}
-use mathlib.Core.Bool.{true, false}
-use lib.IntN.{pos}
-use lib.Signed.{ltZ}
+use mathlib.Core.Path.{subst}
+use mathlib.Core.Bool.{true}
 use borrow.Author.Needs.{needs}
 use Rattle.arith.proofs.Parts.{within-back}
 use Rattle.arith.proofs.Words.{yes-lt, no-lt}
 use Rattle.greedy.specs.Fill.{begun}
-use Rattle.knapsack.specs.Meaning.{instanceOf, Answers}
 use Rattle.prepare.specs.Narrowing.{reachOf, Narrowed}
 use Rattle.prepare.specs.Prepared.{PreparedAt}
 use Rattle.prepare.proofs.Nearer.{reach-small, narrowed-prepared}

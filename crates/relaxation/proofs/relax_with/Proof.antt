@@ -27,7 +27,7 @@ use prog.Wp.{Heap, Calls, Loops, WpFn, Tables, Wp, Out, Env, afterSeq, afterBloc
 use ghost.Atoms.{Atoms, sem}
 use contract.Monad.{Fun, fact}
 use contract.Running.{givenOf, tables, tablesOf}
-use types.Kit.{Given, Item as Entry, ‵, _⊛_, later, ⋆, anyQ, atRet, Seq, Go, allocs, params′, runs, _$_, _∵_, !, qed, by, move, keep, drop, split, join, rewrite, fsplit, fjoin, suffices, frame, done}
+use types.Kit.{Given, Item as Entry, ‵, _⊛_, ⋆, anyQ, atRet, Seq, Go, allocs, params′, runs, _$_, _∵_, !, qed, by, move, keep, drop, split, join, rewrite, fsplit, fjoin, suffices, frame, done}
 use types.Run.{look, look-raw, init, store, store-raw, forget, stop, hop, fld, from, load, lit, of-opd, bin, and-then, no-more, land, assigns, assigns-last, stays, leaves-loop, exec, returns, enter, alloc1, alloc0, params1, pass1, pass0, free1, free0}
 use types.Part.{whole, sub, look-in}
 use sound.Loop.{loop-rule}

@@ -1,8 +1,7 @@
 -- `search::cut` meets its contract: the tests are those of the definition, in its order.
 use mathlib.Core.Path.{_≡_, sym, ap, _∙_}
-use mathlib.Core.Bool.{true, false}
-use native.Mathlib.Omega.{arith}
-use lib.IntN.{ℤ, pos}
+use mathlib.Core.Bool.{false}
+use lib.IntN.{pos}
 use lib.Signed.{ltZ}
 use Rattle.arith.specs.Mixed.{lessMixed}
 use Rattle.arith.proofs.Parts.{within-back}
@@ -10,7 +9,7 @@ use Rattle.arith.proofs.Words.{back}
 use Rattle.greedy.specs.Fill.{fill, bound}
 use Rattle.greedy.specs.Sized.{SizedFill}
 use Rattle.greedy.proofs.Sizes.{fill-sized}
-use Rattle.search.specs.Search.{sparseBy, cutBy}
+use Rattle.search.specs.Search.{cutBy}
 use Rattle.search.proofs.Bounds.{bound-proper}
 use borrow.Author.Needs.{needs}
 use Rattle.search.proofs.cut.Statement.{statement}

@@ -1,8 +1,7 @@
 -- `search::descend` meets its contract.
-use mathlib.Core.Path.{_≡_, _∙_}
-use Prim.Native.Nat.{ℕ, _<_}
+use mathlib.Core.Path.{_≡_}
+use Prim.Native.Nat.{_<_}
 use native.Mathlib.Omega.{arith}
-use lib.IntN.{ℤ}
 use Rattle.arith.proofs.Words.{back}
 use Rattle.greedy.specs.Fill.{fill, start}
 use Rattle.greedy.proofs.Sizes.{fill-sized}

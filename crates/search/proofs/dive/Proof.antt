@@ -1,12 +1,9 @@
 -- `search::dive` meets its contract.
-use mathlib.Core.Path.{_≡_, refl, _∙_}
-use Prim.Native.Nat.{ℕ, _+_, _-_, _≤_, _<_}
+use Prim.Native.Nat.{_-_}
 use native.Mathlib.Omega.{arith}
-use lib.ListN.{length}
 use borrow.Author.Needs.{needs}
 use Rattle.greedy.specs.Fill.{at}
-use Rattle.search.specs.Search.{fixedBy}
-use Rattle.search.specs.Steps.{Long, Descends, descended}
+use Rattle.search.specs.Steps.{Long}
 use Rattle.search.proofs.Dives.{LongPath, Diving, diving-first, diving-sized, diving-step, diving-done}
 use Rattle.search.proofs.dive.Statement.{statement}
 use Rattle.search.proofs.dive.Tie as tie

@@ -1,17 +1,15 @@
 -- `search::first_paired` meets its contract: no pair that was looked at applies.
 use mathlib.Core.Path.{_≡_, sym, subst}
-use mathlib.Core.Bool.{true, false}
+use mathlib.Core.Bool.{true}
 use Prim.Native.Nat.{ℕ, _+_, _*_, _-_, _≤_, _<_}
 use native.Mathlib.Decide.{ℕ-discrete}
 use native.Mathlib.Omega.{arith}
-use lib.IntN.{ℤ}
 use Rattle.arith.specs.Within.{Within}
 use Rattle.arith.proofs.Parts.{abs-within, within-back}
 use Rattle.arith.proofs.Words.{back}
 use Rattle.greedy.specs.Fill.{at}
 use Rattle.search.specs.Search.{levelAt, pairIndex, AppliesAt, Applies, Decides}
 use Rattle.search.proofs.Boxes.{between}
-use borrow.Author.Needs.{needs}
 use Rattle.search.proofs.first_paired.Statement.{statement}
 use Rattle.search.proofs.first_paired.Tie as tie
 

@@ -1,12 +1,11 @@
 -- `search::fixed` meets its contract.
-use mathlib.Core.Path.{_≡_, refl, _∙_}
-use Prim.Native.Nat.{ℕ, _+_, _-_, _≤_, _<_}
+use mathlib.Core.Path.{_≡_, refl}
+use Prim.Native.Nat.{_-_, _≤_}
 use native.Mathlib.Numerals.{add-one}
 use native.Mathlib.Omega.{arith}
-use lib.IntN.{ℤ}
 use Rattle.arith.proofs.Words.{back}
 use Rattle.greedy.specs.Fill.{at}
-use Rattle.search.specs.Search.{levelAt, fixedBy}
+use Rattle.search.specs.Search.{fixedBy}
 use Rattle.search.proofs.fixed.Statement.{statement}
 use Rattle.search.proofs.fixed.Tie as tie
 

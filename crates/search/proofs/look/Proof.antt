@@ -1,16 +1,13 @@
 -- `search::look` meets its contract: at level d the box has the levels above fixed at the place.
 use mathlib.Core.Path.{_≡_, refl, sym, ap, _∙_, subst}
 use mathlib.Core.Logic.{inl, inr}
-use Prim.Native.Nat.{ℕ, suc, _+_, _-_, _≤_, _<_}
+use Prim.Native.Nat.{_-_, _≤_, _<_}
 use native.Mathlib.Numerals.{add-one}
 use native.Mathlib.Omega.{arith}
-use lib.IntN.{ℤ}
-use borrow.Author.Needs.{needs}
 use Rattle.arith.proofs.Words.{back}
 use Rattle.greedy.specs.Fill.{at}
 use Rattle.lattice.specs.Lattice.{latticeAt}
-use Rattle.search.specs.Search.{levelAt, spanned, fixedBy, runBox, runEnds, cutBy, triedBy, Applies}
-use Rattle.search.specs.Steps.{Long}
+use Rattle.search.specs.Search.{levelAt, spanned, fixedBy, runBox, runEnds, cutBy, Applies}
 use Rattle.search.proofs.Boxes.{item<16}
 use Rattle.search.proofs.Runs.{fixed-judged, run-judged}
 use Rattle.search.proofs.look.Statement.{statement}

@@ -1,13 +1,12 @@
 -- `search::removable` meets its contract.
-use mathlib.Core.Path.{_≡_, ap}
-use mathlib.Core.Bool.{true, false}
-use lib.IntN.{ℤ, pos}
+use mathlib.Core.Path.{ap}
+use lib.IntN.{pos}
 use mir.Syntax.{w64}
 use mir.Val.{ofZ}
 use mir.Facts.{toZ-ofZ}
 use Rattle.arith.proofs.Parts.{impossible}
 use Rattle.arith.proofs.Quotients.{bits-zero}
-use Rattle.search.specs.Search.{Stays, Removable, Decides}
+use Rattle.search.specs.Search.{Stays, Decides}
 use Rattle.search.proofs.removable.Statement.{statement}
 use Rattle.search.proofs.removable.Tie as tie
 

@@ -1,9 +1,7 @@
 -- `search::run` meets its contract: every place is settled or still to come, and places fall away.
-use mathlib.Core.Path.{_≡_, refl, sym, _∙_}
+use mathlib.Core.Path.{_≡_, refl, sym}
 use mathlib.Core.Bool.{Bool, true, false, not}
-use Prim.Native.Nat.{ℕ, _≤_, _<_}
 use native.Mathlib.Omega.{arith}
-use lib.ListN.{length}
 use borrow.Author.Needs.{needs}
 use Rattle.search.specs.Steps.{Long}
 use Rattle.search.proofs.Finish.{Going, left, going-first, going-on, going-less, searched}

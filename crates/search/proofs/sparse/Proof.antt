@@ -1,14 +1,9 @@
 -- `search::sparse` meets its contract.
-use mathlib.Core.Path.{_≡_, sym, _∙_}
-use Prim.Native.Nat.{ℕ, _<_}
+use Prim.Native.Nat.{_<_}
 use native.Mathlib.Omega.{arith}
-use lib.IntN.{ℤ, pos}
-use mir.Syntax.{w64}
 use mir.Facts.{toZ-ofZ}
-use borrow.Author.Needs.{needs}
 use borrow.Author.Tests.{lt-ltb, le-ltb}
 use Rattle.arith.proofs.Parts.{within-back}
-use Rattle.lattice.specs.Lattice.{barrenBy}
 use Rattle.search.specs.Search.{sparseBy}
 use Rattle.search.proofs.Bounds.{steep}
 use Rattle.search.proofs.sparse.Statement.{statement}

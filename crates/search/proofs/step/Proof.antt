@@ -1,14 +1,13 @@
 -- `search::step` meets its contract.
-use mathlib.Core.Path.{_≡_, refl, sym, ap, _∙_, subst}
-use mathlib.Core.Option.{Option, none, some}
-use Prim.Native.Nat.{ℕ, _≤_, _<_}
+use mathlib.Core.Path.{_≡_, refl, sym, _∙_}
+use mathlib.Core.Option.{Option, some}
+use Prim.Native.Nat.{ℕ}
 use lib.IntN.{ℤ}
 use borrow.Author.Needs.{needs}
 use Rattle.arith.proofs.Words.{back}
 use Rattle.greedy.specs.Fill.{at}
-use Rattle.places.specs.Moves.{SettledIn, pastOf, movedOf}
+use Rattle.places.specs.Moves.{SettledIn, pastOf}
 use Rattle.places.proofs.Steps.{moved-at, moved-done}
-use Rattle.search.specs.Steps.{Turned, WentOn}
 use Rattle.search.proofs.Turns.{looked-in, wider, past-started, MoveIn, move-in}
 use Rattle.search.proofs.step.Statement.{statement}
 use Rattle.search.proofs.step.Tie as tie

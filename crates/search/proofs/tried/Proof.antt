@@ -1,7 +1,7 @@
 -- `search::tried` meets its contract: the tests are those of the definition, in its order.
 use mathlib.Core.Path.{_≡_, refl, sym, ap, _∙_}
 use mathlib.Core.Bool.{Bool, true, false, not}
-use lib.IntN.{ℤ, pos}
+use lib.IntN.{pos}
 use lib.Signed.{ltZ}
 use Rattle.arith.specs.Mixed.{lessMixed}
 use Rattle.arith.proofs.Parts.{within-back}

@@ -1,7 +1,5 @@
 -- `search::turn` meets its contract.
-use mathlib.Core.Path.{_≡_}
 use native.Mathlib.Omega.{arith}
-use lib.ListN.{length}
 use mir.Facts.{toZ-ofZ}
 use Rattle.search.proofs.Dives.{LongPath, turn-inside, turned-by}
 use borrow.Author.Needs.{needs}

@@ -1,11 +1,9 @@
 -- `search::within` meets its contract.
 use mathlib.Core.Path.{_≡_, refl, sym}
 use mathlib.Core.Bool.{Bool, true, false, not}
-use native.Mathlib.Omega.{arith}
 use lib.Dec.{lit<}
 use lib.IntN.{ℤ, _-ℤ_}
 use lib.Signed.{_≤ℤ_, _<ℤ_, ltZ, clashℤ}
-use mir.Syntax.{w64}
 use mir.Val.{toZ, ofZ}
 use mir.Facts.{toZ-ofZ}
 use Rattle.arith.specs.Within.{Within}

@@ -1,7 +1,6 @@
 -- `prepare::narrowing::bound_size` meets its contract.
-use mathlib.Core.Path.{_≡_, subst}
+use mathlib.Core.Path.{subst}
 use native.Mathlib.Omega.{arith}
-use lib.IntN.{ℤ, natAbs}
 use borrow.Author.Needs.{needs}
 use Rattle.arith.proofs.Parts.{within-more, abs-within}
 use Rattle.arith.proofs.Words.{back}

@@ -1,13 +1,13 @@
 -- `prepare::narrowing::reach_of` meets its contract: nothing in it is large.
-use mathlib.Core.Path.{_≡_, ap, ap₂, _∙_}
-use Prim.Native.Nat.{ℕ, _+_, _*_, _≤_}
+use mathlib.Core.Path.{_≡_, ap, ap₂}
+use Prim.Native.Nat.{_+_, _*_, _≤_}
 use native.Mathlib.Omega.{arith}
 use lib.IntN.{natAbs}
 use borrow.Author.Needs.{needs}
 use Rattle.arith.specs.Within.{Within}
 use Rattle.arith.proofs.Parts.{within-more, within-back, abs-within}
 use Rattle.prepare.specs.declared.Most.{Most}
-use Rattle.prepare.specs.Narrowing.{mostOf, reachBy, reachOf}
+use Rattle.prepare.specs.Narrowing.{reachOf}
 use Rattle.prepare.proofs.Nearer.{product-small, most-small}
 use Rattle.prepare.proofs.narrowing.reach_of.Statement.{statement}
 use Rattle.prepare.proofs.narrowing.reach_of.Tie as tie

@@ -1,0 +1,495 @@
+// The point check on drawn points. The fraction is mostly at one place, the filler; some amounts are at the limits or beyond.
+use crate::count::as_signed;
+use crate::count::one_more;
+use crate::count::print_count;
+use crate::count::print_problem;
+use arith::Fraction;
+use feasibility::Candidate;
+use feasibility::PointReply;
+use feasibility::check_point;
+use knapsack::Bound;
+use knapsack::Item;
+use knapsack::Mark;
+use knapsack::Problem;
+use trials::draw::Spans;
+use trials::draw::below;
+use trials::draw::drawn_problem;
+use trials::draw::figure;
+use trials::draw::next;
+use trials::exact::times;
+use trials::print::print;
+use trials::print::print_number;
+use trials::print::print_signed;
+use trials::print::size_of;
+ghost use mathlib.Core.Path.{_≡_};
+ghost use Prim.Native.Nat.{_≤_};
+ghost use lib.IntN.{pos, natAbs};
+ghost use lib.Signed.{_≤ℤ_};
+ghost use Rattle.knapsack.specs.Records.{outside};
+
+// ---- what is drawn
+
+struct DrawnPoint {
+    point: Candidate,
+    state: u64,
+}
+
+fn fraction(p: i64, q: u64) -> Fraction {
+    Fraction { p: p, q: q }
+}
+
+// At the limits of paper 01's refusal 8, or just beyond.
+fn limit_amount(n: u64) -> Fraction {
+    match n {
+        0 => fraction(0, 0),
+        1 => fraction(1, 1000),
+        2 => fraction(1, 1001),
+        3 => fraction(1000000000, 1),
+        4 => fraction(-1000000000, 1),
+        5 => fraction(1000000001, 1),
+        6 => fraction(-1000000001, 1),
+        7 => fraction(999999999999, 1000),
+        8 => fraction(1000000000001, 1000),
+        _ => fraction(-9223372036854775808, 1),
+    }
+}
+
+// The filler's divisor is up to 6; of the others one in 32 is 2.
+fn drawn_divisor(state: u64, filler: bool) -> u64
+    ensures { λ r. ⌜ r ≤ 6 ⌝ }
+{
+    if filler {
+        return 1 + below(state, 5);
+    }
+    if below(state, 31) == 0 { 2 } else { 1 }
+}
+
+fn drawn_amount(state: u64, filler: bool) -> Fraction {
+    let a = next(state);
+    if below(state, 39) == 0 {
+        return limit_amount(below(a, 9));
+    }
+    let q = drawn_divisor(state, filler);
+    fraction(figure(a, 3 * q), q)
+}
+
+// One count in 16 is any number up to 20.
+fn drawn_count(state: u64, n: usize) -> usize {
+    if below(state, 15) == 0 {
+        return below(next(state), 20) as usize;
+    }
+    n
+}
+
+fn no_amounts() -> [Fraction; 16] {
+    [Fraction { p: 0, q: 1 }; 16]
+}
+
+fn drawn_point(state: u64, n: usize) -> DrawnPoint {
+    let mut amounts = no_amounts();
+    let filler = below(state, n as u64) as usize;
+    let mut now = next(state);
+    let count = drawn_count(now, n);
+    let mut k: usize = 0;
+    while k < 16 {
+        now = next(now);
+        let x = drawn_amount(now, k == filler);
+        amounts[k] = x;
+        now = next(now);
+        k += 1;
+    }
+    let c = Candidate {
+        amounts: amounts,
+        count: count,
+    };
+    DrawnPoint {
+        point: c,
+        state: now,
+    }
+}
+
+// ---- the amounts, plainly
+
+// What is known of the amounts so far: one is refused, how many are fractions, and the last of their divisors, or 1.
+struct Shape {
+    bad: bool,
+    fractions: u64,
+    divisor: u64,
+}
+
+fn divides(d: u64, n: u64) -> bool {
+    if d == 0 {
+        return false;
+    }
+    n % d == 0
+}
+
+// Whether a number from 2 to q divides both.
+fn shares(n: u64, q: u64) -> bool {
+    let mut found = false;
+    let mut d: u64 = 1;
+    while d < q {
+        d += 1;
+        if divides(d, n) && divides(d, q) {
+            found = true;
+        }
+    }
+    found
+}
+
+fn is_bad(x: Fraction) -> bool {
+    let q = x.q;
+    if q == 0 {
+        return true;
+    }
+    if q > 1000 {
+        return true;
+    }
+    let n = size_of(x.p);
+    if n > 1000000000 * q {
+        return true;
+    }
+    shares(n, q)
+}
+
+fn with_amount(h: Shape, x: Fraction) -> Shape {
+    let q = x.q;
+    let above = q > 1;
+    Shape {
+        bad: h.bad || is_bad(x),
+        fractions: one_more(h.fractions, above),
+        divisor: if above { q } else { h.divisor },
+    }
+}
+
+fn shape_of(c: Candidate, n: usize) -> Shape
+    requires { ⌜ n ≤ 15 ⌝ }
+{
+    let amounts = c.amounts;
+    let mut h = Shape {
+        bad: false,
+        fractions: 0,
+        divisor: 1,
+    };
+    let mut k: usize = 0;
+    while k < n {
+        let x = amounts[k];
+        h = with_amount(h, x);
+        k += 1;
+    }
+    h
+}
+
+// ---- the sums over one divisor
+
+// The first item that breaks a rule, from 1, or 0; weight and value times the divisor.
+struct Sums {
+    broken: usize,
+    weight: i64,
+    value: i64,
+}
+
+// Whether x is farther than n from zero.
+fn is_farther(x: i64, n: i64) -> bool
+    requires { ⌜ (pos 0 ≤ℤ n) × (n ≤ℤ pos 1000000000000000000) ⌝ }
+    ensures { λ r. ⌜ r ≡ outside (natAbs n) x ⌝ }
+{
+    if x < 0 - n {
+        return true;
+    }
+    n < x
+}
+
+// a · b of a figure and a number of any amount, and a + b; what is farther off is handed on.
+fn product(a: i64, b: i64) -> i64 {
+    if is_farther(a, 10000) {
+        return a;
+    }
+    if is_farther(b, 100000000000000) {
+        return b;
+    }
+    a * b
+}
+
+fn total(a: i64, b: i64) -> i64 {
+    if is_farther(a, 1000000000000000000) {
+        return a;
+    }
+    if is_farther(b, 1000000000000000000) {
+        return b;
+    }
+    a + b
+}
+
+fn is_integer(m: Mark) -> bool {
+    match m {
+        Mark::Integer => true,
+        Mark::Continuous => false,
+    }
+}
+
+// Whether p / q is below a bound.
+fn is_below(x: Fraction, b: Bound) -> bool {
+    match b {
+        Bound::Absent => false,
+        Bound::At(v) => x.p < product(v, as_signed(x.q)),
+    }
+}
+
+fn is_above(x: Fraction, b: Bound) -> bool {
+    match b {
+        Bound::Absent => false,
+        Bound::At(v) => product(v, as_signed(x.q)) < x.p,
+    }
+}
+
+fn breaks(i: Item, x: Fraction) -> bool {
+    let m = i.mark;
+    let l = i.lower;
+    let u = i.upper;
+    let split = is_integer(m) && x.q > 1;
+    split || is_below(x, l) || is_above(x, u)
+}
+
+fn first_of(found: usize, k: usize, broken: bool) -> usize {
+    if found > 0 {
+        return found;
+    }
+    if k > 15 {
+        return 0;
+    }
+    if broken { k + 1 } else { 0 }
+}
+
+// p / q over the divisor.
+fn numerator(x: Fraction, divisor: u64) -> i64 {
+    if x.q == 1 {
+        product(as_signed(divisor), x.p)
+    } else {
+        x.p
+    }
+}
+
+fn with_item(s: Sums, k: usize, i: Item, x: Fraction, divisor: u64) -> Sums {
+    let n = numerator(x, divisor);
+    Sums {
+        broken: first_of(s.broken, k, breaks(i, x)),
+        weight: total(s.weight, product(i.weight, n)),
+        value: total(s.value, product(i.price, n)),
+    }
+}
+
+fn sums_of(p: Problem, c: Candidate, n: usize, divisor: u64) -> Sums
+    requires { ⌜ n ≤ 15 ⌝ }
+{
+    let items = p.items;
+    let amounts = c.amounts;
+    let mut s = Sums {
+        broken: 0,
+        weight: 0,
+        value: 0,
+    };
+    let mut k: usize = 0;
+    while k < n {
+        let i = items[k];
+        let x = amounts[k];
+        s = with_item(s, k, i, x, divisor);
+        k += 1;
+    }
+    s
+}
+
+// ---- the reply against them
+
+// 7, 8, or 0 where nothing is refused.
+fn refusal_of(c: Candidate, h: Shape, n: usize) -> u64 {
+    if c.count != n {
+        return 7;
+    }
+    if h.bad || h.fractions > 1 {
+        return 8;
+    }
+    0
+}
+
+// v is value / divisor in lowest terms.
+fn is_value(v: Fraction, value: i64, divisor: u64) -> bool {
+    if v.q == 0 || v.q > 1000 {
+        return false;
+    }
+    if shares(size_of(v.p), v.q) {
+        return false;
+    }
+    product(as_signed(divisor), v.p) == product(as_signed(v.q), value)
+}
+
+fn is_over(p: Problem, s: Sums, divisor: u64) -> bool {
+    times(p.capacity, as_signed(divisor)) < s.weight
+}
+
+// The reply to a point that is not refused.
+fn is_told(r: PointReply, p: Problem, s: Sums, divisor: u64) -> bool {
+    let over = is_over(p, s, divisor);
+    match r {
+        PointReply::Refused(_) => false,
+        PointReply::Feasible(v) => s.broken == 0 && !over && is_value(v, s.value, divisor),
+        PointReply::Violates(k) => {
+            if k == 0 {
+                s.broken == 0 && over
+            } else {
+                s.broken == k
+            }
+        }
+    }
+}
+
+fn is_refused(r: PointReply, number: u64) -> bool {
+    match r {
+        PointReply::Refused(f) => f.number == number && f.line == 0,
+        PointReply::Feasible(_) => false,
+        PointReply::Violates(_) => false,
+    }
+}
+
+fn agrees(r: PointReply, p: Problem, c: Candidate, n: usize) -> bool
+    requires { ⌜ n ≤ 15 ⌝ }
+{
+    let h = shape_of(c, n);
+    let number = refusal_of(c, h, n);
+    if number > 0 {
+        return is_refused(r, number);
+    }
+    let s = sums_of(p, c, n, h.divisor);
+    is_told(r, p, s, h.divisor)
+}
+
+// ---- counts
+
+struct Tally {
+    seven: u64,
+    eight: u64,
+    yes: u64,
+    split: u64,
+    item: u64,
+    weight: u64,
+    wrong: u64,
+}
+
+// 7 and 8 for the refusals, 1 and 2 for yes with an integer or a fraction, 3 and 4 for no by an item or the weight.
+fn kind_of(r: PointReply) -> u64 {
+    match r {
+        PointReply::Refused(f) => f.number,
+        PointReply::Feasible(v) => { if v.q == 1 { 1 } else { 2 } }
+        PointReply::Violates(k) => { if k > 0 { 3 } else { 4 } }
+    }
+}
+
+fn tallied(t: Tally, kind: u64, right: bool) -> Tally {
+    Tally {
+        seven: one_more(t.seven, kind == 7),
+        eight: one_more(t.eight, kind == 8),
+        yes: one_more(t.yes, kind == 1 || kind == 2),
+        split: one_more(t.split, kind == 2),
+        item: one_more(t.item, kind == 3),
+        weight: one_more(t.weight, kind == 4),
+        wrong: one_more(t.wrong, !right),
+    }
+}
+
+fn print_amount(x: Fraction) {
+    print(b" ");
+    print_signed(x.p);
+    print(b"/");
+    print_number(x.q);
+}
+
+fn print_wrong(p: Problem, c: Candidate, n: usize)
+    requires { ⌜ n ≤ 15 ⌝ }
+{
+    print(b"disagreement: ");
+    print_problem(p, n);
+    print_count(b"; amounts ", c.count as u64);
+    let amounts = c.amounts;
+    let mut k: usize = 0;
+    while k < n {
+        let x = amounts[k];
+        print_amount(x);
+        k += 1;
+    }
+    print(b"\n");
+}
+
+fn tried(t: Tally, p: Problem, c: Candidate, n: usize) -> Tally
+    requires { ⌜ n ≤ 15 ⌝ }
+{
+    let r = check_point(p, c);
+    let right = agrees(r, p, c, n);
+    if !right {
+        print_wrong(p, c, n);
+    }
+    tallied(t, kind_of(r), right)
+}
+
+// Small figures; of four bounds two are absent, and of four items three continuous.
+fn spans() -> Spans {
+    Spans {
+        weight: 4,
+        price: 5,
+        bound: 3,
+        capacity: 12,
+        unit: 1,
+        absent: 2,
+        loose: 3,
+    }
+}
+
+// What so many points of n items each come to.
+fn tally_of(seed: u64, points: u64, n: usize) -> Tally
+    requires { ⌜ n ≤ 15 ⌝ }
+{
+    let mut t = Tally {
+        seven: 0,
+        eight: 0,
+        yes: 0,
+        split: 0,
+        item: 0,
+        weight: 0,
+        wrong: 0,
+    };
+    let mut state = seed;
+    let mut k: u64 = 0;
+    while k < points {
+        let d = drawn_problem(state, n, spans());
+        let e = drawn_point(d.state, n);
+        let p = d.problem;
+        let c = e.point;
+        t = tried(t, p, c, n);
+        state = e.state;
+        k += 1;
+    }
+    t
+}
+
+fn drawn(seed: u64, points: u64, n: usize)
+    requires { ⌜ n ≤ 15 ⌝ }
+{
+    let t = tally_of(seed, points, n);
+    print_count(b"points, seed ", seed);
+    print_count(b", items ", n as u64);
+    print_count(b", points ", points);
+    print_count(b": refused 7 ", t.seven);
+    print_count(b", refused 8 ", t.eight);
+    print_count(b", yes ", t.yes);
+    print_count(b" (by a fraction ", t.split);
+    print_count(b"), no by an item ", t.item);
+    print_count(b", by the weight ", t.weight);
+    print_count(b"; disagreements ", t.wrong);
+    print(b"\n");
+}
+
+pub fn show_points() {
+    drawn(31, 2000, 1);
+    drawn(32, 4000, 2);
+    drawn(33, 6000, 3);
+    drawn(34, 8000, 4);
+}
