@@ -140,7 +140,8 @@ pub fn dive(s: Setting, p: Path, j: usize) -> Path
     t.path
 }
 
-// Whether the items of a lattice can make no value above b, whatever the relaxation promises.
+// Whether the items of a lattice can make no value above b, whatever the relaxation promises: cut by lattice, see proofs/Cuts
+// (sparse-most).
 pub fn sparse(c: Columns, l: Lattice, f: Fill, b: i64) -> bool
     requires { ⌜ Slopes c l f ⌝ }
     ensures { λ r. ⌜ r ≡ sparseBy c l f b ⌝ }
@@ -178,7 +179,7 @@ pub fn cut(c: Columns, l: Lattice, e: Ends, best: Incumbent) -> bool
     false
 }
 
-// The better of the incumbent and the place x, whose levels are all fixed in e.
+// The better of the incumbent and the place x, whose levels are all fixed in e: see proofs/Settle (tried-settles).
 pub fn tried(c: Columns, e: Ends, x: [i64; 16], best: Incumbent) -> Incumbent
     requires { ⌜ Judges c e best ⌝ }
     ensures { λ r. ⌜ r ≡ triedBy c e x best ⌝ }
