@@ -7,3 +7,4 @@ pub mod Divisors
 pub mod Mixes
 pub mod Fractions
 pub mod Sums
+pub mod Signs

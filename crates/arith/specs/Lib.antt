@@ -4,3 +4,4 @@ pub mod Fractions
 pub mod Division
 pub mod Gcd
 pub mod Mixed
+pub mod Signs

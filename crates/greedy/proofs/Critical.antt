@@ -15,7 +15,7 @@ use Rattle.knapsack.specs.Meaning.{Instance, weights, prices}
 use Rattle.knapsack.specs.declared.Bound.{Bound}
 use Rattle.knapsack.specs.declared.Bound.the-variants.{At}
 use Rattle.knapsack.specs.declared.Item.{Item}
-use Rattle.greedy.specs.Fill.{turned}
+use Rattle.arith.specs.Signs.{turned}
 
 -- the end where an item weighs most, and where it weighs least
 abbrev pub HeavyEnd : ℕ → Item → ℤ → Type 0

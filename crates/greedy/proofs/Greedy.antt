@@ -10,7 +10,8 @@ use lib.Signed.{_≤ℤ_, _<ℤ_, ≤ℤ-refl}
 use Rattle.arith.proofs.Integers.{split, split2, split3, zed, ≤ℤ-trans, ≤ℤ-reflexive, ≤ℤ-or-<, times-≤}
 use Rattle.arith.proofs.Sums.{bump-same, bump-other, sum-bump, sum-cong}
 use Rattle.arith.specs.Sum.{sum, Each, bump}
-use Rattle.greedy.specs.Fill.{turned, unit}
+use Rattle.arith.specs.Signs.{turned}
+use Rattle.greedy.specs.Fill.{unit}
 use Rattle.greedy.specs.Ordered.{Idle}
 use Rattle.greedy.proofs.Critical.{heavy-end, light-end, filled, fill, fill-price}
 use Rattle.knapsack.proofs.Branch.{TooHeavy}

@@ -33,7 +33,8 @@ use Rattle.knapsack.proofs.Branch.{AtMost, leaf, empty}
 use Rattle.greedy.specs.declared.Columns.{Columns}
 use Rattle.greedy.specs.declared.Ends.{Ends}
 use Rattle.greedy.specs.declared.Fill.{Fill}
-use Rattle.greedy.specs.Fill.{at, weightOf, priceOf, itemOf, rankOf, lightest, heaviest, turned, lightOf, heavyOf, width, begun, raised, fillFrom, fill, sizeOf, rateOf, sharedBy, bound, fitted, start, unit, stand, solution}
+use Rattle.arith.specs.Signs.{turned}
+use Rattle.greedy.specs.Fill.{at, weightOf, priceOf, itemOf, rankOf, lightest, heaviest, lightOf, heavyOf, width, begun, raised, fillFrom, fill, sizeOf, rateOf, sharedBy, bound, fitted, start, unit, stand, solution}
 use Rattle.greedy.specs.Ordered.{Idle, weightAt, Ordered}
 use Rattle.greedy.proofs.Greedy.{Boxed, LightAt, HeavyAt, Ranked, Inv, Critical, too-heavy, begin, raise, finish, inv-feasible, standing, critical, not-idle, abs≥1, turned-abs, light-in, heavy-in, unit-abs, price-abs}
 use Rattle.greedy.proofs.Critical.{own-score}

@@ -9,7 +9,8 @@ use lib.IntN.{ℤ, pos, negℤ, _-ℤ_, _*ℤ_}
 use lib.Signed.{_≤ℤ_, _<ℤ_, ltZ, clashℤ}
 use Rattle.arith.proofs.Integers.{split, split3, zed}
 use Rattle.arith.proofs.Words.{yes-lt, no-lt}
-use Rattle.greedy.specs.Fill.{lightest, heaviest, turned}
+use Rattle.arith.specs.Signs.{turned}
+use Rattle.greedy.specs.Fill.{lightest, heaviest}
 use Rattle.greedy.proofs.Greedy.{LightAt, HeavyAt, sign-of, turned-up, turned-dn}
 
 above-not : (a : ℤ) → pos 0 <ℤ a → a <ℤ pos 0 → ⊥

@@ -8,7 +8,7 @@ use mathlib.Core.Bool.{true, false, cond}
 use mathlib.Core.List.{List}
 use Prim.Native.Nat.{ℕ, zero, suc, _+_, _*_, _/_, _%_}
 use lib.Dec.{ltb, eqb}
-use lib.IntN.{ℤ, pos, negsuc, negℤ, natAbs, _+ℤ_, _-ℤ_, _*ℤ_}
+use lib.IntN.{ℤ, pos, negsuc, natAbs, _+ℤ_, _-ℤ_, _*ℤ_}
 use lib.ListN.{getD}
 use lib.Signed.{ltZ}
 use Rattle.arith.specs.Division.{floorDiv, ceilDiv}
@@ -45,11 +45,6 @@ rankOf c k = place (c .rank) k
 -- where an item weighs least; one of weight 0 stands at the end of the better price
 abbrev pub lightest : ℤ → ℤ → ℤ → ℤ → ℤ
 lightest a c l u = cond (ltZ (pos 0) a) l (cond (ltZ a (pos 0)) u (cond (ltZ (pos 0) c) u l))
-
--- the price with the sign of the weight taken out: the price per unit of weight is turned a c / |a|
-abbrev pub turned : ℤ → ℤ → ℤ
-turned (pos n) c = c
-turned (negsuc n) c = negℤ c
 
 abbrev pub heaviest : ℤ → ℤ → ℤ → ℤ
 heaviest a l u = cond (ltZ a (pos 0)) l u

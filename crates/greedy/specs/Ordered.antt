@@ -7,7 +7,8 @@ use Prim.Native.Nat.{ℕ, _≤_, _<_}
 use lib.IntN.{ℤ, pos, natAbs, _*ℤ_}
 use lib.Signed.{_≤ℤ_, _<ℤ_}
 use Rattle.greedy.specs.declared.Columns.{Columns}
-use Rattle.greedy.specs.Fill.{at, weightOf, priceOf, itemOf, rankOf, turned}
+use Rattle.arith.specs.Signs.{turned}
+use Rattle.greedy.specs.Fill.{at, weightOf, priceOf, itemOf, rankOf}
 
 abbrev pub Idle : ℤ → ℤ → Type 0
 Idle a c = (a ≡ pos 0) ⊎ (turned a c ≤ℤ pos 0)

@@ -15,7 +15,8 @@ use Rattle.arith.proofs.Integers.{split, split2, zed}
 use Rattle.arith.proofs.Parts.{abs-within, impossible}
 use Rattle.arith.proofs.Words.{yes-lt, no-lt}
 use Rattle.greedy.proofs.Greedy.{zero?, abs≥1}
-use Rattle.greedy.specs.Fill.{at, place, weightOf, priceOf, itemOf, rankOf, turned}
+use Rattle.arith.specs.Signs.{turned}
+use Rattle.greedy.specs.Fill.{at, place, weightOf, priceOf, itemOf, rankOf}
 use Rattle.greedy.specs.Ordered.{Idle, weightAt, rateAt, Ordered}
 use Rattle.greedy.specs.Sized.{SizedColumns}
 use Rattle.greedy.specs.declared.Columns.{Columns}
@@ -28,7 +29,8 @@ use Rattle.ordering.proofs.Insertion.{sorted-order}
 use Rattle.ordering.proofs.Order as keyed
 use Rattle.ordering.proofs.Order.{AtLeast}
 use Rattle.ordering.proofs.Permutations.{onto}
-use Rattle.tables.proofs.Ranges.{within-turned, size-within, weight-within, price-within}
+use Rattle.arith.proofs.Signs.{within-turned}
+use Rattle.tables.proofs.Ranges.{size-within, weight-within, price-within}
 use Rattle.tables.specs.Figures.{figureOf, live, lightBound, headStart, fillingKey, keyOf}
 use Rattle.tables.specs.Tables.{listed}
 use Rattle.tables.specs.declared.Figure.the-variants.{Weight, Price, Size, Rate}

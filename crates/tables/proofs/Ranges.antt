@@ -1,26 +1,17 @@
 -- How large the figures and the keys of an accepted item are.
--- within-turned, turned-self: of a price with the sign of a weight taken in.
 -- weight-within, price-within, end-within, head-start-within, key-within, reduced-within: of an item's figures, its ends and its keys.
-use mathlib.Core.Path.{_≡_, refl}
 use Prim.Native.Nat.{ℕ}
 use native.Mathlib.Omega.{arith}
 use lib.IntN.{ℤ, pos, negsuc, natAbs, _+ℤ_, _*ℤ_}
-use Rattle.arith.proofs.Parts.{within-neg, within-more, within-add, within-sub, within-mul, abs-within}
+use Rattle.arith.proofs.Parts.{within-more, within-add, within-sub, within-mul, abs-within}
 use Rattle.arith.specs.Within.{Within}
-use Rattle.greedy.specs.Fill.{turned}
+use Rattle.arith.proofs.Signs.{within-turned, turned-self}
+use Rattle.arith.specs.Signs.{turned}
 use Rattle.knapsack.specs.Records.{BoundInRange, ItemInRange}
 use Rattle.knapsack.specs.declared.Bound.the-variants.{Absent, At}
 use Rattle.knapsack.specs.declared.Bound.{Bound}
 use Rattle.knapsack.specs.declared.Item.{Item}
 use Rattle.tables.specs.Figures.{endOr, lowEnd, highEnd, lightBound, headStart, reducedPrice, SmallRatio}
-
-pub within-turned : {n : ℕ} (a c : ℤ) → Within n c → Within n (turned a c)
-within-turned (pos m) c h = h
-within-turned (negsuc m) c h = within-neg c h
-
-pub turned-self : (a : ℤ) → turned a a ≡ pos (natAbs a)
-turned-self (pos n) = refl
-turned-self (negsuc n) = refl
 
 pub zero-within : {n : ℕ} → Within n (pos 0)
 zero-within = record { above = omega arith; below = omega arith }

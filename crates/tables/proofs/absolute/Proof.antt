@@ -3,7 +3,7 @@ use mathlib.Core.Path.{_∙_}
 use borrow.Author.Needs.{needs}
 use mir.Facts.{toZ-ofZ}
 use Rattle.arith.proofs.Words.{back}
-use Rattle.tables.proofs.Ranges.{turned-self}
+use Rattle.arith.proofs.Signs.{turned-self}
 use Rattle.tables.proofs.absolute.Statement.{statement}
 use Rattle.tables.proofs.absolute.Tie as tie
 

@@ -8,7 +8,7 @@ use mir.Syntax.{w64}
 use mir.Val.{toZ, ofZ}
 use Rattle.arith.proofs.Parts.{within-more, within-back, within-sfits}
 use Rattle.arith.proofs.Words.{back}
-use Rattle.greedy.specs.Fill.{turned}
+use Rattle.arith.specs.Signs.{turned}
 use Rattle.tables.specs.Figures.{lightBound, headStart}
 use Rattle.tables.proofs.Ranges.{weight-within, price-within, scaled-within, key-within}
 use Rattle.tables.proofs.filling_key.Statement.{statement}
