@@ -111,19 +111,20 @@ relaxed s = record { capacity = s .capacity; count = s .count; item = λ k. reco
 
 -- ---- what an answer shows
 
--- within ±1,000,000,000, in lowest terms, at most one not whole, and its divisor divides its item's weight
+abbrev pub nought : Fraction
+nought = record { p = pos 0; q = 1 }
+
+-- within ±1,000,000,000, in lowest terms, at most one not whole, and its divisor divides its item's weight; zero beyond the items
 pub record Shown (s : Instance) (x : ℕ → Fraction) : Type 0 where
   pub small : (k : ℕ) → k < s .count → natAbs (x k .p) ≤ 1000000000 * x k .q
   pub divisor : (k : ℕ) → k < s .count → 1 ≤ x k .q
   pub lowest : (k : ℕ) → k < s .count → gcdOf (natAbs (x k .p)) (x k .q) ≡ 1
   pub single : (j k : ℕ) → j < s .count → k < s .count → x j .q ≢ 1 → x k .q ≢ 1 → j ≡ k
   pub divides : (k : ℕ) → k < s .count → x k .q ≢ 1 → Divides (x k .q) (natAbs (weights s k))
+  pub beyond : (k : ℕ) → s .count ≤ k → x k ≡ nought
 
 abbrev pub ShownSteps : Instance → (ℕ → ℤ) → Type 0
 ShownSteps s d = (k : ℕ) → k < s .count → natAbs (d k) ≤ 1000
-
-abbrev pub nought : Fraction
-nought = record { p = pos 0; q = 1 }
 
 abbrev pub amountAt : Answer → ℕ → Fraction
 amountAt a k = getD (a .point) k nought
@@ -134,18 +135,21 @@ pointOf a k = frac (amountAt a k .p) (amountAt a k .q)
 abbrev pub stepsOf : Answer → ℕ → ℤ
 stepsOf a k = getD (a .steps) k (pos 0)
 
--- the value shown is the point's, in lowest terms
+-- the value shown is the point's, in lowest terms; there are no steps
 pub record ShownOptimal (s : Instance) (a : Answer) : Type 0 where
   pub optimal : Optimal s (pointOf a)
   pub shown : Shown s (amountAt a)
   pub exact : frac (a .value .p) (a .value .q) ≈ᶠ value s (pointOf a)
   pub divisor : 1 ≤ a .value .q
   pub lowest : gcdOf (natAbs (a .value .p)) (a .value .q) ≡ 1
+  pub still : a .steps ≡ replicate 16 (pos 0)
 
+-- there is no value
 pub record ShownUnbounded (s : Instance) (a : Answer) : Type 0 where
   pub unbounded : Unbounded s (pointOf a) (stepsOf a)
   pub shown : Shown s (amountAt a)
   pub steps : ShownSteps s (stepsOf a)
+  pub endless : a .value ≡ nought
 
 -- an answer with no point: a refusal's other fields, and those of infeasible, are zero
 abbrev pub bare : Kind → Answer

@@ -169,8 +169,9 @@ module _ (p : Problem) (range : InRange p) (s : Setting) (q : Prepared p s) wher
   pub unbounded-corner : (r : RayReply) (a : Answer) → pos 0 ≤ℤ begun (s .cols) (s .ends) .room → RayFound p r → r .found ≡ true → Cornered s (r .steps) a → Answers I a
   unbounded-corner r a fits found y h = rw (h .kind-is) (record {
     unbounded = rw (h .steps-are) (corner-unbounded p r lo hi light (pointOf a) range found y corner (corner-reads (r .steps) a h) (corner-fits fits));
-    shown = corner-shown I (ranges-of p range) lo hi light corner (amountAt a) (corner-amount (r .steps) a h);
+    shown = corner-shown I (ranges-of p range) lo hi light corner (amountAt a) (corner-amount (r .steps) a h) (λ k l. h .point-is .beyond k (omega (arith, q .count)));
     steps = rw (h .steps-are) (found .small);
+    endless = h .value-is;
   })
 
 -- ---- what a search says, where an absent bound is at the problem's reach
@@ -238,6 +239,7 @@ module _ (p : Problem) (range : InRange p) (s : Setting) (q : PreparedAt (reachO
         lowest = λ k l. rw (shows k l) (lowest-coprime (N k) D D≥1);
         single = λ j k l m nj nk. sym (q .ready .ordered .item-rank j (in-near j l)) ∙ ap (itemOf d) (critical j l nj .0 ∙ sym (critical k m nk .0)) ∙ q .ready .ordered .item-rank k (in-near k m);
         divides = λ k l n. subst₂ Divides (ap (λ (z : Fraction). z .q) (sym (shows k l))) (parts-critical (s .cols) f (q .ready .ordered) k (in-near k l) (critical k l n .0) (critical k l n .1) ∙ ap natAbs (q .weights k l)) (lowest-divides (N k) D D≥1);
+        beyond = λ k l. h .point-is .beyond k (omega (arith, q .count));
       }
 
       pub optimal-found : (r : RayReply) → RayFound p r → r .found ≡ false → Answers J a
@@ -247,4 +249,5 @@ module _ (p : Problem) (range : InRange p) (s : Setting) (q : PreparedAt (reachO
         exact = rw (h .value-is) (over-≈ (over-lowest (over (valueAt s (b .place))) D D≥1) (over-total D (p .count) (pointOf a) N reads (prices J)) D≥1 (sym best-value));
         divisor = rw (h .value-is) (lowest-den (over (valueAt s (b .place))) D D≥1);
         lowest = rw (h .value-is) (lowest-coprime (over (valueAt s (b .place))) D D≥1);
+        still = h .steps-are;
       })

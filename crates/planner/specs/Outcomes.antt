@@ -1,11 +1,12 @@
 -- The answers that a search and a ray are turned into.
 --   Joinable v        the value v fits one number of parts
---   Cornered s d a    a shows the light ends of the box, and the steps d
---   Best s x a        a shows the relaxation of the place x, and its value in lowest terms
+--   Cornered s d a    a shows the light ends of the box and the steps d, and no value
+--   Best s x a        a shows the relaxation of the place x and its value in lowest terms, and no steps
 use mathlib.Core.Path.{_≡_}
 use mathlib.Core.List.{List}
 use Prim.Native.Nat.{_≤_}
 use lib.IntN.{ℤ, pos, _*ℤ_}
+use lib.ListN.{replicate}
 use Rattle.arith.specs.Within.{Within}
 use Rattle.arith.specs.Gcd.{lowest}
 use Rattle.arith.specs.declared.Mixed.{Mixed}
@@ -14,6 +15,7 @@ use Rattle.amounts.specs.Amounts.{Amounts}
 use Rattle.greedy.specs.declared.Ends.{Ends}
 use Rattle.greedy.specs.declared.Fill.{Fill}
 use Rattle.greedy.specs.Fill.{at, fill, bound}
+use Rattle.knapsack.specs.Meaning.{nought}
 use Rattle.knapsack.specs.declared.Answer.{Answer}
 use Rattle.knapsack.specs.declared.Kind.the-variants as kind
 use Rattle.search.specs.declared.Setting.{Setting}
@@ -32,6 +34,7 @@ pub record Cornered (s : Setting) (d : List ℤ) (a : Answer) : Type 0 where
   pub kind-is : a .kind ≡ kind.Unbounded
   pub point-is : Amounts (s .cols) (s .ends) unfilled 1 (a .point)
   pub steps-are : a .steps ≡ d
+  pub value-is : a .value ≡ nought
 
 -- the box of the place, what its filling is, and its value
 abbrev pub boxAt : Setting → List ℤ → Ends
@@ -46,4 +49,5 @@ valueAt s x = bound (s .cols) (fillAt s x)
 pub record Best (s : Setting) (x : List ℤ) (a : Answer) : Type 0 where
   pub kind-is : a .kind ≡ kind.Optimal
   pub point-is : Amounts (s .cols) (boxAt s x) (fillAt s x) (valueAt s x .parts) (a .point)
+  pub steps-are : a .steps ≡ replicate 16 (pos 0)
   pub value-is : a .value ≡ lowest (over (valueAt s x)) (valueAt s x .parts)

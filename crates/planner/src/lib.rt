@@ -62,11 +62,12 @@ fn unbounded(s: Setting, steps: [i64; 16]) -> Answer
     };
     let x = amounts(s.cols, s.ends, f, 1);
     let point = x.point;
+    let nought = Fraction { p: 0, q: 1 };
     Answer {
         kind: Kind::Unbounded,
         point: point,
         steps: steps,
-        value: Fraction { p: 0, q: 1 },
+        value: nought,
     }
 }
 
@@ -82,10 +83,11 @@ fn optimal(s: Setting, x: [i64; 16]) -> Answer
     let n = joined(v);
     let value = reduce(n, v.parts);
     let point = y.point;
+    let still: [i64; 16] = [0; 16];
     Answer {
         kind: Kind::Optimal,
         point: point,
-        steps: [0; 16],
+        steps: still,
         value: value,
     }
 }

@@ -24,7 +24,7 @@ use Rattle.knapsack.specs.declared.Mark.{Mark}
 use Rattle.knapsack.specs.declared.Mark.the-variants.{Integer, Continuous}
 use Rattle.knapsack.specs.declared.Problem.{Problem}
 use Rattle.knapsack.specs.Records.{itemAt, BoundInRange, InOrder, InRange}
-use Rattle.knapsack.specs.Meaning.{Instance, Point, instanceOf, relaxed, weights, Feasible, Infeasible, Unbounded, Shown}
+use Rattle.knapsack.specs.Meaning.{Instance, Point, instanceOf, relaxed, weights, Feasible, Infeasible, Unbounded, nought, Shown}
 use Rattle.knapsack.proofs.Branch.{empty}
 use Rattle.knapsack.proofs.Bridge.{Reads, bridge-feasible, bridge-infeasible}
 use Rattle.knapsack.proofs.Common.{KeepsMarkᴰ, weighsᴰ, Feasibleᴰ}
@@ -225,14 +225,15 @@ module _ (s : Instance) (g : Ranges s) (lo hi e : ℕ → ℤ) (c : LightCorner 
   pub corner-point : (x : Point) → Reads s 1 x e → weighsᴰ s e ≤ℤ s .capacity → Feasible s x
   corner-point x h fits = bridge-feasible s 1 x e (omega arith) h .1 (corner-feasible fits)
 
-  pub corner-shown : (x : ℕ → Fraction) → ((k : ℕ) → k < s .count → x k ≡ record { p = e k; q = 1 }) → Shown s x
+  pub corner-shown : (x : ℕ → Fraction) → ((k : ℕ) → k < s .count → x k ≡ record { p = e k; q = 1 }) → ((k : ℕ) → s .count ≤ k → x k ≡ nought) → Shown s x
   unfolding gcdOf gcdIn
-  corner-shown x h = record {
+  corner-shown x h g = record {
     small = λ k l. rw (h k l) (omega (arith, corner-small k l));
     divisor = λ k l. rw (h k l) (omega arith);
     lowest = λ k l. rw (h k l);
     single = λ j k l m n. absurd (n (rw (h j l)));
     divides = λ k l n. absurd (n (rw (h k l)));
+    beyond = g;
   }
 
 pub corner-relaxed : (s : Instance) (lo hi e : ℕ → ℤ) → LightCorner s lo hi e → LightCorner (relaxed s) lo hi e

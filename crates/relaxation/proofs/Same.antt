@@ -48,6 +48,7 @@ module _ (s t : Instance) (e : Same s t) where
     lowest = λ k h. p .lowest k (in-s k h);
     single = λ j k g h. p .single j k (in-s j g) (in-s k h);
     divides = λ k h q. subst (λ i. Divides (x k .q) (natAbs (i .weight))) (e .items k (in-s k h)) (p .divides k (in-s k h) q);
+    beyond = λ k h. p .beyond k (omega (arith, e .count));
   }
 
   pub same-unbounded : (x : Point) (d : ℕ → ℤ) → Unbounded s x d → Unbounded t x d
@@ -80,11 +81,13 @@ same-answers s t e a = go (a .kind)
       exact = subst (λ v. frac (a .value .p) (a .value .q) ≈ᶠ v) (same-value s t e (pointOf a)) (r .exact);
       divisor = r .divisor;
       lowest = r .lowest;
+      still = r .still;
     }
     go kind.Infeasible (none, b) = ((λ x p. none x (same-feasible t s (same-turned s t e) x p)), b)
     go kind.Unbounded r = record {
       unbounded = same-unbounded s t e _ _ (r .unbounded);
       shown = same-shown s t e _ (r .shown);
       steps = λ k h. r .steps k (in-s s t e k h);
+      endless = r .endless;
     }
     go (kind.Refused f) r = r

@@ -67,7 +67,7 @@ returns c =
     let m = j .before in
     let e = rw (m .before .before .before .fixed .ensures, fill-is (m .before .before), value-is (m .before)) at (m .amounts .ensures) in
     let v = rw (back (j .joined .result) (j .joined .ok), numerator-is j, value-is (m .before)) at (r .reduce .ensures) in
-    record { kind-is = refl; point-is = e; value-is = v }
+    record { kind-is = refl; point-is = e; steps-are = refl; value-is = v }
 
 pub optimal-spec : {M : Type 1} → statement M
 optimal-spec =
