@@ -1,6 +1,6 @@
 -- Laws of records.
 -- some-found, some-more, none-fails: a test over the first items.
--- accepted-iff: a record is accepted exactly if it is in range.
+-- unfaulted, unrefused: a record is accepted exactly if none of its tests holds; accepted-iff: exactly if it is in range.
 use mathlib.Core.Path.{_≡_, refl, sym, _∙_, subst}
 use mathlib.Core.Bool.{Bool, true, false, cond}
 use mathlib.Core.Logic.{_↔_}
@@ -11,6 +11,7 @@ use Rattle.arith.proofs.Parts.{impossible}
 use lib.Dec.{ltb, eqb}
 use lib.IntN.{ℤ, natAbs}
 use borrow.Author.Tests.{ltb-false, eqb-false, le-ltb, ne-eqb}
+use Rattle.arith.specs.Sum.{Each}
 use Rattle.arith.proofs.Words.{no-lt, le-no}
 use Rattle.knapsack.specs.declared.Bound.{Bound}
 use Rattle.knapsack.specs.declared.Bound.the-variants.{Absent, At}
@@ -19,7 +20,7 @@ use Rattle.knapsack.specs.declared.Problem.{Problem}
 use Rattle.knapsack.specs.declared.Trial.the-variants.{Figures, Crossing}
 use Rattle.knapsack.specs.declared.Verdict.{Verdict}
 use Rattle.knapsack.specs.declared.Verdict.the-variants.{Accepted, Refused}
-use Rattle.knapsack.specs.Records.{itemAt, outside, badBound, crossed, failing, someItem, badCount, refuse, verdict, BoundInRange, InOrder, ItemInRange, InRange}
+use Rattle.knapsack.specs.Records.{itemAt, outside, badBound, badFigure, crossed, crosses, failing, someItem, badCount, refuse, verdict, BoundInRange, InOrder, ItemInRange, InRange}
 
 pub some-more : (k : ℕ) (f : ℕ → Item) (test : Item → Bool) → someItem k f test ≡ false → test (f k) ≡ false → someItem (suc k) f test ≡ false
 unfolding someItem
@@ -107,34 +108,53 @@ unfolding someItem
 all-pass zero f test h = refl
 all-pass (suc n) f test h = some-more n f test (all-pass n f test (λ k l. h k (omega arith))) (h n (omega arith))
 
-pub accepted : (p : Problem) → verdict p ≡ Accepted → InRange p
+-- of a record's tests none holds
+pub record Unfaulted (p : Problem) : Type 0 where
+  pub least : 1 ≤ p .count
+  pub most : p .count ≤ 16
+  pub capacity : outside 100000000 (p .capacity) ≡ false
+  pub figures : Each (p .count) (λ k. badFigure (itemAt p k) ≡ false)
+  pub uncrossed : Each (p .count) (λ k. crosses (itemAt p k) ≡ false)
+
+pub unfaulted : (p : Problem) → verdict p ≡ Accepted → Unfaulted p
 unfolding verdict
-accepted p h =
+unfaulted p h =
     let r = rows (badCount (p .count)) (outside 100000000 (p .capacity)) (someItem (p .count) (itemAt p) (failing Figures)) (someItem (p .count) (itemAt p) (failing Crossing)) h in
     let n = neither (eqb (p .count) 0) (ltb 16 (p .count)) (r .0) in
+    let some = eqb-false (p .count) 0 (n .0) in
     record {
-      some-items = positive (p .count) (eqb-false (p .count) 0 (n .0));
-      few-items = ltb-false 16 (p .count) (n .1);
-      capacity-in = inside 100000000 (p .capacity) (r .1);
-      items-in = λ k l. item-in (itemAt p k) (none-fails (p .count) (itemAt p) (failing Figures) (r .2) k l) (none-fails (p .count) (itemAt p) (failing Crossing) (r .3) k l);
+      least = omega arith;
+      most = ltb-false 16 (p .count) (n .1);
+      capacity = r .1;
+      figures = none-fails (p .count) (itemAt p) (failing Figures) (r .2);
+      uncrossed = none-fails (p .count) (itemAt p) (failing Crossing) (r .3);
     }
-  where
-    positive : (n : ℕ) → (n ≡ 0 → ⊥) → 1 ≤ n
-    positive zero h = absurd (h refl)
-    positive (suc n) h = omega arith
+
+pub unrefused : (p : Problem) → Unfaulted p → verdict p ≡ Accepted
+unfolding verdict
+unrefused p u =
+    let some : p .count ≡ 0 → ⊥ = λ e. omega (arith, u .least) in
+    rw (
+      ne-eqb (p .count) 0 some,
+      le-ltb 16 (p .count) (u .most),
+      u .capacity,
+      all-pass (p .count) (itemAt p) (failing Figures) (u .figures),
+      all-pass (p .count) (itemAt p) (failing Crossing) (u .uncrossed),
+    )
+
+pub accepted : (p : Problem) → verdict p ≡ Accepted → InRange p
+accepted p h =
+    let u = unfaulted p h in
+    record { some-items = u .least; few-items = u .most; capacity-in = inside 100000000 (p .capacity) (u .capacity); items-in = λ k l. item-in (itemAt p k) (u .figures k l) (u .uncrossed k l) }
 
 pub in-range : (p : Problem) → InRange p → verdict p ≡ Accepted
-unfolding verdict
-in-range p r = rw (
-  ne-eqb (p .count) 0 (nonzero (p .count) (r .some-items)),
-  le-ltb 16 (p .count) (r .few-items),
-  not-outside 100000000 (p .capacity) (r .capacity-in),
-  all-pass (p .count) (itemAt p) (failing Figures) (λ k l. in-item (itemAt p k) (r .items-in k l)),
-  all-pass (p .count) (itemAt p) (failing Crossing) (λ k l. in-order (itemAt p k .lower) (itemAt p k .upper) (r .items-in k l .in-order)),
-)
-  where
-    nonzero : (n : ℕ) → 1 ≤ n → n ≡ 0 → ⊥
-    nonzero n h e = omega arith
+in-range p r = unrefused p (record {
+  least = r .some-items;
+  most = r .few-items;
+  capacity = not-outside 100000000 (p .capacity) (r .capacity-in);
+  figures = λ k l. in-item (itemAt p k) (r .items-in k l);
+  uncrossed = λ k l. in-order (itemAt p k .lower) (itemAt p k .upper) (r .items-in k l .in-order);
+})
 
 pub accepted-iff : (p : Problem) → (verdict p ≡ Accepted) ↔ InRange p
 accepted-iff p = (accepted p, in-range p)

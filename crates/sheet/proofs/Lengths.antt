@@ -21,7 +21,7 @@ use Rattle.sheet.specs.declared.Side.the-variants.{Lower, Upper}
 use Rattle.sheet.specs.Reading.{limit, items, wordOf}
 use Rattle.sheet.specs.Printing.{digitsOnto, decimal, numberText, headingText, pairText, itemText, itemsText, boundText, boundsText}
 use Rattle.sheet.specs.Printing.{boundsCount, boundAt, sideText, limitText, itemsPart, printing}
-use Rattle.sheet.proofs.Verdicts.{InRange}
+use Rattle.knapsack.proofs.Items.{Unfaulted}
 use Rattle.sheet.proofs.Rereading.{fair-item, fair-side, counts-small}
 
 digits-short : (k t n : ℕ) (tail : List ℕ) → n < 10 ^ suc k → n < t → length (digitsOnto t n tail) ≤ suc k + length tail
@@ -80,7 +80,7 @@ bounds-short (suc n) f h e =
       bound-short (suc n) (f n) h (e n (omega arith)),
     )
 
-side-short : (side : Side) (p : Problem) → InRange p → length (sideText side p) ≤ 368
+side-short : (side : Side) (p : Problem) → Unfaulted p → length (sideText side p) ≤ 368
 side-short side p r =
     let n = p .count in
     let m = boundsCount n (boundAt side p) in
@@ -96,7 +96,7 @@ side-short side p r =
     five Lower = refl
     five Upper = refl
 
-pub printing-short : (p : Problem) → InRange p → length (printing p) ≤ 4096
+pub printing-short : (p : Problem) → Unfaulted p → length (printing p) ≤ 4096
 unfolding printing
 printing-short p r =
     let b = p .capacity in

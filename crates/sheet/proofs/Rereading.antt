@@ -47,7 +47,7 @@ use Rattle.lines.proofs.Numerals.{digit-yes, leading-yes}
 use Rattle.lines.proofs.Shapes.{from-to}
 use Rattle.sheet.proofs.Decimals.{zero-text}
 use Rattle.sheet.proofs.Printed.{Kept, kept-bounded, bounded-side, put-same, put-other, blanks}
-use Rattle.sheet.proofs.Verdicts.{InRange}
+use Rattle.knapsack.proofs.Items.{Unfaulted}
 
 -- what stands at a place, and what follows
 pub standing : (s : List ℕ) (at b : ℕ) (l : List ℕ) → drop at s ≡ b ∷ l → (byteAt s at ≡ b) × (drop (suc at) s ≡ l)
@@ -479,7 +479,7 @@ limit-reads s b l f h =
     let d = field-reads 10 limits s (c .0) b l refl (figure-within 99999999 b f) (c .2 ∙ append-assoc (numberText b) _ l) in
     (d .0, rw (c .1, d .1), d .2)
 
-pub items-section : (p : Problem) (s l : List ℕ) (n : ℕ) → InRange p → drop n s ≡ itemsPart p ++ l →
+pub items-section : (p : Problem) (s l : List ℕ) (n : ℕ) → Unfaulted p → drop n s ≡ itemsPart p ++ l →
     ItemsBack p s (p .count) l (itemsSection s (withCapacity (p .capacity) n))
 unfolding itemsSection
 items-section p s l n r h =
@@ -504,7 +504,7 @@ counts-small (suc n) f = go (f n) (counts-small n f)
     go Absent h = omega arith
     go (AtBound v) h = omega arith
 
-pub side-section : (side : Side) (p : Problem) (s l : List ℕ) (q : Progress) → InRange p → q .verdict ≡ Accepted → q .problem .count ≡ p .count →
+pub side-section : (side : Side) (p : Problem) (s l : List ℕ) (q : Progress) → Unfaulted p → q .verdict ≡ Accepted → q .problem .count ≡ p .count →
     q .problem .capacity ≡ p .capacity → length (q .problem .items) ≡ 16 → ((k : ℕ) → boundAt side (q .problem) k ≡ Absent) →
     drop (q .at) s ≡ sideText side p ++ l → BoundsBack side p (q .problem) s (p .count) l (boundsSection s side q)
 unfolding boundsSection

@@ -31,7 +31,8 @@ use Rattle.sheet.specs.Reading.{items, wordOf, refusedAt, withCapacity, 
 use Rattle.sheet.specs.Reading.{crossFrom, crossOf, crossCheck, itemsOf, lowerOf, upperOf, wholeOf, readSheet}
 use Rattle.sheet.specs.Printing.{headingText, itemText, boundAt, sideText, limitText, itemsPart, printing, Tidy, SheetOf}
 use Rattle.sheet.proofs.Decimals.{has-join}
-use Rattle.sheet.proofs.Verdicts.{no-refusal, cross-all, all-cross, InRange, accepted, in-range}
+use Rattle.knapsack.proofs.Items.{Unfaulted, unfaulted, unrefused}
+use Rattle.sheet.proofs.Verdicts.{no-refusal, cross-all, all-cross}
 use Rattle.sheet.proofs.Lengths.{printing-short}
 use Rattle.sheet.proofs.Rereading.{bareOf, ItemsBack, BoundsBack, limit-reads, items-section, side-section}
 use Rattle.sheet.proofs.Printed.{went, Bare, Kept, items-cong, bounds-cong, counts-cong, LimitRead, limit-read, ItemsRead, items-read}
@@ -210,7 +211,7 @@ module _ (s : List ℕ) (r : Sections s) where
   found-sheet : SheetOf s found
   unfolding found
   found-sheet = record {
-    fair = accepted found (record {
+    fair = unrefused found (record {
       least = omega (arith, r .items .least, counted .1);
       most = omega (arith, r .items .most, counted .1);
       capacity = rw capacity-is (r .limit .fair);
@@ -240,7 +241,7 @@ accepted-sheet s p h = go (ltb 4096 (length s)) h
 
 -- ---- the printing of a problem is read back
 
-module _ (p : Problem) (r : InRange p) (tidy : Tidy p) where
+module _ (p : Problem) (r : Unfaulted p) (tidy : Tidy p) where
   sheet : List ℕ
   sheet = printing p
 
@@ -342,7 +343,7 @@ module _ (p : Problem) (r : InRange p) (tidy : Tidy p) where
 -- the sheet of a problem is accepted with that problem
 pub sheet-accepted : (s : List ℕ) (p : Problem) → SheetOf s p → readSheet s ≡ record { verdict = Accepted; problem = p }
 unfolding sheet
-sheet-accepted s p h = rw (h .text) (reading-back p (in-range p (h .fair)) (h .tidy))
+sheet-accepted s p h = rw (h .text) (reading-back p (unfaulted p (h .fair)) (h .tidy))
 
 -- a sheet is accepted with a problem exactly if it is that problem's sheet
 pub accepted-exactly : (s : List ℕ) (p : Problem) → (readSheet s ≡ record { verdict = Accepted; problem = p }) ↔ SheetOf s p
