@@ -3,20 +3,12 @@ use arith::Fraction;
 use knapsack::Answer;
 use knapsack::Kind;
 use knapsack::Refusal;
-use libc::STDOUT_FILENO;
 use listing::Listed;
+use trials::print::print;
+use trials::print::print_field;
 ghost use mathlib.Core.Path.{_≡_};
 ghost use Prim.Native.Nat.{_≤_, _<_};
 ghost use lib.ListN.{length};
-
-fn print(text: &[u8]) {
-    io::write_all(STDOUT_FILENO, text);
-}
-
-fn print_number(n: u64) {
-    print(b" ");
-    io::print_decimal(STDOUT_FILENO, n);
-}
 
 // Every amount 0, and nothing moves.
 fn answer(kind: Kind, p: i64, q: u64) -> Answer {
@@ -87,12 +79,12 @@ fn show_reply(l: Listed) {
     match l {
         Listed::Written(n) => {
             print(b"written");
-            print_number(n as u64);
+            print_field(n as u64);
         }
         Listed::Refused(f) => {
             print(b"not written:");
-            print_number(f.number);
-            print_number(f.line);
+            print_field(f.number);
+            print_field(f.line);
         }
     }
     print(b"\n");

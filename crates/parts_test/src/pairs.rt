@@ -1,8 +1,4 @@
 // The least pair on drawn problems. Weights are within ±4 and prices within ±8, so that where steps exist some are within ±32.
-use crate::count::as_signed;
-use crate::count::one_more;
-use crate::count::print_count;
-use crate::count::print_problem;
 use domination::Pair;
 use domination::PairReply;
 use domination::least_pair;
@@ -11,11 +7,15 @@ use knapsack::Item;
 use knapsack::Mark;
 use knapsack::Problem;
 use knapsack::blank_item;
+use trials::count::one_more;
+use trials::count::print_count;
 use trials::draw::Spans;
 use trials::draw::drawn_problem;
+use trials::exact::as_signed;
 use trials::exact::plus;
 use trials::exact::times;
 use trials::print::print;
+use trials::print::print_problem;
 use trials::print::size_of;
 ghost use Prim.Native.Nat.{_≤_};
 
@@ -202,11 +202,9 @@ fn tallied(t: Tally, kind: u64, right: bool) -> Tally {
     }
 }
 
-fn print_wrong(p: Problem, n: usize, i: usize, j: usize)
-    requires { ⌜ n ≤ 15 ⌝ }
-{
+fn print_wrong(p: Problem, i: usize, j: usize) {
     print(b"disagreement: ");
-    print_problem(p, n);
+    print_problem(p);
     print_count(b"; items ", i as u64);
     print_count(b" and ", j as u64);
     print(b"\n");
@@ -218,7 +216,7 @@ fn tried(t: Tally, p: Problem, n: usize, i: usize, j: usize) -> Tally
     let r = least_pair(p, i, j);
     let right = agrees(r, p, n, i, j);
     if !right {
-        print_wrong(p, n, i, j);
+        print_wrong(p, i, j);
     }
     tallied(t, kind_of(r), right)
 }

@@ -1,8 +1,4 @@
 // The point check on drawn points. The fraction is mostly at one place, the filler; some amounts are at the limits or beyond.
-use crate::count::as_signed;
-use crate::count::one_more;
-use crate::count::print_count;
-use crate::count::print_problem;
 use arith::Fraction;
 use feasibility::Candidate;
 use feasibility::PointReply;
@@ -11,14 +7,18 @@ use knapsack::Bound;
 use knapsack::Item;
 use knapsack::Mark;
 use knapsack::Problem;
+use trials::count::one_more;
+use trials::count::print_count;
 use trials::draw::Spans;
 use trials::draw::below;
 use trials::draw::drawn_problem;
 use trials::draw::figure;
 use trials::draw::next;
+use trials::exact::as_signed;
 use trials::exact::times;
 use trials::print::print;
 use trials::print::print_number;
+use trials::print::print_problem;
 use trials::print::print_signed;
 use trials::print::size_of;
 ghost use mathlib.Core.Path.{_≡_};
@@ -407,7 +407,7 @@ fn print_wrong(p: Problem, c: Candidate, n: usize)
     requires { ⌜ n ≤ 15 ⌝ }
 {
     print(b"disagreement: ");
-    print_problem(p, n);
+    print_problem(p);
     print_count(b"; amounts ", c.count as u64);
     let amounts = c.amounts;
     let mut k: usize = 0;

@@ -15,6 +15,8 @@ use knapsack::Item;
 use knapsack::Kind;
 use knapsack::Problem;
 use planner::plan;
+use trials::count::one_more;
+use trials::count::print_count;
 use trials::draw::Spans;
 use trials::draw::drawn_problem;
 use trials::enumerate::Best;
@@ -23,10 +25,8 @@ use trials::enumerate::best_value;
 use trials::holds::point_holds;
 use trials::holds::ray_holds;
 use trials::print::print;
-use trials::print::print_item;
 use trials::print::print_kind;
-use trials::print::print_number;
-use trials::print::print_signed;
+use trials::print::print_problem;
 ghost use Prim.Native.Nat.{_≤_};
 
 const REACH: i64 = 20;
@@ -145,14 +145,6 @@ struct Tally {
     wrong: u64,
 }
 
-// One more, of counts that stay far below 2^64.
-fn one_more(n: u64, counted: bool) -> u64 {
-    if !counted {
-        return n;
-    }
-    if n < 1000000 { n + 1 } else { n }
-}
-
 fn number_of(k: Kind) -> u64 {
     match k {
         Kind::Optimal => 1,
@@ -173,25 +165,9 @@ fn tallied(t: Tally, k: Kind, o: Outcome) -> Tally {
     }
 }
 
-fn print_problem(p: Problem, n: usize)
-    requires { ⌜ n ≤ 15 ⌝ }
-{
-    print_signed(p.capacity);
-    print(b";");
-    let items = p.items;
-    let mut k: usize = 0;
-    while k < n {
-        let x = items[k];
-        print_item(x);
-        k += 1;
-    }
-}
-
-fn print_wrong(p: Problem, a: Answer, n: usize)
-    requires { ⌜ n ≤ 15 ⌝ }
-{
+fn print_wrong(p: Problem, a: Answer) {
     print(b"disagreement: ");
-    print_problem(p, n);
+    print_problem(p);
     print(b": ");
     print_kind(a);
     print(b"\n");
@@ -204,15 +180,10 @@ fn tried(t: Tally, p: Problem, n: usize, open: bool) -> Tally
     let a = plan(p);
     let o = outcome_of(p, a, n, open);
     if !o.agrees {
-        print_wrong(p, a, n);
+        print_wrong(p, a);
     }
     let k = a.kind;
     tallied(t, k, o)
-}
-
-fn print_count(name: &[u8], n: u64) {
-    print(name);
-    print_number(n);
 }
 
 fn print_tally(t: Tally) {

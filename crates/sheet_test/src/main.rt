@@ -1,83 +1,19 @@
 // Reads sheets from standard input and prints what the reader gives for each, and the part that holds one of its lines.
 // The input is a row of records: four digits, the sheet's length; three digits, a line's number; the sheet; each behind a blank, and a byte 10.
 // Good sheets, every refusal at every place, two faults on one line, long numbers, bytes that are no text, 4,096 and 4,097 bytes.
-use knapsack::Bound;
-use knapsack::Item;
-use knapsack::Mark;
-use knapsack::Problem;
 use knapsack::Refusal;
 use knapsack::Verdict;
 use libc::STDIN_FILENO;
-use libc::STDOUT_FILENO;
+use trials::print::print;
+use trials::print::print_field;
+use trials::print::print_number;
+use trials::print::print_problem;
 ghost use Prim.Native.Nat.{_≤_};
-
-fn print(text: &[u8]) {
-    io::write_all(STDOUT_FILENO, text);
-}
-
-fn print_number(n: u64) {
-    print(b" ");
-    io::print_decimal(STDOUT_FILENO, n);
-}
-
-// The number without its sign; that of z is one more than that of z + 1, which fits.
-fn magnitude(z: i64) -> u64 {
-    if z < 0 {
-        let next = z + 1;
-        return (0 - next) as u64 + 1;
-    }
-    z as u64
-}
-
-fn print_signed(z: i64) {
-    print(b" ");
-    if z < 0 {
-        print(b"-");
-    }
-    io::print_decimal(STDOUT_FILENO, magnitude(z));
-}
-
-fn print_bound(b: Bound) {
-    match b {
-        Bound::Absent => print(b" .."),
-        Bound::At(v) => print_signed(v),
-    }
-}
-
-fn print_item(item: Item) {
-    let mark = item.mark;
-    match mark {
-        Mark::Integer => print(b"  W"),
-        Mark::Continuous => print(b"  L"),
-    }
-    print_signed(item.weight);
-    print_signed(item.price);
-    let lower = item.lower;
-    print_bound(lower);
-    let upper = item.upper;
-    print_bound(upper);
-    print(b"\n");
-}
-
-fn print_problem(p: Problem) {
-    print(b" accepted");
-    print_signed(p.capacity);
-    print(b"\n");
-    let n = p.count;
-    let mut k: usize = 0;
-    while k < 16 {
-        if k < n {
-            let item = p.items[k];
-            print_item(item);
-        }
-        k += 1;
-    }
-}
 
 fn print_refusal(refusal: Refusal) {
     print(b" refused");
-    print_number(refusal.number);
-    print_number(refusal.line);
+    print_field(refusal.number);
+    print_field(refusal.line);
 }
 
 fn print_reading(sheet: &[u8]) {
@@ -85,17 +21,18 @@ fn print_reading(sheet: &[u8]) {
     let verdict = r.verdict;
     let problem = r.problem;
     match verdict {
-        Verdict::Accepted => print_problem(problem),
-        Verdict::Refused(refusal) => {
-            print_refusal(refusal);
-            print(b"\n");
+        Verdict::Accepted => {
+            print(b" accepted ");
+            print_problem(problem);
         }
+        Verdict::Refused(refusal) => print_refusal(refusal),
     }
+    print(b"\n");
 }
 
 fn print_line(sheet: &[u8], line: u64) {
     print(b"  line");
-    print_number(line);
+    print_field(line);
     let verdict = sheet::check_line(sheet, line);
     match verdict {
         Verdict::Accepted => {}
@@ -107,7 +44,7 @@ fn print_line(sheet: &[u8], line: u64) {
 }
 
 fn report(k: u64, sheet: &[u8], line: u64) {
-    io::print_decimal(STDOUT_FILENO, k);
+    print_number(k);
     print_reading(sheet);
     print_line(sheet, line);
 }

@@ -2,6 +2,7 @@
 // amount of its box. A continuous one stands at one of its ends, but for one of them, the filler, which may take what the others leave
 // of the capacity: a point of a box under one limit that is best for given integer amounts can be had so. With no order, no
 // relaxation and no cut this has nothing of the planner.
+use crate::exact::as_signed;
 use crate::exact::plus;
 use crate::exact::times;
 use crate::print::size_of;
@@ -95,13 +96,6 @@ fn scaled(n: u64, m: u64) -> u64 {
         return m;
     }
     n * m
-}
-
-fn as_signed(n: u64) -> i64 {
-    if n > 1000000000 {
-        return 0;
-    }
-    n as i64
 }
 
 // How many points there are.

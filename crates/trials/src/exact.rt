@@ -25,3 +25,11 @@ pub fn times(a: i64, b: i64) -> i64 {
 pub fn is_far(a: i64) -> bool {
     beyond(a, 1000000000)
 }
+
+// The number itself, if it is small.
+pub fn as_signed(n: u64) -> i64 {
+    if n > 1000000000 {
+        return 0;
+    }
+    n as i64
+}

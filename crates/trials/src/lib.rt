@@ -1,8 +1,10 @@
 // What the programs of the gate share that try many problems. Nothing of it is part of the planner, and the planner's crates take no
 // part in it: an answer is judged by the point check and by plain sums.
+pub mod count; // counts, and how they are printed
 pub mod draw; // problems from a seed
 pub mod enumerate; // the best value of a small problem, by trying every point
 pub mod exact; // sums and products that are exact, or far off
 pub mod holds; // whether a point or a ray is one
 pub mod make; // items and problems made by hand
-pub mod print; // numbers, items and kinds in paper 01's words
+pub mod print; // numbers, items, problems and kinds in paper 01's words
+pub mod read; // numbers and items from a program's input

@@ -3,9 +3,10 @@ use knapsack::Bound;
 use knapsack::Item;
 use knapsack::Mark;
 use knapsack::Problem;
+use knapsack::blank_item;
 use knapsack::empty_problem;
 
-fn item(weight: i64, price: i64, lower: Bound, upper: Bound) -> Item {
+pub fn item(weight: i64, price: i64, lower: Bound, upper: Bound) -> Item {
     Item {
         mark: Mark::Integer,
         weight: weight,
@@ -48,25 +49,26 @@ pub fn loose(x: Item) -> Item {
     }
 }
 
-pub fn one(capacity: i64, x: Item) -> Problem {
-    let p = empty_problem();
-    let mut items = p.items;
-    items[0] = x;
-    Problem {
-        items: items,
-        count: 1,
-        capacity: capacity,
-    }
-}
-
-pub fn two(capacity: i64, x: Item, y: Item) -> Problem {
+// The first count of x, y and z are the problem's items.
+pub fn first_of(capacity: i64, count: usize, x: Item, y: Item, z: Item) -> Problem {
     let p = empty_problem();
     let mut items = p.items;
     items[0] = x;
     items[1] = y;
+    items[2] = z;
     Problem {
         items: items,
-        count: 2,
+        count: count,
         capacity: capacity,
     }
+}
+
+pub fn one(capacity: i64, x: Item) -> Problem {
+    let blank = blank_item();
+    first_of(capacity, 1, x, blank, blank)
+}
+
+pub fn two(capacity: i64, x: Item, y: Item) -> Problem {
+    let blank = blank_item();
+    first_of(capacity, 2, x, y, blank)
 }

@@ -4,6 +4,7 @@ use knapsack::Bound;
 use knapsack::Item;
 use knapsack::Kind;
 use knapsack::Mark;
+use knapsack::Problem;
 use libc::STDOUT_FILENO;
 
 pub fn print(text: &[u8]) {
@@ -27,6 +28,18 @@ pub fn print_signed(z: i64) {
         print(b"-");
     }
     print_number(size_of(z));
+}
+
+// Behind a blank.
+pub fn print_field(n: u64) {
+    print(b" ");
+    print_number(n);
+}
+
+// Behind a blank.
+pub fn print_signed_field(z: i64) {
+    print(b" ");
+    print_signed(z);
 }
 
 pub fn print_yes(b: bool) {
@@ -65,6 +78,21 @@ pub fn print_item(x: Item) {
     let u = x.upper;
     print_bound(u);
     print(b")");
+}
+
+// The capacity and the items.
+pub fn print_problem(p: Problem) {
+    print_signed(p.capacity);
+    print(b";");
+    let n = p.count;
+    let mut k: usize = 0;
+    while k < 16 {
+        if k < n {
+            let x = p.items[k];
+            print_item(x);
+        }
+        k += 1;
+    }
 }
 
 // The kind, with the value of a best answer.

@@ -34,8 +34,8 @@ loop-holds c = search needs
 returns : tie.Need-returns Inv-loop μ-loop
 returns c = search needs
 
-problem-requires : tie.Need-problem-requires Inv-loop μ-loop
-problem-requires c κs = search needs
+read-problem-requires : tie.Need-read-problem-requires Inv-loop μ-loop
+read-problem-requires c κs = search needs
 
 print-problem-requires : tie.Need-print-problem-requires Inv-loop μ-loop
 print-problem-requires c κs = search needs
@@ -69,7 +69,7 @@ main-spec =
     skip-requires
     loop-holds
     returns
-    problem-requires
+    read-problem-requires
     print-problem-requires
     skip-requires-2
     add-turns

@@ -5,10 +5,10 @@ use Rattle.domination_test.proofs.print_entries.Statement.{statement}
 use Rattle.domination_test.proofs.print_entries.Tie as tie
 
 abbrev Inv-loop : tie.InvT-loop
-Inv-loop i lines t j₀ j = Unit {0}
+Inv-loop i lines t j₀ blank j = Unit {0}
 
 abbrev μ-loop : tie.MeasureT-loop
-μ-loop i lines t j₀ j = lines - j
+μ-loop i lines t j₀ blank j = lines - j
 
 loop-holds : tie.Need-loop-holds Inv-loop μ-loop
 loop-holds c = search needs
@@ -25,8 +25,11 @@ mul-q-2 c = search needs
 array-copy-out-q : tie.Need-array-copy-out-q Inv-loop μ-loop
 array-copy-out-q c = search needs
 
-print-blank-requires : tie.Need-print-blank-requires Inv-loop μ-loop
-print-blank-requires c κs = search needs
+slice-aggregate-print : tie.Need-slice-aggregate-print Inv-loop μ-loop
+slice-aggregate-print c = search needs
+
+print-requires : tie.Need-print-requires Inv-loop μ-loop
+print-requires c κs = search needs
 
 print-pair-requires : tie.Need-print-pair-requires Inv-loop μ-loop
 print-pair-requires c κs = search needs
@@ -54,7 +57,8 @@ print-entries-spec =
     add-q
     mul-q-2
     array-copy-out-q
-    print-blank-requires
+    slice-aggregate-print
+    print-requires
     print-pair-requires
     add-j
     loop-less

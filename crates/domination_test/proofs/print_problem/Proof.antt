@@ -5,10 +5,10 @@ use Rattle.domination_test.proofs.print_problem.Statement.{statement}
 use Rattle.domination_test.proofs.print_problem.Tie as tie
 
 abbrev Inv-loop : tie.InvT-loop
-Inv-loop p lines t i₀ i = Unit {0}
+Inv-loop p lines t i₀ bar end last i = Unit {0}
 
 abbrev μ-loop : tie.MeasureT-loop
-μ-loop p lines t i₀ i = lines + 2 - i
+μ-loop p lines t i₀ bar end last i = lines + 2 - i
 
 pair-table-requires : tie.Need-pair-table-requires Inv-loop μ-loop
 pair-table-requires c κs = search needs
@@ -22,8 +22,11 @@ add-loop c = search needs
 print-replies-requires : tie.Need-print-replies-requires Inv-loop μ-loop
 print-replies-requires c κs = search needs
 
-print-bar-requires : tie.Need-print-bar-requires Inv-loop μ-loop
-print-bar-requires c κs = search needs
+slice-aggregate-print : tie.Need-slice-aggregate-print Inv-loop μ-loop
+slice-aggregate-print c = search needs
+
+print-requires : tie.Need-print-requires Inv-loop μ-loop
+print-requires c κs = search needs
 
 sub-print-entries : tie.Need-sub-print-entries Inv-loop μ-loop
 sub-print-entries c = search needs
@@ -31,8 +34,11 @@ sub-print-entries c = search needs
 print-entries-requires : tie.Need-print-entries-requires Inv-loop μ-loop
 print-entries-requires c κs = search needs
 
-print-end-requires : tie.Need-print-end-requires Inv-loop μ-loop
-print-end-requires c κs = search needs
+slice-aggregate-print-2 : tie.Need-slice-aggregate-print-2 Inv-loop μ-loop
+slice-aggregate-print-2 c = search needs
+
+print-requires-2 : tie.Need-print-requires-2 Inv-loop μ-loop
+print-requires-2 c κs = search needs
 
 add-i : tie.Need-add-i Inv-loop μ-loop
 add-i c = search needs
@@ -43,8 +49,11 @@ loop-less c = search needs
 loop-again : tie.Need-loop-again Inv-loop μ-loop
 loop-again c = search needs
 
-print-end-requires-2 : tie.Need-print-end-requires-2 Inv-loop μ-loop
-print-end-requires-2 c κs = search needs
+slice-aggregate-print-3 : tie.Need-slice-aggregate-print-3 Inv-loop μ-loop
+slice-aggregate-print-3 c = search needs
+
+print-requires-3 : tie.Need-print-requires-3 Inv-loop μ-loop
+print-requires-3 c κs = search needs
 
 returns : tie.Need-returns Inv-loop μ-loop
 returns c = search needs
@@ -59,12 +68,15 @@ print-problem-spec =
     loop-holds
     add-loop
     print-replies-requires
-    print-bar-requires
+    slice-aggregate-print
+    print-requires
     sub-print-entries
     print-entries-requires
-    print-end-requires
+    slice-aggregate-print-2
+    print-requires-2
     add-i
     loop-less
     loop-again
-    print-end-requires-2
+    slice-aggregate-print-3
+    print-requires-3
     returns)

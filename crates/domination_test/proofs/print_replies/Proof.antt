@@ -5,10 +5,10 @@ use Rattle.domination_test.proofs.print_replies.Statement.{statement}
 use Rattle.domination_test.proofs.print_replies.Tie as tie
 
 abbrev Inv-loop : tie.InvT-loop
-Inv-loop p i lines j₀ j = Unit {0}
+Inv-loop p i lines j₀ blank j = Unit {0}
 
 abbrev μ-loop : tie.MeasureT-loop
-μ-loop p i lines j₀ j = lines + 2 - j
+μ-loop p i lines j₀ blank j = lines + 2 - j
 
 loop-holds : tie.Need-loop-holds Inv-loop μ-loop
 loop-holds c = search needs
@@ -22,8 +22,11 @@ least-pair-requires c κs = search needs
 print-reply-requires : tie.Need-print-reply-requires Inv-loop μ-loop
 print-reply-requires c κs = search needs
 
-print-blank-requires : tie.Need-print-blank-requires Inv-loop μ-loop
-print-blank-requires c κs = search needs
+slice-aggregate-print : tie.Need-slice-aggregate-print Inv-loop μ-loop
+slice-aggregate-print c = search needs
+
+print-requires : tie.Need-print-requires Inv-loop μ-loop
+print-requires c κs = search needs
 
 add-j : tie.Need-add-j Inv-loop μ-loop
 add-j c = search needs
@@ -47,7 +50,8 @@ print-replies-spec =
     add-loop
     least-pair-requires
     print-reply-requires
-    print-blank-requires
+    slice-aggregate-print
+    print-requires
     add-j
     loop-less
     loop-again

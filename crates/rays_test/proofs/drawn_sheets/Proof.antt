@@ -1,12 +1,12 @@
 -- `rays_test::drawn_sheets` meets its contract.
-use Prim.Native.Nat.{_-_, _≤_, _<_}
+use Prim.Native.Nat.{_-_, _≤_}
 use native.Mathlib.Omega.{arith}
 use borrow.Author.Needs.{needs}
 use Rattle.rays_test.proofs.drawn_sheets.Statement.{statement}
 use Rattle.rays_test.proofs.drawn_sheets.Tie as tie
 
 abbrev Inv-loop : tie.InvT-loop
-Inv-loop count sheets state₀ k₀ state k = (k ≤ sheets) × (state < 2147483648)
+Inv-loop count sheets state₀ k₀ state k = k ≤ sheets
 
 abbrev μ-loop : tie.MeasureT-loop
 μ-loop count sheets state₀ k₀ state k = sheets - k
@@ -15,16 +15,16 @@ loop-holds : tie.Need-loop-holds Inv-loop μ-loop
 loop-holds c = omega arith
 
 draw-item-requires : tie.Need-draw-item-requires Inv-loop μ-loop
-draw-item-requires c κs = omega arith
+draw-item-requires c κs = search needs
 
 draw-item-requires-2 : tie.Need-draw-item-requires-2 Inv-loop μ-loop
-draw-item-requires-2 c κs = c .draw-item .ensures
+draw-item-requires-2 c κs = search needs
 
 draw-item-requires-3 : tie.Need-draw-item-requires-3 Inv-loop μ-loop
-draw-item-requires-3 c κs = c .draw-item2 .ensures
+draw-item-requires-3 c κs = search needs
 
-sheet-requires : tie.Need-sheet-requires Inv-loop μ-loop
-sheet-requires c κs = search needs
+first-of-requires : tie.Need-first-of-requires Inv-loop μ-loop
+first-of-requires c κs = search needs
 
 show-requires : tie.Need-show-requires Inv-loop μ-loop
 show-requires c κs = search needs
@@ -36,7 +36,7 @@ loop-less : tie.Need-loop-less Inv-loop μ-loop
 loop-less c = omega (arith, c .before .before .before .before .before .before .before .before .before)
 
 loop-again : tie.Need-loop-again Inv-loop μ-loop
-loop-again c = (omega (arith, c .before .before .before .before .before .before .before .before .before), c .before .before .before .before .before .draw-item3 .ensures)
+loop-again c = omega (arith, c .before .before .before .before .before .before .before .before .before)
 
 returns : tie.Need-returns Inv-loop μ-loop
 returns c = search needs
@@ -51,7 +51,7 @@ drawn-sheets-spec =
     draw-item-requires
     draw-item-requires-2
     draw-item-requires-3
-    sheet-requires
+    first-of-requires
     show-requires
     add-k
     loop-less

@@ -19,7 +19,7 @@ find-ray-requires : tie.Need-find-ray-requires
 find-ray-requires c κs = in-range c
 
 print-reply-requires : tie.Need-print-reply-requires
-print-reply-requires c κs = (in-range (c .before) .few-items, c .find-ray .ensures .small)
+print-reply-requires c κs = in-range (c .before) .few-items
 
 enum-told-2 : tie.Need-enum-told-2
 enum-told-2 c = search needs

@@ -1,7 +1,6 @@
 -- `rays_test::print_steps` meets its contract.
 use Prim.Native.Nat.{_-_, _≤_}
 use native.Mathlib.Omega.{arith}
-use Rattle.arith.proofs.Words.{back}
 use borrow.Author.Needs.{needs}
 use Rattle.rays_test.proofs.print_steps.Statement.{statement}
 use Rattle.rays_test.proofs.print_steps.Tie as tie
@@ -21,8 +20,8 @@ mul-z c = omega arith
 array-copy-out-z : tie.Need-array-copy-out-z Inv-loop μ-loop
 array-copy-out-z c = omega arith
 
-print-step-requires : tie.Need-print-step-requires Inv-loop μ-loop
-print-step-requires c κs = rw (back _ (c .z .given)) (c .before .before .before .pre .1 (c .before .before .loop .k) (omega arith))
+print-signed-field-requires : tie.Need-print-signed-field-requires Inv-loop μ-loop
+print-signed-field-requires c κs = search needs
 
 add-k : tie.Need-add-k Inv-loop μ-loop
 add-k c = omega arith
@@ -45,7 +44,7 @@ print-steps-spec =
     loop-holds
     mul-z
     array-copy-out-z
-    print-step-requires
+    print-signed-field-requires
     add-k
     loop-less
     loop-again

@@ -1,14 +1,15 @@
--- The measure is the items left.
-use Prim.Native.Nat.{_-_, _≤_}
+-- The measure is the places left.
+use Prim.Native.Nat.{_≤_, _-_}
+use native.Mathlib.Omega.{arith}
 use borrow.Author.Needs.{needs}
-use Rattle.planner_test.proofs.print_problem.Statement.{statement}
-use Rattle.planner_test.proofs.print_problem.Tie as tie
+use Rattle.trials.proofs.print.print_problem.Statement.{statement}
+use Rattle.trials.proofs.print.print_problem.Tie as tie
 
 abbrev Inv-loop : tie.InvT-loop
-Inv-loop n items k₀ k = k ≤ n
+Inv-loop p n k₀ k = k ≤ 16
 
 abbrev μ-loop : tie.MeasureT-loop
-μ-loop n items k₀ k = n - k
+μ-loop p n k₀ k = 16 - k
 
 print-signed-requires : tie.Need-print-signed-requires Inv-loop μ-loop
 print-signed-requires c κs = search needs
@@ -20,25 +21,25 @@ print-requires : tie.Need-print-requires Inv-loop μ-loop
 print-requires c κs = search needs
 
 loop-holds : tie.Need-loop-holds Inv-loop μ-loop
-loop-holds c = search needs
+loop-holds c = omega arith
 
 mul-x : tie.Need-mul-x Inv-loop μ-loop
-mul-x c = search needs
+mul-x c = omega arith
 
-array-copy-out-x : tie.Need-array-copy-out-x Inv-loop μ-loop
-array-copy-out-x c = search needs
+element-copy-out-x : tie.Need-element-copy-out-x Inv-loop μ-loop
+element-copy-out-x c = omega arith
 
 print-item-requires : tie.Need-print-item-requires Inv-loop μ-loop
 print-item-requires c κs = search needs
 
 add-k : tie.Need-add-k Inv-loop μ-loop
-add-k c = search needs
+add-k c = omega arith
 
 loop-less : tie.Need-loop-less Inv-loop μ-loop
-loop-less c = search needs
+loop-less c = omega arith
 
 loop-again : tie.Need-loop-again Inv-loop μ-loop
-loop-again c = search needs
+loop-again c = omega arith
 
 returns : tie.Need-returns Inv-loop μ-loop
 returns c = search needs
@@ -54,7 +55,7 @@ print-problem-spec =
     print-requires
     loop-holds
     mul-x
-    array-copy-out-x
+    element-copy-out-x
     print-item-requires
     add-k
     loop-less

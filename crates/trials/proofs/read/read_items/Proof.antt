@@ -1,10 +1,10 @@
--- `feasibility_test::read_items` is safe and ends: there are 16 places.
+-- `trials::read::read_items` is safe and ends: there are 16 places.
 use Prim.Native.Nat.{_-_, _≤_}
 use mathlib.Core.Path.{_≡_}
 use lib.ListN.{length}
 use borrow.Author.Needs.{needs}
-use Rattle.feasibility_test.proofs.read_items.Statement.{statement}
-use Rattle.feasibility_test.proofs.read_items.Tie as tie
+use Rattle.trials.proofs.read.read_items.Statement.{statement}
+use Rattle.trials.proofs.read.read_items.Tie as tie
 
 abbrev Inv-loop : tie.InvT-loop
 Inv-loop s from given list₀ at₀ n k₀ list at k = (k ≤ n) × (length list ≡ 16)

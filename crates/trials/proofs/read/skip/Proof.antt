@@ -1,9 +1,9 @@
--- `feasibility_test::skip` is safe and ends: the text gets shorter.
+-- `trials::read::skip` is safe and ends: the text gets shorter.
 use Prim.Native.Nat.{_-_}
 use lib.ListN.{length}
 use borrow.Author.Needs.{needs}
-use Rattle.feasibility_test.proofs.skip.Statement.{statement}
-use Rattle.feasibility_test.proofs.skip.Tie as tie
+use Rattle.trials.proofs.read.skip.Statement.{statement}
+use Rattle.trials.proofs.read.skip.Tie as tie
 
 abbrev Inv-loop : tie.InvT-loop
 Inv-loop s from at₀ at = Unit {0}

@@ -1,9 +1,9 @@
--- `feasibility_test::read_digits` is safe and ends: the text gets shorter.
+-- `trials::read::read_digits` is safe and ends: the text gets shorter.
 use Prim.Native.Nat.{_-_}
 use lib.ListN.{length}
 use borrow.Author.Needs.{needs}
-use Rattle.feasibility_test.proofs.read_digits.Statement.{statement}
-use Rattle.feasibility_test.proofs.read_digits.Tie as tie
+use Rattle.trials.proofs.read.read_digits.Statement.{statement}
+use Rattle.trials.proofs.read.read_digits.Tie as tie
 
 abbrev Inv-loop : tie.InvT-loop
 Inv-loop s from negative size₀ at₀ size at = Unit {0}

@@ -1,4 +1,4 @@
--- `feasibility_test::signed` is safe.
+-- `trials::read::signed` is safe.
 use mathlib.Core.Path.{_≡_}
 use native.Mathlib.Omega.{arith}
 use lib.IntN.{pos}
@@ -7,8 +7,8 @@ use mir.Val.{toZ}
 use mir.Facts.{toZ-pos}
 use borrow.Author.Needs.{needs}
 use Rattle.arith.proofs.Parts.{zs, neg, zero-less}
-use Rattle.feasibility_test.proofs.signed.Statement.{statement}
-use Rattle.feasibility_test.proofs.signed.Tie as tie
+use Rattle.trials.proofs.read.signed.Statement.{statement}
+use Rattle.trials.proofs.read.signed.Tie as tie
 
 cast-z : tie.Need-cast-z
 cast-z c = search needs
