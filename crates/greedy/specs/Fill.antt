@@ -111,13 +111,15 @@ bound c f = cond (ltb (f .at) (c .live)) (sharedBy f (sizeOf c f) (rateOf c f)) 
 abbrev pub fitted : ℤ → ℤ → ℤ → ℤ → ℤ
 fitted a l u r = cond (ltZ a (pos 0)) (u +ℤ ceilDiv r a) (cond (ltZ (pos 0) a) (l +ℤ floorDiv r a) l)
 
+-- the amount of the item of rank v, n ranks being live, rounded towards its light end
+abbrev pub roundedBy : Fill → ℤ → ℤ → ℤ → ℤ → ℕ → ℕ → ℤ
+roundedBy f a c l u v n =
+    cond (ltZ (f .room) (pos 0)) (lightest a c l u)
+    (cond (ltb v (f .at)) (heaviest a l u)
+    (cond (eqb v (f .at)) (cond (ltb (f .at) n) (fitted a l u (f .room)) (lightest a c l u)) (lightest a c l u)))
+
 unfoldable pub start : Columns → Ends → Fill → ℕ → ℤ
-start c e f k =
-    cond (ltZ (f .room) (pos 0)) (lightOf c e k)
-    (cond (ltb (rankOf c k) (f .at)) (heavyOf c e k)
-    (cond (eqb (rankOf c k) (f .at))
-    (cond (ltb (f .at) (c .live)) (fitted (weightOf c k) (at (e .lo) k) (at (e .hi) k) (f .room)) (lightOf c e k))
-    (lightOf c e k)))
+start c e f k = roundedBy f (weightOf c k) (priceOf c k) (at (e .lo) k) (at (e .hi) k) (rankOf c k) (c .live)
 
 -- item k's whole amount while the first t ranks are raised
 abbrev pub stand : Columns → Ends → ℕ → ℕ → ℤ

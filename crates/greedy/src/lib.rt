@@ -8,7 +8,7 @@ use arith::magnitude;
 ghost use mathlib.Core.Path.{_≡_};
 ghost use Prim.Native.Nat.{ℕ, _≤_, _<_};
 ghost use lib.IntN.{ℤ};
-ghost use Rattle.greedy.specs.Fill.{lightest, weightOf, priceOf, cornerWeight, cornerWorth, heaviest, fitted, begun, withItem, turnBy, fill, bound, sharedBy, start};
+ghost use Rattle.greedy.specs.Fill.{lightest, weightOf, priceOf, cornerWeight, cornerWorth, heaviest, fitted, begun, withItem, turnBy, fill, bound, sharedBy, start, roundedBy};
 ghost use Rattle.arith.specs.Within.{Within};
 ghost use Rattle.greedy.specs.Sized.{Sized, SizedFill, Raisable, Shareable, Fittable};
 
@@ -178,27 +178,37 @@ pub fn share(f: Fill, s: u64, p: u64) -> Mixed
 }
 
 // Item k's amount in the relaxation, rounded towards its light end.
-pub fn start_of(cols: Columns, ends: Ends, f: Fill, k: usize) -> i64
-    requires { ⌜ Sized cols ends × (SizedFill cols f × (k < 16)) ⌝ }
-    ensures { λ r. ⌜ r ≡ start cols ends f k ⌝ }
+pub fn start_of(cols: Columns, ends: Ends, k: usize) -> i64
+    requires { ⌜ Sized cols ends × (k < 16) ⌝ }
+    ensures { λ r. ⌜ r ≡ start cols ends (fill cols ends) k ⌝ }
 {
+    let f = fill_up(cols, ends);
     let a = cols.weight[k];
+    let c = cols.price[k];
     let l = ends.lo[k];
-    let h = ends.hi[k];
+    let u = ends.hi[k];
     let v = cols.rank[k];
-    let u = f.at;
-    let r = f.room;
     let n = cols.live;
-    let x = light_end(a, cols.price[k], l, h);
+    rounded(f, a, c, l, u, v, n)
+}
+
+// The amount of the item of rank v in a filling of n live ranks, rounded towards its light end.
+pub fn rounded(f: Fill, a: i64, c: i64, l: i64, u: i64, v: usize, n: usize) -> i64
+    requires { ⌜ Fittable l u (f .room) ⌝ }
+    ensures { λ r. ⌜ r ≡ roundedBy f a c l u v n ⌝ }
+{
+    let t = f.at;
+    let r = f.room;
+    let x = light_end(a, c, l, u);
     if r < 0 {
         return x;
     }
-    if v < u {
-        return heavy_end(a, l, h);
+    if v < t {
+        return heavy_end(a, l, u);
     }
-    if v == u {
-        if u < n {
-            return fitting(a, l, h, r);
+    if v == t {
+        if t < n {
+            return fitting(a, l, u, r);
         }
     }
     x

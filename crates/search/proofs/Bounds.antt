@@ -21,13 +21,17 @@ use Rattle.greedy.proofs.Greedy.{abs≥1}
 use Rattle.lattice.specs.Lattice.{Steep}
 use Rattle.search.specs.Search.{slopeOf}
 
+-- a room's share can be compared
+pub shared-proper : (f : Fill) (s p : ℕ) → 0 < s → s ≤ 1000 → Proper (sharedBy f s p)
+shared-proper f s p l few = record { low = mod-lt (p * natAbs (f .room)) l; few = few }
+
 module _ (c : Columns) (f : Fill) (z : SizedFill c f) where
   pub bound-proper : Proper (bound c f)
   unfolding bound
   bound-proper = go (ltb (f .at) (c .live)) refl
     where
       go : (b : Bool) → ltb (f .at) (c .live) ≡ b → Proper (cond b (sharedBy f (sizeOf c f) (rateOf c f)) (record { whole = f .worth; part = 0; parts = 1 }))
-      go true h = record { low = mod-lt (rateOf c f * natAbs (f .room)) (z .columns .live-sizes (f .at) (ltb-true (f .at) (c .live) h)); few = within-abs (at (c .size) (f .at)) (z .columns .sizes-in (f .at)) }
+      go true h = shared-proper f (sizeOf c f) (rateOf c f) (z .columns .live-sizes (f .at) (ltb-true (f .at) (c .live) h)) (within-abs (at (c .size) (f .at)) (z .columns .sizes-in (f .at)))
       go false h = record { low = omega arith; few = omega arith }
 
   pub bound-within : Within 201000000000000000 (bound c f .whole)

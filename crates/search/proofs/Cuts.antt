@@ -139,7 +139,7 @@ module _ (s : Setting) (r : ReadySetting s) (long : Long (s .ends)) (marks : ℕ
         above h = subst (λ z. (P d *ℤ pos D) ≤ℤ z) (sym (a d l)) (times-≤ D (P d) (y d) h)
 
         go : (t : Bool) → ltZ (P d) (startBy s P d) ≡ t → ((startBy s P d ≤ℤ P d) × (P d ≤ℤ y d)) ⊎ ((P d <ℤ startBy s P d) × (y d ≤ℤ P d))
-            → InBox (s .cols) (cond t (spanned (fixedBy s P d) (levelAt s d) (at (s .low) d) (P d)) (spanned (fixedBy s P d) (levelAt s d) (P d) (at (s .high) d))) D N
+            → InBox (s .cols) (spanned (fixedBy s P d) (levelAt s d) (cond t (at (s .low) d) (P d)) (cond t (P d) (at (s .high) d))) D N
         go true q (inl (v, w)) = clashℤ (yes-lt q) v
         go true q (inr (v, w)) = spans (at (s .low) d) (P d) (own-low d l) (below w)
         go false q (inl (v, w)) = spans (P d) (at (s .high) d) (above w) (own-high d l)
@@ -165,15 +165,7 @@ module _ (s : Setting) (r : ReadySetting s) (long : Long (s .ends)) (marks : ℕ
 
       -- the ends of an item that is not level d's: as in the prefix's box
       other-ends : (k : ℕ) → k ≢ levelAt s d → (at (e .lo) k ≡ at (fixedBy s P d .lo) k) × (at (e .hi) k ≡ at (fixedBy s P d .hi) k)
-      other-ends k ne = go (ltZ (P d) (startBy s P d))
-        where
-          g : Ends
-          g = fixedBy s P d
-
-          go : (t : Bool) → (at (cond t (spanned g (levelAt s d) (at (s .low) d) (P d)) (spanned g (levelAt s d) (P d) (at (s .high) d)) .lo) k ≡ at (g .lo) k)
-              × (at (cond t (spanned g (levelAt s d) (at (s .low) d) (P d)) (spanned g (levelAt s d) (P d) (at (s .high) d)) .hi) k ≡ at (g .hi) k)
-          go true = (at-other (g .lo) (levelAt s d) (at (s .low) d) k ne, at-other (g .hi) (levelAt s d) (P d) k ne)
-          go false = (at-other (g .lo) (levelAt s d) (P d) k ne, at-other (g .hi) (levelAt s d) (at (s .high) d) k ne)
+      other-ends k ne = (at-other (fixedBy s P d .lo) (levelAt s d) _ k ne, at-other (fixedBy s P d .hi) (levelAt s d) _ k ne)
 
       -- what item k changes, against the whole amounts
       abbrev Term : ℕ → ℕ → Type 0

@@ -1,5 +1,5 @@
 -- Going down the levels of a path.
---   Diving s j p t k   the trail t at level k, on its way from the path p at level j
+--   Diving s j p q e k   the path q and the box e at level k, on their way from the path p at level j
 use mathlib.Core.Path.{_≡_, refl, sym, ap, ap₂, _∙_}
 use mathlib.Core.List.{List}
 use mathlib.Core.Logic.{_≢_}
@@ -15,35 +15,42 @@ use Rattle.greedy.specs.Fill.{at, fill, start}
 use Rattle.greedy.specs.Sized.{Sized}
 use Rattle.search.specs.declared.Setting.{Setting}
 use Rattle.search.specs.declared.Path.{Path}
-use Rattle.search.specs.declared.Trail.{Trail}
 use Rattle.search.specs.Search.{levelAt, spanned, fixedBy, startBy}
 use Rattle.search.specs.Ready.{ReadySetting, InsideTo}
-use Rattle.search.specs.Steps.{Long, startIn, descended, Dived, Turnable, Turned}
+use Rattle.search.specs.Steps.{Long, Dived, Turnable, Turned}
 use Rattle.search.proofs.Boxes.{at-same, at-other, fixed-cong, start-cong, start-in, fixed-sized}
 
 pub record LongPath (p : Path) : Type 0 where
   pub place-long : length (p .place) ≡ 16
   pub starts-long : length (p .starts) ≡ 16
 
-pub record Diving (s : Setting) (j : ℕ) (p : Path) (t : Trail) (k : ℕ) : Type 0 where
+pub record Diving (s : Setting) (j : ℕ) (p q : Path) (e : Ends) (k : ℕ) : Type 0 where
   pub past : j ≤ k
   pub top : k ≤ s .levels
-  pub long : LongPath (t .path)
-  pub ends-are : t .ends ≡ fixedBy s (at (t .path .place)) k
-  pub inside : InsideTo s k (at (t .path .place))
-  pub kept : (i : ℕ) → i < j → (at (t .path .place) i ≡ at (p .place) i) × (at (t .path .starts) i ≡ at (p .starts) i)
-  pub filled : (i : ℕ) → j ≤ i → i < k → (at (t .path .place) i ≡ startBy s (at (t .path .place)) i) × (at (t .path .starts) i ≡ at (t .path .place) i)
+  pub long : LongPath q
+  pub ends-are : e ≡ fixedBy s (at (q .place)) k
+  pub inside : InsideTo s k (at (q .place))
+  pub kept : (i : ℕ) → i < j → (at (q .place) i ≡ at (p .place) i) × (at (q .starts) i ≡ at (p .starts) i)
+  pub filled : (i : ℕ) → j ≤ i → i < k → (at (q .place) i ≡ startBy s (at (q .place)) i) × (at (q .starts) i ≡ at (q .place) i)
 
-pub diving-first : (s : Setting) (j : ℕ) (t : Trail) → j ≤ s .levels → LongPath (t .path) → t .ends ≡ fixedBy s (at (t .path .place)) j → InsideTo s j (at (t .path .place)) → Diving s j (t .path) t j
-diving-first s j t l g e h = record { past = omega arith; top = l; long = g; ends-are = e; inside = h; kept = λ i m. (refl, refl); filled = λ i m n. absurd (omega arith) }
+pub diving-first : (s : Setting) (j : ℕ) (p : Path) (e : Ends) → j ≤ s .levels → LongPath p → e ≡ fixedBy s (at (p .place)) j → InsideTo s j (at (p .place)) → Diving s j p p e j
+diving-first s j p e l g h n = record { past = omega arith; top = l; long = g; ends-are = h; inside = n; kept = λ i m. (refl, refl); filled = λ i m n. absurd (omega arith) }
+
+-- the start of level k in the box e
+abbrev pub startIn : Setting → Ends → ℕ → ℤ
+startIn s e k = start (s .cols) e (fill (s .cols) e) (levelAt s k)
+
+-- the path with v at level k, which starts there
+abbrev pub begunAt : Path → ℕ → ℤ → Path
+begunAt q k v = record { place = set (q .place) k v; starts = set (q .starts) k v }
 
 module _ (s : Setting) (r : ReadySetting s) (long : Long (s .ends)) (j : ℕ) (p : Path) where
-  pub diving-sized : (t : Trail) (k : ℕ) → Diving s j p t k → Sized (s .cols) (t .ends)
-  diving-sized t k d = record { columns = r .sized .columns; ends = rw (d .ends-are) (fixed-sized s r long (at (t .path .place)) k (d .top) (d .inside)) }
+  pub diving-sized : (q : Path) (e : Ends) (k : ℕ) → Diving s j p q e k → Sized (s .cols) e
+  diving-sized q e k d = record { columns = r .sized .columns; ends = rw (d .ends-are) (fixed-sized s r long (at (q .place)) k (d .top) (d .inside)) }
 
-  pub diving-step : (t : Trail) (k : ℕ) → k < s .levels → Diving s j p t k → Diving s j p (descended s t k) (k + 1)
+  pub diving-step : (q : Path) (e : Ends) (k : ℕ) → k < s .levels → Diving s j p q e k → Diving s j p (begunAt q k (startIn s e k)) (spanned e (levelAt s k) (startIn s e k) (startIn s e k)) (k + 1)
   unfolding startBy fixedBy
-  diving-step t k l d = record {
+  diving-step q e k l d = record {
     past = omega (arith, d .past);
     top = omega arith;
     long = record { place-long = simp length-set (d .long .place-long); starts-long = simp length-set (d .long .starts-long) };
@@ -54,16 +61,16 @@ module _ (s : Setting) (r : ReadySetting s) (long : Long (s .ends)) (j : ℕ) (p
   }
     where
       x : List ℤ
-      x = t .path .place
+      x = q .place
 
       v : ℤ
-      v = startIn s t k
+      v = startIn s e k
 
       y : List ℤ
       y = set x k v
 
       v-is : v ≡ startBy s (at x) k
-      v-is = ap (λ (e : Ends). start (s .cols) e (fill (s .cols) e) (levelAt s k)) (d .ends-are)
+      v-is = ap (λ (e : Ends). startIn s e k) (d .ends-are)
 
       k-in : k < length x
       k-in = omega (arith, d .long .place-long, r .few)
@@ -71,33 +78,33 @@ module _ (s : Setting) (r : ReadySetting s) (long : Long (s .ends)) (j : ℕ) (p
       other-place : (i : ℕ) → i ≢ k → at y i ≡ at x i
       other-place i ne = at-other x k v i ne
 
-      other-starts : (i : ℕ) → i ≢ k → at (set (t .path .starts) k v) i ≡ at (t .path .starts) i
-      other-starts i ne = at-other (t .path .starts) k v i ne
+      other-starts : (i : ℕ) → i ≢ k → at (set (q .starts) k v) i ≡ at (q .starts) i
+      other-starts i ne = at-other (q .starts) k v i ne
 
       own : at y k ≡ v
       own = at-same x k v k-in
 
-      own-start : at (set (t .path .starts) k v) k ≡ v
-      own-start = at-same (t .path .starts) k v (omega (arith, d .long .starts-long, r .few))
+      own-start : at (set (q .starts) k v) k ≡ v
+      own-start = at-same (q .starts) k v (omega (arith, d .long .starts-long, r .few))
 
       above : (n : ℕ) → n ≤ k → (i : ℕ) → i < n → at x i ≡ at y i
       above n m i o = sym (other-place i (omega arith))
 
-      own-ends : spanned (t .ends) (levelAt s k) v v ≡ fixedBy s (at y) (suc k)
+      own-ends : spanned e (levelAt s k) v v ≡ fixedBy s (at y) (suc k)
       own-ends = ap₂ (λ (e : Ends) (z : ℤ). spanned e (levelAt s k) z z) (d .ends-are ∙ fixed-cong s (at x) (at y) k (above k (omega arith))) (sym own)
 
       at-level : (i : ℕ) → i < k + 1 → Dec (i ≡ k) → (at (s .low) i ≤ℤ at y i) × (at y i ≤ℤ at (s .high) i)
-      at-level i m (yes q) = rw (q, own, v-is) (start-in s r long (at x) k l)
-      at-level i m (no q) = rw (other-place i q) (d .inside i (omega arith))
+      at-level i m (yes z) = rw (z, own, v-is) (start-in s r long (at x) k l)
+      at-level i m (no z) = rw (other-place i z) (d .inside i (omega arith))
 
-      filled-at : (i : ℕ) → j ≤ i → i < k + 1 → Dec (i ≡ k) → (at y i ≡ startBy s (at y) i) × (at (set (t .path .starts) k v) i ≡ at y i)
-      filled-at i m n (yes q) = rw q (own ∙ v-is ∙ start-cong s (at x) (at y) k (above k (omega arith)), own-start ∙ sym own)
-      filled-at i m n (no q) =
+      filled-at : (i : ℕ) → j ≤ i → i < k + 1 → Dec (i ≡ k) → (at y i ≡ startBy s (at y) i) × (at (set (q .starts) k v) i ≡ at y i)
+      filled-at i m n (yes z) = rw z (own ∙ v-is ∙ start-cong s (at x) (at y) k (above k (omega arith)), own-start ∙ sym own)
+      filled-at i m n (no z) =
           let h = d .filled i m (omega arith) in
-          (other-place i q ∙ h .0 ∙ start-cong s (at x) (at y) i (above i (omega arith)), other-starts i q ∙ h .1 ∙ sym (other-place i q))
+          (other-place i z ∙ h .0 ∙ start-cong s (at x) (at y) i (above i (omega arith)), other-starts i z ∙ h .1 ∙ sym (other-place i z))
 
-  pub diving-done : (t : Trail) (k : ℕ) → s .levels ≤ k → Diving s j p t k → Dived s j p (t .path)
-  diving-done t k l d = record { kept = d .kept; filled = λ i m n. d .filled i m (omega arith) }
+  pub diving-done : (q : Path) (e : Ends) (k : ℕ) → s .levels ≤ k → Diving s j p q e k → Dived s j p q
+  diving-done q e k l d = record { kept = d .kept; filled = λ i m n. d .filled i m (omega arith) }
 
 -- ---- turning at a level
 

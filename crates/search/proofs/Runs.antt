@@ -40,6 +40,6 @@ module _ (s : Setting) (r : ReadySetting s) (long : Long (s .ends)) (P : ℕ →
         proper = p;
       }
 
-      go : (t : Bool) → Judges (s .cols) (cond t (spanned e (levelAt s d) (at (s .low) d) (P d)) (spanned e (levelAt s d) (P d) (at (s .high) d))) b
+      go : (t : Bool) → Judges (s .cols) (spanned e (levelAt s d) (cond t (at (s .low) d) (P d)) (cond t (P d) (at (s .high) d))) b
       go true = narrowed (at (s .low) d) (P d) (low-within s r long d l) x-in (inside d l .0)
       go false = narrowed (P d) (at (s .high) d) x-in (high-within s r long d l) (inside d l .1)

@@ -3,6 +3,7 @@
 --   fixedBy s P d       the search's box with the first d levels fixed at P
 --   startBy s P d       where level d starts below P's first d amounts: its item's amount in the relaxation, rounded to the light end
 --   runBox, runEnds     the box of P's run at level d, which starts at v: what is left of its segment there, and all below
+--   bySide x v a b      a below v, b from v on
 --   sparseBy c l f b    no value above b is found on the lattice l, within the room and the slope of the filling f
 --   cutBy c l e best    the box e holds nothing, or nothing better than the incumbent
 --   triedBy c e x best  the better of the incumbent and the relaxation of e, a place with all levels fixed at x
@@ -13,7 +14,7 @@ use mathlib.Core.List.{List}
 use mathlib.Core.Logic.{_≢_}
 use Prim.Native.Nat.{ℕ, zero, suc, _+_, _*_, _≤_, _<_}
 use lib.Dec.{ltb}
-use lib.IntN.{ℤ, pos, _-ℤ_}
+use lib.IntN.{ℤ, pos, natAbs, _-ℤ_}
 use lib.ListN.{set}
 use lib.Signed.{ltZ, _≤ℤ_}
 use Rattle.arith.specs.Mixed.{lessMixed}
@@ -21,7 +22,7 @@ use Rattle.arith.specs.declared.Mixed.{Mixed}
 use Rattle.greedy.specs.declared.Columns.{Columns}
 use Rattle.greedy.specs.declared.Ends.{Ends}
 use Rattle.greedy.specs.declared.Fill.{Fill}
-use Rattle.greedy.specs.Fill.{at, place, fill, bound, start}
+use Rattle.greedy.specs.Fill.{at, place, fill, sharedBy, bound, start}
 use Rattle.lattice.specs.declared.Lattice.{Lattice}
 use Rattle.lattice.specs.declared.Slope.{Slope}
 use Rattle.lattice.specs.Lattice.{barrenBy}
@@ -42,9 +43,12 @@ fixedBy s P (suc d) = spanned (fixedBy s P d) (levelAt s d) (P d) (P d)
 unfoldable pub startBy : Setting → (ℕ → ℤ) → ℕ → ℤ
 startBy s P d = start (s .cols) (fixedBy s P d) (fill (s .cols) (fixedBy s P d)) (levelAt s d)
 
+abbrev pub bySide : ℤ → ℤ → ℤ → ℤ → ℤ
+bySide x v a b = cond (ltZ x v) a b
+
 -- up to the upper end from the start on, down to the lower end below it
 abbrev pub runBox : Ends → ℕ → ℤ → ℤ → ℤ → ℤ → Ends
-runBox e i l h x v = cond (ltZ x v) (spanned e i l x) (spanned e i x h)
+runBox e i l h x v = spanned e i (bySide x v l x) (bySide x v x h)
 
 abbrev pub runEnds : Setting → (ℕ → ℤ) → ℤ → ℕ → Ends
 runEnds s P v d = runBox (fixedBy s P d) (levelAt s d) (at (s .low) d) (at (s .high) d) (P d) v
@@ -55,6 +59,11 @@ slopeOf c f = record { worth = f .worth; rate = at (c .rate) (f .at); size = at 
 
 unfoldable pub sparseBy : Columns → Lattice → Fill → ℤ → Bool
 sparseBy c l f b = cond (ltb (f .at) (c .live)) (barrenBy l (slopeOf c f) (f .room) b) false
+
+-- no value above b is promised by a filling that ends at an item of that weight and price, or none is found on the lattice
+abbrev pub hopelessBy : Lattice → Fill → ℤ → ℤ → Mixed → Bool
+hopelessBy l f size rate b =
+    cond (lessMixed b (sharedBy f (natAbs size) (natAbs rate))) (barrenBy l (record { worth = f .worth; rate = rate; size = size }) (f .room) (b .whole)) true
 
 unfoldable pub cutBy : Columns → Lattice → Ends → Incumbent → Bool
 cutBy c l e best =

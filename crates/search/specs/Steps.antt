@@ -1,5 +1,4 @@
 -- What the parts of a step ask and give.
---   descended s t k   the trail one level further down
 --   Dived s j p r     r is p with the levels from j on at their starts
 --   Looked s p t b r  what a look at a place may have settled, and the incumbent after it
 --   Stepped s p q r   a step from q to r
@@ -11,16 +10,18 @@ use Prim.Native.Nat.{ℕ, suc, _≤_, _<_}
 use lib.IntN.{ℤ, pos}
 use lib.ListN.{length, set, replicate}
 use lib.Signed.{_≤ℤ_}
+use Rattle.arith.specs.Within.{Within}
 use Rattle.arith.specs.Mixed.{Proper}
-use Rattle.greedy.specs.Fill.{at, fill, start}
+use Rattle.arith.specs.declared.Mixed.{Mixed}
+use Rattle.greedy.specs.Fill.{at}
 use Rattle.greedy.specs.declared.Ends.{Ends}
 use Rattle.greedy.specs.declared.Fill.{Fill}
-use Rattle.greedy.specs.Sized.{Sized, SizedFill}
+use Rattle.greedy.specs.Sized.{Sized}
 use Rattle.greedy.specs.Ordered.{Ordered}
 use Rattle.greedy.proofs.Relaxed.{InOrder}
 use Rattle.greedy.specs.declared.Columns.{Columns}
 use Rattle.lattice.specs.declared.Lattice.{Lattice}
-use Rattle.lattice.specs.Lattice.{Tame, latticeAt}
+use Rattle.lattice.specs.Lattice.{Tame, Steep, latticeAt}
 use Rattle.places.specs.declared.Settled.{Settled}
 use Rattle.places.specs.declared.Settled.the-variants.{Run, Prefix}
 use Rattle.places.specs.Moves.{pastOf}
@@ -28,28 +29,12 @@ use Rattle.search.specs.declared.Setting.{Setting}
 use Rattle.search.specs.declared.Pairs.{Pairs}
 use Rattle.search.specs.declared.Incumbent.{Incumbent}
 use Rattle.search.specs.declared.Path.{Path}
-use Rattle.search.specs.declared.Trail.{Trail}
 use Rattle.search.specs.declared.Sighting.{Sighting}
 use Rattle.search.specs.declared.State.{State}
-use Rattle.search.specs.Search.{levelAt, spanned, fixedBy, startBy, runEnds, cutBy, triedBy, Applies}
+use Rattle.search.specs.Search.{fixedBy, startBy, runEnds, cutBy, triedBy, Applies}
 use Rattle.search.specs.Ready.{ReadySetting, Inside}
 
 -- ---- going down
-
-pub record Descends (s : Setting) (t : Trail) (k : ℕ) : Type 0 where
-  pub ready : ReadySetting s
-  pub level-in : k < s .levels
-  pub sized : Sized (s .cols) (t .ends)
-
--- the start of level k, in the trail's box
-abbrev pub startIn : Setting → Trail → ℕ → ℤ
-startIn s t k = start (s .cols) (t .ends) (fill (s .cols) (t .ends)) (levelAt s k)
-
-abbrev pub descended : Setting → Trail → ℕ → Trail
-descended s t k = record {
-  path = record { place = set (t .path .place) k (startIn s t k); starts = set (t .path .starts) k (startIn s t k) };
-  ends = spanned (t .ends) (levelAt s k) (startIn s t k) (startIn s t k);
-}
 
 pub record Dived (s : Setting) (j : ℕ) (p r : Path) : Type 0 where
   pub kept : (i : ℕ) → i < j → (at (r .place) i ≡ at (p .place) i) × (at (r .starts) i ≡ at (p .starts) i)
@@ -57,11 +42,12 @@ pub record Dived (s : Setting) (j : ℕ) (p r : Path) : Type 0 where
 
 -- ---- looking
 
--- a filling's slope and a lattice can be compared
-pub record Slopes (c : Columns) (l : Lattice) (f : Fill) : Type 0 where
-  pub filled : SizedFill c f
-  pub ordered : Ordered c
+-- what a filling that ends at an item of that weight and price promises can be compared
+pub record Promises (l : Lattice) (f : Fill) (size rate : ℤ) (b : Mixed) : Type 0 where
+  pub steep : Steep (record { worth = f .worth; rate = rate; size = size })
+  pub room-in : Within 20000000000000 (f .room)
   pub tame : Tame l
+  pub proper : Proper b
 
 -- the lists of a box have a place for each item
 pub record Long (e : Ends) : Type 0 where

@@ -3,11 +3,13 @@
 // incumbent alone.
 use arith::Mixed;
 use arith::less;
+use arith::magnitude;
 use greedy::Columns;
 use greedy::Ends;
 use greedy::Fill;
 use greedy::bound_of;
 use greedy::fill_up;
+use greedy::share;
 use greedy::start_of;
 use lattice::Lattice;
 use lattice::Slope;
@@ -22,9 +24,9 @@ ghost use Rattle.arith.specs.Within.{Within};
 ghost use Rattle.arith.specs.Mixed.{Proper};
 ghost use Rattle.greedy.specs.Fill.{at};
 ghost use Rattle.lattice.specs.Lattice.{Tame};
-ghost use Rattle.search.specs.Search.{spanned, fixedBy, runBox, sparseBy, cutBy, triedBy, Stays, Removable, Decides, FirstPaired};
+ghost use Rattle.search.specs.Search.{fixedBy, bySide, hopelessBy, cutBy, triedBy, Stays, Removable, Decides, FirstPaired};
 ghost use Rattle.search.specs.Ready.{ReadySetting, Ready, Inside, InsideTo, Searched};
-ghost use Rattle.search.specs.Steps.{Descends, descended, Dived, Slopes, Judges, ProperBest, Started, Looked, nobody, Turnable, Turned, Stepped};
+ghost use Rattle.search.specs.Steps.{Dived, Promises, Judges, ProperBest, Started, Looked, nobody, Turnable, Turned, Stepped};
 
 // What does not change during a search: the columns, the box by item, and by level the item, its ends, and the lattice of what the
 // items from that level on change, where no continuous item is free.
@@ -51,27 +53,10 @@ pub struct Incumbent {
     pub value: Mixed,
 }
 
-// The box with other ends for item k.
-pub fn span(e: Ends, k: usize, l: i64, u: i64) -> Ends
-    requires { ⌜ k < 16 ⌝ }
-    ensures { λ r. ⌜ r ≡ spanned e k l u ⌝ }
-{
-    let mut f = e;
-    f.lo[k] = l;
-    f.hi[k] = u;
-    f
-}
-
 // A place, and the starts of its levels along it.
 pub struct Path {
     pub place: [i64; 16],
     pub starts: [i64; 16],
-}
-
-// A path on its way down: the box has the levels passed fixed.
-pub struct Trail {
-    pub path: Path,
-    pub ends: Ends,
 }
 
 // What a look at a place settled, and the incumbent after it.
@@ -98,68 +83,59 @@ pub fn fixed(s: Setting, x: [i64; 16], d: usize) -> Ends
     while k < d {
         let i = s.level[k];
         let v = x[k];
-        e = span(e, i, v, v);
+        e.lo[i] = v;
+        e.hi[i] = v;
         k += 1;
     }
     e
 }
 
-// One level further down: it takes its start.
-pub fn descend(s: Setting, t: Trail, k: usize) -> Trail
-    requires { ⌜ Descends s t k ⌝ }
-    ensures { λ r. ⌜ r ≡ descended s t k ⌝ }
-{
-    let c = s.cols;
-    let e = t.ends;
-    let i = s.level[k];
-    let f = fill_up(c, e);
-    let v = start_of(c, e, f, i);
-    let g = span(e, i, v, v);
-    let mut p = t.path;
-    p.place[k] = v;
-    p.starts[k] = v;
-    Trail { path: p, ends: g }
-}
-
-// The path with the levels from j on at their starts.
+// The path with the levels from j on at their starts: in the box with the levels above fixed, each takes its start.
 pub fn dive(s: Setting, p: Path, j: usize) -> Path
     requires { ⌜ ReadySetting s × ((j ≤ s .levels) × InsideTo s j (at (p .place))) ⌝ }
     ensures { λ r. ⌜ Dived s j p r ⌝ }
 {
     let n = s.levels;
-    let x = p.place;
-    let mut t = Trail {
-        path: p,
-        ends: fixed(s, x, j),
-    };
+    let c = s.cols;
+    let mut x = p.place;
+    let mut y = p.starts;
+    let mut e = fixed(s, x, j);
     let mut k = j;
     while k < n {
-        t = descend(s, t, k);
+        let i = s.level[k];
+        let v = start_of(c, e, i);
+        e.lo[i] = v;
+        e.hi[i] = v;
+        x[k] = v;
+        y[k] = v;
         k += 1;
     }
-    t.path
+    Path {
+        place: x,
+        starts: y,
+    }
 }
 
-// Whether the items of a lattice can make no value above b, whatever the relaxation promises: cut by lattice, see proofs/Cuts
-// (sparse-most).
-pub fn sparse(c: Columns, l: Lattice, f: Fill, b: i64) -> bool
-    requires { ⌜ Slopes c l f ⌝ }
-    ensures { λ r. ⌜ r ≡ sparseBy c l f b ⌝ }
+// Whether a filling that stops at an item of that weight and price promises no value above b, or the lattice's items can make none
+// whatever it promises: cut by relaxation and cut by lattice, see proofs/Cuts (sparse-most).
+pub fn hopeless(l: Lattice, f: Fill, size: i64, rate: i64, b: Mixed) -> bool
+    requires { ⌜ Promises l f size rate b ⌝ }
+    ensures { λ r. ⌜ r ≡ hopelessBy l f size rate b ⌝ }
 {
-    let u = f.at;
-    let n = c.live;
-    if u < n {
+    let v = share(f, magnitude(size), magnitude(rate));
+    if less(b, v) {
         let p = Slope {
             worth: f.worth,
-            rate: c.rate[u],
-            size: c.size[u],
+            rate: rate,
+            size: size,
         };
-        return barren(l, p, f.room, b);
+        return barren(l, p, f.room, b.whole);
     }
-    false
+    true
 }
 
-// Whether the box e holds nothing better than the incumbent: cut by relaxation, see proofs/Settle (cut-settles).
+// Whether the box e holds nothing better than the incumbent: see proofs/Settle (cut-settles). The columns are large, and a struct is
+// copied at a call: so the critical item is read here.
 pub fn cut(c: Columns, l: Lattice, e: Ends, best: Incumbent) -> bool
     requires { ⌜ Judges c e best × Tame l ⌝ }
     ensures { λ r. ⌜ r ≡ cutBy c l e best ⌝ }
@@ -169,12 +145,20 @@ pub fn cut(c: Columns, l: Lattice, e: Ends, best: Incumbent) -> bool
         return true;
     }
     if best.found {
-        let v = bound_of(c, f);
         let b = best.value;
-        if less(b, v) {
-            return sparse(c, l, f, b.whole);
+        let u = f.at;
+        let n = c.live;
+        if u < n {
+            let s = c.size[u];
+            let p = c.rate[u];
+            return hopeless(l, f, s, p, b);
         }
-        return true;
+        let v = Mixed {
+            whole: f.worth,
+            part: 0,
+            parts: 1,
+        };
+        return !less(b, v);
     }
     false
 }
@@ -254,16 +238,11 @@ pub fn first_paired(s: Setting, p: Pairs, x: [i64; 16]) -> usize
     n
 }
 
-// The box of a run of item i from x on, where the level starts at v and has the ends l and h.
-pub fn run_box(e: Ends, i: usize, l: i64, h: i64, x: i64, v: i64) -> Ends
-    requires { ⌜ i < 16 ⌝ }
-    ensures { λ r. ⌜ r ≡ runBox e i l h x v ⌝ }
+// The first of two amounts if x is below v, else the second.
+pub fn by_side(x: i64, v: i64, first: i64, second: i64) -> i64
+    ensures { λ r. ⌜ r ≡ bySide x v first second ⌝ }
 {
-    if x < v {
-        span(e, i, l, x)
-    } else {
-        span(e, i, x, h)
-    }
+    if x < v { first } else { second }
 }
 
 // A look at a place: the first level whose run can be set aside, or that a pair discards; else the place is tried.
@@ -280,9 +259,13 @@ pub fn look(s: Setting, p: Pairs, t: Path, best: Incumbent) -> Sighting
     let mut d: usize = 0;
     while d < n {
         let a = x[d];
+        let b = v[d];
         let i = s.level[d];
-        let r = run_box(e, i, s.low[d], s.high[d], a, v[d]);
-        if cut(c, s.lattice[d], r, best) {
+        let l = by_side(a, b, s.low[d], a);
+        let h = by_side(a, b, a, s.high[d]);
+        e.lo[i] = l;
+        e.hi[i] = h;
+        if cut(c, s.lattice[d], e, best) {
             return Sighting {
                 settled: Settled::Run(d),
                 best: best,
@@ -294,7 +277,8 @@ pub fn look(s: Setting, p: Pairs, t: Path, best: Incumbent) -> Sighting
                 best: best,
             };
         }
-        e = span(e, i, a, a);
+        e.lo[i] = a;
+        e.hi[i] = a;
         d += 1;
     }
     let b = tried(c, e, x, best);

@@ -1,16 +1,18 @@
 -- `search::cut` meets its contract: the tests are those of the definition, in its order.
-use mathlib.Core.Path.{_≡_, sym, ap, _∙_}
-use mathlib.Core.Bool.{false}
+use mathlib.Core.Path.{_≡_, refl, ap, _∙_}
+use mathlib.Core.Bool.{Bool, true, false, not, cond}
+use Prim.Native.Nat.{_<_}
+use native.Mathlib.Omega.{arith}
 use lib.IntN.{pos}
 use lib.Signed.{ltZ}
+use borrow.Author.Tests.{lt-ltb, le-ltb}
 use Rattle.arith.specs.Mixed.{lessMixed}
 use Rattle.arith.proofs.Parts.{within-back}
-use Rattle.arith.proofs.Words.{back}
 use Rattle.greedy.specs.Fill.{fill, bound}
 use Rattle.greedy.specs.Sized.{SizedFill}
 use Rattle.greedy.proofs.Sizes.{fill-sized}
-use Rattle.search.specs.Search.{cutBy}
-use Rattle.search.proofs.Bounds.{bound-proper}
+use Rattle.search.specs.Search.{sparseBy, cutBy}
+use Rattle.search.proofs.Bounds.{steep}
 use borrow.Author.Needs.{needs}
 use Rattle.search.proofs.cut.Statement.{statement}
 use Rattle.search.proofs.cut.Tie as tie
@@ -18,8 +20,8 @@ use Rattle.search.proofs.cut.Tie as tie
 fill-up-requires : tie.Need-fill-up-requires
 fill-up-requires c κs = search needs
 
-sized : (s : tie.Start) → SizedFill (s .args .c) (fill (s .args .c) (s .args .e))
-sized s = fill-sized (s .args .c) (s .args .e) (s .pre .0 .sized)
+sized : (s : tie.Start) → SizedFill (s .args .t1) (fill (s .args .t1) (s .args .e))
+sized s = fill-sized (s .args .t1) (s .args .e) (s .pre .0 .sized)
 
 returns : tie.Need-returns
 unfolding cutBy
@@ -29,47 +31,68 @@ returns c =
     let t = rw (f, within-back tt (sized s .room-in)) at (c .if1 .taken) in
     rw t
 
-not-empty : (c : tie.Else1) → ltZ (fill (c .before .before .before .before .args .c) (c .before .before .before .before .args .e) .room) (pos 0) ≡ false
+not-empty : (c : tie.Else1) → ltZ (fill (c .before .before .before .before .args .t1) (c .before .before .before .before .args .e) .room) (pos 0) ≡ false
 not-empty c =
     let s = c .before .before .before .before in
     rw (c .before .before .before .fill-up .ensures, within-back tt (sized s .room-in)) at (c .if1 .left)
 
-bound-of-requires : tie.Need-bound-of-requires
-bound-of-requires c κs = let s = c .before .before .before .before .before in rw (c .before .before .before .before .fill-up .ensures) (sized s)
+-- the filling ended at a live rank
+rank<16 : (c : tie.Then3) → c .before .before .before .before .before .before .fill-up .result .at < 16
+rank<16 c = omega (arith, c .if3 .taken, c .before .before .before .before .before .before .before .pre .0 .sized .columns .live-few)
 
-bound-is : (c : tie.After-bound-of) → c .bound-of .result ≡ bound (c .before .before .before .before .before .before .args .c) (fill (c .before .before .before .before .before .before .args .c) (c .before .before .before .before .before .before .args .e))
-bound-is c = rw (c .before .before .before .before .before .fill-up .ensures) at (c .bound-of .ensures)
+mul-s : tie.Need-mul-s
+mul-s c = record { fits = omega (arith, rank<16 c) }
+
+element-copy-out-s : tie.Need-element-copy-out-s
+element-copy-out-s c = rank<16 c
+
+mul-p : tie.Need-mul-p
+mul-p c = record { fits = omega (arith, rank<16 (c .before)) }
+
+element-copy-out-p : tie.Need-element-copy-out-p
+element-copy-out-p c = rank<16 (c .before)
+
+hopeless-requires : tie.Need-hopeless-requires
+hopeless-requires c κs =
+    let h = c .before .before in
+    let g = h .before .before .before .before .before .before in
+    let s = g .before in
+    let z : SizedFill (s .args .t1) (g .fill-up .result) = rw (g .fill-up .ensures) (sized s) in
+    let u = g .fill-up .result .at in
+    rw (within-back tt (z .columns .sizes-in u), within-back tt (z .columns .rates-in u))
+    (record { steep = steep (s .args .t1) (g .fill-up .result) (s .pre .0 .ordered) z (h .if3 .taken); room-in = z .room-in; tame = s .pre .1; proper = s .pre .0 .proper (h .before .before .if2 .taken) })
+
+returns-2 : tie.Need-returns-2
+unfolding cutBy sparseBy bound
+returns-2 c =
+    let h = c .before .before .before in
+    let g = h .before .before .before .before .before .before in
+    let s = g .before in
+    let u = g .fill-up .result .at in
+    let z = s .pre .0 .sized .columns in
+    let l = rw (g .fill-up .ensures) at (h .if3 .taken) in
+    let e = rw (within-back tt (z .sizes-in u), within-back tt (z .rates-in u), g .fill-up .ensures) at (c .hopeless .ensures) in
+    rw (not-empty (h .before .before .before), h .before .before .if2 .taken, lt-ltb _ _ l) e
 
 less-requires : tie.Need-less-requires
 less-requires c κs =
-    let t = c .before .before in
-    let s = t .before .before .before .before .before in
-    (s .pre .0 .proper (t .if2 .taken), rw (bound-is (c .before)) (bound-proper (s .args .c) (fill (s .args .c) (s .args .e)) (sized s)))
+    let h = c .before in
+    let s = h .before .before .before .before .before .before .before in
+    (s .pre .0 .proper (h .before .before .if2 .taken), record { low = omega arith; few = omega arith })
 
--- what the comparison said
-less-is : (c : tie.After-less) → c .less .result ≡ lessMixed (c .before .before .before .before .before .before .before .before .args .best .value) (bound (c .before .before .before .before .before .before .before .before .args .c) (fill (c .before .before .before .before .before .before .before .before .args .c) (c .before .before .before .before .before .before .before .before .args .e)))
-less-is c = let s = c .before .before .before .before .before .before .before .before in c .less .ensures ∙ ap (λ v. lessMixed (s .args .best .value) v) (bound-is (c .before .before))
-
-sparse-requires : tie.Need-sparse-requires
-sparse-requires c κs =
-    let t = c .before .before .before .before .before in
-    let s = t .before .before .before .before .before in
-    rw (t .before .before .before .before .fill-up .ensures) (record { filled = sized s; ordered = s .pre .0 .ordered; tame = s .pre .1 })
-
-returns-2 : tie.Need-returns-2
-unfolding cutBy
-returns-2 c =
-    let h = c .before .before in
-    let t = h .before .before .before .before in
-    let s = t .before .before .before .before .before in
-    let e = rw (back (s .args .best .value .whole) (c .before .struct-told2 .given .0 .1), t .before .before .before .before .fill-up .ensures) at (c .sparse .ensures) in
-    rw (not-empty (t .before), t .if2 .taken, sym (less-is (h .before)) ∙ h .if3 .taken) e
+turned : (b : Bool) → not b ≡ cond b false true
+turned true = refl
+turned false = refl
 
 returns-3 : tie.Need-returns-3
-unfolding cutBy
+unfolding cutBy sparseBy bound
 returns-3 c =
-    let t = c .before .before .before .before in
-    rw (not-empty (t .before), t .if2 .taken, sym (less-is (c .before)) ∙ c .if3 .left)
+    let h = c .before .before in
+    let g = h .before .before .before .before .before .before in
+    let s = g .before in
+    let l = rw (g .fill-up .ensures) at (h .if3 .left) in
+    let e = rw (g .fill-up .ensures, within-back tt (sized s .worth-in)) at (c .less .ensures) in
+    rw (not-empty (h .before .before .before), h .before .before .if2 .taken, le-ltb _ _ l) (ap not e ∙ turned (lessMixed (s .args .best .value) (record { whole = fill (s .args .t1) (s .args .e) .worth; part = 0; parts = 1 })))
 
 returns-4 : tie.Need-returns-4
 unfolding cutBy
@@ -81,9 +104,12 @@ cut-spec =
     (tie.spec
     fill-up-requires
     returns
-    bound-of-requires
-    less-requires
-    sparse-requires
+    mul-s
+    element-copy-out-s
+    mul-p
+    element-copy-out-p
+    hopeless-requires
     returns-2
+    less-requires
     returns-3
     returns-4)

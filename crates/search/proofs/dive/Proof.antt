@@ -1,55 +1,103 @@
 -- `search::dive` meets its contract.
-use Prim.Native.Nat.{_-_}
+use mathlib.Core.Path.{_≡_}
+use Prim.Native.Nat.{_-_, _<_}
 use native.Mathlib.Omega.{arith}
 use borrow.Author.Needs.{needs}
+use Rattle.arith.proofs.Words.{back}
 use Rattle.greedy.specs.Fill.{at}
+use Rattle.search.specs.Search.{levelAt}
 use Rattle.search.specs.Steps.{Long}
-use Rattle.search.proofs.Dives.{LongPath, Diving, diving-first, diving-sized, diving-step, diving-done}
+use Rattle.search.proofs.Boxes.{item<16}
+use Rattle.search.proofs.Dives.{LongPath, Diving, startIn, diving-first, diving-sized, diving-step, diving-done}
 use Rattle.search.proofs.dive.Statement.{statement}
 use Rattle.search.proofs.dive.Tie as tie
 
 abbrev Inv-loop : tie.InvT-loop
-Inv-loop s j n t₀ k₀ t k = Diving s j (t₀ .path) t k
+Inv-loop j s n c x₀ y₀ e₀ k₀ x y e k = Diving s j (record { place = x₀; starts = y₀ }) (record { place = x; starts = y }) e k
 
 abbrev μ-loop : tie.MeasureT-loop
-μ-loop s j n t₀ k₀ t k = n - k
+μ-loop j s n c x₀ y₀ e₀ k₀ x y e k = n - k
 
 -- arrays have a place for each item
-long : (s : tie.Start Inv-loop μ-loop) → Long (s .args .s .ends)
+long : (s : tie.Start Inv-loop μ-loop) → Long (s .args .t1 .ends)
 long s = record { lo-long = search needs; hi-long = search needs }
 
 long-path : (s : tie.Start Inv-loop μ-loop) → LongPath (s .args .p)
 long-path s = record { place-long = search needs; starts-long = search needs }
 
+-- what the function was given, at the loop
+abbrev Of : tie.At-loop Inv-loop μ-loop → tie.Start Inv-loop μ-loop
+Of l = l .before .before .before .before .before
+
+k<16 : (c : tie.In-loop Inv-loop μ-loop) → c .before .loop .k < 16
+k<16 c = omega (arith, c .loop-test .taken, Of (c .before) .pre .0 .few)
+
+-- the level's item has a place
+item : (c : tie.In-loop Inv-loop μ-loop) → levelAt (Of (c .before) .args .t1) (c .before .loop .k) < 16
+item c = let s = Of (c .before) in item<16 (s .args .t1) (s .pre .0) (long s) (c .before .loop .k) (c .loop-test .taken)
+
 fixed-requires : tie.Need-fixed-requires Inv-loop μ-loop
-fixed-requires c κs = (c .before .pre .0, c .before .pre .1 .0)
+fixed-requires c κs = let s = c .before .before .before in (s .pre .0, s .pre .1 .0)
 
 loop-holds : tie.Need-loop-holds Inv-loop μ-loop
-loop-holds c = let s = c .before .before in diving-first (s .args .s) (s .args .j) _ (s .pre .1 .0) (long-path s) (c .fixed .ensures) (s .pre .1 .1)
+loop-holds c = let s = c .before .before .before .before in diving-first (s .args .t1) (s .args .j) (s .args .p) (c .fixed .result) (s .pre .1 .0) (long-path s) (c .fixed .ensures) (s .pre .1 .1)
 
-descend-requires : tie.Need-descend-requires Inv-loop μ-loop
-descend-requires c κs =
-    let l = c .before in
-    let s = l .before .before .before in
-    record { ready = s .pre .0; level-in = c .loop-test .taken; sized = diving-sized (s .args .s) (s .pre .0) (long s) (s .args .j) _ (l .loop .t) (l .loop .k) (l .loop .inv) }
+mul-i : tie.Need-mul-i Inv-loop μ-loop
+mul-i c = record { fits = omega (arith, k<16 c) }
+
+element-copy-out-i : tie.Need-element-copy-out-i Inv-loop μ-loop
+element-copy-out-i c = k<16 c
+
+start-of-requires : tie.Need-start-of-requires Inv-loop μ-loop
+start-of-requires c κs =
+    let i = c .before in
+    let l = i .before in
+    let s = Of l in
+    (diving-sized (s .args .t1) (s .pre .0) (long s) (s .args .j) (s .args .p) _ (l .loop .e) (l .loop .k) (l .loop .inv), item i)
+
+mul-v : tie.Need-mul-v Inv-loop μ-loop
+mul-v c = record { fits = omega (arith, item (c .before .before)) }
+
+element-set-from-v : tie.Need-element-set-from-v Inv-loop μ-loop
+element-set-from-v c = item (c .before .before)
+
+mul-v-2 : tie.Need-mul-v-2 Inv-loop μ-loop
+mul-v-2 c = record { fits = omega (arith, item (c .before .before)) }
+
+element-set-from-v-2 : tie.Need-element-set-from-v-2 Inv-loop μ-loop
+element-set-from-v-2 c = item (c .before .before)
+
+mul-x : tie.Need-mul-x Inv-loop μ-loop
+mul-x c = record { fits = omega (arith, k<16 (c .before .before)) }
+
+array-set-from-x : tie.Need-array-set-from-x Inv-loop μ-loop
+array-set-from-x c = k<16 (c .before .before)
+
+mul-y : tie.Need-mul-y Inv-loop μ-loop
+mul-y c = record { fits = omega (arith, k<16 (c .before .before)) }
+
+array-set-from-y : tie.Need-array-set-from-y Inv-loop μ-loop
+array-set-from-y c = k<16 (c .before .before)
 
 add-k : tie.Need-add-k Inv-loop μ-loop
-add-k c = let s = c .before .before .before .before .before in omega (arith, s .pre .0 .few)
+add-k c = record { fits = omega (arith, k<16 (c .before .before)) }
 
 loop-less : tie.Need-loop-less Inv-loop μ-loop
 loop-less c = omega arith
 
 loop-again : tie.Need-loop-again Inv-loop μ-loop
 loop-again c =
-    let l = c .before .before in
-    let s = l .before .before .before in
-    rw (c .descend .ensures) (diving-step (s .args .s) (s .pre .0) (long s) (s .args .j) _ (l .loop .t) (l .loop .k) (c .before .loop-test .taken) (l .loop .inv))
+    let i = c .before .before in
+    let l = i .before in
+    let s = Of l in
+    let v : c .start-of .result ≡ startIn (s .args .t1) (l .loop .e) (l .loop .k) = c .start-of .ensures in
+    rw (back (c .start-of .result) (c .start-of .ok), v) (diving-step (s .args .t1) (s .pre .0) (long s) (s .args .j) (s .args .p) _ (l .loop .e) (l .loop .k) (i .loop-test .taken) (l .loop .inv))
 
 returns : tie.Need-returns Inv-loop μ-loop
 returns c =
-    let l = c .before .before in
-    let s = l .before .before .before in
-    diving-done (s .args .s) (s .pre .0) (long s) (s .args .j) _ (l .loop .t) (l .loop .k) (c .before .loop-test .left) (l .loop .inv)
+    let l = c .before in
+    let s = Of l in
+    diving-done (s .args .t1) (s .pre .0) (long s) (s .args .j) (s .args .p) _ (l .loop .e) (l .loop .k) (c .loop-test .left) (l .loop .inv)
 
 pub dive-spec : {M : Type 1} → statement M
 dive-spec =
@@ -59,7 +107,17 @@ dive-spec =
     μ-loop
     fixed-requires
     loop-holds
-    descend-requires
+    mul-i
+    element-copy-out-i
+    start-of-requires
+    mul-v
+    element-set-from-v
+    mul-v-2
+    element-set-from-v-2
+    mul-x
+    array-set-from-x
+    mul-y
+    array-set-from-y
     add-k
     loop-less
     loop-again

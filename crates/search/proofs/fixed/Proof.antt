@@ -1,11 +1,11 @@
 -- `search::fixed` meets its contract.
 use mathlib.Core.Path.{_≡_, refl}
-use Prim.Native.Nat.{_-_, _≤_}
+use Prim.Native.Nat.{_-_, _≤_, _<_}
 use native.Mathlib.Numerals.{add-one}
 use native.Mathlib.Omega.{arith}
 use Rattle.arith.proofs.Words.{back}
 use Rattle.greedy.specs.Fill.{at}
-use Rattle.search.specs.Search.{fixedBy}
+use Rattle.search.specs.Search.{levelAt, fixedBy}
 use Rattle.search.proofs.fixed.Statement.{statement}
 use Rattle.search.proofs.fixed.Tie as tie
 
@@ -31,10 +31,23 @@ mul-v c = omega (arith, c .before .before .before .before .pre .0 .few, c .befor
 array-copy-out-v : tie.Need-array-copy-out-v Inv-loop μ-loop
 array-copy-out-v c = omega (arith, c .before .before .before .before .pre .0 .few, c .before .before .before .before .pre .1)
 
-span-requires : tie.Need-span-requires Inv-loop μ-loop
-span-requires c κs =
-    let s = c .before .before .before .before .before in
-    omega (arith, s .pre .0 .level-in (c .before .before .before .loop .k) (omega (arith, s .pre .1)), s .pre .0 .sized .columns .few)
+-- the level's item has a place
+item<16 : (c : tie.In-loop Inv-loop μ-loop) → levelAt (c .before .before .before .args .t1) (c .before .loop .k) < 16
+item<16 c =
+    let s = c .before .before .before in
+    omega (arith, s .pre .0 .level-in (c .before .loop .k) (omega (arith, s .pre .1)), s .pre .0 .sized .columns .few)
+
+mul-v-2 : tie.Need-mul-v-2 Inv-loop μ-loop
+mul-v-2 c = record { fits = omega (arith, item<16 (c .before .before)) }
+
+element-set-from-v : tie.Need-element-set-from-v Inv-loop μ-loop
+element-set-from-v c = item<16 (c .before .before)
+
+mul-v-3 : tie.Need-mul-v-3 Inv-loop μ-loop
+mul-v-3 c = record { fits = omega (arith, item<16 (c .before .before)) }
+
+element-set-from-v-2 : tie.Need-element-set-from-v-2 Inv-loop μ-loop
+element-set-from-v-2 c = item<16 (c .before .before)
 
 add-k : tie.Need-add-k Inv-loop μ-loop
 add-k c = omega arith
@@ -45,11 +58,9 @@ loop-less c = omega arith
 loop-again : tie.Need-loop-again Inv-loop μ-loop
 unfolding fixedBy
 loop-again c =
-    let l = c .before .before .before .before in
+    let l = c .before .before .before in
     let s = l .before .before in
-    let v = back (at (s .args .t2) (l .loop .k)) (c .before .v .given) in
-    let e = rw (v, l .loop .inv .1) at (c .span .ensures) in
-    (omega arith, rw add-one e)
+    (omega arith, rw (add-one, back (at (s .args .t2) (l .loop .k)) (c .v .given), l .loop .inv .1))
 
 returns : tie.Need-returns Inv-loop μ-loop
 returns c =
@@ -67,7 +78,10 @@ fixed-spec =
     element-copy-out-i
     mul-v
     array-copy-out-v
-    span-requires
+    mul-v-2
+    element-set-from-v
+    mul-v-3
+    element-set-from-v-2
     add-k
     loop-less
     loop-again

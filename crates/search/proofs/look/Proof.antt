@@ -1,13 +1,19 @@
 -- `search::look` meets its contract: at level d the box has the levels above fixed at the place.
-use mathlib.Core.Path.{_≡_, refl, sym, ap, _∙_, subst}
+use mathlib.Core.Path.{_≡_, refl, sym, ap, ap₂, _∙_, subst}
+use mathlib.Core.List.{List}
 use mathlib.Core.Logic.{inl, inr}
-use Prim.Native.Nat.{_-_, _≤_, _<_}
+use Prim.Native.Nat.{ℕ, _-_, _≤_, _<_}
 use native.Mathlib.Numerals.{add-one}
 use native.Mathlib.Omega.{arith}
+use lib.IntN.{ℤ}
+use lib.Seq.{set-set}
+use mir.Syntax.{w64}
+use mir.Val.{toZ, ofZ}
 use Rattle.arith.proofs.Words.{back}
+use Rattle.greedy.specs.declared.Ends.{Ends}
 use Rattle.greedy.specs.Fill.{at}
 use Rattle.lattice.specs.Lattice.{latticeAt}
-use Rattle.search.specs.Search.{levelAt, spanned, fixedBy, runBox, runEnds, cutBy, Applies}
+use Rattle.search.specs.Search.{levelAt, spanned, fixedBy, bySide, runBox, runEnds, cutBy, Applies}
 use Rattle.search.proofs.Boxes.{item<16}
 use Rattle.search.proofs.Runs.{fixed-judged, run-judged}
 use Rattle.search.proofs.look.Statement.{statement}
@@ -39,49 +45,86 @@ mul-a c = record { fits = omega (arith, d<16 c) }
 array-copy-out-a : tie.Need-array-copy-out-a Inv-loop μ-loop
 array-copy-out-a c = d<16 c
 
+mul-b : tie.Need-mul-b Inv-loop μ-loop
+mul-b c = record { fits = omega (arith, d<16 (c .before)) }
+
+array-copy-out-b : tie.Need-array-copy-out-b Inv-loop μ-loop
+array-copy-out-b c = d<16 (c .before)
+
 mul-i : tie.Need-mul-i Inv-loop μ-loop
-mul-i c = record { fits = omega (arith, d<16 (c .before)) }
+mul-i c = record { fits = omega (arith, d<16 (c .before .before)) }
 
 element-copy-out-i : tie.Need-element-copy-out-i Inv-loop μ-loop
-element-copy-out-i c = d<16 (c .before)
+element-copy-out-i c = d<16 (c .before .before)
 
-mul-run-box : tie.Need-mul-run-box Inv-loop μ-loop
-mul-run-box c = record { fits = omega (arith, d<16 (c .before .before)) }
+mul-by-side : tie.Need-mul-by-side Inv-loop μ-loop
+mul-by-side c = record { fits = omega (arith, d<16 (c .before .before .before)) }
 
-element-copy-out-run-box : tie.Need-element-copy-out-run-box Inv-loop μ-loop
-element-copy-out-run-box c = d<16 (c .before .before)
+element-copy-out-by-side : tie.Need-element-copy-out-by-side Inv-loop μ-loop
+element-copy-out-by-side c = d<16 (c .before .before .before)
 
-mul-run-box-2 : tie.Need-mul-run-box-2 Inv-loop μ-loop
-mul-run-box-2 c = record { fits = omega (arith, d<16 (c .before .before .before)) }
+by-side-requires : tie.Need-by-side-requires Inv-loop μ-loop
+by-side-requires c κs = tt
 
-element-copy-out-run-box-2 : tie.Need-element-copy-out-run-box-2 Inv-loop μ-loop
-element-copy-out-run-box-2 c = d<16 (c .before .before .before)
+mul-by-side-2 : tie.Need-mul-by-side-2 Inv-loop μ-loop
+mul-by-side-2 c = record { fits = omega (arith, d<16 (c .before .before .before .before .before)) }
 
-mul-run-box-3 : tie.Need-mul-run-box-3 Inv-loop μ-loop
-mul-run-box-3 c = record { fits = omega (arith, d<16 (c .before .before .before .before)) }
+element-copy-out-by-side-2 : tie.Need-element-copy-out-by-side-2 Inv-loop μ-loop
+element-copy-out-by-side-2 c = d<16 (c .before .before .before .before .before)
 
-array-copy-out-run-box : tie.Need-array-copy-out-run-box Inv-loop μ-loop
-array-copy-out-run-box c = d<16 (c .before .before .before .before)
+by-side-requires-2 : tie.Need-by-side-requires-2 Inv-loop μ-loop
+by-side-requires-2 c κs = tt
 
 -- the level's item has a place
 item : (c : tie.In-loop Inv-loop μ-loop) → levelAt (Of (c .before) .args .t1) (c .before .loop .d) < 16
 item c = let s = Of (c .before) in item<16 (s .args .t1) (s .pre .0 .setting) (s .pre .1 .0 .long) (c .before .loop .d) (c .loop-test .taken)
 
-run-box-requires : tie.Need-run-box-requires Inv-loop μ-loop
-run-box-requires c κs = item (c .before .before .before .before .before)
-
 -- where a turn of the loop began
-abbrev Turn : tie.After-run-box Inv-loop μ-loop → tie.In-loop Inv-loop μ-loop
-Turn c = c .before .before .before .before .before .before
+abbrev Turn : tie.After-by-side2 Inv-loop μ-loop → tie.In-loop Inv-loop μ-loop
+Turn c = c .before .before .before .before .before .before .before
 
--- the box of the run
-run-is : (c : tie.After-run-box Inv-loop μ-loop) → c .run-box .result ≡ runEnds (Of (Turn c .before) .args .t1) (at (Of (Turn c .before) .args .t .place)) (at (Of (Turn c .before) .args .t .starts) (Turn c .before .loop .d)) (Turn c .before .loop .d)
-run-is c =
+-- the ends of the run
+low-is : (c : tie.After-by-side2 Inv-loop μ-loop) → c .before .before .by-side .result ≡ bySide (at (Of (Turn c .before) .args .t .place) (Turn c .before .loop .d)) (at (Of (Turn c .before) .args .t .starts) (Turn c .before .loop .d)) (at (Of (Turn c .before) .args .t1 .low) (Turn c .before .loop .d)) (at (Of (Turn c .before) .args .t .place) (Turn c .before .loop .d))
+low-is c =
     let l = Turn c .before in
     let s = Of l in
     let d = l .loop .d in
-    let e = rw (back (at (s .args .t .place) d) (c .before .before .before .before .before .a .given), back (at (s .args .t1 .low) d) (c .before .before .before .run-box-arg .given), back (at (s .args .t1 .high) d) (c .before .before .run-box-arg2 .given), back (at (s .args .t .starts) d) (c .before .run-box-arg3 .given)) at (c .run-box .ensures) in
-    e ∙ ap (λ e. runBox e (levelAt (s .args .t1) d) (at (s .args .t1 .low) d) (at (s .args .t1 .high) d) (at (s .args .t .place) d) (at (s .args .t .starts) d)) (l .loop .inv .1)
+    let b = c .before .before in
+    rw (back (at (s .args .t .place) d) (b .before .before .before .before .a .given), back (at (s .args .t .starts) d) (b .before .before .before .b .given), back (at (s .args .t1 .low) d) (b .before .by-side-arg .given)) at (b .by-side .ensures)
+
+high-is : (c : tie.After-by-side2 Inv-loop μ-loop) → c .by-side2 .result ≡ bySide (at (Of (Turn c .before) .args .t .place) (Turn c .before .loop .d)) (at (Of (Turn c .before) .args .t .starts) (Turn c .before .loop .d)) (at (Of (Turn c .before) .args .t .place) (Turn c .before .loop .d)) (at (Of (Turn c .before) .args .t1 .high) (Turn c .before .loop .d))
+high-is c =
+    let l = Turn c .before in
+    let s = Of l in
+    let d = l .loop .d in
+    let b = c .before .before in
+    rw (back (at (s .args .t .place) d) (b .before .before .before .before .a .given), back (at (s .args .t .starts) d) (b .before .before .before .b .given), back (at (s .args .t1 .high) d) (c .before .by-side-arg2 .given)) at (c .by-side2 .ensures)
+
+-- the box of the run, as it is written
+abbrev Ran : tie.After-by-side2 Inv-loop μ-loop → Ends
+Ran c = spanned (Turn c .before .loop .e) (levelAt (Of (Turn c .before) .args .t1) (Turn c .before .loop .d)) (toZ w64 (ofZ w64 (c .before .before .by-side .result))) (toZ w64 (ofZ w64 (c .by-side2 .result)))
+
+run-is : (c : tie.After-by-side2 Inv-loop μ-loop) → Ran c ≡ runEnds (Of (Turn c .before) .args .t1) (at (Of (Turn c .before) .args .t .place)) (at (Of (Turn c .before) .args .t .starts) (Turn c .before .loop .d)) (Turn c .before .loop .d)
+run-is c =
+    let b = c .before .before in
+    let l = Turn c .before in
+    let s = Of l in
+    let d = l .loop .d in
+    let k = levelAt (s .args .t1) d in
+    ap₂ (λ (x y : ℤ). spanned (l .loop .e) k x y) (back (b .by-side .result) (b .by-side .ok) ∙ low-is c) (back (c .by-side2 .result) (c .by-side2 .ok) ∙ high-is c)
+    ∙ ap (λ e. runBox e k (at (s .args .t1 .low) d) (at (s .args .t1 .high) d) (at (s .args .t .place) d) (at (s .args .t .starts) d)) (l .loop .inv .1)
+
+mul-l : tie.Need-mul-l Inv-loop μ-loop
+mul-l c = record { fits = omega (arith, item (Turn c)) }
+
+element-set-from-l : tie.Need-element-set-from-l Inv-loop μ-loop
+element-set-from-l c = item (Turn c)
+
+mul-h : tie.Need-mul-h Inv-loop μ-loop
+mul-h c = record { fits = omega (arith, item (Turn c)) }
+
+element-set-from-h : tie.Need-element-set-from-h Inv-loop μ-loop
+element-set-from-h c = item (Turn c)
 
 mul-cut : tie.Need-mul-cut Inv-loop μ-loop
 mul-cut c = record { fits = omega (arith, d<16 (Turn c)) }
@@ -104,8 +147,8 @@ returns c =
     let s = Of l in
     (Turn b .loop-test .taken, (refl, ap (λ e. cutBy (s .args .t1 .cols) (latticeAt (s .args .t1 .lattice) (l .loop .d)) e (s .args .best)) (sym (run-is b)) ∙ sym (c .before .cut .ensures) ∙ c .if1 .taken))
 
-add-t41 : tie.Need-add-t41 Inv-loop μ-loop
-add-t41 c = record { fits = omega (arith, d<16 (Turn (c .before .before .before .before))) }
+add-t46 : tie.Need-add-t46 Inv-loop μ-loop
+add-t46 c = record { fits = omega (arith, d<16 (Turn (c .before .before .before .before))) }
 
 -- the level that a pair discards
 returns-2 : tie.Need-returns-2 Inv-loop μ-loop
@@ -117,26 +160,38 @@ returns-2 c =
     let q = c .if2 .taken in
     (omega (arith, i .loop-test .taken), inr (refl, (l .loop .d, add-one (l .loop .d), subst (λ k. Applies (s .args .t1) (s .args .p) (at (s .args .t .place)) k) (sym q) (f .ensures .here (omega (arith, q, i .loop-test .taken))))))
 
-span-requires : tie.Need-span-requires Inv-loop μ-loop
-span-requires c κs = item (Turn (c .before .before .before .before))
+mul-a-2 : tie.Need-mul-a-2 Inv-loop μ-loop
+mul-a-2 c = record { fits = omega (arith, item (Turn (c .before .before .before .before))) }
+
+element-set-from-a : tie.Need-element-set-from-a Inv-loop μ-loop
+element-set-from-a c = item (Turn (c .before .before .before .before))
+
+mul-a-3 : tie.Need-mul-a-3 Inv-loop μ-loop
+mul-a-3 c = record { fits = omega (arith, item (Turn (c .before .before .before .before))) }
+
+element-set-from-a-2 : tie.Need-element-set-from-a-2 Inv-loop μ-loop
+element-set-from-a-2 c = item (Turn (c .before .before .before .before))
 
 add-d : tie.Need-add-d Inv-loop μ-loop
-add-d c = record { fits = omega (arith, d<16 (Turn (c .before .before .before .before .before))) }
+add-d c = record { fits = omega (arith, d<16 (Turn (c .before .before .before .before))) }
 
 loop-less : tie.Need-loop-less Inv-loop μ-loop
-loop-less c = let i = Turn (c .before .before .before .before .before) in omega (arith, i .loop-test .taken)
+loop-less c = let i = Turn (c .before .before .before .before) in omega (arith, i .loop-test .taken)
+
+-- ends written twice are those written last
+rewritten : (e : Ends) (k : ℕ) (l h u : ℤ) → spanned (spanned e k l h) k u u ≡ spanned e k u u
+rewritten e k l h u = ap₂ (λ (x y : List ℤ). record { lo = x; hi = y }) (set-set (e .lo) k l u) (set-set (e .hi) k h u)
 
 loop-again : tie.Need-loop-again Inv-loop μ-loop
 unfolding fixedBy
 loop-again c =
-    let b = c .before .before .before .before .before in
+    let b = c .before .before .before .before in
     let i = Turn b in
     let l = i .before in
     let s = Of l in
     let x = at (s .args .t .place) (l .loop .d) in
-    let e = rw (back x (b .before .before .before .before .before .a .given)) at (c .span .ensures) in
-    let f = e ∙ ap (λ e. spanned e (levelAt (s .args .t1) (l .loop .d)) x x) (l .loop .inv .1) in
-    (omega (arith, i .loop-test .taken), rw add-one f)
+    let k = levelAt (s .args .t1) (l .loop .d) in
+    (omega (arith, i .loop-test .taken), rw (add-one, back x (b .before .before .before .before .before .before .a .given)) (rewritten (l .loop .e) k (toZ w64 (ofZ w64 (b .before .before .by-side .result))) (toZ w64 (ofZ w64 (b .by-side2 .result))) x ∙ ap (λ e. spanned e k x x) (l .loop .inv .1)))
 
 tried-requires : tie.Need-tried-requires Inv-loop μ-loop
 tried-requires c κs =
@@ -162,22 +217,30 @@ look-spec =
     loop-holds
     mul-a
     array-copy-out-a
+    mul-b
+    array-copy-out-b
     mul-i
     element-copy-out-i
-    mul-run-box
-    element-copy-out-run-box
-    mul-run-box-2
-    element-copy-out-run-box-2
-    mul-run-box-3
-    array-copy-out-run-box
-    run-box-requires
+    mul-by-side
+    element-copy-out-by-side
+    by-side-requires
+    mul-by-side-2
+    element-copy-out-by-side-2
+    by-side-requires-2
+    mul-l
+    element-set-from-l
+    mul-h
+    element-set-from-h
     mul-cut
     element-copy-out-cut
     cut-requires
     returns
-    add-t41
+    add-t46
     returns-2
-    span-requires
+    mul-a-2
+    element-set-from-a
+    mul-a-3
+    element-set-from-a-2
     add-d
     loop-less
     loop-again

@@ -1,0 +1,85 @@
+-- `search::hopeless` meets its contract: the tests are those of the definition, in its order.
+use mathlib.Core.Path.{_≡_, sym, ap, ap₂, _∙_}
+use native.Mathlib.Omega.{arith}
+use Prim.Native.Nat.{_<_}
+use lib.IntN.{ℤ, pos, negsuc, natAbs}
+use lib.Signed.{_<ℤ_}
+use mir.Facts.{toZ-ofZ}
+use Rattle.arith.specs.Mixed.{lessMixed}
+use Rattle.arith.proofs.Parts.{zs, within-more, within-abs, within-back}
+use Rattle.arith.proofs.Words.{back}
+use Rattle.greedy.specs.Fill.{sharedBy}
+use Rattle.search.proofs.Bounds.{shared-proper}
+use borrow.Author.Needs.{needs}
+use Rattle.search.proofs.hopeless.Statement.{statement}
+use Rattle.search.proofs.hopeless.Tie as tie
+
+magnitude-requires : tie.Need-magnitude-requires
+magnitude-requires c κs = rw (toZ-ofZ (c .fits .size)) (within-more (omega arith) (c .pre .steep .size-in))
+
+magnitude-requires-2 : tie.Need-magnitude-requires-2
+magnitude-requires-2 c κs = rw (toZ-ofZ (c .before .fits .rate)) (within-more (omega arith) (c .before .pre .steep .rate-in))
+
+size-is : (c : tie.After-magnitude) → c .magnitude .result ≡ natAbs (c .before .args .size)
+size-is c = rw (toZ-ofZ (c .before .fits .size)) at (c .magnitude .ensures)
+
+rate-is : (c : tie.After-magnitude2) → c .magnitude2 .result ≡ natAbs (c .before .before .args .rate)
+rate-is c = rw (toZ-ofZ (c .before .before .fits .rate)) at (c .magnitude2 .ensures)
+
+-- the size is at least 1
+above-zero : (z : ℤ) → pos 0 <ℤ z → 0 < natAbs z
+above-zero (pos n) h = omega (arith, zs)
+above-zero (negsuc n) h = omega arith
+
+size≥1 : (s : tie.Start) → 0 < natAbs (s .args .size)
+size≥1 s = above-zero (s .args .size) (s .pre .steep .size≥1)
+
+share-requires : tie.Need-share-requires
+share-requires c κs =
+    let s = c .before .before in
+    record {
+      room-in = s .pre .room-in;
+      worth-in = s .pre .steep .worth-in;
+      size-in = omega (arith, size-is (c .before), size≥1 s);
+      rate-in = omega (arith, rate-is c, within-abs (s .args .rate) (s .pre .steep .rate-in));
+    }
+
+-- what is promised
+promise : (c : tie.After-share) → c .share .result ≡ sharedBy (c .before .before .before .args .f) (natAbs (c .before .before .before .args .size)) (natAbs (c .before .before .before .args .rate))
+promise c = c .share .ensures ∙ ap₂ (sharedBy (c .before .before .before .args .f)) (size-is (c .before .before)) (rate-is (c .before))
+
+less-requires : tie.Need-less-requires
+less-requires c κs =
+    let s = c .before .before .before in
+    (s .pre .proper, rw (promise c) (shared-proper (s .args .f) (natAbs (s .args .size)) (natAbs (s .args .rate)) (size≥1 s) (within-abs (s .args .size) (s .pre .steep .size-in))))
+
+-- what the comparison said
+less-is : (c : tie.After-less) → c .less .result ≡ lessMixed (c .before .before .before .before .args .b) (sharedBy (c .before .before .before .before .args .f) (natAbs (c .before .before .before .before .args .size)) (natAbs (c .before .before .before .before .args .rate)))
+less-is c = c .less .ensures ∙ ap (lessMixed (c .before .before .before .before .args .b)) (promise (c .before))
+
+barren-requires : tie.Need-barren-requires
+barren-requires c κs =
+    let s = c .before .before .before .before .before .before .before .before in
+    rw (within-back tt (s .pre .steep .worth-in), toZ-ofZ (s .fits .rate), toZ-ofZ (s .fits .size), within-back tt (s .pre .room-in)) (s .pre .tame, (s .pre .steep, s .pre .room-in))
+
+returns : tie.Need-returns
+returns c =
+    let h = c .before .before .before .before in
+    let s = h .before .before .before .before .before in
+    let e = rw (within-back tt (s .pre .steep .worth-in), toZ-ofZ (s .fits .rate), toZ-ofZ (s .fits .size), within-back tt (s .pre .room-in), back (s .args .b .whole) (c .before .struct-told3 .given .0 .1)) at (c .barren .ensures) in
+    rw (sym (less-is (h .before)) ∙ h .if1 .taken) e
+
+returns-2 : tie.Need-returns-2
+returns-2 c = rw (sym (less-is (c .before)) ∙ c .if1 .left)
+
+pub hopeless-spec : {M : Type 1} → statement M
+hopeless-spec =
+    tie.close
+    (tie.spec
+    magnitude-requires
+    magnitude-requires-2
+    share-requires
+    less-requires
+    barren-requires
+    returns
+    returns-2)
