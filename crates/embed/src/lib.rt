@@ -1,26 +1,19 @@
 // Entries for programs in C and Rust, on bytes and numbers: a sheet's verdict, its reply in a lent buffer, and how many steps its search
 // takes. bench/charge.h declares them. Paper 01, "The sheet" and "What `charge` prints". Nothing is asked of a caller but that each
 // pointer has as many bytes behind it as the length beside it says.
-use greedy::begin;
-use knapsack::Problem;
 use knapsack::Verdict;
-use knapsack::check_record;
 use listing::Listed;
 use listing::ROOM;
 use listing::hand_over;
-use pairing::pairs_of;
-use prepare::narrowed;
-use prepare::prepare;
-use prepare::reach_of;
-use rays::find_ray;
+use planner::solve;
 use replies::reply_to;
-use search::run;
 use sheet::Reading;
 use sheet::read;
 ghost use mathlib.Core.Path.{_≡_};
-ghost use Rattle.knapsack.specs.Records.{InRange, verdict};
+ghost use Rattle.knapsack.specs.declared.Verdict.the-variants.{Accepted};
+ghost use Rattle.knapsack.specs.Records.{InRange};
 ghost use Rattle.sheet.specs.Reading.{readSheet};
-ghost use Rattle.embed.specs.Entries.{numberOf, lineOf, lengthOf, Plans, UnlessRefused};
+ghost use Rattle.embed.specs.Entries.{numberOf, lineOf, lengthOf, Plans, Steps};
 
 // 01's number of a refusal, 0 where there is none.
 fn number_of(v: Verdict) -> u64
@@ -52,44 +45,18 @@ fn length_of(w: Listed) -> usize
     }
 }
 
-// The steps of the search for a problem in range; none where its lightest point is too heavy, or where it has a ray.
-fn searched(p: Problem) -> u64
-    requires { ⌜ InRange p ⌝ }
-{
-    let s = prepare(p);
-    let f = begin(s.cols, s.ends);
-    if f.room < 0 {
-        return 0;
-    }
-    let ray = find_ray(p);
-    if ray.found {
-        return 0;
-    }
-    let near = narrowed(s, reach_of(p));
-    let pairs = pairs_of(p);
-    let q = run(near, pairs);
-    q.steps
-}
-
-// The same for any record.
-fn steps_for(p: Problem) -> u64
-    ensures { λ r. ⌜ UnlessRefused (verdict p) r ⌝ }
-{
-    let v = check_record(p);
-    match v {
-        Verdict::Accepted => searched(p),
-        Verdict::Refused(_) => 0,
-    }
-}
-
-// The same for what was read.
+// The steps of the search for what was read.
 fn steps_of(r: Reading) -> u64
-    ensures { λ n. ⌜ UnlessRefused (r .verdict) n ⌝ }
+    requires { ⌜ (r .verdict ≡ Accepted → InRange (r .problem)) ⌝ }
+    ensures { λ n. ⌜ Steps r n ⌝ }
 {
     let v = r.verdict;
     let p = r.problem;
     match v {
-        Verdict::Accepted => steps_for(p),
+        Verdict::Accepted => {
+            let q = solve(p);
+            q.steps
+        }
         Verdict::Refused(_) => 0,
     }
 }
@@ -130,7 +97,7 @@ pub extern "C" fn charge_plan(sheet: &[u8], out: &mut [u8]) -> usize
 // The steps of the search for a sheet; none where it is refused, or where no search is needed.
 #[no_mangle]
 pub extern "C" fn charge_steps(sheet: &[u8]) -> u64
-    ensures { λ r. ⌜ UnlessRefused (readSheet (now (sheet .entry)) .verdict) r ⌝ }
+    ensures { λ r. ⌜ Steps (readSheet (now (sheet .entry))) r ⌝ }
 {
     let r = read(sheet);
     steps_of(r)

@@ -1,10 +1,13 @@
 -- The answers that a search and a ray are turned into.
 --   Joinable v        the value v fits one number of parts
 --   Cornered s d a    a shows the light ends of the box and the steps d, and no value
+--   Counts p a n      n steps were taken for the answer a
+--   Solves p r        r is the answer of p, with the steps of its search
 --   Best s x a        a shows the relaxation of the place x and its value in lowest terms, and no steps
 use mathlib.Core.Path.{_≡_}
 use mathlib.Core.List.{List}
-use Prim.Native.Nat.{_≤_}
+use mathlib.Core.Logic.{_⊎_}
+use Prim.Native.Nat.{ℕ, _≤_}
 use lib.IntN.{ℤ, pos, _*ℤ_}
 use lib.ListN.{replicate}
 use Rattle.arith.specs.Within.{Within}
@@ -15,11 +18,20 @@ use Rattle.amounts.specs.Amounts.{Amounts}
 use Rattle.greedy.specs.declared.Ends.{Ends}
 use Rattle.greedy.specs.declared.Fill.{Fill}
 use Rattle.greedy.specs.Fill.{at, fill, bound}
-use Rattle.knapsack.specs.Meaning.{nought}
+use Rattle.knapsack.specs.Meaning.{nought, instanceOf, Answers}
 use Rattle.knapsack.specs.declared.Answer.{Answer}
+use Rattle.knapsack.specs.declared.Kind.{Kind}
 use Rattle.knapsack.specs.declared.Kind.the-variants as kind
+use Rattle.knapsack.specs.declared.Problem.{Problem}
+use Rattle.pairing.specs.Tables.{PairsOf}
+use Rattle.prepare.specs.Narrowing.{reachOf}
+use Rattle.prepare.specs.Prepared.{PreparedAt}
+use Rattle.search.specs.declared.Pairs.{Pairs}
 use Rattle.search.specs.declared.Setting.{Setting}
+use Rattle.search.specs.declared.State.{State}
 use Rattle.search.specs.Search.{fixedBy}
+use Rattle.search.specs.Steps.{Took}
+use Rattle.planner.specs.declared.Solved.{Solved}
 
 pub record Joinable (v : Mixed) : Type 0 where
   pub whole-in : Within 201000000000000000 (v .whole)
@@ -51,3 +63,29 @@ pub record Best (s : Setting) (x : List ℤ) (a : Answer) : Type 0 where
   pub point-is : Amounts (s .cols) (boxAt s x) (fillAt s x) (valueAt s x .parts) (a .point)
   pub steps-are : a .steps ≡ replicate 16 (pos 0)
   pub value-is : a .value ≡ lowest (over (valueAt s x)) (valueAt s x .parts)
+
+-- ---- the answer of a problem, and the steps of its search
+
+-- n steps were taken by a search of p's own setting, narrowed to p's reach
+pub record Walked (p : Problem) (n : ℕ) : Type 0 where
+  pub setting : Setting
+  pub prepared : PreparedAt (reachOf p) p setting
+  pub pairs : Pairs
+  pub pairs-are : PairsOf p pairs
+  pub end : State
+  pub took : Took setting pairs end
+  pub steps-are : n ≡ end .steps
+
+-- an answer that can be given without a search; an optimum is always searched for
+abbrev pub Unsearched : Kind → Type 0
+Unsearched kind.Optimal = ⊥
+Unsearched kind.Infeasible = Unit {0}
+Unsearched kind.Unbounded = Unit {0}
+Unsearched (kind.Refused f) = ⊥
+
+abbrev pub Counts : Problem → Answer → ℕ → Type 0
+Counts p a n = (Unsearched (a .kind) × (n ≡ 0)) ⊎ Walked p n
+
+pub record Solves (p : Problem) (r : Solved) : Type 0 where
+  pub answers : Answers (instanceOf p) (r .answer)
+  pub counts : Counts p (r .answer) (r .steps)

@@ -26,9 +26,9 @@ ghost use Rattle.arith.proofs.Mixes.{over};
 ghost use Rattle.greedy.specs.Fill.{at};
 ghost use Rattle.greedy.specs.Sized.{Sized};
 ghost use Rattle.knapsack.specs.Records.{InRange};
-ghost use Rattle.knapsack.specs.Meaning.{instanceOf, bare, Answers, Planned};
+ghost use Rattle.knapsack.specs.Meaning.{bare, Planned};
 ghost use Rattle.search.specs.Ready.{ReadySetting, Inside};
-ghost use Rattle.planner.specs.Outcomes.{Joinable, Cornered, Best};
+ghost use Rattle.planner.specs.Outcomes.{Joinable, Cornered, Best, Solves};
 
 // A value as one number of parts.
 fn joined(v: Mixed) -> i64
@@ -92,20 +92,28 @@ fn optimal(s: Setting, x: [i64; 16]) -> Answer
     }
 }
 
-// The answer of a problem in range.
-pub fn solve(p: Problem) -> Answer
+// An answer, and how many steps its search took.
+pub struct Solved {
+    pub answer: Answer,
+    pub steps: u64,
+}
+
+// The answer of a problem in range. No search is needed where its lightest point is too heavy, or where it has a ray.
+pub fn solve(p: Problem) -> Solved
     requires { ⌜ InRange p ⌝ }
-    ensures { λ r. ⌜ Answers (instanceOf p) r ⌝ }
+    ensures { λ r. ⌜ Solves p r ⌝ }
 {
     let s = prepare(p);
     let f = begin(s.cols, s.ends);
     if f.room < 0 {
-        return no_point(Kind::Infeasible);
+        let a = no_point(Kind::Infeasible);
+        return with_steps(a, 0);
     }
     let ray = find_ray(p);
     if ray.found {
         let steps = ray.steps;
-        return unbounded(s, steps);
+        let a = unbounded(s, steps);
+        return with_steps(a, 0);
     }
     let near = narrowed(s, reach_of(p));
     let pairs = pairs_of(p);
@@ -113,9 +121,20 @@ pub fn solve(p: Problem) -> Answer
     let best = q.best;
     if best.found {
         let place = best.place;
-        return optimal(near, place);
+        let a = optimal(near, place);
+        return with_steps(a, q.steps);
     }
-    no_point(Kind::Infeasible)
+    let a = no_point(Kind::Infeasible);
+    with_steps(a, q.steps)
+}
+
+fn with_steps(a: Answer, n: u64) -> Solved
+    ensures { λ r. ⌜ r ≡ record { answer = a; steps = n } ⌝ }
+{
+    Solved {
+        answer: a,
+        steps: n,
+    }
 }
 
 // The planner's reply to any record.
@@ -124,7 +143,10 @@ pub fn plan(p: Problem) -> Answer
 {
     let v = check_record(p);
     match v {
-        Verdict::Accepted => solve(p),
+        Verdict::Accepted => {
+            let r = solve(p);
+            r.answer
+        }
         Verdict::Refused(f) => no_point(Kind::Refused(f)),
     }
 }

@@ -106,7 +106,8 @@ fn relaxed_answer(p: Problem) -> Answer
     ensures { λ r. ⌜ Answers (relaxed (instanceOf p)) r ⌝ }
 {
     let q = loosen(p);
-    solve(q)
+    let r = solve(q);
+    r.answer
 }
 
 // The core: the record check, then the relaxation, and the items in order.

@@ -2,11 +2,14 @@
 --   Dived s j p r     r is p with the levels from j on at their starts
 --   Looked s p t b r  what a look at a place may have settled, and the incumbent after it
 --   Stepped s p q r   a step from q to r
+--   After s p n q     q after n steps from the first place on; each counts one
+--   Took s p r        r is where a search ends, with the steps that it took
 use mathlib.Core.Path.{_≡_}
-use mathlib.Core.Bool.{true, false}
+use mathlib.Core.Bool.{true, false, cond}
 use mathlib.Core.Logic.{_⊎_}
 use mathlib.Core.Option.{Option, none, some}
-use Prim.Native.Nat.{ℕ, suc, _≤_, _<_}
+use Prim.Native.Nat.{ℕ, zero, suc, _+_, _≤_, _<_}
+use lib.Dec.{ltb}
 use lib.IntN.{ℤ, pos}
 use lib.ListN.{length, set, replicate}
 use lib.Signed.{_≤ℤ_}
@@ -100,7 +103,32 @@ abbrev pub WentOn : Setting → State → Option (ℕ × ℤ) → State → Type
 WentOn s q none r = (r .done ≡ true) × (r .path ≡ q .path)
 WentOn s q (some m) r = (r .done ≡ false) × Turned s (q .path) (m .0) (m .1) (r .path)
 
+-- one more, as long as it fits
+abbrev pub countedBy : ℕ → ℕ
+countedBy n = cond (ltb n 18446744073709551615) (n + 1) n
+
 pub record Stepped (s : Setting) (p : Pairs) (q r : State) : Type 0 where
   pub verdict : Settled
   pub looked : LookedAs s p (q .path) (q .best) (r .best) verdict
   pub went : WentOn s q (pastOf verdict (at (s .low)) (at (s .high)) (at (q .path .starts)) (at (q .path .place))) r
+  pub counted : r .steps ≡ countedBy (q .steps)
+
+-- ---- a whole search
+
+-- at the first place, with no step taken and nothing found
+pub record Begun (s : Setting) (q : State) : Type 0 where
+  pub first : (d : ℕ) → d < s .levels → at (q .path .place) d ≡ startBy s (at (q .path .place)) d
+  pub nothing : q .best ≡ nobody
+  pub no-steps : q .steps ≡ 0
+  pub going : q .done ≡ false
+
+-- q after n steps
+unfoldable pub After : Setting → Pairs → ℕ → State → Type 0
+After s p zero q = Begun s q
+After s p (suc n) r = (q : State) × (After s p n q × ((q .done ≡ false) × Stepped s p q r))
+
+-- r is where a search ends
+pub record Took (s : Setting) (p : Pairs) (r : State) : Type 0 where
+  pub count : ℕ
+  pub after : After s p count r
+  pub over : r .done ≡ true

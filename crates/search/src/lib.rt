@@ -26,7 +26,7 @@ ghost use Rattle.greedy.specs.Fill.{at};
 ghost use Rattle.lattice.specs.Lattice.{Tame};
 ghost use Rattle.search.specs.Search.{fixedBy, bySide, hopelessBy, cutBy, triedBy, Stays, Removable, Decides, FirstPaired};
 ghost use Rattle.search.specs.Ready.{ReadySetting, Ready, Inside, InsideTo, Searched};
-ghost use Rattle.search.specs.Steps.{Dived, Promises, Judges, ProperBest, Started, Looked, nobody, Turnable, Turned, Stepped};
+ghost use Rattle.search.specs.Steps.{Dived, Promises, Judges, ProperBest, Started, Looked, nobody, Turnable, Turned, countedBy, Stepped, Took};
 
 // What does not change during a search: the columns, the box by item, and by level the item, its ends, and the lattice of what the
 // items from that level on change, where no continuous item is free.
@@ -304,7 +304,9 @@ pub fn no_incumbent() -> Incumbent
 }
 
 // One more, as long as it fits.
-pub fn counted(n: u64) -> u64 {
+pub fn counted(n: u64) -> u64
+    ensures { λ r. ⌜ r ≡ countedBy n ⌝ }
+{
     if n < 18446744073709551615 { n + 1 } else { n }
 }
 
@@ -355,10 +357,10 @@ pub fn step(s: Setting, p: Pairs, q: State) -> State
     }
 }
 
-// The search from its first place on: the best place of the box, or that there is none.
+// The search from its first place on: the best place of the box, or that there is none, and how many steps that took.
 pub fn run(s: Setting, p: Pairs) -> State
     requires { ⌜ Ready s p ⌝ }
-    ensures { λ r. ⌜ Searched s (r .best) ⌝ }
+    ensures { λ r. ⌜ Searched s (r .best) × Took s p r ⌝ }
 {
     let zero = Path {
         place: [0; 16],

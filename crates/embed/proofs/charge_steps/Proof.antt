@@ -1,19 +1,30 @@
--- `embed::charge_steps` meets its contract.
-use mathlib.Core.Path.{subst}
+-- `embed::charge_steps` meets its contract: an accepted sheet's problem is in range.
+use mathlib.Core.Path.{_≡_, ap, subst}
+use mathlib.Core.List.{List}
+use Prim.Native.Nat.{ℕ}
 use borrow.Author.Needs.{needs}
+use Rattle.knapsack.specs.Records.{InRange}
+use Rattle.knapsack.specs.declared.Verdict.{Verdict}
+use Rattle.knapsack.specs.declared.Verdict.the-variants.{Accepted}
+use Rattle.knapsack.proofs.Items.{accepted}
 use Rattle.sheet.specs.declared.Reading.{Reading}
-use Rattle.embed.specs.Entries.{UnlessRefused}
+use Rattle.sheet.specs.Reading.{readSheet}
+use Rattle.sheet.proofs.Sheets.{accepted-sheet}
+use Rattle.embed.specs.Entries.{Steps}
 use Rattle.embed.proofs.charge_steps.Statement.{statement}
 use Rattle.embed.proofs.charge_steps.Tie as tie
+
+in-range : (s : List ℕ) → readSheet s .verdict ≡ Accepted → InRange (readSheet s .problem)
+in-range s h = let p = readSheet s .problem in accepted p (accepted-sheet s p (ap (λ (v : Verdict). record { verdict = v; problem = p }) h) .fair)
 
 read-requires : tie.Need-read-requires
 read-requires c κs = search needs
 
 steps-of-requires : tie.Need-steps-of-requires
-steps-of-requires c κs = search needs
+steps-of-requires c κs = rw (c .read .ensures) (in-range _)
 
 returns : tie.Need-returns
-returns c = subst (λ (x : Reading). UnlessRefused (x .verdict) (c .steps-of .result)) (c .before .read .ensures) (c .steps-of .ensures)
+returns c = subst (λ (x : Reading). Steps x (c .steps-of .result)) (c .before .read .ensures) (c .steps-of .ensures)
 
 pub charge-steps-spec : {M : Type 1} → statement M
 charge-steps-spec = tie.close (tie.spec read-requires steps-of-requires returns)

@@ -7,17 +7,17 @@ use Rattle.embed.proofs.steps_of.Tie as tie
 enum-told : tie.Need-enum-told
 enum-told c = search needs
 
-steps-for-requires : tie.Need-steps-for-requires
-steps-for-requires c κs = search needs
+solve-requires : tie.Need-solve-requires
+solve-requires c κs = c .before .before .before .pre (c .enum-told .given .1)
 
 enum-told-2 : tie.Need-enum-told-2
 enum-told-2 c = search needs
 
 returns : tie.Need-returns
-returns c = rw (c .before .enum-told .given .1) tt
+returns c = rw (c .before .enum-told .given .1) (c .solve .result, (c .solve .ensures, refl))
 
 returns-2 : tie.Need-returns-2
 returns-2 c = rw (c .enum-told2 .given .1) refl
 
 pub steps-of-spec : {M : Type 1} → statement M
-steps-of-spec = tie.close (tie.spec enum-told steps-for-requires enum-told-2 returns returns-2)
+steps-of-spec = tie.close (tie.spec enum-told solve-requires enum-told-2 returns returns-2)

@@ -1,6 +1,7 @@
 -- `planner::solve` meets its contract.
-use mathlib.Core.Path.{subst}
+use mathlib.Core.Path.{refl, subst}
 use mathlib.Core.Bool.{true}
+use mathlib.Core.Logic.{inl, inr}
 use borrow.Author.Needs.{needs}
 use Rattle.arith.proofs.Parts.{within-back}
 use Rattle.arith.proofs.Words.{yes-lt, no-lt}
@@ -8,6 +9,7 @@ use Rattle.greedy.specs.Fill.{begun}
 use Rattle.prepare.specs.Narrowing.{reachOf, Narrowed}
 use Rattle.prepare.specs.Prepared.{PreparedAt}
 use Rattle.prepare.proofs.Nearer.{reach-small, narrowed-prepared}
+use Rattle.planner.specs.Outcomes.{Walked}
 use Rattle.planner.proofs.Outcomes.{infeasible-corner, unbounded-corner, infeasible-searched, optimal-found}
 use Rattle.planner.proofs.Values.{begun-within}
 use Rattle.planner.proofs.solve.Statement.{statement}
@@ -22,14 +24,18 @@ begin-requires c κs = c .prepare .ensures .ready .sized
 no-point-requires : tie.Need-no-point-requires
 no-point-requires c κs = search needs
 
+with-steps-requires : tie.Need-with-steps-requires
+with-steps-requires c κs = search needs
+
 returns : tie.Need-returns
 returns c =
-    let b = c .before .before .before .before in
+    let h = c .before in
+    let b = h .before .before .before .before in
     let a = b .before in
     let q = a .prepare .ensures in
     let s = a .prepare .result in
-    let t = rw (b .begin .ensures, within-back tt (begun-within (s .cols) (s .ends) (q .ready .sized))) at (c .before .if1 .taken) in
-    rw (c .no-point .ensures) (infeasible-corner (a .before .args .p) (a .before .pre) s q (yes-lt t))
+    let t = rw (b .begin .ensures, within-back tt (begun-within (s .cols) (s .ends) (q .ready .sized))) at (h .before .if1 .taken) in
+    rw (c .with-steps .ensures, h .no-point .ensures) (record { answers = infeasible-corner (a .before .args .p) (a .before .pre) s q (yes-lt t); counts = inl (tt, refl) })
 
 find-ray-requires : tie.Need-find-ray-requires
 find-ray-requires c κs = search needs
@@ -37,9 +43,13 @@ find-ray-requires c κs = search needs
 unbounded-requires : tie.Need-unbounded-requires
 unbounded-requires c κs = c .before .before .before .before .before .before .before .prepare .ensures .ready .sized
 
+with-steps-requires-2 : tie.Need-with-steps-requires-2
+with-steps-requires-2 c κs = search needs
+
 returns-2 : tie.Need-returns-2
 returns-2 c =
-    let t2 = c .before .before in
+    let u = c .before in
+    let t2 = u .before .before in
     let r = t2 .before in
     let e = r .before in
     let b = e .before .before .before in
@@ -47,7 +57,10 @@ returns-2 c =
     let q = a .prepare .ensures in
     let s = a .prepare .result in
     let t = rw (b .begin .ensures, within-back tt (begun-within (s .cols) (s .ends) (q .ready .sized))) at (e .if1 .left) in
-    unbounded-corner (a .before .args .p) (a .before .pre) s q (r .find-ray .result) (c .unbounded .result) (no-lt t) (r .find-ray .ensures) (t2 .if2 .taken) (c .unbounded .ensures)
+    rw (c .with-steps2 .ensures) (record {
+      answers = unbounded-corner (a .before .args .p) (a .before .pre) s q (r .find-ray .result) (u .unbounded .result) (no-lt t) (r .find-ray .ensures) (t2 .if2 .taken) (u .unbounded .ensures);
+      counts = inl (rw (u .unbounded .ensures .kind-is) tt, refl);
+    })
 
 reach-of-requires : tie.Need-reach-of-requires
 reach-of-requires c κs = search needs
@@ -82,32 +95,59 @@ optimal-requires : tie.Need-optimal-requires
 unfolding Prep
 optimal-requires c κs =
     let n = c .before .before .before in
-    (near (n .before .before) .ready, n .run .ensures .inside (c .before .if3 .taken))
+    (near (n .before .before) .ready, n .run .ensures .0 .inside (c .before .if3 .taken))
+
+with-steps-requires-3 : tie.Need-with-steps-requires-3
+with-steps-requires-3 c κs = search needs
+
+-- the search's own count
+walked : (n : tie.After-run) → Walked (Prep (n .before .before .before .before) .before .args .p) (n .run .result .steps)
+unfolding Prep
+walked n = record {
+  setting = n .before .before .narrowed .result;
+  prepared = near (n .before .before);
+  pairs = n .before .pairs-of .result;
+  pairs-are = n .before .pairs-of .ensures;
+  end = n .run .result;
+  took = n .run .ensures .1;
+  steps-are = refl;
+}
 
 returns-3 : tie.Need-returns-3
 unfolding Prep
 returns-3 c =
-    let t3 = c .before .before in
+    let o = c .before in
+    let t3 = o .before .before in
     let n = t3 .before .before in
     let w = n .before .before in
     let e2 = w .before .before in
     let r = e2 .before in
     let s = Prep e2 .before in
-    optimal-found (s .args .p) (s .pre) (w .narrowed .result) (near w) (n .run .result .best) (n .run .ensures) (t3 .if3 .taken) (c .optimal .result) (c .optimal .ensures) (r .find-ray .result) (r .find-ray .ensures) (e2 .if2 .left)
+    rw (c .with-steps3 .ensures) (record {
+      answers = optimal-found (s .args .p) (s .pre) (w .narrowed .result) (near w) (n .run .result .best) (n .run .ensures .0) (t3 .if3 .taken) (o .optimal .result) (o .optimal .ensures) (r .find-ray .result) (r .find-ray .ensures) (e2 .if2 .left);
+      counts = inr (walked n);
+    })
 
 no-point-requires-2 : tie.Need-no-point-requires-2
 no-point-requires-2 c κs = search needs
 
+with-steps-requires-4 : tie.Need-with-steps-requires-4
+with-steps-requires-4 c κs = search needs
+
 returns-4 : tie.Need-returns-4
 unfolding Prep
 returns-4 c =
-    let e3 = c .before in
+    let h = c .before in
+    let e3 = h .before in
     let n = e3 .before .before in
     let w = n .before .before in
     let e2 = w .before .before in
     let r = e2 .before in
     let s = Prep e2 .before in
-    rw (c .no-point2 .ensures) (infeasible-searched (s .args .p) (s .pre) (w .narrowed .result) (near w) (r .find-ray .result) (n .run .result .best) (r .find-ray .ensures) (e2 .if2 .left) (n .run .ensures) (e3 .if3 .left))
+    rw (c .with-steps4 .ensures, h .no-point2 .ensures) (record {
+      answers = infeasible-searched (s .args .p) (s .pre) (w .narrowed .result) (near w) (r .find-ray .result) (n .run .result .best) (r .find-ray .ensures) (e2 .if2 .left) (n .run .ensures .0) (e3 .if3 .left);
+      counts = inr (walked n);
+    })
 
 pub solve-spec : {M : Type 1} → statement M
 solve-spec =
@@ -116,15 +156,19 @@ solve-spec =
     prepare-requires
     begin-requires
     no-point-requires
+    with-steps-requires
     returns
     find-ray-requires
     unbounded-requires
+    with-steps-requires-2
     returns-2
     reach-of-requires
     narrowed-requires
     pairs-of-requires
     run-requires
     optimal-requires
+    with-steps-requires-3
     returns-3
     no-point-requires-2
+    with-steps-requires-4
     returns-4)

@@ -1,15 +1,16 @@
 -- `search::run` meets its contract: every place is settled or still to come, and places fall away.
 use mathlib.Core.Path.{_≡_, refl, sym}
 use mathlib.Core.Bool.{Bool, true, false, not}
+use Prim.Native.Nat.{ℕ, suc}
 use native.Mathlib.Omega.{arith}
 use borrow.Author.Needs.{needs}
-use Rattle.search.specs.Steps.{Long}
+use Rattle.search.specs.Steps.{Long, After}
 use Rattle.search.proofs.Finish.{Going, left, going-first, going-on, going-less, searched}
 use Rattle.search.proofs.run.Statement.{statement}
 use Rattle.search.proofs.run.Tie as tie
 
 abbrev Inv-loop : tie.InvT-loop
-Inv-loop s p q₀ q = Going s q
+Inv-loop s p q₀ q = Going s q × ((n : ℕ) × After s p n q)
 
 abbrev μ-loop : tie.MeasureT-loop
 μ-loop s p q₀ q = left s q
@@ -24,14 +25,19 @@ no-incumbent-requires : tie.Need-no-incumbent-requires Inv-loop μ-loop
 no-incumbent-requires c κs = tt
 
 loop-holds : tie.Need-loop-holds Inv-loop μ-loop
+unfolding After
 loop-holds c =
     let s = c .before .before in
-    rw (c .no-incumbent .ensures) (going-first (s .args .s) (s .pre .setting) (long s) _ (c .before .dive .result) 0 (c .before .dive .ensures))
+    let d = c .before .dive in
+    rw (c .no-incumbent .ensures) (
+      going-first (s .args .s) (s .pre .setting) (long s) _ (d .result) 0 (d .ensures),
+      (0, record { first = λ i l. d .ensures .filled i (omega arith) l .0; nothing = refl; no-steps = refl; going = refl }),
+    )
 
 step-requires : tie.Need-step-requires Inv-loop μ-loop
 step-requires c κs =
     let l = c .before .before in
-    (l .before .before .before .pre, (l .loop .inv .started, l .loop .inv .good .proper))
+    (l .before .before .before .pre, (l .loop .inv .0 .started, l .loop .inv .0 .good .proper))
 
 -- a test that is turned round
 turned-true : (b : Bool) → not b ≡ true → b ≡ false
@@ -50,20 +56,23 @@ loop-less c =
     let t = c .before in
     let l = t .before .before in
     let s = l .before .before .before in
-    going-less (s .args .s) (s .args .p) (s .pre) (l .loop .q) (c .step .result) (l .loop .inv) (on t) (c .step .ensures)
+    going-less (s .args .s) (s .args .p) (s .pre) (l .loop .q) (c .step .result) (l .loop .inv .0) (on t) (c .step .ensures)
 
 loop-again : tie.Need-loop-again Inv-loop μ-loop
+unfolding After
 loop-again c =
     let t = c .before in
     let l = t .before .before in
     let s = l .before .before .before in
-    going-on (s .args .s) (s .args .p) (s .pre) (l .loop .q) (c .step .result) (l .loop .inv) (on t) (c .step .ensures)
+    let h = l .loop .inv .1 in
+    (going-on (s .args .s) (s .args .p) (s .pre) (l .loop .q) (c .step .result) (l .loop .inv .0) (on t) (c .step .ensures), (suc (h .0), (l .loop .q, (h .1, (on t, c .step .ensures)))))
 
 returns : tie.Need-returns Inv-loop μ-loop
 returns c =
     let l = c .before .before in
     let s = l .before .before .before in
-    searched (s .args .s) (s .pre .setting) (l .loop .q) (l .loop .inv) (turned-false (l .loop .q .done) (c .if1 .left))
+    let over = turned-false (l .loop .q .done) (c .if1 .left) in
+    (searched (s .args .s) (s .pre .setting) (l .loop .q) (l .loop .inv .0) over, record { count = l .loop .inv .1 .0; after = l .loop .inv .1 .1; over = over })
 
 pub run-spec : {M : Type 1} → statement M
 run-spec = tie.close (tie.spec Inv-loop μ-loop dive-requires no-incumbent-requires loop-holds step-requires loop-less loop-again returns)

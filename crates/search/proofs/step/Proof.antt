@@ -63,6 +63,7 @@ returns c =
       verdict = k .look .result .settled;
       looked = k .look .ensures;
       went = rw (went t) (refl, rw (back (t .before .o .given .0 .1 .0) (t .known-told .given .1 .0 .1)) at (c .turn .ensures));
+      counted = c .before .before .before .before .before .before .before .before .before .counted .ensures;
     }
 
 returns-2 : tie.Need-returns-2
@@ -73,6 +74,7 @@ returns-2 c =
       verdict = k .look .result .settled;
       looked = k .look .ensures;
       went = rw (moved-done (goal p) (sym (c .enum-told .given .1) ∙ p .past .ensures)) (refl, refl);
+      counted = c .before .before .before .before .before .before .before .counted .ensures;
     }
 
 pub step-spec : {M : Type 1} → statement M
