@@ -148,18 +148,20 @@ fn prepare(p: &Problem) -> Setting {
     s
 }
 
-/// How far a search has to go, by the problem's own figures.
-fn reach(p: &Problem) -> i64 {
+/// How far each item has to go in a search, by the problem's own figures.
+fn spans(p: &Problem) -> Vec<i64> {
     let weight = p.items.iter().map(|i| i.weight.abs()).max().unwrap_or(0);
     let bound = p.items.iter().flat_map(|i| [i.lower, i.upper]).flatten().map(i64::abs).max().unwrap_or(0);
-    p.limit.abs() + 16 * weight * (bound + weight) + weight + bound
+    let reach = p.limit.abs() + p.items.len() as i64 * weight * (bound + weight) + weight;
+    p.items.iter().map(|i| bound + weight + reach / i.weight.abs().max(1) + 1).collect()
 }
 
 impl Setting {
-    /// No end lies beyond r.
-    fn narrow(&mut self, r: i64) {
-        for end in self.ends.lo.iter_mut().chain(&mut self.ends.hi) {
-            *end = (*end).clamp(-r, r);
+    /// No end of an item lies beyond its span.
+    fn narrow(&mut self, spans: &[i64]) {
+        for (k, &r) in spans.iter().enumerate() {
+            self.ends.lo[k] = self.ends.lo[k].clamp(-r, r);
+            self.ends.hi[k] = self.ends.hi[k].clamp(-r, r);
         }
     }
 }
@@ -564,7 +566,7 @@ pub fn plan(p: &Problem, limit: u64) -> Option<Outcome> {
     if let Some(steps) = ray(p) {
         return Some(Outcome { text: unbounded_text(&s, &steps), steps: 0 });
     }
-    s.narrow(reach(p));
+    s.narrow(&spans(p));
     s.pairs = pair_table(p);
     let mut search = Search { s: &s, path: Path::default(), best: None, steps: 0 };
     if !search.run(limit) {

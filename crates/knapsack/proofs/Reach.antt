@@ -1,7 +1,7 @@
 -- No ray: amounts beyond a reach are pointless. Steps towards 0, which do not lower the value, lead within it.
 --   RangesAt A B C s    at most 16 items, weights within ±A, present bounds within ±B, the capacity within ±C
---   Reaches A B C R     R is a reach for such problems
---   shutAt R s          s with its absent bounds at ±R
+--   Reaches A B C s R   R k is a reach for item k of such a problem
+--   shutAt R s          s with item k's absent bounds at ±R k
 -- reach-at-most-at, reach-empty-at, reach-optimal-at: what holds of shutAt R s holds of s.
 -- Ranges, shut, reach-at-most, reach-empty, reach-optimal: the same at the limits of the format, where 300,000,000 is a reach.
 use mathlib.Core.Path.{_≡_, refl, sym, ap, ap₂, _∙_}
@@ -9,7 +9,7 @@ use mathlib.Core.Logic.{_≢_, _⊎_, inl, inr}
 use Prim.Native.Nat.{ℕ, zero, suc, _+_, _*_, _-_, _≤_, _<_}
 use native.Mathlib.Omega.{arith}
 use native.Mathlib.Decide.{decLt}
-use native.Mathlib.Nat.{mul-le-mul, mul-le-mul-left, mul-le-mul-right}
+use native.Mathlib.Nat.{mul-le-mul, mul-le-mul-left, mul-le-mul-right, le-of-mul-le-mul-left}
 use lib.IntN.{ℤ, pos, negsuc, negℤ, natAbs, _+ℤ_, _-ℤ_, _*ℤ_}
 use lib.Signed.{_≤ℤ_, _<ℤ_, ≤ℤ-refl}
 use Rattle.arith.proofs.Integers.{split, split2, split3, split4, zed, ≤ℤ-trans, ≤ℤ-reflexive, ≤ℤ-or-<, times-≤, natAbs-mul}
@@ -59,10 +59,11 @@ pub record RangesAt (A B C : ℕ) (s : Instance) : Type 0 where
   pub uppers : (k : ℕ) → k < s .count → AroundAt B (s .item k .upper)
   pub limited : natAbs (s .capacity) ≤ C
 
--- beyond B + A an item may go back; where none does, the capacity and the other terms hold the weight of each within C + 16 * (A * (B + A)) + A
-pub record Reaches (A B C R : ℕ) : Type 0 where
-  pub enough : C + 16 * (A * (B + A)) + A ≤ R
-  pub far : B + A ≤ R
+-- beyond B + A an item may go back; where none of n does, the capacity and the other terms hold the weight of each within
+-- C + n * (A * (B + A)) + A, and so its amount
+pub record Reaches (A B C : ℕ) (s : Instance) (R : ℕ → ℕ) : Type 0 where
+  pub enough : (k : ℕ) → k < s .count → 1 ≤ natAbs (weights s k) → C + s .count * (A * (B + A)) + A ≤ natAbs (weights s k) * R k
+  pub far : (k : ℕ) → k < s .count → B + A ≤ R k
 
 -- the way from 0 to n
 abbrev pub way : ℤ → Way
@@ -212,7 +213,8 @@ weak< = split2 _ (λ a b c e. simp zed (omega arith))
 -- ---- moves
 
 -- an item farther than F may step back; a term beyond G is one of such an item
-module _ (A B C F G R : ℕ) (F-far : B + A ≤ F) (G-far : A * F ≤ G) (R-enough : C + 16 * G + A ≤ R) (R-far : F ≤ R) (s : Instance) (D : ℕ) (D≥1 : 1 ≤ D) (g : RangesAt A B C s) (nr : NoRay s) where
+module _ (A B C F G : ℕ) (F-far : B + A ≤ F) (G-far : A * F ≤ G) (s : Instance) (R : ℕ → ℕ) (R-enough : (k : ℕ) → k < s .count → 1 ≤ natAbs (weights s k) → C + s .count * G + A ≤ natAbs (weights s k) * R k) (R-far : (k : ℕ) → k < s .count → F ≤ R k) (D : ℕ) (D≥1 : 1 ≤ D)
+    (g : RangesAt A B C s) (nr : NoRay s) where
   size : (ℕ → ℤ) → ℕ
   size = far (s .count) (λ k. pos 0)
 
@@ -291,15 +293,15 @@ module _ (A B C F G R : ℕ) (F-far : B + A ≤ F) (G-far : A * F ≤ G) (R-enou
   -- ---- where no move is left
 
   abbrev Near : (ℕ → ℤ) → Type 0
-  Near N = (k : ℕ) → k < s .count → natAbs (N k) ≤ R * D
+  Near N = (k : ℕ) → k < s .count → natAbs (N k) ≤ R k * D
 
   -- an item that weighs something is no farther than its weight
   abbrev Held : (ℕ → ℤ) → ℕ → Type 0
   Held N k = (natAbs (N k) ≤ F * D) ⊎ (1 ≤ natAbs (weights s k))
 
-  held : (N : ℕ → ℤ) (k : ℕ) → Held N k → natAbs (weights s k *ℤ N k) ≤ (C + 16 * G + A) * D → natAbs (N k) ≤ R * D
-  held N k (inl h) l = omega (arith, mul-le-mul-right D R-far)
-  held N k (inr h) l = omega (arith, natAbs-mul (weights s k) (N k), mul-le-mul-right (natAbs (N k)) h, mul-le-mul-right D R-enough)
+  held : (N : ℕ → ℤ) (k : ℕ) → k < s .count → Held N k → natAbs (weights s k *ℤ N k) ≤ (C + s .count * G + A) * D → natAbs (N k) ≤ R k * D
+  held N k i (inl h) l = omega (arith, mul-le-mul-right D (R-far k i))
+  held N k i (inr h) l = le-of-mul-le-mul-left {k = natAbs (weights s k)} (omega (arith, natAbs-mul (weights s k) (N k), mul-le-mul-right D (R-enough k i h))) h
 
   limits : (l : ℤ) → natAbs l ≤ C → ((l *ℤ pos D) ≤ℤ pos (C * D)) × (negℤ (pos (C * D)) ≤ℤ (l *ℤ pos D))
   limits = split _ (λ a b. simp zed (λ h. (omega (arith, mul-le-mul-right D (one a b h)), omega (arith, mul-le-mul-right D (one b a (swp a b h))))))
@@ -310,25 +312,22 @@ module _ (A B C F G R : ℕ) (F-far : B + A ≤ F) (G-far : A * F ≤ G) (R-enou
       one : (a b : ℕ) → (a - b) + (b - a) ≤ C → a ≤ C + b
       one a b h = omega arith
 
-  many : s .count * (G * D) ≤ 16 * (G * D)
-  many = mul-le-mul-right (G * D) (g .few)
-
   near-low : (N : ℕ → ℤ) → Feasibleᴰ s D N → Each (s .count) (Held N) → Each (s .count) (λ k. negℤ (pos (G * D)) ≤ℤ (weights s k *ℤ N k)) → Near N
-  near-low N p h low k l = held N k (h k l) (fin (weights s k *ℤ N k) (weighsᴰ s N) (s .capacity *ℤ pos D) (s .count * (G * D)) many (p .fits) (limits (s .capacity) (g .limited) .0) (low k l)
+  near-low N p h low k l = held N k l (h k l) (fin (weights s k *ℤ N k) (weighsᴰ s N) (s .capacity *ℤ pos D) (s .count) (omega arith) (p .fits) (limits (s .capacity) (g .limited) .0) (low k l)
       (part-of-sum (s .count) (λ j. weights s j *ℤ N j) (G * D) low k l))
     where
-      fin : (y w l : ℤ) (m : ℕ) → m ≤ 16 * (G * D) → w ≤ℤ l → l ≤ℤ pos (C * D) → negℤ (pos (G * D)) ≤ℤ y → y ≤ℤ (w +ℤ pos m) → natAbs y ≤ (C + 16 * G + A) * D
-      fin = split3 _ (λ a b c e f g m. simp zed (omega arith))
+      fin : (y w l : ℤ) (n : ℕ) → 1 ≤ n → w ≤ℤ l → l ≤ℤ pos (C * D) → negℤ (pos (G * D)) ≤ℤ y → y ≤ℤ (w +ℤ pos (n * (G * D))) → natAbs y ≤ (C + n * G + A) * D
+      fin = split3 _ (λ a b c e f g n i. simp zed (omega (arith, mul-le-mul-right (G * D) i)))
 
   near-high : (N : ℕ → ℤ) → Each (s .count) (Held N) → Each (s .count) (λ k. (weights s k *ℤ N k) ≤ℤ pos (G * D)) → (s .capacity *ℤ pos D) ≤ℤ (weighsᴰ s N +ℤ pos (A * D)) → Near N
-  near-high N h high full k l = held N k (h k l) (fin (weights s k *ℤ N k) (weighsᴰ s N) (s .capacity *ℤ pos D) (s .count * (G * D)) many full (limits (s .capacity) (g .limited) .1) (high k l)
+  near-high N h high full k l = held N k l (h k l) (fin (weights s k *ℤ N k) (weighsᴰ s N) (s .capacity *ℤ pos D) (s .count) (omega arith) full (limits (s .capacity) (g .limited) .1) (high k l)
       (rw (sum-scale (s .count) (negsuc 0) (λ j. weights s j *ℤ N j)) at (part-of-sum (s .count) (λ j. negsuc 0 *ℤ (weights s j *ℤ N j)) (G * D) (λ j m. flip (weights s j *ℤ N j) (high j m)) k l)))
     where
       flip : (y : ℤ) → y ≤ℤ pos (G * D) → negℤ (pos (G * D)) ≤ℤ (negsuc 0 *ℤ y)
       flip = split _ (λ a b. simp zed (omega arith))
 
-      fin : (y w l : ℤ) (m : ℕ) → m ≤ 16 * (G * D) → l ≤ℤ (w +ℤ pos (A * D)) → negℤ (pos (C * D)) ≤ℤ l → y ≤ℤ pos (G * D) → (negsuc 0 *ℤ y) ≤ℤ (negsuc 0 *ℤ w +ℤ pos m) → natAbs y ≤ (C + 16 * G + A) * D
-      fin = split3 _ (λ a b c e f g m. simp zed (omega arith))
+      fin : (y w l : ℤ) (n : ℕ) → 1 ≤ n → l ≤ℤ (w +ℤ pos (A * D)) → negℤ (pos (C * D)) ≤ℤ l → y ≤ℤ pos (G * D) → (negsuc 0 *ℤ y) ≤ℤ (negsuc 0 *ℤ w +ℤ pos (n * (G * D))) → natAbs y ≤ (C + n * G + A) * D
+      fin = split3 _ (λ a b c e f g n i. simp zed (omega (arith, mul-le-mul-right (G * D) i)))
 
   -- a weight of at most A and a term beyond G: an amount beyond F
   beyond : (a n : ℕ) → a ≤ A → G * D < a * n → Dec (F * D < n) → F * D < n
@@ -453,55 +452,55 @@ abbrev pub closed : Bound → ℤ → Bound
 closed Absent d = At d
 closed (At b) d = At b
 
-abbrev pub lowersAt : ℕ → Instance → ℕ → Bound
-lowersAt R s k = closed (s .item k .lower) (negℤ (pos R))
+abbrev pub lowersAt : (ℕ → ℕ) → Instance → ℕ → Bound
+lowersAt R s k = closed (s .item k .lower) (negℤ (pos (R k)))
 
-abbrev pub uppersAt : ℕ → Instance → ℕ → Bound
-uppersAt R s k = closed (s .item k .upper) (pos R)
+abbrev pub uppersAt : (ℕ → ℕ) → Instance → ℕ → Bound
+uppersAt R s k = closed (s .item k .upper) (pos (R k))
 
-abbrev pub shutAt : ℕ → Instance → Instance
+abbrev pub shutAt : (ℕ → ℕ) → Instance → Instance
 shutAt R s = boxed s (lowersAt R s) (uppersAt R s)
 
-pub into-shut-at : (R : ℕ) (s : Instance) (D : ℕ) (N : ℕ → ℤ) → Feasibleᴰ s D N → Each (s .count) (λ k. natAbs (N k) ≤ R * D) → Feasibleᴰ (shutAt R s) D N
-into-shut-at R s D N p h = into-box s (lowersAt R s) (uppersAt R s) D N p (λ k l. (lo (s .item k .lower) (N k) (p .keeps k l .above) (h k l), up (s .item k .upper) (N k) (p .keeps k l .below) (h k l)))
+pub into-shut-at : (R : ℕ → ℕ) (s : Instance) (D : ℕ) (N : ℕ → ℤ) → Feasibleᴰ s D N → Each (s .count) (λ k. natAbs (N k) ≤ R k * D) → Feasibleᴰ (shutAt R s) D N
+into-shut-at R s D N p h = into-box s (lowersAt R s) (uppersAt R s) D N p (λ k l. (lo (R k) (s .item k .lower) (N k) (p .keeps k l .above) (h k l), up (R k) (s .item k .upper) (N k) (p .keeps k l .below) (h k l)))
   where
-    lo′ : (n : ℤ) → natAbs n ≤ R * D → (negℤ (pos R) *ℤ pos D) ≤ℤ n
-    lo′ = split _ (λ a b. simp zed (omega arith))
+    lo′ : (r : ℕ) (n : ℤ) → natAbs n ≤ r * D → (negℤ (pos r) *ℤ pos D) ≤ℤ n
+    lo′ r = split _ (λ a b. simp zed (omega arith))
 
-    lo : (b : Bound) (n : ℤ) → KeepsLowerᴰ D b n → natAbs n ≤ R * D → KeepsLowerᴰ D (closed b (negℤ (pos R))) n
-    lo Absent n k h = lo′ n h
-    lo (At b) n k h = k
+    lo : (r : ℕ) (b : Bound) (n : ℤ) → KeepsLowerᴰ D b n → natAbs n ≤ r * D → KeepsLowerᴰ D (closed b (negℤ (pos r))) n
+    lo r Absent n k h = lo′ r n h
+    lo r (At b) n k h = k
 
-    up′ : (n : ℤ) → natAbs n ≤ R * D → n ≤ℤ (pos R *ℤ pos D)
-    up′ = split _ (λ a b. simp zed (omega arith))
+    up′ : (r : ℕ) (n : ℤ) → natAbs n ≤ r * D → n ≤ℤ (pos r *ℤ pos D)
+    up′ r = split _ (λ a b. simp zed (omega arith))
 
-    up : (b : Bound) (n : ℤ) → KeepsUpperᴰ D b n → natAbs n ≤ R * D → KeepsUpperᴰ D (closed b (pos R)) n
-    up Absent n k h = up′ n h
-    up (At b) n k h = k
+    up : (r : ℕ) (b : Bound) (n : ℤ) → KeepsUpperᴰ D b n → natAbs n ≤ r * D → KeepsUpperᴰ D (closed b (pos r)) n
+    up r Absent n k h = up′ r n h
+    up r (At b) n k h = k
 
-pub out-of-shut-at : (R : ℕ) (s : Instance) (D : ℕ) (N : ℕ → ℤ) → Feasibleᴰ (shutAt R s) D N → Feasibleᴰ s D N
-out-of-shut-at R s D N p = record { keeps = λ k l. record { marked = p .keeps k l .marked; above = lo (s .item k .lower) (N k) (p .keeps k l .above); below = up (s .item k .upper) (N k) (p .keeps k l .below) }; fits = p .fits }
+pub out-of-shut-at : (R : ℕ → ℕ) (s : Instance) (D : ℕ) (N : ℕ → ℤ) → Feasibleᴰ (shutAt R s) D N → Feasibleᴰ s D N
+out-of-shut-at R s D N p = record { keeps = λ k l. record { marked = p .keeps k l .marked; above = lo (R k) (s .item k .lower) (N k) (p .keeps k l .above); below = up (R k) (s .item k .upper) (N k) (p .keeps k l .below) }; fits = p .fits }
   where
-    lo : (b : Bound) (n : ℤ) → KeepsLowerᴰ D (closed b (negℤ (pos R))) n → KeepsLowerᴰ D b n
-    lo Absent n k = tt
-    lo (At b) n k = k
+    lo : (r : ℕ) (b : Bound) (n : ℤ) → KeepsLowerᴰ D (closed b (negℤ (pos r))) n → KeepsLowerᴰ D b n
+    lo r Absent n k = tt
+    lo r (At b) n k = k
 
-    up : (b : Bound) (n : ℤ) → KeepsUpperᴰ D (closed b (pos R)) n → KeepsUpperᴰ D b n
-    up Absent n k = tt
-    up (At b) n k = k
+    up : (r : ℕ) (b : Bound) (n : ℤ) → KeepsUpperᴰ D (closed b (pos r)) n → KeepsUpperᴰ D b n
+    up r Absent n k = tt
+    up r (At b) n k = k
 
 -- every feasible point of s has one of no lower value in shutAt R s
-pub reach-within : {A B C R : ℕ} (s : Instance) → RangesAt A B C s → Reaches A B C R → NoRay s → (D : ℕ) → 1 ≤ D → (N : ℕ → ℤ) → Feasibleᴰ s D N
+pub reach-within : {A B C : ℕ} {R : ℕ → ℕ} (s : Instance) → RangesAt A B C s → Reaches A B C s R → NoRay s → (D : ℕ) → 1 ≤ D → (N : ℕ → ℤ) → Feasibleᴰ s D N
     → (N′ : ℕ → ℤ) × Feasibleᴰ (shutAt R s) D N′ × (valueᴰ s N ≤ℤ valueᴰ s N′)
-reach-within {A} {B} {C} {R} s g e nr D d N p = let r = reach A B C (B + A) (A * (B + A)) R (omega arith) (omega arith) (e .enough) (e .far) s D d g nr N p in (r .0, into-shut-at R s D (r .0) (r .1) (r .2), r .3)
+reach-within {A} {B} {C} {R} s g e nr D d N p = let r = reach A B C (B + A) (A * (B + A)) (omega arith) (omega arith) s R (e .enough) (e .far) D d g nr N p in (r .0, into-shut-at R s D (r .0) (r .1) (r .2), r .3)
 
-pub reach-at-most-at : {A B C R : ℕ} (s : Instance) → RangesAt A B C s → Reaches A B C R → NoRay s → (W : ℤ) (E : ℕ) → AtMost (shutAt R s) W E → AtMost s W E
+pub reach-at-most-at : {A B C : ℕ} {R : ℕ → ℕ} (s : Instance) → RangesAt A B C s → Reaches A B C s R → NoRay s → (W : ℤ) (E : ℕ) → AtMost (shutAt R s) W E → AtMost s W E
 reach-at-most-at s g e nr W E a D N d p = let r = reach-within s g e nr D d N p in ≤ℤ-trans (times-≤ E (valueᴰ s N) (valueᴰ s (r .0)) (r .2)) (a D (r .0) d (r .1))
 
-pub reach-empty-at : {A B C R : ℕ} (s : Instance) → RangesAt A B C s → Reaches A B C R → NoRay s → ((D : ℕ) (N : ℕ → ℤ) → 1 ≤ D → ¬ Feasibleᴰ (shutAt R s) D N) → (D : ℕ) (N : ℕ → ℤ) → 1 ≤ D → ¬ Feasibleᴰ s D N
+pub reach-empty-at : {A B C : ℕ} {R : ℕ → ℕ} (s : Instance) → RangesAt A B C s → Reaches A B C s R → NoRay s → ((D : ℕ) (N : ℕ → ℤ) → 1 ≤ D → ¬ Feasibleᴰ (shutAt R s) D N) → (D : ℕ) (N : ℕ → ℤ) → 1 ≤ D → ¬ Feasibleᴰ s D N
 reach-empty-at s g e nr h D N d p = let r = reach-within s g e nr D d N p in h D (r .0) d (r .1)
 
-pub reach-optimal-at : {A B C R : ℕ} (s : Instance) → RangesAt A B C s → Reaches A B C R → NoRay s → (E : ℕ) (M : ℕ → ℤ) → Optimalᴰ (shutAt R s) E M → Optimalᴰ s E M
+pub reach-optimal-at : {A B C : ℕ} {R : ℕ → ℕ} (s : Instance) → RangesAt A B C s → Reaches A B C s R → NoRay s → (E : ℕ) (M : ℕ → ℤ) → Optimalᴰ (shutAt R s) E M → Optimalᴰ s E M
 reach-optimal-at {R = R} s g e nr E M b = record { feasible = out-of-shut-at R s E M (b .feasible); highest = reach-at-most-at s g e nr (valueᴰ s M) E (b .highest) }
 
 -- ---- at the limits of the format, ±300,000,000
@@ -512,29 +511,32 @@ Around b = AroundAt 10000 b
 abbrev pub Ranges : Instance → Type 0
 Ranges s = RangesAt 1000 10000 100000000 s
 
-pub format-reaches : Reaches 1000 10000 100000000 300000000
-format-reaches = record { enough = omega arith; far = omega arith }
+abbrev pub farthest : ℕ → ℕ
+farthest k = 300000000
+
+pub format-reaches : (s : Instance) → s .count ≤ 16 → Reaches 1000 10000 100000000 s farthest
+format-reaches s few = record { enough = λ k l h. omega (arith, mul-le-mul-right 300000000 h); far = λ k l. omega arith }
 
 abbrev pub lowers : Instance → ℕ → Bound
-lowers s k = lowersAt 300000000 s k
+lowers s k = lowersAt farthest s k
 
 abbrev pub uppers : Instance → ℕ → Bound
-uppers s k = uppersAt 300000000 s k
+uppers s k = uppersAt farthest s k
 
 abbrev pub shut : Instance → Instance
-shut s = shutAt 300000000 s
+shut s = shutAt farthest s
 
 pub into-shut : (s : Instance) (D : ℕ) (N : ℕ → ℤ) → Feasibleᴰ s D N → Each (s .count) (λ k. natAbs (N k) ≤ 300000000 * D) → Feasibleᴰ (shut s) D N
-into-shut s D N p h = into-shut-at 300000000 s D N p h
+into-shut s D N p h = into-shut-at farthest s D N p h
 
 pub out-of-shut : (s : Instance) (D : ℕ) (N : ℕ → ℤ) → Feasibleᴰ (shut s) D N → Feasibleᴰ s D N
-out-of-shut s D N p = out-of-shut-at 300000000 s D N p
+out-of-shut s D N p = out-of-shut-at farthest s D N p
 
 pub reach-at-most : (s : Instance) → Ranges s → NoRay s → (W : ℤ) (E : ℕ) → AtMost (shut s) W E → AtMost s W E
-reach-at-most s g nr W E a = reach-at-most-at s g format-reaches nr W E a
+reach-at-most s g nr W E a = reach-at-most-at s g (format-reaches s (g .few)) nr W E a
 
 pub reach-empty : (s : Instance) → Ranges s → NoRay s → ((D : ℕ) (N : ℕ → ℤ) → 1 ≤ D → ¬ Feasibleᴰ (shut s) D N) → (D : ℕ) (N : ℕ → ℤ) → 1 ≤ D → ¬ Feasibleᴰ s D N
-reach-empty s g nr h = reach-empty-at s g format-reaches nr h
+reach-empty s g nr h = reach-empty-at s g (format-reaches s (g .few)) nr h
 
 pub reach-optimal : (s : Instance) → Ranges s → NoRay s → (E : ℕ) (M : ℕ → ℤ) → Optimalᴰ (shut s) E M → Optimalᴰ s E M
-reach-optimal s g nr E M b = reach-optimal-at s g format-reaches nr E M b
+reach-optimal s g nr E M b = reach-optimal-at s g (format-reaches s (g .few)) nr E M b

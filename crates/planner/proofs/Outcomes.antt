@@ -41,7 +41,7 @@ use Rattle.knapsack.specs.declared.Kind.the-variants as kind
 use Rattle.knapsack.specs.declared.Problem.{Problem}
 use Rattle.knapsack.proofs.Bridge.{Reads, bridge-optimal, bridge-infeasible}
 use Rattle.knapsack.proofs.Common.{weighsᴰ, valueᴰ, Optimalᴰ}
-use Rattle.prepare.specs.Narrowing.{reachOf}
+use Rattle.prepare.specs.Narrowing.{spanOf}
 use Rattle.prepare.specs.Prepared.{PreparedAt, Prepared}
 use Rattle.prepare.proofs.Box.{box, box-same, box-is-shut, box-optimal, box-empty}
 use Rattle.prepare.proofs.Nearer.{near-optimal, near-empty}
@@ -176,7 +176,7 @@ module _ (p : Problem) (range : InRange p) (s : Setting) (q : Prepared p s) wher
 
 -- ---- what a search says, where an absent bound is at the problem's reach
 
-module _ (p : Problem) (range : InRange p) (s : Setting) (q : PreparedAt (reachOf p) p s) where
+module _ (p : Problem) (range : InRange p) (s : Setting) (q : PreparedAt (spanOf p) p s) where
   abbrev J : Instance
   J = instanceOf p
 

@@ -24,7 +24,7 @@ use Rattle.knapsack.specs.declared.Kind.{Kind}
 use Rattle.knapsack.specs.declared.Kind.the-variants as kind
 use Rattle.knapsack.specs.declared.Problem.{Problem}
 use Rattle.pairing.specs.Tables.{PairsOf}
-use Rattle.prepare.specs.Narrowing.{reachOf}
+use Rattle.prepare.specs.Narrowing.{spanOf}
 use Rattle.prepare.specs.Prepared.{PreparedAt}
 use Rattle.search.specs.declared.Pairs.{Pairs}
 use Rattle.search.specs.declared.Setting.{Setting}
@@ -66,10 +66,10 @@ pub record Best (s : Setting) (x : List ℤ) (a : Answer) : Type 0 where
 
 -- ---- the answer of a problem, and the steps of its search
 
--- n steps were taken by a search of p's own setting, narrowed to p's reach
+-- n steps were taken by a search of p's own setting, narrowed to its items' spans
 pub record Walked (p : Problem) (n : ℕ) : Type 0 where
   pub setting : Setting
-  pub prepared : PreparedAt (reachOf p) p setting
+  pub prepared : PreparedAt (spanOf p) p setting
   pub pairs : Pairs
   pub pairs-are : PairsOf p pairs
   pub end : State

@@ -55,7 +55,7 @@ closed-is : (b : Bound) (d : ℤ) → At (endOr b d) ≡ closed b d
 closed-is Absent d = refl
 closed-is (At v) d = refl
 
-module _ {r : ℕ} (p : Problem) (s : Setting) (q : PreparedAt r p s) where
+module _ {r : ℕ → ℕ} (p : Problem) (s : Setting) (q : PreparedAt r p s) where
   abbrev pub box : Instance
   box = boxOf (s .cols) (s .ends) (λ k. itemAt p k .mark)
 
@@ -63,7 +63,7 @@ module _ {r : ℕ} (p : Problem) (s : Setting) (q : PreparedAt r p s) where
   box-same = record { capacity = q .capacity; count = q .count; items = λ k h. item k (omega (arith, q .count)) }
     where
       item : (k : ℕ) → k < p .count → box .item k ≡ shutAt r (instanceOf p) .item k
-      item k h = rw (q .weights k h, q .prices k h, q .lows k h, q .highs k h, closed-is (itemAt p k .lower) (negℤ (pos r)), closed-is (itemAt p k .upper) (pos r))
+      item k h = rw (q .weights k h, q .prices k h, q .lows k h, q .highs k h, closed-is (itemAt p k .lower) (negℤ (pos (r k))), closed-is (itemAt p k .upper) (pos (r k)))
 
   pub box-is-shut : (D : ℕ) (N : ℕ → ℤ) → (Feasibleᴰ box D N ↔ Feasibleᴰ (shutAt r (instanceOf p)) D N) × (valueᴰ box N ≡ valueᴰ (shutAt r (instanceOf p)) N)
   box-is-shut D N = (

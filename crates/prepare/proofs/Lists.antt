@@ -1,14 +1,17 @@
 -- Laws of tables and of lists of places.
 -- tabled-below, tabled-within, tabled-places: what a table holds, how large it is, and one by all places in turn.
--- places-listing, sorted-listing, sorted-permuted: the lists by which tables are made.
+-- places-listing, sorted-listing, sorted-permuted: the lists by which tables are made. one-more: a list that is being made.
 use mathlib.Core.Path.{_≡_, refl, ap, _∙_}
 use mathlib.Core.Bool.{Bool, true, false, cond}
 use mathlib.Core.List.{List}
-use Prim.Native.Nat.{ℕ, _≤_, _<_}
+use Prim.Native.Nat.{ℕ, _+_, _≤_, _<_}
+use native.Mathlib.Decide.{ℕ-discrete}
 use native.Mathlib.Omega.{arith}
 use borrow.Author.Tests.{lt-ltb, ltb-true}
 use lib.Dec.{ltb}
 use lib.IntN.{ℤ, pos}
+use lib.ListN.{length, set}
+use lib.Seq.{getD-set-same, getD-set-other}
 use Rattle.arith.specs.Within.{Within}
 use Rattle.greedy.specs.Fill.{at, place}
 use Rattle.knapsack.specs.Records.{itemAt, InRange}
@@ -59,3 +62,12 @@ module _ (p : Problem) (r : InRange p) where
 
 pub shorter-listing : (p : Problem) (l : List ℕ) (m n : ℕ) → m ≤ n → Listing p l n → Listing p l m
 shorter-listing p l m n h s = record { accepted = s .accepted; few = omega (arith, s .few); below = λ u g. s .below u (omega arith) }
+
+-- ---- one place more of a list that is being made
+
+pub one-more : (to : List ℤ) (k : ℕ) (x : ℤ) (f : ℕ → ℤ) → k < length to → x ≡ f k → ((j : ℕ) → j < k → at to j ≡ f j) → (j : ℕ) → j < k + 1 → at (set to k x) j ≡ f j
+one-more to k x f l e h j m = go (ℕ-discrete j k)
+  where
+    go : Dec (j ≡ k) → at (set to k x) j ≡ f j
+    go (yes q) = rw (q, getD-set-same to k x (pos 0) l) e
+    go (no q) = getD-set-other to k j x (pos 0) q ∙ h j (omega arith)

@@ -1,12 +1,12 @@
 -- A nearer box: what the reach of a problem covers, and that a narrowed setting is prepared at that reach.
 -- most-covers, most-small: the greatest weight and bound are at least each item's, and in range.
--- reach-small: the reach is within the general one. near-optimal, near-empty: it is enough.
-use mathlib.Core.Path.{_≡_, refl, sym, ap, _∙_}
+-- reach-small, span-small: the reach and a span are within the general ones. near-optimal, near-empty: spans are enough.
+use mathlib.Core.Path.{_≡_, refl, sym, ap, ap₂, _∙_}
 use mathlib.Core.Bool.{Bool, true, false, cond}
 use mathlib.Core.List.{List}
-use Prim.Native.Nat.{ℕ, zero, suc, _+_, _*_, _≤_, _<_}
+use Prim.Native.Nat.{ℕ, zero, suc, _+_, _*_, _/_, _≤_, _<_}
 use native.Mathlib.Decide.{decLt, ℕ-discrete}
-use native.Mathlib.Nat.{mul-le-mul}
+use native.Mathlib.Nat.{mul-le-mul, div-add-mod, div-le-self, mod-lt}
 use native.Mathlib.Omega.{arith}
 use borrow.Author.Tests.{ltb-true, ltb-false}
 use lib.Dec.{ltb}
@@ -24,16 +24,17 @@ use Rattle.knapsack.specs.Records.{itemAt, BoundInRange, InRange}
 use Rattle.knapsack.specs.declared.Bound.the-variants.{Absent, At}
 use Rattle.knapsack.specs.declared.Bound.{Bound}
 use Rattle.knapsack.specs.declared.Problem.{Problem}
-use Rattle.greedy.specs.Fill.{at}
+use Rattle.greedy.specs.Fill.{at, weightOf}
 use Rattle.search.specs.Search.{levelAt}
 use Rattle.search.specs.declared.Setting.{Setting}
 use Rattle.tables.specs.Figures.{endOr}
-use Rattle.prepare.specs.Narrowing.{larger, boundSize, grownBy, mostOf, reachOf, clampTo, Narrowed}
+use Rattle.prepare.specs.Narrowing.{larger, boundSize, grownBy, mostOf, reachOf, spanBy, spanOf, clampTo, Narrowed, Small}
+use Rattle.prepare.specs.declared.Reach.{Reach}
 use Rattle.prepare.specs.Prepared.{PreparedAt, Prepared}
 
 -- ---- the greatest figures
 
-larger-left : (a b : ℕ) → a ≤ larger a b
+pub larger-left : (a b : ℕ) → a ≤ larger a b
 larger-left a b = go (ltb a b) refl
   where
     go : (t : Bool) → ltb a b ≡ t → a ≤ cond t b a
@@ -72,12 +73,27 @@ module _ (p : Problem) (r : InRange p) where
         larger-most (larger (mostOf p n .bound) (boundSize (itemAt p n .lower))) (boundSize (itemAt p n .upper)) 10000 (larger-most (mostOf p n .bound) (boundSize (itemAt p n .lower)) 10000 (m .1) (bound-small (itemAt p n .lower) (i .lower-in))) (bound-small (itemAt p n .upper) (i .upper-in)),
       )
 
-  pub reach-small : reachOf p ≤ 300000000
+  pub reach-small : Small (reachOf p)
   unfolding reachOf
-  reach-small = go (natAbs (p .capacity)) (mostOf p (p .count) .weight) (mostOf p (p .count) .bound) (r .capacity-in) (most-small (p .count) (omega arith) .0) (most-small (p .count) (omega arith) .1)
+  reach-small = record { weight-in = go (p .count) (natAbs (p .capacity)) A B (r .few-items) (r .capacity-in) a≤ b≤; amount-in = omega (arith, a≤, b≤) }
     where
-      go : (c a b : ℕ) → c ≤ 100000000 → a ≤ 1000 → b ≤ 10000 → c + 16 * (a * (b + a)) + a + b ≤ 300000000
-      go c a b hc ha hb = omega (arith, product-small a b ha hb)
+      A : ℕ
+      A = mostOf p (p .count) .weight
+
+      B : ℕ
+      B = mostOf p (p .count) .bound
+
+      a≤ : A ≤ 1000
+      a≤ = most-small (p .count) (omega arith) .0
+
+      b≤ : B ≤ 10000
+      b≤ = most-small (p .count) (omega arith) .1
+
+      go : (n c a b : ℕ) → n ≤ 16 → c ≤ 100000000 → a ≤ 1000 → b ≤ 10000 → c + n * (a * (b + a)) + a ≤ 280000000
+      go n c a b hn hc ha hb = omega (arith, mul-le-mul hn (product-small a b ha hb))
+
+pub span-small : (r : Reach) → Small r → (a : ℤ) → spanBy r a ≤ 300000000
+span-small r z a = omega (arith, z .weight-in, z .amount-in, div-le-self (r .weight) (larger 1 (natAbs a)))
 
 -- each of the first n items is covered
 pub record Covers (p : Problem) (a b k : ℕ) : Type 0 where
@@ -130,15 +146,26 @@ module _ (p : Problem) (range : InRange p) where
     limited = omega arith;
   }
 
-  reaches : Reaches A B (natAbs (p .capacity)) (reachOf p)
-  unfolding reachOf
-  reaches = record { enough = omega arith; far = omega arith }
+  larger-one : (a : ℕ) → 1 ≤ a → larger 1 a ≡ a
+  larger-one a h = go (ltb 1 a) refl
+    where
+      go : (t : Bool) → ltb 1 a ≡ t → cond t a 1 ≡ a
+      go true e = refl
+      go false e = let l = ltb-false 1 a e in omega arith
 
-  -- what holds of the problem closed at its reach holds of the problem
-  pub near-optimal : NoRay I → (E : ℕ) (M : ℕ → ℤ) → Optimalᴰ (shutAt (reachOf p) I) E M → Optimalᴰ I E M
+  -- an amount that weighs w
+  covers : (f w a : ℕ) → 1 ≤ a → w ≤ a * (f + w / a + 1)
+  covers f w a h = omega (arith, div-add-mod w a, mod-lt w h)
+
+  reaches : Reaches A B (natAbs (p .capacity)) I (spanOf p)
+  unfolding reachOf
+  reaches = record { enough = λ k l h. rw (larger-one (natAbs (itemAt p k .weight)) h) (covers (B + A) (natAbs (p .capacity) + p .count * (A * (B + A)) + A) (natAbs (itemAt p k .weight)) h); far = λ k l. omega arith }
+
+  -- what holds of the problem closed at its spans holds of the problem
+  pub near-optimal : NoRay I → (E : ℕ) (M : ℕ → ℤ) → Optimalᴰ (shutAt (spanOf p) I) E M → Optimalᴰ I E M
   near-optimal = reach-optimal-at I ranges reaches
 
-  pub near-empty : NoRay I → ((D : ℕ) (N : ℕ → ℤ) → 1 ≤ D → ¬ Feasibleᴰ (shutAt (reachOf p) I) D N) → (D : ℕ) (N : ℕ → ℤ) → 1 ≤ D → ¬ Feasibleᴰ I D N
+  pub near-empty : NoRay I → ((D : ℕ) (N : ℕ → ℤ) → 1 ≤ D → ¬ Feasibleᴰ (shutAt (spanOf p) I) D N) → (D : ℕ) (N : ℕ → ℤ) → 1 ≤ D → ¬ Feasibleᴰ I D N
   near-empty = reach-empty-at I ranges reaches
 
 -- ---- a narrowed setting
@@ -206,74 +233,76 @@ clamp-mono r x y h = go (ltZ x (negℤ (pos r))) refl (ltZ (pos r) x) refl (ltZ 
     go false e false f false g true k = no-lt f
     go false e false f false g false k = h
 
+-- an absent bound was closed beyond the span, and a bound is within it
+low-end : (r : ℕ) → r ≤ 300000000 → (b : Bound) → boundSize b ≤ r → clampTo r (endOr b (negℤ (pos 300000000))) ≡ endOr b (negℤ (pos r))
+low-end r l Absent h = clamp-low r (negℤ (pos 300000000)) (far 300000000 r l)
+  where
+    far : (m r : ℕ) → r ≤ m → negℤ (pos m) ≤ℤ negℤ (pos r)
+    far m r h = simp zed (omega arith)
+low-end r l (At v) h = clamp-same r v h
+
+high-end : (r : ℕ) → r ≤ 300000000 → (b : Bound) → boundSize b ≤ r → clampTo r (endOr b (pos 300000000)) ≡ endOr b (pos r)
+high-end r l Absent h = clamp-high r (pos 300000000) (far 300000000 r l)
+  where
+    far : (m r : ℕ) → r ≤ m → pos r ≤ℤ pos m
+    far m r h = simp zed (omega arith)
+high-end r l (At v) h = clamp-same r v h
+
 module _ (p : Problem) (range : InRange p) (s t : Setting) (q : Prepared p s) (n : Narrowed s (reachOf p) t) where
-  abbrev R : ℕ
-  R = reachOf p
+  -- the span of item k
+  abbrev S : ℕ → ℕ
+  S k = spanBy (reachOf p) (weightOf (s .cols) k)
 
-  -- an absent bound was closed beyond the reach, and a bound is within it
-  low-end : (b : Bound) → boundSize b ≤ R → clampTo R (endOr b (negℤ (pos 300000000))) ≡ endOr b (negℤ (pos R))
-  low-end Absent h = clamp-low R (negℤ (pos 300000000)) (far 300000000 R (reach-small p range))
-    where
-      far : (m r : ℕ) → r ≤ m → negℤ (pos m) ≤ℤ negℤ (pos r)
-      far m r h = simp zed (omega arith)
-  low-end (At v) h = clamp-same R v h
+  small : (a : ℤ) → spanBy (reachOf p) a ≤ 300000000
+  small = span-small (reachOf p) (reach-small p range)
 
-  high-end : (b : Bound) → boundSize b ≤ R → clampTo R (endOr b (pos 300000000)) ≡ endOr b (pos R)
-  high-end Absent h = clamp-high R (pos 300000000) (far 300000000 R (reach-small p range))
-    where
-      far : (m r : ℕ) → r ≤ m → pos r ≤ℤ pos m
-      far m r h = simp zed (omega arith)
-  high-end (At v) h = clamp-same R v h
-
-  bounds≤ : mostOf p (p .count) .bound ≤ R
+  bounds≤ : (k : ℕ) → mostOf p (p .count) .bound ≤ spanOf p k
   unfolding reachOf
-  bounds≤ = omega arith
+  bounds≤ k = omega arith
 
   item<16 : (k : ℕ) → k < p .count → k < 16
   item<16 k h = omega (arith, range .few-items)
 
-  ends-in : (xs : List ℤ) → length xs ≡ 16 → (f : ℕ → ℤ) → ((k : ℕ) → k < 16 → at xs k ≡ clampTo R (f k)) → (k : ℕ) → Within 300000000 (at xs k)
+  ends-in : (xs : List ℤ) → length xs ≡ 16 → (f : ℕ → ℤ) → ((k : ℕ) → k < 16 → at xs k ≡ clampTo (S k) (f k)) → (k : ℕ) → Within 300000000 (at xs k)
   ends-in xs l f h k = go (decLt k 16)
     where
       go : Dec (k < 16) → Within 300000000 (at xs k)
-      go (yes m) = rw (h k m) (clamp-within R (f k) (reach-small p range))
+      go (yes m) = rw (h k m) (clamp-within (S k) (f k) (small (weightOf (s .cols) k)))
       go (no m) = rw (List·getD-eq-default xs (pos 0) {n = k} (omega (arith, l))) (record { above = omega arith; below = omega arith })
 
-  level-in : (d : ℕ) → d < s .levels → levelAt s d < 16
-  level-in d h = omega (arith, q .ready .level-in d h, q .count, range .few-items)
+  -- the ends of an item of the problem
+  ends-at : (xs : List ℤ) (f : ℕ → ℤ) (k : ℕ) (x : ℤ) → k < p .count → at xs k ≡ clampTo (S k) (f k) → f k ≡ x → at xs k ≡ clampTo (spanOf p k) x
+  ends-at xs f k x h e g = e ∙ ap₂ (λ (a y : ℤ). clampTo (spanBy (reachOf p) a) y) (q .weights k h) g
 
-  levels≤ : (d : ℕ) → d < s .levels → d < 16
-  levels≤ d h = omega (arith, q .ready .few)
-
-  pub narrowed-prepared : PreparedAt R p t
+  pub narrowed-prepared : PreparedAt (spanOf p) p t
   narrowed-prepared = made t (n .cols) (n .level) (n .levels) (n .lattice) (n .lo) (n .hi) (n .low) (n .high) (n .lengths)
     where
       made : (t : Setting) → t .cols ≡ s .cols → t .level ≡ s .level → t .levels ≡ s .levels → t .lattice ≡ s .lattice
-          → ((k : ℕ) → k < 16 → at (t .ends .lo) k ≡ clampTo R (at (s .ends .lo) k)) → ((k : ℕ) → k < 16 → at (t .ends .hi) k ≡ clampTo R (at (s .ends .hi) k))
-          → ((d : ℕ) → d < 16 → at (t .low) d ≡ clampTo R (at (s .low) d)) → ((d : ℕ) → d < 16 → at (t .high) d ≡ clampTo R (at (s .high) d))
-          → (length (t .ends .lo) ≡ 16) × (length (t .ends .hi) ≡ 16) → PreparedAt R p t
+          → ((k : ℕ) → k < 16 → at (t .ends .lo) k ≡ clampTo (S k) (at (s .ends .lo) k)) → ((k : ℕ) → k < 16 → at (t .ends .hi) k ≡ clampTo (S k) (at (s .ends .hi) k))
+          → ((d : ℕ) → d < s .levels → at (t .low) d ≡ at (t .ends .lo) (levelAt s d)) → ((d : ℕ) → d < s .levels → at (t .high) d ≡ at (t .ends .hi) (levelAt s d))
+          → (length (t .ends .lo) ≡ 16) × (length (t .ends .hi) ≡ 16) → PreparedAt (spanOf p) p t
       made t ec el en ea lo hi low high long = record {
         count = rw ec (q .count);
         capacity = rw ec (q .capacity);
         weights = rw ec (q .weights);
         prices = rw ec (q .prices);
-        lows = λ k h. lo k (item<16 k h) ∙ ap (clampTo R) (q .lows k h) ∙ low-end (itemAt p k .lower) (omega (arith, most-covers p (p .count) k h .lower, bounds≤));
-        highs = λ k h. hi k (item<16 k h) ∙ ap (clampTo R) (q .highs k h) ∙ high-end (itemAt p k .upper) (omega (arith, most-covers p (p .count) k h .upper, bounds≤));
+        lows = λ k h. ends-at (t .ends .lo) (at (s .ends .lo)) k _ h (lo k (item<16 k h)) (q .lows k h) ∙ low-end (spanOf p k) (small (itemAt p k .weight)) (itemAt p k .lower) (omega (arith, most-covers p (p .count) k h .lower, bounds≤ k));
+        highs = λ k h. ends-at (t .ends .hi) (at (s .ends .hi)) k _ h (hi k (item<16 k h)) (q .highs k h) ∙ high-end (spanOf p k) (small (itemAt p k .weight)) (itemAt p k .upper) (omega (arith, most-covers p (p .count) k h .upper, bounds≤ k));
         ready = record {
           sized = record { columns = rw ec (q .ready .sized .columns); ends = record { lo-in = ends-in (t .ends .lo) (long .0) (λ k. at (s .ends .lo) k) lo; hi-in = ends-in (t .ends .hi) (long .1) (λ k. at (s .ends .hi) k) hi } };
           ordered = rw ec (q .ready .ordered);
-          in-order = λ k h. let m : k < s .cols .count = rw ec at h in let f : k < 16 = omega (arith, q .count, range .few-items) in rw (lo k f, hi k f) (clamp-mono R (at (s .ends .lo) k) (at (s .ends .hi) k) (q .ready .in-order k m));
+          in-order = λ k h. let m : k < s .cols .count = rw ec at h in let f : k < 16 = omega (arith, q .count, range .few-items) in rw (lo k f, hi k f) (clamp-mono (S k) (at (s .ends .lo) k) (at (s .ends .hi) k) (q .ready .in-order k m));
           few = rw en (q .ready .few);
           level-in = rw (ec, el, en) (q .ready .level-in);
           distinct = rw (el, en) (q .ready .distinct);
-          low-is = λ d h. let m : d < s .levels = rw en at h in low d (levels≤ d m) ∙ ap (clampTo R) (q .ready .low-is d m) ∙ sym (rw el (lo (levelAt s d) (level-in d m)));
-          high-is = λ d h. let m : d < s .levels = rw en at h in high d (levels≤ d m) ∙ ap (clampTo R) (q .ready .high-is d m) ∙ sym (rw el (hi (levelAt s d) (level-in d m)));
+          low-is = λ d h. let m : d < s .levels = rw en at h in rw el (low d m);
+          high-is = λ d h. let m : d < s .levels = rw en at h in rw el (high d m);
           tame = rw ea (q .ready .tame);
           changes = λ d h nz.
               let m : d < s .levels = rw en at h in
               let c = q .ready .changes d m (rw ea at nz) in
               record {
-                fixed = λ k l f. let x : k < s .cols .count = rw ec at l in let y : k < 16 = omega (arith, q .count, range .few-items) in lo k y ∙ ap (clampTo R) (c .fixed k x (rw (el, en) at f)) ∙ sym (hi k y);
+                fixed = λ k l f. let x : k < s .cols .count = rw ec at l in let y : k < 16 = omega (arith, q .count, range .few-items) in lo k y ∙ ap (clampTo (S k)) (c .fixed k x (rw (el, en) at f)) ∙ sym (hi k y);
                 on = rw (ec, el, en, ea) (c .on);
               };
         };

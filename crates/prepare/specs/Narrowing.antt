@@ -1,24 +1,27 @@
 -- How far a search of a problem without a ray has to go, and a setting that goes no farther.
 --   mostOf p n        the greatest weight and the greatest bound of the first n items, without sign
---   reachOf p         a reach that is enough for p (knapsack, proofs/Reach)
+--   reachOf p         how far the items of p lead: in weight, and in amount
+--   spanOf p k        how far item k has to go, which is enough (knapsack, proofs/Reach)
 --   clampBy l u x     x, or the nearest of l and u
 --   clampTo r x       x, or the nearest of -r and r
---   Narrowed s r t    t is s with every end clamped to r
+--   Narrowed s r t    t is s with every item's ends clamped to its span
 use mathlib.Core.Path.{_≡_}
 use mathlib.Core.Bool.{cond}
-use Prim.Native.Nat.{ℕ, zero, suc, _+_, _*_, _<_}
+use Prim.Native.Nat.{ℕ, zero, suc, _+_, _*_, _/_, _≤_, _<_}
 use lib.Dec.{ltb}
 use lib.IntN.{ℤ, pos, negℤ, natAbs}
 use lib.ListN.{length}
 use lib.Signed.{ltZ}
-use Rattle.greedy.specs.Fill.{at}
+use Rattle.greedy.specs.Fill.{at, weightOf}
 use Rattle.knapsack.specs.Records.{itemAt}
 use Rattle.knapsack.specs.declared.Bound.the-variants.{Absent, At}
 use Rattle.knapsack.specs.declared.Bound.{Bound}
 use Rattle.knapsack.specs.declared.Item.{Item}
 use Rattle.knapsack.specs.declared.Problem.{Problem}
 use Rattle.search.specs.declared.Setting.{Setting}
+use Rattle.search.specs.Search.{levelAt}
 use Rattle.prepare.specs.declared.Most.{Most}
+use Rattle.prepare.specs.declared.Reach.{Reach}
 
 abbrev pub larger : ℕ → ℕ → ℕ
 larger a b = cond (ltb a b) b a
@@ -34,12 +37,19 @@ unfoldable pub mostOf : Problem → ℕ → Most
 mostOf p zero = record { weight = 0; bound = 0 }
 mostOf p (suc n) = grownBy (mostOf p n) (itemAt p n)
 
--- a capacity, and for each of 16 items its weight as far as bounds and weights lead
-abbrev pub reachBy : ℤ → Most → ℕ
-reachBy b m = natAbs b + 16 * (m .weight * (m .bound + m .weight)) + m .weight + m .bound
+-- what an item of p may weigh: the capacity, and each item's weight as far as bounds and weights lead; and how far those lead
+abbrev pub reachBy : ℕ → ℤ → Most → Reach
+reachBy n b m = record { weight = natAbs b + n * (m .weight * (m .bound + m .weight)) + m .weight; amount = m .bound + m .weight }
 
-unfoldable pub reachOf : Problem → ℕ
-reachOf p = reachBy (p .capacity) (mostOf p (p .count))
+unfoldable pub reachOf : Problem → Reach
+reachOf p = reachBy (p .count) (p .capacity) (mostOf p (p .count))
+
+-- the amounts of an item of weight a
+abbrev pub spanBy : Reach → ℤ → ℕ
+spanBy r a = r .amount + r .weight / larger 1 (natAbs a) + 1
+
+abbrev pub spanOf : Problem → ℕ → ℕ
+spanOf p k = spanBy (reachOf p) (itemAt p k .weight)
 
 abbrev pub clampBy : ℤ → ℤ → ℤ → ℤ
 clampBy l u x = cond (ltZ x l) l (cond (ltZ u x) u x)
@@ -47,13 +57,18 @@ clampBy l u x = cond (ltZ x l) l (cond (ltZ u x) u x)
 abbrev pub clampTo : ℕ → ℤ → ℤ
 clampTo r x = clampBy (negℤ (pos r)) (pos r) x
 
-pub record Narrowed (s : Setting) (r : ℕ) (t : Setting) : Type 0 where
+pub record Narrowed (s : Setting) (r : Reach) (t : Setting) : Type 0 where
   pub cols : t .cols ≡ s .cols
   pub level : t .level ≡ s .level
   pub levels : t .levels ≡ s .levels
   pub lattice : t .lattice ≡ s .lattice
-  pub lo : (k : ℕ) → k < 16 → at (t .ends .lo) k ≡ clampTo r (at (s .ends .lo) k)
-  pub hi : (k : ℕ) → k < 16 → at (t .ends .hi) k ≡ clampTo r (at (s .ends .hi) k)
-  pub low : (d : ℕ) → d < 16 → at (t .low) d ≡ clampTo r (at (s .low) d)
-  pub high : (d : ℕ) → d < 16 → at (t .high) d ≡ clampTo r (at (s .high) d)
+  pub lo : (k : ℕ) → k < 16 → at (t .ends .lo) k ≡ clampTo (spanBy r (weightOf (s .cols) k)) (at (s .ends .lo) k)
+  pub hi : (k : ℕ) → k < 16 → at (t .ends .hi) k ≡ clampTo (spanBy r (weightOf (s .cols) k)) (at (s .ends .hi) k)
+  pub low : (d : ℕ) → d < s .levels → at (t .low) d ≡ at (t .ends .lo) (levelAt s d)
+  pub high : (d : ℕ) → d < s .levels → at (t .high) d ≡ at (t .ends .hi) (levelAt s d)
   pub lengths : (length (t .ends .lo) ≡ 16) × (length (t .ends .hi) ≡ 16)
+
+-- no span of a weight in range is beyond what stands for an absent bound
+pub record Small (r : Reach) : Type 0 where
+  pub weight-in : r .weight ≤ 280000000
+  pub amount-in : r .amount ≤ 11000

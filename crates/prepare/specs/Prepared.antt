@@ -5,7 +5,7 @@
 --                    item's price per weight; by price alone where there is none
 --   Latticing p l n r  r holds lattices of the levels l: of what the items from a level on change; nothing is known where a
 --                    continuous item is free
---   PreparedAt r p s the setting s is that of p, and in order; an absent bound is r away
+--   PreparedAt r p s the setting s is that of p, and in order; item k's absent bounds are r k away
 --   Prepared p s     the same at 300,000,000
 use mathlib.Core.Path.{_≡_}
 use mathlib.Core.Bool.{false, cond}
@@ -59,16 +59,16 @@ pub record Latticing (p : Problem) (l : List ℕ) (n : ℕ) (r : List Lattice) :
   pub free : (k : ℕ) → k < p .count → fixed (itemAt p k) ≡ false → (d : ℕ) → d < 16 → latticeAt r d .stride ≡ pos 0
   pub on : (d : ℕ) → d < n → latticeAt r d .stride ≢ pos 0 → (j : ℕ) → d ≤ j → j < n → On (latticeAt r d) (listed p l j .weight) (listed p l j .price)
 
-pub record PreparedAt (r : ℕ) (p : Problem) (s : Setting) : Type 0 where
+pub record PreparedAt (r : ℕ → ℕ) (p : Problem) (s : Setting) : Type 0 where
   pub count : s .cols .count ≡ p .count
   pub capacity : s .cols .capacity ≡ p .capacity
   pub weights : (k : ℕ) → k < p .count → weightOf (s .cols) k ≡ itemAt p k .weight
   pub prices : (k : ℕ) → k < p .count → priceOf (s .cols) k ≡ itemAt p k .price
-  pub lows : (k : ℕ) → k < p .count → at (s .ends .lo) k ≡ endOr (itemAt p k .lower) (negℤ (pos r))
-  pub highs : (k : ℕ) → k < p .count → at (s .ends .hi) k ≡ endOr (itemAt p k .upper) (pos r)
+  pub lows : (k : ℕ) → k < p .count → at (s .ends .lo) k ≡ endOr (itemAt p k .lower) (negℤ (pos (r k)))
+  pub highs : (k : ℕ) → k < p .count → at (s .ends .hi) k ≡ endOr (itemAt p k .upper) (pos (r k))
   pub ready : ReadySetting s
   pub marked : Marked s (λ k. itemAt p k .mark)
 
 -- at the reach that is enough for every problem
 abbrev pub Prepared : Problem → Setting → Type 0
-Prepared p s = PreparedAt 300000000 p s
+Prepared p s = PreparedAt (λ k. 300000000) p s

@@ -35,6 +35,12 @@ pub struct Most {
     pub bound: u64,
 }
 
+// How far a search has to go: what an item may weigh, and an amount that any item may have.
+pub struct Reach {
+    pub weight: u64,
+    pub amount: u64,
+}
+
 // The problem by columns.
 fn columns(p: Problem) -> Columns
     requires { ⌜ InRange p ⌝ }

@@ -1,6 +1,7 @@
 // A nearer box. Without a ray, amounts beyond a reach that comes from the problem's own figures are pointless (knapsack, proofs/Reach),
 // so that a search need not go as far as the ends that stand for absent bounds in general.
 use super::Most;
+use super::Reach;
 use arith::magnitude;
 use greedy::Ends;
 use knapsack::Bound;
@@ -10,9 +11,11 @@ use search::Setting;
 ghost use mathlib.Core.Path.{_≡_};
 ghost use Prim.Native.Nat.{ℕ, _≤_, _<_};
 ghost use lib.IntN.{ℤ};
-ghost use Rattle.greedy.specs.Fill.{at};
+ghost use Rattle.arith.specs.Within.{Within};
+ghost use Rattle.greedy.specs.Fill.{at, place};
 ghost use Rattle.knapsack.specs.Records.{ItemInRange, BoundInRange, InRange};
-ghost use Rattle.prepare.specs.Narrowing.{larger, boundSize, grownBy, mostOf, reachOf, clampBy, Narrowed};
+ghost use Rattle.search.specs.Ready.{ReadySetting};
+ghost use Rattle.prepare.specs.Narrowing.{larger, boundSize, grownBy, mostOf, reachOf, spanBy, clampBy, clampTo, Narrowed, Small};
 
 fn larger_of(a: u64, b: u64) -> u64
     ensures { λ r. ⌜ r ≡ larger a b ⌝ }
@@ -66,14 +69,27 @@ fn most_of(p: Problem) -> Most
 }
 
 // How far a search has to go.
-pub fn reach_of(p: Problem) -> u64
+pub fn reach_of(p: Problem) -> Reach
     requires { ⌜ InRange p ⌝ }
     ensures { λ r. ⌜ r ≡ reachOf p ⌝ }
 {
     let m = most_of(p);
+    let n = p.count as u64;
     let a = m.weight;
     let b = m.bound;
-    magnitude(p.capacity) + 16 * (a * (b + a)) + a + b
+    Reach {
+        weight: magnitude(p.capacity) + n * (a * (b + a)) + a,
+        amount: b + a,
+    }
+}
+
+// How far an item of weight a has to go.
+fn span_of(r: Reach, a: i64) -> u64
+    requires { ⌜ Small r × Within 1000 a ⌝ }
+    ensures { λ n. ⌜ (n ≡ spanBy r a) × (n ≤ 300000000) ⌝ }
+{
+    let d = larger_of(1, magnitude(a));
+    r.amount + r.weight / d + 1
 }
 
 // x, or the nearest of l and u.
@@ -89,37 +105,61 @@ fn clamp(x: i64, l: i64, u: i64) -> i64
     x
 }
 
-fn clamped(xs: [i64; 16], l: i64, u: i64) -> [i64; 16]
-    ensures { λ y. ⌜ ((k : ℕ) → k < 16 → at y k ≡ clampBy l u (at xs k)) ⌝ }
+// An end of an item of weight a, within its span.
+fn end_within(x: i64, r: Reach, a: i64) -> i64
+    requires { ⌜ Small r × Within 1000 a ⌝ }
+    ensures { λ y. ⌜ y ≡ clampTo (spanBy r a) x ⌝ }
+{
+    let u = span_of(r, a) as i64;
+    clamp(x, 0 - u, u)
+}
+
+fn clamped(xs: [i64; 16], weight: [i64; 16], r: Reach) -> [i64; 16]
+    requires { ⌜ Small r × ((k : ℕ) → Within 1000 (at weight k)) ⌝ }
+    ensures { λ y. ⌜ ((k : ℕ) → k < 16 → at y k ≡ clampTo (spanBy r (at weight k)) (at xs k)) ⌝ }
 {
     let mut to = xs;
     let mut k: usize = 0;
     while k < 16 {
         let x = xs[k];
-        to[k] = clamp(x, l, u);
+        to[k] = end_within(x, r, weight[k]);
         k += 1;
     }
     to
 }
 
-// The setting with no end beyond r.
-pub fn narrowed(s: Setting, r: u64) -> Setting
-    requires { ⌜ r ≤ 300000000 ⌝ }
+// By level, what stands by item.
+fn by_level(xs: [i64; 16], level: [usize; 16], n: usize) -> [i64; 16]
+    requires { ⌜ (n ≤ 16) × ((d : ℕ) → d < n → place level d < 16) ⌝ }
+    ensures { λ y. ⌜ ((d : ℕ) → d < n → at y d ≡ at xs (place level d)) ⌝ }
+{
+    let mut to = [0; 16];
+    let mut d: usize = 0;
+    while d < n {
+        let k = level[d];
+        let x = xs[k];
+        to[d] = x;
+        d += 1;
+    }
+    to
+}
+
+// The setting with no end beyond its item's span.
+pub fn narrowed(s: Setting, r: Reach) -> Setting
+    requires { ⌜ ReadySetting s × Small r ⌝ }
     ensures { λ t. ⌜ Narrowed s r t ⌝ }
 {
-    let u = r as i64;
-    let d = 0 - u;
+    let cols = s.cols;
     let e = s.ends;
     let l = e.lo;
     let h = e.hi;
-    let v = s.low;
-    let w = s.high;
-    let lo = clamped(l, d, u);
-    let hi = clamped(h, d, u);
-    let low = clamped(v, d, u);
-    let high = clamped(w, d, u);
-    let cols = s.cols;
+    let weight = cols.weight;
     let level = s.level;
+    let n = s.levels;
+    let lo = clamped(l, weight, r);
+    let hi = clamped(h, weight, r);
+    let low = by_level(lo, level, n);
+    let high = by_level(hi, level, n);
     let lattice = s.lattice;
     Setting {
         cols: cols,
@@ -128,6 +168,6 @@ pub fn narrowed(s: Setting, r: u64) -> Setting
         low: low,
         high: high,
         lattice: lattice,
-        levels: s.levels,
+        levels: n,
     }
 }

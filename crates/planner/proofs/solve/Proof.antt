@@ -6,7 +6,7 @@ use borrow.Author.Needs.{needs}
 use Rattle.arith.proofs.Parts.{within-back}
 use Rattle.arith.proofs.Words.{yes-lt, no-lt}
 use Rattle.greedy.specs.Fill.{begun}
-use Rattle.prepare.specs.Narrowing.{reachOf, Narrowed}
+use Rattle.prepare.specs.Narrowing.{spanOf, Narrowed}
 use Rattle.prepare.specs.Prepared.{PreparedAt}
 use Rattle.prepare.proofs.Nearer.{reach-small, narrowed-prepared}
 use Rattle.planner.specs.Outcomes.{Walked}
@@ -71,10 +71,10 @@ Prep e = e .before .before .before .before .before .before
 
 narrowed-requires : tie.Need-narrowed-requires
 unfolding Prep
-narrowed-requires c κs = let s = Prep (c .before) .before in rw (c .reach-of .ensures) (reach-small (s .args .p) (s .pre))
+narrowed-requires c κs = let a = Prep (c .before) in let s = a .before in (a .prepare .ensures .ready, rw (c .reach-of .ensures) (reach-small (s .args .p) (s .pre)))
 
 -- the nearer setting is the problem's
-near : (c : tie.After-narrowed) → PreparedAt (reachOf (Prep (c .before .before) .before .args .p)) (Prep (c .before .before) .before .args .p) (c .narrowed .result)
+near : (c : tie.After-narrowed) → PreparedAt (spanOf (Prep (c .before .before) .before .args .p)) (Prep (c .before .before) .before .args .p) (c .narrowed .result)
 unfolding Prep
 near c =
     let a = Prep (c .before .before) in

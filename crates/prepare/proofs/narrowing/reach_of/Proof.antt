@@ -1,6 +1,7 @@
 -- `prepare::narrowing::reach_of` meets its contract: nothing in it is large.
-use mathlib.Core.Path.{_≡_, ap, ap₂}
-use Prim.Native.Nat.{_+_, _*_, _≤_}
+use mathlib.Core.Path.{_≡_, ap₂}
+use Prim.Native.Nat.{ℕ, _+_, _*_, _≤_}
+use native.Mathlib.Nat.{mul-le-mul}
 use native.Mathlib.Omega.{arith}
 use lib.IntN.{natAbs}
 use borrow.Author.Needs.{needs}
@@ -37,27 +38,32 @@ module _ (c : tie.After-magnitude) where
   product≤ : c .before .before .most-of .result .weight * (c .before .before .most-of .result .bound + c .before .before .most-of .result .weight) ≤ 11000000
   product≤ = product-small _ _ weight≤ bound≤
 
-add-result : tie.Need-add-result
-add-result c = record { fits = omega (arith, weight≤ c, bound≤ c) }
+  products≤ : c .before .before .before .args .p .count * (c .before .before .most-of .result .weight * (c .before .before .most-of .result .bound + c .before .before .most-of .result .weight)) ≤ 176000000
+  products≤ = mul-le-mul (c .before .before .before .pre .few-items) product≤
 
-mul-result : tie.Need-mul-result
-mul-result c = record { fits = omega (arith, product≤ c) }
+add-t7 : tie.Need-add-t7
+add-t7 c = record { fits = omega (arith, weight≤ c, bound≤ c) }
 
-mul-result-2 : tie.Need-mul-result-2
-mul-result-2 c = record { fits = omega (arith, product≤ c) }
+mul-t8 : tie.Need-mul-t8
+mul-t8 c = record { fits = omega (arith, product≤ c) }
 
-add-result-2 : tie.Need-add-result-2
-add-result-2 c = record { fits = omega (arith, product≤ c, capacity≤ c) }
+mul-t9 : tie.Need-mul-t9
+mul-t9 c = record { fits = omega (arith, products≤ c) }
 
-add-result-3 : tie.Need-add-result-3
-add-result-3 c = record { fits = omega (arith, product≤ c, capacity≤ c, weight≤ c) }
+add-t10 : tie.Need-add-t10
+add-t10 c = record { fits = omega (arith, products≤ c, capacity≤ c) }
 
-add-result-4 : tie.Need-add-result-4
-add-result-4 c = record { fits = omega (arith, product≤ c, capacity≤ c, weight≤ c, bound≤ c) }
+add-t11 : tie.Need-add-t11
+add-t11 c = record { fits = omega (arith, products≤ c, capacity≤ c, weight≤ c) }
+
+add-t12 : tie.Need-add-t12
+add-t12 c = record { fits = omega (arith, weight≤ c, bound≤ c) }
 
 returns : tie.Need-returns
 unfolding reachOf
-returns c = ap₂ (λ n (m : Most). n + 16 * (m .weight * (m .bound + m .weight)) + m .weight + m .bound) (capacity-is c) (c .before .before .most-of .ensures)
+returns c =
+    let n = c .before .before .before .args .p .count in
+    ap₂ (λ (b : ℕ) (m : Most). record { weight = b + n * (m .weight * (m .bound + m .weight)) + m .weight; amount = m .bound + m .weight }) (capacity-is c) (c .before .before .most-of .ensures)
 
 pub reach-of-spec : {M : Type 1} → statement M
 reach-of-spec =
@@ -65,10 +71,10 @@ reach-of-spec =
     (tie.spec
     most-of-requires
     magnitude-requires
-    add-result
-    mul-result
-    mul-result-2
-    add-result-2
-    add-result-3
-    add-result-4
+    add-t7
+    mul-t8
+    mul-t9
+    add-t10
+    add-t11
+    add-t12
     returns)
