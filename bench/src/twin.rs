@@ -150,9 +150,12 @@ fn prepare(p: &Problem) -> Setting {
 
 /// How far each item has to go in a search, by the problem's own figures.
 fn spans(p: &Problem) -> Vec<i64> {
-    let weight = p.items.iter().map(|i| i.weight.abs()).max().unwrap_or(0);
-    let bound = p.items.iter().flat_map(|i| [i.lower, i.upper]).flatten().map(i64::abs).max().unwrap_or(0);
-    let reach = p.limit.abs() + p.items.len() as i64 * weight * (bound + weight) + weight;
+    let is_open = |i: &Item| i.lower.is_none() || i.upper.is_none();
+    let own = |i: &Item| [i.lower, i.upper].iter().flatten().map(|b| b.abs()).max().unwrap_or(0);
+    let weight = p.items.iter().filter(|i| is_open(i)).map(|i| i.weight.abs()).max().unwrap_or(0);
+    let bound = p.items.iter().map(own).max().unwrap_or(0);
+    let lead = |i: &Item| own(i) + if is_open(i) { weight } else { 0 };
+    let reach = p.limit.abs() + p.items.iter().map(|i| i.weight.abs() * lead(i)).sum::<i64>() + weight;
     p.items.iter().map(|i| bound + weight + reach / i.weight.abs().max(1) + 1).collect()
 }
 

@@ -1,10 +1,10 @@
 -- Laws of sums over the first n places, and of a change of one place.
 -- sum-mono, sum-cong, sum-add, sum-scale, sum-lin, sum-times, sum-diff: sums keep orders, equations and linear combinations.
 -- sum-bump: what a change at one place does to a weighted sum; each-bump: a property of each place survives it.
--- sum-least, part-of-sum: bounds of a sum and of its parts.
+-- part-of-sum, even-part-of-sum: a part is at most the sum and what the others may fall short by.
 --   far n X N      the distance of N from X, place by place; far-bump: how a change at one place lowers it
 -- find: a place where the one holds, or the other everywhere.
-use mathlib.Core.Path.{_≡_, refl, sym, ap, ap₂, _∙_}
+use mathlib.Core.Path.{_≡_, refl, sym, ap, ap₂, _∙_, subst}
 use mathlib.Core.Logic.{_≢_, _⊎_, inl, inr}
 use Prim.Native.Nat.{ℕ, zero, suc, _+_, _*_, _≤_, _<_}
 use native.Mathlib.Omega.{arith}
@@ -85,27 +85,37 @@ sum-diff (suc n) a N X = rw (sum-diff n a N X) (step (sum n (λ k. a k *ℤ N k)
     step : (S T a x y : ℤ) → (S -ℤ T) +ℤ a *ℤ (x -ℤ y) ≡ (S +ℤ a *ℤ x) -ℤ (T +ℤ a *ℤ y)
     step = split _ (λ h i. split4 _ (λ a b c e f g k l. simp zed (omega arith)))
 
--- terms from -C on: the sum is at least -(n * C), and no term is above the sum by more than n * C
-pub sum-least : (n : ℕ) (f : ℕ → ℤ) (C : ℕ) → Each n (λ k. negℤ (pos C) ≤ℤ f k) → negℤ (pos (n * C)) ≤ℤ sum n f
-sum-least zero f C h = simp zed (omega arith)
-sum-least (suc n) f C h = step (sum n f) (f n) (sum-least n f C (λ k l. h k (omega arith))) (h n (omega arith))
+pub part-of-sum : (n : ℕ) (f : ℕ → ℤ) (g : ℕ → ℕ) → Each n (λ k. negℤ (pos (g k)) ≤ℤ f k) → (i : ℕ) → i < n → f i ≤ℤ (sum n f +ℤ sum n (λ k. pos (g k)))
+part-of-sum zero f g h i l = absurd (omega arith)
+part-of-sum (suc n) f g h i l = go (ℕ-discrete i n) (λ m. part-of-sum n f g (λ k o. h k (omega arith)) i m)
   where
-    step : (s x : ℤ) → negℤ (pos (n * C)) ≤ℤ s → negℤ (pos C) ≤ℤ x → negℤ (pos (suc n * C)) ≤ℤ (s +ℤ x)
-    step = split2 _ (λ a b c e. simp zed (omega arith))
+    least : (n : ℕ) → Each n (λ k. negℤ (pos (g k)) ≤ℤ f k) → pos 0 ≤ℤ (sum n f +ℤ sum n (λ k. pos (g k)))
+    least zero h = ≤ℤ-reflexive refl
+    least (suc n) h = both (sum n f) (sum n (λ k. pos (g k))) (f n) (g n) (least n (λ k o. h k (omega arith))) (h n (omega arith))
+      where
+        both : (s t x : ℤ) (c : ℕ) → pos 0 ≤ℤ (s +ℤ t) → negℤ (pos c) ≤ℤ x → pos 0 ≤ℤ ((s +ℤ x) +ℤ (t +ℤ pos c))
+        both = split3 _ (λ a b c e f g m. simp zed (omega arith))
 
-pub part-of-sum : (n : ℕ) (f : ℕ → ℤ) (C : ℕ) → Each n (λ k. negℤ (pos C) ≤ℤ f k) → (i : ℕ) → i < n → f i ≤ℤ (sum n f +ℤ pos (n * C))
-part-of-sum zero f C h i l = absurd (omega arith)
-part-of-sum (suc n) f C h i l = go (ℕ-discrete i n) (λ m. part-of-sum n f C (λ k o. h k (omega arith)) i m)
+    last : (s t x : ℤ) (c : ℕ) → pos 0 ≤ℤ (s +ℤ t) → x ≤ℤ ((s +ℤ x) +ℤ (t +ℤ pos c))
+    last = split3 _ (λ a b c e f g m. simp zed (omega arith))
+
+    inner : (s t x y : ℤ) (c : ℕ) → y ≤ℤ (s +ℤ t) → negℤ (pos c) ≤ℤ x → y ≤ℤ ((s +ℤ x) +ℤ (t +ℤ pos c))
+    inner = split4 _ (λ a b c e f g h i m. simp zed (omega arith))
+
+    go : Dec (i ≡ n) → (i < n → f i ≤ℤ (sum n f +ℤ sum n (λ k. pos (g k)))) → f i ≤ℤ ((sum n f +ℤ f n) +ℤ (sum n (λ k. pos (g k)) +ℤ pos (g n)))
+    go (yes e) ih = rw e (last (sum n f) (sum n (λ k. pos (g k))) (f n) (g n) (least n (λ k o. h k (omega arith))))
+    go (no e) ih = inner (sum n f) (sum n (λ k. pos (g k))) (f n) (f i) (g n) (ih (omega arith)) (h n (omega arith))
+
+-- the same bound for all
+pub even-part-of-sum : (n : ℕ) (f : ℕ → ℤ) (C : ℕ) → Each n (λ k. negℤ (pos C) ≤ℤ f k) → (i : ℕ) → i < n → f i ≤ℤ (sum n f +ℤ pos (n * C))
+even-part-of-sum n f C h i l = subst (λ z. f i ≤ℤ (sum n f +ℤ z)) (even n) (part-of-sum n f (λ k. C) h i l)
   where
-    last : (s x : ℤ) → negℤ (pos (n * C)) ≤ℤ s → x ≤ℤ ((s +ℤ x) +ℤ pos (suc n * C))
-    last = split2 _ (λ a b c e. simp zed (omega arith))
-
-    inner : (s x y : ℤ) → y ≤ℤ (s +ℤ pos (n * C)) → negℤ (pos C) ≤ℤ x → y ≤ℤ ((s +ℤ x) +ℤ pos (suc n * C))
-    inner = split3 _ (λ a b c e f g. simp zed (omega arith))
-
-    go : Dec (i ≡ n) → (i < n → f i ≤ℤ (sum n f +ℤ pos (n * C))) → f i ≤ℤ ((sum n f +ℤ f n) +ℤ pos (suc n * C))
-    go (yes e) ih = rw e (last (sum n f) (f n) (sum-least n f C (λ k o. h k (omega arith))))
-    go (no e) ih = inner (sum n f) (f n) (f i) (ih (omega arith)) (h n (omega arith))
+    even : (n : ℕ) → sum n (λ k. pos C) ≡ pos (n * C)
+    even zero = simp zed (omega arith)
+    even (suc n) = rw (even n) (more n)
+      where
+        more : (n : ℕ) → pos (n * C) +ℤ pos C ≡ pos (suc n * C)
+        more n = simp zed (omega arith)
 
 -- the distance of N from X, item by item
 unfoldable pub far : ℕ → (ℕ → ℤ) → (ℕ → ℤ) → ℕ

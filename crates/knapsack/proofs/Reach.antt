@@ -1,10 +1,10 @@
 -- No ray: amounts beyond a reach are pointless. Steps towards 0, which do not lower the value, lead within it.
---   RangesAt A B C s    at most 16 items, weights within ±A, present bounds within ±B, the capacity within ±C
+--   RangesAt A B C s    an item that lacks a bound weighs at most A, item k's bounds are within ±B k, and the capacity is within ±C
 --   Reaches A B C s R   R k is a reach for item k of such a problem
 --   shutAt R s          s with item k's absent bounds at ±R k
 -- reach-at-most-at, reach-empty-at, reach-optimal-at: what holds of shutAt R s holds of s.
 -- Ranges, shut, reach-at-most, reach-empty, reach-optimal: the same at the limits of the format, where 300,000,000 is a reach.
-use mathlib.Core.Path.{_≡_, refl, sym, ap, ap₂, _∙_}
+use mathlib.Core.Path.{_≡_, refl, sym, ap, ap₂, _∙_, subst}
 use mathlib.Core.Logic.{_≢_, _⊎_, inl, inr}
 use Prim.Native.Nat.{ℕ, zero, suc, _+_, _*_, _-_, _≤_, _<_}
 use native.Mathlib.Omega.{arith}
@@ -13,7 +13,7 @@ use native.Mathlib.Nat.{mul-le-mul, mul-le-mul-left, mul-le-mul-right, le-of-mul
 use lib.IntN.{ℤ, pos, negsuc, negℤ, natAbs, _+ℤ_, _-ℤ_, _*ℤ_}
 use lib.Signed.{_≤ℤ_, _<ℤ_, ≤ℤ-refl}
 use Rattle.arith.proofs.Integers.{split, split2, split3, split4, zed, ≤ℤ-trans, ≤ℤ-reflexive, ≤ℤ-or-<, times-≤, natAbs-mul}
-use Rattle.arith.proofs.Sums.{bump-other, each-bump, sum-bump, sum-scale, part-of-sum, far, far-bump, find}
+use Rattle.arith.proofs.Sums.{bump-other, each-bump, sum-bump, sum-cong, sum-scale, part-of-sum, far, far-bump, find}
 use Rattle.arith.specs.Sum.{sum, Each, bump}
 use Rattle.knapsack.proofs.Branch.{AtMost, boxed, into-box}
 use Rattle.knapsack.proofs.Climb.{descend}
@@ -52,18 +52,26 @@ abbrev pub AroundAt : ℕ → Bound → Type 0
 AroundAt B Absent = Unit {0}
 AroundAt B (At b) = natAbs b ≤ B
 
-pub record RangesAt (A B C : ℕ) (s : Instance) : Type 0 where
-  pub few : s .count ≤ 16
-  pub light : (k : ℕ) → k < s .count → natAbs (weights s k) ≤ A
-  pub lowers : (k : ℕ) → k < s .count → AroundAt B (s .item k .lower)
-  pub uppers : (k : ℕ) → k < s .count → AroundAt B (s .item k .upper)
+-- a bound is absent
+abbrev pub Open : Item → Type 0
+Open i = (i .lower ≡ Absent) ⊎ (i .upper ≡ Absent)
+
+pub record RangesAt (A : ℕ) (B : ℕ → ℕ) (C : ℕ) (s : Instance) : Type 0 where
+  pub light : (k : ℕ) → k < s .count → Open (s .item k) → natAbs (weights s k) ≤ A
+  pub lowers : (k : ℕ) → k < s .count → AroundAt (B k) (s .item k .lower)
+  pub uppers : (k : ℕ) → k < s .count → AroundAt (B k) (s .item k .upper)
   pub limited : natAbs (s .capacity) ≤ C
 
--- beyond B + A an item may go back; where none of n does, the capacity and the other terms hold the weight of each within
--- C + n * (A * (B + A)) + A, and so its amount
-pub record Reaches (A B C : ℕ) (s : Instance) (R : ℕ → ℕ) : Type 0 where
-  pub enough : (k : ℕ) → k < s .count → 1 ≤ natAbs (weights s k) → C + s .count * (A * (B + A)) + A ≤ natAbs (weights s k) * R k
-  pub far : (k : ℕ) → k < s .count → B + A ≤ R k
+-- item k's lead F k: beyond it the item may go back; where none does, the capacity and the other items' leads hold the weight of each
+-- within C + T + A, and so its amount
+pub record Reaches (A : ℕ) (B : ℕ → ℕ) (C : ℕ) (s : Instance) (R : ℕ → ℕ) : Type 0 where
+  pub lead : ℕ → ℕ
+  pub near : (k : ℕ) → k < s .count → B k ≤ lead k
+  pub back-far : (k : ℕ) → k < s .count → Open (s .item k) → B k + A ≤ lead k
+  pub total : ℕ
+  pub total-is : pos total ≡ sum (s .count) (λ k. pos (natAbs (weights s k) * lead k))
+  pub enough : (k : ℕ) → k < s .count → 1 ≤ natAbs (weights s k) → C + total + A ≤ natAbs (weights s k) * R k
+  pub far : (k : ℕ) → k < s .count → lead k ≤ R k
 
 -- the way from 0 to n
 abbrev pub way : ℤ → Way
@@ -212,9 +220,17 @@ weak< = split2 _ (λ a b c e. simp zed (omega arith))
 
 -- ---- moves
 
--- an item farther than F may step back; a term beyond G is one of such an item
-module _ (A B C F G : ℕ) (F-far : B + A ≤ F) (G-far : A * F ≤ G) (s : Instance) (R : ℕ → ℕ) (R-enough : (k : ℕ) → k < s .count → 1 ≤ natAbs (weights s k) → C + s .count * G + A ≤ natAbs (weights s k) * R k) (R-far : (k : ℕ) → k < s .count → F ≤ R k) (D : ℕ) (D≥1 : 1 ≤ D)
-    (g : RangesAt A B C s) (nr : NoRay s) where
+-- an item farther than its lead F may step back; so may one whose term is beyond G
+module _ (A : ℕ) (B : ℕ → ℕ) (C : ℕ) (s : Instance) (R : ℕ → ℕ) (q : Reaches A B C s R) (D : ℕ) (D≥1 : 1 ≤ D) (g : RangesAt A B C s) (nr : NoRay s) where
+  abbrev F : ℕ → ℕ
+  F k = q .lead k
+
+  abbrev G : ℕ → ℕ
+  G k = natAbs (weights s k) * F k
+
+  abbrev T : ℕ
+  T = q .total
+
   size : (ℕ → ℤ) → ℕ
   size = far (s .count) (λ k. pos 0)
 
@@ -297,11 +313,11 @@ module _ (A B C F G : ℕ) (F-far : B + A ≤ F) (G-far : A * F ≤ G) (s : Inst
 
   -- an item that weighs something is no farther than its weight
   abbrev Held : (ℕ → ℤ) → ℕ → Type 0
-  Held N k = (natAbs (N k) ≤ F * D) ⊎ (1 ≤ natAbs (weights s k))
+  Held N k = (natAbs (N k) ≤ F k * D) ⊎ (1 ≤ natAbs (weights s k))
 
-  held : (N : ℕ → ℤ) (k : ℕ) → k < s .count → Held N k → natAbs (weights s k *ℤ N k) ≤ (C + s .count * G + A) * D → natAbs (N k) ≤ R k * D
-  held N k i (inl h) l = omega (arith, mul-le-mul-right D (R-far k i))
-  held N k i (inr h) l = le-of-mul-le-mul-left {k = natAbs (weights s k)} (omega (arith, natAbs-mul (weights s k) (N k), mul-le-mul-right D (R-enough k i h))) h
+  held : (N : ℕ → ℤ) (k : ℕ) → k < s .count → Held N k → natAbs (weights s k *ℤ N k) ≤ C * D + T * D + A * D → natAbs (N k) ≤ R k * D
+  held N k i (inl h) l = omega (arith, mul-le-mul-right D (q .far k i))
+  held N k i (inr h) l = le-of-mul-le-mul-left {k = natAbs (weights s k)} (omega (arith, natAbs-mul (weights s k) (N k), mul-le-mul-right D (q .enough k i h))) h
 
   limits : (l : ℤ) → natAbs l ≤ C → ((l *ℤ pos D) ≤ℤ pos (C * D)) × (negℤ (pos (C * D)) ≤ℤ (l *ℤ pos D))
   limits = split _ (λ a b. simp zed (λ h. (omega (arith, mul-le-mul-right D (one a b h)), omega (arith, mul-le-mul-right D (one b a (swp a b h))))))
@@ -312,87 +328,131 @@ module _ (A B C F G : ℕ) (F-far : B + A ≤ F) (G-far : A * F ≤ G) (s : Inst
       one : (a b : ℕ) → (a - b) + (b - a) ≤ C → a ≤ C + b
       one a b h = omega arith
 
-  near-low : (N : ℕ → ℤ) → Feasibleᴰ s D N → Each (s .count) (Held N) → Each (s .count) (λ k. negℤ (pos (G * D)) ≤ℤ (weights s k *ℤ N k)) → Near N
-  near-low N p h low k l = held N k l (h k l) (fin (weights s k *ℤ N k) (weighsᴰ s N) (s .capacity *ℤ pos D) (s .count) (omega arith) (p .fits) (limits (s .capacity) (g .limited) .0) (low k l)
-      (part-of-sum (s .count) (λ j. weights s j *ℤ N j) (G * D) low k l))
+  -- the terms' total, over D
+  all-terms : sum (s .count) (λ k. pos (G k * D)) ≡ pos (T * D)
+  all-terms = sum-cong (s .count) _ _ (λ k l. out (G k)) ∙ sum-scale (s .count) (pos D) (λ k. pos (G k)) ∙ ap (λ z. pos D *ℤ z) (sym (q .total-is)) ∙ turned T
     where
-      fin : (y w l : ℤ) (n : ℕ) → 1 ≤ n → w ≤ℤ l → l ≤ℤ pos (C * D) → negℤ (pos (G * D)) ≤ℤ y → y ≤ℤ (w +ℤ pos (n * (G * D))) → natAbs y ≤ (C + n * G + A) * D
-      fin = split3 _ (λ a b c e f g n i. simp zed (omega (arith, mul-le-mul-right (G * D) i)))
+      out : (n : ℕ) → pos (n * D) ≡ pos D *ℤ pos n
+      out n = simp zed (omega arith)
 
-  near-high : (N : ℕ → ℤ) → Each (s .count) (Held N) → Each (s .count) (λ k. (weights s k *ℤ N k) ≤ℤ pos (G * D)) → (s .capacity *ℤ pos D) ≤ℤ (weighsᴰ s N +ℤ pos (A * D)) → Near N
-  near-high N h high full k l = held N k l (h k l) (fin (weights s k *ℤ N k) (weighsᴰ s N) (s .capacity *ℤ pos D) (s .count) (omega arith) full (limits (s .capacity) (g .limited) .1) (high k l)
-      (rw (sum-scale (s .count) (negsuc 0) (λ j. weights s j *ℤ N j)) at (part-of-sum (s .count) (λ j. negsuc 0 *ℤ (weights s j *ℤ N j)) (G * D) (λ j m. flip (weights s j *ℤ N j) (high j m)) k l)))
+      turned : (n : ℕ) → pos D *ℤ pos n ≡ pos (n * D)
+      turned n = sym (out n)
+
+  one-term : (k : ℕ) → k < s .count → G k * D ≤ T * D
+  one-term k l = below (G k * D) (T * D) (subst (λ z. pos (G k * D) ≤ℤ z) (ap₂ _+ℤ_ all-terms (none (s .count)) ∙ plain (T * D)) (part-of-sum (s .count) (λ j. pos (G j * D)) (λ j. 0) (λ j m. least (G j * D)) k l))
     where
-      flip : (y : ℤ) → y ≤ℤ pos (G * D) → negℤ (pos (G * D)) ≤ℤ (negsuc 0 *ℤ y)
-      flip = split _ (λ a b. simp zed (omega arith))
+      below : (m n : ℕ) → pos m ≤ℤ pos n → m ≤ n
+      below m n = simp zed (omega arith)
 
-      fin : (y w l : ℤ) (n : ℕ) → 1 ≤ n → l ≤ℤ (w +ℤ pos (A * D)) → negℤ (pos (C * D)) ≤ℤ l → y ≤ℤ pos (G * D) → (negsuc 0 *ℤ y) ≤ℤ (negsuc 0 *ℤ w +ℤ pos (n * (G * D))) → natAbs y ≤ (C + n * G + A) * D
-      fin = split3 _ (λ a b c e f g n i. simp zed (omega (arith, mul-le-mul-right (G * D) i)))
+      none : (n : ℕ) → sum n (λ k. pos 0) ≡ pos 0
+      none zero = refl
+      none (suc n) = rw (none n)
 
-  -- a weight of at most A and a term beyond G: an amount beyond F
-  beyond : (a n : ℕ) → a ≤ A → G * D < a * n → Dec (F * D < n) → F * D < n
-  beyond a n h k (yes f) = f
-  beyond a n h k (no f) = absurd (clash (mul-le-mul h (bound f)))
+      plain : (n : ℕ) → pos n +ℤ pos 0 ≡ pos n
+      plain n = simp zed (omega arith)
+
+      least : (n : ℕ) → negℤ (pos 0) ≤ℤ pos n
+      least n = simp zed (omega arith)
+
+  near-low : (N : ℕ → ℤ) → Feasibleᴰ s D N → Each (s .count) (Held N) → Each (s .count) (λ k. negℤ (pos (G k * D)) ≤ℤ (weights s k *ℤ N k)) → Near N
+  near-low N p h low k l = held N k l (h k l) (fin (G k * D) (T * D) (one-term k l) (weights s k *ℤ N k) (weighsᴰ s N) (s .capacity *ℤ pos D) (p .fits) (limits (s .capacity) (g .limited) .0) (low k l)
+      (subst (λ z. (weights s k *ℤ N k) ≤ℤ (weighsᴰ s N +ℤ z)) all-terms (part-of-sum (s .count) (λ j. weights s j *ℤ N j) (λ j. G j * D) low k l)))
     where
-      bound : ¬ (F * D < n) → n ≤ F * D
-      bound f = omega arith
+      fin : (m t : ℕ) → m ≤ t → (y w l : ℤ) → w ≤ℤ l → l ≤ℤ pos (C * D) → negℤ (pos m) ≤ℤ y → y ≤ℤ (w +ℤ pos t) → natAbs y ≤ C * D + t + A * D
+      fin m t i = split3 _ (λ a b c e f g. simp zed (omega arith))
 
-      clash : a * n ≤ A * (F * D) → ⊥
-      clash l = omega (arith, mul-le-mul-right D G-far)
+  near-high : (N : ℕ → ℤ) → Each (s .count) (Held N) → Each (s .count) (λ k. (weights s k *ℤ N k) ≤ℤ pos (G k * D)) → (s .capacity *ℤ pos D) ≤ℤ (weighsᴰ s N +ℤ pos (A * D)) → Near N
+  near-high N h high full k l = held N k l (h k l) (fin (G k * D) (T * D) (one-term k l) (weights s k *ℤ N k) (weighsᴰ s N) (s .capacity *ℤ pos D) full (limits (s .capacity) (g .limited) .1) (high k l)
+      (rw (sum-scale (s .count) (negsuc 0) (λ j. weights s j *ℤ N j)) at (subst (λ z. (negsuc 0 *ℤ (weights s k *ℤ N k)) ≤ℤ (sum (s .count) (λ j. negsuc 0 *ℤ (weights s j *ℤ N j)) +ℤ z)) all-terms (part-of-sum (s .count) (λ j. negsuc 0 *ℤ (weights s j *ℤ N j)) (λ j. G j * D) (λ j m. flip (G j * D) (weights s j *ℤ N j) (high j m)) k l))))
+    where
+      flip : (m : ℕ) (y : ℤ) → y ≤ℤ pos m → negℤ (pos m) ≤ℤ (negsuc 0 *ℤ y)
+      flip m = split _ (λ a b. simp zed (omega arith))
+
+      fin : (m t : ℕ) → m ≤ t → (y w l : ℤ) → l ≤ℤ (w +ℤ pos (A * D)) → negℤ (pos (C * D)) ≤ℤ l → y ≤ℤ pos m → (negsuc 0 *ℤ y) ≤ℤ (negsuc 0 *ℤ w +ℤ pos t) → natAbs y ≤ C * D + t + A * D
+      fin m t i = split3 _ (λ a b c e f g. simp zed (omega arith))
+
+  -- a term beyond G: an amount beyond F
+  beyond : (a f n : ℕ) → (a * f) * D < a * n → Dec (f * D < n) → f * D < n
+  beyond a f n k (yes h) = h
+  beyond a f n k (no h) = absurd (clash (mul-le-mul-left a (bound h)))
+    where
+      bound : ¬ (f * D < n) → n ≤ f * D
+      bound h = omega arith
+
+      clash : a * n ≤ a * (f * D) → ⊥
+      clash l = omega arith
+
+  -- an item that is beyond its lead lacks a bound
+  open-far : (k : ℕ) (n : ℤ) → k < s .count → Within D (s .item k) n → F k * D < natAbs n → Open (s .item k)
+  open-far k n l w f = go (s .item k .lower) (s .item k .upper) refl refl (g .lowers k l) (g .uppers k l) (w .above) (w .below)
+    where
+      b≤ : B k * D ≤ F k * D
+      b≤ = mul-le-mul-right D (q .near k l)
+
+      over : (m d : ℕ) (a b n : ℤ) → m * D ≤ d → natAbs a ≤ m → natAbs b ≤ m → (a *ℤ pos D) ≤ℤ n → n ≤ℤ (b *ℤ pos D) → d < natAbs n → ⊥
+      over m d = split3 _ (λ a b c e f g. simp zed (λ h u v x y z. omega (arith, mul-le-mul-right D (diff m a b u .0), mul-le-mul-right D (diff m a b u .1), mul-le-mul-right D (diff m c e v .0), mul-le-mul-right D (diff m c e v .1))))
+
+      go : (x y : Bound) → s .item k .lower ≡ x → s .item k .upper ≡ y → AroundAt (B k) x → AroundAt (B k) y → KeepsLowerᴰ D x n → KeepsUpperᴰ D y n → Open (s .item k)
+      go Absent y e h ax ay kx ky = inl e
+      go (At x) Absent e h ax ay kx ky = inr h
+      go (At x) (At y) e h ax ay kx ky = absurd (over (B k) (F k * D) x y n b≤ ax ay kx ky f)
 
   step : (N : ℕ → ℤ) → Feasibleᴰ s D N → Near N ⊎ Next N
-  step N p = idle (find (s .count) (λ k. (F * D < natAbs (N k)) × (weights s k ≡ pos 0)) (Held N) (λ k. rests (weights s k) (decLt (F * D) (natAbs (N k)))))
+  step N p = idle (find (s .count) (λ k. (F k * D < natAbs (N k)) × (weights s k ≡ pos 0)) (Held N) (λ k. rests (F k) (weights s k) (decLt (F k * D) (natAbs (N k)))))
     where
-      rests : (a : ℤ) → {n : ℕ} → Dec (F * D < n) → ((F * D < n) × (a ≡ pos 0)) ⊎ ((n ≤ F * D) ⊎ (1 ≤ natAbs a))
-      rests a (no h) = inr (inl (omega arith))
-      rests (pos zero) (yes h) = inl (h, refl)
-      rests (pos (suc n)) (yes h) = inr (inr (omega arith))
-      rests (negsuc n) (yes h) = inr (inr (omega arith))
+      rests : (f : ℕ) (a : ℤ) → {n : ℕ} → Dec (f * D < n) → ((f * D < n) × (a ≡ pos 0)) ⊎ ((n ≤ f * D) ⊎ (1 ≤ natAbs a))
+      rests f a (no h) = inr (inl (omega arith))
+      rests f (pos zero) (yes h) = inl (h, refl)
+      rests f (pos (suc n)) (yes h) = inr (inr (omega arith))
+      rests f (negsuc n) (yes h) = inr (inr (omega arith))
 
       other : {P Q : Type 0} → P ⊎ Q → Q ⊎ P
       other (inl a) = inr a
       other (inr b) = inl b
 
-      away : (u k : ℕ) → k < s .count → u ≤ A → F * D < natAbs (N k) → Back D (u * D) (s .item k) (N k)
-      away u k l h f = back B D (u * D) (s .item k) (N k) (g .lowers k l) (g .uppers k l) (within (p .keeps k l)) (omega (arith, mul-le-mul-right D F-far)) (omega (arith, mul-le-mul-right D h, mul-le-mul-right D F-far))
+      opens : (k : ℕ) → k < s .count → F k * D < natAbs (N k) → Open (s .item k)
+      opens k l f = open-far k (N k) l (within (p .keeps k l)) f
+
+      away : (u k : ℕ) → k < s .count → u ≤ A → F k * D < natAbs (N k) → Back D (u * D) (s .item k) (N k)
+      away u k l h f = let o = q .back-far k l (opens k l f) in back (B k) D (u * D) (s .item k) (N k) (g .lowers k l) (g .uppers k l) (within (p .keeps k l)) (omega (arith, mul-le-mul-right D o)) (omega (arith, mul-le-mul-right D h, mul-le-mul-right D o))
 
       -- one unit back, of an item that weighs something
-      unit : (k : ℕ) → k < s .count → 1 ≤ natAbs (weights s k) → F * D < natAbs (N k) → Back D D (s .item k) (N k)
-      unit k l h f = back B D D (s .item k) (N k) (g .lowers k l) (g .uppers k l) (within (p .keeps k l)) (omega (arith, mul-le-mul-right D F-far)) (omega (arith, mul-le-mul-right D h, mul-le-mul-right D (g .light k l), mul-le-mul-right D F-far))
+      unit : (k : ℕ) → k < s .count → 1 ≤ natAbs (weights s k) → F k * D < natAbs (N k) → Back D D (s .item k) (N k)
+      unit k l h f = let o = q .back-far k l (opens k l f) in back (B k) D D (s .item k) (N k) (g .lowers k l) (g .uppers k l) (within (p .keeps k l)) (omega (arith, mul-le-mul-right D o)) (omega (arith, mul-le-mul-right D h, mul-le-mul-right D (g .light k l (opens k l f)), mul-le-mul-right D o))
 
       whole : (k : ℕ) → k < s .count → KeepsMarkᴰ D (s .item k .mark) (N k +ℤ turn (way (N k)) (negℤ (pos D)))
       whole k l = rw (one-unit D (way (N k))) at (mark-step D (s .item k .mark) (N k) (turn (way (N k)) (negℤ (pos 1))) (p .keeps k l .marked))
 
       -- an item that weighs nothing goes back to F
-      rest : (k : ℕ) → k < s .count → F * D < natAbs (N k) → Back D (natAbs (N k) - F * D) (s .item k) (N k)
-      rest k l f = back B D (natAbs (N k) - F * D) (s .item k) (N k) (g .lowers k l) (g .uppers k l) (within (p .keeps k l)) (omega (arith, mul-le-mul-right D F-far)) (omega (arith, mul-le-mul-right D F-far))
+      rest : (k : ℕ) → k < s .count → F k * D < natAbs (N k) → Back D (natAbs (N k) - F k * D) (s .item k) (N k)
+      rest k l f = back (B k) D (natAbs (N k) - F k * D) (s .item k) (N k) (g .lowers k l) (g .uppers k l) (within (p .keeps k l)) (omega (arith, mul-le-mul-right D (q .near k l))) (omega (arith, mul-le-mul-right D (q .near k l)))
 
       y : ℕ → ℤ
       y k = weights s k *ℤ N k
 
       High : ℕ → Type 0
-      High k = pos (G * D) <ℤ y k
+      High k = pos (G k * D) <ℤ y k
 
       Low : ℕ → Type 0
-      Low k = y k <ℤ negℤ (pos (G * D))
+      Low k = y k <ℤ negℤ (pos (G k * D))
 
-      high-far : (k : ℕ) → k < s .count → High k → (F * D < natAbs (N k)) × (pos 0 <ℤ turn (way (N k)) (weights s k))
-      high-far k l h = (beyond (natAbs (weights s k)) (natAbs (N k)) (g .light k l) (rw (natAbs-mul (weights s k) (N k)) at (size-of (y k) h)) (decLt (F * D) (natAbs (N k))), sign-up (turn (way (N k)) (weights s k)) (natAbs (N k)) (G * D) (rw (ahead (weights s k) (N k)) at h))
+      high-far : (k : ℕ) → k < s .count → High k → (F k * D < natAbs (N k)) × (pos 0 <ℤ turn (way (N k)) (weights s k))
+      high-far k l h = (beyond (natAbs (weights s k)) (F k) (natAbs (N k)) (rw (natAbs-mul (weights s k) (N k)) at (size-of (G k * D) (y k) h)) (decLt (F k * D) (natAbs (N k))), sign-up (turn (way (N k)) (weights s k)) (natAbs (N k)) (G k * D) (rw (ahead (weights s k) (N k)) at h))
         where
-          size-of : (y : ℤ) → pos (G * D) <ℤ y → G * D < natAbs y
-          size-of = split _ (λ a b. simp zed (omega arith))
+          size-of : (m : ℕ) (y : ℤ) → pos m <ℤ y → m < natAbs y
+          size-of m = split _ (λ a b. simp zed (omega arith))
 
-      low-far : (k : ℕ) → k < s .count → Low k → (F * D < natAbs (N k)) × (turn (way (N k)) (weights s k) <ℤ pos 0)
-      low-far k l h = (beyond (natAbs (weights s k)) (natAbs (N k)) (g .light k l) (rw (natAbs-mul (weights s k) (N k)) at (size-of (y k) h)) (decLt (F * D) (natAbs (N k))), sign-dn (turn (way (N k)) (weights s k)) (natAbs (N k)) (G * D) (rw (ahead (weights s k) (N k)) at h))
+      low-far : (k : ℕ) → k < s .count → Low k → (F k * D < natAbs (N k)) × (turn (way (N k)) (weights s k) <ℤ pos 0)
+      low-far k l h = (beyond (natAbs (weights s k)) (F k) (natAbs (N k)) (rw (natAbs-mul (weights s k) (N k)) at (size-of (G k * D) (y k) h)) (decLt (F k * D) (natAbs (N k))), sign-dn (turn (way (N k)) (weights s k)) (natAbs (N k)) (G k * D) (rw (ahead (weights s k) (N k)) at h))
         where
-          size-of : (y : ℤ) → y <ℤ negℤ (pos (G * D)) → G * D < natAbs y
-          size-of = split _ (λ a b. simp zed (omega arith))
+          size-of : (m : ℕ) (y : ℤ) → y <ℤ negℤ (pos m) → m < natAbs y
+          size-of m = split _ (λ a b. simp zed (omega arith))
 
       apart : (i j : ℕ) → High i → Low j → j ≢ i
-      apart i j h l e = clash (y i) h (rw e at l)
+      apart i j h l e = clash (G i * D) (y i) h (subst Low e l)
         where
-          clash : (y : ℤ) → pos (G * D) <ℤ y → y <ℤ negℤ (pos (G * D)) → ⊥
-          clash = split _ (λ a b. simp zed (omega arith))
+          clash : (m : ℕ) (y : ℤ) → pos m <ℤ y → y <ℤ negℤ (pos m) → ⊥
+          clash m = split _ (λ a b. simp zed (omega arith))
 
       -- back in a heavy way, there is room
       room : (e : ℕ) (w l x : ℤ) → w ≤ℤ l → pos 0 ≤ℤ x → (w -ℤ x *ℤ pos e) ≤ℤ l
@@ -402,7 +462,7 @@ module _ (A B C F G : ℕ) (F-far : B + A ≤ F) (G-far : A * F ≤ G) (s : Inst
       swapped i j li lj hi hj (inl c) = let fi = high-far i li hi in
           ease N p i li D D≥1 (unit i li (some-up (way (N i)) (weights s i) (fi .1)) (fi .0)) (whole i li) (room D (weighsᴰ s N) (s .capacity *ℤ pos D) (turn (way (N i)) (weights s i)) (p .fits) (weak< _ _ (fi .1))) c
       swapped i j li lj hi hj (inr c) = let fi = high-far i li hi in let fj = low-far j lj hj in
-          swap N p i j li lj (apart i j hi hj) (away (natAbs (weights s j)) i li (g .light j lj) (fi .0)) (away (natAbs (weights s i)) j lj (g .light i li) (fj .0)) (fi .1) c (fj .1)
+          swap N p i j li lj (apart i j hi hj) (away (natAbs (weights s j)) i li (g .light j lj (opens j lj (fj .0))) (fi .0)) (away (natAbs (weights s i)) j lj (g .light i li (opens i li (fi .0))) (fj .0)) (fi .1) c (fj .1)
 
       full : (w : Way) (a x l : ℤ) → natAbs a ≤ A → l <ℤ (x -ℤ turn w a *ℤ pos D) → l ≤ℤ (x +ℤ pos (A * D))
       full fore a x l = go a x l
@@ -420,27 +480,27 @@ module _ (A B C F G : ℕ) (F-far : B + A ≤ F) (G-far : A * F ≤ G) (s : Inst
           go : (a x l : ℤ) → natAbs a ≤ A → l <ℤ (x -ℤ negℤ a *ℤ pos D) → l ≤ℤ (x +ℤ pos (A * D))
           go = split3 _ (λ a b c e f g. simp zed (λ h k. omega (arith, mul-le-mul-right D (one a b h))))
 
-      slack : (j : ℕ) → j < s .count → Low j → Each (s .count) (Held N) → Each (s .count) (λ k. y k ≤ℤ pos (G * D))
+      slack : (j : ℕ) → j < s .count → Low j → Each (s .count) (Held N) → Each (s .count) (λ k. y k ≤ℤ pos (G k * D))
           → ((weighsᴰ s N -ℤ turn (way (N j)) (weights s j) *ℤ pos D) ≤ℤ (s .capacity *ℤ pos D)) ⊎ ((s .capacity *ℤ pos D) <ℤ (weighsᴰ s N -ℤ turn (way (N j)) (weights s j) *ℤ pos D)) → Near N ⊎ Next N
       slack j lj hj h high (inl r) = let fj = low-far j lj hj in let b = unit j lj (some-dn (way (N j)) (weights s j) (fj .1)) (fj .0) in inr (ease N p j lj D D≥1 b (whole j lj) r (nr .one j lj (way (N j)) (b .free) (weak< _ _ (fj .1))))
-      slack j lj hj h high (inr f) = inl (near-high N h high (full (way (N j)) (weights s j) (weighsᴰ s N) (s .capacity *ℤ pos D) (g .light j lj) f))
+      slack j lj hj h high (inr f) = inl (near-high N h high (full (way (N j)) (weights s j) (weighsᴰ s N) (s .capacity *ℤ pos D) (g .light j lj (opens j lj (low-far j lj hj .0))) f))
 
-      highs : (j : ℕ) → j < s .count → Low j → Each (s .count) (Held N) → ((k : ℕ) × (k < s .count) × High k) ⊎ Each (s .count) (λ k. y k ≤ℤ pos (G * D)) → Near N ⊎ Next N
+      highs : (j : ℕ) → j < s .count → Low j → Each (s .count) (Held N) → ((k : ℕ) × (k < s .count) × High k) ⊎ Each (s .count) (λ k. y k ≤ℤ pos (G k * D)) → Near N ⊎ Next N
       highs j lj hj h (inl (i, li, hi)) = inr (swapped i j li lj hi hj (≤ℤ-or-< (turn (way (N i)) (prices s i)) (pos 0)))
       highs j lj hj h (inr high) = slack j lj hj h high (≤ℤ-or-< (weighsᴰ s N -ℤ turn (way (N j)) (weights s j) *ℤ pos D) (s .capacity *ℤ pos D))
 
-      lows : Each (s .count) (Held N) → ((k : ℕ) × (k < s .count) × Low k) ⊎ Each (s .count) (λ k. negℤ (pos (G * D)) ≤ℤ y k) → Near N ⊎ Next N
-      lows h (inl (j, lj, hj)) = highs j lj hj h (find (s .count) High (λ k. y k ≤ℤ pos (G * D)) (λ k. other (≤ℤ-or-< (y k) (pos (G * D)))))
+      lows : Each (s .count) (Held N) → ((k : ℕ) × (k < s .count) × Low k) ⊎ Each (s .count) (λ k. negℤ (pos (G k * D)) ≤ℤ y k) → Near N ⊎ Next N
+      lows h (inl (j, lj, hj)) = highs j lj hj h (find (s .count) High (λ k. y k ≤ℤ pos (G k * D)) (λ k. other (≤ℤ-or-< (y k) (pos (G k * D)))))
       lows h (inr low) = inl (near-low N p h low)
 
       still : (w : Way) (a : ℤ) → a ≡ pos 0 → turn w a ≡ pos 0
       still fore a h = h
       still aft a h = ap negℤ h
 
-      idle : ((k : ℕ) × (k < s .count) × ((F * D < natAbs (N k)) × (weights s k ≡ pos 0))) ⊎ Each (s .count) (Held N) → Near N ⊎ Next N
+      idle : ((k : ℕ) × (k < s .count) × ((F k * D < natAbs (N k)) × (weights s k ≡ pos 0))) ⊎ Each (s .count) (Held N) → Near N ⊎ Next N
       idle (inl (k, l, (f, z))) = let b = rest k l f in let o = still (way (N k)) (weights s k) z in
-          inr (ease N p k l (natAbs (N k) - F * D) (omega arith) b (resting D F (s .item k .mark) (N k) f) (room (natAbs (N k) - F * D) (weighsᴰ s N) (s .capacity *ℤ pos D) (turn (way (N k)) (weights s k)) (p .fits) (≤ℤ-reflexive (sym o))) (nr .one k l (way (N k)) (b .free) (≤ℤ-reflexive o)))
-      idle (inr h) = lows h (find (s .count) Low (λ k. negℤ (pos (G * D)) ≤ℤ y k) (λ k. other (≤ℤ-or-< (negℤ (pos (G * D))) (y k))))
+          inr (ease N p k l (natAbs (N k) - F k * D) (omega arith) b (resting D (F k) (s .item k .mark) (N k) f) (room (natAbs (N k) - F k * D) (weighsᴰ s N) (s .capacity *ℤ pos D) (turn (way (N k)) (weights s k)) (p .fits) (≤ℤ-reflexive (sym o))) (nr .one k l (way (N k)) (b .free) (≤ℤ-reflexive o)))
+      idle (inr h) = lows h (find (s .count) Low (λ k. negℤ (pos (G k * D)) ≤ℤ y k) (λ k. other (≤ℤ-or-< (negℤ (pos (G k * D))) (y k))))
 
   -- THE REACH: every feasible point has one of no lower value within R
   reach : (N : ℕ → ℤ) → Feasibleᴰ s D N → (N′ : ℕ → ℤ) × Feasibleᴰ s D N′ × Near N′ × (valueᴰ s N ≤ℤ valueᴰ s N′)
@@ -490,17 +550,17 @@ out-of-shut-at R s D N p = record { keeps = λ k l. record { marked = p .keeps k
     up r (At b) n k = k
 
 -- every feasible point of s has one of no lower value in shutAt R s
-pub reach-within : {A B C : ℕ} {R : ℕ → ℕ} (s : Instance) → RangesAt A B C s → Reaches A B C s R → NoRay s → (D : ℕ) → 1 ≤ D → (N : ℕ → ℤ) → Feasibleᴰ s D N
+pub reach-within : {A : ℕ} {B : ℕ → ℕ} {C : ℕ} {R : ℕ → ℕ} (s : Instance) → RangesAt A B C s → Reaches A B C s R → NoRay s → (D : ℕ) → 1 ≤ D → (N : ℕ → ℤ) → Feasibleᴰ s D N
     → (N′ : ℕ → ℤ) × Feasibleᴰ (shutAt R s) D N′ × (valueᴰ s N ≤ℤ valueᴰ s N′)
-reach-within {A} {B} {C} {R} s g e nr D d N p = let r = reach A B C (B + A) (A * (B + A)) (omega arith) (omega arith) s R (e .enough) (e .far) D d g nr N p in (r .0, into-shut-at R s D (r .0) (r .1) (r .2), r .3)
+reach-within {A} {B} {C} {R} s g e nr D d N p = let r = reach A B C s R e D d g nr N p in (r .0, into-shut-at R s D (r .0) (r .1) (r .2), r .3)
 
-pub reach-at-most-at : {A B C : ℕ} {R : ℕ → ℕ} (s : Instance) → RangesAt A B C s → Reaches A B C s R → NoRay s → (W : ℤ) (E : ℕ) → AtMost (shutAt R s) W E → AtMost s W E
+pub reach-at-most-at : {A : ℕ} {B : ℕ → ℕ} {C : ℕ} {R : ℕ → ℕ} (s : Instance) → RangesAt A B C s → Reaches A B C s R → NoRay s → (W : ℤ) (E : ℕ) → AtMost (shutAt R s) W E → AtMost s W E
 reach-at-most-at s g e nr W E a D N d p = let r = reach-within s g e nr D d N p in ≤ℤ-trans (times-≤ E (valueᴰ s N) (valueᴰ s (r .0)) (r .2)) (a D (r .0) d (r .1))
 
-pub reach-empty-at : {A B C : ℕ} {R : ℕ → ℕ} (s : Instance) → RangesAt A B C s → Reaches A B C s R → NoRay s → ((D : ℕ) (N : ℕ → ℤ) → 1 ≤ D → ¬ Feasibleᴰ (shutAt R s) D N) → (D : ℕ) (N : ℕ → ℤ) → 1 ≤ D → ¬ Feasibleᴰ s D N
+pub reach-empty-at : {A : ℕ} {B : ℕ → ℕ} {C : ℕ} {R : ℕ → ℕ} (s : Instance) → RangesAt A B C s → Reaches A B C s R → NoRay s → ((D : ℕ) (N : ℕ → ℤ) → 1 ≤ D → ¬ Feasibleᴰ (shutAt R s) D N) → (D : ℕ) (N : ℕ → ℤ) → 1 ≤ D → ¬ Feasibleᴰ s D N
 reach-empty-at s g e nr h D N d p = let r = reach-within s g e nr D d N p in h D (r .0) d (r .1)
 
-pub reach-optimal-at : {A B C : ℕ} {R : ℕ → ℕ} (s : Instance) → RangesAt A B C s → Reaches A B C s R → NoRay s → (E : ℕ) (M : ℕ → ℤ) → Optimalᴰ (shutAt R s) E M → Optimalᴰ s E M
+pub reach-optimal-at : {A : ℕ} {B : ℕ → ℕ} {C : ℕ} {R : ℕ → ℕ} (s : Instance) → RangesAt A B C s → Reaches A B C s R → NoRay s → (E : ℕ) (M : ℕ → ℤ) → Optimalᴰ (shutAt R s) E M → Optimalᴰ s E M
 reach-optimal-at {R = R} s g e nr E M b = record { feasible = out-of-shut-at R s E M (b .feasible); highest = reach-at-most-at s g e nr (valueᴰ s M) E (b .highest) }
 
 -- ---- at the limits of the format, ±300,000,000
@@ -508,14 +568,48 @@ reach-optimal-at {R = R} s g e nr E M b = record { feasible = out-of-shut-at R s
 abbrev pub Around : Bound → Type 0
 Around b = AroundAt 10000 b
 
-abbrev pub Ranges : Instance → Type 0
-Ranges s = RangesAt 1000 10000 100000000 s
+-- at most 16 items, and every figure within its limit
+pub record Ranges (s : Instance) : Type 0 where
+  pub few : s .count ≤ 16
+  pub light : (k : ℕ) → k < s .count → natAbs (weights s k) ≤ 1000
+  pub lowers : (k : ℕ) → k < s .count → Around (s .item k .lower)
+  pub uppers : (k : ℕ) → k < s .count → Around (s .item k .upper)
+  pub limited : natAbs (s .capacity) ≤ 100000000
 
 abbrev pub farthest : ℕ → ℕ
 farthest k = 300000000
 
-pub format-reaches : (s : Instance) → s .count ≤ 16 → Reaches 1000 10000 100000000 s farthest
-format-reaches s few = record { enough = λ k l h. omega (arith, mul-le-mul-right 300000000 h); far = λ k l. omega arith }
+format-ranges : (s : Instance) → Ranges s → RangesAt 1000 (λ k. 10000) 100000000 s
+format-ranges s g = record { light = λ k l o. g .light k l; lowers = g .lowers; uppers = g .uppers; limited = g .limited }
+
+format-reaches : (s : Instance) → Ranges s → Reaches 1000 (λ k. 10000) 100000000 s farthest
+format-reaches s g = record {
+  lead = λ k. 11000;
+  near = λ k l. omega arith;
+  back-far = λ k l o. omega arith;
+  total = tally (s .count);
+  total-is = tally-is (s .count);
+  enough = λ k l h. omega (arith, mul-le-mul-right 300000000 h, tally-small (s .count) (g .few) (λ k l. g .light k l));
+  far = λ k l. omega arith;
+}
+  where
+    tally : ℕ → ℕ
+    tally zero = 0
+    tally (suc n) = tally n + natAbs (weights s n) * 11000
+
+    tally-is : (n : ℕ) → pos (tally n) ≡ sum n (λ k. pos (natAbs (weights s k) * 11000))
+    tally-is zero = refl
+    tally-is (suc n) = more (tally n) (natAbs (weights s n) * 11000) ∙ ap (λ z. z +ℤ pos (natAbs (weights s n) * 11000)) (tally-is n)
+      where
+        more : (a b : ℕ) → pos (a + b) ≡ pos a +ℤ pos b
+        more a b = simp zed (omega arith)
+
+    tally-small : (n : ℕ) → n ≤ 16 → ((k : ℕ) → k < n → natAbs (weights s k) ≤ 1000) → tally n ≤ 176000000
+    tally-small n h w = omega (arith, go n w)
+      where
+        go : (n : ℕ) → ((k : ℕ) → k < n → natAbs (weights s k) ≤ 1000) → tally n ≤ n * 11000000
+        go zero w = omega arith
+        go (suc n) w = omega (arith, go n (λ k l. w k (omega arith)), mul-le-mul-right 11000 (w n (omega arith)))
 
 abbrev pub lowers : Instance → ℕ → Bound
 lowers s k = lowersAt farthest s k
@@ -533,10 +627,10 @@ pub out-of-shut : (s : Instance) (D : ℕ) (N : ℕ → ℤ) → Feasibleᴰ (sh
 out-of-shut s D N p = out-of-shut-at farthest s D N p
 
 pub reach-at-most : (s : Instance) → Ranges s → NoRay s → (W : ℤ) (E : ℕ) → AtMost (shut s) W E → AtMost s W E
-reach-at-most s g nr W E a = reach-at-most-at s g (format-reaches s (g .few)) nr W E a
+reach-at-most s g nr W E a = reach-at-most-at s (format-ranges s g) (format-reaches s g) nr W E a
 
 pub reach-empty : (s : Instance) → Ranges s → NoRay s → ((D : ℕ) (N : ℕ → ℤ) → 1 ≤ D → ¬ Feasibleᴰ (shut s) D N) → (D : ℕ) (N : ℕ → ℤ) → 1 ≤ D → ¬ Feasibleᴰ s D N
-reach-empty s g nr h = reach-empty-at s g (format-reaches s (g .few)) nr h
+reach-empty s g nr h = reach-empty-at s (format-ranges s g) (format-reaches s g) nr h
 
 pub reach-optimal : (s : Instance) → Ranges s → NoRay s → (E : ℕ) (M : ℕ → ℤ) → Optimalᴰ (shut s) E M → Optimalᴰ s E M
-reach-optimal s g nr E M b = reach-optimal-at s g (format-reaches s (g .few)) nr E M b
+reach-optimal s g nr E M b = reach-optimal-at s (format-ranges s g) (format-reaches s g) nr E M b

@@ -4,31 +4,34 @@
 use mathlib.Core.Path.{_≡_, refl, sym, ap, ap₂, _∙_}
 use mathlib.Core.Bool.{Bool, true, false, cond}
 use mathlib.Core.List.{List}
+use mathlib.Core.Logic.{inl, inr}
 use Prim.Native.Nat.{ℕ, zero, suc, _+_, _*_, _/_, _≤_, _<_}
 use native.Mathlib.Decide.{decLt, ℕ-discrete}
 use native.Mathlib.Nat.{mul-le-mul, div-add-mod, div-le-self, mod-lt}
 use native.Mathlib.Omega.{arith}
 use borrow.Author.Tests.{ltb-true, ltb-false}
 use lib.Dec.{ltb}
-use lib.IntN.{ℤ, pos, negℤ, natAbs}
+use lib.IntN.{ℤ, pos, negℤ, natAbs, _+ℤ_}
 use lib.ListN.{length, List·getD-eq-default}
 use lib.Signed.{_≤ℤ_, _<ℤ_, ≤ℤ-refl, ltZ}
+use Rattle.arith.specs.Sum.{sum}
 use Rattle.arith.specs.Within.{Within}
 use Rattle.arith.proofs.Integers.{split, split2, zed, ≤ℤ-trans, ≤ℤ-antisym}
 use Rattle.arith.proofs.Parts.{neg-within, abs-within}
 use Rattle.arith.proofs.Words.{yes-lt, no-lt, le-no}
 use Rattle.knapsack.proofs.Common.{Feasibleᴰ, Optimalᴰ}
-use Rattle.knapsack.proofs.Reach.{NoRay, AroundAt, RangesAt, Reaches, shutAt, reach-empty-at, reach-optimal-at}
+use Rattle.knapsack.proofs.Reach.{NoRay, AroundAt, Open, RangesAt, Reaches, shutAt, reach-empty-at, reach-optimal-at}
 use Rattle.knapsack.specs.Meaning.{Instance, instanceOf}
-use Rattle.knapsack.specs.Records.{itemAt, BoundInRange, InRange}
+use Rattle.knapsack.specs.Records.{itemAt, BoundInRange, ItemInRange, InRange}
 use Rattle.knapsack.specs.declared.Bound.the-variants.{Absent, At}
 use Rattle.knapsack.specs.declared.Bound.{Bound}
+use Rattle.knapsack.specs.declared.Item.{Item}
 use Rattle.knapsack.specs.declared.Problem.{Problem}
 use Rattle.greedy.specs.Fill.{at, weightOf}
 use Rattle.search.specs.Search.{levelAt}
 use Rattle.search.specs.declared.Setting.{Setting}
 use Rattle.tables.specs.Figures.{endOr}
-use Rattle.prepare.specs.Narrowing.{larger, boundSize, grownBy, mostOf, reachOf, spanBy, spanOf, clampTo, Narrowed, Small}
+use Rattle.prepare.specs.Narrowing.{larger, boundSize, isAbsent, isOpen, openWeight, grownBy, mostOf, ownBound, leadBy, burdenOf, reachOf, spanBy, spanOf, clampTo, Narrowed, Small}
 use Rattle.prepare.specs.declared.Reach.{Reach}
 use Rattle.prepare.specs.Prepared.{PreparedAt, Prepared}
 
@@ -59,8 +62,16 @@ bound-small : (b : Bound) → BoundInRange b → boundSize b ≤ 10000
 bound-small Absent h = omega arith
 bound-small (At v) h = h
 
-pub product-small : (a b : ℕ) → a ≤ 1000 → b ≤ 10000 → a * (b + a) ≤ 11000000
-product-small a b ha hb = let h : b + a ≤ 11000 = omega arith in mul-le-mul ha h
+-- the weight of an open item is at most that of an item
+open-small : (a m : ℕ) (t : Bool) → a ≤ m → cond t a 0 ≤ m
+open-small a m true h = h
+open-small a m false h = omega arith
+
+pub own-small : (i : Item) → ItemInRange i → ownBound i ≤ 10000
+own-small i r = larger-most (boundSize (i .lower)) (boundSize (i .upper)) 10000 (bound-small (i .lower) (r .lower-in)) (bound-small (i .upper) (r .upper-in))
+
+pub lead-small : (a : ℕ) (i : Item) → a ≤ 1000 → ItemInRange i → leadBy a i ≤ 11000
+lead-small a i h r = omega (arith, own-small i r, open-small a 1000 (isOpen i) h)
 
 module _ (p : Problem) (r : InRange p) where
   pub most-small : (n : ℕ) → n ≤ p .count → (mostOf p n .weight ≤ 1000) × (mostOf p n .bound ≤ 10000)
@@ -69,13 +80,18 @@ module _ (p : Problem) (r : InRange p) where
   most-small (suc n) h =
       let m = most-small n (omega arith) in
       let i = r .items-in n h in (
-        larger-most (mostOf p n .weight) (natAbs (itemAt p n .weight)) 1000 (m .0) (i .weight-in),
+        larger-most (mostOf p n .weight) (openWeight (itemAt p n)) 1000 (m .0) (open-small (natAbs (itemAt p n .weight)) 1000 (isOpen (itemAt p n)) (i .weight-in)),
         larger-most (larger (mostOf p n .bound) (boundSize (itemAt p n .lower))) (boundSize (itemAt p n .upper)) 10000 (larger-most (mostOf p n .bound) (boundSize (itemAt p n .lower)) 10000 (m .1) (bound-small (itemAt p n .lower) (i .lower-in))) (bound-small (itemAt p n .upper) (i .upper-in)),
       )
 
+  pub burden-small : (a n : ℕ) → a ≤ 1000 → n ≤ p .count → burdenOf p a n ≤ n * 11000000
+  unfolding burdenOf
+  burden-small a zero h l = omega arith
+  burden-small a (suc n) h l = omega (arith, burden-small a n h (omega arith), mul-le-mul (r .items-in n l .weight-in) (lead-small a (itemAt p n) h (r .items-in n l)))
+
   pub reach-small : Small (reachOf p)
   unfolding reachOf
-  reach-small = record { weight-in = go (p .count) (natAbs (p .capacity)) A B (r .few-items) (r .capacity-in) a≤ b≤; amount-in = omega (arith, a≤, b≤) }
+  reach-small = record { weight-in = omega (arith, r .few-items, r .capacity-in, a≤, burden-small A (p .count) a≤ (omega arith)); amount-in = omega (arith, a≤, b≤) }
     where
       A : ℕ
       A = mostOf p (p .count) .weight
@@ -89,15 +105,12 @@ module _ (p : Problem) (r : InRange p) where
       b≤ : B ≤ 10000
       b≤ = most-small (p .count) (omega arith) .1
 
-      go : (n c a b : ℕ) → n ≤ 16 → c ≤ 100000000 → a ≤ 1000 → b ≤ 10000 → c + n * (a * (b + a)) + a ≤ 280000000
-      go n c a b hn hc ha hb = omega (arith, mul-le-mul hn (product-small a b ha hb))
-
 pub span-small : (r : Reach) → Small r → (a : ℤ) → spanBy r a ≤ 300000000
 span-small r z a = omega (arith, z .weight-in, z .amount-in, div-le-self (r .weight) (larger 1 (natAbs a)))
 
 -- each of the first n items is covered
 pub record Covers (p : Problem) (a b k : ℕ) : Type 0 where
-  pub weight : natAbs (itemAt p k .weight) ≤ a
+  pub weight : openWeight (itemAt p k) ≤ a
   pub lower : boundSize (itemAt p k .lower) ≤ b
   pub upper : boundSize (itemAt p k .upper) ≤ b
 
@@ -111,12 +124,12 @@ most-covers p (suc n) k h = go (ℕ-discrete k n) (most-covers p n k)
 
     go : Dec (k ≡ n) → (k < n → Covers p (mostOf p n .weight) (mostOf p n .bound) k) → Covers p (grownBy (mostOf p n) (itemAt p n) .weight) (grownBy (mostOf p n) (itemAt p n) .bound) k
     go (yes q) ih = rw q (record {
-      weight = larger-right (mostOf p n .weight) (natAbs (itemAt p n .weight));
+      weight = larger-right (mostOf p n .weight) (openWeight (itemAt p n));
       lower = omega (arith, larger-right (mostOf p n .bound) (boundSize (itemAt p n .lower)), larger-left M (boundSize (itemAt p n .upper)));
       upper = larger-right M (boundSize (itemAt p n .upper));
     })
     go (no q) ih = let c = ih (omega arith) in record {
-      weight = omega (arith, c .weight, larger-left (mostOf p n .weight) (natAbs (itemAt p n .weight)));
+      weight = omega (arith, c .weight, larger-left (mostOf p n .weight) (openWeight (itemAt p n)));
       lower = omega (arith, c .lower, larger-left (mostOf p n .bound) (boundSize (itemAt p n .lower)), larger-left M (boundSize (itemAt p n .upper)));
       upper = omega (arith, c .upper, larger-left (mostOf p n .bound) (boundSize (itemAt p n .lower)), larger-left M (boundSize (itemAt p n .upper)));
     }
@@ -130,19 +143,27 @@ module _ (p : Problem) (range : InRange p) where
   abbrev A : ℕ
   A = mostOf p (p .count) .weight
 
-  abbrev B : ℕ
-  B = mostOf p (p .count) .bound
+  abbrev B : ℕ → ℕ
+  B k = ownBound (itemAt p k)
 
-  around : (b : Bound) → boundSize b ≤ B → AroundAt B b
-  around Absent h = tt
-  around (At v) h = h
+  around : (b : Bound) (m : ℕ) → boundSize b ≤ m → AroundAt m b
+  around Absent m h = tt
+  around (At v) m h = h
+
+  -- an item that lacks a bound is open
+  is-open : (k : ℕ) → Open (I .item k) → isOpen (itemAt p k) ≡ true
+  is-open k (inl e) = rw e
+  is-open k (inr e) = rw e (either (isAbsent (itemAt p k .lower)))
+    where
+      either : (b : Bool) → cond b true true ≡ true
+      either true = refl
+      either false = refl
 
   ranges : RangesAt A B (natAbs (p .capacity)) I
   ranges = record {
-    few = range .few-items;
-    light = λ k l. most-covers p (p .count) k l .weight;
-    lowers = λ k l. around (itemAt p k .lower) (most-covers p (p .count) k l .lower);
-    uppers = λ k l. around (itemAt p k .upper) (most-covers p (p .count) k l .upper);
+    light = λ k l o. rw (is-open k o) at (most-covers p (p .count) k l .weight);
+    lowers = λ k l. around (itemAt p k .lower) (B k) (larger-left (boundSize (itemAt p k .lower)) (boundSize (itemAt p k .upper)));
+    uppers = λ k l. around (itemAt p k .upper) (B k) (larger-right (boundSize (itemAt p k .lower)) (boundSize (itemAt p k .upper)));
     limited = omega arith;
   }
 
@@ -157,9 +178,31 @@ module _ (p : Problem) (range : InRange p) where
   covers : (f w a : ℕ) → 1 ≤ a → w ≤ a * (f + w / a + 1)
   covers f w a h = omega (arith, div-add-mod w a, mod-lt w h)
 
+  burden-is : (a n : ℕ) → pos (burdenOf p a n) ≡ sum n (λ k. pos (natAbs (itemAt p k .weight) * leadBy a (itemAt p k)))
+  unfolding burdenOf
+  burden-is a zero = refl
+  burden-is a (suc n) = more (burdenOf p a n) (natAbs (itemAt p n .weight) * leadBy a (itemAt p n)) ∙ ap (λ z. z +ℤ pos (natAbs (itemAt p n .weight) * leadBy a (itemAt p n))) (burden-is a n)
+    where
+      more : (a b : ℕ) → pos (a + b) ≡ pos a +ℤ pos b
+      more a b = simp zed (omega arith)
+
+  T : ℕ
+  T = burdenOf p A (p .count)
+
   reaches : Reaches A B (natAbs (p .capacity)) I (spanOf p)
-  unfolding reachOf
-  reaches = record { enough = λ k l h. rw (larger-one (natAbs (itemAt p k .weight)) h) (covers (B + A) (natAbs (p .capacity) + p .count * (A * (B + A)) + A) (natAbs (itemAt p k .weight)) h); far = λ k l. omega arith }
+  unfolding reachOf T
+  reaches = record {
+    lead = λ k. leadBy A (itemAt p k);
+    near = λ k l. omega arith;
+    back-far = λ k l o. rw (is-open k o) (omega arith);
+    total = T;
+    total-is = burden-is A (p .count);
+    enough = λ k l h. rw (larger-one (natAbs (itemAt p k .weight)) h) (covers (mostOf p (p .count) .bound + A) (natAbs (p .capacity) + T + A) (natAbs (itemAt p k .weight)) h);
+    far = λ k l. omega (arith, lead≤ k l);
+  }
+    where
+      lead≤ : (k : ℕ) → k < p .count → leadBy A (itemAt p k) ≤ mostOf p (p .count) .bound + A
+      lead≤ k l = let c = most-covers p (p .count) k l in omega (arith, larger-most (boundSize (itemAt p k .lower)) (boundSize (itemAt p k .upper)) (mostOf p (p .count) .bound) (c .lower) (c .upper), open-small A A (isOpen (itemAt p k)) (omega arith))
 
   -- what holds of the problem closed at its spans holds of the problem
   pub near-optimal : NoRay I → (E : ℕ) (M : ℕ → ℤ) → Optimalᴰ (shutAt (spanOf p) I) E M → Optimalᴰ I E M

@@ -1,12 +1,13 @@
 -- How far a search of a problem without a ray has to go, and a setting that goes no farther.
---   mostOf p n        the greatest weight and the greatest bound of the first n items, without sign
+--   mostOf p n        the greatest weight of an item that lacks a bound, and the greatest bound, of the first n items, without sign
+--   burdenOf p a n    what the first n items weigh as far as they lead: to their bounds, and a farther if one is absent
 --   reachOf p         how far the items of p lead: in weight, and in amount
 --   spanOf p k        how far item k has to go, which is enough (knapsack, proofs/Reach)
 --   clampBy l u x     x, or the nearest of l and u
 --   clampTo r x       x, or the nearest of -r and r
 --   Narrowed s r t    t is s with every item's ends clamped to its span
 use mathlib.Core.Path.{_≡_}
-use mathlib.Core.Bool.{cond}
+use mathlib.Core.Bool.{Bool, true, false, cond}
 use Prim.Native.Nat.{ℕ, zero, suc, _+_, _*_, _/_, _≤_, _<_}
 use lib.Dec.{ltb}
 use lib.IntN.{ℤ, pos, negℤ, natAbs}
@@ -30,19 +31,41 @@ abbrev pub boundSize : Bound → ℕ
 boundSize Absent = 0
 boundSize (At v) = natAbs v
 
+abbrev pub isAbsent : Bound → Bool
+isAbsent Absent = true
+isAbsent (At v) = false
+
+-- an item that lacks a bound
+abbrev pub isOpen : Item → Bool
+isOpen i = cond (isAbsent (i .lower)) true (isAbsent (i .upper))
+
+abbrev pub openWeight : Item → ℕ
+openWeight i = cond (isOpen i) (natAbs (i .weight)) 0
+
 abbrev pub grownBy : Most → Item → Most
-grownBy m i = record { weight = larger (m .weight) (natAbs (i .weight)); bound = larger (larger (m .bound) (boundSize (i .lower))) (boundSize (i .upper)) }
+grownBy m i = record { weight = larger (m .weight) (openWeight i); bound = larger (larger (m .bound) (boundSize (i .lower))) (boundSize (i .upper)) }
 
 unfoldable pub mostOf : Problem → ℕ → Most
 mostOf p zero = record { weight = 0; bound = 0 }
 mostOf p (suc n) = grownBy (mostOf p n) (itemAt p n)
 
--- what an item of p may weigh: the capacity, and each item's weight as far as bounds and weights lead; and how far those lead
-abbrev pub reachBy : ℕ → ℤ → Most → Reach
-reachBy n b m = record { weight = natAbs b + n * (m .weight * (m .bound + m .weight)) + m .weight; amount = m .bound + m .weight }
+-- how far an item leads: to its bounds, and a farther if it lacks one
+abbrev pub ownBound : Item → ℕ
+ownBound i = larger (boundSize (i .lower)) (boundSize (i .upper))
+
+abbrev pub leadBy : ℕ → Item → ℕ
+leadBy a i = ownBound i + cond (isOpen i) a 0
+
+-- what the first n items weigh as far as they lead
+unfoldable pub burdenOf : Problem → ℕ → ℕ → ℕ
+burdenOf p a zero = 0
+burdenOf p a (suc n) = burdenOf p a n + natAbs (itemAt p n .weight) * leadBy a (itemAt p n)
+
+abbrev pub reachBy : ℤ → Most → ℕ → Reach
+reachBy b m t = record { weight = natAbs b + t + m .weight; amount = m .bound + m .weight }
 
 unfoldable pub reachOf : Problem → Reach
-reachOf p = reachBy (p .count) (p .capacity) (mostOf p (p .count))
+reachOf p = reachBy (p .capacity) (mostOf p (p .count)) (burdenOf p (mostOf p (p .count) .weight) (p .count))
 
 -- the amounts of an item of weight a
 abbrev pub spanBy : Reach → ℤ → ℕ

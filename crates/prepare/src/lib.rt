@@ -29,7 +29,7 @@ ghost use Rattle.tables.specs.Tables.{Listing};
 
 mod narrowing; // narrowing.rt: the nearer box of a search
 
-// The greatest weight and the greatest bound of some items, without sign.
+// Of some items, without sign: the greatest weight of one that lacks a bound, and the greatest bound.
 pub struct Most {
     pub weight: u64,
     pub bound: u64,

@@ -9,13 +9,13 @@ use knapsack::Item;
 use knapsack::Problem;
 use search::Setting;
 ghost use mathlib.Core.Path.{_≡_};
-ghost use Prim.Native.Nat.{ℕ, _≤_, _<_};
-ghost use lib.IntN.{ℤ};
+ghost use Prim.Native.Nat.{ℕ, _*_, _≤_, _<_};
+ghost use lib.IntN.{ℤ, natAbs};
 ghost use Rattle.arith.specs.Within.{Within};
 ghost use Rattle.greedy.specs.Fill.{at, place};
 ghost use Rattle.knapsack.specs.Records.{ItemInRange, BoundInRange, InRange};
 ghost use Rattle.search.specs.Ready.{ReadySetting};
-ghost use Rattle.prepare.specs.Narrowing.{larger, boundSize, grownBy, mostOf, reachOf, spanBy, clampBy, clampTo, Narrowed, Small};
+ghost use Rattle.prepare.specs.Narrowing.{larger, boundSize, isAbsent, isOpen, openWeight, grownBy, mostOf, leadBy, burdenOf, reachOf, spanBy, clampBy, clampTo, Narrowed, Small};
 
 fn larger_of(a: u64, b: u64) -> u64
     ensures { λ r. ⌜ r ≡ larger a b ⌝ }
@@ -34,6 +34,37 @@ fn bound_size(b: Bound) -> u64
     }
 }
 
+fn is_absent(b: Bound) -> bool
+    ensures { λ r. ⌜ r ≡ isAbsent b ⌝ }
+{
+    match b {
+        Bound::Absent => true,
+        Bound::At(_) => false,
+    }
+}
+
+fn is_open(i: Item) -> bool
+    ensures { λ r. ⌜ r ≡ isOpen i ⌝ }
+{
+    let l = i.lower;
+    let u = i.upper;
+    if is_absent(l) {
+        return true;
+    }
+    is_absent(u)
+}
+
+// The weight of an item that lacks a bound.
+fn open_weight(i: Item) -> u64
+    requires { ⌜ ItemInRange i ⌝ }
+    ensures { λ r. ⌜ r ≡ openWeight i ⌝ }
+{
+    if is_open(i) {
+        return magnitude(i.weight);
+    }
+    0
+}
+
 // With one item more.
 fn grown(m: Most, i: Item) -> Most
     requires { ⌜ ItemInRange i ⌝ }
@@ -41,7 +72,7 @@ fn grown(m: Most, i: Item) -> Most
 {
     let l = i.lower;
     let u = i.upper;
-    let a = magnitude(i.weight);
+    let a = open_weight(i);
     let x = bound_size(l);
     let y = bound_size(u);
     Most {
@@ -68,18 +99,54 @@ fn most_of(p: Problem) -> Most
     m
 }
 
+// How far an item leads: to its bounds, and a farther if it lacks one.
+fn lead_of(i: Item, a: u64) -> u64
+    requires { ⌜ ItemInRange i × (a ≤ 1000) ⌝ }
+    ensures { λ r. ⌜ r ≡ leadBy a i ⌝ }
+{
+    let l = i.lower;
+    let u = i.upper;
+    let b = larger_of(bound_size(l), bound_size(u));
+    if is_open(i) {
+        return b + a;
+    }
+    b
+}
+
+// What an item weighs as far as it leads.
+fn burden_of(i: Item, a: u64) -> u64
+    requires { ⌜ ItemInRange i × (a ≤ 1000) ⌝ }
+    ensures { λ r. ⌜ (r ≡ natAbs (i .weight) * leadBy a i) × (r ≤ 11000000) ⌝ }
+{
+    magnitude(i.weight) * lead_of(i, a)
+}
+
+fn burden(p: Problem, a: u64) -> u64
+    requires { ⌜ InRange p × (a ≤ 1000) ⌝ }
+    ensures { λ r. ⌜ r ≡ burdenOf p a (p .count) ⌝ }
+{
+    let n = p.count;
+    let mut t: u64 = 0;
+    let mut k: usize = 0;
+    while k < n {
+        let i = p.items[k];
+        t += burden_of(i, a);
+        k += 1;
+    }
+    t
+}
+
 // How far a search has to go.
 pub fn reach_of(p: Problem) -> Reach
     requires { ⌜ InRange p ⌝ }
     ensures { λ r. ⌜ r ≡ reachOf p ⌝ }
 {
     let m = most_of(p);
-    let n = p.count as u64;
     let a = m.weight;
-    let b = m.bound;
+    let t = burden(p, a);
     Reach {
-        weight: magnitude(p.capacity) + n * (a * (b + a)) + a,
-        amount: b + a,
+        weight: magnitude(p.capacity) + t + a,
+        amount: m.bound + a,
     }
 }
 

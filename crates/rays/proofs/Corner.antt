@@ -14,7 +14,7 @@ use native.Mathlib.Nat.{mul-le-mul, mul-le-mul-right}
 use lib.IntN.{ℤ, pos, negsuc, negℤ, natAbs, _+ℤ_, _*ℤ_}
 use lib.Signed.{_≤ℤ_, _<ℤ_, ≤ℤ-refl, ltZ-yes}
 use Rattle.arith.proofs.Integers.{split, split3, zed, ≤ℤ-trans, natAbs-mul}
-use Rattle.arith.proofs.Sums.{sum-scale, part-of-sum}
+use Rattle.arith.proofs.Sums.{sum-scale, even-part-of-sum}
 use Rattle.arith.specs.Gcd.{gcdOf, gcdIn}
 use Rattle.arith.specs.Sum.{Each}
 use Rattle.arith.specs.declared.Fraction.{Fraction}
@@ -195,7 +195,7 @@ module _ (s : Instance) (g : Ranges s) (lo hi e : ℕ → ℤ) (c : LightCorner 
   -- with one item 300,000,000 out, everything weighs less than any capacity
   too-light : (k : ℕ) → k < s .count → (weights s k *ℤ e k) ≤ℤ negℤ (pos 300000000) → s .capacity <ℤ weighsᴰ s e → ⊥
   too-light k l far over = clash (weights s k *ℤ e k) (weighsᴰ s e) (s .capacity) (s .count * 10000000) (omega (arith, mul-le-mul-right 10000000 (g .few))) far over (g .limited)
-      (rw (sum-scale (s .count) (negsuc 0) (λ j. weights s j *ℤ e j)) at (part-of-sum (s .count) (λ j. negsuc 0 *ℤ (weights s j *ℤ e j)) 10000000 (λ j m. flip (weights s j *ℤ e j) (no-heavy-term j m)) k l))
+      (rw (sum-scale (s .count) (negsuc 0) (λ j. weights s j *ℤ e j)) at (even-part-of-sum (s .count) (λ j. negsuc 0 *ℤ (weights s j *ℤ e j)) 10000000 (λ j m. flip (weights s j *ℤ e j) (no-heavy-term j m)) k l))
     where
       flip : (y : ℤ) → y ≤ℤ pos 10000000 → negℤ (pos 10000000) ≤ℤ (negsuc 0 *ℤ y)
       flip = split _ (λ a b. simp zed (omega arith))
