@@ -42,6 +42,7 @@ struct Setting {
     levels: usize,
     level: [usize; 16],
     free: bool,
+    soft: Soft,
     lattice: [Lattice; 16],
     pairs: Vec<Option<(i64, i64)>>,
 }
@@ -52,6 +53,16 @@ struct Lattice {
     weight: i64,
     price: i64,
     gap: i64,
+}
+
+/// What free continuous items can add: they come at that rank or after, worth rate for size at most. Integer items weigh multiples of the
+/// stride; 0: nothing is known.
+#[derive(Clone, Copy, Default)]
+struct Soft {
+    stride: i64,
+    rank: usize,
+    rate: i64,
+    size: i64,
 }
 
 fn gcd(a: i64, b: i64) -> i64 {
@@ -138,7 +149,13 @@ fn prepare(p: &Problem) -> Setting {
         s.level[d] = k;
         s.levels += 1;
     }
-    s.free = p.items.iter().any(|i| !i.integer && (i.lower.is_none() || i.lower != i.upper));
+    let is_free = |i: &Item| !i.integer && (i.lower.is_none() || i.lower != i.upper);
+    s.free = p.items.iter().any(is_free);
+    if let Some(rank) = (0..s.count).find(|&r| is_free(&p.items[s.order[r]])) {
+        let stride = p.items.iter().filter(|i| i.integer).fold(0, |g, i| gcd(g, i.weight));
+        let (rate, size) = if rank < s.live { (s.rate[rank], s.size[rank]) } else { (0, 1) };
+        s.soft = Soft { stride, rank, rate, size };
+    }
     let mut lattice = Lattice::default();
     for d in (0..s.levels).rev() {
         let k = s.level[d];
@@ -375,7 +392,24 @@ impl Search<'_> {
         let Some(best) = self.best else {
             return false;
         };
-        !less(best.value, self.s.bound(f)) || !self.s.free && self.off_lattice(f, d, best.value.whole)
+        !less(best.value, self.s.bound(f)) || if self.s.free { self.off_strides(f, best.value) } else { self.off_lattice(f, d, best.value.whole) }
+    }
+
+    /// Integer items that take whole strides of the room, and continuous ones that take the rest, are worth no more than b.
+    fn off_strides(&self, f: Fill, b: Mixed) -> bool {
+        let s = self.s;
+        let m = s.soft;
+        if f.at >= s.live || m.stride == 0 || m.rank < f.at {
+            return false;
+        }
+        let (rate, size) = (s.rate[f.at], s.size[f.at]);
+        if rate * m.size < m.rate * size {
+            return false;
+        }
+        let rest = f.room % m.stride;
+        let worth = f.worth - (-rate * (f.room - rest)).div_euclid(size);
+        let x = m.rate * rest;
+        !less(b, Mixed { whole: worth + x / m.size, part: x % m.size, parts: m.size })
     }
 
     /// No point of the lattice within the limit and under the relaxation is worth more than b; the heaviest weights are tried.

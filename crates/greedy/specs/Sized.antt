@@ -44,7 +44,7 @@ pub record SizedFill (c : Columns) (f : Fill) : Type 0 where
 
 pub record Shareable (f : Fill) (s p : ℕ) : Type 0 where
   pub room-in : Within 20000000000000 (f .room)
-  pub worth-in : Within 200000000000000 (f .worth)
+  pub worth-in : Within 300000000000000000 (f .worth)
   pub size-in : 0 < s
   pub rate-in : p ≤ 10000
 

@@ -4,7 +4,7 @@
 use mathlib.Core.Path.{_≡_, refl, sym, ap, ap₂, _∙_}
 use mathlib.Core.Bool.{Bool, true, false, cond}
 use mathlib.Core.List.{List}
-use mathlib.Core.Logic.{inl, inr}
+use mathlib.Core.Logic.{_⊎_, inl, inr}
 use Prim.Native.Nat.{ℕ, zero, suc, _+_, _*_, _/_, _≤_, _<_}
 use native.Mathlib.Decide.{decLt, ℕ-discrete}
 use native.Mathlib.Nat.{mul-le-mul, div-add-mod, div-le-self, mod-lt}
@@ -28,6 +28,7 @@ use Rattle.knapsack.specs.declared.Bound.{Bound}
 use Rattle.knapsack.specs.declared.Item.{Item}
 use Rattle.knapsack.specs.declared.Problem.{Problem}
 use Rattle.greedy.specs.Fill.{at, weightOf}
+use Rattle.search.specs.Ready.{Mild}
 use Rattle.search.specs.Search.{levelAt}
 use Rattle.search.specs.declared.Setting.{Setting}
 use Rattle.tables.specs.Figures.{endOr}
@@ -318,13 +319,13 @@ module _ (p : Problem) (range : InRange p) (s t : Setting) (q : Prepared p s) (n
   ends-at xs f k x h e g = e ∙ ap₂ (λ (a y : ℤ). clampTo (spanBy (reachOf p) a) y) (q .weights k h) g
 
   pub narrowed-prepared : PreparedAt (spanOf p) p t
-  narrowed-prepared = made t (n .cols) (n .level) (n .levels) (n .lattice) (n .lo) (n .hi) (n .low) (n .high) (n .lengths)
+  narrowed-prepared = made t (n .cols) (n .level) (n .levels) (n .lattice) (n .soft) (n .lo) (n .hi) (n .low) (n .high) (n .lengths)
     where
-      made : (t : Setting) → t .cols ≡ s .cols → t .level ≡ s .level → t .levels ≡ s .levels → t .lattice ≡ s .lattice
+      made : (t : Setting) → t .cols ≡ s .cols → t .level ≡ s .level → t .levels ≡ s .levels → t .lattice ≡ s .lattice → t .soft ≡ s .soft
           → ((k : ℕ) → k < 16 → at (t .ends .lo) k ≡ clampTo (S k) (at (s .ends .lo) k)) → ((k : ℕ) → k < 16 → at (t .ends .hi) k ≡ clampTo (S k) (at (s .ends .hi) k))
           → ((d : ℕ) → d < s .levels → at (t .low) d ≡ at (t .ends .lo) (levelAt s d)) → ((d : ℕ) → d < s .levels → at (t .high) d ≡ at (t .ends .hi) (levelAt s d))
           → (length (t .ends .lo) ≡ 16) × (length (t .ends .hi) ≡ 16) → PreparedAt (spanOf p) p t
-      made t ec el en ea lo hi low high long = record {
+      made t ec el en ea ez lo hi low high long = record {
         count = rw ec (q .count);
         capacity = rw ec (q .capacity);
         weights = rw ec (q .weights);
@@ -348,6 +349,17 @@ module _ (p : Problem) (range : InRange p) (s t : Setting) (q : Prepared p s) (n
                 fixed = λ k l f. let x : k < s .cols .count = rw ec at l in let y : k < 16 = omega (arith, q .count, range .few-items) in lo k y ∙ ap (clampTo (S k)) (c .fixed k x (rw (el, en) at f)) ∙ sym (hi k y);
                 on = rw (ec, el, en, ea) (c .on);
               };
+          moderate = rw ez (q .ready .moderate);
+          softened = λ nz.
+              let z = q .ready .softened (rw ez at nz) in
+              record {
+                strides = rw (ec, el, en, ez) (z .strides);
+                mild = λ k h f. kept k (rw ec at h) (z .mild k (rw ec at h) (rw (el, en) at f));
+              };
         };
         marked = record { integer = rw (el, en) (q .marked .integer); level = rw (ec, el, en) (q .marked .level) };
       }
+        where
+          kept : (k : ℕ) → k < s .cols .count → (at (s .ends .lo) k ≡ at (s .ends .hi) k) ⊎ Mild (s .cols) (s .soft) k → (at (t .ends .lo) k ≡ at (t .ends .hi) k) ⊎ Mild (t .cols) (t .soft) k
+          kept k h (inl e) = let y : k < 16 = omega (arith, q .count, range .few-items) in inl (lo k y ∙ ap (clampTo (S k)) e ∙ sym (hi k y))
+          kept k h (inr e) = inr (rw (ec, ez) e)

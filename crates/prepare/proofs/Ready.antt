@@ -1,7 +1,7 @@
 -- prepared: a setting that is made of a problem's columns, box, levels and lattices is that of the problem, and ready for a search.
 use mathlib.Core.Path.{_≡_, refl, sym, _∙_}
 use mathlib.Core.Bool.{Bool, true, false}
-use mathlib.Core.Logic.{_≢_}
+use mathlib.Core.Logic.{_≢_, _⊎_, inl, inr}
 use Prim.Native.Nat.{ℕ, _≤_, _<_}
 use native.Mathlib.Omega.{arith}
 use lib.IntN.{ℤ, pos, negsuc, natAbs}
@@ -17,16 +17,17 @@ use Rattle.knapsack.specs.declared.Bound.{Bound}
 use Rattle.knapsack.specs.declared.Problem.{Problem}
 use Rattle.ordering.specs.Ranking.{Sorted}
 use Rattle.lattice.specs.Lattice.{latticeAt}
-use Rattle.search.specs.Ready.{Changes, Marked}
+use Rattle.search.specs.Ready.{Changes, Marked, Mild, Softened}
 use Rattle.search.specs.Search.{levelAt}
 use Rattle.search.specs.declared.Setting.{Setting}
 use Rattle.tables.proofs.Ranges.{low-within, high-within}
-use Rattle.tables.specs.Figures.{endOr, lowEnd, highEnd, figureOf, isInteger, passes, keyOf}
+use Rattle.tables.specs.Figures.{endOr, lowEnd, highEnd, figureOf, isInteger, fixed, passes, keyOf}
 use Rattle.tables.specs.Tables.{Tabled, listed, Leading}
 use Rattle.tables.specs.declared.Figure.the-variants.{Low, High}
 use Rattle.tables.specs.declared.Key.{Key}
 use Rattle.tables.specs.declared.Test.the-variants.{Level}
 use Rattle.prepare.specs.Prepared.{Columned, Boxed, Latticing, Prepared}
+use Rattle.prepare.specs.Softening.{Softens}
 use Rattle.prepare.proofs.Lattices.{fixed-ends, lattice-fixed}
 use Rattle.prepare.proofs.Levels.{Tells, level-in, level-once, level-integer, level-of, is-integer}
 use Rattle.prepare.proofs.Lists.{tabled-below, tabled-within}
@@ -74,6 +75,7 @@ pub record Made (p : Problem) (by : Key) (s : Setting) : Type 0 where
   pub lows : Tabled (s .levels) (λ u. figureOf Low (listed p (s .level) u)) (s .low)
   pub highs : Tabled (s .levels) (λ u. figureOf High (listed p (s .level) u)) (s .high)
   pub latticing : Latticing p (s .level) (s .levels) (s .lattice)
+  pub softens : Softens p (s .cols) (s .soft)
 
 module _ (p : Problem) (r : InRange p) (by : Key) (s : Setting) (m : Made p by s) where
   few : s .levels ≤ 16
@@ -112,6 +114,17 @@ module _ (p : Problem) (r : InRange p) (by : Key) (s : Setting) (m : Made p by s
     on = λ j a b. rw (weight-is p (s .cols) r (m .columned) (levelAt s j) (inside j b), price-is p (s .cols) r (m .columned) (levelAt s j) (inside j b)) (m .latticing .on d l nz j a b);
   }
 
+  -- continuous items are fixed or mild
+  softened : s .soft .stride ≢ pos 0 → Softened s
+  softened nz = record {
+    strides = λ j h. let q = m .softens .strides nz (levelAt s j) (inside j h) (marked .integer j h) in (q .0, weight-is p (s .cols) r (m .columned) (levelAt s j) (inside j h) ∙ q .1);
+    mild = λ k h n. let j : k < p .count = omega (arith, m .columned .count) in go k j n (fixed (itemAt p k)) refl;
+  }
+    where
+      go : (k : ℕ) → k < p .count → ((j : ℕ) → j < s .levels → levelAt s j ≢ k) → (b : Bool) → fixed (itemAt p k) ≡ b → (at (s .ends .lo) k ≡ at (s .ends .hi) k) ⊎ Mild (s .cols) (s .soft) k
+      go k j n true e = inl (low-is p r (s .ends) (m .boxed) k j ∙ fixed-ends (itemAt p k) (r .items-in k j .in-order) e (no-level k j n) ∙ sym (high-is p r (s .ends) (m .boxed) k j))
+      go k j n false e = inr (m .softens .mild nz k j e)
+
   pub prepared : Prepared p s
   prepared = record {
     count = m .columned .count;
@@ -131,6 +144,8 @@ module _ (p : Problem) (r : InRange p) (by : Key) (s : Setting) (m : Made p by s
       high-is = high-at;
       tame = m .latticing .tame;
       changes = changes;
+      moderate = m .softens .moderate;
+      softened = softened;
     };
     marked = marked;
   }

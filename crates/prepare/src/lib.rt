@@ -11,6 +11,7 @@ use lattice::unknown_lattices;
 pub use narrowing::narrowed;
 pub use narrowing::reach_of;
 use search::Setting;
+use softening::soft_of;
 use tables::Figure;
 use tables::Key;
 use tables::Test;
@@ -20,7 +21,7 @@ use tables::leading;
 use tables::ranking_by;
 use tables::table;
 ghost use mathlib.Core.Path.{_≡_};
-ghost use Prim.Native.Nat.{ℕ, _≤_, _<_};
+ghost use Prim.Native.Nat.{_<_};
 ghost use Rattle.greedy.specs.Fill.{fill};
 ghost use Rattle.greedy.specs.Sized.{Sized};
 ghost use Rattle.knapsack.specs.Records.{InRange};
@@ -28,6 +29,7 @@ ghost use Rattle.prepare.specs.Prepared.{Columned, Boxed, criticalKey, L
 ghost use Rattle.tables.specs.Tables.{Listing};
 
 mod narrowing; // narrowing.rt: the nearer box of a search
+mod softening; // softening.rt: what continuous items can add
 
 // Of some items, without sign: the greatest weight of one that lacks a bound, and the greatest bound.
 pub struct Most {
@@ -125,6 +127,7 @@ pub fn prepare(p: Problem) -> Setting
     let low = table(p, level, levels, Figure::Low);
     let high = table(p, level, levels, Figure::High);
     let lattice = lattices_of(p, level, levels);
+    let soft = soft_of(p, cols);
     Setting {
         cols: cols,
         ends: ends,
@@ -133,5 +136,6 @@ pub fn prepare(p: Problem) -> Setting
         high: high,
         lattice: lattice,
         levels: levels,
+        soft: soft,
     }
 }

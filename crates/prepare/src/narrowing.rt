@@ -10,7 +10,7 @@ use knapsack::Problem;
 use search::Setting;
 ghost use mathlib.Core.Path.{_≡_};
 ghost use Prim.Native.Nat.{ℕ, _*_, _≤_, _<_};
-ghost use lib.IntN.{ℤ, natAbs};
+ghost use lib.IntN.{natAbs};
 ghost use Rattle.arith.specs.Within.{Within};
 ghost use Rattle.greedy.specs.Fill.{at, place};
 ghost use Rattle.knapsack.specs.Records.{ItemInRange, BoundInRange, InRange};
@@ -228,6 +228,7 @@ pub fn narrowed(s: Setting, r: Reach) -> Setting
     let low = by_level(lo, level, n);
     let high = by_level(hi, level, n);
     let lattice = s.lattice;
+    let soft = s.soft;
     Setting {
         cols: cols,
         ends: Ends { lo: lo, hi: hi },
@@ -236,5 +237,6 @@ pub fn narrowed(s: Setting, r: Reach) -> Setting
         high: high,
         lattice: lattice,
         levels: n,
+        soft: soft,
     }
 }

@@ -10,7 +10,7 @@ use lib.Signed.{_<ℤ_}
 use borrow.Author.Tests.{ltb-true}
 use Rattle.arith.specs.Within.{Within}
 use Rattle.arith.specs.Mixed.{Proper}
-use Rattle.arith.proofs.Integers.{zed}
+use Rattle.arith.proofs.Integers.{split, zed}
 use Rattle.arith.proofs.Parts.{within-add, within-more, within-abs, lt-le}
 use Rattle.greedy.specs.declared.Columns.{Columns}
 use Rattle.greedy.specs.declared.Fill.{Fill}
@@ -20,6 +20,10 @@ use Rattle.greedy.specs.Ordered.{weightAt, Ordered}
 use Rattle.greedy.proofs.Greedy.{abs≥1}
 use Rattle.lattice.specs.Lattice.{Steep}
 use Rattle.search.specs.Search.{slopeOf}
+
+-- what is above 0 has a size
+pub above-zero : (z : ℤ) → pos 0 <ℤ z → 0 < natAbs z
+above-zero = split _ (λ a b. simp zed (omega arith))
 
 -- a room's share can be compared
 pub shared-proper : (f : Fill) (s p : ℕ) → 0 < s → s ≤ 1000 → Proper (sharedBy f s p)

@@ -5,11 +5,11 @@
 --   Bettered D N      some feasible point is worth at least 1 more
 --   Settled b y       every feasible point at y is the one or the other
 -- cut-settles, pair-settles, tried-settles: the three cuts of a look.
-use mathlib.Core.Path.{_≡_, refl, sym, ap, ap₂, _∙_, subst, subst₂}
+use mathlib.Core.Path.{_≡_, refl, sym, ap, _∙_, subst, subst₂}
 use mathlib.Core.Bool.{Bool, true, false, cond}
 use mathlib.Core.Logic.{_≢_, _⊎_, inl, inr}
 use Prim.Native.Nat.{ℕ, zero, suc, _+_, _*_, _-_, _≤_, _<_}
-use native.Mathlib.Nat.{mul-le-mul-left, mul-le-mul-right, le-of-mul-le-mul-right}
+use native.Mathlib.Nat.{mul-le-mul-left, le-of-mul-le-mul-right}
 use native.Mathlib.Omega.{arith}
 use native.Mathlib.Decide.{decLt, ℕ-discrete}
 use lib.Dec.{ltb}
@@ -19,7 +19,7 @@ use borrow.Author.Tests.{ltb-true}
 use Rattle.arith.specs.Sum.{sum}
 use Rattle.arith.specs.Mixed.{Proper, lessMixed}
 use Rattle.arith.specs.declared.Mixed.{Mixed}
-use Rattle.arith.proofs.Integers.{split, split2, split3, split4, zed, ≤ℤ-reflexive, ≤ℤ-antisym, times-≤, times-≤-back}
+use Rattle.arith.proofs.Integers.{split2, split3, split4, zed, ≤ℤ-reflexive, ≤ℤ-antisym, times-≤, times-≤-back}
 use Rattle.arith.proofs.Sums.{sum-times, sum-diff}
 use Rattle.arith.proofs.Parts.{impossible}
 use Rattle.arith.proofs.Words.{yes-lt, no-lt}
@@ -28,7 +28,6 @@ use Rattle.knapsack.specs.declared.Mark.{Mark}
 use Rattle.knapsack.specs.declared.Mark.the-variants.{Integer, Continuous}
 use Rattle.knapsack.specs.Meaning.{Instance}
 use Rattle.knapsack.proofs.Common.{weighsᴰ, valueᴰ, Feasibleᴰ}
-use Rattle.knapsack.proofs.Branch.{AtMost}
 use Rattle.greedy.specs.declared.Columns.{Columns}
 use Rattle.greedy.specs.declared.Ends.{Ends}
 use Rattle.greedy.specs.declared.Fill.{Fill}
@@ -36,14 +35,14 @@ use Rattle.greedy.specs.Fill.{at, weightOf, priceOf, rankOf, fill, width, bound
 use Rattle.greedy.proofs.Relaxed.{boxOf, InOrder, Stopped, fill-bound, fill-slope}
 use Rattle.greedy.specs.Sized.{SizedFill}
 use Rattle.lattice.specs.declared.Lattice.{Lattice}
-use Rattle.lattice.specs.Lattice.{latticeAt, barrenBy}
+use Rattle.lattice.specs.Lattice.{On, latticeAt, barrenBy}
 use Rattle.lattice.proofs.Members.{on-zero, on-scale, Lies, sum-lies}
 use Rattle.lattice.proofs.Descent.{barren-true, known}
 use Rattle.places.proofs.Places.{Agree, Run}
 use Rattle.search.specs.declared.Setting.{Setting}
 use Rattle.search.specs.declared.Incumbent.{Incumbent}
 use Rattle.search.specs.Search.{levelAt, spanned, fixedBy, startBy, runEnds, slopeOf, sparseBy}
-use Rattle.search.specs.Ready.{ReadySetting, Changes, Marked}
+use Rattle.search.specs.Ready.{ReadySetting, Marked}
 use Rattle.search.specs.Steps.{Long}
 use Rattle.search.proofs.Boxes.{at-same, at-other, orderOf, item<16, fixed-long, fixed-level, fixed-other}
 use Rattle.search.proofs.Bounds.{steep}
@@ -154,77 +153,81 @@ module _ (s : Setting) (r : ReadySetting s) (long : Long (s .ends)) (marks : ℕ
       abbrev f : Fill
       f = fill (s .cols) e
 
-      abbrev L : Lattice
-      L = latticeAt (s .lattice) d
-
-      in-e : Feasibleᴰ (boxOf (s .cols) e marks) D N
+      pub in-e : Feasibleᴰ (boxOf (s .cols) e marks) D N
       in-e = rebox (s .cols) (s .ends) e marks D N (in-run P d l run) p
 
       pub bounded : Stopped (s .cols) e marks (r .ordered) ordered f → (valueᴰ (box s marks) N *ℤ pos (bound (s .cols) f .parts)) ≤ℤ (over (bound (s .cols) f) *ℤ pos D)
       bounded t = fill-bound (s .cols) e marks (r .ordered) ordered f t D N d≥1 in-e
 
       -- the ends of an item that is not level d's: as in the prefix's box
-      other-ends : (k : ℕ) → k ≢ levelAt s d → (at (e .lo) k ≡ at (fixedBy s P d .lo) k) × (at (e .hi) k ≡ at (fixedBy s P d .hi) k)
+      pub other-ends : (k : ℕ) → k ≢ levelAt s d → (at (e .lo) k ≡ at (fixedBy s P d .lo) k) × (at (e .hi) k ≡ at (fixedBy s P d .hi) k)
       other-ends k ne = (at-other (fixedBy s P d .lo) (levelAt s d) _ k ne, at-other (fixedBy s P d .hi) (levelAt s d) _ k ne)
 
-      -- what item k changes, against the whole amounts
-      abbrev Term : ℕ → ℕ → Type 0
-      Term t k = Lies L D (weightOf (s .cols) k *ℤ (N k -ℤ stand (s .cols) e t k *ℤ pos D)) (priceOf (s .cols) k *ℤ (N k -ℤ stand (s .cols) e t k *ℤ pos D))
-
-      -- an item with equal ends changes nothing
-      fixed-term : (t k : ℕ) → k < s .cols .count → at (e .lo) k ≡ at (e .hi) k → Term t k
-      fixed-term t k n h = record { weight = pos 0; worth = pos 0; on = on-zero L; weight-is = none (weightOf (s .cols) k); worth-is = none (priceOf (s .cols) k) }
+      -- an item with equal ends stands there
+      pub fixed-stands : (t k : ℕ) → k < s .cols .count → at (e .lo) k ≡ at (e .hi) k → N k ≡ stand (s .cols) e t k *ℤ pos D
+      fixed-stands t k n h = at-lo ∙ ap (λ z. z *ℤ pos D) (sym (stand-fixed (s .cols) e t k h))
         where
           at-lo : N k ≡ at (e .lo) k *ℤ pos D
           at-lo = ≤ℤ-antisym (subst (λ z. N k ≤ℤ (z *ℤ pos D)) (sym h) (in-e .keeps k n .below)) (in-e .keeps k n .above)
 
-          zero-term : (c x : ℤ) → c *ℤ (x *ℤ pos D -ℤ x *ℤ pos D) ≡ pos 0 *ℤ pos D
-          zero-term = split2 _ (λ a b c e. simp zed (omega arith))
+      -- so does one of no level that is fixed in the box
+      pub box-stands : (t k : ℕ) → k < s .cols .count → marks k ≡ Continuous → (((j : ℕ) → j < s .levels → levelAt s j ≢ k) → at (s .ends .lo) k ≡ at (s .ends .hi) k) → N k ≡ stand (s .cols) e t k *ℤ pos D
+      box-stands t k n q g =
+          let free : (j : ℕ) → j < s .levels → levelAt s j ≢ k = λ j o x. unlike (sym (m .integer j o) ∙ ap marks x ∙ q) in
+          let h = other-ends k (λ x. free d l (sym x)) in
+          let b = fixed-other s r long P d k (λ j o. free j (omega arith)) in
+          fixed-stands t k n (h .0 ∙ b .0 ∙ g free ∙ sym (b .1) ∙ sym (h .1))
+        where
+          unlike : Integer ≡ Continuous → ⊥
+          unlike x = let z : _≡_ {A = ℕ} 0 1 = cc in omega arith
 
-          none : (c : ℤ) → c *ℤ (N k -ℤ stand (s .cols) e t k *ℤ pos D) ≡ pos 0 *ℤ pos D
-          none c = ap₂ (λ x z. c *ℤ (x -ℤ z *ℤ pos D)) at-lo (stand-fixed (s .cols) e t k h) ∙ zero-term c (at (e .lo) k)
+      -- where the levels' items are on a lattice L, and continuous ones stand
+      module _ (L : Lattice) (on : (j : ℕ) → d ≤ j → j < s .levels → On L (weightOf (s .cols) (levelAt s j)) (priceOf (s .cols) (levelAt s j))) (still : (k : ℕ) → k < s .cols .count → marks k ≡ Continuous → N k ≡ stand (s .cols) e (f .at) k *ℤ pos D) where
+        -- what item k changes, against the whole amounts
+        abbrev Term : ℕ → Type 0
+        Term k = Lies L D (weightOf (s .cols) k *ℤ (N k -ℤ stand (s .cols) e (f .at) k *ℤ pos D)) (priceOf (s .cols) k *ℤ (N k -ℤ stand (s .cols) e (f .at) k *ℤ pos D))
 
-      module _ (g : Changes s d) where
+        -- an item that stands changes nothing
+        still-term : (k : ℕ) → N k ≡ stand (s .cols) e (f .at) k *ℤ pos D → Term k
+        still-term k h = record { weight = pos 0; worth = pos 0; on = on-zero L; weight-is = none (weightOf (s .cols) k); worth-is = none (priceOf (s .cols) k) }
+          where
+            zero-term : (c x : ℤ) → c *ℤ (x *ℤ pos D -ℤ x *ℤ pos D) ≡ pos 0 *ℤ pos D
+            zero-term = split2 _ (λ a b c e. simp zed (omega arith))
+
+            none : (c : ℤ) → c *ℤ (N k -ℤ stand (s .cols) e (f .at) k *ℤ pos D) ≡ pos 0 *ℤ pos D
+            none c = ap (λ x. c *ℤ (x -ℤ stand (s .cols) e (f .at) k *ℤ pos D)) h ∙ zero-term c (stand (s .cols) e (f .at) k)
+
         -- a level's item
-        level-term : (t j : ℕ) → j < s .levels → Dec (j < d) → Term t (levelAt s j)
-        level-term t j n (yes o) =
+        level-term : (j : ℕ) → j < s .levels → Dec (j < d) → Term (levelAt s j)
+        level-term j n (yes o) =
             let ne : levelAt s j ≢ levelAt s d = λ q. apart (r .distinct j d n l q) in
             let h = other-ends (levelAt s j) ne in
             let b = fixed-level s r long P d j (omega arith) o in
-            fixed-term t (levelAt s j) (r .level-in j n) (h .0 ∙ b .0 ∙ sym (b .1) ∙ sym (h .1))
+            still-term (levelAt s j) (fixed-stands (f .at) (levelAt s j) (r .level-in j n) (h .0 ∙ b .0 ∙ sym (b .1) ∙ sym (h .1)))
           where
             apart : j ≡ d → ⊥
             apart q = omega arith
-        level-term t j n (no o) =
-            let z = y j -ℤ stand (s .cols) e t (levelAt s j) in
-            record { weight = weightOf (s .cols) (levelAt s j) *ℤ z; worth = priceOf (s .cols) (levelAt s j) *ℤ z; on = on-scale L (g .on j (omega arith) n) z; weight-is = scaled (weightOf (s .cols) (levelAt s j)); worth-is = scaled (priceOf (s .cols) (levelAt s j)) }
+        level-term j n (no o) =
+            let z = y j -ℤ stand (s .cols) e (f .at) (levelAt s j) in
+            record { weight = weightOf (s .cols) (levelAt s j) *ℤ z; worth = priceOf (s .cols) (levelAt s j) *ℤ z; on = on-scale L (on j (omega arith) n) z; weight-is = scaled (weightOf (s .cols) (levelAt s j)); worth-is = scaled (priceOf (s .cols) (levelAt s j)) }
           where
             join : (c x z : ℤ) → c *ℤ (x *ℤ pos D -ℤ z *ℤ pos D) ≡ (c *ℤ (x -ℤ z)) *ℤ pos D
             join = split3 _ (λ a b c e f g. simp zed (omega arith))
 
-            scaled : (c : ℤ) → c *ℤ (N (levelAt s j) -ℤ stand (s .cols) e t (levelAt s j) *ℤ pos D) ≡ (c *ℤ (y j -ℤ stand (s .cols) e t (levelAt s j))) *ℤ pos D
-            scaled c = ap (λ x. c *ℤ (x -ℤ stand (s .cols) e t (levelAt s j) *ℤ pos D)) (a j n) ∙ join c (y j) (stand (s .cols) e t (levelAt s j))
+            scaled : (c : ℤ) → c *ℤ (N (levelAt s j) -ℤ stand (s .cols) e (f .at) (levelAt s j) *ℤ pos D) ≡ (c *ℤ (y j -ℤ stand (s .cols) e (f .at) (levelAt s j))) *ℤ pos D
+            scaled c = ap (λ x. c *ℤ (x -ℤ stand (s .cols) e (f .at) (levelAt s j) *ℤ pos D)) (a j n) ∙ join c (y j) (stand (s .cols) e (f .at) (levelAt s j))
 
-        term : (t k : ℕ) → k < s .cols .count → Term t k
-        term t k n = go (marks k) refl
+        term : (k : ℕ) → k < s .cols .count → Term k
+        term k n = go (marks k) refl
           where
-            go : (mk : Mark) → marks k ≡ mk → Term t k
-            go Integer q =
-                let v = m .level k n q in
-                subst (λ i. Term t i) (v .2) (level-term t (v .0) (v .1) (decLt (v .0) d))
-            go Continuous q =
-                let free : (j : ℕ) → j < s .levels → levelAt s j ≢ k = λ j o x. unlike (sym (m .integer j o) ∙ ap marks x ∙ q) in
-                let h = other-ends k (λ x. free d l (sym x)) in
-                let b = fixed-other s r long P d k (λ j o. free j (omega arith)) in
-                fixed-term t k n (h .0 ∙ b .0 ∙ g .fixed k n free ∙ sym (b .1) ∙ sym (h .1))
-              where
-                unlike : Integer ≡ Continuous → ⊥
-                unlike x = let z : _≡_ {A = ℕ} 0 1 = cc in omega arith
+            go : (mk : Mark) → marks k ≡ mk → Term k
+            go Integer q = let v = m .level k n q in subst Term (v .2) (level-term (v .0) (v .1) (decLt (v .0) d))
+            go Continuous q = still-term k (still k n q)
 
-        -- so what the point changes is on the lattice
-        point-lies : Stopped (s .cols) e marks (r .ordered) ordered f → Lies L D (weighsᴰ (box s marks) N -ℤ (s .cols .capacity -ℤ f .room) *ℤ pos D) (valueᴰ (box s marks) N -ℤ f .worth *ℤ pos D)
+        -- what the point changes is on the lattice
+        pub point-lies : Stopped (s .cols) e marks (r .ordered) ordered f → Lies L D (weighsᴰ (box s marks) N -ℤ (s .cols .capacity -ℤ f .room) *ℤ pos D) (valueᴰ (box s marks) N -ℤ f .worth *ℤ pos D)
         point-lies t =
-            let q = sum-lies L (s .cols .count) D (λ k. weightOf (s .cols) k *ℤ (N k -ℤ stand (s .cols) e (f .at) k *ℤ pos D)) (λ k. priceOf (s .cols) k *ℤ (N k -ℤ stand (s .cols) e (f .at) k *ℤ pos D)) (λ k n. term (f .at) k n) in
+            let q = sum-lies L (s .cols .count) D (λ k. weightOf (s .cols) k *ℤ (N k -ℤ stand (s .cols) e (f .at) k *ℤ pos D)) (λ k. priceOf (s .cols) k *ℤ (N k -ℤ stand (s .cols) e (f .at) k *ℤ pos D)) (λ k n. term k n) in
             subst₂ (Lies L D) (differ (weightOf (s .cols)) (s .cols .capacity -ℤ f .room) (left _ (f .room) (s .cols .capacity) (t .good .inv .level))) (differ (priceOf (s .cols)) (f .worth) (t .good .worth-is)) q
           where
             left : (w r b : ℤ) → w +ℤ r ≡ b → w ≡ b -ℤ r
@@ -233,6 +236,9 @@ module _ (s : Setting) (r : ReadySetting s) (long : Long (s .ends)) (marks : ℕ
             differ : (c : ℕ → ℤ) (w : ℤ) → sum (s .cols .count) (λ k. c k *ℤ stand (s .cols) e (f .at) k) ≡ w → sum (s .cols .count) (λ k. c k *ℤ (N k -ℤ stand (s .cols) e (f .at) k *ℤ pos D)) ≡ sum (s .cols .count) (λ k. c k *ℤ N k) -ℤ w *ℤ pos D
             differ c w h = sum-diff (s .cols .count) c N (λ k. stand (s .cols) e (f .at) k *ℤ pos D) ∙ ap (λ x. sum (s .cols .count) (λ k. c k *ℤ N k) -ℤ x) (sum-times (s .cols .count) c (stand (s .cols) e (f .at)) D ∙ ap (λ x. x *ℤ pos D) h)
 
+      abbrev L : Lattice
+      L = latticeAt (s .lattice) d
+
       -- nothing in a sparse run is worth more than b
       pub sparse-most : Stopped (s .cols) e marks (r .ordered) ordered f → SizedFill (s .cols) f → (b : ℤ) → sparseBy (s .cols) L f b ≡ true → valueᴰ (box s marks) N ≤ℤ (b *ℤ pos D)
       unfolding sparseBy
@@ -240,7 +246,8 @@ module _ (s : Setting) (r : ReadySetting s) (long : Long (s .ends)) (marks : ℕ
         where
           ended : f .at < s .cols .live → f .room <ℤ (at (s .cols .size) (f .at) *ℤ width (s .cols) e (f .at)) → barrenBy L (slopeOf (s .cols) f) (f .room) b ≡ true → valueᴰ (box s marks) N ≤ℤ (b *ℤ pos D)
           ended k short h =
-              let q = point-lies (r .changes d l (known L (slopeOf (s .cols) f) (f .room) b h)) t in
+              let g = r .changes d l (known L (slopeOf (s .cols) f) (f .room) b h) in
+              let q = point-lies L (g .on) (λ k n z. box-stands (f .at) k n z (g .fixed k n)) t in
               let rise = fill-slope (s .cols) e marks (r .ordered) ordered f (t .good) k short D N (in-e .keeps) in
               let slope = cancel D d≥1 (at (s .cols .size) (f .at)) (at (s .cols .rate) (f .at)) (q .worth) (q .weight) (subst₂ (λ v w. (at (s .cols .size) (f .at) *ℤ v) ≤ℤ (at (s .cols .rate) (f .at) *ℤ w)) (q .worth-is) (q .weight-is) rise) in
               let room = fits D d≥1 (q .weight) (weighsᴰ (box s marks) N) (s .cols .capacity) (f .room) (q .weight-is) (p .fits) in

@@ -13,7 +13,6 @@ use native.Mathlib.Decide.{decLt}
 use lib.IntN.{ℤ, pos, _-ℤ_, _*ℤ_}
 use lib.Signed.{_≤ℤ_, _<ℤ_, ltZ}
 use Rattle.arith.specs.Sum.{Each}
-use Rattle.arith.specs.Mixed.{Proper}
 use Rattle.arith.specs.declared.Mixed.{Mixed}
 use Rattle.arith.proofs.Integers.{split, zed, ≤ℤ-trans, ≤ℤ-or-<, times-≤, times-≤-back}
 use Rattle.arith.proofs.Parts.{impossible}
@@ -100,7 +99,7 @@ module _ (s : Setting) (r : ReadySetting s) (long : Long (s .ends)) where
       keeps-settled (Prefix n) (l, inr (e, c)) y h = rw e h
 
       pub settles-verdict : (w : Settled) → LookedAs s ps t b b′ w → Settles (orderOf s) w (at (t .place)) (SettledAt s marks b′)
-      settles-verdict (Run d) (l, (e, c)) = λ y bx run. rw e (cut-settles s r long marks m (at (t .place)) (started .inside) d b l (g .proper) (subst (λ v. cutBy (s .cols) (latticeAt (s .lattice) d) (runEnds s (at (t .place)) v d) b ≡ true) (started .starts d l) c) y run)
+      settles-verdict (Run d) (l, (e, c)) = λ y bx run. rw e (cut-settles s r long marks m (at (t .place)) (started .inside) d b l (g .proper) (subst (λ v. cutBy (s .cols) (s .soft) (latticeAt (s .lattice) d) (runEnds s (at (t .place)) v d) b ≡ true) (started .starts d l) c) y run)
       settles-verdict (Prefix n) (l, inl (q, e)) = λ y bx a. rw e (tried-settles s r long marks m (at (t .place)) (started .inside) (t .place) b (g .proper) y (subst (λ k. Agree k (at (t .place)) y) q a))
       settles-verdict (Prefix n) (l, inr (e, (d, q, c))) = λ y bx a. rw e (pair-settles s r long marks m (at (t .place)) (started .inside) ps rp d b (omega arith) c y (subst (λ k. Agree k (at (t .place)) y) q a))
 

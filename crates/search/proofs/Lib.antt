@@ -3,6 +3,7 @@ pub mod Dives
 pub mod Bounds
 pub mod Runs
 pub mod Cuts
+pub mod Mixing
 pub mod Settle
 pub mod Turns
 pub mod Finish

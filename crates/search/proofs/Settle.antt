@@ -1,20 +1,22 @@
 -- Each verdict of a look settles what it covers.
--- cut-settles: a run whose relaxation is empty or no better than the incumbent, or whose lattice has nothing better.
+-- cut-settles: a run whose relaxation is empty or no better than the incumbent, or whose lattice or strides have nothing better.
 -- pair-settles: a prefix from which a domination pair can be taken away.
 -- tried-settles, tried-keeps: the place itself, and that what was settled stays so.
 use mathlib.Core.Path.{_≡_, refl, sym, ap, _∙_, subst, subst₂}
-use mathlib.Core.Bool.{Bool, true, false, cond}
+use mathlib.Core.Bool.{Bool, true, false, not, cond}
 use mathlib.Core.List.{List}
 use mathlib.Core.Logic.{_≢_, _⊎_, inl, inr}
 use Prim.Native.Nat.{ℕ, suc, _+_, _*_, _≤_, _<_}
 use native.Mathlib.Nat.{mul-le-mul-left, mul-le-mul-right, le-of-mul-le-mul-right}
 use native.Mathlib.Omega.{arith}
-use lib.IntN.{ℤ, pos, _+ℤ_, _-ℤ_, _*ℤ_}
+use lib.Dec.{ltb}
+use lib.IntN.{ℤ, pos, natAbs, _+ℤ_, _-ℤ_, _*ℤ_}
 use lib.Signed.{_≤ℤ_, _<ℤ_, ltZ}
+use borrow.Author.Tests.{ltb-true, ltb-false}
 use Rattle.arith.specs.Mixed.{Proper, lessMixed}
 use Rattle.arith.specs.declared.Mixed.{Mixed}
 use Rattle.arith.proofs.Integers.{split2, split3, zed}
-use Rattle.arith.proofs.Parts.{impossible}
+use Rattle.arith.proofs.Parts.{impossible, within-abs}
 use Rattle.arith.proofs.Words.{yes-lt, no-lt}
 use Rattle.arith.proofs.Mixes.{over, less-true}
 use Rattle.knapsack.specs.declared.Mark.{Mark}
@@ -22,21 +24,24 @@ use Rattle.knapsack.proofs.Common.{valueᴰ, Feasibleᴰ}
 use Rattle.knapsack.proofs.Moves.{pair-discard}
 use Rattle.greedy.specs.declared.Ends.{Ends}
 use Rattle.greedy.specs.declared.Fill.{Fill}
-use Rattle.greedy.specs.Fill.{at, place, fill, bound}
+use Rattle.greedy.specs.Fill.{at, place, fill, width, bound}
 use Rattle.greedy.proofs.Relaxed.{boxOf, Stopped, fill-stopped, fill-empty, fill-bound}
+use Rattle.greedy.specs.Sized.{SizedFill}
 use Rattle.greedy.proofs.Sizes.{fill-sized}
 use Rattle.lattice.specs.Lattice.{latticeAt}
+use Rattle.lattice.proofs.Ranges.{nonzero}
 use Rattle.places.proofs.Places.{Agree, Run}
 use Rattle.search.specs.declared.Setting.{Setting}
 use Rattle.search.specs.declared.Pairs.{Pairs}
 use Rattle.search.specs.declared.Incumbent.{Incumbent}
-use Rattle.search.specs.Search.{levelAt, fixedBy, startBy, runEnds, sparseBy, cutBy, betters, triedBy, pairIndex, Applies}
+use Rattle.search.specs.Search.{levelAt, fixedBy, startBy, runEnds, sparseBy, strideFill, mixedBound, mixedBy, blendBy, cutBy, betters, triedBy, pairIndex, Applies}
 use Rattle.search.specs.Ready.{ReadySetting, ReadyPairs, TruePair, Inside, Marked}
 use Rattle.search.specs.Steps.{Long, ProperBest, Judges}
 use Rattle.search.proofs.Boxes.{orderOf, item<16}
-use Rattle.search.proofs.Bounds.{bound-proper}
+use Rattle.search.proofs.Bounds.{above-zero, shared-proper, bound-proper}
 use Rattle.search.proofs.Runs.{fixed-judged, run-judged}
 use Rattle.search.proofs.Cuts.{box, AtMostBest, Bettered, Settled, no-better, rebox, in-fixed, in-run, bounded, sparse-most}
+use Rattle.search.proofs.Mixing.{mixed-most}
 
 -- a value that betters an incumbent's is above what the incumbent is above
 passed-on : (d e f : ℕ) → 1 ≤ e → (x y z : ℤ) → (x *ℤ pos e) ≤ℤ (y *ℤ pos d) → (y *ℤ pos f) <ℤ (z *ℤ pos e) → (x *ℤ pos f) ≤ℤ (z *ℤ pos d)
@@ -47,8 +52,8 @@ whole-most : (n k D : ℕ) (v w : ℤ) → v ≤ℤ (w *ℤ pos D) → (v *ℤ p
 whole-most n k D = split2 _ (λ a b c e. simp zed (λ h. omega (arith, mul-le-mul-right n h)))
 
 module _ (s : Setting) (r : ReadySetting s) (long : Long (s .ends)) (marks : ℕ → Mark) (m : Marked s marks) (P : ℕ → ℤ) (inside : Inside s P) where
-  pub cut-settles : (d : ℕ) (b : Incumbent) → d < s .levels → ProperBest b → cutBy (s .cols) (latticeAt (s .lattice) d) (runEnds s P (startBy s P d) d) b ≡ true → (y : ℕ → ℤ) → Run (orderOf s) d P y → Settled s marks b y
-  unfolding cutBy
+  pub cut-settles : (d : ℕ) (b : Incumbent) → d < s .levels → ProperBest b → cutBy (s .cols) (s .soft) (latticeAt (s .lattice) d) (runEnds s P (startBy s P d) d) b ≡ true → (y : ℕ → ℤ) → Run (orderOf s) d P y → Settled s marks b y
+  unfolding cutBy blendBy
   cut-settles d b l proper h y run D N d≥1 p a = empty? (ltZ (f .room) (pos 0)) refl (subst (λ t. t ≡ true) refl h)
     where
       e : Ends
@@ -69,18 +74,56 @@ module _ (s : Setting) (r : ReadySetting s) (long : Long (s .ends)) (marks : ℕ
       v-proper : Proper v
       v-proper = bound-proper (s .cols) f (fill-sized (s .cols) e (j .sized))
 
-      -- where the bound is no better, and where it is but the run is sparse
-      better? : Stopped (s .cols) e marks (r .ordered) (j .in-order) f → b .found ≡ true → (t : Bool) → lessMixed (b .value) v ≡ t → cond t (sparseBy (s .cols) (latticeAt (s .lattice) d) f (b .value .whole)) true ≡ true → AtMostBest s marks b D N ⊎ Bettered s marks D N
-      better? st q false z k = inl (no-better s marks b v D N q (proper q) v-proper z (bounded s r long marks m D N d≥1 p y a P d l run (j .in-order) st))
-      better? st q true z k = inl (q, whole-most (b .value .parts) (b .value .part) D (valueᴰ (box s marks) N) (b .value .whole) (sparse-most s r long marks m D N d≥1 p y a P d l run (j .in-order) st (fill-sized (s .cols) e (j .sized)) (b .value .whole) k))
+      -- what is told by strides
+      blended : Stopped (s .cols) e marks (r .ordered) (j .in-order) f → pos 0 ≤ℤ f .room → b .found ≡ true → blendBy (s .cols) (s .soft) f (b .value) ≡ true → AtMostBest s marks b D N
+      blended st room q k = live? (ltb (f .at) (s .cols .live)) refl k (st .why)
+        where
+          size : ℤ
+          size = at (s .cols .size) (f .at)
 
-      compared : Stopped (s .cols) e marks (r .ordered) (j .in-order) f → (t : Bool) → b .found ≡ t → cond t (cond (lessMixed (b .value) v) (sparseBy (s .cols) (latticeAt (s .lattice) d) f (b .value .whole)) true) false ≡ true → AtMostBest s marks b D N ⊎ Bettered s marks D N
-      compared st false q k = absurd (impossible k)
-      compared st true q k = better? st q (lessMixed (b .value) v) refl k
+          rate : ℤ
+          rate = at (s .cols .rate) (f .at)
 
-      empty? : (t : Bool) → ltZ (f .room) (pos 0) ≡ t → cond (ltZ (f .room) (pos 0)) true (cond (b .found) (cond (lessMixed (b .value) v) (sparseBy (s .cols) (latticeAt (s .lattice) d) f (b .value .whole)) true) false) ≡ true → AtMostBest s marks b D N ⊎ Bettered s marks D N
+          bound₁ : Mixed
+          bound₁ = mixedBound (s .soft) f size rate
+
+          z : SizedFill (s .cols) f
+          z = fill-sized (s .cols) e (j .sized)
+
+          told : f .at < s .cols .live → f .room <ℤ (size *ℤ width (s .cols) e (f .at)) → pos 0 <ℤ s .soft .stride → f .at ≤ s .soft .rank → (s .soft .rate *ℤ size) ≤ℤ (rate *ℤ s .soft .size) → lessMixed (b .value) bound₁ ≡ false → AtMostBest s marks b D N
+          told i short g late test h = no-better s marks b bound₁ D N q (proper q) (shared-proper (strideFill (s .soft) f size rate) (natAbs (s .soft .size)) (natAbs (s .soft .rate)) (above-zero (s .soft .size) (r .moderate .size≥1)) (within-abs (s .soft .size) (r .moderate .size-in))) h
+              (mixed-most s r long marks m (r .softened (nonzero (s .soft .stride) g)) D N d≥1 p y a P d l run (j .in-order) late st i short z room g test)
+
+          test? : f .at < s .cols .live → f .room <ℤ (size *ℤ width (s .cols) e (f .at)) → (g late less t : Bool) → ltZ (pos 0) (s .soft .stride) ≡ g → ltb (s .soft .rank) (f .at) ≡ late → ltZ (rate *ℤ s .soft .size) (s .soft .rate *ℤ size) ≡ less → lessMixed (b .value) bound₁ ≡ t
+              → cond g (cond late false (cond less false (not t))) false ≡ true → AtMostBest s marks b D N
+          test? i short true false false false x y w v h = told i short (yes-lt x) (omega (arith, ltb-false (s .soft .rank) (f .at) y)) (no-lt w) v
+          test? i short true false false true x y w v h = absurd (impossible h)
+          test? i short true false true t x y w v h = absurd (impossible h)
+          test? i short true true less t x y w v h = absurd (impossible h)
+          test? i short false late less t x y w v h = absurd (impossible h)
+
+          live? : (v : Bool) → ltb (f .at) (s .cols .live) ≡ v → cond v (mixedBy (s .soft) f size rate (b .value)) false ≡ true → (f .at ≡ s .cols .live) ⊎ ((f .at < s .cols .live) × (f .room <ℤ (size *ℤ width (s .cols) e (f .at)))) → AtMostBest s marks b D N
+          live? false x h w = absurd (impossible h)
+          live? true x h (inl w) = absurd (omega (arith, ltb-true (f .at) (s .cols .live) x))
+          live? true x h (inr (i, short)) = test? i short (ltZ (pos 0) (s .soft .stride)) (ltb (s .soft .rank) (f .at)) (ltZ (rate *ℤ s .soft .size) (s .soft .rate *ℤ size)) (lessMixed (b .value) bound₁) refl refl refl refl h
+
+      -- where the run is sparse, and where it is not
+      sparse? : Stopped (s .cols) e marks (r .ordered) (j .in-order) f → pos 0 ≤ℤ f .room → b .found ≡ true → (t : Bool) → sparseBy (s .cols) (latticeAt (s .lattice) d) f (b .value .whole) ≡ t → cond t true (blendBy (s .cols) (s .soft) f (b .value)) ≡ true → AtMostBest s marks b D N
+      sparse? st room q true x k = (q, whole-most (b .value .parts) (b .value .part) D (valueᴰ (box s marks) N) (b .value .whole) (sparse-most s r long marks m D N d≥1 p y a P d l run (j .in-order) st (fill-sized (s .cols) e (j .sized)) (b .value .whole) x))
+      sparse? st room q false x k = blended st room q k
+
+      -- where the bound is no better, and where it is
+      better? : Stopped (s .cols) e marks (r .ordered) (j .in-order) f → pos 0 ≤ℤ f .room → b .found ≡ true → (t : Bool) → lessMixed (b .value) v ≡ t → cond t (cond (sparseBy (s .cols) (latticeAt (s .lattice) d) f (b .value .whole)) true (blendBy (s .cols) (s .soft) f (b .value))) true ≡ true → AtMostBest s marks b D N ⊎ Bettered s marks D N
+      better? st room q false z k = inl (no-better s marks b v D N q (proper q) v-proper z (bounded s r long marks m D N d≥1 p y a P d l run (j .in-order) st))
+      better? st room q true z k = inl (sparse? st room q (sparseBy (s .cols) (latticeAt (s .lattice) d) f (b .value .whole)) refl k)
+
+      compared : Stopped (s .cols) e marks (r .ordered) (j .in-order) f → pos 0 ≤ℤ f .room → (t : Bool) → b .found ≡ t → cond t (cond (lessMixed (b .value) v) (cond (sparseBy (s .cols) (latticeAt (s .lattice) d) f (b .value .whole)) true (blendBy (s .cols) (s .soft) f (b .value))) true) false ≡ true → AtMostBest s marks b D N ⊎ Bettered s marks D N
+      compared st room false q k = absurd (impossible k)
+      compared st room true q k = better? st room q (lessMixed (b .value) v) refl k
+
+      empty? : (t : Bool) → ltZ (f .room) (pos 0) ≡ t → cond (ltZ (f .room) (pos 0)) true (cond (b .found) (cond (lessMixed (b .value) v) (cond (sparseBy (s .cols) (latticeAt (s .lattice) d) f (b .value .whole)) true (blendBy (s .cols) (s .soft) f (b .value))) true) false) ≡ true → AtMostBest s marks b D N ⊎ Bettered s marks D N
       empty? true q k = absurd (fill-empty (s .cols) e marks (r .ordered) (j .in-order) (yes-lt q) D N d≥1 in-e)
-      empty? false q k = compared (fill-stopped (s .cols) e marks (r .ordered) (j .in-order) (no-lt q)) (b .found) refl (rw q at k)
+      empty? false q k = compared (fill-stopped (s .cols) e marks (r .ordered) (j .in-order) (no-lt q)) (no-lt q) (b .found) refl (rw q at k)
 
   pub pair-settles : (ps : Pairs) → ReadyPairs (s .cols) ps → (d : ℕ) (b : Incumbent) → d < s .levels → Applies s ps P d → (y : ℕ → ℤ) → Agree (suc d) P y → Settled s marks b y
   pair-settles ps rp d b l q y h D N d≥1 p a =

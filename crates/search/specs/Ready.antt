@@ -6,22 +6,25 @@
 --   Searched s r     the incumbent r is optimal for the box, or there is none and the box holds nothing feasible
 use mathlib.Core.Path.{_≡_}
 use mathlib.Core.Bool.{true, false}
-use mathlib.Core.Logic.{_≢_}
+use mathlib.Core.Logic.{_≢_, _⊎_}
 use Prim.Native.Nat.{ℕ, _≤_, _<_}
 use lib.IntN.{ℤ, pos, natAbs, _+ℤ_, _*ℤ_}
 use lib.Signed.{_≤ℤ_, _<ℤ_}
 use Rattle.knapsack.specs.declared.Mark.{Mark}
 use Rattle.knapsack.specs.declared.Mark.the-variants.{Integer}
+use Rattle.arith.specs.Signs.{turned}
+use Rattle.arith.specs.Within.{Within}
 use Rattle.arith.specs.Mixed.{Proper}
 use Rattle.arith.proofs.Mixes.{over}
 use Rattle.knapsack.proofs.Common.{valueᴰ, Feasibleᴰ, Optimalᴰ}
 use Rattle.greedy.specs.declared.Columns.{Columns}
-use Rattle.greedy.specs.Fill.{at, weightOf, priceOf, fill, bound, solution}
+use Rattle.greedy.specs.Fill.{at, weightOf, priceOf, rankOf, fill, bound, solution}
 use Rattle.greedy.specs.Sized.{Sized}
 use Rattle.greedy.specs.Ordered.{Ordered}
 use Rattle.greedy.proofs.Relaxed.{boxOf, InOrder}
 use Rattle.lattice.specs.Lattice.{On, Tame, latticeAt}
 use Rattle.search.specs.declared.Setting.{Setting}
+use Rattle.search.specs.declared.Soft.{Soft}
 use Rattle.search.specs.declared.Pairs.{Pairs}
 use Rattle.search.specs.declared.Incumbent.{Incumbent}
 use Rattle.search.specs.Search.{levelAt, fixedBy, pairIndex}
@@ -30,6 +33,23 @@ use Rattle.search.specs.Search.{levelAt, fixedBy, pairIndex}
 pub record Changes (s : Setting) (d : ℕ) : Type 0 where
   pub fixed : (k : ℕ) → k < s .cols .count → ((j : ℕ) → j < s .levels → levelAt s j ≢ k) → at (s .ends .lo) k ≡ at (s .ends .hi) k
   pub on : (j : ℕ) → d ≤ j → j < s .levels → On (latticeAt (s .lattice) d) (weightOf (s .cols) (levelAt s j)) (priceOf (s .cols) (levelAt s j))
+
+-- a free continuous item is at its light end, and no better for its weight than m says
+pub record Mild (c : Columns) (m : Soft) (k : ℕ) : Type 0 where
+  pub late : m .rank ≤ rankOf c k
+  pub cheap : (weightOf c k ≡ pos 0) ⊎ ((turned (weightOf c k) (priceOf c k) *ℤ m .size) ≤ℤ (m .rate *ℤ pos (natAbs (weightOf c k))))
+
+-- every item of a level weighs a multiple of the stride, and every other one is fixed or mild
+pub record Softened (s : Setting) : Type 0 where
+  pub strides : (j : ℕ) → j < s .levels → (q : ℤ) × (weightOf (s .cols) (levelAt s j) ≡ s .soft .stride *ℤ q)
+  pub mild : (k : ℕ) → k < s .cols .count → ((j : ℕ) → j < s .levels → levelAt s j ≢ k) → (at (s .ends .lo) k ≡ at (s .ends .hi) k) ⊎ Mild (s .cols) (s .soft) k
+
+pub record Moderate (m : Soft) : Type 0 where
+  pub stride-in : Within 1000 (m .stride)
+  pub rate-in : Within 10000 (m .rate)
+  pub rate≥0 : pos 0 ≤ℤ m .rate
+  pub size-in : Within 1000 (m .size)
+  pub size≥1 : pos 0 <ℤ m .size
 
 -- taking the pair's steps away weighs no more and is worth more
 pub record TruePair (c : Columns) (p : Pairs) (i j : ℕ) : Type 0 where
@@ -47,6 +67,8 @@ pub record ReadySetting (s : Setting) : Type 0 where
   pub high-is : (d : ℕ) → d < s .levels → at (s .high) d ≡ at (s .ends .hi) (levelAt s d)
   pub tame : (d : ℕ) → d < 16 → Tame (latticeAt (s .lattice) d)
   pub changes : (d : ℕ) → d < s .levels → latticeAt (s .lattice) d .stride ≢ pos 0 → Changes s d
+  pub moderate : Moderate (s .soft)
+  pub softened : s .soft .stride ≢ pos 0 → Softened s
 
 pub record ReadyPairs (c : Columns) (p : Pairs) : Type 0 where
   pub steps-in : (k : ℕ) → (natAbs (at (p .first) k) ≤ 1000) × (natAbs (at (p .second) k) ≤ 1000)

@@ -5,18 +5,20 @@
 --   runBox, runEnds     the box of P's run at level d, which starts at v: what is left of its segment there, and all below
 --   bySide x v a b      a below v, b from v on
 --   sparseBy c l f b    no value above b is found on the lattice l, within the room and the slope of the filling f
---   cutBy c l e best    the box e holds nothing, or nothing better than the incumbent
+--   mixedBy m f …       integer items that take whole strides of the room, and continuous ones that take the rest, make no value above b
+--   cutBy c m l e best  the box e holds nothing, or nothing better than the incumbent
 --   triedBy c e x best  the better of the incumbent and the relaxation of e, a place with all levels fixed at x
 --   Applies s p x d     a domination pair of level d's item and one above can be taken away from x within the box
 use mathlib.Core.Path.{_≡_}
-use mathlib.Core.Bool.{Bool, true, false, cond}
+use mathlib.Core.Bool.{Bool, true, false, not, cond}
 use mathlib.Core.List.{List}
 use mathlib.Core.Logic.{_≢_}
 use Prim.Native.Nat.{ℕ, zero, suc, _+_, _*_, _≤_, _<_}
 use lib.Dec.{ltb}
-use lib.IntN.{ℤ, pos, natAbs, _-ℤ_}
+use lib.IntN.{ℤ, pos, natAbs, _+ℤ_, _-ℤ_, _*ℤ_}
 use lib.ListN.{set}
 use lib.Signed.{ltZ, _≤ℤ_}
+use Rattle.arith.specs.Division.{floorDiv, ceilDiv}
 use Rattle.arith.specs.Mixed.{lessMixed}
 use Rattle.arith.specs.declared.Mixed.{Mixed}
 use Rattle.greedy.specs.declared.Columns.{Columns}
@@ -27,6 +29,7 @@ use Rattle.lattice.specs.declared.Lattice.{Lattice}
 use Rattle.lattice.specs.declared.Slope.{Slope}
 use Rattle.lattice.specs.Lattice.{barrenBy}
 use Rattle.search.specs.declared.Setting.{Setting}
+use Rattle.search.specs.declared.Soft.{Soft}
 use Rattle.search.specs.declared.Pairs.{Pairs}
 use Rattle.search.specs.declared.Incumbent.{Incumbent}
 
@@ -60,15 +63,34 @@ slopeOf c f = record { worth = f .worth; rate = at (c .rate) (f .at); size = at 
 unfoldable pub sparseBy : Columns → Lattice → Fill → ℤ → Bool
 sparseBy c l f b = cond (ltb (f .at) (c .live)) (barrenBy l (slopeOf c f) (f .room) b) false
 
--- no value above b is promised by a filling that ends at an item of that weight and price, or none is found on the lattice
-abbrev pub hopelessBy : Lattice → Fill → ℤ → ℤ → Mixed → Bool
-hopelessBy l f size rate b =
-    cond (lessMixed b (sharedBy f (natAbs size) (natAbs rate))) (barrenBy l (record { worth = f .worth; rate = rate; size = size }) (f .room) (b .whole)) true
+-- whole strides of the room at the price of an item of that weight, rounded up, and the rest at that of continuous items
+abbrev pub strideFill : Soft → Fill → ℤ → ℤ → Fill
+strideFill m f size rate = record { at = 0; room = f .room -ℤ m .stride *ℤ floorDiv (f .room) (m .stride); worth = f .worth +ℤ ceilDiv (rate *ℤ (m .stride *ℤ floorDiv (f .room) (m .stride))) size }
 
-unfoldable pub cutBy : Columns → Lattice → Ends → Incumbent → Bool
-cutBy c l e best =
+abbrev pub mixedBound : Soft → Fill → ℤ → ℤ → Mixed
+mixedBound m f size rate = sharedBy (strideFill m f size rate) (natAbs (m .size)) (natAbs (m .rate))
+
+abbrev pub mixedBy : Soft → Fill → ℤ → ℤ → Mixed → Bool
+mixedBy m f size rate b =
+    cond (ltZ (pos 0) (m .stride))
+    (cond (ltb (m .rank) (f .at)) false (cond (ltZ (rate *ℤ m .size) (m .rate *ℤ size)) false (not (lessMixed b (mixedBound m f size rate)))))
+    false
+
+-- no value above b is promised by a filling that ends at an item of that weight and price, or none is found on the lattice or by strides
+abbrev pub hopelessBy : Soft → Lattice → Fill → ℤ → ℤ → Mixed → Bool
+hopelessBy m l f size rate b =
+    cond (lessMixed b (sharedBy f (natAbs size) (natAbs rate)))
+    (cond (barrenBy l (record { worth = f .worth; rate = rate; size = size }) (f .room) (b .whole)) true (mixedBy m f size rate b))
+    true
+
+-- the same of a filling's own critical item
+unfoldable pub blendBy : Columns → Soft → Fill → Mixed → Bool
+blendBy c m f b = cond (ltb (f .at) (c .live)) (mixedBy m f (at (c .size) (f .at)) (at (c .rate) (f .at)) b) false
+
+unfoldable pub cutBy : Columns → Soft → Lattice → Ends → Incumbent → Bool
+cutBy c m l e best =
     cond (ltZ (fill c e .room) (pos 0)) true
-    (cond (best .found) (cond (lessMixed (best .value) (bound c (fill c e))) (sparseBy c l (fill c e) (best .value .whole)) true) false)
+    (cond (best .found) (cond (lessMixed (best .value) (bound c (fill c e))) (cond (sparseBy c l (fill c e) (best .value .whole)) true (blendBy c m (fill c e) (best .value))) true) false)
 
 -- whether a value is better than the incumbent's
 abbrev pub betters : Mixed → Incumbent → Bool

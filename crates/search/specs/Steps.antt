@@ -11,8 +11,8 @@ use mathlib.Core.Option.{Option, none, some}
 use Prim.Native.Nat.{ℕ, zero, suc, _+_, _≤_, _<_}
 use lib.Dec.{ltb}
 use lib.IntN.{ℤ, pos}
-use lib.ListN.{length, set, replicate}
-use lib.Signed.{_≤ℤ_}
+use lib.ListN.{length, replicate}
+use lib.Signed.{_≤ℤ_, _<ℤ_}
 use Rattle.arith.specs.Within.{Within}
 use Rattle.arith.specs.Mixed.{Proper}
 use Rattle.arith.specs.declared.Mixed.{Mixed}
@@ -29,13 +29,14 @@ use Rattle.places.specs.declared.Settled.{Settled}
 use Rattle.places.specs.declared.Settled.the-variants.{Run, Prefix}
 use Rattle.places.specs.Moves.{pastOf}
 use Rattle.search.specs.declared.Setting.{Setting}
+use Rattle.search.specs.declared.Soft.{Soft}
 use Rattle.search.specs.declared.Pairs.{Pairs}
 use Rattle.search.specs.declared.Incumbent.{Incumbent}
 use Rattle.search.specs.declared.Path.{Path}
 use Rattle.search.specs.declared.Sighting.{Sighting}
 use Rattle.search.specs.declared.State.{State}
 use Rattle.search.specs.Search.{fixedBy, startBy, runEnds, cutBy, triedBy, Applies}
-use Rattle.search.specs.Ready.{ReadySetting, Inside}
+use Rattle.search.specs.Ready.{Moderate, ReadySetting, Inside}
 
 -- ---- going down
 
@@ -46,11 +47,23 @@ pub record Dived (s : Setting) (j : ℕ) (p r : Path) : Type 0 where
 -- ---- looking
 
 -- what a filling that ends at an item of that weight and price promises can be compared
-pub record Promises (l : Lattice) (f : Fill) (size rate : ℤ) (b : Mixed) : Type 0 where
+pub record Mixes (m : Soft) (f : Fill) (size rate : ℤ) : Type 0 where
+  pub moderate : Moderate m
+  pub strides : pos 0 <ℤ m .stride
   pub steep : Steep (record { worth = f .worth; rate = rate; size = size })
+  pub room≥0 : pos 0 ≤ℤ f .room
   pub room-in : Within 20000000000000 (f .room)
-  pub tame : Tame l
+
+pub record Blends (m : Soft) (f : Fill) (size rate : ℤ) (b : Mixed) : Type 0 where
+  pub moderate : Moderate m
+  pub steep : Steep (record { worth = f .worth; rate = rate; size = size })
+  pub room≥0 : pos 0 ≤ℤ f .room
+  pub room-in : Within 20000000000000 (f .room)
   pub proper : Proper b
+
+pub record Promises (m : Soft) (l : Lattice) (f : Fill) (size rate : ℤ) (b : Mixed) : Type 0 where
+  pub blends : Blends m f size rate b
+  pub tame : Tame l
 
 -- the lists of a box have a place for each item
 pub record Long (e : Ends) : Type 0 where
@@ -74,7 +87,7 @@ pub record Judges (c : Columns) (e : Ends) (b : Incumbent) : Type 0 where
   pub proper : ProperBest b
 
 abbrev pub LookedAs : Setting → Pairs → Path → Incumbent → Incumbent → Settled → Type 0
-LookedAs s p t b b′ (Run d) = (d < s .levels) × ((b′ ≡ b) × (cutBy (s .cols) (latticeAt (s .lattice) d) (runEnds s (at (t .place)) (at (t .starts) d) d) b ≡ true))
+LookedAs s p t b b′ (Run d) = (d < s .levels) × ((b′ ≡ b) × (cutBy (s .cols) (s .soft) (latticeAt (s .lattice) d) (runEnds s (at (t .place)) (at (t .starts) d) d) b ≡ true))
 LookedAs s p t b b′ (Prefix n) = (n ≤ s .levels) × (((n ≡ s .levels) × (b′ ≡ triedBy (s .cols) (fixedBy s (at (t .place)) (s .levels)) (t .place) b)) ⊎ ((b′ ≡ b) × ((d : ℕ) × (n ≡ suc d) × Applies s p (at (t .place)) d)))
 
 abbrev pub Looked : Setting → Pairs → Path → Incumbent → Sighting → Type 0

@@ -2,6 +2,8 @@
 // sets aside a run of places from it on, with the lemma that allows it: see proofs/Settle. A step depends on the place and the
 // incumbent alone.
 use arith::Mixed;
+use arith::ceil_div;
+use arith::floor_div;
 use arith::less;
 use arith::magnitude;
 use greedy::Columns;
@@ -18,15 +20,13 @@ use places::Moved;
 use places::Settled;
 use places::past;
 ghost use mathlib.Core.Path.{_≡_};
-ghost use Prim.Native.Nat.{ℕ, _≤_, _<_};
-ghost use lib.IntN.{ℤ, pos};
+ghost use Prim.Native.Nat.{_≤_, _<_};
 ghost use Rattle.arith.specs.Within.{Within};
-ghost use Rattle.arith.specs.Mixed.{Proper};
 ghost use Rattle.greedy.specs.Fill.{at};
 ghost use Rattle.lattice.specs.Lattice.{Tame};
-ghost use Rattle.search.specs.Search.{fixedBy, bySide, hopelessBy, cutBy, triedBy, Stays, Removable, Decides, FirstPaired};
-ghost use Rattle.search.specs.Ready.{ReadySetting, Ready, Inside, InsideTo, Searched};
-ghost use Rattle.search.specs.Steps.{Dived, Promises, Judges, ProperBest, Started, Looked, nobody, Turnable, Turned, countedBy, Stepped, Took};
+ghost use Rattle.search.specs.Search.{fixedBy, bySide, mixedBound, mixedBy, hopelessBy, cutBy, triedBy, Stays, Removable, Decides, FirstPaired};
+ghost use Rattle.search.specs.Ready.{Moderate, ReadySetting, Ready, Inside, InsideTo, Searched};
+ghost use Rattle.search.specs.Steps.{Dived, Mixes, Blends, Promises, Judges, ProperBest, Started, Looked, nobody, Turnable, Turned, countedBy, Stepped, Took};
 
 // What does not change during a search: the columns, the box by item, and by level the item, its ends, and the lattice of what the
 // items from that level on change, where no continuous item is free.
@@ -38,6 +38,16 @@ pub struct Setting {
     pub high: [i64; 16],
     pub lattice: [Lattice; 16],
     pub levels: usize,
+    pub soft: Soft,
+}
+
+// What continuous items can add to a filling: those that are free come at that rank or after, and none is worth more for its weight than
+// rate for size. Integer items weigh multiples of the stride. Stride 0: nothing is known.
+pub struct Soft {
+    pub stride: i64,
+    pub rank: usize,
+    pub rate: i64,
+    pub size: i64,
 }
 
 // The domination pairs (01: least pairs) of all pairs of items, at 16 i + j: the steps of i and of j; 0 where there is none.
@@ -116,11 +126,45 @@ pub fn dive(s: Setting, p: Path, j: usize) -> Path
     }
 }
 
-// Whether a filling that stops at an item of that weight and price promises no value above b, or the lattice's items can make none
-// whatever it promises: cut by relaxation and cut by lattice, see proofs/Cuts (sparse-most).
-pub fn hopeless(l: Lattice, f: Fill, size: i64, rate: i64, b: Mixed) -> bool
-    requires { ⌜ Promises l f size rate b ⌝ }
-    ensures { λ r. ⌜ r ≡ hopelessBy l f size rate b ⌝ }
+// What a filling that stops at an item of that weight and price is worth at most if integer items take whole strides of the room: what they
+// leave goes to continuous items.
+pub fn mixed_bound(m: Soft, f: Fill, size: i64, rate: i64) -> Mixed
+    requires { ⌜ Mixes m f size rate ⌝ }
+    ensures { λ r. ⌜ r ≡ mixedBound m f size rate ⌝ }
+{
+    let r = f.room;
+    let w = m.stride * floor_div(r, m.stride);
+    let g = Fill {
+        at: 0,
+        room: r - w,
+        worth: f.worth + ceil_div(rate * w, size),
+    };
+    share(g, magnitude(m.size), magnitude(m.rate))
+}
+
+// Whether that is no more than b, where it says something: see proofs/Mixing (mixed-most).
+pub fn mixed(m: Soft, f: Fill, size: i64, rate: i64, b: Mixed) -> bool
+    requires { ⌜ Blends m f size rate b ⌝ }
+    ensures { λ r. ⌜ r ≡ mixedBy m f size rate b ⌝ }
+{
+    if 0 < m.stride {
+        if m.rank < f.at {
+            return false;
+        }
+        if rate * m.size < m.rate * size {
+            return false;
+        }
+        let v = mixed_bound(m, f, size, rate);
+        return !less(b, v);
+    }
+    false
+}
+
+// Whether a filling that stops at an item of that weight and price promises no value above b, or the items can make none whatever it
+// promises: cut by relaxation, by lattice, see proofs/Cuts (sparse-most), and by strides.
+pub fn hopeless(m: Soft, l: Lattice, f: Fill, size: i64, rate: i64, b: Mixed) -> bool
+    requires { ⌜ Promises m l f size rate b ⌝ }
+    ensures { λ r. ⌜ r ≡ hopelessBy m l f size rate b ⌝ }
 {
     let v = share(f, magnitude(size), magnitude(rate));
     if less(b, v) {
@@ -129,16 +173,19 @@ pub fn hopeless(l: Lattice, f: Fill, size: i64, rate: i64, b: Mixed) -> bool
             rate: rate,
             size: size,
         };
-        return barren(l, p, f.room, b.whole);
+        if barren(l, p, f.room, b.whole) {
+            return true;
+        }
+        return mixed(m, f, size, rate, b);
     }
     true
 }
 
 // Whether the box e holds nothing better than the incumbent: see proofs/Settle (cut-settles). The columns are large, and a struct is
 // copied at a call: so the critical item is read here.
-pub fn cut(c: Columns, l: Lattice, e: Ends, best: Incumbent) -> bool
-    requires { ⌜ Judges c e best × Tame l ⌝ }
-    ensures { λ r. ⌜ r ≡ cutBy c l e best ⌝ }
+pub fn cut(c: Columns, m: Soft, l: Lattice, e: Ends, best: Incumbent) -> bool
+    requires { ⌜ Judges c e best × (Tame l × Moderate m) ⌝ }
+    ensures { λ r. ⌜ r ≡ cutBy c m l e best ⌝ }
 {
     let f = fill_up(c, e);
     if f.room < 0 {
@@ -151,7 +198,7 @@ pub fn cut(c: Columns, l: Lattice, e: Ends, best: Incumbent) -> bool
         if u < n {
             let s = c.size[u];
             let p = c.rate[u];
-            return hopeless(l, f, s, p, b);
+            return hopeless(m, l, f, s, p, b);
         }
         let v = Mixed {
             whole: f.worth,
@@ -254,6 +301,7 @@ pub fn look(s: Setting, p: Pairs, t: Path, best: Incumbent) -> Sighting
     let x = t.place;
     let v = t.starts;
     let c = s.cols;
+    let z = s.soft;
     let m = first_paired(s, p, x);
     let mut e = s.ends;
     let mut d: usize = 0;
@@ -265,7 +313,7 @@ pub fn look(s: Setting, p: Pairs, t: Path, best: Incumbent) -> Sighting
         let h = by_side(a, b, a, s.high[d]);
         e.lo[i] = l;
         e.hi[i] = h;
-        if cut(c, s.lattice[d], e, best) {
+        if cut(c, z, s.lattice[d], e, best) {
             return Sighting {
                 settled: Settled::Run(d),
                 best: best,

@@ -1,5 +1,5 @@
 -- `greedy::bound_of` meets its contract.
-use mathlib.Core.Path.{_≡_, ap, ap₂, _∙_}
+use mathlib.Core.Path.{_≡_, ap₂, _∙_}
 use native.Mathlib.Omega.{arith}
 use lib.IntN.{natAbs}
 use borrow.Author.Tests.{lt-ltb, le-ltb}
@@ -46,7 +46,7 @@ share-requires c κs =
     let u = s .args .f .at in
     record {
       room-in = s .pre .room-in;
-      worth-in = s .pre .worth-in;
+      worth-in = within-more (omega arith) (s .pre .worth-in);
       size-in = omega (arith, size-is (c .before), s .pre .columns .live-sizes u (t .if1 .taken));
       rate-in = omega (arith, rate-is c, within-abs (at (s .args .t1 .rate) u) (s .pre .columns .rates-in u));
     }

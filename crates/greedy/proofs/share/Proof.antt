@@ -28,7 +28,7 @@ product c =
 quotient : (c : tie.After-magnitude) → (c .before .before .args .p * c .magnitude .result) / c .before .before .args .s ≤ 200000000000000000
 quotient c = omega (arith, div-le-self (c .before .before .args .p * c .magnitude .result) (c .before .before .args .s), product c)
 
-whole-within : (c : tie.After-magnitude) → Within 200200000000000000 (c .before .before .args .f .worth +ℤ pos ((c .before .before .args .p * c .magnitude .result) / c .before .before .args .s))
+whole-within : (c : tie.After-magnitude) → Within 500000000000000000 (c .before .before .args .f .worth +ℤ pos ((c .before .before .args .p * c .magnitude .result) / c .before .before .args .s))
 whole-within c = within-add (c .before .before .pre .worth-in) (record { above = quotient c; below = omega arith })
 
 mul-x : tie.Need-mul-x

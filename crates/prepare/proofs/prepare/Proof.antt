@@ -52,9 +52,14 @@ table-requires-2 c κs = by-level (c .before)
 lattices-of-requires : tie.Need-lattices-of-requires
 lattices-of-requires c κs = by-level (c .before .before)
 
+soft-of-requires : tie.Need-soft-of-requires
+soft-of-requires c κs =
+    let k = c .before .before .before .before .before .before .before in
+    (k .before .pre, k .columns .ensures)
+
 returns : tie.Need-returns
 returns c =
-    let l = c .before .before .before in
+    let l = c .before .before .before .before in
     let o = l .before in
     let b = o .before in
     let e = b .before in
@@ -66,9 +71,10 @@ returns c =
       tells = subst Tells (sym (b .branching .ensures)) (critical-tells (k .columns .result) (fill (k .columns .result) (e .bounding-box .result)));
       sorted = o .ranking-by .ensures;
       leading = l .leading .ensures;
-      lows = c .before .before .table .ensures;
-      highs = c .before .table2 .ensures;
-      latticing = c .lattices-of .ensures;
+      lows = c .before .before .before .table .ensures;
+      highs = c .before .before .table2 .ensures;
+      latticing = c .before .lattices-of .ensures;
+      softens = c .soft-of .ensures;
     })
 
 pub prepare-spec : {M : Type 1} → statement M
@@ -83,4 +89,5 @@ prepare-spec =
     table-requires
     table-requires-2
     lattices-of-requires
+    soft-of-requires
     returns)

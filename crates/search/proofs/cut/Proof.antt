@@ -8,10 +8,11 @@ use lib.Signed.{ltZ}
 use borrow.Author.Tests.{lt-ltb, le-ltb}
 use Rattle.arith.specs.Mixed.{lessMixed}
 use Rattle.arith.proofs.Parts.{within-back}
+use Rattle.arith.proofs.Words.{no-lt}
 use Rattle.greedy.specs.Fill.{fill, bound}
 use Rattle.greedy.specs.Sized.{SizedFill}
 use Rattle.greedy.proofs.Sizes.{fill-sized}
-use Rattle.search.specs.Search.{sparseBy, cutBy}
+use Rattle.search.specs.Search.{sparseBy, blendBy, cutBy}
 use Rattle.search.proofs.Bounds.{steep}
 use borrow.Author.Needs.{needs}
 use Rattle.search.proofs.cut.Statement.{statement}
@@ -60,10 +61,10 @@ hopeless-requires c κs =
     let z : SizedFill (s .args .t1) (g .fill-up .result) = rw (g .fill-up .ensures) (sized s) in
     let u = g .fill-up .result .at in
     rw (within-back tt (z .columns .sizes-in u), within-back tt (z .columns .rates-in u))
-    (record { steep = steep (s .args .t1) (g .fill-up .result) (s .pre .0 .ordered) z (h .if3 .taken); room-in = z .room-in; tame = s .pre .1; proper = s .pre .0 .proper (h .before .before .if2 .taken) })
+    (record { blends = record { moderate = s .pre .1 .1; steep = steep (s .args .t1) (g .fill-up .result) (s .pre .0 .ordered) z (h .if3 .taken); room≥0 = rw (g .fill-up .ensures) (no-lt (not-empty (h .before .before .before))); room-in = z .room-in; proper = s .pre .0 .proper (h .before .before .if2 .taken) }; tame = s .pre .1 .0 })
 
 returns-2 : tie.Need-returns-2
-unfolding cutBy sparseBy bound
+unfolding cutBy sparseBy blendBy bound
 returns-2 c =
     let h = c .before .before .before in
     let g = h .before .before .before .before .before .before in
@@ -85,7 +86,7 @@ turned true = refl
 turned false = refl
 
 returns-3 : tie.Need-returns-3
-unfolding cutBy sparseBy bound
+unfolding cutBy sparseBy blendBy bound
 returns-3 c =
     let h = c .before .before in
     let g = h .before .before .before .before .before .before in

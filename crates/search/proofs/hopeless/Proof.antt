@@ -2,23 +2,22 @@
 use mathlib.Core.Path.{_≡_, sym, ap, ap₂, _∙_}
 use native.Mathlib.Omega.{arith}
 use Prim.Native.Nat.{_<_}
-use lib.IntN.{ℤ, pos, negsuc, natAbs}
-use lib.Signed.{_<ℤ_}
+use lib.IntN.{natAbs}
 use mir.Facts.{toZ-ofZ}
 use Rattle.arith.specs.Mixed.{lessMixed}
-use Rattle.arith.proofs.Parts.{zs, within-more, within-abs, within-back}
+use Rattle.arith.proofs.Parts.{within-more, within-abs, within-back}
 use Rattle.arith.proofs.Words.{back}
 use Rattle.greedy.specs.Fill.{sharedBy}
-use Rattle.search.proofs.Bounds.{shared-proper}
-use borrow.Author.Needs.{needs}
+use Rattle.lattice.specs.Lattice.{barrenBy}
+use Rattle.search.proofs.Bounds.{above-zero, shared-proper}
 use Rattle.search.proofs.hopeless.Statement.{statement}
 use Rattle.search.proofs.hopeless.Tie as tie
 
 magnitude-requires : tie.Need-magnitude-requires
-magnitude-requires c κs = rw (toZ-ofZ (c .fits .size)) (within-more (omega arith) (c .pre .steep .size-in))
+magnitude-requires c κs = rw (toZ-ofZ (c .fits .size)) (within-more (omega arith) (c .pre .blends .steep .size-in))
 
 magnitude-requires-2 : tie.Need-magnitude-requires-2
-magnitude-requires-2 c κs = rw (toZ-ofZ (c .before .fits .rate)) (within-more (omega arith) (c .before .pre .steep .rate-in))
+magnitude-requires-2 c κs = rw (toZ-ofZ (c .before .fits .rate)) (within-more (omega arith) (c .before .pre .blends .steep .rate-in))
 
 size-is : (c : tie.After-magnitude) → c .magnitude .result ≡ natAbs (c .before .args .size)
 size-is c = rw (toZ-ofZ (c .before .fits .size)) at (c .magnitude .ensures)
@@ -27,21 +26,17 @@ rate-is : (c : tie.After-magnitude2) → c .magnitude2 .result ≡ natAbs (c .be
 rate-is c = rw (toZ-ofZ (c .before .before .fits .rate)) at (c .magnitude2 .ensures)
 
 -- the size is at least 1
-above-zero : (z : ℤ) → pos 0 <ℤ z → 0 < natAbs z
-above-zero (pos n) h = omega (arith, zs)
-above-zero (negsuc n) h = omega arith
-
 size≥1 : (s : tie.Start) → 0 < natAbs (s .args .size)
-size≥1 s = above-zero (s .args .size) (s .pre .steep .size≥1)
+size≥1 s = above-zero (s .args .size) (s .pre .blends .steep .size≥1)
 
 share-requires : tie.Need-share-requires
 share-requires c κs =
     let s = c .before .before in
     record {
-      room-in = s .pre .room-in;
-      worth-in = s .pre .steep .worth-in;
+      room-in = s .pre .blends .room-in;
+      worth-in = within-more (omega arith) (s .pre .blends .steep .worth-in);
       size-in = omega (arith, size-is (c .before), size≥1 s);
-      rate-in = omega (arith, rate-is c, within-abs (s .args .rate) (s .pre .steep .rate-in));
+      rate-in = omega (arith, rate-is c, within-abs (s .args .rate) (s .pre .blends .steep .rate-in));
     }
 
 -- what is promised
@@ -51,7 +46,7 @@ promise c = c .share .ensures ∙ ap₂ (sharedBy (c .before .before .before .ar
 less-requires : tie.Need-less-requires
 less-requires c κs =
     let s = c .before .before .before in
-    (s .pre .proper, rw (promise c) (shared-proper (s .args .f) (natAbs (s .args .size)) (natAbs (s .args .rate)) (size≥1 s) (within-abs (s .args .size) (s .pre .steep .size-in))))
+    (s .pre .blends .proper, rw (promise c) (shared-proper (s .args .f) (natAbs (s .args .size)) (natAbs (s .args .rate)) (size≥1 s) (within-abs (s .args .size) (s .pre .blends .steep .size-in))))
 
 -- what the comparison said
 less-is : (c : tie.After-less) → c .less .result ≡ lessMixed (c .before .before .before .before .args .b) (sharedBy (c .before .before .before .before .args .f) (natAbs (c .before .before .before .before .args .size)) (natAbs (c .before .before .before .before .args .rate)))
@@ -60,17 +55,35 @@ less-is c = c .less .ensures ∙ ap (lessMixed (c .before .before .before .befor
 barren-requires : tie.Need-barren-requires
 barren-requires c κs =
     let s = c .before .before .before .before .before .before .before .before in
-    rw (within-back tt (s .pre .steep .worth-in), toZ-ofZ (s .fits .rate), toZ-ofZ (s .fits .size), within-back tt (s .pre .room-in)) (s .pre .tame, (s .pre .steep, s .pre .room-in))
+    rw (within-back tt (s .pre .blends .steep .worth-in), toZ-ofZ (s .fits .rate), toZ-ofZ (s .fits .size), within-back tt (s .pre .blends .room-in)) (s .pre .tame, (s .pre .blends .steep, s .pre .blends .room-in))
+
+barren-is : (c : tie.After-barren) → c .barren .result ≡ barrenBy (c .before .before .before .before .before .before .before .before .before .args .l) (record { worth = c .before .before .before .before .before .before .before .before .before .args .f .worth; rate = c .before .before .before .before .before .before .before .before .before .args .rate; size = c .before .before .before .before .before .before .before .before .before .args .size }) (c .before .before .before .before .before .before .before .before .before .args .f .room) (c .before .before .before .before .before .before .before .before .before .args .b .whole)
+barren-is c =
+    let s = c .before .before .before .before .before .before .before .before .before in
+    rw (within-back tt (s .pre .blends .steep .worth-in), toZ-ofZ (s .fits .rate), toZ-ofZ (s .fits .size), within-back tt (s .pre .blends .room-in), back (s .args .b .whole) (c .before .struct-told3 .given .0 .1)) at (c .barren .ensures)
+
+-- the relaxation promises more
+promised : (c : tie.After-barren) → tie.Then1
+promised c = c .before .before .before .before
 
 returns : tie.Need-returns
-returns c =
-    let h = c .before .before .before .before in
-    let s = h .before .before .before .before .before in
-    let e = rw (within-back tt (s .pre .steep .worth-in), toZ-ofZ (s .fits .rate), toZ-ofZ (s .fits .size), within-back tt (s .pre .room-in), back (s .args .b .whole) (c .before .struct-told3 .given .0 .1)) at (c .barren .ensures) in
-    rw (sym (less-is (h .before)) ∙ h .if1 .taken) e
+unfolding promised
+returns c = let h = promised (c .before) in rw (sym (less-is (h .before)) ∙ h .if1 .taken, sym (barren-is (c .before)) ∙ c .if2 .taken)
+
+mixed-requires : tie.Need-mixed-requires
+mixed-requires c κs = let s = c .before .before .before .before .before .before .before .before .before .before in rw (toZ-ofZ (s .fits .size), toZ-ofZ (s .fits .rate)) (s .pre .blends)
 
 returns-2 : tie.Need-returns-2
-returns-2 c = rw (sym (less-is (c .before)) ∙ c .if1 .left)
+unfolding promised
+returns-2 c =
+    let b = c .before .before in
+    let h = promised b in
+    let s = h .before .before .before .before .before in
+    let e = rw (toZ-ofZ (s .fits .size), toZ-ofZ (s .fits .rate)) at (c .mixed .ensures) in
+    rw (sym (less-is (h .before)) ∙ h .if1 .taken, sym (barren-is b) ∙ c .before .if2 .left) e
+
+returns-3 : tie.Need-returns-3
+returns-3 c = rw (sym (less-is (c .before)) ∙ c .if1 .left)
 
 pub hopeless-spec : {M : Type 1} → statement M
 hopeless-spec =
@@ -82,4 +95,6 @@ hopeless-spec =
     less-requires
     barren-requires
     returns
-    returns-2)
+    mixed-requires
+    returns-2
+    returns-3)

@@ -20,20 +20,20 @@ use Rattle.search.proofs.look.Statement.{statement}
 use Rattle.search.proofs.look.Tie as tie
 
 abbrev Inv-loop : tie.InvT-loop
-Inv-loop best s n x v c m e₀ d₀ e d = (d ≤ n) × (e ≡ fixedBy s (at x) d)
+Inv-loop best s n x v c z m e₀ d₀ e d = (d ≤ n) × (e ≡ fixedBy s (at x) d)
 
 abbrev μ-loop : tie.MeasureT-loop
-μ-loop best s n x v c m e₀ d₀ e d = n - d
+μ-loop best s n x v c z m e₀ d₀ e d = n - d
 
 -- what the function was given, at the loop
 abbrev Of : tie.At-loop Inv-loop μ-loop → tie.Start Inv-loop μ-loop
-Of l = l .before .before .before .before .before .before
+Of l = l .before .before .before .before .before .before .before
 
 d<16 : (c : tie.In-loop Inv-loop μ-loop) → c .before .loop .d < 16
 d<16 c = omega (arith, c .loop-test .taken, Of (c .before) .pre .0 .setting .few)
 
 first-paired-requires : tie.Need-first-paired-requires Inv-loop μ-loop
-first-paired-requires c κs = let s = c .before .before .before in (s .pre .0, s .pre .1 .0 .inside)
+first-paired-requires c κs = let s = c .before .before .before .before in (s .pre .0, s .pre .1 .0 .inside)
 
 loop-holds : tie.Need-loop-holds Inv-loop μ-loop
 unfolding fixedBy
@@ -138,17 +138,17 @@ cut-requires c κs =
     let i = Turn b in
     let l = i .before in
     let s = Of l in
-    rw (run-is b) (run-judged (s .args .t1) (s .pre .0 .setting) (s .pre .1 .0 .long) (at (s .args .t .place)) (s .pre .1 .0 .inside) (at (s .args .t .starts) (l .loop .d)) (l .loop .d) (s .args .best) (i .loop-test .taken) (s .pre .1 .1), s .pre .0 .setting .tame (l .loop .d) (d<16 i))
+    rw (run-is b) (run-judged (s .args .t1) (s .pre .0 .setting) (s .pre .1 .0 .long) (at (s .args .t .place)) (s .pre .1 .0 .inside) (at (s .args .t .starts) (l .loop .d)) (l .loop .d) (s .args .best) (i .loop-test .taken) (s .pre .1 .1), (s .pre .0 .setting .tame (l .loop .d) (d<16 i), s .pre .0 .setting .moderate))
 
 returns : tie.Need-returns Inv-loop μ-loop
 returns c =
     let b = c .before .before .before in
     let l = Turn b .before in
     let s = Of l in
-    (Turn b .loop-test .taken, (refl, ap (λ e. cutBy (s .args .t1 .cols) (latticeAt (s .args .t1 .lattice) (l .loop .d)) e (s .args .best)) (sym (run-is b)) ∙ sym (c .before .cut .ensures) ∙ c .if1 .taken))
+    (Turn b .loop-test .taken, (refl, ap (λ e. cutBy (s .args .t1 .cols) (s .args .t1 .soft) (latticeAt (s .args .t1 .lattice) (l .loop .d)) e (s .args .best)) (sym (run-is b)) ∙ sym (c .before .cut .ensures) ∙ c .if1 .taken))
 
-add-t46 : tie.Need-add-t46 Inv-loop μ-loop
-add-t46 c = record { fits = omega (arith, d<16 (Turn (c .before .before .before .before))) }
+add-t47 : tie.Need-add-t47 Inv-loop μ-loop
+add-t47 c = record { fits = omega (arith, d<16 (Turn (c .before .before .before .before))) }
 
 -- the level that a pair discards
 returns-2 : tie.Need-returns-2 Inv-loop μ-loop
@@ -235,7 +235,7 @@ look-spec =
     element-copy-out-cut
     cut-requires
     returns
-    add-t46
+    add-t47
     returns-2
     mul-a-2
     element-set-from-a

@@ -1,0 +1,92 @@
+-- `prepare::softening::soft_of` meets its contract.
+use mathlib.Core.Path.{_≡_}
+use Prim.Native.Nat.{_<_}
+use native.Mathlib.Omega.{arith}
+use lib.IntN.{pos}
+use mir.Syntax.{w64}
+use mir.Val.{toZ}
+use mir.Facts.{toZ-pos}
+use borrow.Author.Needs.{needs}
+use Rattle.arith.proofs.Parts.{within-back}
+use Rattle.knapsack.specs.Records.{itemAt}
+use Rattle.tables.specs.Figures.{keyOf}
+use Rattle.tables.specs.declared.Key.the-variants.{Filling}
+use Rattle.prepare.specs.Softening.{strideOf}
+use Rattle.prepare.proofs.Lists.{sorted-listing}
+use Rattle.prepare.proofs.Order.{columns-sized}
+use Rattle.prepare.proofs.Softness.{stride-small, softens-live, softens-idle, softens-none}
+use Rattle.prepare.proofs.softening.soft_of.Statement.{statement}
+use Rattle.prepare.proofs.softening.soft_of.Tie as tie
+
+up : (c : tie.After-stride-of) → toZ w64 (c .stride-of .result) ≡ pos (strideOf (c .before .before .before .before .before .args .p) (c .before .before .before .before .before .args .p .count))
+up c =
+    let s = c .before .before .before .before .before in
+    let b = stride-small (s .args .p) (s .pre .0) (s .args .p .count) (omega arith) in
+    rw (c .stride-of .ensures) (toZ-pos w64 (omega (arith, b)))
+
+rank<16 : (c : tie.Then2) → c .before .before .before .before .leading .result < 16
+rank<16 c =
+    let s = c .before .before .before .before .before .before in
+    omega (arith, c .if2 .taken, s .pre .1 .live .most, s .pre .0 .few-items)
+
+leading-requires : tie.Need-leading-requires
+leading-requires c κs = let s = c .before in sorted-listing (s .args .p) (s .pre .0) (λ k. keyOf Filling (itemAt (s .args .p) k)) (s .args .t2 .order) (s .pre .1 .order)
+
+stride-of-requires : tie.Need-stride-of-requires
+stride-of-requires c κs = search needs
+
+cast-g : tie.Need-cast-g
+cast-g c =
+    let s = c .before .before .before .before .before in
+    let b = stride-small (s .args .p) (s .pre .0) (s .args .p .count) (omega arith) in
+    record { sfits = omega (arith, b, c .stride-of .ensures) }
+
+mul-t12 : tie.Need-mul-t12
+mul-t12 c = record { fits = omega (arith, rank<16 c) }
+
+element-copy-out-t15 : tie.Need-element-copy-out-t15
+element-copy-out-t15 c = rank<16 c
+
+mul-t16 : tie.Need-mul-t16
+mul-t16 c = record { fits = omega (arith, rank<16 (c .before)) }
+
+element-copy-out-t19 : tie.Need-element-copy-out-t19
+element-copy-out-t19 c = rank<16 (c .before)
+
+returns : tie.Need-returns
+returns c =
+    let t = c .before .before in
+    let s = t .before .before .before .before .before .before in
+    let l = t .before .before .before .before in
+    let z = columns-sized (s .args .p) (s .args .t2) (s .pre .0) (s .pre .1) in
+    let u = l .leading .result in
+    rw (up (t .before), within-back tt (z .rates-in u), within-back tt (z .sizes-in u))
+    (softens-live (s .args .p) (s .pre .0) (s .args .t2) (s .pre .1) u (l .leading .ensures) (t .if2 .taken))
+
+returns-2 : tie.Need-returns-2
+returns-2 c =
+    let s = c .before .before .before .before .before .before in
+    let l = c .before .before .before .before in
+    rw (up (c .before)) (softens-idle (s .args .p) (s .pre .0) (s .args .t2) (s .pre .1) (l .leading .result) (l .leading .ensures) (c .if2 .left))
+
+no-soft-requires : tie.Need-no-soft-requires
+no-soft-requires c κs = search needs
+
+returns-3 : tie.Need-returns-3
+returns-3 c = let s = c .before .before .before .before .before in rw (c .no-soft .ensures) (softens-none (s .args .p) (s .args .t2))
+
+pub soft-of-spec : {M : Type 1} → statement M
+soft-of-spec =
+    tie.close
+    (tie.spec
+    leading-requires
+    stride-of-requires
+    cast-g
+    mul-t12
+    element-copy-out-t15
+    mul-t16
+    element-copy-out-t19
+    returns
+    returns-2
+    no-soft-requires
+    returns-3)
