@@ -10,9 +10,10 @@ mod rivals;
 mod speed;
 mod twin;
 
-const USAGE: &str = "bench/run [quick] [compare | speed] [--seed N] [--sheets N] [--steps N]
+const USAGE: &str = "bench/run [quick] [compare | speed | reply] [--seed N] [--sheets N] [--steps N]
   compare    our replies held to those of an independent planner, on 120,000 drawn sheets (--sheets)
   speed      the speed table, 100 sheets a row (--sheets)
+  reply      our reply to the sheet of standard input
   quick      fewer sheets
   --seed     the seed of the draw (1)
   --steps    a sheet that takes the twin more steps is left out and counted (compare 200,000; speed 1,000,000)
@@ -53,8 +54,12 @@ fn main() {
     let seed = a.number("--seed").unwrap_or(1);
     let sheets = a.number("--sheets");
     let steps = a.number("--steps");
+    let reply = a.word("reply");
     if !a.words.is_empty() {
         usage();
+    }
+    if reply {
+        return rivals::reply();
     }
     let mut good = true;
     if compare || !speed {
@@ -63,7 +68,7 @@ fn main() {
         println!();
     }
     if speed || !compare {
-        let (count, rival_sheets) = if quick { (10, 1) } else { (100, 3) };
+        let (count, rival_sheets) = if quick { (10, 3) } else { (100, 11) };
         let limit = steps.unwrap_or(if quick { 100_000 } else { 1_000_000 });
         speed::speed(&speed::Options { seed, sheets: sheets.unwrap_or(count) as usize, rival_sheets, limit });
     }

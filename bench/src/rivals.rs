@@ -1,29 +1,51 @@
-//! Solvers that may be installed, timed as whole processes. They compute in floating point; theirs is the time beside ours, not the proof.
+//! Solvers as whole processes, from a file to a file: ours beside those that may be installed. They compute in floating point; theirs is the
+//! time beside ours, not the proof.
 
+use crate::ours;
 use crate::problem::Problem;
-use std::path::PathBuf;
+use std::fs::File;
+use std::io::{Read, Write};
+use std::path::{Path, PathBuf};
 use std::process::{Command, Stdio};
 use std::time::Instant;
 
+/// `Ours` is this program with the word `reply`.
 #[derive(Clone, Copy)]
-pub enum Rival {
+pub enum Solver {
+    Ours,
     Glpsol,
     Cbc,
 }
 
+pub const RIVALS: [Solver; 2] = [Solver::Glpsol, Solver::Cbc];
+
 /// Seconds that a rival is given for a sheet.
 pub const LIMIT: u64 = 2;
+
+/// Our reply to the sheet of standard input.
+pub fn reply() {
+    let mut sheet = vec![];
+    std::io::stdin().read_to_end(&mut sheet).expect("a sheet");
+    std::io::stdout().write_all(ours::plan(&sheet).as_bytes()).expect("room for a reply");
+}
+
+/// The value of our reply as a float.
+fn value_of(text: &str) -> Option<f64> {
+    let mut words = text.lines().next()?.strip_prefix("best ")?.split(' ');
+    Some(words.next()?.parse::<f64>().ok()? / words.next()?.parse::<f64>().ok()?)
+}
 
 pub struct Run {
     pub seconds: f64,
     pub value: Option<f64>,
 }
 
-impl Rival {
+impl Solver {
     pub fn name(self) -> &'static str {
         match self {
-            Rival::Glpsol => "glpsol",
-            Rival::Cbc => "cbc",
+            Solver::Ours => "ours",
+            Solver::Glpsol => "glpsol",
+            Solver::Cbc => "cbc",
         }
     }
 
@@ -32,18 +54,35 @@ impl Rival {
         known.is_ok()
     }
 
+    fn command(self, model: &Path, solution: &Path) -> Command {
+        let program = match self {
+            Solver::Ours => std::env::current_exe().expect("this program"),
+            _ => self.name().into(),
+        };
+        let mut command = Command::new(program);
+        command.stdin(Stdio::null()).stdout(Stdio::null()).stderr(Stdio::null());
+        match self {
+            Solver::Ours => {
+                command.arg("reply").stdin(File::open(model).expect("the sheet")).stdout(File::create(solution).expect("a temporary file"))
+            }
+            Solver::Glpsol => command.arg("--lp").arg(model).args(["--tmlim", &LIMIT.to_string()]).arg("-w").arg(solution),
+            Solver::Cbc => command.arg(model).args(["-sec", &LIMIT.to_string(), "-solve", "-solu"]).arg(solution).arg("-quit"),
+        };
+        command
+    }
+
     /// How long it takes, and the value that it names optimal, if it does.
     pub fn solve(self, p: &Problem) -> Run {
         let file = |end: &str| std::env::temp_dir().join(format!("charge-bench-{}.{end}", std::process::id()));
         let (model, solution) = (file("lp"), file("sol"));
-        std::fs::write(&model, model_text(p)).expect("a temporary file");
-        let mut command = Command::new(self.name());
-        match self {
-            Rival::Glpsol => command.arg("--lp").arg(&model).args(["--tmlim", &LIMIT.to_string()]).arg("-w").arg(&solution),
-            Rival::Cbc => command.arg(&model).args(["-sec", &LIMIT.to_string(), "-solve", "-solu"]).arg(&solution).arg("-quit"),
+        let text = match self {
+            Solver::Ours => p.sheet(),
+            _ => model_text(p).into_bytes(),
         };
+        std::fs::write(&model, text).expect("a temporary file");
+        let mut command = self.command(&model, &solution);
         let began = Instant::now();
-        let ran = command.stdin(Stdio::null()).stdout(Stdio::null()).stderr(Stdio::null()).status();
+        let ran = command.status();
         let seconds = began.elapsed().as_secs_f64();
         let value = ran.ok().and_then(|_| self.value(&solution));
         let _ = (std::fs::remove_file(model), std::fs::remove_file(solution));
@@ -53,8 +92,9 @@ impl Rival {
     fn value(self, solution: &PathBuf) -> Option<f64> {
         let text = std::fs::read_to_string(solution).ok()?;
         let line = match self {
-            Rival::Glpsol => text.lines().find(|l| l.starts_with("s mip") && l.contains(" o "))?,
-            Rival::Cbc => text.lines().find(|l| l.starts_with("Optimal"))?,
+            Solver::Ours => return value_of(&text),
+            Solver::Glpsol => text.lines().find(|l| l.starts_with("s mip") && l.contains(" o "))?,
+            Solver::Cbc => text.lines().find(|l| l.starts_with("Optimal"))?,
         };
         line.split(' ').next_back()?.parse().ok().map(f64::abs)
     }

@@ -4,7 +4,7 @@ use crate::draw::{self, Family, Rng, FAMILIES};
 use crate::independent;
 use crate::ours;
 use crate::problem::Problem;
-use crate::rivals::{self, Rival};
+use crate::rivals::{self, Solver, RIVALS};
 use crate::twin;
 use std::time::Instant;
 
@@ -28,13 +28,20 @@ struct Row {
     same: usize,
 }
 
-/// What a rival did on the first sheets of a row.
+/// What a solver did as a process on the first sheets of a row, or of all rows.
 #[derive(Default)]
 struct Rivalry {
-    seconds: f64,
-    runs: usize,
+    seconds: Vec<f64>,
     late: usize,
     right: usize,
+}
+
+impl Rivalry {
+    fn median(&self) -> f64 {
+        let mut sorted = self.seconds.clone();
+        sorted.sort_by(f64::total_cmp);
+        sorted[sorted.len() / 2]
+    }
 }
 
 /// The least time of up to three runs; one if it is long.
@@ -70,20 +77,21 @@ fn measure(p: &Problem, o: &Options, row: &mut Row) {
     row.same += (text == twin.text) as usize;
 }
 
-/// The value of our reply as a float.
-fn value_of(text: &str) -> Option<f64> {
-    let mut words = text.lines().next()?.strip_prefix("best ")?.split(' ');
-    Some(words.next()?.parse::<f64>().ok()? / words.next()?.parse::<f64>().ok()?)
-}
-
-fn measure_rival(rival: Rival, p: &Problem, result: &mut Rivalry) {
-    let run = rival.solve(p);
-    result.runs += 1;
-    result.seconds += run.seconds;
-    match (run.value, value_of(&ours::plan(&p.sheet()))) {
-        (Some(v), Some(w)) if run.seconds < rivals::LIMIT as f64 => result.right += ((v - w).abs() <= 1e-9 * w.abs()) as usize,
-        _ => result.late += 1,
+/// The solvers as processes on the same sheets, ours first; right: our value.
+fn measure_processes(solvers: &[Solver], problems: &[Problem]) -> Vec<Rivalry> {
+    let mut results: Vec<Rivalry> = solvers.iter().map(|_| Rivalry::default()).collect();
+    for p in problems {
+        let runs: Vec<rivals::Run> = solvers.iter().map(|s| s.solve(p)).collect();
+        let ours = runs[0].value;
+        for (run, result) in runs.iter().zip(&mut results) {
+            result.seconds.push(run.seconds);
+            match (run.value, ours) {
+                (Some(v), Some(w)) if run.seconds < rivals::LIMIT as f64 => result.right += ((v - w).abs() <= 1e-9 * w.abs()) as usize,
+                _ => result.late += 1,
+            }
+        }
     }
+    results
 }
 
 fn sheets(family: Family, bound: i64, continuous: usize, o: &Options) -> Vec<Problem> {
@@ -115,67 +123,98 @@ fn show(name: &str, bound: i64, row: &mut Row, rivals: &[Rivalry], o: &Options) 
         row.ours / row.twin
     );
     for r in rivals {
-        print!(" {:>9.1}{}", r.seconds * 1e3 / r.runs as f64, if r.late > 0 { '+' } else { ' ' });
+        print!(" {:>9.2}{}", r.median() * 1e3, if r.late > 0 { '+' } else { ' ' });
     }
     println!();
 }
 
-fn heading(continuous: usize, installed: &[Rival]) {
+fn heading(continuous: usize, solvers: &[Solver]) {
     println!();
     println!("{} integer items and {continuous} continuous ones", 16 - continuous);
-    let names: String = installed.iter().map(|r| format!(" {:>9} ", format!("{} ms", r.name()))).collect();
+    let names: String = solvers.iter().map(|r| format!(" {:>9} ", format!("{} ms", r.name()))).collect();
     println!(
         "{:24} {:>6} {:>9} {:>9} {:>4} | {:>10} {:>6} | {:>10} {:>6} | {:>5} |{names}",
         "family", "bound", "median", "worst", "over", "ours us", "ns/st", "twin us", "ns/st", "ratio"
     );
 }
 
-fn introduce(o: &Options, installed: &[Rival]) {
+fn introduce(o: &Options, solvers: &[Solver]) {
     println!("Speed: {} sheets a row, seed {}; the same sheets for all", o.sheets, o.seed);
     println!(
         "median, worst: steps of our search; over: sheets on which the twin takes more than {} steps, left out of the times",
         o.limit
     );
     println!("us: time from a sheet to its text, the mean; ns/st: that time by step; ratio: our time by the twin's");
-    for rival in [Rival::Glpsol, Rival::Cbc] {
-        if installed.iter().all(|r| r.name() != rival.name()) {
+    for rival in RIVALS {
+        if solvers.iter().all(|s| s.name() != rival.name()) {
             println!("{} is not installed", rival.name());
         }
     }
+    println!(
+        "ms: a whole process, from a file to a file: the median of the first {} sheets of the row, + if one was not done in {} s",
+        o.rival_sheets,
+        rivals::LIMIT
+    );
     let one = Problem { limit: 7, items: vec![draw::unit_item()] };
-    for r in installed {
+    for s in solvers {
+        let start = Rivalry { seconds: (0..9).map(|_| s.solve(&one).seconds).collect(), ..Default::default() };
+        println!("{}: a sheet of one item takes {:.2} ms, the median of 9", s.name(), start.median() * 1e3);
+    }
+}
+
+/// How ours stands to a rival over all rows.
+#[derive(Default)]
+struct Standing {
+    rows: usize,
+    faster: usize,
+    /// the least of the rival's medians by ours
+    least: Option<f64>,
+    runs: usize,
+    late: usize,
+    right: usize,
+}
+
+impl Standing {
+    fn add(&mut self, ours: &Rivalry, rival: &Rivalry) {
+        let ratio = rival.median() / ours.median();
+        self.rows += 1;
+        self.faster += (ratio > 1.0) as usize;
+        self.least = Some(self.least.map_or(ratio, |l| l.min(ratio)));
+        self.runs += rival.seconds.len();
+        self.late += rival.late;
+        self.right += rival.right;
+    }
+
+    fn show(&self, name: &str) {
         println!(
-            "{} ms: the mean of {} sheets a row, + if one was not done in {} s; a sheet of one item takes it {:.1} ms",
-            r.name(),
-            o.rival_sheets,
-            rivals::LIMIT,
-            r.solve(&one).seconds * 1e3
+            "{name}: ours is faster in the median on {} of {} rows, by {:.1} times at least; our value on {} of {} sheets, {} not done in {} s",
+            self.faster,
+            self.rows,
+            self.least.unwrap_or(0.0),
+            self.right,
+            self.runs,
+            self.late,
+            rivals::LIMIT
         );
     }
 }
 
 pub fn speed(o: &Options) {
-    let installed: Vec<Rival> = [Rival::Glpsol, Rival::Cbc].into_iter().filter(|r| r.is_installed()).collect();
-    introduce(o, &installed);
+    let mut solvers = vec![Solver::Ours];
+    solvers.extend(RIVALS.into_iter().filter(|r| r.is_installed()));
+    introduce(o, &solvers);
     let (mut agree, mut same, mut of) = (0, 0, 0);
-    let mut totals: Vec<Rivalry> = installed.iter().map(|_| Rivalry::default()).collect();
+    let mut standings: Vec<Standing> = solvers[1..].iter().map(|_| Standing::default()).collect();
     for continuous in [0, 2] {
-        heading(continuous, &installed);
+        heading(continuous, &solvers);
         for (family, name) in FAMILIES {
             for bound in [1, 10, 100, 10_000] {
                 let problems = sheets(family, bound, continuous, o);
                 let mut row = Row::default();
                 problems.iter().for_each(|p| measure(p, o, &mut row));
-                let mut rivalries = vec![];
-                for (r, total) in installed.iter().zip(&mut totals) {
-                    let mut result = Rivalry::default();
-                    problems.iter().take(o.rival_sheets).for_each(|p| measure_rival(*r, p, &mut result));
-                    total.runs += result.runs;
-                    total.late += result.late;
-                    total.right += result.right;
-                    rivalries.push(result);
-                }
-                show(name, bound, &mut row, &rivalries, o);
+                let processes = measure_processes(&solvers, &problems[..o.rival_sheets.min(problems.len())]);
+                standings.iter_mut().zip(&processes[1..]).for_each(|(s, r)| s.add(&processes[0], r));
+                show(name, bound, &mut row, &processes, o);
                 agree += row.agree;
                 same += row.same;
                 of += row.steps.len() - row.over;
@@ -184,7 +223,5 @@ pub fn speed(o: &Options) {
     }
     println!();
     println!("steps agree on {agree} of {of} sheets; texts agree on {same} of {of}");
-    for (r, t) in installed.iter().zip(&totals) {
-        println!("{}: our value on {} of {} sheets, {} not done in {} s", r.name(), t.right, t.runs, t.late, rivals::LIMIT);
-    }
+    solvers[1..].iter().zip(&standings).for_each(|(r, s)| s.show(r.name()));
 }
