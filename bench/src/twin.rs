@@ -122,12 +122,12 @@ fn has_light_end(i: &Item) -> bool {
     }
 }
 
-/// The integer items by falling reduced price at the critical item's price per weight.
+/// The integer items by falling reduced price at the critical item's price per weight, of equals the heavier first.
 fn branching_order(p: &Problem, s: &Setting) -> Vec<usize> {
     let f = s.fill(&s.ends);
     let (c, a) = if f.room >= 0 && f.at < s.live { (s.rate[f.at], s.size[f.at]) } else { (0, 1) };
     let mut order: Vec<usize> = (0..s.count).filter(|&k| p.items[k].integer).collect();
-    order.sort_by_key(|&k| if s.weight[k] == 0 { 1 } else { -(a * s.price[k] - c * s.weight[k]).abs() });
+    order.sort_by_key(|&k| if s.weight[k] == 0 { (1, 0) } else { (-(a * s.price[k] - c * s.weight[k]).abs(), -s.weight[k].abs()) });
     order
 }
 

@@ -2,22 +2,32 @@
 --   restOf n m        what is left of n after whole multiples of m
 --   Upright u, Joined l, Guess l
 --                     ranges of the guess: of a change, of a lattice with a gap of either sign, of a lattice
+--   tamed z g         the worth z up to gaps g
+--   euclid n g x y    n steps of Euclid's algorithm on the weights of two changes, their worths carried along
+--   widenedBy l a c   a lattice that has the change (a, c) beside those of l
+--   closedBy l        a gap for none
 --   aboveSlant l a c  what is left of the worth c after the slants of the strides in a
 --   holdsBy l a c     the change (a, c) is found on the lattice l
 --   heldFrom l w c d n
 --                     so are the n items from d on, of weights w and prices c
 --   Items w c n       weights and prices of n items are in range
 --   Known w c n d l   l is unknown, or a lattice of the items from d on
+--   guessOf w c n k   the guess for the last k of n items
+--   latticeOf w c n d the guess for the items from d on if they are found on it, or unknown
+--   Latticed w c n r  r has these, and knows nothing beyond n
+use mathlib.Core.Path.{_≡_}
 use mathlib.Core.Bool.{Bool, true, false, cond, not}
 use mathlib.Core.List.{List}
 use mathlib.Core.Logic.{_≢_}
-use Prim.Native.Nat.{ℕ, zero, suc, _≤_, _<_}
-use lib.IntN.{ℤ, pos, _-ℤ_, _*ℤ_}
+use Prim.Native.Nat.{ℕ, zero, suc, _-_, _≤_, _<_}
+use lib.Dec.{ltb}
+use lib.IntN.{ℤ, pos, negsuc, natAbs, _-ℤ_, _*ℤ_}
 use lib.ListN.{getD}
 use lib.Signed.{ltZ, _≤ℤ_, _<ℤ_}
 use Rattle.arith.specs.Within.{Within}
 use Rattle.arith.specs.Division.{floorDiv}
-use Rattle.lattice.specs.Lattice.{On, Tame}
+use Rattle.arith.specs.Gcd.{gcdOf}
+use Rattle.lattice.specs.Lattice.{On, Tame, unknown, latticeAt}
 use Rattle.lattice.specs.declared.Lattice.{Lattice}
 use Rattle.lattice.specs.declared.Change.{Change}
 
@@ -53,6 +63,49 @@ pub record Guess (l : Lattice) : Type 0 where
   pub joined : Joined l
   pub gap≥0 : pos 0 ≤ℤ l .gap
 
+-- without gaps, 0 if it is too far: the guess then fails its check
+abbrev pub tamed : ℤ → ℤ → ℤ
+tamed z g = cond (ltZ (pos 0) g) (restOf z g) (cond (ltZ (pos 100000000) z) (pos 0) (cond (ltZ z (negsuc 99999999)) (pos 0) z))
+
+-- the change (a, c) or its opposite, whichever weighs 0 or more
+abbrev pub uprightBy : ℤ → ℤ → Change
+uprightBy a c = cond (ltZ a (pos 0)) (record { weight = pos 0 -ℤ a; worth = pos 0 -ℤ c }) (record { weight = a; worth = c })
+
+-- one step of Euclid's algorithm: u less v as often as its weight allows
+abbrev pub reducedBy : Change → Change → ℤ → Change
+reducedBy u v g = record { weight = restOf (u .weight) (v .weight); worth = tamed (u .worth -ℤ v .worth *ℤ floorDiv (u .weight) (v .weight)) g }
+
+abbrev pub ended : Change → Change → Lattice
+ended x y = record { stride = x .weight; slant = x .worth; gap = y .worth }
+
+unfoldable pub euclid : ℕ → ℤ → Change → Change → Lattice
+euclid zero g x y = ended x y
+euclid (suc n) g x y = cond (ltZ (pos 0) (y .weight)) (euclid n g y (reducedBy x y g)) (ended x y)
+
+-- one stride
+abbrev pub firstChange : Lattice → Change
+firstChange l = record { weight = l .stride; worth = l .slant }
+
+-- a weight that falls at each step is 0 after as many steps
+abbrev pub joinedBy : Lattice → Change → Lattice
+joinedBy l v = euclid (natAbs (v .weight)) (l .gap) (firstChange l) v
+
+abbrev pub commonGap : ℤ → ℤ → ℤ
+commonGap g h = pos (gcdOf (natAbs g) (natAbs h))
+
+abbrev pub withGap : Lattice → ℤ → Lattice
+withGap l g = record { stride = l .stride; slant = tamed (l .slant) g; gap = g }
+
+unfoldable pub widenedBy : Lattice → ℤ → ℤ → Lattice
+widenedBy l a c = withGap (joinedBy l (uprightBy a c)) (commonGap (l .gap) (joinedBy l (uprightBy a c) .gap))
+
+abbrev pub noChanges : Lattice
+noChanges = record { stride = pos 0; slant = pos 0; gap = pos 0 }
+
+-- gap 0, only whole strides, as the widest gap
+abbrev pub closedBy : Lattice → Lattice
+closedBy l = cond (ltZ (pos 0) (l .gap)) l (record { stride = l .stride; slant = l .slant; gap = pos 100000000 })
+
 -- ---- the check
 
 -- what is left of c after the slants of the strides in a
@@ -71,15 +124,34 @@ pub record Holds (l : Lattice) (a c : ℤ) : Type 0 where
   pub weight-in : Within 1000 a
   pub price-in : Within 10000 c
 
-pub record Items (weight price : List ℤ) (n : ℕ) : Type 0 where
+pub record Items (w c : ℕ → ℤ) (n : ℕ) : Type 0 where
   pub few : n ≤ 16
-  pub weights-in : (k : ℕ) → Within 1000 (getD weight k (pos 0))
-  pub prices-in : (k : ℕ) → Within 10000 (getD price k (pos 0))
+  pub weights-in : (k : ℕ) → Within 1000 (w k)
+  pub prices-in : (k : ℕ) → Within 10000 (c k)
 
-unfoldable pub heldFrom : Lattice → List ℤ → List ℤ → ℕ → ℕ → Bool
-heldFrom l weight price d zero = true
-heldFrom l weight price d (suc n) = cond (holdsBy l (getD weight d (pos 0)) (getD price d (pos 0))) (heldFrom l weight price (suc d) n) false
+-- an entry of a list
+abbrev pub entry : List ℤ → ℕ → ℤ
+entry l k = getD l k (pos 0)
 
-pub record Known (weight price : List ℤ) (n d : ℕ) (l : Lattice) : Type 0 where
+unfoldable pub heldFrom : Lattice → (ℕ → ℤ) → (ℕ → ℤ) → ℕ → ℕ → Bool
+heldFrom l w c d zero = true
+heldFrom l w c d (suc n) = cond (holdsBy l (w d) (c d)) (heldFrom l w c (suc d) n) false
+
+pub record Known (w c : ℕ → ℤ) (n d : ℕ) (l : Lattice) : Type 0 where
   pub tame : Tame l
-  pub on : l .stride ≢ pos 0 → (j : ℕ) → d ≤ j → j < n → On l (getD weight j (pos 0)) (getD price j (pos 0))
+  pub on : l .stride ≢ pos 0 → (j : ℕ) → d ≤ j → j < n → On l (w j) (c j)
+
+abbrev pub checkedBy : (ℕ → ℤ) → (ℕ → ℤ) → ℕ → ℕ → Lattice → Lattice
+checkedBy w c n d l = cond (ltZ (pos 0) (closedBy l .stride)) (cond (heldFrom (closedBy l) w c d (n - d)) (closedBy l) unknown) unknown
+
+-- ---- all levels
+
+unfoldable pub guessOf : (ℕ → ℤ) → (ℕ → ℤ) → ℕ → ℕ → Lattice
+guessOf w c n zero = noChanges
+guessOf w c n (suc k) = widenedBy (guessOf w c n k) (w (n - suc k)) (c (n - suc k))
+
+unfoldable pub latticeOf : (ℕ → ℤ) → (ℕ → ℤ) → ℕ → ℕ → Lattice
+latticeOf w c n d = cond (ltb d n) (checkedBy w c n d (guessOf w c n (n - d))) unknown
+
+abbrev pub Latticed : (ℕ → ℤ) → (ℕ → ℤ) → ℕ → List Lattice → Type 0
+Latticed w c n r = (d : ℕ) → d < 16 → latticeAt r d ≡ latticeOf w c n d

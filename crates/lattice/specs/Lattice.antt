@@ -1,7 +1,6 @@
 -- The changes of weight and worth that integer items make, and when none of them is better than an incumbent.
 --   On l a c        the change of weight a and worth c is on the lattice l
 --   Tame l          the lattice's figures are in their ranges
---   Latticed w c n r  by place, a lattice of the changes at it and after it
 --   judged l f b r  whether at r's change of weight a worth on the lattice is above b, the slope f allowing
 --   barrenBy l f room b
 --                   no change within the room is found above b: the descent along the lattice from the room on ended
@@ -43,11 +42,6 @@ beyond = record { stride = pos 0; slant = pos 0; gap = pos 0 }
 
 abbrev pub latticeAt : List Lattice → ℕ → Lattice
 latticeAt r d = getD r d beyond
-
--- by place, a lattice of the changes at it and after it, or the unknown one
-pub record Latticed (weight price : List ℤ) (n : ℕ) (r : List Lattice) : Type 0 where
-  pub tame : (d : ℕ) → d < 16 → Tame (latticeAt r d)
-  pub on : (d : ℕ) → d < n → latticeAt r d .stride ≢ pos 0 → (j : ℕ) → d ≤ j → j < n → On (latticeAt r d) (getD weight j (pos 0)) (getD price j (pos 0))
 
 pub record Steep (f : Slope) : Type 0 where
   pub worth-in : Within 200000000000000 (f .worth)

@@ -1,18 +1,18 @@
 // The lattices of the levels of a search, by guess and check: Euclid's algorithm guesses, and only a lattice that is found to hold
-// every item from its level on is used. So the guess needs no proof beyond its ranges, and may be cut where it grows too large.
+// every item from its level on is used. So that a guess is right needs no proof, and it may be cut where it grows too large.
 use super::Change;
 use super::Lattice;
 use arith::floor_div;
 use arith::gcd;
 use arith::magnitude;
 ghost use mathlib.Core.Path.{_≡_};
-ghost use Prim.Native.Nat.{ℕ, _-_, _≤_};
+ghost use Prim.Native.Nat.{_-_};
 ghost use lib.IntN.{pos};
-ghost use lib.ListN.{getD, replicate};
-ghost use lib.Signed.{_≤ℤ_, _<ℤ_};
+ghost use lib.ListN.{replicate};
+ghost use lib.Signed.{_<ℤ_};
 ghost use Rattle.arith.specs.Within.{Within};
-ghost use Rattle.lattice.specs.Lattice.{Tame, unknown, Latticed};
-ghost use Rattle.lattice.specs.Building.{Rests, restOf, Upright, Reduces, Guess, Joined, Holds, holdsBy, Items, heldFrom, Known};
+ghost use Rattle.lattice.specs.Lattice.{Tame, unknown};
+ghost use Rattle.lattice.specs.Building.{Rests, restOf, tamed, Upright, uprightBy, Reduces, reducedBy, Guess, firstChange, joinedBy, commonGap, widenedBy, noChanges, closedBy, Holds, holdsBy, entry, Items, heldFrom, checkedBy, Latticed};
 
 // The farthest from 0 that a slant or a gap may be.
 const FAR: i64 = 100000000;
@@ -30,7 +30,7 @@ fn rest(n: i64, m: i64) -> i64
 // The worth z up to gaps g. Without gaps, 0 if it is too far: the guess then fails its check.
 fn tame(z: i64, g: i64) -> i64
     requires { ⌜ Within 200000000000 z × Within 100000000 g ⌝ }
-    ensures { λ r. ⌜ Within 100000000 r ⌝ }
+    ensures { λ r. ⌜ r ≡ tamed z g ⌝ }
 {
     if 0 < g {
         return rest(z, g);
@@ -47,7 +47,7 @@ fn tame(z: i64, g: i64) -> i64
 // The change (a, c) or its opposite, whichever weighs 0 or more.
 fn upright(a: i64, c: i64) -> Change
     requires { ⌜ Within 1000 a × Within 10000 c ⌝ }
-    ensures { λ r. ⌜ Upright r ⌝ }
+    ensures { λ r. ⌜ r ≡ uprightBy a c ⌝ }
 {
     if a < 0 {
         return Change {
@@ -64,7 +64,7 @@ fn upright(a: i64, c: i64) -> Change
 // One step of Euclid's algorithm: u less v as often as its weight allows, up to gaps g.
 fn reduced(u: Change, v: Change, g: i64) -> Change
     requires { ⌜ Reduces u v g ⌝ }
-    ensures { λ r. ⌜ Upright r × (r .weight <ℤ v .weight) ⌝ }
+    ensures { λ r. ⌜ r ≡ reducedBy u v g ⌝ }
 {
     let x = u.weight;
     let a = v.weight;
@@ -78,7 +78,7 @@ fn reduced(u: Change, v: Change, g: i64) -> Change
 // One stride.
 fn first_change(l: Lattice) -> Change
     requires { ⌜ Guess l ⌝ }
-    ensures { λ r. ⌜ Upright r ⌝ }
+    ensures { λ r. ⌜ r ≡ firstChange l ⌝ }
 {
     Change {
         weight: l.stride,
@@ -90,7 +90,7 @@ fn first_change(l: Lattice) -> Change
 // either sign and up to gaps of l.
 fn joined(l: Lattice, v: Change) -> Lattice
     requires { ⌜ Guess l × Upright v ⌝ }
-    ensures { λ r. ⌜ Joined r ⌝ }
+    ensures { λ r. ⌜ r ≡ joinedBy l v ⌝ }
 {
     let g = l.gap;
     let mut x = first_change(l);
@@ -110,7 +110,7 @@ fn joined(l: Lattice, v: Change) -> Lattice
 // The greatest common divisor of two gaps.
 fn common_gap(g: i64, h: i64) -> i64
     requires { ⌜ Within 100000000 g × Within 100000000 h ⌝ }
-    ensures { λ r. ⌜ Within 100000000 r × (pos 0 ≤ℤ r) ⌝ }
+    ensures { λ r. ⌜ r ≡ commonGap g h ⌝ }
 {
     gcd(magnitude(g), magnitude(h)) as i64
 }
@@ -118,7 +118,7 @@ fn common_gap(g: i64, h: i64) -> i64
 // A lattice that has the change (a, c) too.
 fn widen(l: Lattice, a: i64, c: i64) -> Lattice
     requires { ⌜ Guess l × (Within 1000 a × Within 10000 c) ⌝ }
-    ensures { λ r. ⌜ Guess r ⌝ }
+    ensures { λ r. ⌜ r ≡ widenedBy l a c ⌝ }
 {
     let v = upright(a, c);
     let j = joined(l, v);
@@ -132,7 +132,7 @@ fn widen(l: Lattice, a: i64, c: i64) -> Lattice
 
 // The lattice of no changes.
 fn no_changes() -> Lattice
-    ensures { λ r. ⌜ Guess r ⌝ }
+    ensures { λ r. ⌜ r ≡ noChanges ⌝ }
 {
     Lattice {
         stride: 0,
@@ -144,7 +144,7 @@ fn no_changes() -> Lattice
 // Gap 0, only whole strides, as the widest gap: that allows hardly more, and the descent can divide by it.
 fn closed(l: Lattice) -> Lattice
     requires { ⌜ Guess l ⌝ }
-    ensures { λ r. ⌜ Tame r ⌝ }
+    ensures { λ r. ⌜ r ≡ closedBy l ⌝ }
 {
     if 0 < l.gap {
         return l;
@@ -173,8 +173,8 @@ fn holds(l: Lattice, a: i64, c: i64) -> bool
 
 // Whether the items from d to n - 1 are on the lattice.
 fn held_from(l: Lattice, weight: [i64; 16], price: [i64; 16], d: usize, n: usize) -> bool
-    requires { ⌜ Tame l × ((pos 0 <ℤ l .stride) × Items weight price n) ⌝ }
-    ensures { λ r. ⌜ r ≡ heldFrom l weight price d (n - d) ⌝ }
+    requires { ⌜ Tame l × ((pos 0 <ℤ l .stride) × Items (entry weight) (entry price) n) ⌝ }
+    ensures { λ r. ⌜ r ≡ heldFrom l (entry weight) (entry price) d (n - d) ⌝ }
 {
     let mut j = d;
     while j < n {
@@ -201,14 +201,15 @@ fn unknown_lattice() -> Lattice
 
 // The guess, if the items from d on are on it.
 fn checked(l: Lattice, weight: [i64; 16], price: [i64; 16], d: usize, n: usize) -> Lattice
-    requires { ⌜ Guess l × Items weight price n ⌝ }
-    ensures { λ r. ⌜ Known weight price n d r ⌝ }
+    requires { ⌜ Guess l × Items (entry weight) (entry price) n ⌝ }
+    ensures { λ r. ⌜ r ≡ checkedBy (entry weight) (entry price) n d l ⌝ }
 {
     let r = closed(l);
     if 0 < r.stride {
         if held_from(r, weight, price, d, n) {
             return r;
         }
+        return unknown_lattice();
     }
     unknown_lattice()
 }
@@ -225,8 +226,8 @@ pub fn unknown_lattices() -> [Lattice; 16]
 
 // By level, a lattice of the items from it on.
 pub fn lattices(weight: [i64; 16], price: [i64; 16], n: usize) -> [Lattice; 16]
-    requires { ⌜ (n ≤ 16) × (((k : ℕ) → Within 1000 (getD weight k (pos 0))) × ((k : ℕ) → Within 10000 (getD price k (pos 0)))) ⌝ }
-    ensures { λ r. ⌜ Latticed weight price n r ⌝ }
+    requires { ⌜ Items (entry weight) (entry price) n ⌝ }
+    ensures { λ r. ⌜ Latticed (entry weight) (entry price) n r ⌝ }
 {
     let mut to = unknown_lattices();
     let mut l = no_changes();

@@ -2,7 +2,7 @@
 -- infeasible-corner: even the light ends do not fit.
 -- unbounded-corner: they fit, and there is a ray.
 -- optimal-found: there is no ray, and the search found a place.
--- infeasible-searched: there is no ray, and the search found nothing.
+-- must-find: a search finds a place where there is a feasible point, as the light ends are if they fit (corner-feasible-at).
 use mathlib.Core.Path.{_≡_, refl, sym, ap, ap₂, _∙_, subst, subst₂}
 use mathlib.Core.Bool.{Bool, true, false, cond}
 use mathlib.Core.List.{List}
@@ -39,15 +39,15 @@ use Rattle.knapsack.specs.declared.Bound.the-variants.{At}
 use Rattle.knapsack.specs.declared.Item.{Item}
 use Rattle.knapsack.specs.declared.Kind.the-variants as kind
 use Rattle.knapsack.specs.declared.Problem.{Problem}
-use Rattle.knapsack.proofs.Bridge.{Reads, bridge-optimal, bridge-infeasible}
-use Rattle.knapsack.proofs.Common.{weighsᴰ, valueᴰ, Optimalᴰ}
+use Rattle.knapsack.proofs.Bridge.{Reads, bridge-optimal}
+use Rattle.knapsack.proofs.Common.{weighsᴰ, valueᴰ, Feasibleᴰ, Optimalᴰ}
 use Rattle.prepare.specs.Narrowing.{spanOf}
 use Rattle.prepare.specs.Prepared.{PreparedAt, Prepared}
 use Rattle.prepare.proofs.Box.{box, box-same, box-is-shut, box-optimal, box-empty}
 use Rattle.prepare.proofs.Nearer.{near-optimal, near-empty}
 use Rattle.rays.specs.declared.RayReply.{RayReply}
 use Rattle.rays.specs.Rays.{RayFound}
-use Rattle.rays.proofs.Corner.{LightCorner, ranges-of, corner-infeasible, corner-shown, corner-unbounded}
+use Rattle.rays.proofs.Corner.{LightCorner, ranges-of, corner-feasible, corner-infeasible, corner-shown, corner-unbounded}
 use Rattle.search.specs.declared.Incumbent.{Incumbent}
 use Rattle.search.specs.declared.Setting.{Setting}
 use Rattle.search.specs.Ready.{Searched}
@@ -144,6 +144,9 @@ module _ (p : Problem) (range : InRange p) (s : Setting) (q : Prepared p s) wher
       more : (b w : ℤ) → pos 0 ≤ℤ (b -ℤ w) → w ≤ℤ b
       more = split2 _ (λ a b c e. simp zed (omega arith))
 
+  pub corner-feasible-at : pos 0 ≤ℤ begun (s .cols) (s .ends) .room → Feasibleᴰ I 1 light
+  corner-feasible-at h = corner-feasible I (ranges-of p range) lo hi light corner (corner-fits h)
+
   -- ---- the corner as an answer shows it
 
   corner-numerator : (k : ℕ) → numerator (s .cols) (s .ends) unfilled 1 k ≡ light k *ℤ pos 1
@@ -186,10 +189,14 @@ module _ (p : Problem) (range : InRange p) (s : Setting) (q : PreparedAt (spanOf
   in-near : (k : ℕ) → k < p .count → k < s .cols .count
   in-near k l = omega (arith, q .count)
 
-  -- ---- a search that found nothing
+  -- ---- a search finds a place, if there is a feasible point
 
-  pub infeasible-searched : (r : RayReply) (b : Incumbent) → RayFound p r → r .found ≡ false → Searched s b → b .found ≡ false → Answers J (bare kind.Infeasible)
-  infeasible-searched r b ray n g y = (bridge-infeasible J (near-empty p range (ray .none n) (box-empty p s q (g .empty y (λ k. itemAt p k .mark) (q .marked)))), refl)
+  pub must-find : (N : ℕ → ℤ) → Feasibleᴰ J 1 N → (r : RayReply) (b : Incumbent) → RayFound p r → r .found ≡ false → Searched s b → b .found ≡ true
+  must-find N feasible r b ray n g = go (b .found) refl
+    where
+      go : (t : Bool) → b .found ≡ t → b .found ≡ true
+      go true e = e
+      go false e = absurd (near-empty p range (ray .none n) (box-empty p s q (g .empty e (λ k. itemAt p k .mark) (q .marked))) 1 N (omega arith) feasible)
 
   -- ---- a search that found a place
 

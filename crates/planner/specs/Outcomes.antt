@@ -1,12 +1,12 @@
 -- The answers that a search and a ray are turned into.
 --   Joinable v        the value v fits one number of parts
 --   Cornered s d a    a shows the light ends of the box and the steps d, and no value
+--   Walked p n        n steps were taken by the search of p
 --   Counts p a n      n steps were taken for the answer a
 --   Solves p r        r is the answer of p, with the steps of its search
 --   Best s x a        a shows the relaxation of the place x and its value in lowest terms, and no steps
 use mathlib.Core.Path.{_≡_}
 use mathlib.Core.List.{List}
-use mathlib.Core.Logic.{_⊎_}
 use Prim.Native.Nat.{ℕ, _≤_}
 use lib.IntN.{ℤ, pos, _*ℤ_}
 use lib.ListN.{replicate}
@@ -76,15 +76,15 @@ pub record Walked (p : Problem) (n : ℕ) : Type 0 where
   pub took : Took setting pairs end
   pub steps-are : n ≡ end .steps
 
--- an answer that can be given without a search; an optimum is always searched for
-abbrev pub Unsearched : Kind → Type 0
-Unsearched kind.Optimal = ⊥
-Unsearched kind.Infeasible = Unit {0}
-Unsearched kind.Unbounded = Unit {0}
-Unsearched (kind.Refused f) = ⊥
+-- an optimum is searched for; no other answer is
+abbrev pub CountsAs : Kind → Problem → ℕ → Type 0
+CountsAs kind.Optimal p n = Walked p n
+CountsAs kind.Infeasible p n = n ≡ 0
+CountsAs kind.Unbounded p n = n ≡ 0
+CountsAs (kind.Refused f) p n = ⊥
 
 abbrev pub Counts : Problem → Answer → ℕ → Type 0
-Counts p a n = (Unsearched (a .kind) × (n ≡ 0)) ⊎ Walked p n
+Counts p a n = CountsAs (a .kind) p n
 
 pub record Solves (p : Problem) (r : Solved) : Type 0 where
   pub answers : Answers (instanceOf p) (r .answer)

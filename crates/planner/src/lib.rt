@@ -98,7 +98,8 @@ pub struct Solved {
     pub steps: u64,
 }
 
-// The answer of a problem in range. No search is needed where its lightest point is too heavy, or where it has a ray.
+// The answer of a problem in range. No search is needed where its lightest point is too heavy, or where it has a ray; else one finds a
+// place, for the lightest point is feasible: see proofs/Outcomes (must-find).
 pub fn solve(p: Problem) -> Solved
     requires { ⌜ InRange p ⌝ }
     ensures { λ r. ⌜ Solves p r ⌝ }
@@ -119,12 +120,8 @@ pub fn solve(p: Problem) -> Solved
     let pairs = pairs_of(p);
     let q = run(near, pairs);
     let best = q.best;
-    if best.found {
-        let place = best.place;
-        let a = optimal(near, place);
-        return with_steps(a, q.steps);
-    }
-    let a = no_point(Kind::Infeasible);
+    let place = best.place;
+    let a = optimal(near, place);
     with_steps(a, q.steps)
 }
 

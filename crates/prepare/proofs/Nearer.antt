@@ -358,6 +358,15 @@ module _ (p : Problem) (range : InRange p) (s t : Setting) (q : Prepared p s) (n
               };
         };
         marked = record { integer = rw (el, en) (q .marked .integer); level = rw (ec, el, en) (q .marked .level) };
+        arranged = record {
+          columned = rw ec (q .arranged .columned);
+          box = q .arranged .box;
+          boxed = q .arranged .boxed;
+          sorted = rw (ec, el) (q .arranged .sorted);
+          leads = rw (el, en) (q .arranged .leads);
+          latticing = rw (el, en, ea) (q .arranged .latticing);
+          softens = rw (ec, ez) (q .arranged .softens);
+        };
       }
         where
           kept : (k : ℕ) → k < s .cols .count → (at (s .ends .lo) k ≡ at (s .ends .hi) k) ⊎ Mild (s .cols) (s .soft) k → (at (t .ends .lo) k ≡ at (t .ends .hi) k) ⊎ Mild (t .cols) (t .soft) k

@@ -1,5 +1,5 @@
 -- prepared: a setting that is made of a problem's columns, box, levels and lattices is that of the problem, and ready for a search.
-use mathlib.Core.Path.{_≡_, refl, sym, _∙_}
+use mathlib.Core.Path.{_≡_, refl, sym, _∙_, subst}
 use mathlib.Core.Bool.{Bool, true, false}
 use mathlib.Core.Logic.{_≢_, _⊎_, inl, inr}
 use Prim.Native.Nat.{ℕ, _≤_, _<_}
@@ -8,7 +8,7 @@ use lib.IntN.{ℤ, pos, negsuc, natAbs}
 use lib.Signed.{_≤ℤ_}
 use Rattle.arith.proofs.Integers.{split, zed}
 use Rattle.arith.proofs.Parts.{zs}
-use Rattle.greedy.specs.Fill.{at}
+use Rattle.greedy.specs.Fill.{at, fill}
 use Rattle.greedy.specs.Sized.{SizedEnds}
 use Rattle.greedy.specs.declared.Ends.{Ends}
 use Rattle.knapsack.specs.Records.{itemAt, BoundInRange, InOrder, InRange}
@@ -26,11 +26,12 @@ use Rattle.tables.specs.Tables.{Tabled, listed, Leading}
 use Rattle.tables.specs.declared.Figure.the-variants.{Low, High}
 use Rattle.tables.specs.declared.Key.{Key}
 use Rattle.tables.specs.declared.Test.the-variants.{Level}
-use Rattle.prepare.specs.Prepared.{Columned, Boxed, Latticing, Prepared}
+use Rattle.prepare.specs.Prepared.{Columned, Boxed, criticalKey, Latticing, Prepared}
 use Rattle.prepare.specs.Softening.{Softens}
-use Rattle.prepare.proofs.Lattices.{fixed-ends, lattice-fixed}
-use Rattle.prepare.proofs.Levels.{Tells, level-in, level-once, level-integer, level-of, is-integer}
+use Rattle.prepare.proofs.Lattices.{fixed-ends, LatticesTrue, lattices-true}
+use Rattle.prepare.proofs.Levels.{Tells, critical-tells, level-in, level-once, level-integer, level-of, is-integer}
 use Rattle.prepare.proofs.Lists.{tabled-below, tabled-within}
+use Rattle.prepare.proofs.Softness.{SoftTrue, soft-true}
 use Rattle.prepare.proofs.Order.{weight-is, price-is, columns-ordered, columns-sized}
 
 -- ---- the box
@@ -69,7 +70,7 @@ module _ (p : Problem) (r : InRange p) (e : Ends) (b : Boxed p e) where
 pub record Made (p : Problem) (by : Key) (s : Setting) : Type 0 where
   pub columned : Columned p (s .cols)
   pub boxed : Boxed p (s .ends)
-  pub tells : Tells by
+  pub by-is : by ≡ criticalKey (s .cols) (fill (s .cols) (s .ends))
   pub sorted : Sorted (λ k. keyOf by (itemAt p k)) (p .count) (s .level)
   pub leading : Leading (p .count) (λ u. passes Level (listed p (s .level) u)) (s .levels)
   pub lows : Tabled (s .levels) (λ u. figureOf Low (listed p (s .level) u)) (s .low)
@@ -78,16 +79,19 @@ pub record Made (p : Problem) (by : Key) (s : Setting) : Type 0 where
   pub softens : Softens p (s .cols) (s .soft)
 
 module _ (p : Problem) (r : InRange p) (by : Key) (s : Setting) (m : Made p by s) where
+  tells : Tells by
+  tells = subst Tells (sym (m .by-is)) (critical-tells (s .cols) (fill (s .cols) (s .ends)))
+
   few : s .levels ≤ 16
   few = omega (arith, m .leading .most, r .few-items)
 
   inside : (d : ℕ) → d < s .levels → levelAt s d < p .count
-  inside = level-in p by (m .tells) (s .level) (s .levels) (m .sorted) (m .leading)
+  inside = level-in p by tells (s .level) (s .levels) (m .sorted) (m .leading)
 
   marked : Marked s (λ k. itemAt p k .mark)
   marked = record {
-    integer = level-integer p by (m .tells) (s .level) (s .levels) (m .sorted) (m .leading);
-    level = λ k h e. level-of p by (m .tells) (s .level) (s .levels) (m .sorted) (m .leading) k (omega (arith, m .columned .count)) e;
+    integer = level-integer p by tells (s .level) (s .levels) (m .sorted) (m .leading);
+    level = λ k h e. level-of p by tells (s .level) (s .levels) (m .sorted) (m .leading) k (omega (arith, m .columned .count)) e;
   }
 
   low-at : (d : ℕ) → d < s .levels → at (s .low) d ≡ at (s .ends .lo) (levelAt s d)
@@ -107,23 +111,29 @@ module _ (p : Problem) (r : InRange p) (by : Key) (s : Setting) (m : Made p by s
       go true e = absurd (found (marked .level k (omega (arith, m .columned .count)) (is-integer (itemAt p k .mark) e)))
       go false e = e
 
+  latticed : LatticesTrue p (s .level) (s .levels) (s .lattice)
+  latticed = lattices-true p (s .level) (s .levels) (record { accepted = r; few = few; below = inside }) (s .lattice) (m .latticing)
+
+  soft : SoftTrue p (s .cols) (s .soft)
+  soft = soft-true p r (s .cols) (m .columned) (s .soft) (m .softens)
+
   changes : (d : ℕ) → d < s .levels → latticeAt (s .lattice) d .stride ≢ pos 0 → Changes s d
   changes d l nz = record {
     fixed = λ k h n. let j : k < p .count = omega (arith, m .columned .count) in
-        low-is p r (s .ends) (m .boxed) k j ∙ fixed-ends (itemAt p k) (r .items-in k j .in-order) (lattice-fixed p (s .level) (s .levels) (s .lattice) (m .latticing) d (omega (arith, few)) nz k j) (no-level k j n) ∙ sym (high-is p r (s .ends) (m .boxed) k j);
-    on = λ j a b. rw (weight-is p (s .cols) r (m .columned) (levelAt s j) (inside j b), price-is p (s .cols) r (m .columned) (levelAt s j) (inside j b)) (m .latticing .on d l nz j a b);
+        low-is p r (s .ends) (m .boxed) k j ∙ fixed-ends (itemAt p k) (r .items-in k j .in-order) (latticed .fixed-all d (omega (arith, few)) nz k j) (no-level k j n) ∙ sym (high-is p r (s .ends) (m .boxed) k j);
+    on = λ j a b. rw (weight-is p (s .cols) r (m .columned) (levelAt s j) (inside j b), price-is p (s .cols) r (m .columned) (levelAt s j) (inside j b)) (latticed .on d l nz j a b);
   }
 
   -- continuous items are fixed or mild
   softened : s .soft .stride ≢ pos 0 → Softened s
   softened nz = record {
-    strides = λ j h. let q = m .softens .strides nz (levelAt s j) (inside j h) (marked .integer j h) in (q .0, weight-is p (s .cols) r (m .columned) (levelAt s j) (inside j h) ∙ q .1);
+    strides = λ j h. let q = soft .strides nz (levelAt s j) (inside j h) (marked .integer j h) in (q .0, weight-is p (s .cols) r (m .columned) (levelAt s j) (inside j h) ∙ q .1);
     mild = λ k h n. let j : k < p .count = omega (arith, m .columned .count) in go k j n (fixed (itemAt p k)) refl;
   }
     where
       go : (k : ℕ) → k < p .count → ((j : ℕ) → j < s .levels → levelAt s j ≢ k) → (b : Bool) → fixed (itemAt p k) ≡ b → (at (s .ends .lo) k ≡ at (s .ends .hi) k) ⊎ Mild (s .cols) (s .soft) k
       go k j n true e = inl (low-is p r (s .ends) (m .boxed) k j ∙ fixed-ends (itemAt p k) (r .items-in k j .in-order) e (no-level k j n) ∙ sym (high-is p r (s .ends) (m .boxed) k j))
-      go k j n false e = inr (m .softens .mild nz k j e)
+      go k j n false e = inr (soft .mild nz k j e)
 
   pub prepared : Prepared p s
   prepared = record {
@@ -139,13 +149,22 @@ module _ (p : Problem) (r : InRange p) (by : Key) (s : Setting) (m : Made p by s
       in-order = λ k h. box-in-order p r (s .ends) (m .boxed) k (omega (arith, m .columned .count));
       few = few;
       level-in = λ d h. omega (arith, m .columned .count, inside d h);
-      distinct = level-once p by (m .tells) (s .level) (s .levels) (m .sorted) (m .leading);
+      distinct = level-once p by tells (s .level) (s .levels) (m .sorted) (m .leading);
       low-is = low-at;
       high-is = high-at;
-      tame = m .latticing .tame;
+      tame = latticed .tame;
       changes = changes;
-      moderate = m .softens .moderate;
+      moderate = soft .moderate;
       softened = softened;
     };
     marked = marked;
+    arranged = record {
+      columned = m .columned;
+      box = s .ends;
+      boxed = m .boxed;
+      sorted = subst (λ b. Sorted (λ k. keyOf b (itemAt p k)) (p .count) (s .level)) (m .by-is) (m .sorted);
+      leads = m .leading;
+      latticing = m .latticing;
+      softens = m .softens;
+    };
   }

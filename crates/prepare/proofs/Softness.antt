@@ -1,11 +1,15 @@
 -- What is said of continuous items is true.
--- stride-small, stride-divides: the common divisor of integer weights. softens-live, softens-idle, softens-none: the three ways to say it.
+-- stride-small, stride-divides: the common divisor of integer weights.
+--   SoftTrue p c m    if m has a stride, integer items weigh multiples of it, and free continuous items are mild
+-- soft-true: so it is. soft-live, soft-idle: what is said, by the first rank.
 use mathlib.Core.Path.{_≡_, refl, sym, ap, _∙_, subst}
-use mathlib.Core.Bool.{false}
+use mathlib.Core.Bool.{Bool, true, false, cond}
 use mathlib.Core.Logic.{_≢_, _⊎_, inl, inr}
 use Prim.Native.Nat.{ℕ, zero, suc, _*_, _≤_, _<_}
 use native.Mathlib.Decide.{decLt, ℕ-discrete}
 use native.Mathlib.Omega.{arith}
+use borrow.Author.Tests.{lt-ltb, le-ltb}
+use lib.Dec.{ltb}
 use lib.IntN.{ℤ, pos, negsuc, negℤ, natAbs, _*ℤ_}
 use lib.Signed.{_≤ℤ_, _<ℤ_}
 use Rattle.arith.specs.Gcd.{Divides, gcdOf}
@@ -22,11 +26,13 @@ use Rattle.knapsack.specs.Records.{itemAt, InRange}
 use Rattle.knapsack.specs.declared.Mark.{Mark}
 use Rattle.knapsack.specs.declared.Mark.the-variants.{Integer, Continuous}
 use Rattle.knapsack.specs.declared.Problem.{Problem}
+use Rattle.search.specs.Ready.{Mild, Moderate}
+use Rattle.search.specs.declared.Soft.{Soft}
 use Rattle.tables.specs.Figures.{fixed, passes}
 use Rattle.tables.specs.Tables.{listed, Leading}
 use Rattle.tables.specs.declared.Test.the-variants.{Fixed}
 use Rattle.prepare.specs.Prepared.{Columned}
-use Rattle.prepare.specs.Softening.{stepAs, stepBy, strideOf, Softens}
+use Rattle.prepare.specs.Softening.{stepAs, stepBy, strideOf, softAt, noSoft, Softens}
 use Rattle.prepare.proofs.Order.{columns-ordered, columns-sized}
 
 -- ---- the stride
@@ -81,6 +87,11 @@ multiple g (negsuc n) (k, e) = (negℤ (pos k), go (negsuc n) refl e)
     go : (z : ℤ) → z ≡ negsuc n → natAbs z ≡ k * g → z ≡ pos g *ℤ negℤ (pos k)
     go = split _ (λ a b. simp zed (omega arith))
 
+pub record SoftTrue (p : Problem) (c : Columns) (m : Soft) : Type 0 where
+  pub moderate : Moderate m
+  pub strides : m .stride ≢ pos 0 → (k : ℕ) → k < p .count → itemAt p k .mark ≡ Integer → (q : ℤ) × (itemAt p k .weight ≡ m .stride *ℤ q)
+  pub mild : m .stride ≢ pos 0 → (k : ℕ) → k < p .count → fixed (itemAt p k) ≡ false → Mild c m k
+
 module _ (p : Problem) (r : InRange p) (c : Columns) (w : Columned p c) (lead : ℕ) (h : Leading (p .count) (λ u. passes Fixed (listed p (c .order) u)) lead) where
   o : Ordered c
   o = columns-ordered p c r w
@@ -102,8 +113,8 @@ module _ (p : Problem) (r : InRange p) (c : Columns) (w : Columned p c) (lead : 
       go (yes m) = absurd (impossible (sym e ∙ ap (λ i. fixed (itemAt p i)) (sym (o .item-rank k (omega (arith, w .count)))) ∙ h .pass (rankOf c k) m))
       go (no m) = omega arith
 
-  pub softens-live : lead < c .live → Softens p c (record { stride = pos g; rank = lead; rate = at (c .rate) lead; size = at (c .size) lead })
-  softens-live m = record { moderate = record { stride-in = g-in; rate-in = columns-sized p c r w .rates-in lead; rate≥0 = lt-le rate>0; size-in = columns-sized p c r w .sizes-in lead; size≥1 = size>0 }; strides = strides; mild = λ nz k l e. record { late = late k l e; cheap = cheap k l (late k l e) } }
+  true-live : lead < c .live → SoftTrue p c (record { stride = pos g; rank = lead; rate = at (c .rate) lead; size = at (c .size) lead })
+  true-live m = record { moderate = record { stride-in = g-in; rate-in = columns-sized p c r w .rates-in lead; rate≥0 = lt-le rate>0; size-in = columns-sized p c r w .sizes-in lead; size≥1 = size>0 }; strides = strides; mild = λ nz k l e. record { late = late k l e; cheap = cheap k l (late k l e) } }
     where
       rate>0 : pos 0 <ℤ at (c .rate) lead
       rate>0 = subst (λ x. pos 0 <ℤ x) (sym (o .rates lead m)) (o .live-rate lead m)
@@ -135,8 +146,8 @@ module _ (p : Problem) (r : InRange p) (c : Columns) (w : Columned p c) (lead : 
           nothing? (yes e) = inl (is-zero (weightOf c k) e)
           nothing? (no e) = inr (subst (λ i. (turned (weightOf c i) (priceOf c i) *ℤ at (c .size) lead) ≤ℤ (at (c .rate) lead *ℤ pos (natAbs (weightOf c i)))) (o .item-rank k k-in) (ranked (rankOf c k) v (o .rank-in k k-in) (λ q. e (some (weightOf c k) (ap (weightOf c) (sym (o .item-rank k k-in)) ∙ q))) (ℕ-discrete (rankOf c k) lead)))
 
-  pub softens-idle : c .live ≤ lead → Softens p c (record { stride = pos g; rank = lead; rate = pos 0; size = pos 1 })
-  softens-idle m = record {
+  true-idle : c .live ≤ lead → SoftTrue p c (record { stride = pos g; rank = lead; rate = pos 0; size = pos 1 })
+  true-idle m = record {
     moderate = record { stride-in = g-in; rate-in = record { above = omega arith; below = omega arith }; rate≥0 = simp zed (omega arith); size-in = record { above = omega arith; below = omega arith }; size≥1 = simp zed (omega arith) };
     strides = strides;
     mild = λ nz k l e. record { late = late k l e; cheap = cheap k (omega (arith, w .count)) (late k l e) };
@@ -155,9 +166,29 @@ module _ (p : Problem) (r : InRange p) (c : Columns) (w : Columned p c) (lead : 
           go (inl e) = inl e
           go (inr e) = inr (worthless (turned (weightOf c i) (priceOf c i)) (natAbs (weightOf c i)) e)
 
-pub softens-none : (p : Problem) (c : Columns) → Softens p c (record { stride = pos 0; rank = 0; rate = pos 0; size = pos 1 })
-softens-none p c = record {
+  pub soft-live : lead < c .live → softAt p c lead ≡ record { stride = pos g; rank = lead; rate = at (c .rate) lead; size = at (c .size) lead }
+  soft-live m = ap (λ b. record { stride = pos g; rank = lead; rate = cond b (at (c .rate) lead) (pos 0); size = cond b (at (c .size) lead) (pos 1) }) (lt-ltb lead (c .live) m)
+
+  pub soft-idle : c .live ≤ lead → softAt p c lead ≡ record { stride = pos g; rank = lead; rate = pos 0; size = pos 1 }
+  soft-idle m = ap (λ b. record { stride = pos g; rank = lead; rate = cond b (at (c .rate) lead) (pos 0); size = cond b (at (c .size) lead) (pos 1) }) (le-ltb lead (c .live) m)
+
+  true-at : SoftTrue p c (softAt p c lead)
+  true-at = go (decLt lead (c .live))
+    where
+      go : Dec (lead < c .live) → SoftTrue p c (softAt p c lead)
+      go (yes m) = subst (SoftTrue p c) (sym (soft-live m)) (true-live m)
+      go (no m) = subst (SoftTrue p c) (sym (soft-idle (omega arith))) (true-idle (omega arith))
+
+true-none : (p : Problem) (c : Columns) → SoftTrue p c noSoft
+true-none p c = record {
   moderate = record { stride-in = record { above = omega arith; below = omega arith }; rate-in = record { above = omega arith; below = omega arith }; rate≥0 = simp zed (omega arith); size-in = record { above = omega arith; below = omega arith }; size≥1 = simp zed (omega arith) };
   strides = λ nz k l e. absurd (nz refl);
   mild = λ nz k l e. absurd (nz refl);
 }
+
+pub soft-true : (p : Problem) → InRange p → (c : Columns) → Columned p c → (m : Soft) → Softens p c m → SoftTrue p c m
+soft-true p r c w m h = subst (SoftTrue p c) (sym (h .is)) (go (ltb (h .first) (p .count)))
+  where
+    go : (b : Bool) → SoftTrue p c (cond b (softAt p c (h .first)) noSoft)
+    go true = true-at p r c w (h .first) (h .leads)
+    go false = true-none p c

@@ -3,25 +3,26 @@
 --   Boxed p e        its ends: an absent bound is 300,000,000 away (knapsack, proofs/Reach)
 --   criticalKey c f  how the items are ordered for branching where the filling f stops: by their reduced prices at the critical
 --                    item's price per weight; by price alone where there is none
---   Latticing p l n r  r holds lattices of the levels l: of what the items from a level on change; nothing is known where a
+--   Latticing p l n r  r holds the lattices of the levels l: of what the items from a level on change; nothing is known where a
 --                    continuous item is free
+--   Arranged p s     columns, levels, lattices and strides of s are those of p, with the levels in the order of branching
 --   PreparedAt r p s the setting s is that of p, and in order; item k's absent bounds are r k away
 --   Prepared p s     the same at 300,000,000
 use mathlib.Core.Path.{_≡_}
-use mathlib.Core.Bool.{false, cond}
+use mathlib.Core.Bool.{cond}
 use mathlib.Core.List.{List}
-use mathlib.Core.Logic.{_≢_}
-use Prim.Native.Nat.{ℕ, _≤_, _<_}
+use Prim.Native.Nat.{ℕ, _<_}
 use lib.Dec.{ltb}
-use lib.IntN.{pos, negℤ}
+use lib.IntN.{ℤ, pos, negℤ}
 use lib.Signed.{ltZ}
-use Rattle.greedy.specs.Fill.{at, weightOf, priceOf}
+use Rattle.greedy.specs.Fill.{at, weightOf, priceOf, fill}
 use Rattle.greedy.specs.declared.Columns.{Columns}
 use Rattle.greedy.specs.declared.Ends.{Ends}
 use Rattle.greedy.specs.declared.Fill.{Fill}
 use Rattle.knapsack.specs.Records.{itemAt}
 use Rattle.knapsack.specs.declared.Problem.{Problem}
-use Rattle.lattice.specs.Lattice.{On, Tame, latticeAt}
+use Rattle.lattice.specs.Building.{latticeOf}
+use Rattle.lattice.specs.Lattice.{unknown, latticeAt}
 use Rattle.lattice.specs.declared.Lattice.{Lattice}
 use Rattle.ordering.specs.Ranking.{Sorted}
 use Rattle.search.specs.Ready.{ReadySetting, Marked}
@@ -31,7 +32,8 @@ use Rattle.tables.specs.Tables.{Tabled, listed, Leading, Inverted}
 use Rattle.tables.specs.declared.Figure.the-variants.{Weight, Price, Low, High, Size, Rate}
 use Rattle.tables.specs.declared.Key.the-variants.{Filling, Branching}
 use Rattle.tables.specs.declared.Key.{Key}
-use Rattle.tables.specs.declared.Test.the-variants.{Live}
+use Rattle.tables.specs.declared.Test.the-variants.{Live, Level}
+use Rattle.prepare.specs.Softening.{Softens}
 
 pub record Columned (p : Problem) (c : Columns) : Type 0 where
   pub count : c .count ≡ p .count
@@ -54,10 +56,27 @@ byPrice = Branching (pos 0) (pos 1)
 abbrev pub criticalKey : Columns → Fill → Key
 criticalKey c f = cond (ltZ (f .room) (pos 0)) byPrice (cond (ltb (f .at) (c .live)) (Branching (at (c .rate) (f .at)) (at (c .size) (f .at))) byPrice)
 
+-- what a table of n entries holds
+abbrev pub column : ℕ → (ℕ → ℤ) → ℕ → ℤ
+column n f u = cond (ltb u n) (f u) (pos 0)
+
+-- where only the first items are fixed nothing is known
+abbrev pub latticeBy : Problem → List ℕ → ℕ → ℕ → ℕ → Lattice
+latticeBy p l n first d = cond (ltb first (p .count)) unknown (latticeOf (column n (λ u. listed p l u .weight)) (column n (λ u. listed p l u .price)) n d)
+
 pub record Latticing (p : Problem) (l : List ℕ) (n : ℕ) (r : List Lattice) : Type 0 where
-  pub tame : (d : ℕ) → d < 16 → Tame (latticeAt r d)
-  pub free : (k : ℕ) → k < p .count → fixed (itemAt p k) ≡ false → (d : ℕ) → d < 16 → latticeAt r d .stride ≡ pos 0
-  pub on : (d : ℕ) → d < n → latticeAt r d .stride ≢ pos 0 → (j : ℕ) → d ≤ j → j < n → On (latticeAt r d) (listed p l j .weight) (listed p l j .price)
+  pub first : ℕ
+  pub leads : Leading (p .count) (λ u. fixed (itemAt p u)) first
+  pub are : (d : ℕ) → d < 16 → latticeAt r d ≡ latticeBy p l n first d
+
+pub record Arranged (p : Problem) (s : Setting) : Type 0 where
+  pub columned : Columned p (s .cols)
+  pub box : Ends
+  pub boxed : Boxed p box
+  pub sorted : Sorted (λ k. keyOf (criticalKey (s .cols) (fill (s .cols) box)) (itemAt p k)) (p .count) (s .level)
+  pub leads : Leading (p .count) (λ u. passes Level (listed p (s .level) u)) (s .levels)
+  pub latticing : Latticing p (s .level) (s .levels) (s .lattice)
+  pub softens : Softens p (s .cols) (s .soft)
 
 pub record PreparedAt (r : ℕ → ℕ) (p : Problem) (s : Setting) : Type 0 where
   pub count : s .cols .count ≡ p .count
@@ -68,6 +87,7 @@ pub record PreparedAt (r : ℕ → ℕ) (p : Problem) (s : Setting) : Type 0 whe
   pub highs : (k : ℕ) → k < p .count → at (s .ends .hi) k ≡ endOr (itemAt p k .upper) (pos (r k))
   pub ready : ReadySetting s
   pub marked : Marked s (λ k. itemAt p k .mark)
+  pub arranged : Arranged p s
 
 -- at the reach that is enough for every problem
 abbrev pub Prepared : Problem → Setting → Type 0

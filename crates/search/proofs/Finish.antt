@@ -88,20 +88,20 @@ module _ (s : Setting) (r : ReadySetting s) (long : Long (s .ends)) where
 
   module _ (ps : Pairs) (rp : ReadyPairs (s .cols) ps) (t : Path) (started : Started s t) (b b′ : Incumbent) (g : GoodBest s b) where
     pub looked-good : (w : Settled) → LookedAs s ps t b b′ w → GoodBest s b′
-    looked-good (Run d) (l, (e, c)) = rw e g
-    looked-good (Prefix n) (l, inl (q, e)) = rw e (tried-good (t .place) b (started .inside) g)
-    looked-good (Prefix n) (l, inr (e, c)) = rw e g
+    looked-good (Run d) (e, c) = rw e g
+    looked-good (Prefix n) (inl h) = rw (h .better) (tried-good (t .place) b (started .inside) g)
+    looked-good (Prefix n) (inr (e, c)) = rw e g
 
     module _ (marks : ℕ → Mark) (m : Marked s marks) where
       pub keeps-settled : (w : Settled) → LookedAs s ps t b b′ w → (y : Place) → SettledAt s marks b y → SettledAt s marks b′ y
-      keeps-settled (Run d) (l, (e, c)) y h = rw e h
-      keeps-settled (Prefix n) (l, inl (q, e)) y h = rw e (tried-keeps s r long marks m (at (t .place)) (started .inside) (t .place) b (g .proper) y h)
-      keeps-settled (Prefix n) (l, inr (e, c)) y h = rw e h
+      keeps-settled (Run d) (e, c) y h = rw e h
+      keeps-settled (Prefix n) (inl k) y h = rw (k .better) (tried-keeps s r long marks m (at (t .place)) (started .inside) (t .place) b (g .proper) y h)
+      keeps-settled (Prefix n) (inr (e, c)) y h = rw e h
 
       pub settles-verdict : (w : Settled) → LookedAs s ps t b b′ w → Settles (orderOf s) w (at (t .place)) (SettledAt s marks b′)
-      settles-verdict (Run d) (l, (e, c)) = λ y bx run. rw e (cut-settles s r long marks m (at (t .place)) (started .inside) d b l (g .proper) (subst (λ v. cutBy (s .cols) (s .soft) (latticeAt (s .lattice) d) (runEnds s (at (t .place)) v d) b ≡ true) (started .starts d l) c) y run)
-      settles-verdict (Prefix n) (l, inl (q, e)) = λ y bx a. rw e (tried-settles s r long marks m (at (t .place)) (started .inside) (t .place) b (g .proper) y (subst (λ k. Agree k (at (t .place)) y) q a))
-      settles-verdict (Prefix n) (l, inr (e, (d, q, c))) = λ y bx a. rw e (pair-settles s r long marks m (at (t .place)) (started .inside) ps rp d b (omega arith) c y (subst (λ k. Agree k (at (t .place)) y) q a))
+      settles-verdict (Run d) (e, c) = λ y bx run. rw e (cut-settles s r long marks m (at (t .place)) (started .inside) d b (c .level-in) (g .proper) (subst (λ v. cutBy (s .cols) (s .soft) (latticeAt (s .lattice) d) (runEnds s (at (t .place)) v d) b ≡ true) (started .starts d (c .level-in)) (c .cut)) y run)
+      settles-verdict (Prefix n) (inl h) = λ y bx a. rw (h .better) (tried-settles s r long marks m (at (t .place)) (started .inside) (t .place) b (g .proper) y (subst (λ k. Agree k (at (t .place)) y) (h .all) a))
+      settles-verdict (Prefix n) (inr (e, c)) = λ y bx a. rw e (pair-settles s r long marks m (at (t .place)) (started .inside) ps rp (c .level) b (c .level-in) (c .paired) y (subst (λ k. Agree k (at (t .place)) y) (c .last) a))
 
 -- ---- the invariant
 

@@ -1,5 +1,6 @@
 -- Where a verdict leads: to a level and an amount within its ends.
 use mathlib.Core.Path.{_≡_, subst}
+use mathlib.Core.Logic.{inl, inr}
 use mathlib.Core.Option.{some}
 use Prim.Native.Nat.{ℕ, suc, _≤_, _<_}
 use native.Mathlib.Omega.{arith}
@@ -22,8 +23,9 @@ use Rattle.search.proofs.Boxes.{orderOf, order-laws}
 
 -- a verdict of a look is within the levels
 pub looked-in : (s : Setting) (p : Pairs) (t : Path) (b b′ : Incumbent) (w : Settled) → LookedAs s p t b b′ w → SettledIn (s .levels) w
-looked-in s p t b b′ (Run d) h = h .0
-looked-in s p t b b′ (Prefix n) h = h .0
+looked-in s p t b b′ (Run d) (e, c) = c .level-in
+looked-in s p t b b′ (Prefix n) (inl h) = omega (arith, h .all)
+looked-in s p t b b′ (Prefix n) (inr (e, c)) = omega (arith, c .last, c .level-in)
 
 pub wider : (w : Settled) (m : ℕ) → m ≤ 16 → SettledIn m w → SettledIn 16 w
 wider (Run d) m l h = omega arith

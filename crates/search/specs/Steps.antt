@@ -1,11 +1,12 @@
 -- What the parts of a step ask and give.
 --   Dived s j p r     r is p with the levels from j on at their starts
---   Looked s p t b r  what a look at a place may have settled, and the incumbent after it
+--   Passed s p t b d  the levels above d settle nothing
+--   Looked s p t b r  what a look at a place settles, by the first level that settles something, and the incumbent after it
 --   Stepped s p q r   a step from q to r
 --   After s p n q     q after n steps from the first place on; each counts one
 --   Took s p r        r is where a search ends, with the steps that it took
 use mathlib.Core.Path.{_≡_}
-use mathlib.Core.Bool.{true, false, cond}
+use mathlib.Core.Bool.{Bool, true, false, cond}
 use mathlib.Core.Logic.{_⊎_}
 use mathlib.Core.Option.{Option, none, some}
 use Prim.Native.Nat.{ℕ, zero, suc, _+_, _≤_, _<_}
@@ -86,9 +87,39 @@ pub record Judges (c : Columns) (e : Ends) (b : Incumbent) : Type 0 where
   pub in-order : InOrder c e
   pub proper : ProperBest b
 
+-- the run of level d is cut
+abbrev pub cutAt : Setting → Path → Incumbent → ℕ → Bool
+cutAt s t b d = cutBy (s .cols) (s .soft) (latticeAt (s .lattice) d) (runEnds s (at (t .place)) (at (t .starts) d) d) b
+
+-- the levels above d settle nothing
+pub record Passed (s : Setting) (p : Pairs) (t : Path) (b : Incumbent) (d : ℕ) : Type 0 where
+  pub uncut : (i : ℕ) → i < d → cutAt s t b i ≡ false
+  pub unpaired : (i : ℕ) → i < d → ¬ Applies s p (at (t .place)) i
+
+-- the first level that settles something has its run cut
+pub record Cut (s : Setting) (p : Pairs) (t : Path) (b : Incumbent) (d : ℕ) : Type 0 where
+  pub level-in : d < s .levels
+  pub passed : Passed s p t b d
+  pub cut : cutAt s t b d ≡ true
+
+-- it is the last of the first n, and a pair discards them
+pub record Discarded (s : Setting) (p : Pairs) (t : Path) (b : Incumbent) (n : ℕ) : Type 0 where
+  pub level : ℕ
+  pub level-in : level < s .levels
+  pub last : n ≡ suc level
+  pub passed : Passed s p t b level
+  pub uncut : cutAt s t b level ≡ false
+  pub paired : Applies s p (at (t .place)) level
+
+-- no level settles anything: the place is tried
+pub record Tried (s : Setting) (p : Pairs) (t : Path) (b b′ : Incumbent) (n : ℕ) : Type 0 where
+  pub all : n ≡ s .levels
+  pub passed : Passed s p t b (s .levels)
+  pub better : b′ ≡ triedBy (s .cols) (fixedBy s (at (t .place)) (s .levels)) (t .place) b
+
 abbrev pub LookedAs : Setting → Pairs → Path → Incumbent → Incumbent → Settled → Type 0
-LookedAs s p t b b′ (Run d) = (d < s .levels) × ((b′ ≡ b) × (cutBy (s .cols) (s .soft) (latticeAt (s .lattice) d) (runEnds s (at (t .place)) (at (t .starts) d) d) b ≡ true))
-LookedAs s p t b b′ (Prefix n) = (n ≤ s .levels) × (((n ≡ s .levels) × (b′ ≡ triedBy (s .cols) (fixedBy s (at (t .place)) (s .levels)) (t .place) b)) ⊎ ((b′ ≡ b) × ((d : ℕ) × (n ≡ suc d) × Applies s p (at (t .place)) d)))
+LookedAs s p t b b′ (Run d) = (b′ ≡ b) × Cut s p t b d
+LookedAs s p t b b′ (Prefix n) = Tried s p t b b′ n ⊎ ((b′ ≡ b) × Discarded s p t b n)
 
 abbrev pub Looked : Setting → Pairs → Path → Incumbent → Sighting → Type 0
 Looked s p t b r = LookedAs s p t b (r .best) (r .settled)

@@ -1,5 +1,5 @@
 -- How large the figures and the keys of an accepted item are.
--- weight-within, price-within, end-within, head-start-within, key-within, reduced-within: of an item's figures, its ends and its keys.
+-- weight-within, price-within, end-within, head-start-within, key-within, reduced-within, weighted-within: of an item's figures, its ends and its keys.
 use Prim.Native.Nat.{ℕ}
 use native.Mathlib.Omega.{arith}
 use lib.IntN.{ℤ, pos, negsuc, natAbs, _+ℤ_, _*ℤ_}
@@ -11,7 +11,7 @@ use Rattle.knapsack.specs.Records.{BoundInRange, ItemInRange}
 use Rattle.knapsack.specs.declared.Bound.the-variants.{Absent, At}
 use Rattle.knapsack.specs.declared.Bound.{Bound}
 use Rattle.knapsack.specs.declared.Item.{Item}
-use Rattle.tables.specs.Figures.{endOr, lowEnd, highEnd, lightBound, headStart, reducedPrice, SmallRatio}
+use Rattle.tables.specs.Figures.{endOr, lowEnd, highEnd, lightBound, headStart, reducedPrice, weightedPrice, SmallRatio}
 
 pub zero-within : {n : ℕ} → Within n (pos 0)
 zero-within = record { above = omega arith; below = omega arith }
@@ -56,3 +56,9 @@ module _ (i : Item) (r : ItemInRange i) where
 
     pub reduced-within : Within 20000000 (reducedPrice p q i)
     reduced-within = within-sub gain-within cost-within
+
+    pub counted-within : Within 40000000000 (pos 2000 *ℤ pos (natAbs (reducedPrice p q i)))
+    counted-within = within-mul {m = 2000} {x = pos 2000} (record { above = omega arith; below = omega arith }) (size-within (reducedPrice p q i) reduced-within)
+
+    pub weighted-within : Within 40000001000 (weightedPrice p q i)
+    weighted-within = within-add counted-within (size-within (i .weight) weight-within)

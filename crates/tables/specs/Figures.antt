@@ -5,7 +5,8 @@
 --   passes t i          the item i passes the test t: worth its weight; integer; integer or with only one amount
 --   fillingKey i        the key for filling: falling price per weight; of equals, those that lack the light end first
 --   reducedPrice p q i  what a unit of the item is worth beyond its weight at the price p for a weight of q, times q
---   branchingKey p q i  the key for branching: falling reduced price, then what weighs nothing, the continuous items last
+--   branchingKey p q i  the key for branching: falling reduced price, of equals the heavier first, then what weighs nothing, the continuous
+--                       items last
 --   keyOf b i           one of these
 --   SmallKey b          the key's numbers are a price and a weight
 use mathlib.Core.Bool.{Bool, true, false, cond, not}
@@ -97,9 +98,13 @@ fillingKey i = keyItem (pos (natAbs (i .weight))) (pos 2000000 *ℤ turned (i .w
 abbrev pub reducedPrice : ℤ → ℤ → Item → ℤ
 reducedPrice p q i = q *ℤ i .price -ℤ p *ℤ i .weight
 
+-- the weight parts equals, for no weight is above 1,000
+abbrev pub weightedPrice : ℤ → ℤ → Item → ℤ
+weightedPrice p q i = pos 2000 *ℤ pos (natAbs (reducedPrice p q i)) +ℤ pos (natAbs (i .weight))
+
 -- what weighs nothing comes after what does
 abbrev pub branchingPrice : ℤ → ℤ → Item → ℤ
-branchingPrice p q i = cond (eqb (natAbs (i .weight)) 0) (negsuc 0) (pos (natAbs (reducedPrice p q i)))
+branchingPrice p q i = cond (eqb (natAbs (i .weight)) 0) (negsuc 0) (weightedPrice p q i)
 
 abbrev pub branchingKey : ℤ → ℤ → Item → Item
 branchingKey p q i = cond (isInteger (i .mark)) (keyItem (pos 1) (branchingPrice p q i)) (keyItem (pos 0) (pos 0))

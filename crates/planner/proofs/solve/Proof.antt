@@ -1,7 +1,6 @@
 -- `planner::solve` meets its contract.
-use mathlib.Core.Path.{refl, subst}
+use mathlib.Core.Path.{_≡_, refl, subst}
 use mathlib.Core.Bool.{true}
-use mathlib.Core.Logic.{inl, inr}
 use borrow.Author.Needs.{needs}
 use Rattle.arith.proofs.Parts.{within-back}
 use Rattle.arith.proofs.Words.{yes-lt, no-lt}
@@ -10,7 +9,7 @@ use Rattle.prepare.specs.Narrowing.{spanOf, Narrowed}
 use Rattle.prepare.specs.Prepared.{PreparedAt}
 use Rattle.prepare.proofs.Nearer.{reach-small, narrowed-prepared}
 use Rattle.planner.specs.Outcomes.{Walked}
-use Rattle.planner.proofs.Outcomes.{infeasible-corner, unbounded-corner, infeasible-searched, optimal-found}
+use Rattle.planner.proofs.Outcomes.{infeasible-corner, corner-feasible-at, unbounded-corner, must-find, optimal-found}
 use Rattle.planner.proofs.Values.{begun-within}
 use Rattle.planner.proofs.solve.Statement.{statement}
 use Rattle.planner.proofs.solve.Tie as tie
@@ -35,7 +34,7 @@ returns c =
     let q = a .prepare .ensures in
     let s = a .prepare .result in
     let t = rw (b .begin .ensures, within-back tt (begun-within (s .cols) (s .ends) (q .ready .sized))) at (h .before .if1 .taken) in
-    rw (c .with-steps .ensures, h .no-point .ensures) (record { answers = infeasible-corner (a .before .args .p) (a .before .pre) s q (yes-lt t); counts = inl (tt, refl) })
+    rw (c .with-steps .ensures, h .no-point .ensures) (record { answers = infeasible-corner (a .before .args .p) (a .before .pre) s q (yes-lt t); counts = refl })
 
 find-ray-requires : tie.Need-find-ray-requires
 find-ray-requires c κs = search needs
@@ -59,7 +58,7 @@ returns-2 c =
     let t = rw (b .begin .ensures, within-back tt (begun-within (s .cols) (s .ends) (q .ready .sized))) at (e .if1 .left) in
     rw (c .with-steps2 .ensures) (record {
       answers = unbounded-corner (a .before .args .p) (a .before .pre) s q (r .find-ray .result) (u .unbounded .result) (no-lt t) (r .find-ray .ensures) (t2 .if2 .taken) (u .unbounded .ensures);
-      counts = inl (rw (u .unbounded .ensures .kind-is) tt, refl);
+      counts = rw (u .unbounded .ensures .kind-is) refl;
     })
 
 reach-of-requires : tie.Need-reach-of-requires
@@ -91,11 +90,26 @@ run-requires c κs =
     let q = near n in
     record { setting = q .ready; true-pairs = c .pairs-of .ensures .ready (n .narrowed .result .cols) (record { weights-agree = q .weights; prices-agree = q .prices }) }
 
+-- the search found a place
+found : (c : tie.After-run) → c .run .result .best .found ≡ true
+unfolding Prep
+found c =
+    let w = c .before .before in
+    let e2 = w .before .before in
+    let r = e2 .before in
+    let e1 = r .before in
+    let b = e1 .before .before .before in
+    let a = Prep e2 in
+    let s = a .before in
+    let q = a .prepare .ensures in
+    let t = rw (b .begin .ensures, within-back tt (begun-within (a .prepare .result .cols) (a .prepare .result .ends) (q .ready .sized))) at (e1 .if1 .left) in
+    must-find (s .args .p) (s .pre) (w .narrowed .result) (near w) _ (corner-feasible-at (s .args .p) (s .pre) (a .prepare .result) q (no-lt t)) (r .find-ray .result) (c .run .result .best) (r .find-ray .ensures) (e2 .if2 .left) (c .run .ensures .0)
+
 optimal-requires : tie.Need-optimal-requires
 unfolding Prep
 optimal-requires c κs =
-    let n = c .before .before .before in
-    (near (n .before .before) .ready, n .run .ensures .0 .inside (c .before .if3 .taken))
+    let n = c .before .before in
+    (near (n .before .before) .ready, n .run .ensures .0 .inside (found n))
 
 with-steps-requires-3 : tie.Need-with-steps-requires-3
 with-steps-requires-3 c κs = search needs
@@ -117,36 +131,14 @@ returns-3 : tie.Need-returns-3
 unfolding Prep
 returns-3 c =
     let o = c .before in
-    let t3 = o .before .before in
-    let n = t3 .before .before in
+    let n = o .before .before .before in
     let w = n .before .before in
     let e2 = w .before .before in
     let r = e2 .before in
     let s = Prep e2 .before in
     rw (c .with-steps3 .ensures) (record {
-      answers = optimal-found (s .args .p) (s .pre) (w .narrowed .result) (near w) (n .run .result .best) (n .run .ensures .0) (t3 .if3 .taken) (o .optimal .result) (o .optimal .ensures) (r .find-ray .result) (r .find-ray .ensures) (e2 .if2 .left);
-      counts = inr (walked n);
-    })
-
-no-point-requires-2 : tie.Need-no-point-requires-2
-no-point-requires-2 c κs = search needs
-
-with-steps-requires-4 : tie.Need-with-steps-requires-4
-with-steps-requires-4 c κs = search needs
-
-returns-4 : tie.Need-returns-4
-unfolding Prep
-returns-4 c =
-    let h = c .before in
-    let e3 = h .before in
-    let n = e3 .before .before in
-    let w = n .before .before in
-    let e2 = w .before .before in
-    let r = e2 .before in
-    let s = Prep e2 .before in
-    rw (c .with-steps4 .ensures, h .no-point2 .ensures) (record {
-      answers = infeasible-searched (s .args .p) (s .pre) (w .narrowed .result) (near w) (r .find-ray .result) (n .run .result .best) (r .find-ray .ensures) (e2 .if2 .left) (n .run .ensures .0) (e3 .if3 .left);
-      counts = inr (walked n);
+      answers = optimal-found (s .args .p) (s .pre) (w .narrowed .result) (near w) (n .run .result .best) (n .run .ensures .0) (found n) (o .optimal .result) (o .optimal .ensures) (r .find-ray .result) (r .find-ray .ensures) (e2 .if2 .left);
+      counts = rw (o .optimal .ensures .kind-is) (walked n);
     })
 
 pub solve-spec : {M : Type 1} → statement M
@@ -168,7 +160,4 @@ solve-spec =
     run-requires
     optimal-requires
     with-steps-requires-3
-    returns-3
-    no-point-requires-2
-    with-steps-requires-4
-    returns-4)
+    returns-3)

@@ -1,15 +1,15 @@
 -- `prepare::lattices_of` meets its contract: where all are fixed the lattices are those of weights and prices by level.
-use mathlib.Core.Path.{ap}
+use mathlib.Core.Path.{_≡_, _∙_}
 use borrow.Author.Needs.{needs}
-use Rattle.greedy.specs.Fill.{place}
-use Rattle.lattice.proofs.Levels.{unknown-at, unknown-tame}
-use Rattle.lattice.specs.declared.Lattice.{Lattice}
-use Rattle.tables.proofs.Ranges.{weight-within, price-within}
+use borrow.Author.Tests.{lt-ltb, le-ltb}
+use Rattle.lattice.proofs.Levels.{unknown-at}
+use Rattle.lattice.specs.Building.{entry}
 use Rattle.tables.specs.Figures.{figureOf}
 use Rattle.tables.specs.Tables.{listed}
 use Rattle.tables.specs.declared.Figure.the-variants.{Weight, Price}
-use Rattle.prepare.proofs.Lattices.{lattices-none, lattices-some}
-use Rattle.prepare.proofs.Lists.{places-listing, tabled-within}
+use Rattle.prepare.specs.Prepared.{column}
+use Rattle.prepare.proofs.Lattices.{items-in, tabled-column, leading-places}
+use Rattle.prepare.proofs.Lists.{places-listing}
 use Rattle.prepare.proofs.lattices_of.Statement.{statement}
 use Rattle.prepare.proofs.lattices_of.Tie as tie
 
@@ -27,8 +27,12 @@ returns c =
     let l = c .before .before .before in
     let a = l .before in
     let s = a .before in
-    lattices-none (s .args .p) (s .pre .accepted .few-items) (a .all-places .result) (a .all-places .ensures) (l .leading .result) (l .leading .ensures) (s .args .level) (s .args .n) (c .unknown-lattices .result)
-    (λ d h. rw (c .unknown-lattices .ensures, unknown-at 16 d h) unknown-tame) (λ d h. rw (c .unknown-lattices .ensures) (ap (λ (x : Lattice). x .stride) (unknown-at 16 d h))) (s .pre .few)
+    let p = s .args .p in
+    record {
+      first = l .leading .result;
+      leads = leading-places p (s .pre .accepted .few-items) (a .all-places .result) (a .all-places .ensures) (l .leading .result) (l .leading .ensures);
+      are = λ d h. rw (c .unknown-lattices .ensures, lt-ltb (l .leading .result) (p .count) (c .before .if1 .taken)) (unknown-at 16 d h);
+    }
 
 table-requires : tie.Need-table-requires
 table-requires c κs = search needs
@@ -36,18 +40,17 @@ table-requires c κs = search needs
 table-requires-2 : tie.Need-table-requires-2
 table-requires-2 c κs = search needs
 
+-- the tables, as columns of the levels
+weights : (c : tie.After-table) → entry (c .table .result) ≡ column (c .before .before .before .before .before .args .n) (λ u. listed (c .before .before .before .before .before .args .p) (c .before .before .before .before .before .args .level) u .weight)
+weights c = let s = c .before .before .before .before .before in tabled-column (s .args .n) (λ u. figureOf Weight (listed (s .args .p) (s .args .level) u)) (c .table .result) (c .table .ensures)
+
+prices : (c : tie.After-table2) → entry (c .table2 .result) ≡ column (c .before .before .before .before .before .before .args .n) (λ u. listed (c .before .before .before .before .before .before .args .p) (c .before .before .before .before .before .before .args .level) u .price)
+prices c = let s = c .before .before .before .before .before .before in tabled-column (s .args .n) (λ u. figureOf Price (listed (s .args .p) (s .args .level) u)) (c .table2 .result) (c .table2 .ensures)
+
 lattices-requires : tie.Need-lattices-requires
 lattices-requires c κs =
-    let w = c .before in
-    let s = w .before .before .before .before .before in
-    let p = s .args .p in
-    let l = s .args .level in (
-      s .pre .few,
-      (
-        tabled-within (s .args .n) (λ u. figureOf Weight (listed p l u)) (w .table .result) (w .table .ensures) 1000 (λ u h. weight-within (listed p l u) (s .pre .accepted .items-in (place l u) (s .pre .below u h))),
-        tabled-within (s .args .n) (λ u. figureOf Price (listed p l u)) (c .table2 .result) (c .table2 .ensures) 10000 (λ u h. price-within (listed p l u) (s .pre .accepted .items-in (place l u) (s .pre .below u h))),
-      ),
-    )
+    let s = c .before .before .before .before .before .before in
+    rw (weights (c .before), prices c) (items-in (s .args .p) (s .args .level) (s .args .n) (s .pre))
 
 returns-2 : tie.Need-returns-2
 returns-2 c =
@@ -56,7 +59,12 @@ returns-2 c =
     let l = w .before .before .before in
     let a = l .before in
     let s = a .before in
-    lattices-some (s .args .p) (s .pre .accepted .few-items) (a .all-places .result) (a .all-places .ensures) (l .leading .result) (l .leading .ensures) (s .args .level) (s .args .n) (w .table .result) (t .table2 .result) (c .lattices .result) (w .before .if1 .left) (w .table .ensures) (t .table2 .ensures) (c .lattices .ensures)
+    let p = s .args .p in
+    record {
+      first = l .leading .result;
+      leads = leading-places p (s .pre .accepted .few-items) (a .all-places .result) (a .all-places .ensures) (l .leading .result) (l .leading .ensures);
+      are = λ d h. rw (le-ltb (l .leading .result) (p .count) (w .before .if1 .left)) (rw (weights w, prices t) at (c .lattices .ensures d h));
+    }
 
 pub lattices-of-spec : {M : Type 1} → statement M
 lattices-of-spec =

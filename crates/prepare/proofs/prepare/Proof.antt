@@ -5,7 +5,7 @@ use Rattle.greedy.specs.Fill.{fill}
 use Rattle.knapsack.specs.Records.{itemAt}
 use Rattle.tables.specs.Figures.{keyOf, SmallKey}
 use Rattle.tables.specs.Tables.{Listing}
-use Rattle.prepare.proofs.Levels.{Tells, critical-small, critical-tells}
+use Rattle.prepare.proofs.Levels.{critical-small}
 use Rattle.prepare.proofs.Lists.{sorted-listing, shorter-listing}
 use Rattle.prepare.proofs.Order.{columns-sized}
 use Rattle.prepare.proofs.Ready.{box-sized, prepared}
@@ -68,7 +68,7 @@ returns c =
     prepared (s .args .p) (s .pre) (b .branching .result) _ (record {
       columned = k .columns .ensures;
       boxed = e .bounding-box .ensures;
-      tells = subst Tells (sym (b .branching .ensures)) (critical-tells (k .columns .result) (fill (k .columns .result) (e .bounding-box .result)));
+      by-is = b .branching .ensures;
       sorted = o .ranking-by .ensures;
       leading = l .leading .ensures;
       lows = c .before .before .before .table .ensures;

@@ -1,9 +1,11 @@
 -- `search::look` meets its contract: at level d the box has the levels above fixed at the place.
 use mathlib.Core.Path.{_≡_, refl, sym, ap, ap₂, _∙_, subst}
+use mathlib.Core.Bool.{false}
 use mathlib.Core.List.{List}
 use mathlib.Core.Logic.{inl, inr}
 use Prim.Native.Nat.{ℕ, _-_, _≤_, _<_}
 use native.Mathlib.Numerals.{add-one}
+use native.Mathlib.Decide.{ℕ-discrete}
 use native.Mathlib.Omega.{arith}
 use lib.IntN.{ℤ}
 use lib.Seq.{set-set}
@@ -13,6 +15,7 @@ use Rattle.arith.proofs.Words.{back}
 use Rattle.greedy.specs.declared.Ends.{Ends}
 use Rattle.greedy.specs.Fill.{at}
 use Rattle.lattice.specs.Lattice.{latticeAt}
+use Rattle.search.specs.Steps.{cutAt, Passed}
 use Rattle.search.specs.Search.{levelAt, spanned, fixedBy, bySide, runBox, runEnds, cutBy, Applies}
 use Rattle.search.proofs.Boxes.{item<16}
 use Rattle.search.proofs.Runs.{fixed-judged, run-judged}
@@ -20,7 +23,7 @@ use Rattle.search.proofs.look.Statement.{statement}
 use Rattle.search.proofs.look.Tie as tie
 
 abbrev Inv-loop : tie.InvT-loop
-Inv-loop best s n x v c z m e₀ d₀ e d = (d ≤ n) × (e ≡ fixedBy s (at x) d)
+Inv-loop best s n x v c z m e₀ d₀ e d = (d ≤ n) × ((e ≡ fixedBy s (at x) d) × ((d ≤ m) × ((i : ℕ) → i < d → cutAt s (record { place = x; starts = v }) best i ≡ false)))
 
 abbrev μ-loop : tie.MeasureT-loop
 μ-loop best s n x v c z m e₀ d₀ e d = n - d
@@ -37,7 +40,7 @@ first-paired-requires c κs = let s = c .before .before .before .before in (s .p
 
 loop-holds : tie.Need-loop-holds Inv-loop μ-loop
 unfolding fixedBy
-loop-holds c = (omega arith, refl)
+loop-holds c = (omega arith, (refl, (omega arith, λ i h. absurd (omega arith))))
 
 mul-a : tie.Need-mul-a Inv-loop μ-loop
 mul-a c = record { fits = omega (arith, d<16 c) }
@@ -112,7 +115,7 @@ run-is c =
     let d = l .loop .d in
     let k = levelAt (s .args .t1) d in
     ap₂ (λ (x y : ℤ). spanned (l .loop .e) k x y) (back (b .by-side .result) (b .by-side .ok) ∙ low-is c) (back (c .by-side2 .result) (c .by-side2 .ok) ∙ high-is c)
-    ∙ ap (λ e. runBox e k (at (s .args .t1 .low) d) (at (s .args .t1 .high) d) (at (s .args .t .place) d) (at (s .args .t .starts) d)) (l .loop .inv .1)
+    ∙ ap (λ e. runBox e k (at (s .args .t1 .low) d) (at (s .args .t1 .high) d) (at (s .args .t .place) d) (at (s .args .t .starts) d)) (l .loop .inv .1 .0)
 
 mul-l : tie.Need-mul-l Inv-loop μ-loop
 mul-l c = record { fits = omega (arith, item (Turn c)) }
@@ -140,12 +143,23 @@ cut-requires c κs =
     let s = Of l in
     rw (run-is b) (run-judged (s .args .t1) (s .pre .0 .setting) (s .pre .1 .0 .long) (at (s .args .t .place)) (s .pre .1 .0 .inside) (at (s .args .t .starts) (l .loop .d)) (l .loop .d) (s .args .best) (i .loop-test .taken) (s .pre .1 .1), (s .pre .0 .setting .tame (l .loop .d) (d<16 i), s .pre .0 .setting .moderate))
 
-returns : tie.Need-returns Inv-loop μ-loop
-returns c =
-    let b = c .before .before .before in
+-- the levels above settle nothing
+passed : (l : tie.At-loop Inv-loop μ-loop) (d : ℕ) → d ≤ l .loop .d → Passed (Of l .args .t1) (Of l .args .p) (Of l .args .t) (Of l .args .best) d
+passed l d h = record { uncut = λ i g. l .loop .inv .1 .1 .1 i (omega arith); unpaired = λ i g. l .before .before .first-paired .ensures .before i (omega (arith, l .loop .inv .1 .1 .0)) }
+
+-- whether the run of the level is cut
+judged : (c : tie.After-cut Inv-loop μ-loop) → c .cut .result ≡ cutAt (Of (Turn (c .before .before) .before) .args .t1) (Of (Turn (c .before .before) .before) .args .t) (Of (Turn (c .before .before) .before) .args .best) (Turn (c .before .before) .before .loop .d)
+judged c =
+    let b = c .before .before in
     let l = Turn b .before in
     let s = Of l in
-    (Turn b .loop-test .taken, (refl, ap (λ e. cutBy (s .args .t1 .cols) (s .args .t1 .soft) (latticeAt (s .args .t1 .lattice) (l .loop .d)) e (s .args .best)) (sym (run-is b)) ∙ sym (c .before .cut .ensures) ∙ c .if1 .taken))
+    c .cut .ensures ∙ ap (λ e. cutBy (s .args .t1 .cols) (s .args .t1 .soft) (latticeAt (s .args .t1 .lattice) (l .loop .d)) e (s .args .best)) (run-is b)
+
+returns : tie.Need-returns Inv-loop μ-loop
+returns c =
+    let i = Turn (c .before .before .before) in
+    let l = i .before in
+    (refl, record { level-in = i .loop-test .taken; passed = passed l (l .loop .d) (omega arith); cut = sym (judged (c .before)) ∙ c .if1 .taken })
 
 add-t47 : tie.Need-add-t47 Inv-loop μ-loop
 add-t47 c = record { fits = omega (arith, d<16 (Turn (c .before .before .before .before))) }
@@ -153,12 +167,23 @@ add-t47 c = record { fits = omega (arith, d<16 (Turn (c .before .before .before 
 -- the level that a pair discards
 returns-2 : tie.Need-returns-2 Inv-loop μ-loop
 returns-2 c =
-    let i = Turn (c .before .before .before .before) in
+    let e = c .before in
+    let i = Turn (e .before .before .before) in
     let l = i .before in
     let s = Of l in
     let f = l .before .before .first-paired in
     let q = c .if2 .taken in
-    (omega (arith, i .loop-test .taken), inr (refl, (l .loop .d, add-one (l .loop .d), subst (λ k. Applies (s .args .t1) (s .args .p) (at (s .args .t .place)) k) (sym q) (f .ensures .here (omega (arith, q, i .loop-test .taken))))))
+    inr (
+      refl,
+      record {
+        level = l .loop .d;
+        level-in = i .loop-test .taken;
+        last = add-one (l .loop .d);
+        passed = passed l (l .loop .d) (omega arith);
+        uncut = sym (judged (e .before)) ∙ e .if1 .left;
+        paired = subst (λ k. Applies (s .args .t1) (s .args .p) (at (s .args .t .place)) k) (sym q) (f .ensures .here (omega (arith, q, i .loop-test .taken)));
+      },
+    )
 
 mul-a-2 : tie.Need-mul-a-2 Inv-loop μ-loop
 mul-a-2 c = record { fits = omega (arith, item (Turn (c .before .before .before .before))) }
@@ -182,30 +207,42 @@ loop-less c = let i = Turn (c .before .before .before .before) in omega (arith, 
 rewritten : (e : Ends) (k : ℕ) (l h u : ℤ) → spanned (spanned e k l h) k u u ≡ spanned e k u u
 rewritten e k l h u = ap₂ (λ (x y : List ℤ). record { lo = x; hi = y }) (set-set (e .lo) k l u) (set-set (e .hi) k h u)
 
+-- so does the level itself
+still : (c : tie.Else1 Inv-loop μ-loop) (i : ℕ) → i ≤ Turn (c .before .before .before) .before .loop .d → Dec (i ≡ Turn (c .before .before .before) .before .loop .d)
+    → cutAt (Of (Turn (c .before .before .before) .before) .args .t1) (Of (Turn (c .before .before .before) .before) .args .t) (Of (Turn (c .before .before .before) .before) .args .best) i ≡ false
+still c i h (yes e) = rw e (sym (judged (c .before)) ∙ c .if1 .left)
+still c i h (no e) = Turn (c .before .before .before) .before .loop .inv .1 .1 .1 i (omega (arith, e))
+
 loop-again : tie.Need-loop-again Inv-loop μ-loop
 unfolding fixedBy
 loop-again c =
-    let b = c .before .before .before .before in
+    let u = c .before in
+    let b = u .before .before .before in
     let i = Turn b in
     let l = i .before in
     let s = Of l in
     let x = at (s .args .t .place) (l .loop .d) in
-    let k = levelAt (s .args .t1) (l .loop .d) in
-    (omega (arith, i .loop-test .taken), rw (add-one, back x (b .before .before .before .before .before .before .a .given)) (rewritten (l .loop .e) k (toZ w64 (ofZ w64 (b .before .before .by-side .result))) (toZ w64 (ofZ w64 (b .by-side2 .result))) x ∙ ap (λ e. spanned e k x x) (l .loop .inv .1)))
+    let k = levelAt (s .args .t1) (l .loop .d) in (
+      omega (arith, i .loop-test .taken),
+      (
+        rw (add-one, back x (b .before .before .before .before .before .before .a .given)) (rewritten (l .loop .e) k (toZ w64 (ofZ w64 (b .before .before .by-side .result))) (toZ w64 (ofZ w64 (b .by-side2 .result))) x ∙ ap (λ e. spanned e k x x) (l .loop .inv .1 .0)),
+        (omega (arith, l .loop .inv .1 .1 .0, c .if2 .left), λ j h. still u j (omega arith) (ℕ-discrete j (l .loop .d))),
+      ),
+    )
 
 tried-requires : tie.Need-tried-requires Inv-loop μ-loop
 tried-requires c κs =
     let l = c .before in
     let s = Of l in
-    rw (l .loop .inv .1) (fixed-judged (s .args .t1) (s .pre .0 .setting) (s .pre .1 .0 .long) (at (s .args .t .place)) (s .pre .1 .0 .inside) (l .loop .d) (s .args .best) (l .loop .inv .0) (s .pre .1 .1))
+    rw (l .loop .inv .1 .0) (fixed-judged (s .args .t1) (s .pre .0 .setting) (s .pre .1 .0 .long) (at (s .args .t .place)) (s .pre .1 .0 .inside) (l .loop .d) (s .args .best) (l .loop .inv .0) (s .pre .1 .1))
 
 returns-3 : tie.Need-returns-3 Inv-loop μ-loop
 returns-3 c =
     let l = c .before .before in
     let s = Of l in
     let n : l .loop .d ≡ s .args .t1 .levels = omega (arith, c .before .loop-test .left, l .loop .inv .0) in
-    let e = l .loop .inv .1 ∙ ap (fixedBy (s .args .t1) (at (s .args .t .place))) n in
-    (omega arith, inl (refl, rw e at (c .tried .ensures)))
+    let e = l .loop .inv .1 .0 ∙ ap (fixedBy (s .args .t1) (at (s .args .t .place))) n in
+    inl (record { all = refl; passed = passed l (s .args .t1 .levels) (omega (arith, n)); better = rw e at (c .tried .ensures) })
 
 pub look-spec : {M : Type 1} → statement M
 look-spec =

@@ -1,11 +1,11 @@
--- `tables::branching_key` meets its contract: the products and their difference, one by one.
+-- `tables::branching_key` meets its contract: the tests of the mark and of the weight, and the two numbers of the key.
 use mathlib.Core.Path.{_≡_, sym, ap, _∙_}
 use mathlib.Core.Bool.{true, false}
 use native.Mathlib.Omega.{arith}
 use borrow.Author.Needs.{needs}
 use borrow.Author.Tests.{ne-eqb}
 use lib.Dec.{eqb, lit<}
-use lib.IntN.{ℤ, pos, natAbs, _-ℤ_, _*ℤ_}
+use lib.IntN.{ℤ, pos, natAbs}
 use mir.Syntax.{w64}
 use mir.Val.{toZ, ofZ}
 use Rattle.arith.proofs.Parts.{within-more, within-back, within-sfits}
@@ -13,19 +13,9 @@ use Rattle.arith.proofs.Integers.{split, zed}
 use Rattle.arith.proofs.Quotients.{bits-zero}
 use Rattle.arith.proofs.Words.{back}
 use Rattle.tables.specs.Figures.{isInteger, reducedPrice}
-use Rattle.tables.proofs.Ranges.{weight-within, price-within, gain-within, cost-within, reduced-within}
+use Rattle.tables.proofs.Ranges.{weight-within, counted-within, weighted-within}
 use Rattle.tables.proofs.branching_key.Statement.{statement}
 use Rattle.tables.proofs.branching_key.Tie as tie
-
-module _ (s : tie.Start) where
-  gain : toZ w64 (ofZ w64 (s .args .q)) *ℤ toZ w64 (ofZ w64 (s .args .i .price)) ≡ s .args .q *ℤ s .args .i .price
-  gain = rw (within-back tt (s .pre .1 .weight), within-back tt (price-within (s .args .i) (s .pre .0)))
-
-  cost : toZ w64 (ofZ w64 (s .args .p)) *ℤ toZ w64 (ofZ w64 (s .args .i .weight)) ≡ s .args .p *ℤ s .args .i .weight
-  cost = rw (within-back tt (s .pre .1 .price), within-back tt (weight-within (s .args .i) (s .pre .0)))
-
-  difference : toZ w64 (ofZ w64 (toZ w64 (ofZ w64 (s .args .q)) *ℤ toZ w64 (ofZ w64 (s .args .i .price)))) -ℤ toZ w64 (ofZ w64 (toZ w64 (ofZ w64 (s .args .p)) *ℤ toZ w64 (ofZ w64 (s .args .i .weight)))) ≡ reducedPrice (s .args .p) (s .args .q) (s .args .i)
-  difference = rw (gain, cost, within-back tt (gain-within (s .args .i) (s .pre .0) (s .args .p) (s .args .q) (s .pre .1)), within-back tt (cost-within (s .args .i) (s .pre .0) (s .args .p) (s .args .q) (s .pre .1)))
 
 is-integer-requires : tie.Need-is-integer-requires
 is-integer-requires c κs = search needs
@@ -50,26 +40,42 @@ returns c =
     let z = bits-zero (s .args .i .weight) (within-sfits (lit< tt) (weight-within (s .args .i) (s .pre .0))) (t .if2 .taken) in
     rw (integer (t .before), z) (c .key-item .ensures)
 
-mul-x : tie.Need-mul-x
-mul-x c =
-    let s = c .before .before .before .before .before .before in
-    rw (gain s) (within-sfits (lit< tt) (gain-within (s .args .i) (s .pre .0) (s .args .p) (s .args .q) (s .pre .1)))
+reduced-price-requires : tie.Need-reduced-price-requires
+reduced-price-requires c κs =
+    let s = c .before .before .before .before in
+    rw (within-back tt (s .pre .1 .price), within-back tt (s .pre .1 .weight)) (s .pre)
 
-mul-x-2 : tie.Need-mul-x-2
-mul-x-2 c =
-    let s = c .before .before .before .before .before .before in
-    rw (cost s) (within-sfits (lit< tt) (cost-within (s .args .i) (s .pre .0) (s .args .p) (s .args .q) (s .pre .1)))
+-- what the function was given
+abbrev S : tie.After-reduced-price → tie.Start
+S c = c .before .before .before .before .before
 
-sub-x : tie.Need-sub-x
-sub-x c =
-    let s = c .before .before .before .before .before .before in
-    rw (difference s) (within-sfits (lit< tt) (reduced-within (s .args .i) (s .pre .0) (s .args .p) (s .args .q) (s .pre .1)))
+-- the two numbers of the key
+price : (c : tie.After-reduced-price) → toZ w64 (ofZ w64 (c .reduced-price .result)) ≡ pos (natAbs (reducedPrice (S c .args .p) (S c .args .q) (S c .args .i)))
+price c =
+    let s = S c in
+    back (c .reduced-price .result) (c .reduced-price .ok)
+    ∙ (rw (within-back tt (s .pre .1 .price), within-back tt (s .pre .1 .weight)) at (c .reduced-price .ensures))
+
+mul-key-item : tie.Need-mul-key-item
+mul-key-item c =
+    let s = S c in
+    rw (price c) (within-sfits (lit< tt) (counted-within (s .args .i) (s .pre .0) (s .args .p) (s .args .q) (s .pre .1)))
 
 absolute-requires : tie.Need-absolute-requires
 absolute-requires c κs =
-    let s = c .before .before .before .before .before .before in
-    let w = reduced-within (s .args .i) (s .pre .0) (s .args .p) (s .args .q) (s .pre .1) in
-    rw (difference s, within-back tt w) (within-more (omega arith) w)
+    let s = S c in
+    let w = weight-within (s .args .i) (s .pre .0) in
+    rw (within-back tt w) (within-more (omega arith) w)
+
+size : (c : tie.After-absolute) → toZ w64 (ofZ w64 (c .absolute .result)) ≡ pos (natAbs (S (c .before) .args .i .weight))
+size c =
+    let s = S (c .before) in
+    back (c .absolute .result) (c .absolute .ok) ∙ (rw (within-back tt (weight-within (s .args .i) (s .pre .0))) at (c .absolute .ensures))
+
+add-key-item : tie.Need-add-key-item
+add-key-item c =
+    let s = S (c .before) in
+    rw (price (c .before), within-back tt (counted-within (s .args .i) (s .pre .0) (s .args .p) (s .args .q) (s .pre .1)), size c) (within-sfits (lit< tt) (weighted-within (s .args .i) (s .pre .0) (s .args .p) (s .args .q) (s .pre .1)))
 
 key-item-requires-2 : tie.Need-key-item-requires-2
 key-item-requires-2 c κs = search needs
@@ -77,11 +83,11 @@ key-item-requires-2 c κs = search needs
 returns-2 : tie.Need-returns-2
 returns-2 c =
     let b = c .before in
-    let e = b .before .before .before in
-    let s = e .before .before .before .before in
-    let w = reduced-within (s .args .i) (s .pre .0) (s .args .p) (s .args .q) (s .pre .1) in
-    let t = back (b .absolute .result) (b .absolute .ok) ∙ (rw (difference s, within-back tt w) at (b .absolute .ensures)) in
-    rw (integer (e .before), weighs e) (rw t at (c .key-item2 .ensures))
+    let e = b .before .before in
+    let s = S (b .before) in
+    let i = s .args .i in
+    rw (integer (e .before), weighs e)
+    (rw (price (b .before), within-back tt (counted-within i (s .pre .0) (s .args .p) (s .args .q) (s .pre .1)), size b, within-back tt (weighted-within i (s .pre .0) (s .args .p) (s .args .q) (s .pre .1))) at (c .key-item2 .ensures))
 
 key-item-requires-3 : tie.Need-key-item-requires-3
 key-item-requires-3 c κs = search needs
@@ -96,10 +102,10 @@ branching-key-spec =
     is-integer-requires
     key-item-requires
     returns
-    mul-x
-    mul-x-2
-    sub-x
+    reduced-price-requires
+    mul-key-item
     absolute-requires
+    add-key-item
     key-item-requires-2
     returns-2
     key-item-requires-3

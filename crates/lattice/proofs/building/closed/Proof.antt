@@ -1,17 +1,19 @@
 -- `lattice::building::closed` meets its contract.
-use borrow.Author.Needs.{needs}
 use Rattle.arith.proofs.Parts.{within-back}
-use Rattle.arith.proofs.Words.{yes-lt}
 use Rattle.lattice.proofs.building.closed.Statement.{statement}
 use Rattle.lattice.proofs.building.closed.Tie as tie
 
 returns : tie.Need-returns
 returns c =
     let j = c .before .before .before .pre .joined in
-    record { stride-in = j .stride-in; slant-in = j .slant-in; gap-in = j .gap-in; gap≥1 = yes-lt (rw (within-back tt (j .gap-in)) at (c .if1 .taken)) }
+    let t = rw (within-back tt (j .gap-in)) at (c .if1 .taken) in
+    rw t
 
 returns-2 : tie.Need-returns-2
-returns-2 c = search needs
+returns-2 c =
+    let j = c .before .before .before .before .pre .joined in
+    let t = rw (within-back tt (j .gap-in)) at (c .before .if1 .left) in
+    rw (within-back tt (j .stride-in), within-back tt (j .slant-in), t)
 
 pub closed-spec : {M : Type 1} → statement M
 closed-spec = tie.close (tie.spec returns returns-2)

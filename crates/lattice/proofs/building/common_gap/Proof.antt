@@ -1,15 +1,15 @@
 -- `lattice::building::common_gap` meets its contract: a common divisor is no farther from zero.
-use mathlib.Core.Path.{_≡_}
+use mathlib.Core.Path.{_≡_, _∙_}
 use native.Mathlib.Omega.{arith}
 use borrow.Author.Needs.{needs}
 use lib.Dec.{lit<}
 use lib.IntN.{pos}
 use mir.Facts.{toZ-pos}
 use mir.Syntax.{w64}
-use mir.Val.{toZ}
 use Rattle.arith.specs.Within.{Within}
-use Rattle.arith.proofs.Parts.{zs, within-abs, within-more, within-sfits, within-back}
-use Rattle.lattice.proofs.Levels.{gcd-most}
+use Rattle.arith.proofs.Parts.{within-more, within-sfits, within-back}
+use Rattle.lattice.specs.Building.{commonGap}
+use Rattle.lattice.proofs.Levels.{common-within}
 use Rattle.lattice.proofs.building.common_gap.Statement.{statement}
 use Rattle.lattice.proofs.building.common_gap.Tie as tie
 
@@ -22,21 +22,21 @@ magnitude-requires-2 c κs = let s = c .before in rw (within-back tt (s .pre .1)
 gcd-requires : tie.Need-gcd-requires
 gcd-requires c κs = search needs
 
-near : (c : tie.After-gcd) → Within 100000000 (pos (c .gcd .result))
-near c =
+is : (c : tie.After-gcd) → pos (c .gcd .result) ≡ commonGap (c .before .before .before .args .g) (c .before .before .before .args .h)
+is c =
     let s = c .before .before .before in
     let e = rw (within-back tt (s .pre .0)) at (c .before .before .magnitude .ensures) in
     let f = rw (within-back tt (s .pre .1)) at (c .before .magnitude2 .ensures) in
-    record { above = rw (c .gcd .ensures, e, f) (gcd-most _ _ 100000000 (within-abs (s .args .g) (s .pre .0)) (within-abs (s .args .h) (s .pre .1))); below = omega arith }
+    rw (c .gcd .ensures, e, f)
+
+near : (c : tie.After-gcd) → Within 100000000 (pos (c .gcd .result))
+near c = let s = c .before .before .before in rw (is c) (common-within (s .args .g) (s .args .h) (s .pre .0) (s .pre .1))
 
 cast-result : tie.Need-cast-result
 cast-result c = within-sfits (lit< tt) (near c)
 
 returns : tie.Need-returns
-returns c =
-    let r = c .gcd .result in
-    let e : toZ w64 r ≡ pos r = toZ-pos w64 (omega (arith, near c .above)) in
-    rw e (near c, omega (arith, zs))
+returns c = toZ-pos w64 (omega (arith, near c .above)) ∙ is c
 
 pub common-gap-spec : {M : Type 1} → statement M
 common-gap-spec =

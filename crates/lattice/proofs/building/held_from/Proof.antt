@@ -2,16 +2,14 @@
 use mathlib.Core.Path.{_≡_, refl, sym, _∙_}
 use Prim.Native.Nat.{_-_}
 use native.Mathlib.Omega.{arith}
-use lib.IntN.{pos}
-use lib.ListN.{getD}
 use Rattle.arith.proofs.Parts.{within-back}
-use Rattle.lattice.specs.Building.{holdsBy, heldFrom}
+use Rattle.lattice.specs.Building.{holdsBy, entry, heldFrom}
 use Rattle.lattice.proofs.Levels.{held-step, held-stop, held-none}
 use Rattle.lattice.proofs.building.held_from.Statement.{statement}
 use Rattle.lattice.proofs.building.held_from.Tie as tie
 
 abbrev Inv-loop : tie.InvT-loop
-Inv-loop l d n weight price j₀ j = heldFrom l weight price j (n - j) ≡ heldFrom l weight price d (n - d)
+Inv-loop l d n weight price j₀ j = heldFrom l (entry weight) (entry price) j (n - j) ≡ heldFrom l (entry weight) (entry price) d (n - d)
 
 abbrev μ-loop : tie.MeasureT-loop
 μ-loop l d n weight price j₀ j = n - j
@@ -40,7 +38,7 @@ holds-requires c κs =
     rw (within-back tt w, within-back tt p) (record { tame = s .pre .0; stride≥1 = s .pre .1 .0; weight-in = w; price-in = p })
 
 -- what `holds` says of the item at j
-found : (c : tie.After-holds Inv-loop μ-loop) → c .holds .result ≡ holdsBy (c .before .before .before .before .before .args .l) (getD (c .before .before .before .before .before .args .t2) (c .before .before .before .before .loop .j) (pos 0)) (getD (c .before .before .before .before .before .args .t3) (c .before .before .before .before .loop .j) (pos 0))
+found : (c : tie.After-holds Inv-loop μ-loop) → c .holds .result ≡ holdsBy (c .before .before .before .before .before .args .l) (entry (c .before .before .before .before .before .args .t2) (c .before .before .before .before .loop .j)) (entry (c .before .before .before .before .before .args .t3) (c .before .before .before .before .loop .j))
 found c =
     let i = c .before .before .before .before in
     let s = i .before in
@@ -56,19 +54,19 @@ loop-again : tie.Need-loop-again Inv-loop μ-loop
 loop-again c =
     let i = c .before .before .before .before .before in
     let s = i .before in
-    held-step (s .args .l) (s .args .t2) (s .args .t3) (i .loop .j) (s .args .n) (omega arith) (sym (found (c .before)) ∙ c .if1 .taken) ∙ i .loop .inv
+    held-step (s .args .l) (entry (s .args .t2)) (entry (s .args .t3)) (i .loop .j) (s .args .n) (omega arith) (sym (found (c .before)) ∙ c .if1 .taken) ∙ i .loop .inv
 
 returns : tie.Need-returns Inv-loop μ-loop
 returns c =
     let i = c .before .before .before .before .before in
     let s = i .before in
-    sym (sym (i .loop .inv) ∙ held-stop (s .args .l) (s .args .t2) (s .args .t3) (i .loop .j) (s .args .n) (omega arith) (sym (found (c .before)) ∙ c .if1 .left))
+    sym (sym (i .loop .inv) ∙ held-stop (s .args .l) (entry (s .args .t2)) (entry (s .args .t3)) (i .loop .j) (s .args .n) (omega arith) (sym (found (c .before)) ∙ c .if1 .left))
 
 returns-2 : tie.Need-returns-2 Inv-loop μ-loop
 returns-2 c =
     let i = c .before in
     let s = i .before in
-    sym (sym (i .loop .inv) ∙ held-none (s .args .l) (s .args .t2) (s .args .t3) (i .loop .j) (s .args .n) (omega arith))
+    sym (sym (i .loop .inv) ∙ held-none (s .args .l) (entry (s .args .t2)) (entry (s .args .t3)) (i .loop .j) (s .args .n) (omega arith))
 
 pub held-from-spec : {M : Type 1} → statement M
 held-from-spec =

@@ -1,4 +1,4 @@
--- `lattice::building::reduced` meets its contract: what is left is lighter than what was taken.
+-- `lattice::building::reduced` meets its contract: the product and the difference, one by one.
 use mathlib.Core.Path.{_≡_}
 use native.Mathlib.Omega.{arith}
 use lib.Dec.{lit<}
@@ -7,12 +7,11 @@ use mir.Syntax.{w64}
 use mir.Val.{toZ, ofZ}
 use Rattle.arith.specs.Within.{Within}
 use Rattle.arith.specs.Division.{floorDiv}
-use Rattle.arith.proofs.Parts.{within-mul, within-sub, within-more, within-sfits, within-back}
-use Rattle.arith.proofs.Rounding.{floor-within}
+use Rattle.arith.proofs.Parts.{within-more, within-sfits, within-back}
 use Rattle.arith.proofs.Words.{back}
 use Rattle.lattice.specs.Building.{restOf}
-use Rattle.lattice.proofs.Levels.{rest-low, rest-high}
-use Rattle.lattice.proofs.Ranges.{nonzero, rest-within}
+use Rattle.lattice.proofs.Levels.{carried-within, reduced-within}
+use Rattle.lattice.proofs.Ranges.{nonzero}
 use Rattle.lattice.proofs.building.reduced.Statement.{statement}
 use Rattle.lattice.proofs.building.reduced.Tie as tie
 
@@ -20,10 +19,10 @@ abbrev Q : tie.Start → ℤ
 Q s = floorDiv (s .args .u .weight) (s .args .v .weight)
 
 product : (s : tie.Start) → Within 100000000000 (s .args .v .worth *ℤ Q s)
-product s = within-mul (s .pre .second .worth-in) (floor-within (s .args .u .weight) (s .args .v .weight) (s .pre .first .weight-in))
+product s = carried-within (s .args .u) (s .args .v) (s .args .g) (s .pre)
 
 worth : (s : tie.Start) → Within 100100000000 (s .args .u .worth -ℤ s .args .v .worth *ℤ Q s)
-worth s = within-sub (s .pre .first .worth-in) (product s)
+worth s = reduced-within (s .args .u) (s .args .v) (s .args .g) (s .pre)
 
 floor-div-requires : tie.Need-floor-div-requires
 floor-div-requires c κs =
@@ -67,11 +66,10 @@ left c =
 returns : tie.Need-returns
 returns c =
     let d = c .before in
-    let s = d .before .before .before .before .before .before .before .before in
-    let x = s .args .u .weight in
-    let a = s .args .v .weight in
-    rw (left d, back (c .tame .result) (c .tame .ok))
-    (record { weight-in = rest-within x a (s .pre .weight≥1) (s .pre .first .weight-in) (s .pre .second .weight-in); weight≥0 = rest-low x a (s .pre .weight≥1); worth-in = c .tame .ensures }, rest-high x a (s .pre .weight≥1))
+    let f = d .before .before .before .before .before in
+    let s = f .before .before .before in
+    let e = rw (multiple f, within-back tt (product s), within-back tt (s .pre .first .worth-in), within-back tt (worth s), within-back tt (s .pre .gap-in)) at (c .tame .ensures) in
+    rw (left d, back (c .tame .result) (c .tame .ok), e)
 
 pub reduced-spec : {M : Type 1} → statement M
 reduced-spec =

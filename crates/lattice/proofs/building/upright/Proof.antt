@@ -1,11 +1,8 @@
 -- `lattice::building::upright` meets its contract.
-use native.Mathlib.Omega.{arith}
 use lib.Dec.{lit<}
-use lib.IntN.{pos, negℤ}
-use lib.Signed.{_≤ℤ_}
+use lib.IntN.{negℤ}
 use Rattle.arith.specs.Within.{Within}
-use Rattle.arith.proofs.Parts.{zs, neg, zero-less, within-neg, within-more, within-sfits, within-back}
-use Rattle.arith.proofs.Words.{no-lt}
+use Rattle.arith.proofs.Parts.{zero-less, within-neg, within-sfits, within-back}
 use Rattle.lattice.proofs.building.upright.Statement.{statement}
 use Rattle.lattice.proofs.building.upright.Tie as tie
 
@@ -26,15 +23,13 @@ returns c =
     let s = c .before in
     let a = s .args .a in
     let k = rw (within-back tt (s .pre .0)) at (c .if1 .taken) in
-    let up : pos 0 ≤ℤ negℤ a = omega (arith, zs, neg a) in
-    rw (within-back tt (s .pre .0), within-back tt (s .pre .1), zero-less a, zero-less (s .args .c), within-back tt (weight s), within-back tt (worth s))
-    (record { weight-in = weight s; weight≥0 = up; worth-in = within-more (omega arith) (worth s) })
+    rw (within-back tt (s .pre .0), within-back tt (s .pre .1), zero-less a, zero-less (s .args .c), within-back tt (weight s), within-back tt (worth s), k)
 
 returns-2 : tie.Need-returns-2
 returns-2 c =
     let s = c .before in
     let k = rw (within-back tt (s .pre .0)) at (c .if1 .left) in
-    rw (within-back tt (s .pre .0), within-back tt (s .pre .1)) (record { weight-in = s .pre .0; weight≥0 = no-lt k; worth-in = within-more (omega arith) (s .pre .1) })
+    rw (within-back tt (s .pre .0), within-back tt (s .pre .1), k)
 
 pub upright-spec : {M : Type 1} → statement M
 upright-spec = tie.close (tie.spec sub-t4 sub-t5 returns returns-2)

@@ -7,6 +7,7 @@ use mir.Syntax.{w64}
 use mir.Val.{toZ}
 use mir.Facts.{toZ-pos}
 use borrow.Author.Needs.{needs}
+use borrow.Author.Tests.{lt-ltb, le-ltb}
 use Rattle.arith.proofs.Parts.{within-back}
 use Rattle.knapsack.specs.Records.{itemAt}
 use Rattle.tables.specs.Figures.{keyOf}
@@ -14,7 +15,7 @@ use Rattle.tables.specs.declared.Key.the-variants.{Filling}
 use Rattle.prepare.specs.Softening.{strideOf}
 use Rattle.prepare.proofs.Lists.{sorted-listing}
 use Rattle.prepare.proofs.Order.{columns-sized}
-use Rattle.prepare.proofs.Softness.{stride-small, softens-live, softens-idle, softens-none}
+use Rattle.prepare.proofs.Softness.{stride-small}
 use Rattle.prepare.proofs.softening.soft_of.Statement.{statement}
 use Rattle.prepare.proofs.softening.soft_of.Tie as tie
 
@@ -60,20 +61,28 @@ returns c =
     let l = t .before .before .before .before in
     let z = columns-sized (s .args .p) (s .args .t2) (s .pre .0) (s .pre .1) in
     let u = l .leading .result in
-    rw (up (t .before), within-back tt (z .rates-in u), within-back tt (z .sizes-in u))
-    (softens-live (s .args .p) (s .pre .0) (s .args .t2) (s .pre .1) u (l .leading .ensures) (t .if2 .taken))
+    record {
+      first = u;
+      leads = l .leading .ensures;
+      is = rw (up (t .before), within-back tt (z .rates-in u), within-back tt (z .sizes-in u), lt-ltb u (s .args .p .count) (t .before .before .if1 .taken), lt-ltb u (s .args .t2 .live) (t .if2 .taken));
+    }
 
 returns-2 : tie.Need-returns-2
 returns-2 c =
     let s = c .before .before .before .before .before .before in
     let l = c .before .before .before .before in
-    rw (up (c .before)) (softens-idle (s .args .p) (s .pre .0) (s .args .t2) (s .pre .1) (l .leading .result) (l .leading .ensures) (c .if2 .left))
+    let u = l .leading .result in
+    record { first = u; leads = l .leading .ensures; is = rw (up (c .before), lt-ltb u (s .args .p .count) (c .before .before .if1 .taken), le-ltb u (s .args .t2 .live) (c .if2 .left)) }
 
 no-soft-requires : tie.Need-no-soft-requires
 no-soft-requires c κs = search needs
 
 returns-3 : tie.Need-returns-3
-returns-3 c = let s = c .before .before .before .before .before in rw (c .no-soft .ensures) (softens-none (s .args .p) (s .args .t2))
+returns-3 c =
+    let s = c .before .before .before .before .before in
+    let l = c .before .before .before in
+    let u = l .leading .result in
+    record { first = u; leads = l .leading .ensures; is = rw (c .no-soft .ensures, le-ltb u (s .args .p .count) (c .before .if1 .left)) }
 
 pub soft-of-spec : {M : Type 1} → statement M
 soft-of-spec =
