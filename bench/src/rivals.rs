@@ -7,7 +7,6 @@ use std::fs::File;
 use std::io::{Read, Write};
 use std::path::{Path, PathBuf};
 use std::process::{Command, Stdio};
-use std::time::Instant;
 
 /// `Ours` is this program with the word `reply`.
 #[derive(Clone, Copy)]
@@ -33,11 +32,6 @@ pub fn reply() {
 fn value_of(text: &str) -> Option<f64> {
     let mut words = text.lines().next()?.strip_prefix("best ")?.split(' ');
     Some(words.next()?.parse::<f64>().ok()? / words.next()?.parse::<f64>().ok()?)
-}
-
-pub struct Run {
-    pub seconds: f64,
-    pub value: Option<f64>,
 }
 
 impl Solver {
@@ -71,8 +65,8 @@ impl Solver {
         command
     }
 
-    /// How long it takes, and the value that it names optimal, if it does.
-    pub fn solve(self, p: &Problem) -> Run {
+    /// The value that it names optimal, if it does.
+    pub fn solve(self, p: &Problem) -> Option<f64> {
         let file = |end: &str| std::env::temp_dir().join(format!("charge-bench-{}.{end}", std::process::id()));
         let (model, solution) = (file("lp"), file("sol"));
         let text = match self {
@@ -80,13 +74,10 @@ impl Solver {
             _ => model_text(p).into_bytes(),
         };
         std::fs::write(&model, text).expect("a temporary file");
-        let mut command = self.command(&model, &solution);
-        let began = Instant::now();
-        let ran = command.status();
-        let seconds = began.elapsed().as_secs_f64();
+        let ran = self.command(&model, &solution).status();
         let value = ran.ok().and_then(|_| self.value(&solution));
         let _ = (std::fs::remove_file(model), std::fs::remove_file(solution));
-        Run { seconds, value }
+        value
     }
 
     fn value(self, solution: &PathBuf) -> Option<f64> {

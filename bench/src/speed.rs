@@ -81,12 +81,12 @@ fn measure(p: &Problem, o: &Options, row: &mut Row) {
 fn measure_processes(solvers: &[Solver], problems: &[Problem]) -> Vec<Rivalry> {
     let mut results: Vec<Rivalry> = solvers.iter().map(|_| Rivalry::default()).collect();
     for p in problems {
-        let runs: Vec<rivals::Run> = solvers.iter().map(|s| s.solve(p)).collect();
-        let ours = runs[0].value;
-        for (run, result) in runs.iter().zip(&mut results) {
-            result.seconds.push(run.seconds);
-            match (run.value, ours) {
-                (Some(v), Some(w)) if run.seconds < rivals::LIMIT as f64 => result.right += ((v - w).abs() <= 1e-9 * w.abs()) as usize,
+        let runs: Vec<(Option<f64>, f64)> = solvers.iter().map(|s| timed(|| s.solve(p))).collect();
+        let ours = runs[0].0;
+        for (&(value, seconds), result) in runs.iter().zip(&mut results) {
+            result.seconds.push(seconds);
+            match (value, ours) {
+                (Some(v), Some(w)) if seconds < rivals::LIMIT as f64 => result.right += ((v - w).abs() <= 1e-9 * w.abs()) as usize,
                 _ => result.late += 1,
             }
         }
@@ -151,13 +151,13 @@ fn introduce(o: &Options, solvers: &[Solver]) {
         }
     }
     println!(
-        "ms: a whole process, from a file to a file: the median of the first {} sheets of the row, + if one was not done in {} s",
+        "ms: a whole process, from a problem to its solution in a file: the median of the first {} sheets of the row, + if one was not done in {} s",
         o.rival_sheets,
         rivals::LIMIT
     );
     let one = Problem { limit: 7, items: vec![draw::unit_item()] };
     for s in solvers {
-        let start = Rivalry { seconds: (0..9).map(|_| s.solve(&one).seconds).collect(), ..Default::default() };
+        let start = Rivalry { seconds: (0..9).map(|_| timed(|| s.solve(&one)).1).collect(), ..Default::default() };
         println!("{}: a sheet of one item takes {:.2} ms, the median of 9", s.name(), start.median() * 1e3);
     }
 }

@@ -17,12 +17,8 @@ use Rattle.search.specs.declared.Setting.{Setting}
 use Rattle.search.specs.declared.Path.{Path}
 use Rattle.search.specs.Search.{levelAt, spanned, fixedBy, startBy}
 use Rattle.search.specs.Ready.{ReadySetting, InsideTo}
-use Rattle.search.specs.Steps.{Long, Dived, Turnable, Turned}
+use Rattle.search.specs.Steps.{Long, LongPath, Dived, Turnable, Turned}
 use Rattle.search.proofs.Boxes.{at-same, at-other, fixed-cong, start-cong, start-in, fixed-sized}
-
-pub record LongPath (p : Path) : Type 0 where
-  pub place-long : length (p .place) ≡ 16
-  pub starts-long : length (p .starts) ≡ 16
 
 pub record Diving (s : Setting) (j : ℕ) (p q : Path) (e : Ends) (k : ℕ) : Type 0 where
   pub past : j ≤ k
@@ -32,9 +28,10 @@ pub record Diving (s : Setting) (j : ℕ) (p q : Path) (e : Ends) (k : ℕ) : Ty
   pub inside : InsideTo s k (at (q .place))
   pub kept : (i : ℕ) → i < j → (at (q .place) i ≡ at (p .place) i) × (at (q .starts) i ≡ at (p .starts) i)
   pub filled : (i : ℕ) → j ≤ i → i < k → (at (q .place) i ≡ startBy s (at (q .place)) i) × (at (q .starts) i ≡ at (q .place) i)
+  pub beyond : (i : ℕ) → k ≤ i → (at (q .place) i ≡ at (p .place) i) × (at (q .starts) i ≡ at (p .starts) i)
 
 pub diving-first : (s : Setting) (j : ℕ) (p : Path) (e : Ends) → j ≤ s .levels → LongPath p → e ≡ fixedBy s (at (p .place)) j → InsideTo s j (at (p .place)) → Diving s j p p e j
-diving-first s j p e l g h n = record { past = omega arith; top = l; long = g; ends-are = h; inside = n; kept = λ i m. (refl, refl); filled = λ i m n. absurd (omega arith) }
+diving-first s j p e l g h n = record { past = omega arith; top = l; long = g; ends-are = h; inside = n; kept = λ i m. (refl, refl); filled = λ i m n. absurd (omega arith); beyond = λ i m. (refl, refl) }
 
 -- the start of level k in the box e
 abbrev pub startIn : Setting → Ends → ℕ → ℤ
@@ -58,6 +55,7 @@ module _ (s : Setting) (r : ReadySetting s) (long : Long (s .ends)) (j : ℕ) (p
     inside = λ i m. at-level i m (ℕ-discrete i k);
     kept = λ i m. (other-place i (omega (arith, d .past)) ∙ d .kept i m .0, other-starts i (omega (arith, d .past)) ∙ d .kept i m .1);
     filled = λ i m n. filled-at i m n (ℕ-discrete i k);
+    beyond = λ i m. let h = d .beyond i (omega arith) in (other-place i (omega arith) ∙ h .0, other-starts i (omega arith) ∙ h .1);
   }
     where
       x : List ℤ
@@ -104,7 +102,7 @@ module _ (s : Setting) (r : ReadySetting s) (long : Long (s .ends)) (j : ℕ) (p
           (other-place i z ∙ h .0 ∙ start-cong s (at x) (at y) i (above i (omega arith)), other-starts i z ∙ h .1 ∙ sym (other-place i z))
 
   pub diving-done : (q : Path) (e : Ends) (k : ℕ) → s .levels ≤ k → Diving s j p q e k → Dived s j p q
-  diving-done q e k l d = record { kept = d .kept; filled = λ i m n. d .filled i m (omega arith) }
+  diving-done q e k l d = record { kept = d .kept; filled = λ i m n. d .filled i m (omega arith); beyond = λ i m. d .beyond i (omega (arith, d .top)); long = d .long }
 
 -- ---- turning at a level
 
@@ -125,6 +123,8 @@ module _ (s : Setting) (t : Path) (j : ℕ) (v : ℤ) (h : Turnable s t j v) (lo
     here = d .kept j (omega arith) .0 ∙ at-same (t .place) j v j-in;
     deeper = λ i l m. d .filled i (omega arith) m .0;
     starts = λ i l. go i l (decLt i (j + 1));
+    beyond = λ i l. let f = d .beyond i l in (f .0 ∙ at-other (t .place) j v i (omega (arith, h .level-in)), f .1);
+    long = d .long;
   }
     where
       go : (i : ℕ) → i < s .levels → Dec (i < j + 1) → at (r .starts) i ≡ startBy s (at (r .place)) i

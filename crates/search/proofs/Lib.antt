@@ -7,3 +7,4 @@ pub mod Mixing
 pub mod Settle
 pub mod Turns
 pub mod Finish
+pub mod Once

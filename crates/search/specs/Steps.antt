@@ -41,9 +41,16 @@ use Rattle.search.specs.Ready.{Moderate, ReadySetting, Inside}
 
 -- ---- going down
 
+-- the lists of a path have a place for each level
+pub record LongPath (p : Path) : Type 0 where
+  pub place-long : length (p .place) ≡ 16
+  pub starts-long : length (p .starts) ≡ 16
+
 pub record Dived (s : Setting) (j : ℕ) (p r : Path) : Type 0 where
   pub kept : (i : ℕ) → i < j → (at (r .place) i ≡ at (p .place) i) × (at (r .starts) i ≡ at (p .starts) i)
   pub filled : (i : ℕ) → j ≤ i → i < s .levels → (at (r .place) i ≡ startBy s (at (r .place)) i) × (at (r .starts) i ≡ at (r .place) i)
+  pub beyond : (i : ℕ) → s .levels ≤ i → (at (r .place) i ≡ at (p .place) i) × (at (r .starts) i ≡ at (p .starts) i)
+  pub long : LongPath r
 
 -- ---- looking
 
@@ -142,6 +149,8 @@ pub record Turned (s : Setting) (t : Path) (j : ℕ) (v : ℤ) (r : Path) : Type
   pub here : at (r .place) j ≡ v
   pub deeper : (i : ℕ) → j < i → i < s .levels → at (r .place) i ≡ startBy s (at (r .place)) i
   pub starts : (i : ℕ) → i < s .levels → at (r .starts) i ≡ startBy s (at (r .place)) i
+  pub beyond : (i : ℕ) → s .levels ≤ i → (at (r .place) i ≡ at (t .place) i) × (at (r .starts) i ≡ at (t .starts) i)
+  pub long : LongPath r
 
 abbrev pub WentOn : Setting → State → Option (ℕ × ℤ) → State → Type 0
 WentOn s q none r = (r .done ≡ true) × (r .path ≡ q .path)
@@ -159,9 +168,12 @@ pub record Stepped (s : Setting) (p : Pairs) (q r : State) : Type 0 where
 
 -- ---- a whole search
 
+abbrev pub origin : Path
+origin = record { place = replicate 16 (pos 0); starts = replicate 16 (pos 0) }
+
 -- at the first place, with no step taken and nothing found
 pub record Begun (s : Setting) (q : State) : Type 0 where
-  pub first : (d : ℕ) → d < s .levels → at (q .path .place) d ≡ startBy s (at (q .path .place)) d
+  pub first : Dived s 0 origin (q .path)
   pub nothing : q .best ≡ nobody
   pub no-steps : q .steps ≡ 0
   pub going : q .done ≡ false

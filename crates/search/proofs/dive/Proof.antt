@@ -6,9 +6,9 @@ use borrow.Author.Needs.{needs}
 use Rattle.arith.proofs.Words.{back}
 use Rattle.greedy.specs.Fill.{at}
 use Rattle.search.specs.Search.{levelAt}
-use Rattle.search.specs.Steps.{Long}
+use Rattle.search.specs.Steps.{Long, LongPath}
 use Rattle.search.proofs.Boxes.{item<16}
-use Rattle.search.proofs.Dives.{LongPath, Diving, startIn, diving-first, diving-sized, diving-step, diving-done}
+use Rattle.search.proofs.Dives.{Diving, startIn, diving-first, diving-sized, diving-step, diving-done}
 use Rattle.search.proofs.dive.Statement.{statement}
 use Rattle.search.proofs.dive.Tie as tie
 

@@ -31,7 +31,7 @@ loop-holds c =
     let d = c .before .dive in
     rw (c .no-incumbent .ensures) (
       going-first (s .args .s) (s .pre .setting) (long s) _ (d .result) 0 (d .ensures),
-      (0, record { first = λ i l. d .ensures .filled i (omega arith) l .0; nothing = refl; no-steps = refl; going = refl }),
+      (0, record { first = d .ensures; nothing = refl; no-steps = refl; going = refl }),
     )
 
 step-requires : tie.Need-step-requires Inv-loop μ-loop

@@ -1,7 +1,8 @@
 -- `search::turn` meets its contract.
 use native.Mathlib.Omega.{arith}
 use mir.Facts.{toZ-ofZ}
-use Rattle.search.proofs.Dives.{LongPath, turn-inside, turned-by}
+use Rattle.search.specs.Steps.{LongPath}
+use Rattle.search.proofs.Dives.{turn-inside, turned-by}
 use borrow.Author.Needs.{needs}
 use Rattle.search.proofs.turn.Statement.{statement}
 use Rattle.search.proofs.turn.Tie as tie

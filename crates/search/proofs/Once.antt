@@ -1,0 +1,195 @@
+-- A search has one end: what a look settles, a step and the states that follow from the first are determined.
+-- looked-once, step-once, after-once: there is one verdict, one next state, one state after so many steps.
+-- took-once: and so one state in which the search ends, with one number of steps.
+use mathlib.Core.Path.{_≡_, refl, sym, ap, ap₂, _∙_, subst}
+use mathlib.Core.Bool.{true, false}
+use mathlib.Core.List.{List, [], _∷_}
+use mathlib.Core.Logic.{_⊎_, inl, inr}
+use mathlib.Core.Option.{Option, none, some}
+use Prim.Native.Nat.{ℕ, zero, suc, _≤_, _<_}
+use native.Mathlib.Decide.{decLt, ℕ-discrete}
+use native.Mathlib.Omega.{arith}
+use lib.IntN.{ℤ}
+use lib.ListN.{length}
+use Rattle.arith.proofs.Parts.{impossible}
+use Rattle.greedy.specs.Fill.{at}
+use Rattle.places.specs.declared.Settled.{Settled}
+use Rattle.places.specs.declared.Settled.the-variants.{Run, Prefix}
+use Rattle.places.specs.Moves.{pastOf}
+use Rattle.search.specs.declared.Incumbent.{Incumbent}
+use Rattle.search.specs.declared.Pairs.{Pairs}
+use Rattle.search.specs.declared.Path.{Path}
+use Rattle.search.specs.declared.Setting.{Setting}
+use Rattle.search.specs.declared.State.{State}
+use Rattle.search.specs.Search.{startBy, Applies}
+use Rattle.search.specs.Steps.{LongPath, Dived, cutAt, Cut, Discarded, LookedAs, Turned, WentOn, countedBy, Stepped, origin, Begun, After, Took}
+use Rattle.search.proofs.Boxes.{start-cong}
+
+-- ---- lists with the same entries are equal
+
+list-once : (x y : List ℤ) → length x ≡ length y → ((i : ℕ) → at x i ≡ at y i) → x ≡ y
+list-once [] [] l h = refl
+list-once [] (b ∷ y) l h = absurd (omega (arith, l))
+list-once (a ∷ x) [] l h = absurd (omega (arith, l))
+list-once (a ∷ x) (b ∷ y) l h = ap₂ (λ (a : ℤ) (x : List ℤ). a ∷ x) (h 0) (list-once x y (omega (arith, l)) (λ i. h (suc i)))
+
+path-once : (p q : Path) → LongPath p → LongPath q → ((i : ℕ) → at (p .place) i ≡ at (q .place) i) → ((i : ℕ) → at (p .starts) i ≡ at (q .starts) i) → p ≡ q
+path-once p q l m h k = ap₂ (λ (x y : List ℤ). record { place = x; starts = y }) (list-once (p .place) (q .place) (l .place-long ∙ sym (m .place-long)) h) (list-once (p .starts) (q .starts) (l .starts-long ∙ sym (m .starts-long)) k)
+
+-- ---- a path is determined by its first amounts
+
+module _ (s : Setting) (P Q : ℕ → ℤ) (j : ℕ)
+    (first : (i : ℕ) → i < j → P i ≡ Q i)
+    (p-starts : (i : ℕ) → j ≤ i → i < s .levels → P i ≡ startBy s P i)
+    (q-starts : (i : ℕ) → j ≤ i → i < s .levels → Q i ≡ startBy s Q i)
+    (beyond : (i : ℕ) → s .levels ≤ i → P i ≡ Q i)
+  where
+  -- the first n amounts agree
+  agree-to : (n i : ℕ) → i < n → P i ≡ Q i
+  agree-to zero i h = absurd (omega arith)
+  agree-to (suc n) i h = go (decLt i n) (decLt n j) (decLt n (s .levels)) (agree-to n)
+    where
+      here : Dec (n < j) → Dec (n < s .levels) → ((i : ℕ) → i < n → P i ≡ Q i) → P n ≡ Q n
+      here (yes l) m ih = first n l
+      here (no l) (yes m) ih = p-starts n (omega arith) m ∙ start-cong s P Q n ih ∙ sym (q-starts n (omega arith) m)
+      here (no l) (no m) ih = beyond n (omega arith)
+
+      go : Dec (i < n) → Dec (n < j) → Dec (n < s .levels) → ((i : ℕ) → i < n → P i ≡ Q i) → P i ≡ Q i
+      go (yes l) a b ih = ih i l
+      go (no l) a b ih = let e : i ≡ n = omega arith in rw e (here a b ih)
+
+  agree : (i : ℕ) → P i ≡ Q i
+  agree i = agree-to (suc i) i (omega arith)
+
+dived-once : (s : Setting) (j : ℕ) (p r r′ : Path) → Dived s j p r → Dived s j p r′ → r ≡ r′
+dived-once s j p r r′ d d′ = path-once r r′ (d .long) (d′ .long) places (λ i. starts i (decLt i j) (decLt i (s .levels)))
+  where
+    places : (i : ℕ) → at (r .place) i ≡ at (r′ .place) i
+    places = agree s (at (r .place)) (at (r′ .place)) j (λ i l. d .kept i l .0 ∙ sym (d′ .kept i l .0)) (λ i l m. d .filled i l m .0) (λ i l m. d′ .filled i l m .0) (λ i l. d .beyond i l .0 ∙ sym (d′ .beyond i l .0))
+
+    starts : (i : ℕ) → Dec (i < j) → Dec (i < s .levels) → at (r .starts) i ≡ at (r′ .starts) i
+    starts i (yes l) m = d .kept i l .1 ∙ sym (d′ .kept i l .1)
+    starts i (no l) (yes m) = d .filled i (omega arith) m .1 ∙ places i ∙ sym (d′ .filled i (omega arith) m .1)
+    starts i (no l) (no m) = d .beyond i (omega arith) .1 ∙ sym (d′ .beyond i (omega arith) .1)
+
+turned-once : (s : Setting) (t : Path) (j : ℕ) (v : ℤ) (r r′ : Path) → Turned s t j v r → Turned s t j v r′ → r ≡ r′
+turned-once s t j v r r′ d d′ = path-once r r′ (d .long) (d′ .long) places (λ i. starts i (decLt i (s .levels)))
+  where
+    above : (i : ℕ) → i < suc j → Dec (i ≡ j) → at (r .place) i ≡ at (r′ .place) i
+    above i l (yes e) = rw e (d .here ∙ sym (d′ .here))
+    above i l (no e) = d .above i (omega (arith, e)) ∙ sym (d′ .above i (omega (arith, e)))
+
+    places : (i : ℕ) → at (r .place) i ≡ at (r′ .place) i
+    places = agree s (at (r .place)) (at (r′ .place)) (suc j) (λ i l. above i l (ℕ-discrete i j)) (λ i l m. d .deeper i (omega arith) m) (λ i l m. d′ .deeper i (omega arith) m) (λ i l. d .beyond i l .0 ∙ sym (d′ .beyond i l .0))
+
+    starts : (i : ℕ) → Dec (i < s .levels) → at (r .starts) i ≡ at (r′ .starts) i
+    starts i (yes m) = d .starts i m ∙ start-cong s (at (r .place)) (at (r′ .place)) i (λ k l. places k) ∙ sym (d′ .starts i m)
+    starts i (no m) = d .beyond i (omega arith) .1 ∙ sym (d′ .beyond i (omega arith) .1)
+
+-- ---- what a look settles
+
+-- of two levels, one comes first or they are one
+data Order (a b : ℕ) : Type 0 where
+  before : a < b → Order a b
+  same : a ≡ b → Order a b
+  after : b < a → Order a b
+
+order : (a b : ℕ) → Order a b
+order a b = go (decLt a b) (ℕ-discrete a b)
+  where
+    go : Dec (a < b) → Dec (a ≡ b) → Order a b
+    go (yes l) e = before l
+    go (no l) (yes e) = same e
+    go (no l) (no e) = after (omega (arith, e))
+
+module _ (s : Setting) (p : Pairs) (t : Path) (b : Incumbent) where
+  clash : (d : ℕ) → cutAt s t b d ≡ true → cutAt s t b d ≡ false → ⊥
+  clash d h k = impossible (sym k ∙ h)
+
+  cut-once : (d d′ : ℕ) → Cut s p t b d → Cut s p t b d′ → d ≡ d′
+  cut-once d d′ c c′ = go (order d d′)
+    where
+      go : Order d d′ → d ≡ d′
+      go (before l) = absurd (clash d (c .cut) (c′ .passed .uncut d l))
+      go (same e) = e
+      go (after l) = absurd (clash d′ (c′ .cut) (c .passed .uncut d′ l))
+
+  not-both : (d n : ℕ) → Cut s p t b d → Discarded s p t b n → ⊥
+  not-both d n c h = go (order d (h .level))
+    where
+      go : Order d (h .level) → ⊥
+      go (before l) = clash d (c .cut) (h .passed .uncut d l)
+      go (same e) = clash (h .level) (subst (λ k. cutAt s t b k ≡ true) e (c .cut)) (h .uncut)
+      go (after l) = c .passed .unpaired (h .level) l (h .paired)
+
+  discarded-once : (n n′ : ℕ) → Discarded s p t b n → Discarded s p t b n′ → n ≡ n′
+  discarded-once n n′ h h′ = go (order (h .level) (h′ .level))
+    where
+      go : Order (h .level) (h′ .level) → n ≡ n′
+      go (before l) = absurd (h′ .passed .unpaired (h .level) l (h .paired))
+      go (same e) = h .last ∙ ap suc e ∙ sym (h′ .last)
+      go (after l) = absurd (h .passed .unpaired (h′ .level) l (h′ .paired))
+
+  pub looked-once : (c c′ : Incumbent) (w w′ : Settled) → LookedAs s p t b c w → LookedAs s p t b c′ w′ → (w ≡ w′) × (c ≡ c′)
+  looked-once c c′ (Run d) (Run d′) (e, h) (e′, h′) = (ap Run (cut-once d d′ h h′), e ∙ sym e′)
+  looked-once c c′ (Run d) (Prefix n) (e, h) (inl k) = absurd (clash d (h .cut) (k .passed .uncut d (h .level-in)))
+  looked-once c c′ (Run d) (Prefix n) (e, h) (inr (e′, k)) = absurd (not-both d n h k)
+  looked-once c c′ (Prefix n) (Run d) (inl k) (e, h) = absurd (clash d (h .cut) (k .passed .uncut d (h .level-in)))
+  looked-once c c′ (Prefix n) (Run d) (inr (e′, k)) (e, h) = absurd (not-both d n h k)
+  looked-once c c′ (Prefix n) (Prefix n′) (inl h) (inl k) = (ap Prefix (h .all ∙ sym (k .all)), h .better ∙ sym (k .better))
+  looked-once c c′ (Prefix n) (Prefix n′) (inl h) (inr (e, k)) = absurd (h .passed .unpaired (k .level) (k .level-in) (k .paired))
+  looked-once c c′ (Prefix n) (Prefix n′) (inr (e, k)) (inl h) = absurd (h .passed .unpaired (k .level) (k .level-in) (k .paired))
+  looked-once c c′ (Prefix n) (Prefix n′) (inr (e, h)) (inr (e′, k)) = (ap Prefix (discarded-once n n′ h k), e ∙ sym e′)
+
+-- ---- steps
+
+module _ (s : Setting) (p : Pairs) where
+  went-once : (q r r′ : State) (o : Option (ℕ × ℤ)) → WentOn s q o r → WentOn s q o r′ → (r .path ≡ r′ .path) × (r .done ≡ r′ .done)
+  went-once q r r′ none (d, e) (d′, e′) = (e ∙ sym e′, d ∙ sym d′)
+  went-once q r r′ (some m) (d, h) (d′, h′) = (turned-once s (q .path) (m .0) (m .1) (r .path) (r′ .path) h h′, d ∙ sym d′)
+
+  state-once : (r r′ : State) → r .path ≡ r′ .path → r .best ≡ r′ .best → r .steps ≡ r′ .steps → r .done ≡ r′ .done → r ≡ r′
+  state-once r r′ a b c d = λ i. record { path = a i; best = b i; steps = c i; done = d i }
+
+  pub step-once : (q r r′ : State) → Stepped s p q r → Stepped s p q r′ → r ≡ r′
+  step-once q r r′ h k = state-once r r′ (w .0) (l .1) (h .counted ∙ sym (k .counted)) (w .1)
+    where
+      l : (h .verdict ≡ k .verdict) × (r .best ≡ r′ .best)
+      l = looked-once s p (q .path) (q .best) (r .best) (r′ .best) (h .verdict) (k .verdict) (h .looked) (k .looked)
+
+      lead : Settled → Option (ℕ × ℤ)
+      lead w = pastOf w (at (s .low)) (at (s .high)) (at (q .path .starts)) (at (q .path .place))
+
+      w : (r .path ≡ r′ .path) × (r .done ≡ r′ .done)
+      w = went-once q r r′ (lead (k .verdict)) (subst (λ v. WentOn s q (lead v) r) (l .0) (h .went)) (k .went)
+
+  begun-once : (q q′ : State) → Begun s q → Begun s q′ → q ≡ q′
+  begun-once q q′ h k = state-once q q′ (dived-once s 0 origin (q .path) (q′ .path) (h .first) (k .first)) (h .nothing ∙ sym (k .nothing)) (h .no-steps ∙ sym (k .no-steps)) (h .going ∙ sym (k .going))
+
+  pub after-once : (n : ℕ) (q q′ : State) → After s p n q → After s p n q′ → q ≡ q′
+  unfolding After
+  after-once zero q q′ h k = begun-once q q′ h k
+  after-once (suc n) r r′ (q, h) (q′, k) = step-once q′ r r′ (subst (λ z. Stepped s p z r) (after-once n q q′ (h .0) (k .0)) (h .1 .1)) (k .1 .1)
+
+  -- before its last step a search goes on
+  earlier : (m n : ℕ) → n < m → (r : State) → After s p m r → (q : State) × (After s p n q × (q .done ≡ false))
+  unfolding After
+  earlier zero n l r h = absurd (omega arith)
+  earlier (suc m) n l r (q, h) = go (ℕ-discrete n m) (λ k. earlier m n k q (h .0))
+    where
+      go : Dec (n ≡ m) → (n < m → (q : State) × (After s p n q × (q .done ≡ false))) → (q : State) × (After s p n q × (q .done ≡ false))
+      go (yes e) ih = (q, (subst (λ i. After s p i q) (sym e) (h .0), h .1 .0))
+      go (no e) ih = ih (omega (arith, e))
+
+  not-after : (n m : ℕ) → n < m → (r r′ : State) → After s p n r → r .done ≡ true → After s p m r′ → ⊥
+  not-after n m l r r′ h e k =
+      let q = earlier m n l r′ k in
+      impossible (sym (q .1 .1) ∙ ap (λ (x : State). x .done) (after-once n (q .0) r (q .1 .0) h) ∙ e)
+
+  pub took-once : (r r′ : State) → Took s p r → Took s p r′ → r ≡ r′
+  took-once r r′ h k = go (order (h .count) (k .count))
+    where
+      go : Order (h .count) (k .count) → r ≡ r′
+      go (before l) = absurd (not-after (h .count) (k .count) l r r′ (h .after) (h .over) (k .after))
+      go (same e) = after-once (k .count) r r′ (subst (λ n. After s p n r) e (h .after)) (k .after)
+      go (after l) = absurd (not-after (k .count) (h .count) l r′ r (k .after) (k .over) (h .after))
