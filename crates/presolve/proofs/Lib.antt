@@ -1,0 +1,4 @@
+pub mod Tests
+pub mod Exchange
+pub mod Presolves
+pub mod Answers

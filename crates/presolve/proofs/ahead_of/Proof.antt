@@ -1,0 +1,13 @@
+-- `presolve::ahead_of` meets its contract.
+use mir.Facts.{toZ-ofZ}
+use Rattle.presolve.proofs.ahead_of.Statement.{statement}
+use Rattle.presolve.proofs.ahead_of.Tie as tie
+
+returns : tie.Need-returns
+returns c = rw (rw (toZ-ofZ (c .before .fits .m)) at (c .if1 .taken))
+
+returns-2 : tie.Need-returns-2
+returns-2 c = rw (rw (toZ-ofZ (c .before .fits .m)) at (c .if1 .left))
+
+pub ahead-of-spec : {M : Type 1} → statement M
+ahead-of-spec = tie.close (tie.spec returns returns-2)
