@@ -1,13 +1,13 @@
 -- An answer of the presolved problem answers the problem.
 -- presolved-feasible: its feasible points are feasible. presolved-exchange: a feasible point of the problem has one of it that is worth the
 -- same. answers-presolved: so all answers stay true.
-use mathlib.Core.Path.{_≡_, refl, sym, ap, _∙_, subst, subst₂}
+use mathlib.Core.Path.{_≡_, refl, ap, _∙_, subst, subst₂}
 use Prim.Native.Nat.{ℕ, zero, suc, _≤_, _<_}
 use native.Mathlib.Nat.{mul-le-mul}
 use native.Mathlib.Omega.{arith}
-use lib.IntN.{ℤ, natAbs, _*ℤ_}
+use lib.IntN.{ℤ, natAbs}
 use Rattle.arith.proofs.Fractions.{Over, over-frac, over-≤, over-own, over-scale, over-total, common}
-use Rattle.arith.specs.Fractions.{Frac, int, frac, _+ᶠ_, _·ᶠ_, _≤ᶠ_, _<ᶠ_, _≈ᶠ_, total}
+use Rattle.arith.specs.Fractions.{Frac, frac, _+ᶠ_, _·ᶠ_, _≤ᶠ_, _<ᶠ_, _≈ᶠ_, total}
 use Rattle.arith.specs.Gcd.{Divides}
 use Rattle.arith.specs.Sum.{Each}
 use Rattle.arith.specs.declared.Fraction.{Fraction}

@@ -1,6 +1,7 @@
 -- One item takes over from another that is a multiple of it: the other goes to a place v where it can be fixed, and the point weighs the
 -- same, is worth the same and stays feasible.
 --   exchanged D N i j m v   N with item j at v, and item i raised by m times what item j gave up
+-- keeps-more, keeps-rest: both items keep their marks and bounds. exchanged-rests, exchanged-sum, exchanged-feasible: what is kept.
 use mathlib.Core.Bool.{Bool, true, false}
 use mathlib.Core.Logic.{_≢_, _⊎_, inl, inr}
 use mathlib.Core.Path.{_≡_, refl, sym, ap, _∙_, subst}
@@ -22,8 +23,8 @@ use Rattle.knapsack.specs.declared.Bound.the-variants.{Absent, At}
 use Rattle.knapsack.specs.declared.Mark.{Mark}
 use Rattle.knapsack.specs.declared.Mark.the-variants.{Integer, Continuous}
 use Rattle.knapsack.specs.declared.Item.{Item}
-use Rattle.presolve.specs.Presolve.{ahead, behind}
-use Rattle.presolve.proofs.Tests.{Multiple, Rests}
+use Rattle.presolve.specs.Presolve.{stopLowered, stopRaised}
+use Rattle.presolve.proofs.Tests.{Multiple, Rests, RestsBeside}
 
 -- ---- signs of a product
 
@@ -89,7 +90,7 @@ module _ (D : ℕ) where
       go (w, e) = subst (λ z. KeepsMarkᴰ D Integer (k +ℤ z)) (whole m w v ∙ ap (λ z. m *ℤ (z -ℤ v *ℤ pos D)) (sym e)) (mark-step D Integer k (m *ℤ (w -ℤ v)) p)
 
   -- with what y gives up, x keeps its mark and bounds
-  pub keeps-more : (m v : ℤ) (x y : Item) (k n : ℤ) → Multiple m x y → Rests (ahead m x) (behind m x) (y .lower) (y .upper) v → Keepsᴰ D x k → Keepsᴰ D y n → Keepsᴰ D x (k +ℤ m *ℤ (n -ℤ v *ℤ pos D))
+  pub keeps-more : (m v : ℤ) (x y : Item) (k n : ℤ) → Multiple m x y → RestsBeside m x y v → Keepsᴰ D x k → Keepsᴰ D y n → Keepsᴰ D x (k +ℤ m *ℤ (n -ℤ v *ℤ pos D))
   keeps-more m v x y k n f g p q = record {
     marked = mark-stays (x .mark) (y .mark) k n m v (f .marks) (p .marked) (q .marked);
     above = lower-stays (x .lower) k r (low (ltZ m (pos 0)) refl (g .lowered) (g .raised)) (p .above);
@@ -102,13 +103,13 @@ module _ (D : ℕ) where
       r : ℤ
       r = m *ℤ t
 
-      low : (b : Bool) → ltZ m (pos 0) ≡ b → (y .upper ≡ At v) ⊎ (ahead m x ≡ Absent) → (y .lower ≡ At v) ⊎ (behind m x ≡ Absent) → (pos 0 ≤ℤ r) ⊎ (x .lower ≡ Absent)
+      low : (b : Bool) → ltZ m (pos 0) ≡ b → (y .upper ≡ At v) ⊎ (stopLowered m x ≡ Absent) → (y .lower ≡ At v) ⊎ (stopRaised m x ≡ Absent) → (pos 0 ≤ℤ r) ⊎ (x .lower ≡ Absent)
       low true e (inl u) l = inl (fall-fall m t (lt-le (yes-lt e)) (none-above (y .upper) n v u (q .below)))
       low true e (inr u) l = inr (rw e at u)
       low false e u (inl l) = inl (*ℤ-nonneg m t (no-lt e) (none-below (y .lower) n v l (q .above)))
       low false e u (inr l) = inr (rw e at l)
 
-      high : (b : Bool) → ltZ m (pos 0) ≡ b → (y .upper ≡ At v) ⊎ (ahead m x ≡ Absent) → (y .lower ≡ At v) ⊎ (behind m x ≡ Absent) → (r ≤ℤ pos 0) ⊎ (x .upper ≡ Absent)
+      high : (b : Bool) → ltZ m (pos 0) ≡ b → (y .upper ≡ At v) ⊎ (stopLowered m x ≡ Absent) → (y .lower ≡ At v) ⊎ (stopRaised m x ≡ Absent) → (r ≤ℤ pos 0) ⊎ (x .upper ≡ Absent)
       high true e u (inl l) = inl (fall-rise m t (lt-le (yes-lt e)) (none-below (y .lower) n v l (q .above)))
       high true e u (inr l) = inr (rw e at l)
       high false e (inl u) l = inl (rise-fall m t (no-lt e) (none-above (y .upper) n v u (q .below)))
@@ -153,7 +154,7 @@ module _ (D : ℕ) (N : ℕ → ℤ) (i j : ℕ) (m v : ℤ) (ne : j ≢ i) wher
       cancel : (x m n w s : ℤ) → (s +ℤ x *ℤ (m *ℤ (n -ℤ w))) +ℤ (m *ℤ x) *ℤ (w -ℤ n) ≡ s
       cancel = split _ (λ a b. split4 _ (λ c e f g h i k l. simp zed (omega arith)))
 
-pub exchanged-feasible : (s : Instance) (i j : ℕ) (m v : ℤ) → i < s .count → j < s .count → j ≢ i → Multiple m (s .item i) (s .item j) → Rests (ahead m (s .item i)) (behind m (s .item i)) (s .item j .lower) (s .item j .upper) v
+pub exchanged-feasible : (s : Instance) (i j : ℕ) (m v : ℤ) → i < s .count → j < s .count → j ≢ i → Multiple m (s .item i) (s .item j) → RestsBeside m (s .item i) (s .item j) v
     → (D : ℕ) (N : ℕ → ℤ) → Feasibleᴰ s D N → Feasibleᴰ s D (exchanged D N i j m v)
 exchanged-feasible s i j m v l h ne f g D N p = record {
   keeps = each-bump (λ k. Keepsᴰ D (s .item k)) (bump N i r) j (v *ℤ pos D -ℤ N j) (s .count)

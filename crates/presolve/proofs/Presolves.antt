@@ -1,33 +1,34 @@
 -- What presolving keeps.
 --   Presolves p q       q is p with narrower bounds, and every feasible point of p has one of q that is worth the same
--- presolves-refl, presolves-trans: so it is after any number of such steps. fixed-presolves: one item is fixed.
--- presolved-presolves: the whole presolve; fixed-by-presolves, around-presolves: its parts.
+-- presolves-refl, presolves-trans: so it is after any number of such steps. fixed-item: one item is fixed.
+-- presolved-presolves: the whole presolve; beside-presolves, tried-presolves, fixed-by-presolves, around-presolves: its parts.
+-- presolved-next: a turn of the loop over the items that take over.
 use mathlib.Core.Bool.{Bool, true, false, cond}
 use mathlib.Core.List.{List, [], _∷_}
 use mathlib.Core.Logic.{_≢_}
-use mathlib.Core.Path.{_≡_, refl, sym, ap, ap₂, _∙_, subst, subst₂}
+use mathlib.Core.Path.{_≡_, refl, sym, ap, _∙_, subst}
 use Prim.Native.Nat.{ℕ, zero, suc, _-_, _≤_, _<_}
 use native.Mathlib.Decide.{ℕ-discrete, decLt}
 use native.Mathlib.Omega.{arith}
 use borrow.Author.Tests.{eqb-false}
 use lib.Dec.{eqb}
-use lib.IntN.{ℤ, pos, natAbs, _*ℤ_}
+use lib.IntN.{ℤ, pos, _*ℤ_}
 use lib.ListN.{length, getD, set}
 use lib.Seq.{getD-set-same, getD-set-other, set-getD}
 use lib.Signed.{_≤ℤ_, ≤ℤ-refl}
 use Rattle.arith.proofs.Integers.{≤ℤ-trans, ≤ℤ-reflexive, times-≤}
 use Rattle.arith.proofs.Sums.{sum-cong}
 use Rattle.arith.specs.Sum.{sum}
-use Rattle.knapsack.proofs.Common.{KeepsMarkᴰ, KeepsLowerᴰ, KeepsUpperᴰ, Keepsᴰ, weighsᴰ, valueᴰ, Feasibleᴰ}
-use Rattle.knapsack.specs.Meaning.{instanceOf, weights, prices}
+use Rattle.knapsack.proofs.Common.{KeepsLowerᴰ, KeepsUpperᴰ, Keepsᴰ, valueᴰ, Feasibleᴰ}
+use Rattle.knapsack.specs.Meaning.{instanceOf, prices}
 use Rattle.knapsack.specs.Records.{blank, itemAt, InOrder, ItemInRange, InRange}
 use Rattle.knapsack.specs.declared.Bound.{Bound}
 use Rattle.knapsack.specs.declared.Bound.the-variants.{Absent, At}
 use Rattle.knapsack.specs.declared.Item.{Item}
 use Rattle.knapsack.specs.declared.Problem.{Problem}
-use Rattle.presolve.specs.Presolve.{takesOver, factor, multiple, parallel, ahead, behind, restOf, fixedAt, fixedTo, beside, withItem, tried, fixedBy, fixedAround, presolvedFrom, presolved}
+use Rattle.presolve.specs.Presolve.{takesOver, factor, parallel, restOf, fixedAt, fixedTo, beside, withItem, tried, fixedBy, fixedAround, presolvedFrom, presolved}
 use Rattle.presolve.proofs.Exchange.{exchanged, exchanged-rests, exchanged-sum, exchanged-feasible}
-use Rattle.presolve.proofs.Tests.{Multiple, multiple-true, Rests, rests}
+use Rattle.presolve.proofs.Tests.{Multiple, multiple-true, Rests, RestsBeside, rests}
 
 pub record Presolves (p q : Problem) : Type 0 where
   pub count : q .count ≡ p .count
@@ -87,7 +88,7 @@ fixed-in-range : (y : Item) (a b : Bound) (v : ℤ) → Rests a b (y .lower) (y 
 fixed-in-range y a b v g r = record { weight-in = r .weight-in; price-in = r .price-in; lower-in = g .small; upper-in = g .small; in-order = ≤ℤ-refl v }
 
 module _ (p : Problem) (i j : ℕ) (m v : ℤ) (i-in : i < p .count) (j-in : j < p .count) (ne : j ≢ i)
-    (f : Multiple m (itemAt p i) (itemAt p j)) (g : Rests (ahead m (itemAt p i)) (behind m (itemAt p i)) (itemAt p j .lower) (itemAt p j .upper) v)
+    (f : Multiple m (itemAt p i) (itemAt p j)) (g : RestsBeside m (itemAt p i) (itemAt p j) v)
     (has : j < length (p .items)) where
   abbrev y : Item
   y = itemAt p j
@@ -203,7 +204,6 @@ from-presolves p (suc n) r h =
     let f = around-presolves p n r (omega arith) in
     presolves-trans p (fixedAround p n) (presolvedFrom (fixedAround p n) n) f (from-presolves (fixedAround p n) n (f .in-range) (omega (arith, f .count)))
 
--- a turn of the loop
 pub presolved-next : (p : Problem) (i : ℕ) → 1 ≤ i → presolvedFrom p i ≡ presolvedFrom (fixedAround p (i - 1)) (i - 1)
 unfolding presolvedFrom
 presolved-next p zero h = absurd (omega arith)

@@ -1,10 +1,12 @@
 -- What the tests say.
 --   Multiple m x y      y is m times x, and whole if x is
 --   Rests a b l u v     an item with the bounds l and u can be fixed at v, where another meets a as it is lowered and b as it is raised
--- same-true: equal numbers. multiple-true, rests: what it means that the code finds a multiple, and a place to fix it at.
+--   RestsBeside m x y v   y, m times x, can be fixed at v, where x takes over
+-- same-true, same-self, equal-bits: the test of two numbers. takes-over-weighs: an item that takes over has a weight.
+-- multiple-true, rests: what is found to be a multiple is one, and what is found as its place is one.
 use mathlib.Core.Bool.{Bool, true, false, cond}
 use mathlib.Core.Logic.{_⊎_, inl, inr}
-use mathlib.Core.Path.{_≡_, refl, sym, ap, subst}
+use mathlib.Core.Path.{_≡_, refl, sym, ap}
 use Prim.Native.Nat.{ℕ, _≤_}
 use native.Mathlib.Omega.{arith}
 use lib.IntN.{ℤ, pos, natAbs, _*ℤ_}
@@ -22,7 +24,7 @@ use Rattle.knapsack.specs.declared.Bound.the-variants.{Absent, At}
 use Rattle.knapsack.specs.declared.Mark.{Mark}
 use Rattle.knapsack.specs.declared.Mark.the-variants.{Integer, Continuous}
 use Rattle.knapsack.specs.declared.Item.{Item}
-use Rattle.presolve.specs.Presolve.{same, takesOver, suits, multiple, ahead, behind, openTo, orElse, restBy, restOf}
+use Rattle.presolve.specs.Presolve.{same, takesOver, suits, multiple, stopLowered, stopRaised, restBy, restOf}
 
 -- of two tests in a row both hold
 both : (a b : Bool) → cond a b false ≡ true → (a ≡ true) × (b ≡ true)
@@ -83,6 +85,9 @@ pub record Rests (a b l u : Bound) (v : ℤ) : Type 0 where
   pub raised : (l ≡ At v) ⊎ (b ≡ Absent)
   pub small : natAbs v ≤ 10000
 
+abbrev pub RestsBeside : ℤ → Item → Item → ℤ → Type 0
+RestsBeside m x y v = Rests (stopLowered m x) (stopRaised m x) (y .lower) (y .upper) v
+
 at-injective : {v w : ℤ} → At v ≡ At w → v ≡ w
 at-injective h = cc
 
@@ -106,6 +111,6 @@ rests-by (At w) Absent l (At u) v sl su o h = rw (← at-injective h) (at-upper 
 rests-by (At w) Absent l Absent v sl su o h = absurd (not-at h)
 rests-by (At w) (At z) l u v sl su o h = absurd (not-at h)
 
-pub rests : (m : ℤ) (x y : Item) (v : ℤ) → ItemInRange y → restOf m x y ≡ At v → Rests (ahead m x) (behind m x) (y .lower) (y .upper) v
+pub rests : (m : ℤ) (x y : Item) (v : ℤ) → ItemInRange y → restOf m x y ≡ At v → RestsBeside m x y v
 unfolding restOf
-rests m x y v r h = rests-by (ahead m x) (behind m x) (y .lower) (y .upper) v (r .lower-in) (r .upper-in) (r .in-order) h
+rests m x y v r h = rests-by (stopLowered m x) (stopRaised m x) (y .lower) (y .upper) v (r .lower-in) (r .upper-in) (r .in-order) h

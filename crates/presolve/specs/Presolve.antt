@@ -1,20 +1,22 @@
--- Parallel columns: an item whose weight and price are one multiple of another's can be fixed, where the other lacks the bounds that
--- would stop it from taking over.
---   isOpen x            x lacks a bound
+-- Parallel columns: an item y whose weight and price are one multiple of another item's, x, is fixed where no bound stops x from
+-- taking over what y gives up.
+--   isAbsent b          the bound is none;  isOpen x: x lacks a bound
 --   same a b            the two numbers are equal
---   takesOver x         x may take over from others: it is open and weighs something
+--   takesOver x         x may take over from others: it weighs something and lacks a bound
 --   factor x y          how many times x is in y, by weight
---   suits x y           y's amounts are whole if x's have to be
---   multiple m x y      y is m times x, and x can take over any amount of it
+--   suits s t           by their marks: amounts are whole under t if they have to be under s
+--   multiple m x y      y is m times x, by weight and by price, and x's mark suits y's
 --   parallel x y        y is a multiple of x
---   ahead m x, behind m x   the bound that x meets by m units for each unit that y is lowered, raised
+--   stopLowered m x     the bound that x meets as it takes over m units for each that y is lowered;  stopRaised m x: as it gives them up
 --   openTo w b          b, if w is absent
 --   orElse a b          the first of two bounds that is present
---   restOf m x y        where y can be fixed: at its lower bound, else at its upper, else at 0; absent if nowhere
+--   restOf m x y        where y can be fixed: at its lower bound, else at its upper, else at 0; absent if nowhere;  restBy: by the bounds
 --   fixedAt v y         y with both bounds at v;  fixedTo b y: at b, if b is present
 --   beside x y          y, fixed if x can take over from it
+--   withItem p j y      p with y at place j
 --   tried p i j         p with item j beside item i
 --   fixedBy p i n       p with the first n items beside item i
+--   fixedAround p i     p with all items beside item i, if that takes over
 --   presolvedFrom p n   p with all items beside each of the first n, the last of these first
 --   presolved p         p with all items beside each
 use mathlib.Core.Bool.{Bool, true, false, cond}
@@ -59,11 +61,11 @@ multiple m x y = cond (same (m *ℤ x .weight) (y .weight)) (cond (same (m *ℤ 
 abbrev pub parallel : Item → Item → Bool
 parallel x y = multiple (factor x y) x y
 
-abbrev pub ahead : ℤ → Item → Bound
-ahead m x = cond (ltZ m (pos 0)) (x .lower) (x .upper)
+abbrev pub stopLowered : ℤ → Item → Bound
+stopLowered m x = cond (ltZ m (pos 0)) (x .lower) (x .upper)
 
-abbrev pub behind : ℤ → Item → Bound
-behind m x = cond (ltZ m (pos 0)) (x .upper) (x .lower)
+abbrev pub stopRaised : ℤ → Item → Bound
+stopRaised m x = cond (ltZ m (pos 0)) (x .upper) (x .lower)
 
 abbrev pub openTo : Bound → Bound → Bound
 openTo Absent b = b
@@ -73,12 +75,12 @@ abbrev pub orElse : Bound → Bound → Bound
 orElse Absent b = b
 orElse (At v) b = At v
 
--- lowered as far as it goes, else raised; if x has no bound ahead or behind and y none at all, any amount will do
+-- where neither bound of x stops it and y has none, y may be anywhere
 abbrev pub restBy : Bound → Bound → Bound → Bound → Bound
 restBy a b l u = orElse (openTo a l) (orElse (openTo b u) (openTo a (openTo b (At (pos 0)))))
 
 unfoldable pub restOf : ℤ → Item → Item → Bound
-restOf m x y = restBy (ahead m x) (behind m x) (y .lower) (y .upper)
+restOf m x y = restBy (stopLowered m x) (stopRaised m x) (y .lower) (y .upper)
 
 abbrev pub fixedAt : ℤ → Item → Item
 fixedAt v y = record { mark = y .mark; weight = y .weight; price = y .price; lower = At v; upper = At v }

@@ -1,6 +1,6 @@
 // Presolve: items that are multiples of one another, parallel columns, are fixed where another item can take over what they give up,
-// so that a search does not go along rows of points of equal value. Nothing is lost: proofs/Exchange.
-// proofs/Answers: an answer of the presolved problem answers the problem.
+// so that a search does not go along rows of points of equal value. Nothing is lost: proofs/Exchange, presolved-presolves.
+// An answer of the presolved problem answers the problem: proofs/Answers, answers-presolved.
 use arith::floor_div;
 use knapsack::Bound;
 use knapsack::Item;
@@ -11,7 +11,7 @@ ghost use Prim.Native.Nat.{_<_};
 ghost use lib.IntN.{pos, _*ℤ_};
 ghost use Rattle.arith.specs.Within.{Within};
 ghost use Rattle.knapsack.specs.Records.{itemAt, ItemInRange, InRange};
-ghost use Rattle.presolve.specs.Presolve.{isAbsent, isOpen, same, takesOver, suits, multiple, ahead, behind, openTo, orElse, restOf, fixedTo, beside, withItem, tried, fixedBy, fixedAround, presolved};
+ghost use Rattle.presolve.specs.Presolve.{isAbsent, isOpen, same, takesOver, suits, multiple, stopLowered, stopRaised, openTo, orElse, restOf, fixedTo, beside, withItem, tried, fixedBy, fixedAround, presolved};
 
 fn is_absent(b: Bound) -> bool
     ensures { λ r. ⌜ r ≡ isAbsent b ⌝ }
@@ -87,15 +87,15 @@ fn is_multiple(m: i64, x: Item, y: Item) -> bool
 }
 
 // The bound that x meets as y is lowered.
-fn ahead_of(m: i64, x: Item) -> Bound
-    ensures { λ r. ⌜ r ≡ ahead m x ⌝ }
+fn stop_lowered(m: i64, x: Item) -> Bound
+    ensures { λ r. ⌜ r ≡ stopLowered m x ⌝ }
 {
     if m < 0 { x.lower } else { x.upper }
 }
 
 // The bound that x meets as y is raised.
-fn behind_of(m: i64, x: Item) -> Bound
-    ensures { λ r. ⌜ r ≡ behind m x ⌝ }
+fn stop_raised(m: i64, x: Item) -> Bound
+    ensures { λ r. ⌜ r ≡ stopRaised m x ⌝ }
 {
     if m < 0 { x.upper } else { x.lower }
 }
@@ -124,8 +124,8 @@ fn rest_of(m: i64, x: Item, y: Item) -> Bound
 {
     let l = y.lower;
     let u = y.upper;
-    let a = ahead_of(m, x);
-    let b = behind_of(m, x);
+    let a = stop_lowered(m, x);
+    let b = stop_raised(m, x);
     let any = open_to(a, open_to(b, Bound::At(0)));
     or_else(open_to(a, l), or_else(open_to(b, u), any))
 }
@@ -146,7 +146,7 @@ fn fixed_to(b: Bound, y: Item) -> Item
     }
 }
 
-// y, fixed if x can take over from it: proofs/Exchange, beside-presolves.
+// y, fixed if x can take over from it: proofs/Presolves, beside-presolves.
 fn fix_beside(x: Item, y: Item) -> Item
     requires { ⌜ (x .weight ≡ pos 0 → ⊥) × (ItemInRange x × ItemInRange y) ⌝ }
     ensures { λ r. ⌜ r ≡ beside x y ⌝ }

@@ -8,11 +8,11 @@ use Rattle.presolve.specs.Presolve.{openTo, orElse, restOf}
 use Rattle.presolve.proofs.rest_of.Statement.{statement}
 use Rattle.presolve.proofs.rest_of.Tie as tie
 
-ahead-of-requires : tie.Need-ahead-of-requires
-ahead-of-requires c κs = search needs
+stop-lowered-requires : tie.Need-stop-lowered-requires
+stop-lowered-requires c κs = search needs
 
-behind-of-requires : tie.Need-behind-of-requires
-behind-of-requires c κs = search needs
+stop-raised-requires : tie.Need-stop-raised-requires
+stop-raised-requires c κs = search needs
 
 open-to-requires : tie.Need-open-to-requires
 open-to-requires c κs = search needs
@@ -46,8 +46,8 @@ returns c =
     let x = s .args .x in
     let y = s .args .y in
     let m = toZ-ofZ (s .fits .m) in
-    let a = rw m at (g .ahead-of .ensures) in
-    let b = rw m at (h .behind-of .ensures) in
+    let a = rw m at (g .stop-lowered .ensures) in
+    let b = rw m at (h .stop-raised .ensures) in
     let any = n .open-to2 .ensures ∙ ap₂ openTo a (i .open-to .ensures ∙ ap (λ w. openTo w (At (pos 0))) b) in
     let low = l .open-to3 .ensures ∙ ap (λ w. openTo w (y .lower)) a in
     let high = u .open-to4 .ensures ∙ ap (λ w. openTo w (y .upper)) b in
@@ -57,8 +57,8 @@ pub rest-of-spec : {M : Type 1} → statement M
 rest-of-spec =
     tie.close
     (tie.spec
-    ahead-of-requires
-    behind-of-requires
+    stop-lowered-requires
+    stop-raised-requires
     open-to-requires
     open-to-requires-2
     open-to-requires-3
