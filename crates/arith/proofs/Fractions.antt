@@ -3,7 +3,7 @@
 --   Common n x      a divisor that serves the first n of the fractions x
 -- over-…: sums, multiples and orders of fractions are those of the numerators over D.
 -- common: there is such a divisor.
-use mathlib.Core.Path.{_≡_, sym, ap, ap₂, _∙_, subst, subst₂}
+use mathlib.Core.Path.{_≡_, refl, sym, ap, ap₂, _∙_, subst, subst₂}
 use mathlib.Core.Logic.{_↔_, _⊎_, inl, inr}
 use Prim.Native.Nat.{ℕ, zero, suc, _+_, _*_, _≤_, _<_}
 use native.Mathlib.Omega.{arith}
@@ -15,6 +15,11 @@ use Rattle.arith.specs.Sum.{sum, Each, pick}
 use Rattle.arith.specs.Fractions.{Frac, int, frac, _+ᶠ_, _·ᶠ_, _≤ᶠ_, _<ᶠ_, _≈ᶠ_, total}
 use Rattle.arith.proofs.Integers.{split, split2, zed, ≤ℤ-or-<, times-≤, times-≤-back, times-≡-back}
 use Rattle.arith.proofs.Sums.{pick-ind}
+
+-- only the first n fractions matter
+pub total-cong : (n : ℕ) (f g : ℕ → Frac) → Each n (λ k. f k ≡ g k) → total n f ≡ total n g
+total-cong zero f g e = refl
+total-cong (suc n) f g e = ap (λ x. x +ᶠ f n) (total-cong n f g (λ k h. e k (omega arith))) ∙ ap (λ y. total n g +ᶠ y) (e n (omega arith))
 
 -- x = n / D
 pub record Over (D : ℕ) (x : Frac) (n : ℤ) : Type 0 where

@@ -2,9 +2,10 @@
 // The theorems about the meaning that every crate above cites are in proofs/.
 use arith::Fraction;
 ghost use mathlib.Core.Path.{_≡_};
-ghost use Prim.Native.Nat.{_≤_};
+ghost use Prim.Native.Nat.{_≤_, _<_};
 ghost use lib.IntN.{pos, natAbs};
 ghost use lib.Signed.{_≤ℤ_};
+ghost use Rattle.knapsack.specs.Items.{isAbsent, isOpen, withItem};
 ghost use Rattle.knapsack.specs.Records.{blank, emptyProblem, itemAt, outside, badBound, badFigure, crossed, failing, someItem, refuse, verdict};
 
 // A bound of an item (01: an item that is not listed has no such bound).
@@ -204,4 +205,37 @@ pub fn refused(number: u64) -> Verdict
         number: number,
         line: 0,
     })
+}
+
+// ---- items
+
+pub fn is_absent(b: Bound) -> bool
+    ensures { λ r. ⌜ r ≡ isAbsent b ⌝ }
+{
+    match b {
+        Bound::Absent => true,
+        Bound::At(_) => false,
+    }
+}
+
+// Whether an item lacks a bound.
+pub fn is_open(x: Item) -> bool
+    ensures { λ r. ⌜ r ≡ isOpen x ⌝ }
+{
+    let l = x.lower;
+    let u = x.upper;
+    if is_absent(l) {
+        return true;
+    }
+    is_absent(u)
+}
+
+// The problem with an item stored.
+pub fn with_item(p: Problem, j: usize, x: Item) -> Problem
+    requires { ⌜ j < 16 ⌝ }
+    ensures { λ r. ⌜ r ≡ withItem p j x ⌝ }
+{
+    let mut q = p;
+    q.items[j] = x;
+    q
 }

@@ -3,7 +3,7 @@
 --   Cornered s d a    a shows the light ends of the box and the steps d, and no value
 --   Walked p n        n steps were taken by the search of p
 --   Counts p a n      n steps were taken for the answer a
---   Solves p r        r is the answer of p, with the steps of its search
+--   Decides p r       r is the answer of p, with the steps of its search;  Solves p r: with those of the presolved problem
 --   Best s x a        a shows the relaxation of the place x and its value in lowest terms, and no steps
 use mathlib.Core.Path.{_≡_}
 use mathlib.Core.List.{List}
@@ -26,6 +26,7 @@ use Rattle.knapsack.specs.declared.Problem.{Problem}
 use Rattle.pairing.specs.Tables.{PairsOf}
 use Rattle.prepare.specs.Narrowing.{spanOf}
 use Rattle.prepare.specs.Prepared.{PreparedAt}
+use Rattle.presolve.specs.Presolve.{presolved}
 use Rattle.search.specs.declared.Pairs.{Pairs}
 use Rattle.search.specs.declared.Setting.{Setting}
 use Rattle.search.specs.declared.State.{State}
@@ -86,6 +87,11 @@ CountsAs (kind.Refused f) p n = ⊥
 abbrev pub Counts : Problem → Answer → ℕ → Type 0
 Counts p a n = CountsAs (a .kind) p n
 
-pub record Solves (p : Problem) (r : Solved) : Type 0 where
+pub record Decides (p : Problem) (r : Solved) : Type 0 where
   pub answers : Answers (instanceOf p) (r .answer)
   pub counts : Counts p (r .answer) (r .steps)
+
+-- the search is that of the presolved problem
+pub record Solves (p : Problem) (r : Solved) : Type 0 where
+  pub answers : Answers (instanceOf p) (r .answer)
+  pub counts : Counts (presolved p) (r .answer) (r .steps)

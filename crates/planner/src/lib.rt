@@ -17,6 +17,7 @@ use pairing::pairs_of;
 use prepare::narrowed;
 use prepare::prepare;
 use prepare::reach_of;
+use presolve::presolve;
 use rays::find_ray;
 use search::Setting;
 use search::fixed;
@@ -28,7 +29,7 @@ ghost use Rattle.greedy.specs.Sized.{Sized};
 ghost use Rattle.knapsack.specs.Records.{InRange};
 ghost use Rattle.knapsack.specs.Meaning.{bare, Planned};
 ghost use Rattle.search.specs.Ready.{ReadySetting, Inside};
-ghost use Rattle.planner.specs.Outcomes.{Joinable, Cornered, Best, Solves};
+ghost use Rattle.planner.specs.Outcomes.{Joinable, Cornered, Best, Decides, Solves};
 
 // A value as one number of parts.
 fn joined(v: Mixed) -> i64
@@ -98,11 +99,11 @@ pub struct Solved {
     pub steps: u64,
 }
 
-// The answer of a problem in range. No search is needed where its lightest point is too heavy, or where it has a ray; else one finds a
+// The answer of a problem in range as it stands. No search is needed where its lightest point is too heavy, or where it has a ray; else one finds a
 // place, for the lightest point is feasible: see proofs/Outcomes (must-find).
-pub fn solve(p: Problem) -> Solved
+fn decide(p: Problem) -> Solved
     requires { ⌜ InRange p ⌝ }
-    ensures { λ r. ⌜ Solves p r ⌝ }
+    ensures { λ r. ⌜ Decides p r ⌝ }
 {
     let s = prepare(p);
     let f = begin(s.cols, s.ends);
@@ -132,6 +133,15 @@ fn with_steps(a: Answer, n: u64) -> Solved
         answer: a,
         steps: n,
     }
+}
+
+// The answer of a problem in range: that of the problem with its parallel items fixed.
+pub fn solve(p: Problem) -> Solved
+    requires { ⌜ InRange p ⌝ }
+    ensures { λ r. ⌜ Solves p r ⌝ }
+{
+    let q = presolve(p);
+    decide(q)
 }
 
 // The planner's reply to any record.

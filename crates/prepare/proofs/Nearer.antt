@@ -22,6 +22,7 @@ use Rattle.arith.proofs.Words.{yes-lt, no-lt, le-no}
 use Rattle.knapsack.proofs.Common.{Feasibleᴰ, Optimalᴰ}
 use Rattle.knapsack.proofs.Reach.{NoRay, AroundAt, Open, RangesAt, Reaches, shutAt, reach-empty-at, reach-optimal-at}
 use Rattle.knapsack.specs.Meaning.{Instance, instanceOf}
+use Rattle.knapsack.specs.Items.{isAbsent, isOpen}
 use Rattle.knapsack.specs.Records.{itemAt, BoundInRange, ItemInRange, InRange}
 use Rattle.knapsack.specs.declared.Bound.the-variants.{Absent, At}
 use Rattle.knapsack.specs.declared.Bound.{Bound}
@@ -32,7 +33,7 @@ use Rattle.search.specs.Ready.{Mild}
 use Rattle.search.specs.Search.{levelAt}
 use Rattle.search.specs.declared.Setting.{Setting}
 use Rattle.tables.specs.Figures.{endOr}
-use Rattle.prepare.specs.Narrowing.{larger, boundSize, isAbsent, isOpen, openWeight, grownBy, mostOf, ownBound, leadBy, burdenOf, reachOf, spanBy, spanOf, clampTo, Narrowed, Small}
+use Rattle.prepare.specs.Narrowing.{larger, boundSize, openWeight, grownBy, mostOf, ownBound, leadBy, burdenOf, reachOf, spanBy, spanOf, clampTo, Narrowed, Small}
 use Rattle.prepare.specs.declared.Reach.{Reach}
 use Rattle.prepare.specs.Prepared.{PreparedAt, Prepared}
 

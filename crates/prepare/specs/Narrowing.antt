@@ -7,13 +7,14 @@
 --   clampTo r x       x, or the nearest of -r and r
 --   Narrowed s r t    t is s with every item's ends clamped to its span
 use mathlib.Core.Path.{_≡_}
-use mathlib.Core.Bool.{Bool, true, false, cond}
+use mathlib.Core.Bool.{cond}
 use Prim.Native.Nat.{ℕ, zero, suc, _+_, _*_, _/_, _≤_, _<_}
 use lib.Dec.{ltb}
 use lib.IntN.{ℤ, pos, negℤ, natAbs}
 use lib.ListN.{length}
 use lib.Signed.{ltZ}
 use Rattle.greedy.specs.Fill.{at, weightOf}
+use Rattle.knapsack.specs.Items.{isOpen}
 use Rattle.knapsack.specs.Records.{itemAt}
 use Rattle.knapsack.specs.declared.Bound.the-variants.{Absent, At}
 use Rattle.knapsack.specs.declared.Bound.{Bound}
@@ -30,14 +31,6 @@ larger a b = cond (ltb a b) b a
 abbrev pub boundSize : Bound → ℕ
 boundSize Absent = 0
 boundSize (At v) = natAbs v
-
-abbrev pub isAbsent : Bound → Bool
-isAbsent Absent = true
-isAbsent (At v) = false
-
--- an item that lacks a bound
-abbrev pub isOpen : Item → Bool
-isOpen i = cond (isAbsent (i .lower)) true (isAbsent (i .upper))
 
 abbrev pub openWeight : Item → ℕ
 openWeight i = cond (isOpen i) (natAbs (i .weight)) 0

@@ -7,6 +7,7 @@ use greedy::Ends;
 use knapsack::Bound;
 use knapsack::Item;
 use knapsack::Problem;
+use knapsack::is_open;
 use search::Setting;
 ghost use mathlib.Core.Path.{_≡_};
 ghost use Prim.Native.Nat.{ℕ, _*_, _≤_, _<_};
@@ -15,7 +16,7 @@ ghost use Rattle.arith.specs.Within.{Within};
 ghost use Rattle.greedy.specs.Fill.{at, place};
 ghost use Rattle.knapsack.specs.Records.{ItemInRange, BoundInRange, InRange};
 ghost use Rattle.search.specs.Ready.{ReadySetting};
-ghost use Rattle.prepare.specs.Narrowing.{larger, boundSize, isAbsent, isOpen, openWeight, grownBy, mostOf, leadBy, burdenOf, reachOf, spanBy, clampBy, clampTo, Narrowed, Small};
+ghost use Rattle.prepare.specs.Narrowing.{larger, boundSize, openWeight, grownBy, mostOf, leadBy, burdenOf, reachOf, spanBy, clampBy, clampTo, Narrowed, Small};
 
 fn larger_of(a: u64, b: u64) -> u64
     ensures { λ r. ⌜ r ≡ larger a b ⌝ }
@@ -32,26 +33,6 @@ fn bound_size(b: Bound) -> u64
         Bound::Absent => 0,
         Bound::At(v) => magnitude(v),
     }
-}
-
-fn is_absent(b: Bound) -> bool
-    ensures { λ r. ⌜ r ≡ isAbsent b ⌝ }
-{
-    match b {
-        Bound::Absent => true,
-        Bound::At(_) => false,
-    }
-}
-
-fn is_open(i: Item) -> bool
-    ensures { λ r. ⌜ r ≡ isOpen i ⌝ }
-{
-    let l = i.lower;
-    let u = i.upper;
-    if is_absent(l) {
-        return true;
-    }
-    is_absent(u)
 }
 
 // The weight of an item that lacks a bound.

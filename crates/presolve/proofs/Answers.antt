@@ -6,7 +6,7 @@ use Prim.Native.Nat.{ℕ, zero, suc, _≤_, _<_}
 use native.Mathlib.Nat.{mul-le-mul}
 use native.Mathlib.Omega.{arith}
 use lib.IntN.{ℤ, natAbs}
-use Rattle.arith.proofs.Fractions.{Over, over-frac, over-≤, over-own, over-scale, over-total, common}
+use Rattle.arith.proofs.Fractions.{Over, over-frac, over-≤, over-own, over-scale, over-total, total-cong, common}
 use Rattle.arith.specs.Fractions.{Frac, frac, _+ᶠ_, _·ᶠ_, _≤ᶠ_, _<ᶠ_, _≈ᶠ_, total}
 use Rattle.arith.specs.Gcd.{Divides}
 use Rattle.arith.specs.Sum.{Each}
@@ -19,10 +19,6 @@ use Rattle.knapsack.specs.declared.Kind.{Kind}
 use Rattle.knapsack.specs.declared.Kind.the-variants as kind
 use Rattle.knapsack.specs.declared.Problem.{Problem}
 use Rattle.presolve.proofs.Presolves.{Presolves}
-
-total-cong : (n : ℕ) (f g : ℕ → Frac) → Each n (λ k. f k ≡ g k) → total n f ≡ total n g
-total-cong zero f g e = refl
-total-cong (suc n) f g e = ap (λ x. x +ᶠ f n) (total-cong n f g (λ k h. e k (omega arith))) ∙ ap (λ y. total n g +ᶠ y) (e n (omega arith))
 
 -- a fraction of the same value is as low
 as-low : {D : ℕ} {x y : Frac} {n : ℤ} (z : Frac) → 1 ≤ D → Over D x n → Over D y n → y ≤ᶠ z → x ≤ᶠ z

@@ -26,7 +26,8 @@ use Rattle.knapsack.specs.declared.Bound.{Bound}
 use Rattle.knapsack.specs.declared.Bound.the-variants.{Absent, At}
 use Rattle.knapsack.specs.declared.Item.{Item}
 use Rattle.knapsack.specs.declared.Problem.{Problem}
-use Rattle.presolve.specs.Presolve.{takesOver, factor, parallel, restOf, fixedAt, fixedTo, beside, withItem, tried, fixedBy, fixedAround, presolvedFrom, presolved}
+use Rattle.knapsack.specs.Items.{withItem}
+use Rattle.presolve.specs.Presolve.{takesOver, factor, parallel, restOf, fixedAt, fixedTo, beside, tried, fixedBy, fixedAround, presolvedFrom, presolved}
 use Rattle.presolve.proofs.Exchange.{exchanged, exchanged-rests, exchanged-sum, exchanged-feasible}
 use Rattle.presolve.proofs.Tests.{Multiple, multiple-true, Rests, RestsBeside, rests}
 

@@ -1,6 +1,5 @@
 -- Parallel columns: an item y whose weight and price are one multiple of another item's, x, is fixed where no bound stops x from
 -- taking over what y gives up.
---   isAbsent b          the bound is none;  isOpen x: x lacks a bound
 --   same a b            the two numbers are equal
 --   takesOver x         x may take over from others: it weighs something and lacks a bound
 --   factor x y          how many times x is in y, by weight
@@ -13,7 +12,6 @@
 --   restOf m x y        where y can be fixed: at its lower bound, else at its upper, else at 0; absent if nowhere;  restBy: by the bounds
 --   fixedAt v y         y with both bounds at v;  fixedTo b y: at b, if b is present
 --   beside x y          y, fixed if x can take over from it
---   withItem p j y      p with y at place j
 --   tried p i j         p with item j beside item i
 --   fixedBy p i n       p with the first n items beside item i
 --   fixedAround p i     p with all items beside item i, if that takes over
@@ -23,9 +21,9 @@ use mathlib.Core.Bool.{Bool, true, false, cond}
 use Prim.Native.Nat.{ℕ, zero, suc}
 use lib.Dec.{eqb}
 use lib.IntN.{ℤ, pos, _*ℤ_}
-use lib.ListN.{set}
 use lib.Signed.{ltZ}
 use Rattle.arith.specs.Division.{floorDiv}
+use Rattle.knapsack.specs.Items.{isOpen, withItem}
 use Rattle.knapsack.specs.Records.{itemAt}
 use Rattle.knapsack.specs.declared.Bound.{Bound}
 use Rattle.knapsack.specs.declared.Bound.the-variants.{Absent, At}
@@ -33,13 +31,6 @@ use Rattle.knapsack.specs.declared.Mark.{Mark}
 use Rattle.knapsack.specs.declared.Mark.the-variants.{Integer, Continuous}
 use Rattle.knapsack.specs.declared.Item.{Item}
 use Rattle.knapsack.specs.declared.Problem.{Problem}
-
-abbrev pub isAbsent : Bound → Bool
-isAbsent Absent = true
-isAbsent (At v) = false
-
-abbrev pub isOpen : Item → Bool
-isOpen x = cond (isAbsent (x .lower)) true (isAbsent (x .upper))
 
 abbrev pub same : ℤ → ℤ → Bool
 same a b = cond (ltZ a b) false (cond (ltZ b a) false true)
@@ -91,9 +82,6 @@ fixedTo (At v) y = fixedAt v y
 
 unfoldable pub beside : Item → Item → Item
 beside x y = cond (parallel x y) (fixedTo (restOf (factor x y) x y) y) y
-
-abbrev pub withItem : Problem → ℕ → Item → Problem
-withItem p j y = record { items = set (p .items) j y; count = p .count; capacity = p .capacity }
 
 unfoldable pub tried : Problem → ℕ → ℕ → Problem
 tried p i j = cond (eqb j i) p (withItem p j (beside (itemAt p i) (itemAt p j)))

@@ -6,32 +6,14 @@ use knapsack::Bound;
 use knapsack::Item;
 use knapsack::Mark;
 use knapsack::Problem;
+use knapsack::is_open;
+use knapsack::with_item;
 ghost use mathlib.Core.Path.{_≡_};
 ghost use Prim.Native.Nat.{_<_};
 ghost use lib.IntN.{pos, _*ℤ_};
 ghost use Rattle.arith.specs.Within.{Within};
 ghost use Rattle.knapsack.specs.Records.{itemAt, ItemInRange, InRange};
-ghost use Rattle.presolve.specs.Presolve.{isAbsent, isOpen, same, takesOver, suits, multiple, stopLowered, stopRaised, openTo, orElse, restOf, fixedTo, beside, withItem, tried, fixedBy, fixedAround, presolved};
-
-fn is_absent(b: Bound) -> bool
-    ensures { λ r. ⌜ r ≡ isAbsent b ⌝ }
-{
-    match b {
-        Bound::Absent => true,
-        Bound::At(_) => false,
-    }
-}
-
-fn is_open(x: Item) -> bool
-    ensures { λ r. ⌜ r ≡ isOpen x ⌝ }
-{
-    let l = x.lower;
-    let u = x.upper;
-    if is_absent(l) {
-        return true;
-    }
-    is_absent(u)
-}
+ghost use Rattle.presolve.specs.Presolve.{same, takesOver, suits, multiple, stopLowered, stopRaised, openTo, orElse, restOf, fixedTo, beside, tried, fixedBy, fixedAround, presolved};
 
 fn equal(a: i64, b: i64) -> bool
     ensures { λ r. ⌜ r ≡ same a b ⌝ }
@@ -161,16 +143,6 @@ fn fix_beside(x: Item, y: Item) -> Item
     y
 }
 
-// The problem with an item stored.
-fn with(p: Problem, j: usize, y: Item) -> Problem
-    requires { ⌜ j < 16 ⌝ }
-    ensures { λ r. ⌜ r ≡ withItem p j y ⌝ }
-{
-    let mut q = p;
-    q.items[j] = y;
-    q
-}
-
 // The problem with item j beside item i.
 fn fix_one(p: Problem, i: usize, j: usize) -> Problem
     requires { ⌜ InRange p × ((i < p .count) × ((j < p .count) × (itemAt p i .weight ≡ pos 0 → ⊥))) ⌝ }
@@ -182,7 +154,7 @@ fn fix_one(p: Problem, i: usize, j: usize) -> Problem
     let x = p.items[i];
     let y = p.items[j];
     let z = fix_beside(x, y);
-    with(p, j, z)
+    with_item(p, j, z)
 }
 
 // The problem with all items beside item i.

@@ -27,7 +27,8 @@ use Rattle.knapsack.proofs.Reach.{Way, fore, aft, turn, Free, NoRay}
 use Rattle.rays.specs.declared.Direction.{Direction}
 use Rattle.rays.specs.declared.Ray.{Ray}
 use Rattle.rays.specs.declared.Ray.the-variants.{None, Single, Pair}
-use Rattle.rays.specs.Directions.{wayOf, stop, isAbsent, along, directionOf, DirectionInRange, gains, gain, pays, isRay, orElse, first, firstOf, partnerAt, rayAs, rayFrom, rayOf, Directs}
+use Rattle.knapsack.specs.Items.{isAbsent}
+use Rattle.rays.specs.Directions.{wayOf, stop, along, directionOf, DirectionInRange, gains, gain, pays, isRay, orElse, first, firstOf, partnerAt, rayAs, rayFrom, rayOf, Directs}
 
 -- ---- directions
 

@@ -1,7 +1,7 @@
 -- The directions in which a problem's amounts may go, and the scan of them for a ray: steps on one or two items that
 -- meet no bound, weigh nothing or less together, and are worth something (01: unbounded).
 --   wayOf u             direction u is item u / 2, forward if u is even, so that an item with no bounds has two
---   stop w i            the bound that item i meets that way; isAbsent b: it is none
+--   stop w i            the bound that item i meets that way
 --   along w i           item i going that way: whether no bound stops it, and what a unit weighs and is worth
 --   directionOf p u     the same by the number of the direction; DirectionInRange: its figures are an accepted problem's
 --   gains d             no bound stops d, and it is worth something
@@ -22,9 +22,9 @@ use lib.IntN.{ℤ, pos, negℤ, natAbs, _+ℤ_, _*ℤ_}
 use lib.ListN.{replicate, set}
 use lib.Signed.{ltZ}
 use Rattle.knapsack.specs.declared.Bound.{Bound}
-use Rattle.knapsack.specs.declared.Bound.the-variants.{Absent, At}
 use Rattle.knapsack.specs.declared.Item.{Item}
 use Rattle.knapsack.specs.declared.Problem.{Problem}
+use Rattle.knapsack.specs.Items.{isAbsent}
 use Rattle.knapsack.specs.Records.{itemAt}
 use Rattle.knapsack.proofs.Reach.{Way, fore, aft, turn}
 use Rattle.rays.specs.declared.Direction.{Direction}
@@ -39,10 +39,6 @@ wayOf u = cond (eqb (u % 2) 0) fore aft
 abbrev pub stop : Way → Item → Bound
 stop fore i = i .upper
 stop aft i = i .lower
-
-abbrev pub isAbsent : Bound → Bool
-isAbsent Absent = true
-isAbsent (At b) = false
 
 abbrev pub along : Way → Item → Direction
 along w i = record { free = isAbsent (stop w i); weight = turn w (i .weight); price = turn w (i .price) }

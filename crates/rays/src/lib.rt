@@ -4,12 +4,13 @@
 use knapsack::Bound;
 use knapsack::Item;
 use knapsack::Problem;
+use knapsack::is_absent;
 ghost use mathlib.Core.Path.{_≡_};
 ghost use Prim.Native.Nat.{_*_, _<_};
 ghost use Rattle.arith.specs.Within.{Within};
 ghost use Rattle.knapsack.specs.Records.{InRange};
 ghost use Rattle.knapsack.proofs.Reach.{turn};
-ghost use Rattle.rays.specs.Directions.{wayOf, stop, isAbsent, directionOf, DirectionInRange, gains, gain, pays, isRay, firstOf, partnerAt, rayFrom, rayOf, Directs, still, move, stepsBy};
+ghost use Rattle.rays.specs.Directions.{wayOf, stop, directionOf, DirectionInRange, gains, gain, pays, isRay, firstOf, partnerAt, rayFrom, rayOf, Directs, still, move, stepsBy};
 ghost use Rattle.rays.specs.Rays.{RayFound};
 
 // An item's amount going one way: whether no bound stops it, and what a unit weighs and is worth.
@@ -30,15 +31,6 @@ enum Ray {
 pub struct RayReply {
     pub found: bool,
     pub steps: [i64; 16],
-}
-
-fn absent(b: Bound) -> bool
-    ensures { λ r. ⌜ r ≡ isAbsent b ⌝ }
-{
-    match b {
-        Bound::Absent => true,
-        Bound::At(_) => false,
-    }
 }
 
 // The bound that an item meets in direction u.
@@ -65,7 +57,7 @@ fn direction_at(p: Problem, u: usize) -> Direction
     let i = p.items[k];
     let b = stop_of(i, u);
     Direction {
-        free: absent(b),
+        free: is_absent(b),
         weight: turned(u, i.weight),
         price: turned(u, i.price),
     }

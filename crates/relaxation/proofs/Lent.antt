@@ -18,7 +18,8 @@ use Rattle.ordering.specs.Order.{orderedItems}
 use Rattle.ordering.specs.Ranking.{arranged}
 use Rattle.ordering.proofs.Accepted.{accepted-ranged}
 use Rattle.ordering.proofs.Order.{items-length, items-cong}
-use Rattle.relaxation.specs.Lent.{usable, filled, loaded, problemOf, withItem, ifAccepted, after, settled}
+use Rattle.knapsack.specs.Items.{withItem}
+use Rattle.relaxation.specs.Lent.{usable, filled, loaded, problemOf, ifAccepted, after, settled}
 
 -- ---- what is loaded
 

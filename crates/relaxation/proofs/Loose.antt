@@ -12,7 +12,8 @@ use Rattle.knapsack.specs.declared.Item.{Item}
 use Rattle.knapsack.specs.declared.Problem.{Problem}
 use Rattle.knapsack.specs.Meaning.{instanceOf, relaxed, Answers}
 use Rattle.knapsack.specs.Records.{blank, itemAt, ItemInRange, InRange}
-use Rattle.relaxation.specs.Lent.{withItem, loose, Loosened}
+use Rattle.knapsack.specs.Items.{withItem}
+use Rattle.relaxation.specs.Lent.{loose, Loosened}
 use Rattle.relaxation.proofs.Same.{same-answers}
 
 pub loosened-none : (p : Problem) → Loosened p 0 p

@@ -5,6 +5,7 @@ use mathlib.Core.Path.{_≡_, refl, ap, _∙_, subst, subst₂}
 use Prim.Native.Nat.{ℕ, zero, suc, _<_}
 use native.Mathlib.Omega.{arith}
 use lib.IntN.{ℤ, natAbs}
+use Rattle.arith.proofs.Fractions.{total-cong}
 use Rattle.arith.specs.Fractions.{Frac, int, frac, _+ᶠ_, _·ᶠ_, _≤ᶠ_, _<ᶠ_, _≈ᶠ_, total}
 use Rattle.arith.specs.Gcd.{Divides}
 use Rattle.arith.specs.Sum.{Each}
@@ -15,10 +16,6 @@ use Rattle.knapsack.specs.declared.Kind.{Kind}
 use Rattle.knapsack.specs.declared.Kind.the-variants as kind
 use Rattle.knapsack.specs.Meaning.{Instance, Point, Keeps, value, Feasible, Optimal, Unbounded, stepped, Shown, pointOf, AnswersAs, Answers}
 use Rattle.prepare.proofs.Box.{Same, same-turned}
-
-total-cong : (n : ℕ) (f g : ℕ → Frac) → Each n (λ k. f k ≡ g k) → total n f ≡ total n g
-total-cong zero f g e = refl
-total-cong (suc n) f g e = ap (λ x. x +ᶠ f n) (total-cong n f g (λ k h. e k (omega arith))) ∙ ap (λ y. total n g +ᶠ y) (e n (omega arith))
 
 module _ (s t : Instance) (e : Same s t) where
   in-s : (k : ℕ) → k < t .count → k < s .count

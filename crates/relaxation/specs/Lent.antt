@@ -3,7 +3,6 @@
 --   filled n l          the first n items of l, and blank items where l ends
 --   loaded b n l        a problem of n items of which those of l are loaded
 --   problemOf b l       the problem of a capacity and a list: the list's length is the count
---   withItem p i x      the problem with x at place i
 --   ifAccepted v x y    x if the verdict is that the record is accepted, else y
 --   after b l           the list afterwards
 --   settled p           the problem with its items in order if it is accepted, else as it came
@@ -16,7 +15,7 @@ use mathlib.Core.List.{List, [], _∷_}
 use mathlib.Core.Path.{_≡_}
 use Prim.Native.Nat.{ℕ, zero, suc, _<_, min}
 use lib.IntN.{ℤ}
-use lib.ListN.{length, getD, set}
+use lib.ListN.{length, getD}
 use Rattle.knapsack.specs.declared.Answer.{Answer}
 use Rattle.knapsack.specs.declared.Item.{Item}
 use Rattle.knapsack.specs.declared.Mark.the-variants.{Continuous}
@@ -39,9 +38,6 @@ loaded b n l = record { items = filled 16 l; count = n; capacity = b }
 
 abbrev pub problemOf : ℤ → List Item → Problem
 problemOf b l = loaded b (length l) l
-
-abbrev pub withItem : Problem → ℕ → Item → Problem
-withItem p i x = record { items = set (p .items) i x; count = p .count; capacity = p .capacity }
 
 abbrev pub ifAccepted : {A : Type 0} → Verdict → A → A → A
 ifAccepted Accepted x y = x

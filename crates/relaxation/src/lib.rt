@@ -16,7 +16,8 @@ ghost use Prim.Native.Nat.{_≤_, _<_};
 ghost use mathlib.Core.List.{[]};
 ghost use Rattle.knapsack.specs.Meaning.{instanceOf, relaxed, Answers};
 ghost use Rattle.knapsack.specs.Records.{itemAt, InRange};
-ghost use Rattle.relaxation.specs.Lent.{usable, loaded, withItem, loose, Loosened, Settles, Relaxes};
+ghost use Rattle.knapsack.specs.Items.{withItem};
+ghost use Rattle.relaxation.specs.Lent.{usable, loaded, loose, Loosened, Settles, Relaxes};
 
 // What the core gives: the answer, and the problem whose items are stored back.
 pub struct Outcome {

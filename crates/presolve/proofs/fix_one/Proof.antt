@@ -2,7 +2,8 @@
 use mathlib.Core.Path.{ap, _∙_}
 use borrow.Author.Needs.{needs}
 use borrow.Author.Tests.{eq-eqb, ne-eqb}
-use Rattle.presolve.specs.Presolve.{withItem, tried}
+use Rattle.knapsack.specs.Items.{withItem}
+use Rattle.presolve.specs.Presolve.{tried}
 use Rattle.presolve.proofs.fix_one.Statement.{statement}
 use Rattle.presolve.proofs.fix_one.Tie as tie
 
@@ -25,8 +26,8 @@ element-copy-out-y c = search needs
 fix-beside-requires : tie.Need-fix-beside-requires
 fix-beside-requires c κs = let s = c .before .before .before in (s .pre .1 .1 .1, (s .pre .0 .items-in (s .args .i) (s .pre .1 .0), s .pre .0 .items-in (s .args .j) (s .pre .1 .1 .0)))
 
-with-requires : tie.Need-with-requires
-with-requires c κs = search needs
+with-item-requires : tie.Need-with-item-requires
+with-item-requires c κs = search needs
 
 returns-2 : tie.Need-returns-2
 unfolding tried
@@ -34,7 +35,7 @@ returns-2 c =
     let b = c .before in
     let e = b .before .before .before in
     let s = e .before in
-    rw (ne-eqb _ _ (e .if1 .left)) (c .with .ensures ∙ ap (withItem (s .args .t1) (s .args .j)) (b .fix-beside .ensures))
+    rw (ne-eqb _ _ (e .if1 .left)) (c .with-item .ensures ∙ ap (withItem (s .args .t1) (s .args .j)) (b .fix-beside .ensures))
 
 pub fix-one-spec : {M : Type 1} → statement M
 fix-one-spec =
@@ -46,5 +47,5 @@ fix-one-spec =
     mul-y
     element-copy-out-y
     fix-beside-requires
-    with-requires
+    with-item-requires
     returns-2)

@@ -24,8 +24,8 @@ element-copy-out-i c = search needs
 stop-of-requires : tie.Need-stop-of-requires
 stop-of-requires c κs = search needs
 
-absent-requires : tie.Need-absent-requires
-absent-requires c κs = search needs
+is-absent-requires : tie.Need-is-absent-requires
+is-absent-requires c κs = search needs
 
 turned-requires : tie.Need-turned-requires
 turned-requires c κs =
@@ -52,7 +52,7 @@ returns c =
       c .turned2 .ensures,
       toZ-ofZ f,
       toZ-ofZ g,
-      c .before .before .before .before .absent .ensures,
+      c .before .before .before .before .is-absent .ensures,
       c .before .before .before .before .before .stop-of .ensures,
     )
 
@@ -63,7 +63,7 @@ direction-at-spec =
     mul-i
     element-copy-out-i
     stop-of-requires
-    absent-requires
+    is-absent-requires
     turned-requires
     turned-requires-2
     returns)

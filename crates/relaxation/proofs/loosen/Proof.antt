@@ -4,7 +4,8 @@ use native.Mathlib.Omega.{arith}
 use lib.ListN.{length, length-map, length-set}
 use borrow.Author.Needs.{needs}
 use Rattle.knapsack.specs.Records.{itemAt}
-use Rattle.relaxation.specs.Lent.{loose, withItem, Loosened}
+use Rattle.knapsack.specs.Items.{withItem}
+use Rattle.relaxation.specs.Lent.{loose, Loosened}
 use Rattle.relaxation.proofs.Loose.{loosened-none, loosened-more}
 use Rattle.relaxation.proofs.loosen.Statement.{statement}
 use Rattle.relaxation.proofs.loosen.Tie as tie

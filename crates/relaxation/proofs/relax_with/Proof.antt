@@ -65,7 +65,8 @@ use Rattle.knapsack.proofs.Problem as P
 use Rattle.knapsack.proofs.Problem.Laws as P′
 use Rattle.ordering.proofs.Lists.{store-more, store-length}
 use Rattle.relaxation.specs.declared.Outcome.{Outcome}
-use Rattle.relaxation.specs.Lent.{usable, loaded, problemOf, withItem, after, settled, Settles, Relaxes}
+use Rattle.knapsack.specs.Items.{withItem}
+use Rattle.relaxation.specs.Lent.{usable, loaded, problemOf, after, settled, Settles, Relaxes}
 use Rattle.relaxation.proofs.Lent.{load-more, load-all, settled-length, stored, after-length}
 use Rattle.relaxation.proofs.Calls.{asks}
 use Rattle.relaxation.proofs.Outcome as O
