@@ -19,6 +19,19 @@ pub struct Spans {
     pub loose: u64,
 }
 
+// Small figures, for problems that are enumerated.
+pub fn small(absent: u64, loose: u64) -> Spans {
+    Spans {
+        weight: 4,
+        price: 5,
+        bound: 3,
+        capacity: 12,
+        unit: 1,
+        absent: absent,
+        loose: loose,
+    }
+}
+
 pub struct DrawnItem {
     pub item: Item,
     pub state: u64,

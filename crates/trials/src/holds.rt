@@ -1,7 +1,9 @@
-// Whether an answer's point is one, by the point check, and whether its steps are a ray (paper 01, "Unbounded"), by plain sums.
+// Whether an answer's point is one, by the point check and its divisors, and whether its steps are a ray (paper 01, "Unbounded"), by
+// plain sums.
 use crate::exact::is_far;
 use crate::exact::plus;
 use crate::exact::times;
+use crate::print::size_of;
 use arith::Fraction;
 use feasibility::Candidate;
 use feasibility::PointReply;
@@ -10,6 +12,7 @@ use knapsack::Answer;
 use knapsack::Bound;
 use knapsack::Item;
 use knapsack::Problem;
+use knapsack::beyond;
 ghost use Prim.Native.Nat.{_≤_};
 
 fn checked(p: Problem, a: Answer) -> PointReply {
@@ -39,10 +42,34 @@ fn is_feasible(r: PointReply) -> bool {
     }
 }
 
+fn divides(q: u64, weight: i64) -> bool {
+    if q == 0 {
+        return false;
+    }
+    size_of(weight) % q == 0
+}
+
+// Whether the divisor of each amount divides the item's weight, a limit of paper 01 that the point check does not ask for.
+fn divisors_hold(p: Problem, a: Answer) -> bool {
+    let items = p.items;
+    let amounts = a.point;
+    let n = p.count;
+    let mut k: usize = 0;
+    while k < 16 {
+        let x = items[k];
+        let v = amounts[k];
+        if k < n && !divides(v.q, x.weight) {
+            return false;
+        }
+        k += 1;
+    }
+    true
+}
+
 // Feasible, within the limits of paper 01, and worth the value told.
 pub fn point_holds(p: Problem, a: Answer) -> bool {
     let v = a.value;
-    is_worth(checked(p, a), v)
+    divisors_hold(p, a) && is_worth(checked(p, a), v)
 }
 
 // What is known of the steps so far: none meets a bound, how many move, and their weight and gain.
@@ -60,8 +87,11 @@ fn is_absent(b: Bound) -> bool {
     }
 }
 
-// Whether an item may take its step for ever.
+// Whether an item may take its step, which is within ±1,000, for ever.
 fn may_move(x: Item, s: i64) -> bool {
+    if beyond(s, 1000) {
+        return false;
+    }
     if s < 0 {
         let l = x.lower;
         return is_absent(l);
@@ -135,9 +165,6 @@ pub fn ray_holds(p: Problem, a: Answer) -> bool {
         return false;
     }
     let steps = a.steps;
-    if is_ray(ray_of(p, steps, p.count)) {
-        is_feasible(checked(p, a))
-    } else {
-        false
-    }
+    let ray = is_ray(ray_of(p, steps, p.count));
+    ray && divisors_hold(p, a) && is_feasible(checked(p, a))
 }

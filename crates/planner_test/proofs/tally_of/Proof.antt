@@ -10,6 +10,9 @@ Inv-loop seed problems n z «open» t₀ state₀ k₀ t state k = Unit {0}
 abbrev μ-loop : tie.MeasureT-loop
 μ-loop seed problems n z «open» t₀ state₀ k₀ t state k = problems - k
 
+no-answers-requires : tie.Need-no-answers-requires Inv-loop μ-loop
+no-answers-requires c κs = search needs
+
 loop-holds : tie.Need-loop-holds Inv-loop μ-loop
 loop-holds c = search needs
 
@@ -37,6 +40,7 @@ tally-of-spec =
     (tie.spec
     Inv-loop
     μ-loop
+    no-answers-requires
     loop-holds
     drawn-problem-requires
     tried-requires

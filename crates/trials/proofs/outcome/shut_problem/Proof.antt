@@ -1,14 +1,14 @@
 -- The measure is the items left.
 use Prim.Native.Nat.{_-_, _≤_}
 use borrow.Author.Needs.{needs}
-use Rattle.planner_test.proofs.shut_problem.Statement.{statement}
-use Rattle.planner_test.proofs.shut_problem.Tie as tie
+use Rattle.trials.proofs.outcome.shut_problem.Statement.{statement}
+use Rattle.trials.proofs.outcome.shut_problem.Tie as tie
 
 abbrev Inv-loop : tie.InvT-loop
-Inv-loop n s₀ k₀ s k = k ≤ n
+Inv-loop n reach s₀ k₀ s k = k ≤ n
 
 abbrev μ-loop : tie.MeasureT-loop
-μ-loop n s₀ k₀ s k = n - k
+μ-loop n reach s₀ k₀ s k = n - k
 
 loop-holds : tie.Need-loop-holds Inv-loop μ-loop
 loop-holds c = search needs
