@@ -1,165 +1,40 @@
-// Prints the relaxation of paper 01's sheets, of some made for the purpose, of records that are refused and of many drawn ones, all
-// through the public entry over a lent list. A line has the problem, its items as (mark,weight,price,lower,upper) with `..` for an
-// absent bound, then the reply in paper 01's words, and the numbers of the items in the order in which the list stands afterwards.
-// `point yes`: the point check allows the point, at the value told. `ray yes`: it allows the start, and the steps are a ray.
+// Prints the relaxation of paper 01's sheets, of some made for the purpose, of records that are refused and of some drawn ones, and
+// counts what it comes to on thousands of drawn ones, all through the public entry over a lent list.
 mod lending; // the call
 mod order; // the list afterwards
+mod sheets; // sheets and their records
+mod line; // a sheet and its reply, printed
+mod counted; // drawn sheets, held to enumeration and counted
 
-use crate::lending::Lent;
 use crate::lending::Sheet;
 use crate::lending::relaxed;
-use crate::order::print_order;
-use crate::order::print_untouched;
-use knapsack::Answer;
-use knapsack::Item;
-use knapsack::Kind;
-use knapsack::Problem;
-use knapsack::blank_item;
+use crate::line::print_line;
+use crate::sheets::drawn_sheet;
+use crate::sheets::large;
+use crate::sheets::one;
+use crate::sheets::three;
+use crate::sheets::two;
+use crate::sheets::with_items;
 use trials::draw::Spans;
-use trials::draw::drawn_capacity;
-use trials::draw::drawn_item;
-use trials::draw::next;
-use trials::holds::point_holds;
-use trials::holds::ray_holds;
+use trials::draw::small;
 use trials::make::free;
 use trials::make::from_zero;
 use trials::make::held;
 use trials::make::loose;
 use trials::make::to_zero;
 use trials::print::print;
-use trials::print::print_item;
-use trials::print::print_kind;
-use trials::print::print_signed;
-use trials::print::print_yes;
 ghost use Prim.Native.Nat.{_≤_};
-
-// ---- a line
-
-fn print_sheet(s: Sheet)
-    requires { ⌜ s .count ≤ 18 ⌝ }
-{
-    print_signed(s.capacity);
-    print(b";");
-    let n = s.count;
-    let items = s.items;
-    let mut k: usize = 0;
-    while k < n {
-        let x = items[k];
-        print_item(x);
-        k += 1;
-    }
-}
-
-// The record of the sheet, with its items continuous.
-fn loosened(s: Sheet) -> Problem {
-    let list = s.items;
-    let blank = blank_item();
-    let mut items = [blank; 16];
-    let mut k: usize = 0;
-    while k < 16 {
-        let x = loose(list[k]);
-        items[k] = x;
-        k += 1;
-    }
-    Problem {
-        items: items,
-        count: s.count,
-        capacity: s.capacity,
-    }
-}
-
-fn print_check(s: Sheet, a: Answer) {
-    let p = loosened(s);
-    let k = a.kind;
-    match k {
-        Kind::Optimal => {
-            print(b"; point ");
-            print_yes(point_holds(p, a));
-        }
-        Kind::Unbounded => {
-            print(b"; ray ");
-            print_yes(ray_holds(p, a));
-        }
-        Kind::Infeasible => {}
-        Kind::Refused(_) => {}
-    }
-}
-
-fn is_refused(k: Kind) -> bool {
-    match k {
-        Kind::Optimal => false,
-        Kind::Infeasible => false,
-        Kind::Unbounded => false,
-        Kind::Refused(_) => true,
-    }
-}
-
-fn print_reply(s: Sheet, r: Lent)
-    requires { ⌜ s .count ≤ 18 ⌝ }
-{
-    let a = r.answer;
-    let list = s.items;
-    let now = r.items;
-    print_kind(a);
-    let k = a.kind;
-    if is_refused(k) {
-        print_untouched(list, now);
-    } else {
-        print_order(list, now, s.count);
-    }
-    print_check(s, a);
-}
 
 fn show(name: u8, s: Sheet)
     requires { ⌜ s .count ≤ 18 ⌝ }
 {
     let label = [name, b' '];
     print(&label);
-    print_sheet(s);
-    print(b": ");
     let r = relaxed(s);
-    print_reply(s, r);
-    print(b"\n");
+    print_line(s, r);
 }
 
-// ---- sheets
-
-// Behind the items that are lent stand others.
-fn with_items(capacity: i64, count: usize, x: Item, y: Item, z: Item) -> Sheet
-    requires { ⌜ count ≤ 18 ⌝ }
-    ensures { λ r. ⌜ r .count ≤ 18 ⌝ }
-{
-    let other = held(7, -77, 5, 6);
-    let mut items = [other; 18];
-    items[0] = x;
-    items[1] = y;
-    items[2] = z;
-    Sheet {
-        items: items,
-        count: count,
-        capacity: capacity,
-    }
-}
-
-fn one(capacity: i64, x: Item) -> Sheet
-    ensures { λ r. ⌜ r .count ≤ 18 ⌝ }
-{
-    let blank = blank_item();
-    with_items(capacity, 1, x, blank, blank)
-}
-
-fn two(capacity: i64, x: Item, y: Item) -> Sheet
-    ensures { λ r. ⌜ r .count ≤ 18 ⌝ }
-{
-    let blank = blank_item();
-    with_items(capacity, 2, x, y, blank)
-}
-
-fn three(capacity: i64, x: Item, y: Item, z: Item) -> Sheet
-    ensures { λ r. ⌜ r .count ≤ 18 ⌝ }
-{
-    with_items(capacity, 3, x, y, z)
-}
+// ---- chosen sheets
 
 fn paper_sheets() {
     show(b'A', two(20, held(9, 13, 0, 2), loose(held(3, 2, 0, 5))));
@@ -298,39 +173,6 @@ fn bad_bounds() {
 
 // ---- drawn sheets
 
-struct DrawnSheet {
-    sheet: Sheet,
-    state: u64,
-}
-
-// A sheet of so many items; the places behind them are drawn too.
-fn drawn_sheet(state: u64, count: usize, z: Spans) -> DrawnSheet
-    requires { ⌜ count ≤ 18 ⌝ }
-    ensures { λ r. ⌜ r .sheet .count ≤ 18 ⌝ }
-{
-    let blank = blank_item();
-    let mut items = [blank; 18];
-    let mut now = next(state);
-    let capacity = drawn_capacity(now, z);
-    let mut k: usize = 0;
-    while k < 18 {
-        let d = drawn_item(now, z);
-        let x = d.item;
-        items[k] = x;
-        now = d.state;
-        k += 1;
-    }
-    let s = Sheet {
-        items: items,
-        count: count,
-        capacity: capacity,
-    };
-    DrawnSheet {
-        sheet: s,
-        state: now,
-    }
-}
-
 // So many sheets of count items each.
 fn drawn_sheets(seed: u64, sheets: usize, count: usize, z: Spans)
     requires { ⌜ count ≤ 18 ⌝ }
@@ -346,72 +188,25 @@ fn drawn_sheets(seed: u64, sheets: usize, count: usize, z: Spans)
     }
 }
 
-fn small() -> Spans {
-    Spans {
-        weight: 6,
-        price: 9,
-        bound: 9,
-        capacity: 60,
-        unit: 1,
-        absent: 1,
-        loose: 2,
-    }
-}
-
-// Large weights and prices within small bounds, all present.
-fn closed() -> Spans {
-    Spans {
-        weight: 1000,
-        price: 10000,
-        bound: 9,
-        capacity: 10000,
-        unit: 5,
-        absent: 0,
-        loose: 2,
-    }
-}
-
-fn large() -> Spans {
-    Spans {
-        weight: 1000,
-        price: 10000,
-        bound: 10000,
-        capacity: 10000,
-        unit: 500,
-        absent: 1,
-        loose: 2,
-    }
-}
-
-fn small_sheets() {
-    drawn_sheets(1, 50, 1, small());
-    drawn_sheets(2, 60, 2, small());
-    drawn_sheets(3, 60, 3, small());
-    drawn_sheets(4, 50, 4, small());
-    drawn_sheets(5, 40, 5, small());
-    drawn_sheets(6, 40, 6, small());
-    drawn_sheets(7, 5, 16, small());
-}
-
-fn closed_sheets() {
-    drawn_sheets(8, 20, 3, closed());
-    drawn_sheets(9, 20, 6, closed());
-    drawn_sheets(10, 20, 16, closed());
-}
-
-fn large_sheets() {
-    drawn_sheets(11, 20, 1, large());
-    drawn_sheets(12, 20, 2, large());
-    drawn_sheets(13, 20, 3, large());
-    drawn_sheets(14, 20, 4, large());
-    drawn_sheets(15, 20, 6, large());
-    drawn_sheets(16, 5, 16, large());
-}
-
 // Too many items.
 fn long_sheets() {
-    drawn_sheets(21, 2, 17, small());
-    drawn_sheets(22, 2, 18, small());
+    drawn_sheets(21, 2, 17, small(1, 2));
+    drawn_sheets(22, 2, 18, small(1, 2));
+}
+
+// As many items as there may be.
+fn full_sheets() {
+    drawn_sheets(23, 5, 16, small(1, 2));
+    drawn_sheets(24, 5, 16, large(9, 5, 0));
+    drawn_sheets(25, 5, 16, large(10000, 500, 1));
+}
+
+// Figures up to the ends of their ranges, and absent bounds.
+fn large_sheets() {
+    drawn_sheets(26, 5, 1, large(10000, 500, 1));
+    drawn_sheets(27, 5, 2, large(10000, 500, 1));
+    drawn_sheets(28, 5, 3, large(10000, 500, 1));
+    drawn_sheets(29, 5, 5, large(10000, 500, 1));
 }
 
 fn main() {
@@ -423,7 +218,7 @@ fn main() {
     bad_figures();
     bad_bounds();
     long_sheets();
-    small_sheets();
-    closed_sheets();
+    full_sheets();
     large_sheets();
+    counted::count_sheets();
 }

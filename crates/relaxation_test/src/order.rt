@@ -1,10 +1,15 @@
-// The list afterwards: the number that each of its items had, in the order in which they stand.
+// The list afterwards: whether its items stand in the order of paper 01, and the number that each of them had.
 use knapsack::Bound;
 use knapsack::Item;
 use knapsack::Mark;
+use trials::count::one_more;
+use trials::enumerate::below;
+use trials::exact::times;
 use trials::print::print;
 use trials::print::print_number;
 ghost use Prim.Native.Nat.{_≤_};
+
+// ---- the same items
 
 fn is_absent(b: Bound) -> bool {
     match b {
@@ -81,6 +86,82 @@ fn same_from(a: [Item; 18], b: [Item; 18], from: usize) -> bool {
     true
 }
 
+// ---- the order
+
+// Price per unit of weight, for a weight other than 0: p / q with q above 0.
+struct Ratio {
+    p: i64,
+    q: i64,
+}
+
+fn ratio_of(x: Item) -> Ratio {
+    if x.weight < 0 {
+        return Ratio {
+            p: times(x.price, -1),
+            q: times(x.weight, -1),
+        };
+    }
+    Ratio {
+        p: x.price,
+        q: x.weight,
+    }
+}
+
+// Whether x, at place i, comes before y, at place j: falling ratios, equals by number, weight 0 last by number.
+fn comes_first(x: Item, i: usize, y: Item, j: usize) -> bool {
+    if x.weight == 0 && y.weight == 0 {
+        return i < j;
+    }
+    if x.weight == 0 || y.weight == 0 {
+        return y.weight == 0;
+    }
+    let r = ratio_of(x);
+    let s = ratio_of(y);
+    if below(r.p, r.q, s.p, s.q) {
+        return false;
+    }
+    below(s.p, s.q, r.p, r.q) || i < j
+}
+
+// How many of the first n items come before x, which is at place i.
+fn rank_of(list: [Item; 18], n: usize, x: Item, i: usize) -> u64
+    requires { ⌜ n ≤ 18 ⌝ }
+{
+    let mut rank: u64 = 0;
+    let mut k: usize = 0;
+    while k < n {
+        let y = list[k];
+        rank = one_more(rank, comes_first(y, k, x, i));
+        k += 1;
+    }
+    rank
+}
+
+fn stands_at(list: [Item; 18], place: u64, x: Item) -> bool {
+    if place > 17 {
+        return false;
+    }
+    let y = list[place as usize];
+    same_item(x, y)
+}
+
+// Whether each of the first n items stands now where its rank puts it, and the others where they stood.
+pub fn is_ordered(list: [Item; 18], now: [Item; 18], n: usize) -> bool
+    requires { ⌜ n ≤ 18 ⌝ }
+{
+    let mut k: usize = 0;
+    while k < n {
+        let x = list[k];
+        if !stands_at(now, rank_of(list, n, x, k), x) {
+            return false;
+        }
+        k += 1;
+    }
+    same_from(list, now, n)
+}
+
+// ---- the numbers, printed
+
 // Which items of a list have been found.
 struct Found {
     places: [bool; 18],
@@ -140,8 +221,8 @@ pub fn print_order(list: [Item; 18], now: [Item; 18], n: usize)
         found = with_found(found, i);
         k += 1;
     }
-    if !same_from(list, now, n) {
-        print(b", more changed");
+    if !is_ordered(list, now, n) {
+        print(b", wrong");
     }
 }
 

@@ -46,8 +46,8 @@ loop-less c = search needs
 loop-again : tie.Need-loop-again Inv-loop μ-loop
 loop-again c = search needs
 
-same-from-requires : tie.Need-same-from-requires Inv-loop μ-loop
-same-from-requires c κs = search needs
+is-ordered-requires : tie.Need-is-ordered-requires Inv-loop μ-loop
+is-ordered-requires c κs = search needs
 
 slice-aggregate-print-2 : tie.Need-slice-aggregate-print-2 Inv-loop μ-loop
 slice-aggregate-print-2 c = search needs
@@ -79,7 +79,7 @@ print-order-spec =
     add-k
     loop-less
     loop-again
-    same-from-requires
+    is-ordered-requires
     slice-aggregate-print-2
     print-requires-2
     returns

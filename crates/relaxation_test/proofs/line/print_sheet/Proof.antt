@@ -1,8 +1,8 @@
 -- The measure is the items left.
 use Prim.Native.Nat.{_-_, _≤_}
 use borrow.Author.Needs.{needs}
-use Rattle.relaxation_test.proofs.print_sheet.Statement.{statement}
-use Rattle.relaxation_test.proofs.print_sheet.Tie as tie
+use Rattle.relaxation_test.proofs.line.print_sheet.Statement.{statement}
+use Rattle.relaxation_test.proofs.line.print_sheet.Tie as tie
 
 abbrev Inv-loop : tie.InvT-loop
 Inv-loop n items k₀ k = k ≤ n

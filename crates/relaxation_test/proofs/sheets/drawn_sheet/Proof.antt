@@ -1,29 +1,29 @@
 -- The measure is the places left.
 use Prim.Native.Nat.{_-_}
 use borrow.Author.Needs.{needs}
-use Rattle.relaxation_test.proofs.loosened.Statement.{statement}
-use Rattle.relaxation_test.proofs.loosened.Tie as tie
+use Rattle.relaxation_test.proofs.sheets.drawn_sheet.Statement.{statement}
+use Rattle.relaxation_test.proofs.sheets.drawn_sheet.Tie as tie
 
 abbrev Inv-loop : tie.InvT-loop
-Inv-loop s list items₀ k₀ items k = Unit {0}
+Inv-loop state count z items₀ now₀ capacity k₀ items now k = Unit {0}
 
 abbrev μ-loop : tie.MeasureT-loop
-μ-loop s list items₀ k₀ items k = 16 - k
+μ-loop state count z items₀ now₀ capacity k₀ items now k = 18 - k
 
 blank-item-requires : tie.Need-blank-item-requires Inv-loop μ-loop
 blank-item-requires c κs = search needs
 
+next-requires : tie.Need-next-requires Inv-loop μ-loop
+next-requires c κs = search needs
+
+drawn-capacity-requires : tie.Need-drawn-capacity-requires Inv-loop μ-loop
+drawn-capacity-requires c κs = search needs
+
 loop-holds : tie.Need-loop-holds Inv-loop μ-loop
 loop-holds c = search needs
 
-mul-loose : tie.Need-mul-loose Inv-loop μ-loop
-mul-loose c = search needs
-
-array-copy-out-loose : tie.Need-array-copy-out-loose Inv-loop μ-loop
-array-copy-out-loose c = search needs
-
-loose-requires : tie.Need-loose-requires Inv-loop μ-loop
-loose-requires c κs = search needs
+drawn-item-requires : tie.Need-drawn-item-requires Inv-loop μ-loop
+drawn-item-requires c κs = search needs
 
 mul-items : tie.Need-mul-items Inv-loop μ-loop
 mul-items c = search needs
@@ -43,17 +43,17 @@ loop-again c = search needs
 returns : tie.Need-returns Inv-loop μ-loop
 returns c = search needs
 
-pub loosened-spec : {M : Type 1} → statement M
-loosened-spec =
+pub drawn-sheet-spec : {M : Type 1} → statement M
+drawn-sheet-spec =
     tie.close
     (tie.spec
     Inv-loop
     μ-loop
     blank-item-requires
+    next-requires
+    drawn-capacity-requires
     loop-holds
-    mul-loose
-    array-copy-out-loose
-    loose-requires
+    drawn-item-requires
     mul-items
     array-set-from-items
     add-k

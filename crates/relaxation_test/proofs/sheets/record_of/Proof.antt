@@ -1,29 +1,26 @@
 -- The measure is the places left.
 use Prim.Native.Nat.{_-_}
 use borrow.Author.Needs.{needs}
-use Rattle.relaxation_test.proofs.drawn_sheet.Statement.{statement}
-use Rattle.relaxation_test.proofs.drawn_sheet.Tie as tie
+use Rattle.relaxation_test.proofs.sheets.record_of.Statement.{statement}
+use Rattle.relaxation_test.proofs.sheets.record_of.Tie as tie
 
 abbrev Inv-loop : tie.InvT-loop
-Inv-loop state count z items₀ now₀ capacity k₀ items now k = Unit {0}
+Inv-loop s list items₀ k₀ items k = Unit {0}
 
 abbrev μ-loop : tie.MeasureT-loop
-μ-loop state count z items₀ now₀ capacity k₀ items now k = 18 - k
+μ-loop s list items₀ k₀ items k = 16 - k
 
 blank-item-requires : tie.Need-blank-item-requires Inv-loop μ-loop
 blank-item-requires c κs = search needs
 
-next-requires : tie.Need-next-requires Inv-loop μ-loop
-next-requires c κs = search needs
-
-drawn-capacity-requires : tie.Need-drawn-capacity-requires Inv-loop μ-loop
-drawn-capacity-requires c κs = search needs
-
 loop-holds : tie.Need-loop-holds Inv-loop μ-loop
 loop-holds c = search needs
 
-drawn-item-requires : tie.Need-drawn-item-requires Inv-loop μ-loop
-drawn-item-requires c κs = search needs
+mul-x : tie.Need-mul-x Inv-loop μ-loop
+mul-x c = search needs
+
+array-copy-out-x : tie.Need-array-copy-out-x Inv-loop μ-loop
+array-copy-out-x c = search needs
 
 mul-items : tie.Need-mul-items Inv-loop μ-loop
 mul-items c = search needs
@@ -43,17 +40,16 @@ loop-again c = search needs
 returns : tie.Need-returns Inv-loop μ-loop
 returns c = search needs
 
-pub drawn-sheet-spec : {M : Type 1} → statement M
-drawn-sheet-spec =
+pub record-of-spec : {M : Type 1} → statement M
+record-of-spec =
     tie.close
     (tie.spec
     Inv-loop
     μ-loop
     blank-item-requires
-    next-requires
-    drawn-capacity-requires
     loop-holds
-    drawn-item-requires
+    mul-x
+    array-copy-out-x
     mul-items
     array-set-from-items
     add-k

@@ -1,0 +1,149 @@
+// Drawn sheets, counted. The answer is held to plain enumeration of the record with its items continuous (trials::outcome says when
+// the two agree); the list afterwards to the order of paper 01; and the answer to the planner's for the marked record, which is of the
+// same kind and, where best, worth no more. A sheet on which one of the three fails is printed.
+use crate::lending::Lent;
+use crate::lending::Sheet;
+use crate::lending::relaxed;
+use crate::line::print_line;
+use crate::order::is_ordered;
+use crate::sheets::drawn_sheet;
+use crate::sheets::large;
+use crate::sheets::loosened;
+use crate::sheets::record_of;
+use knapsack::Answer;
+use planner::plan;
+use trials::draw::Spans;
+use trials::draw::small;
+use trials::enumerate::below;
+use trials::exact::as_signed;
+use trials::outcome::Outcome;
+use trials::outcome::outcome_of;
+use trials::print::print;
+use trials::print::print_kind;
+use trials::tally::Tally;
+use trials::tally::no_answers;
+use trials::tally::number_of;
+use trials::tally::print_tally;
+use trials::tally::tallied;
+ghost use Prim.Native.Nat.{_≤_};
+
+// Where there is a best point, some best point has all amounts but one at a bound, or at 0 where both are absent. With small figures
+// the bounds are within ±3, and that one amount is within 12 + 4 · 4 · 3, the capacity and four items' weight.
+const REACH: i64 = 60;
+
+// ---- one sheet
+
+fn same_kind(a: Answer, b: Answer) -> bool {
+    let k = a.kind;
+    let l = b.kind;
+    number_of(k) == number_of(l)
+}
+
+fn is_best(a: Answer) -> bool {
+    let k = a.kind;
+    number_of(k) == 1
+}
+
+fn is_worth_less(a: Answer, b: Answer) -> bool {
+    let v = a.value;
+    let w = b.value;
+    below(v.p, as_signed(v.q), w.p, as_signed(w.q))
+}
+
+// Whether the relaxation's answer can stand beside the planner's.
+fn is_above(a: Answer, planned: Answer) -> bool {
+    if !same_kind(a, planned) {
+        return false;
+    }
+    !is_best(a) || !is_worth_less(a, planned)
+}
+
+fn print_wrong(s: Sheet, r: Lent, planned: Answer)
+    requires { ⌜ s .count ≤ 18 ⌝ }
+{
+    print(b"disagreement, planned ");
+    print_kind(planned);
+    print(b": ");
+    print_line(s, r);
+}
+
+fn tried(t: Tally, s: Sheet, n: usize) -> Tally
+    requires { ⌜ (n ≤ 15) × (s .count ≤ 18) ⌝ }
+{
+    let p = record_of(s);
+    let planned = plan(p);
+    let r = relaxed(s);
+    let a = r.answer;
+    let list = s.items;
+    let now = r.items;
+    let o = outcome_of(loosened(p), a, n, REACH, true);
+    let agrees = o.agrees && is_ordered(list, now, n) && is_above(a, planned);
+    if !agrees {
+        print_wrong(s, r, planned);
+    }
+    let k = a.kind;
+    tallied(
+        t,
+        k,
+        Outcome {
+            agrees: agrees,
+            met: o.met,
+        },
+    )
+}
+
+// ---- many
+
+// What so many sheets of n items each come to.
+fn tally_of(seed: u64, sheets: u64, n: usize, z: Spans) -> Tally
+    requires { ⌜ n ≤ 15 ⌝ }
+{
+    let mut t = no_answers();
+    let mut state = seed;
+    let mut k: u64 = 0;
+    while k < sheets {
+        let d = drawn_sheet(state, n, z);
+        let s = d.sheet;
+        t = tried(t, s, n);
+        state = d.state;
+        k += 1;
+    }
+    t
+}
+
+fn counted(name: &[u8], seed: u64, sheets: u64, n: usize, z: Spans)
+    requires { ⌜ n ≤ 15 ⌝ }
+{
+    let t = tally_of(seed, sheets, n, z);
+    print_tally(name, seed, sheets, n, t);
+}
+
+fn bounded_sheets() {
+    counted(b"bounded", 61, 2000, 1, small(0, 2));
+    counted(b"bounded", 62, 2000, 2, small(0, 2));
+    counted(b"bounded", 63, 2000, 3, small(0, 2));
+    counted(b"bounded", 64, 2000, 4, small(0, 2));
+    counted(b"bounded", 65, 2000, 5, small(0, 2));
+}
+
+// The bounds are so small that the enumeration stays exact.
+fn large_sheets() {
+    counted(b"large", 66, 2000, 2, large(9, 1, 0));
+    counted(b"large", 67, 2000, 3, large(9, 1, 0));
+    counted(b"large", 68, 2000, 4, large(9, 1, 0));
+    counted(b"large", 69, 2000, 5, large(9, 1, 0));
+}
+
+fn open_sheets() {
+    counted(b"open", 71, 2000, 1, small(1, 2));
+    counted(b"open", 72, 2000, 2, small(2, 2));
+    counted(b"open", 73, 2000, 3, small(1, 2));
+    counted(b"open", 74, 2000, 4, small(1, 2));
+    counted(b"open", 75, 2000, 5, small(1, 2));
+}
+
+pub fn count_sheets() {
+    bounded_sheets();
+    large_sheets();
+    open_sheets();
+}

@@ -1,0 +1,131 @@
+// Sheets made by hand or drawn, and their records.
+use crate::lending::Sheet;
+use knapsack::Item;
+use knapsack::Problem;
+use knapsack::blank_item;
+use trials::draw::Spans;
+use trials::draw::drawn_capacity;
+use trials::draw::drawn_item;
+use trials::draw::next;
+use trials::make::held;
+use trials::make::loose;
+ghost use Prim.Native.Nat.{_≤_};
+
+// ---- sheets made by hand
+
+// Behind the items that are lent stand others.
+pub fn with_items(capacity: i64, count: usize, x: Item, y: Item, z: Item) -> Sheet
+    requires { ⌜ count ≤ 18 ⌝ }
+    ensures { λ r. ⌜ r .count ≤ 18 ⌝ }
+{
+    let other = held(7, -77, 5, 6);
+    let mut items = [other; 18];
+    items[0] = x;
+    items[1] = y;
+    items[2] = z;
+    Sheet {
+        items: items,
+        count: count,
+        capacity: capacity,
+    }
+}
+
+pub fn one(capacity: i64, x: Item) -> Sheet
+    ensures { λ r. ⌜ r .count ≤ 18 ⌝ }
+{
+    let blank = blank_item();
+    with_items(capacity, 1, x, blank, blank)
+}
+
+pub fn two(capacity: i64, x: Item, y: Item) -> Sheet
+    ensures { λ r. ⌜ r .count ≤ 18 ⌝ }
+{
+    let blank = blank_item();
+    with_items(capacity, 2, x, y, blank)
+}
+
+pub fn three(capacity: i64, x: Item, y: Item, z: Item) -> Sheet
+    ensures { λ r. ⌜ r .count ≤ 18 ⌝ }
+{
+    with_items(capacity, 3, x, y, z)
+}
+
+// ---- drawn sheets
+
+// Weights and prices up to the ends of their ranges.
+pub fn large(bound: u64, unit: i64, absent: u64) -> Spans {
+    Spans {
+        weight: 1000,
+        price: 10000,
+        bound: bound,
+        capacity: 10000,
+        unit: unit,
+        absent: absent,
+        loose: 2,
+    }
+}
+
+pub struct DrawnSheet {
+    pub sheet: Sheet,
+    pub state: u64,
+}
+
+// A sheet of so many items; the places behind them are drawn too.
+pub fn drawn_sheet(state: u64, count: usize, z: Spans) -> DrawnSheet
+    requires { ⌜ count ≤ 18 ⌝ }
+    ensures { λ r. ⌜ r .sheet .count ≤ 18 ⌝ }
+{
+    let blank = blank_item();
+    let mut items = [blank; 18];
+    let mut now = next(state);
+    let capacity = drawn_capacity(now, z);
+    let mut k: usize = 0;
+    while k < 18 {
+        let d = drawn_item(now, z);
+        let x = d.item;
+        items[k] = x;
+        now = d.state;
+        k += 1;
+    }
+    let s = Sheet {
+        items: items,
+        count: count,
+        capacity: capacity,
+    };
+    DrawnSheet {
+        sheet: s,
+        state: now,
+    }
+}
+
+// ---- records
+
+// The sheet as a record; it has the first 16 items.
+pub fn record_of(s: Sheet) -> Problem {
+    let list = s.items;
+    let blank = blank_item();
+    let mut items = [blank; 16];
+    let mut k: usize = 0;
+    while k < 16 {
+        let x = list[k];
+        items[k] = x;
+        k += 1;
+    }
+    Problem {
+        items: items,
+        count: s.count,
+        capacity: s.capacity,
+    }
+}
+
+// The record with its items continuous.
+pub fn loosened(p: Problem) -> Problem {
+    let mut q = p;
+    let mut k: usize = 0;
+    while k < 16 {
+        let x = loose(q.items[k]);
+        q.items[k] = x;
+        k += 1;
+    }
+    q
+}
