@@ -16,7 +16,7 @@ const USAGE: &str = "bench/run [quick] [compare | speed | reply] [--seed N] [--s
   reply      our reply to the sheet of standard input
   quick      fewer sheets
   --seed     the seed of the draw (1)
-  --steps    a sheet that takes the twin more steps is left out and counted (compare 200,000; speed 1,000,000)
+  --steps    a sheet that takes the twin more steps is left out and counted (compare 2,000,000; speed 1,000,000)
   bench/run example builds and runs example.c";
 
 struct Arguments {
@@ -64,7 +64,7 @@ fn main() {
     let mut good = true;
     if compare || !speed {
         let count = sheets.unwrap_or(if quick { 5000 } else { 120_000 });
-        good = compare::compare(seed, count, steps.unwrap_or(200_000));
+        good = compare::compare(seed, count, steps.unwrap_or(2_000_000));
         println!();
     }
     if speed || !compare {

@@ -186,6 +186,40 @@ impl Setting {
     }
 }
 
+// ---- parallel items
+
+/// Where y, m times x, can be fixed because no bound stops x from taking over what y gives up.
+fn rest_of(m: i64, x: &Item, y: &Item) -> Option<i64> {
+    let (lowered, raised) = if m < 0 { (x.lower, x.upper) } else { (x.upper, x.lower) };
+    match (lowered, raised) {
+        (None, None) => y.lower.or(y.upper).or(Some(0)),
+        (None, Some(_)) => y.lower,
+        (Some(_), None) => y.upper,
+        _ => None,
+    }
+}
+
+fn fix_beside(x: &Item, y: &mut Item) {
+    let m = y.weight.div_euclid(x.weight);
+    if m * x.weight == y.weight && m * x.price == y.price && (y.integer || !x.integer) {
+        if let Some(v) = rest_of(m, x, y) {
+            (y.lower, y.upper) = (Some(v), Some(v));
+        }
+    }
+}
+
+/// Every item fixed that another can take over from; later items take over first.
+fn presolve(p: &Problem) -> Problem {
+    let mut q = p.clone();
+    for i in (0..q.items.len()).rev() {
+        let x = q.items[i];
+        if x.weight != 0 && (x.lower.is_none() || x.upper.is_none()) {
+            q.items.iter_mut().enumerate().filter(|(j, _)| *j != i).for_each(|(_, y)| fix_beside(&x, y));
+        }
+    }
+    q
+}
+
 // ---- domination pairs
 
 fn is_eligible(i: &Item) -> bool {
@@ -596,6 +630,7 @@ fn unbounded_text(s: &Setting, steps: &[i64; 16]) -> String {
 
 /// The reply, and the steps of the search; none if it takes more than `limit`.
 pub fn plan(p: &Problem, limit: u64) -> Option<Outcome> {
+    let p = &presolve(p);
     let mut s = prepare(p);
     if s.begin(&s.ends).room < 0 {
         return Some(Outcome { text: "infeasible\n".into(), steps: 0 });
@@ -609,9 +644,6 @@ pub fn plan(p: &Problem, limit: u64) -> Option<Outcome> {
     if !search.run(limit) {
         return None;
     }
-    let text = match search.best {
-        Some(best) => best_text(&s, &search, best),
-        None => "infeasible\n".into(),
-    };
-    Some(Outcome { text, steps: search.steps })
+    let best = search.best.expect("the light corner is feasible");
+    Some(Outcome { text: best_text(&s, &search, best), steps: search.steps })
 }

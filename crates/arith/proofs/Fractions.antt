@@ -3,7 +3,7 @@
 --   Common n x      a divisor that serves the first n of the fractions x
 -- over-…: sums, multiples and orders of fractions are those of the numerators over D.
 -- common: there is such a divisor.
-use mathlib.Core.Path.{_≡_, refl, sym, ap, ap₂, _∙_, subst, subst₂}
+use mathlib.Core.Path.{_≡_, refl, sym, ap, ap₂, _∙_, subst₂}
 use mathlib.Core.Logic.{_↔_, _⊎_, inl, inr}
 use Prim.Native.Nat.{ℕ, zero, suc, _+_, _*_, _≤_, _<_}
 use native.Mathlib.Omega.{arith}

@@ -12,7 +12,7 @@ use borrow.Author.Tests.{leb-false}
 use mir.Syntax.{w64}
 use mir.Val.{Fits, SFits, toZ, ofZ}
 use mir.Facts.{toZ-ofZ}
-use mathlib.Core.Bool.{Bool, true, false, not}
+use mathlib.Core.Bool.{Bool, true, false}
 use lib.IntN.{natAbs}
 use native.Mathlib.Nat.{mul-le-mul}
 use lib.Dec.{T, ltb, leb, ltb→lt, leb→le, lt→ltb}

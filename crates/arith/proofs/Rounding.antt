@@ -4,7 +4,7 @@
 -- floor-is, floor-unique: floorDiv is that number, and no other is.
 -- floor-most: what fits is at most the quotient.
 -- floor-within, ceil-within: neither is farther from zero than the dividend.
-use mathlib.Core.Path.{_≡_, refl, sym, ap, _∙_}
+use mathlib.Core.Path.{_≡_, refl, ap, _∙_}
 use mathlib.Core.Logic.{_⊎_, inl, inr}
 use Prim.Native.Nat.{ℕ, zero, suc, _+_, _*_, _/_, _%_, _≤_, _<_}
 use native.Mathlib.Nat.{div-add-mod', div-le-self, mod-lt, mul-le-mul-left}
@@ -15,7 +15,7 @@ use Rattle.arith.specs.Within.{up, dn, Within}
 use Rattle.arith.proofs.Parts.{zs, sum, diff, above-dn, below-up, lt-le, within-neg}
 use Rattle.arith.proofs.Quotients.{mul-sub, mul-one}
 use Rattle.arith.specs.Division.{floorBy, floorDiv, ceilDiv}
-use Rattle.arith.proofs.Integers.{split, split2, split3, zed, ≤ℤ-or-<, ≤ℤ-antisym}
+use Rattle.arith.proofs.Integers.{split2, split3, zed, ≤ℤ-or-<, ≤ℤ-antisym}
 
 pub record IsFloor (n d q : ℤ) : Type 0 where
   pub positive : pos 0 <ℤ d → ((d *ℤ q) ≤ℤ n) × (n <ℤ (d *ℤ q +ℤ d))

@@ -3,7 +3,6 @@
 use libc::STDIN_FILENO;
 use libc::STDOUT_FILENO;
 use replies::reply_to;
-ghost use Rattle.listing.specs.Listing.{Shows};
 
 fn answer(sheet: &[u8]) {
     let t = reply_to(sheet);

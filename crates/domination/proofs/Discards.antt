@@ -23,7 +23,6 @@ use Rattle.arith.proofs.Fractions.{Over, over-int, over-frac, over-+, common}
 use Rattle.arith.proofs.Integers.{split, split2, split3, split4, zed, ≤ℤ-reflexive}
 use Rattle.arith.proofs.Parts.{lt-le}
 use Rattle.arith.proofs.Sums.{bump-same, bump-other}
-use Rattle.knapsack.specs.declared.Bound.the-variants.{At}
 use Rattle.knapsack.specs.declared.Item.{Item}
 use Rattle.knapsack.specs.declared.Problem.{Problem}
 use Rattle.knapsack.specs.Records.{itemAt}

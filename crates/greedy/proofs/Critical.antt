@@ -8,12 +8,10 @@ use lib.IntN.{ℤ, pos, negsuc, negℤ, natAbs, _+ℤ_, _-ℤ_, _*ℤ_}
 use lib.Signed.{_≤ℤ_, _<ℤ_}
 use Rattle.arith.proofs.Integers.{split, split2, split3, zed}
 use Rattle.arith.proofs.Sums.{bump-other, sum-bump, sum-times}
-use Rattle.arith.specs.Sum.{sum, bump}
+use Rattle.arith.specs.Sum.{bump}
 use Rattle.knapsack.proofs.Common.{weighsᴰ}
 use Rattle.knapsack.proofs.Dual.{score, AtBound, AtEnd, Certificate}
 use Rattle.knapsack.specs.Meaning.{Instance, weights, prices}
-use Rattle.knapsack.specs.declared.Bound.{Bound}
-use Rattle.knapsack.specs.declared.Bound.the-variants.{At}
 use Rattle.knapsack.specs.declared.Item.{Item}
 use Rattle.arith.specs.Signs.{turned}
 

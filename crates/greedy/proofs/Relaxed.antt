@@ -19,7 +19,7 @@ use borrow.Author.Tests.{lt-ltb, le-ltb, ltb-true, ltb-false, eq-eqb, ne-eqb, eq
 use Rattle.arith.specs.Division.{floorBy, floorDiv, ceilDiv}
 use Rattle.arith.specs.Sum.{sum, Each, bump}
 use Rattle.arith.specs.declared.Mixed.{Mixed}
-use Rattle.arith.proofs.Integers.{split, split2, split3, split4, zed, ≤ℤ-or-<, times-≤, times-≤-back}
+use Rattle.arith.proofs.Integers.{split, split2, split3, split4, zed, ≤ℤ-or-<, times-≤-back}
 use Rattle.arith.proofs.Sums.{bump-same, bump-other, sum-bump, sum-cong, sum-times}
 use Rattle.arith.proofs.Words.{yes-lt, no-lt, lt-yes, le-no}
 use Rattle.arith.proofs.Mixes.{over}
@@ -34,9 +34,9 @@ use Rattle.greedy.specs.declared.Columns.{Columns}
 use Rattle.greedy.specs.declared.Ends.{Ends}
 use Rattle.greedy.specs.declared.Fill.{Fill}
 use Rattle.arith.specs.Signs.{turned}
-use Rattle.greedy.specs.Fill.{at, weightOf, priceOf, itemOf, rankOf, lightest, heaviest, lightOf, heavyOf, width, begun, raised, fillFrom, fill, sizeOf, rateOf, sharedBy, bound, fitted, start, unit, stand, solution}
+use Rattle.greedy.specs.Fill.{at, weightOf, priceOf, itemOf, rankOf, lightOf, heavyOf, width, begun, raised, fillFrom, fill, sizeOf, rateOf, sharedBy, bound, fitted, start, unit, stand, solution}
 use Rattle.greedy.specs.Ordered.{Idle, weightAt, Ordered}
-use Rattle.greedy.proofs.Greedy.{Boxed, LightAt, HeavyAt, Ranked, Inv, Critical, too-heavy, begin, raise, finish, inv-feasible, standing, critical, not-idle, abs≥1, turned-abs, light-in, heavy-in, unit-abs, price-abs}
+use Rattle.greedy.proofs.Greedy.{Boxed, LightAt, HeavyAt, Ranked, Inv, Critical, too-heavy, begin, raise, finish, inv-feasible, standing, critical, not-idle, abs≥1, turned-abs, light-in, unit-abs, price-abs}
 use Rattle.greedy.proofs.Critical.{own-score}
 use Rattle.greedy.proofs.Sides.{is-lightest, is-heaviest, lift-price}
 

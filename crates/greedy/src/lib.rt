@@ -6,9 +6,8 @@ use arith::ceil_div;
 use arith::floor_div;
 use arith::magnitude;
 ghost use mathlib.Core.Path.{_≡_};
-ghost use Prim.Native.Nat.{ℕ, _≤_, _<_};
-ghost use lib.IntN.{ℤ};
-ghost use Rattle.greedy.specs.Fill.{lightest, weightOf, priceOf, cornerWeight, cornerWorth, heaviest, fitted, begun, withItem, turnBy, fill, bound, sharedBy, start, roundedBy};
+ghost use Prim.Native.Nat.{_<_};
+ghost use Rattle.greedy.specs.Fill.{lightest, heaviest, fitted, begun, withItem, turnBy, fill, bound, sharedBy, start, roundedBy};
 ghost use Rattle.arith.specs.Within.{Within};
 ghost use Rattle.greedy.specs.Sized.{Sized, SizedFill, Raisable, Shareable, Fittable};
 

@@ -1,5 +1,5 @@
 -- Branch and bound: how "no feasible point is worth more than W / E" is put together.
-use mathlib.Core.Path.{_≡_, refl, sym, ap, subst, subst₂}
+use mathlib.Core.Path.{_≡_, refl, sym, subst, subst₂}
 use mathlib.Core.Logic.{_⊎_, inl, inr, ⊎-elim}
 use Prim.Native.Nat.{ℕ, _+_, _*_, _≤_, _<_}
 use native.Mathlib.Omega.{arith}
@@ -9,7 +9,7 @@ use lib.IntN.{ℤ, pos, negℤ, _+ℤ_, _*ℤ_}
 use lib.Signed.{_≤ℤ_, _<ℤ_}
 use Rattle.arith.proofs.Integers.{split, split2, split3, zed, ≤ℤ-or-<, times-≤, times-≤-back}
 use Rattle.arith.proofs.Sums.{pick-ind, sum-mono, sum-times}
-use Rattle.arith.specs.Sum.{sum, Each, pick}
+use Rattle.arith.specs.Sum.{Each, pick}
 use Rattle.knapsack.proofs.Climb.{climb}
 use Rattle.knapsack.proofs.Common.{KeepsMarkᴰ, KeepsLowerᴰ, KeepsUpperᴰ, weighsᴰ, valueᴰ, Feasibleᴰ, Optimalᴰ}
 use Rattle.knapsack.proofs.Dual.{Certificate, certified, AtEnd, at-end, within}

@@ -7,7 +7,7 @@ use native.Mathlib.Nat.{mul-le-mul, mul-comm}
 use lib.IntN.{ℤ, pos, _*ℤ_}
 use lib.Signed.{_≤ℤ_}
 use Rattle.arith.proofs.Integers.{split, zed, times-≡-back}
-use Rattle.arith.specs.Fractions.{Frac, int, _≤ᶠ_, total}
+use Rattle.arith.specs.Fractions.{Frac, int, _≤ᶠ_}
 use Rattle.knapsack.proofs.Common.{KeepsMarkᴰ, KeepsLowerᴰ, KeepsUpperᴰ, Keepsᴰ, weighsᴰ, valueᴰ, Feasibleᴰ, Optimalᴰ}
 use Rattle.knapsack.specs.Meaning.{Instance, Point, KeepsMark, KeepsLower, KeepsUpper, Keeps, weighs, value, Feasible, Optimal, Infeasible}
 use Rattle.knapsack.specs.declared.Bound.{Bound}

@@ -1,5 +1,4 @@
 -- Arguments that end: improving a value that is bounded, and lowering a measure.
-use mathlib.Core.Path.{refl, ap}
 use mathlib.Core.Logic.{_⊎_, inl, inr}
 use Prim.Native.Nat.{ℕ, zero, suc, _+_, _*_, _≤_, _<_}
 use native.Mathlib.Omega.{arith}

@@ -1,11 +1,11 @@
 -- Weak duality: a price p / q for a unit of weight bounds the value of every feasible point.
-use mathlib.Core.Path.{_≡_, refl, ap, ap₂, _∙_, subst, subst₂}
+use mathlib.Core.Path.{_≡_, refl, ap, ap₂, _∙_, subst₂}
 use Prim.Native.Nat.{ℕ, zero, suc, _+_, _*_, _≤_, _<_}
 use native.Mathlib.Omega.{arith}
-use native.Mathlib.Nat.{mul-le-mul, mul-le-mul-left, le-of-mul-le-mul-left}
+use native.Mathlib.Nat.{mul-le-mul-left, le-of-mul-le-mul-left}
 use lib.IntN.{ℤ, pos, negsuc, negℤ, _+ℤ_, _-ℤ_, _*ℤ_, zero-*ℤ}
 use lib.Signed.{_≤ℤ_, _<ℤ_}
-use Rattle.arith.proofs.Integers.{split, split2, split3, split4, zed, ≤ℤ-reflexive, times-≤}
+use Rattle.arith.proofs.Integers.{split2, split3, split4, zed, ≤ℤ-reflexive, times-≤}
 use Rattle.arith.proofs.Sums.{sum-mono, sum-cong, sum-lin, sum-times}
 use Rattle.arith.specs.Sum.{sum, Each}
 use Rattle.knapsack.proofs.Common.{Keepsᴰ, KeepsLowerᴰ, KeepsUpperᴰ, weighsᴰ, valueᴰ, Feasibleᴰ}

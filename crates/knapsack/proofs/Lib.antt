@@ -9,3 +9,4 @@ pub mod Reach
 pub mod Rays
 pub mod Escape
 pub mod Starred
+pub mod Serve

@@ -1,5 +1,5 @@
 -- Unbounded: what a planner has to find, and that it excludes a best point.
-use mathlib.Core.Path.{_≡_, sym, ap, _∙_, subst}
+use mathlib.Core.Path.{_≡_, sym, _∙_, subst}
 use mathlib.Core.Logic.{_≢_, _⊎_, inl, inr}
 use Prim.Native.Nat.{ℕ, suc, _+_, _*_, _≤_, _<_}
 use native.Mathlib.Omega.{arith}
@@ -7,9 +7,9 @@ use native.Mathlib.Nat.{mul-comm, mul-le-mul, mul-le-mul-left}
 use lib.IntN.{ℤ, pos, _+ℤ_, _*ℤ_}
 use lib.Signed.{_≤ℤ_, _<ℤ_, clashℤ}
 use Rattle.arith.proofs.Fractions.{over-<, Over, over-int, over-+, over-≤, over-total, over-scale, Common, common}
-use Rattle.arith.proofs.Integers.{split, split2, split3, zed, ≤ℤ-or-<}
+use Rattle.arith.proofs.Integers.{split2, split3, zed, ≤ℤ-or-<}
 use Rattle.arith.proofs.Sums.{sum-cong, sum-lin}
-use Rattle.arith.specs.Fractions.{Frac, int, _≤ᶠ_, _<ᶠ_, total}
+use Rattle.arith.specs.Fractions.{Frac, _≤ᶠ_, _<ᶠ_}
 use Rattle.arith.specs.Sum.{sum}
 use Rattle.knapsack.proofs.Bridge.{Reads, bridge-feasible}
 use Rattle.knapsack.proofs.Climb.{gap}

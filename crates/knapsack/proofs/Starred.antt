@@ -1,6 +1,6 @@
 -- The starred rows of paper 01's table, from the meaning alone: certificates, branches and one ray.
 --   starred : StarredTable
-use mathlib.Core.Path.{_≡_, refl, ap}
+use mathlib.Core.Path.{_≡_, refl}
 use mathlib.Core.Logic.{_≢_}
 use Prim.Native.Nat.{ℕ, zero, suc, _+_, _*_, _≤_, _<_}
 use native.Mathlib.Omega.{arith}
@@ -12,7 +12,7 @@ use Rattle.arith.specs.Sum.{Each}
 use Rattle.arith.proofs.Integers.{split, split2, zed}
 use Rattle.knapsack.specs.declared.Bound.the-variants.{Absent, At}
 use Rattle.knapsack.specs.declared.Item.{Item}
-use Rattle.knapsack.specs.Meaning.{Instance, Point, value, Feasible, Optimal, Infeasible, Unbounded, relaxed, LeastPair, NoPair}
+use Rattle.knapsack.specs.Meaning.{Instance, Point, value, Optimal, Infeasible, Unbounded, relaxed, LeastPair, NoPair}
 use Rattle.knapsack.specs.Table.{item, at, by, A, B, C, D, E, F, G, H, I, J, K, M, Best, StarredTable}
 use Rattle.knapsack.proofs.Common.{Feasibleᴰ}
 use Rattle.knapsack.proofs.Bridge.{Reads, bridge-optimal, bridge-infeasible, bridge-feasible}

@@ -7,16 +7,14 @@ use mathlib.Core.Path.{_≡_, refl, sym, ap, ap₂, _∙_, subst, subst₂}
 use mathlib.Core.Bool.{Bool, true, false, cond}
 use mathlib.Core.List.{List}
 use mathlib.Core.Logic.{_≢_, _⊎_, inl, inr}
-use Prim.Native.Nat.{ℕ, zero, _+_, _*_, _≤_, _<_}
+use Prim.Native.Nat.{ℕ, _+_, _*_, _≤_, _<_}
 use native.Mathlib.Omega.{arith}
 use lib.Dec.{ltb, eqb}
 use lib.IntN.{ℤ, pos, natAbs, _+ℤ_, _-ℤ_, _*ℤ_}
 use lib.Signed.{_≤ℤ_, _<ℤ_, ltZ}
 use borrow.Author.Tests.{lt-ltb, le-ltb, ltb-true, eqb-true}
 use Rattle.arith.specs.Within.{Within}
-use Rattle.arith.specs.Fractions.{Frac}
 use Rattle.arith.specs.Gcd.{Divides, lowest}
-use Rattle.arith.specs.Sum.{sum}
 use Rattle.arith.specs.declared.Fraction.{Fraction}
 use Rattle.arith.specs.declared.Mixed.{Mixed}
 use Rattle.arith.proofs.Divisors.{lowest-den, lowest-coprime}
@@ -30,12 +28,11 @@ use Rattle.amounts.specs.Amounts.{numerator}
 use Rattle.greedy.specs.declared.Columns.{Columns}
 use Rattle.greedy.specs.declared.Ends.{Ends}
 use Rattle.greedy.specs.declared.Fill.{Fill}
-use Rattle.greedy.specs.Fill.{at, weightOf, priceOf, itemOf, rankOf, lightest, lightOf, cornerWeight, begun, fill, bound, unit, stand, solution}
+use Rattle.greedy.specs.Fill.{at, weightOf, priceOf, itemOf, rankOf, lightest, lightOf, cornerWeight, begun, bound, unit, stand, solution}
 use Rattle.greedy.specs.Ordered.{Ordered}
 use Rattle.knapsack.specs.Records.{itemAt, InRange}
-use Rattle.knapsack.specs.Meaning.{Instance, instanceOf, amountAt, pointOf, weights, prices, Infeasible, Optimal, Shown, bare, Answers}
+use Rattle.knapsack.specs.Meaning.{Instance, instanceOf, amountAt, pointOf, weights, prices, Infeasible, Shown, bare, Answers}
 use Rattle.knapsack.specs.declared.Answer.{Answer}
-use Rattle.knapsack.specs.declared.Bound.the-variants.{At}
 use Rattle.knapsack.specs.declared.Item.{Item}
 use Rattle.knapsack.specs.declared.Kind.the-variants as kind
 use Rattle.knapsack.specs.declared.Problem.{Problem}

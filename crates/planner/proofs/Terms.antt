@@ -9,7 +9,7 @@ use native.Mathlib.Omega.{arith}
 use native.Mathlib.Decide.{decLt}
 use native.Mathlib.Nat.{mul-le-mul-right, mul-div-cancel, mul-comm}
 use lib.IntN.{ℤ, pos, natAbs, _*ℤ_}
-use Rattle.arith.specs.Fractions.{Frac, frac}
+use Rattle.arith.specs.Fractions.{frac}
 use Rattle.arith.specs.Gcd.{Divides, gcdOf, lowest}
 use Rattle.arith.specs.declared.Fraction.{Fraction}
 use Rattle.arith.proofs.Divisors.{IsGcd, gcd-is, gcd-unique, divides-self, divisor-pos, lowest-den, lowest-value, lowest-coprime}

@@ -13,7 +13,7 @@ ghost use Prim.Native.Nat.{_<_};
 ghost use lib.IntN.{pos, _*ℤ_};
 ghost use Rattle.arith.specs.Within.{Within};
 ghost use Rattle.knapsack.specs.Records.{itemAt, ItemInRange, InRange};
-ghost use Rattle.presolve.specs.Presolve.{same, takesOver, suits, multiple, stopLowered, stopRaised, openTo, orElse, restOf, fixedTo, beside, tried, fixedBy, fixedAround, presolved};
+ghost use Rattle.presolve.specs.Presolve.{same, takesOver, suits, multiple, stopLowered, stopRaised, openTo, orElse, restOf, fixedTo, beside, tried, fixedBy, presolved};
 
 fn equal(a: i64, b: i64) -> bool
     ensures { λ r. ⌜ r ≡ same a b ⌝ }
@@ -172,17 +172,6 @@ fn fix_by(p: Problem, i: usize) -> Problem
     q
 }
 
-fn fix_around(p: Problem, i: usize) -> Problem
-    requires { ⌜ InRange p × (i < p .count) ⌝ }
-    ensures { λ r. ⌜ r ≡ fixedAround p i ⌝ }
-{
-    let x = p.items[i];
-    if takes_over(x) {
-        return fix_by(p, i);
-    }
-    p
-}
-
 // The problem with every item fixed that another can take over from; later items take over first.
 pub fn presolve(p: Problem) -> Problem
     requires { ⌜ InRange p ⌝ }
@@ -192,7 +181,10 @@ pub fn presolve(p: Problem) -> Problem
     let mut i = p.count;
     while 0 < i {
         i -= 1;
-        q = fix_around(q, i);
+        let x = q.items[i];
+        if takes_over(x) {
+            q = fix_by(q, i);
+        }
     }
     q
 }

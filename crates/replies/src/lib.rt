@@ -12,7 +12,6 @@ use planner::no_point;
 use planner::plan;
 use sheet::Reading;
 use sheet::read;
-ghost use mathlib.Core.Path.{_≡_};
 ghost use Rattle.replies.specs.Replies.{Answered, Replies, Lists};
 
 // The answer of what was read.

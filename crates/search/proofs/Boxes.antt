@@ -9,7 +9,7 @@ use mathlib.Core.Logic.{_≢_}
 use Prim.Native.Nat.{ℕ, zero, suc, _≤_, _<_}
 use native.Mathlib.Omega.{arith}
 use native.Mathlib.Decide.{ℕ-discrete}
-use lib.ListN.{length, getD, set, length-set}
+use lib.ListN.{length, set, length-set}
 use lib.Seq.{getD-set-same, getD-set-other}
 use lib.IntN.{ℤ, pos}
 use lib.Signed.{_≤ℤ_, ≤ℤ-refl}
@@ -19,12 +19,12 @@ use Rattle.arith.proofs.Parts.{zs, to-within}
 use Rattle.knapsack.specs.declared.Mark.the-variants.{Integer}
 use Rattle.greedy.specs.declared.Ends.{Ends}
 use Rattle.greedy.specs.Fill.{at, fill, start}
-use Rattle.greedy.specs.Sized.{SizedEnds, Sized}
+use Rattle.greedy.specs.Sized.{SizedEnds}
 use Rattle.greedy.proofs.Relaxed.{InOrder, start-inside}
 use Rattle.places.proofs.Places.{Order, Laws}
 use Rattle.search.specs.declared.Setting.{Setting}
 use Rattle.search.specs.Search.{levelAt, spanned, fixedBy, startBy}
-use Rattle.search.specs.Ready.{ReadySetting, InsideTo, Inside}
+use Rattle.search.specs.Ready.{ReadySetting, InsideTo}
 use Rattle.search.specs.Steps.{Long}
 
 -- ---- one entry set

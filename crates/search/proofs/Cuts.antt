@@ -14,7 +14,7 @@ use native.Mathlib.Omega.{arith}
 use native.Mathlib.Decide.{decLt, ℕ-discrete}
 use lib.Dec.{ltb}
 use lib.IntN.{ℤ, pos, _+ℤ_, _-ℤ_, _*ℤ_}
-use lib.Signed.{_≤ℤ_, _<ℤ_, ≤ℤ-refl, ltZ, clashℤ}
+use lib.Signed.{_≤ℤ_, _<ℤ_, ltZ, clashℤ}
 use borrow.Author.Tests.{ltb-true}
 use Rattle.arith.specs.Sum.{sum}
 use Rattle.arith.specs.Mixed.{Proper, lessMixed}

@@ -4,7 +4,7 @@
 use mathlib.Core.Path.{_≡_, refl, sym, ap, ap₂, _∙_, subst}
 use mathlib.Core.Bool.{true, false}
 use mathlib.Core.List.{List, [], _∷_}
-use mathlib.Core.Logic.{_⊎_, inl, inr}
+use mathlib.Core.Logic.{inl, inr}
 use mathlib.Core.Option.{Option, none, some}
 use Prim.Native.Nat.{ℕ, zero, suc, _≤_, _<_}
 use native.Mathlib.Decide.{decLt, ℕ-discrete}
@@ -21,8 +21,8 @@ use Rattle.search.specs.declared.Pairs.{Pairs}
 use Rattle.search.specs.declared.Path.{Path}
 use Rattle.search.specs.declared.Setting.{Setting}
 use Rattle.search.specs.declared.State.{State}
-use Rattle.search.specs.Search.{startBy, Applies}
-use Rattle.search.specs.Steps.{LongPath, Dived, cutAt, Cut, Discarded, LookedAs, Turned, WentOn, countedBy, Stepped, origin, Begun, After, Took}
+use Rattle.search.specs.Search.{startBy}
+use Rattle.search.specs.Steps.{LongPath, Dived, cutAt, Cut, Discarded, LookedAs, Turned, WentOn, Stepped, origin, Begun, After, Took}
 use Rattle.search.proofs.Boxes.{start-cong}
 
 -- ---- lists with the same entries are equal
@@ -44,22 +44,22 @@ module _ (s : Setting) (P Q : ℕ → ℤ) (j : ℕ)
     (q-starts : (i : ℕ) → j ≤ i → i < s .levels → Q i ≡ startBy s Q i)
     (beyond : (i : ℕ) → s .levels ≤ i → P i ≡ Q i)
   where
-  -- the first n amounts agree
-  agree-to : (n i : ℕ) → i < n → P i ≡ Q i
-  agree-to zero i h = absurd (omega arith)
-  agree-to (suc n) i h = go (decLt i n) (decLt n j) (decLt n (s .levels)) (agree-to n)
-    where
-      here : Dec (n < j) → Dec (n < s .levels) → ((i : ℕ) → i < n → P i ≡ Q i) → P n ≡ Q n
-      here (yes l) m ih = first n l
-      here (no l) (yes m) ih = p-starts n (omega arith) m ∙ start-cong s P Q n ih ∙ sym (q-starts n (omega arith) m)
-      here (no l) (no m) ih = beyond n (omega arith)
+    -- the first n amounts agree
+    agree-to : (n i : ℕ) → i < n → P i ≡ Q i
+    agree-to zero i h = absurd (omega arith)
+    agree-to (suc n) i h = go (decLt i n) (decLt n j) (decLt n (s .levels)) (agree-to n)
+      where
+        here : Dec (n < j) → Dec (n < s .levels) → ((i : ℕ) → i < n → P i ≡ Q i) → P n ≡ Q n
+        here (yes l) m ih = first n l
+        here (no l) (yes m) ih = p-starts n (omega arith) m ∙ start-cong s P Q n ih ∙ sym (q-starts n (omega arith) m)
+        here (no l) (no m) ih = beyond n (omega arith)
 
-      go : Dec (i < n) → Dec (n < j) → Dec (n < s .levels) → ((i : ℕ) → i < n → P i ≡ Q i) → P i ≡ Q i
-      go (yes l) a b ih = ih i l
-      go (no l) a b ih = let e : i ≡ n = omega arith in rw e (here a b ih)
+        go : Dec (i < n) → Dec (n < j) → Dec (n < s .levels) → ((i : ℕ) → i < n → P i ≡ Q i) → P i ≡ Q i
+        go (yes l) a b ih = ih i l
+        go (no l) a b ih = let e : i ≡ n = omega arith in rw e (here a b ih)
 
-  agree : (i : ℕ) → P i ≡ Q i
-  agree i = agree-to (suc i) i (omega arith)
+    agree : (i : ℕ) → P i ≡ Q i
+    agree i = agree-to (suc i) i (omega arith)
 
 dived-once : (s : Setting) (j : ℕ) (p r r′ : Path) → Dived s j p r → Dived s j p r′ → r ≡ r′
 dived-once s j p r r′ d d′ = path-once r r′ (d .long) (d′ .long) places (λ i. starts i (decLt i j) (decLt i (s .levels)))

@@ -10,7 +10,7 @@ use mir.Syntax.{w64}
 use mir.Val.{SFits, toZ, ofZ}
 use mir.Facts.{toZ-ofZ}
 use borrow.Author.Tests.{lt-ltb, le-ltb}
-use Rattle.arith.proofs.Integers.{split, split2, zed}
+use Rattle.arith.proofs.Integers.{split2, zed}
 use Rattle.arith.proofs.Parts.{zs, neg, zero-less}
 use Rattle.arith.proofs.Words.{yes-lt, no-lt}
 use Rattle.knapsack.proofs.beyond.Statement.{statement}

@@ -1,5 +1,5 @@
 -- `lattice::highest` meets its contract.
-use mathlib.Core.Path.{_≡_, ap}
+use mathlib.Core.Path.{_≡_}
 use native.Mathlib.Omega.{arith}
 use lib.Dec.{lit<}
 use lib.IntN.{ℤ, _+ℤ_, _-ℤ_, _*ℤ_}

@@ -1,5 +1,5 @@
 -- `lattice::judge` meets its contract: its tests are those of the definition.
-use mathlib.Core.Path.{_≡_, ap}
+use mathlib.Core.Path.{_≡_}
 use mathlib.Core.Bool.{true}
 use lib.Dec.{lit<}
 use lib.IntN.{ℤ, _+ℤ_, _-ℤ_, _*ℤ_}

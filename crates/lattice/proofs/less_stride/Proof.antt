@@ -1,6 +1,6 @@
 -- `lattice::less_stride` meets its contract.
 use lib.Dec.{lit<}
-use lib.IntN.{ℤ, _-ℤ_}
+use lib.IntN.{_-ℤ_}
 use Rattle.arith.specs.Within.{Within}
 use Rattle.arith.proofs.Parts.{within-sub, within-sfits, within-back}
 use Rattle.lattice.proofs.less_stride.Statement.{statement}

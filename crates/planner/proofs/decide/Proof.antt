@@ -4,7 +4,6 @@ use mathlib.Core.Bool.{true}
 use borrow.Author.Needs.{needs}
 use Rattle.arith.proofs.Parts.{within-back}
 use Rattle.arith.proofs.Words.{yes-lt, no-lt}
-use Rattle.greedy.specs.Fill.{begun}
 use Rattle.prepare.specs.Narrowing.{spanOf, Narrowed}
 use Rattle.prepare.specs.Prepared.{PreparedAt}
 use Rattle.prepare.proofs.Nearer.{reach-small, narrowed-prepared}

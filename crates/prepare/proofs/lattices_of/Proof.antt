@@ -1,5 +1,5 @@
 -- `prepare::lattices_of` meets its contract: where all are fixed the lattices are those of weights and prices by level.
-use mathlib.Core.Path.{_≡_, _∙_}
+use mathlib.Core.Path.{_≡_}
 use borrow.Author.Needs.{needs}
 use borrow.Author.Tests.{lt-ltb, le-ltb}
 use Rattle.lattice.proofs.Levels.{unknown-at}

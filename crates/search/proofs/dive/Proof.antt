@@ -4,7 +4,6 @@ use Prim.Native.Nat.{_-_, _<_}
 use native.Mathlib.Omega.{arith}
 use borrow.Author.Needs.{needs}
 use Rattle.arith.proofs.Words.{back}
-use Rattle.greedy.specs.Fill.{at}
 use Rattle.search.specs.Search.{levelAt}
 use Rattle.search.specs.Steps.{Long, LongPath}
 use Rattle.search.proofs.Boxes.{item<16}

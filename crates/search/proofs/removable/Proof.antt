@@ -1,6 +1,5 @@
 -- `search::removable` meets its contract.
 use mathlib.Core.Path.{ap}
-use lib.IntN.{pos}
 use mir.Syntax.{w64}
 use mir.Val.{ofZ}
 use mir.Facts.{toZ-ofZ}

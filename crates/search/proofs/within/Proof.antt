@@ -4,7 +4,6 @@ use mathlib.Core.Bool.{Bool, true, false, not}
 use lib.Dec.{lit<}
 use lib.IntN.{ℤ, _-ℤ_}
 use lib.Signed.{_≤ℤ_, _<ℤ_, ltZ, clashℤ}
-use mir.Val.{toZ, ofZ}
 use mir.Facts.{toZ-ofZ}
 use Rattle.arith.specs.Within.{Within}
 use Rattle.arith.proofs.Parts.{impossible, within-sub, within-sfits, within-back}

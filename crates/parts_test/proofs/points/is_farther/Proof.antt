@@ -1,19 +1,18 @@
 -- `parts_test::points::is_farther` meets its contract: the two tests are one of the distance.
 use mathlib.Core.Path.{_≡_, refl, sym, _∙_}
 use mathlib.Core.Bool.{Bool, true, false}
-use Prim.Native.Nat.{ℕ, _≤_, _<_}
+use Prim.Native.Nat.{_≤_, _<_}
 use native.Mathlib.Omega.{arith}
 use lib.Dec.{ltb}
-use lib.IntN.{ℤ, pos, negsuc, negℤ, natAbs, _-ℤ_}
+use lib.IntN.{ℤ, pos, negℤ, natAbs, _-ℤ_}
 use lib.Signed.{_≤ℤ_, _<ℤ_, ltZ}
 use mir.Syntax.{w64}
 use mir.Val.{SFits, toZ, ofZ}
 use mir.Facts.{toZ-ofZ}
 use borrow.Author.Tests.{lt-ltb, le-ltb}
-use Rattle.arith.proofs.Integers.{split, split2, zed, ≤ℤ-or-<}
+use Rattle.arith.proofs.Integers.{split2, zed}
 use Rattle.arith.proofs.Parts.{zs, neg, zero-less}
 use Rattle.arith.proofs.Words.{yes-lt, no-lt}
-use Rattle.knapsack.specs.Records.{outside}
 use Rattle.parts_test.proofs.points.is_farther.Statement.{statement}
 use Rattle.parts_test.proofs.points.is_farther.Tie as tie
 

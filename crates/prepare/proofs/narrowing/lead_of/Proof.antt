@@ -1,6 +1,5 @@
 -- `prepare::narrowing::lead_of` meets its contract.
 use mathlib.Core.Path.{_≡_, sym, ap₂, _∙_}
-use Prim.Native.Nat.{_≤_}
 use native.Mathlib.Omega.{arith}
 use borrow.Author.Needs.{needs}
 use Rattle.prepare.specs.Narrowing.{larger, ownBound}
