@@ -9,8 +9,8 @@ use native.Mathlib.Omega.{arith}
 use lib.IntN.{ℤ, pos, negsuc, negℤ, _+ℤ_, _-ℤ_, _*ℤ_}
 use lib.Signed.{nonNeg, _≤ℤ_, _<ℤ_, leZ, ltZ, leZ-yes, ltZ-yes, ltZ-no}
 use borrow.Author.Tests.{leb-false}
-use mir.Syntax.{w64}
-use mir.Val.{Fits, SFits, toZ, ofZ}
+use mir.Syntax.{Width, w64}
+use mir.Val.{Fits, SFits, toZ, ofZ, hbits}
 use mir.Facts.{toZ-ofZ}
 use mathlib.Core.Bool.{Bool, true, false}
 use lib.IntN.{natAbs}
@@ -163,9 +163,13 @@ within-sub {m} {n} {x} {y} p q = to-within (omega (arith, diff x y)) (omega (ari
 pub within-more : {m n : ℕ} {z : ℤ} → m ≤ n → Within m z → Within n z
 within-more h w = record { above = omega (arith, w .above); below = omega (arith, w .below) }
 
+-- a range that fits a width
+pub within-width : (v : Width) {n : ℕ} {z : ℤ} → n < 2 ^ hbits v → Within n z → SFits v z
+within-width v {z = pos k} h w = record { sfits = omega (arith, w .above) }
+within-width v {z = negsuc k} h w = record { sfits = omega (arith, w .below) }
+
 pub within-sfits : {n : ℕ} {z : ℤ} → n < 2 ^ 63 → Within n z → SFits w64 z
-within-sfits {z = pos k} h w = record { sfits = omega arith }
-within-sfits {z = negsuc k} h w = record { sfits = omega arith }
+within-sfits h w = within-width w64 h w
 
 -- a number in a range that fits, read back from its bits: `within-back tt h`
 pub within-back : {n : ℕ} {z : ℤ} → T (ltb n (2 ^ 63)) → Within n z → toZ w64 (ofZ w64 z) ≡ z

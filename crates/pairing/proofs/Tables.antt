@@ -1,6 +1,6 @@
 -- Tables of pairs, spread.
 -- spread-first, spread-step: the turns of the loop that spreads them.
--- ready: what is spread from the table of a problem's least pairs is true of its columns.
+-- all-short: no step is long. ready: what is spread from the table of a problem's least pairs is true of its columns.
 use mathlib.Core.Path.{_≡_, refl, sym, _∙_, subst}
 use mathlib.Core.List.{List}
 use mathlib.Core.Logic.{_≢_}
@@ -21,7 +21,7 @@ use Rattle.greedy.specs.Fill.{at}
 use Rattle.search.specs.declared.Pairs.{Pairs}
 use Rattle.search.specs.Search.{pairIndex}
 use Rattle.search.specs.Ready.{TruePair, ReadyPairs}
-use Rattle.pairing.specs.Tables.{firstStep, secondStep, noSteps, withPair, Holds, Spread, Agrees}
+use Rattle.pairing.specs.Tables.{Short, noSteps, withPair, Holds, Spread, Agrees}
 
 -- ---- the loop
 
@@ -76,12 +76,18 @@ abbrev Tabled : Problem → List Pair → Type 0
 Tabled p t = (i j : ℕ) → i < 16 → j < 16 → getD t (16 * i + j) Missing ≡ tabled p i j
 
 module _ (p : Problem) where
-  steps-small : (i j : ℕ) (q : Pair) → tabled p i j ≡ q → (natAbs (firstStep q) ≤ 1000) × (natAbs (secondStep q) ≤ 1000)
+  steps-small : (i j : ℕ) (q : Pair) → tabled p i j ≡ q → Short q
   steps-small i j Missing e = (omega arith, omega arith)
   steps-small i j (Steps a b) e = let h = tabled-steps a b p i j e in (within-abs a (h .first-small), within-abs b (h .second-small))
 
+  entry : (t : List Pair) → Tabled p t → (k : ℕ) → k < 256 → getD t k Missing ≡ tabled p (k / 16) (k % 16)
+  entry t f k l = let e : 16 * (k / 16) + k % 16 ≡ k = omega arith in rw e at (f (k / 16) (k % 16) (omega arith) (omega arith))
+
+  pub all-short : (t : List Pair) → Tabled p t → (k : ℕ) → k < 256 → Short (getD t k Missing)
+  all-short t f k l = steps-small (k / 16) (k % 16) (getD t k Missing) (sym (entry t f k l))
+
   module _ (r : Pairs) where
-    small-at : (k : ℕ) (q : Pair) → Holds r k q → (natAbs (firstStep q) ≤ 1000) × (natAbs (secondStep q) ≤ 1000) → (natAbs (at (r .first) k) ≤ 1000) × (natAbs (at (r .second) k) ≤ 1000)
+    small-at : (k : ℕ) (q : Pair) → Holds r k q → Short q → (natAbs (at (r .first) k) ≤ 1000) × (natAbs (at (r .second) k) ≤ 1000)
     small-at k q h s = rw (h .first-step, h .second-step) s
 
     true-pair : (c : Columns) → Agrees p c → (i j : ℕ) (q : Pair) → tabled p i j ≡ q → Holds r (pairIndex i j) q → at (r .first) (pairIndex i j) ≢ pos 0 → TruePair c r i j
@@ -93,9 +99,6 @@ module _ (p : Problem) where
           loss = rw (h .first-step, h .second-step, g .prices-agree i (s .first-place), g .prices-agree j (s .second-place)) (s .pair .loss);
         }
 
-    entry : (t : List Pair) → Tabled p t → (k : ℕ) → k < 256 → getD t k Missing ≡ tabled p (k / 16) (k % 16)
-    entry t f k l = let e : 16 * (k / 16) + k % 16 ≡ k = omega arith in rw e at (f (k / 16) (k % 16) (omega arith) (omega arith))
-
     pub held : (t : List Pair) → Tabled p t → Spread t 256 r → (k : ℕ) → k < 256 → Holds r k (tabled p (k / 16) (k % 16))
     held t f s k l = subst (Holds r k) (entry t f k l) (s .held k l)
 
@@ -106,5 +109,5 @@ module _ (p : Problem) where
     }
       where
         steps-in : (k : ℕ) → Dec (k < 256) → (natAbs (at (r .first) k) ≤ 1000) × (natAbs (at (r .second) k) ≤ 1000)
-        steps-in k (yes l) = small-at k (getD t k Missing) (s .held k l) (steps-small (k / 16) (k % 16) (getD t k Missing) (sym (entry t f k l)))
+        steps-in k (yes l) = small-at k (getD t k Missing) (s .held k l) (all-short t f k l)
         steps-in k (no l) = small-at k Missing (s .rest k (omega arith)) (omega arith, omega arith)

@@ -1,5 +1,6 @@
 -- A table of pairs, spread over a table for each of the two steps.
 --   firstStep q, secondStep q   the steps of a pair; zero where there is none
+--   Short q                     they are within 1,000
 --   noSteps                     tables of zeros
 --   withPair r k q              the tables r with the steps of q at k
 --   Holds r k q                 the tables hold the steps of q at k
@@ -9,7 +10,7 @@
 use mathlib.Core.Path.{_≡_}
 use mathlib.Core.List.{List}
 use Prim.Native.Nat.{ℕ, _/_, _%_, _≤_, _<_}
-use lib.IntN.{ℤ, pos}
+use lib.IntN.{ℤ, pos, natAbs}
 use lib.ListN.{length, getD, set, replicate}
 use Rattle.knapsack.specs.declared.Problem.{Problem}
 use Rattle.knapsack.specs.Records.{itemAt}
@@ -28,6 +29,10 @@ firstStep (Steps a b) = a
 abbrev pub secondStep : Pair → ℤ
 secondStep Missing = pos 0
 secondStep (Steps a b) = b
+
+-- no step is longer than any least pair's
+abbrev pub Short : Pair → Type 0
+Short q = (natAbs (firstStep q) ≤ 1000) × (natAbs (secondStep q) ≤ 1000)
 
 abbrev pub noSteps : Pairs
 noSteps = record { first = replicate 256 (pos 0); second = replicate 256 (pos 0) }

@@ -5,8 +5,10 @@ use domination::pair_table;
 use knapsack::Problem;
 use search::Pairs;
 ghost use mathlib.Core.Path.{_≡_};
-ghost use Prim.Native.Nat.{_<_};
-ghost use Rattle.pairing.specs.Tables.{noSteps, withPair, Spread, PairsOf};
+ghost use Prim.Native.Nat.{ℕ, _<_};
+ghost use lib.ListN.{getD};
+ghost use Rattle.domination.specs.declared.Pair.the-variants.{Missing};
+ghost use Rattle.pairing.specs.Tables.{Short, noSteps, withPair, Spread, PairsOf};
 
 // The tables before they are filled.
 fn no_steps() -> Pairs
@@ -20,21 +22,22 @@ fn no_steps() -> Pairs
 
 // The tables with the steps of q at k; where q has none they stay.
 fn with_pair(r: Pairs, k: usize, q: Pair) -> Pairs
-    requires { ⌜ k < 256 ⌝ }
+    requires { ⌜ (k < 256) × Short q ⌝ }
     ensures { λ s. ⌜ s ≡ withPair r k q ⌝ }
 {
     let mut s = r;
     match q {
         Pair::Missing => s,
         Pair::Steps(a, b) => {
-            s.first[k] = a;
-            s.second[k] = b;
+            s.first[k] = a as i16;
+            s.second[k] = b as i16;
             s
         }
     }
 }
 
 fn spread(t: [Pair; 256]) -> Pairs
+    requires { ⌜ ((k : ℕ) → k < 256 → Short (getD t k Missing)) ⌝ }
     ensures { λ r. ⌜ Spread t 256 r ⌝ }
 {
     let mut r = no_steps();

@@ -23,7 +23,7 @@ use Rattle.greedy.specs.Sized.{SizedEnds}
 use Rattle.greedy.proofs.Relaxed.{InOrder, start-inside}
 use Rattle.places.proofs.Places.{Order, Laws}
 use Rattle.search.specs.declared.Setting.{Setting}
-use Rattle.search.specs.Search.{levelAt, spanned, fixedBy, startBy}
+use Rattle.search.specs.Search.{levelAt, spanned, fixedIn, fixedBy, startBy}
 use Rattle.search.specs.Ready.{ReadySetting, InsideTo}
 use Rattle.search.specs.Steps.{Long}
 
@@ -64,13 +64,13 @@ module _ (s : Setting) (r : ReadySetting s) (long : Long (s .ends)) where
   item<16 d l = omega (arith, r .level-in d l, r .sized .columns .few)
 
   pub fixed-long : (P : ℕ → ℤ) (d : ℕ) → Long (fixedBy s P d)
-  unfolding fixedBy
+  unfolding fixedIn
   fixed-long P zero = long
   fixed-long P (suc d) = span-long (fixedBy s P d) (levelAt s d) (P d) (P d) (fixed-long P d)
 
   -- an item of none of the levels passed keeps its ends
   pub fixed-other : (P : ℕ → ℤ) (d k : ℕ) → ((j : ℕ) → j < d → levelAt s j ≢ k) → (at (fixedBy s P d .lo) k ≡ at (s .ends .lo) k) × (at (fixedBy s P d .hi) k ≡ at (s .ends .hi) k)
-  unfolding fixedBy
+  unfolding fixedIn
   fixed-other P zero k h = (refl, refl)
   fixed-other P (suc d) k h =
       let ih = fixed-other P d k (λ j l. h j (omega arith)) in
@@ -79,7 +79,7 @@ module _ (s : Setting) (r : ReadySetting s) (long : Long (s .ends)) where
 
   -- a level passed stands at its amount
   pub fixed-level : (P : ℕ → ℤ) (d j : ℕ) → d ≤ s .levels → j < d → (at (fixedBy s P d .lo) (levelAt s j) ≡ P j) × (at (fixedBy s P d .hi) (levelAt s j) ≡ P j)
-  unfolding fixedBy
+  unfolding fixedIn
   fixed-level P zero j n l = absurd (omega arith)
   fixed-level P (suc d) j n l = go (ℕ-discrete j d) (λ m. fixed-level P d j (omega arith) m)
     where
@@ -112,7 +112,7 @@ module _ (s : Setting) (r : ReadySetting s) (long : Long (s .ends)) where
   inside-within P n d m l h = between (at (s .low) d) (at (s .high) d) (P d) (low-within d (omega arith)) (high-within d (omega arith)) (h d l .0) (h d l .1)
 
   pub fixed-sized : (P : ℕ → ℤ) (d : ℕ) → d ≤ s .levels → InsideTo s d P → SizedEnds (fixedBy s P d)
-  unfolding fixedBy
+  unfolding fixedIn
   fixed-sized P zero l h = r .sized .ends
   fixed-sized P (suc d) l h =
       let w = inside-within P (suc d) d l (omega arith) h in
@@ -127,7 +127,7 @@ module _ (s : Setting) (r : ReadySetting s) (long : Long (s .ends)) where
       go (no q) = rw (at-other (e .lo) k l j q, at-other (e .hi) k u j q) (o j m)
 
   pub fixed-order : (P : ℕ → ℤ) (d : ℕ) → d ≤ s .levels → InOrder (s .cols) (fixedBy s P d)
-  unfolding fixedBy
+  unfolding fixedIn
   fixed-order P zero l = r .in-order
   fixed-order P (suc d) l = span-order (fixedBy s P d) (levelAt s d) (P d) (P d) (fixed-long P d) (item<16 d (omega arith)) (≤ℤ-refl (P d)) (fixed-order P d (omega arith))
 
@@ -142,7 +142,7 @@ module _ (s : Setting) (r : ReadySetting s) (long : Long (s .ends)) where
 
 -- the levels above alone count
 pub fixed-cong : (s : Setting) (P Q : ℕ → ℤ) (d : ℕ) → Each d (λ k. P k ≡ Q k) → fixedBy s P d ≡ fixedBy s Q d
-unfolding fixedBy
+unfolding fixedIn
 fixed-cong s P Q zero h = refl
 fixed-cong s P Q (suc d) h = ap₂ (λ (e : Ends) (v : ℤ). spanned e (levelAt s d) v v) (fixed-cong s P Q d (λ k l. h k (omega arith))) (h d (omega arith))
 

@@ -41,7 +41,7 @@ use Rattle.lattice.proofs.Descent.{barren-true, known}
 use Rattle.places.proofs.Places.{Agree, Run}
 use Rattle.search.specs.declared.Setting.{Setting}
 use Rattle.search.specs.declared.Incumbent.{Incumbent}
-use Rattle.search.specs.Search.{levelAt, spanned, fixedBy, startBy, runEnds, slopeOf, sparseBy}
+use Rattle.search.specs.Search.{levelAt, spanned, fixedIn, fixedBy, startBy, runEnds, slopeOf, sparseBy}
 use Rattle.search.specs.Ready.{ReadySetting, Marked}
 use Rattle.search.specs.Steps.{Long}
 use Rattle.search.proofs.Boxes.{at-same, at-other, orderOf, item<16, fixed-long, fixed-level, fixed-other}
@@ -109,7 +109,7 @@ module _ (s : Setting) (r : ReadySetting s) (long : Long (s .ends)) (marks : ℕ
   module _ (D : ℕ) (N : ℕ → ℤ) (d≥1 : 1 ≤ D) (p : Feasibleᴰ (box s marks) D N) (y : ℕ → ℤ) (a : AtPlace s marks D N y) where
     -- the point is in the box of each prefix that it shares
     pub in-fixed : (P : ℕ → ℤ) (d : ℕ) → d ≤ s .levels → Agree d P y → InBox (s .cols) (fixedBy s P d) D N
-    unfolding fixedBy
+    unfolding fixedIn
     in-fixed P zero l h = in-box (s .cols) (s .ends) marks D N p
     in-fixed P (suc d) l h =
         let e : N (levelAt s d) ≡ P d *ℤ pos D = a d l ∙ ap (λ z. z *ℤ pos D) (sym (h d (omega arith))) in

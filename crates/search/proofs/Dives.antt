@@ -15,7 +15,7 @@ use Rattle.greedy.specs.Fill.{at, fill, start}
 use Rattle.greedy.specs.Sized.{Sized}
 use Rattle.search.specs.declared.Setting.{Setting}
 use Rattle.search.specs.declared.Path.{Path}
-use Rattle.search.specs.Search.{levelAt, spanned, fixedBy, startBy}
+use Rattle.search.specs.Search.{levelAt, spanned, fixedIn, fixedBy, startBy}
 use Rattle.search.specs.Ready.{ReadySetting, InsideTo}
 use Rattle.search.specs.Steps.{Long, LongPath, Dived, Turnable, Turned}
 use Rattle.search.proofs.Boxes.{at-same, at-other, fixed-cong, start-cong, start-in, fixed-sized}
@@ -46,7 +46,7 @@ module _ (s : Setting) (r : ReadySetting s) (long : Long (s .ends)) (j : ℕ) (p
   diving-sized q e k d = record { columns = r .sized .columns; ends = rw (d .ends-are) (fixed-sized s r long (at (q .place)) k (d .top) (d .inside)) }
 
   pub diving-step : (q : Path) (e : Ends) (k : ℕ) → k < s .levels → Diving s j p q e k → Diving s j p (begunAt q k (startIn s e k)) (spanned e (levelAt s k) (startIn s e k) (startIn s e k)) (k + 1)
-  unfolding startBy fixedBy
+  unfolding startBy fixedIn
   diving-step q e k l d = record {
     past = omega (arith, d .past);
     top = omega arith;
@@ -103,6 +103,10 @@ module _ (s : Setting) (r : ReadySetting s) (long : Long (s .ends)) (j : ℕ) (p
 
   pub diving-done : (q : Path) (e : Ends) (k : ℕ) → s .levels ≤ k → Diving s j p q e k → Dived s j p q
   diving-done q e k l d = record { kept = d .kept; filled = λ i m n. d .filled i m (omega arith); beyond = λ i m. d .beyond i (omega (arith, d .top)); long = d .long }
+
+-- no level is left
+pub dived-none : (s : Setting) (k : ℕ) (p : Path) → s .levels ≤ k → LongPath p → Dived s k p p
+dived-none s k p l g = record { kept = λ i m. (refl, refl); filled = λ i m n. absurd (omega arith); beyond = λ i m. (refl, refl); long = g }
 
 -- ---- turning at a level
 

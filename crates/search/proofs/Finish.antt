@@ -38,13 +38,14 @@ use Rattle.search.specs.declared.Pairs.{Pairs}
 use Rattle.search.specs.declared.Incumbent.{Incumbent}
 use Rattle.search.specs.declared.Path.{Path}
 use Rattle.search.specs.declared.State.{State}
+use Rattle.search.specs.declared.Trial.{Trial}
 use Rattle.search.specs.Search.{levelAt, fixedBy, startBy, runEnds, cutBy, betters, triedBy}
 use Rattle.search.specs.Ready.{ReadySetting, ReadyPairs, Ready, Inside, Marked, chosen, Searched}
-use Rattle.search.specs.Steps.{Long, Started, ProperBest, Judges, LookedAs, Dived, nobody, Turned, WentOn, Stepped}
+use Rattle.search.specs.Steps.{Long, Started, ProperBest, Judges, Passed, kept, LookedAs, Dived, nobody, Turned, freshBy, WentOn, Stepped}
 use Rattle.search.proofs.Boxes.{orderOf, order-laws, fixed-order, fixed-level, fixed-other}
 use Rattle.search.proofs.Bounds.{bound-proper}
 use Rattle.search.proofs.Runs.{fixed-judged}
-use Rattle.search.proofs.Turns.{looked-in, past-started}
+use Rattle.search.proofs.Turns.{looked-in, looked-passed, looked-kept, past-started, move-in, passed-on}
 use Rattle.search.proofs.Cuts.{box, AtPlace, AtMostBest, Bettered, InBox, rebox}
 use Rattle.search.proofs.Cuts.{Settled as SettledAt}
 use Rattle.search.proofs.Settle.{cut-settles, pair-settles, tried-settles, tried-keeps}
@@ -86,22 +87,28 @@ module _ (s : Setting) (r : ReadySetting s) (long : Long (s .ends)) where
 
   -- ---- a verdict settles what it covers
 
-  module _ (ps : Pairs) (rp : ReadyPairs (s .cols) ps) (t : Path) (started : Started s t) (b b′ : Incumbent) (g : GoodBest s b) where
-    pub looked-good : (w : Settled) → LookedAs s ps t b b′ w → GoodBest s b′
-    looked-good (Run d) (e, c) = rw e g
-    looked-good (Prefix n) (inl h) = rw (h .better) (tried-good (t .place) b (started .inside) g)
-    looked-good (Prefix n) (inr (e, c)) = rw e g
+  kept-best : {r′ : Trial} {b : Incumbent} → r′ ≡ kept b → r′ .best ≡ b
+  kept-best e = ap (λ (r : Trial). r .best) e
+
+  module _ (ps : Pairs) (rp : ReadyPairs (s .cols) ps) (t : Path) (started : Started s t) (b : Incumbent) (r′ : Trial) (g : GoodBest s b) where
+    abbrev b′ : Incumbent
+    b′ = r′ .best
+
+    pub looked-good : (w : Settled) → LookedAs s ps t b r′ w → GoodBest s b′
+    looked-good (Run d) (e, c) = rw (kept-best e) g
+    looked-good (Prefix n) (inl h) = rw (h .tries .best-is) (tried-good (t .place) b (started .inside) g)
+    looked-good (Prefix n) (inr (e, c)) = rw (kept-best e) g
 
     module _ (marks : ℕ → Mark) (m : Marked s marks) where
-      pub keeps-settled : (w : Settled) → LookedAs s ps t b b′ w → (y : Place) → SettledAt s marks b y → SettledAt s marks b′ y
-      keeps-settled (Run d) (e, c) y h = rw e h
-      keeps-settled (Prefix n) (inl k) y h = rw (k .better) (tried-keeps s r long marks m (at (t .place)) (started .inside) (t .place) b (g .proper) y h)
-      keeps-settled (Prefix n) (inr (e, c)) y h = rw e h
+      pub keeps-settled : (w : Settled) → LookedAs s ps t b r′ w → (y : Place) → SettledAt s marks b y → SettledAt s marks b′ y
+      keeps-settled (Run d) (e, c) y h = rw (kept-best e) h
+      keeps-settled (Prefix n) (inl k) y h = rw (k .tries .best-is) (tried-keeps s r long marks m (at (t .place)) (started .inside) (t .place) b (g .proper) y h)
+      keeps-settled (Prefix n) (inr (e, c)) y h = rw (kept-best e) h
 
-      pub settles-verdict : (w : Settled) → LookedAs s ps t b b′ w → Settles (orderOf s) w (at (t .place)) (SettledAt s marks b′)
-      settles-verdict (Run d) (e, c) = λ y bx run. rw e (cut-settles s r long marks m (at (t .place)) (started .inside) d b (c .level-in) (g .proper) (subst (λ v. cutBy (s .cols) (s .soft) (latticeAt (s .lattice) d) (runEnds s (at (t .place)) v d) b ≡ true) (started .starts d (c .level-in)) (c .cut)) y run)
-      settles-verdict (Prefix n) (inl h) = λ y bx a. rw (h .better) (tried-settles s r long marks m (at (t .place)) (started .inside) (t .place) b (g .proper) y (subst (λ k. Agree k (at (t .place)) y) (h .all) a))
-      settles-verdict (Prefix n) (inr (e, c)) = λ y bx a. rw e (pair-settles s r long marks m (at (t .place)) (started .inside) ps rp (c .level) b (c .level-in) (c .paired) y (subst (λ k. Agree k (at (t .place)) y) (c .last) a))
+      pub settles-verdict : (w : Settled) → LookedAs s ps t b r′ w → Settles (orderOf s) w (at (t .place)) (SettledAt s marks b′)
+      settles-verdict (Run d) (e, c) = λ y bx run. rw (kept-best e) (cut-settles s r long marks m (at (t .place)) (started .inside) d b (c .level-in) (g .proper) (subst (λ v. cutBy (s .cols) (s .soft) (latticeAt (s .lattice) d) (runEnds s (at (t .place)) v d) b ≡ true) (started .starts d (c .level-in)) (c .cut)) y run)
+      settles-verdict (Prefix n) (inl h) = λ y bx a. rw (h .tries .best-is) (tried-settles s r long marks m (at (t .place)) (started .inside) (t .place) b (g .proper) y (subst (λ k. Agree k (at (t .place)) y) (h .all) a))
+      settles-verdict (Prefix n) (inr (e, c)) = λ y bx a. rw (kept-best e) (pair-settles s r long marks m (at (t .place)) (started .inside) ps rp (c .level) b (c .level-in) (c .paired) y (subst (λ k. Agree k (at (t .place)) y) (c .last) a))
 
 -- ---- the invariant
 
@@ -113,6 +120,14 @@ pub record Going (s : Setting) (q : State) : Type 0 where
   pub good : GoodBest s (q .best)
   pub covered : (marks : ℕ → Mark) → Marked s marks → Covered s marks q
 
+-- the levels above the first that is to be looked at settle nothing
+pub record Fresh (s : Setting) (p : Pairs) (q : State) : Type 0 where
+  pub from-in : q .from ≤ s .levels
+  pub passed : Passed s p (q .path) (q .best) (q .from)
+
+pub fresh-top : (s : Setting) (p : Pairs) (q : State) → q .from ≡ 0 → Fresh s p q
+fresh-top s p q e = record { from-in = omega (arith, e); passed = record { uncut = λ i l. absurd (omega (arith, e)); unpaired = λ i l. absurd (omega (arith, e)) } }
+
 -- what is left of a search
 unfoldable pub left : Setting → State → ℕ
 left s q = cond (q .done) 0 (suc (μ (orderOf s) (at (q .path .place))))
@@ -121,20 +136,24 @@ module _ (s : Setting) (ps : Pairs) (ready : Ready s ps) (q r : State) (g : Goin
   abbrev t : Path
   t = q .path
 
+  -- the incumbent after the step
+  abbrev after : Trial
+  after = record { best = r .best; better = st .better }
+
   long : Long (s .ends)
   long = g .started .long
 
   in-levels : SettledIn (s .levels) (st .verdict)
-  in-levels = looked-in s ps t (q .best) (r .best) (st .verdict) (st .looked)
+  in-levels = looked-in s ps t (q .best) after (st .verdict) (st .looked)
 
   good′ : GoodBest s (r .best)
-  good′ = looked-good s (ready .setting) long ps (ready .true-pairs) t (g .started) (q .best) (r .best) (g .good) (st .verdict) (st .looked)
+  good′ = looked-good s (ready .setting) long ps (ready .true-pairs) t (g .started) (q .best) after (g .good) (st .verdict) (st .looked)
 
   abbrev lead : Option (ℕ × ℤ)
   lead = pastOf (st .verdict) (at (s .low)) (at (s .high)) (startBy s (at (t .place))) (at (t .place))
 
-  went : WentOn s q lead r
-  went = subst (λ o. WentOn s q o r) (past-started s t (st .verdict) (g .started) in-levels) (st .went)
+  went : WentOn s q (st .better) lead r
+  went = subst (λ o. WentOn s q (st .better) o r) (past-started s t (st .verdict) (g .started) in-levels) (st .went)
 
   goes : (S : Place → Type 0) → Settles (orderOf s) (st .verdict) (at (t .place)) S → Covers (orderOf s) S (at (t .place)) → Goes (orderOf s) S (at (t .place)) lead (at (r .path .place))
   goes S h c = step-goes (order-laws s (ready .setting) long) S (at (t .place)) (g .started .inside) (at (r .path .place)) (st .verdict) in-levels h c
@@ -143,10 +162,10 @@ module _ (s : Setting) (ps : Pairs) (ready : Ready s ps) (q r : State) (g : Goin
   moved j v h = record { above = λ k o. sym (h .above k o); here = h .here; deeper = λ k o l. h .deeper k o l }
 
   settles : (marks : ℕ → Mark) → Marked s marks → Settles (orderOf s) (st .verdict) (at (t .place)) (SettledAt s marks (r .best))
-  settles marks m = settles-verdict s (ready .setting) long ps (ready .true-pairs) t (g .started) (q .best) (r .best) (g .good) marks m (st .verdict) (st .looked)
+  settles marks m = settles-verdict s (ready .setting) long ps (ready .true-pairs) t (g .started) (q .best) after (g .good) marks m (st .verdict) (st .looked)
 
   covers : (marks : ℕ → Mark) → Marked s marks → Covers (orderOf s) (SettledAt s marks (r .best)) (at (t .place))
-  covers marks m = covers-mono (orderOf s) (SettledAt s marks (q .best)) (SettledAt s marks (r .best)) (at (t .place)) (λ y. keeps-settled s (ready .setting) long ps (ready .true-pairs) t (g .started) (q .best) (r .best) (g .good) marks m (st .verdict) (st .looked) y) (g .covered marks m .0 on)
+  covers marks m = covers-mono (orderOf s) (SettledAt s marks (q .best)) (SettledAt s marks (r .best)) (at (t .place)) (λ y. keeps-settled s (ready .setting) long ps (ready .true-pairs) t (g .started) (q .best) after (g .good) marks m (st .verdict) (st .looked) y) (g .covered marks m .0 on)
 
   no-end : true ≡ false → ⊥
   no-end h = impossible (sym h)
@@ -158,13 +177,13 @@ module _ (s : Setting) (ps : Pairs) (ready : Ready s ps) (q r : State) (g : Goin
   pub going-on : Going s r
   going-on = go lead went (λ S h c. goes S h c)
     where
-      go : (o : Option (ℕ × ℤ)) → WentOn s q o r → ((S : Place → Type 0) → Settles (orderOf s) (st .verdict) (at (t .place)) S → Covers (orderOf s) S (at (t .place)) → Goes (orderOf s) S (at (t .place)) o (at (r .path .place))) → Going s r
-      go none (d, same) gs = record {
+      go : (o : Option (ℕ × ℤ)) → WentOn s q (st .better) o r → ((S : Place → Type 0) → Settles (orderOf s) (st .verdict) (at (t .place)) S → Covers (orderOf s) S (at (t .place)) → Goes (orderOf s) S (at (t .place)) o (at (r .path .place))) → Going s r
+      go none (d, (same, top)) gs = record {
         started = rw same (g .started);
         good = good′;
         covered = λ marks m. ((λ f. absurd (no-end (sym d ∙ f))), (λ f. gs (SettledAt s marks (r .best)) (settles marks m) (covers marks m)));
       }
-      go (some (j, v)) (d, turned) gs = record {
+      go (some (j, v)) (d, (turned, from)) gs = record {
         started = record { long = long; inside = gs (λ y. Unit {0}) (all (st .verdict)) (λ y bx. inl tt) (moved j v turned) .1; starts = turned .starts };
         good = good′;
         covered = λ marks m. ((λ f. gs (SettledAt s marks (r .best)) (settles marks m) (covers marks m) (moved j v turned) .0), (λ f. absurd (no-end (sym f ∙ d))));
@@ -174,9 +193,24 @@ module _ (s : Setting) (ps : Pairs) (ready : Ready s ps) (q r : State) (g : Goin
   unfolding left
   going-less = rw on (go lead went (goes (λ y. Unit {0}) (all (st .verdict)) (λ y bx. inl tt)))
     where
-      go : (o : Option (ℕ × ℤ)) → WentOn s q o r → Goes (orderOf s) (λ y. Unit {0}) (at (t .place)) o (at (r .path .place)) → cond (r .done) 0 (suc (μ (orderOf s) (at (r .path .place)))) < suc (μ (orderOf s) (at (t .place)))
-      go none (d, same) gs = rw d (omega arith)
-      go (some (j, v)) (d, turned) gs = rw d (omega (arith, gs (moved j v turned) .2))
+      go : (o : Option (ℕ × ℤ)) → WentOn s q (st .better) o r → Goes (orderOf s) (λ y. Unit {0}) (at (t .place)) o (at (r .path .place)) → cond (r .done) 0 (suc (μ (orderOf s) (at (r .path .place)))) < suc (μ (orderOf s) (at (t .place)))
+      go none (d, (same, top)) gs = rw d (omega arith)
+      go (some (j, v)) (d, (turned, from)) gs = rw d (omega (arith, gs (moved j v turned) .2))
+
+  pub fresh-on : Fresh s ps r
+  fresh-on = go lead went refl
+    where
+      kept-above : (j : ℕ) (v : ℤ) → Turned s t j v (r .path) → lead ≡ some (j, v) → (f : Bool) → st .better ≡ f → r .from ≡ freshBy f j → Fresh s ps r
+      kept-above j v h e true b from = fresh-top s ps r from
+      kept-above j v h e false b from =
+          let m = move-in s (ready .setting) long (at (t .place)) (g .started .inside) (st .verdict) in-levels j v e in
+          let same = looked-kept s ps t (q .best) after (st .verdict) (st .looked) b in
+          let p = passed-on s ps t (r .path) (q .best) j v (g .started) (m .level-in) h (looked-passed s ps t (q .best) after (st .verdict) (st .looked) j (m .below)) in
+          record { from-in = omega (arith, from, m .level-in); passed = rw (from, same) p }
+
+      go : (o : Option (ℕ × ℤ)) → WentOn s q (st .better) o r → lead ≡ o → Fresh s ps r
+      go none (d, (same, top)) e = fresh-top s ps r top
+      go (some (j, v)) (d, (turned, from)) e = kept-above j v turned e (st .better) refl from
 
 -- ---- what the search comes to
 
@@ -308,7 +342,7 @@ searched s r q g d = record {
 
 -- ---- the beginning
 
-pub going-first : (s : Setting) → ReadySetting s → Long (s .ends) → (p r : Path) (n : ℕ) → Dived s 0 p r → Going s (record { path = r; best = nobody; steps = n; done = false })
+pub going-first : (s : Setting) → ReadySetting s → Long (s .ends) → (p r : Path) (n : ℕ) → Dived s 0 p r → Going s (record { path = r; best = nobody; steps = n; from = 0; done = false })
 going-first s ready long p r n d = record {
   started = record { long = long; inside = inside; starts = λ i l. let h = d .filled i (omega arith) l in h .1 ∙ h .0 };
   good = record { proper = λ h. absurd (impossible h); inside = λ h. absurd (impossible h); roomy = λ h. absurd (impossible h); value-is = λ h. absurd (impossible h) };

@@ -1,8 +1,8 @@
 -- A search has one end: what a look settles, a step and the states that follow from the first are determined.
 -- looked-once, step-once, after-once: there is one verdict, one next state, one state after so many steps.
 -- took-once: and so one state in which the search ends, with one number of steps.
-use mathlib.Core.Path.{_≡_, refl, sym, ap, ap₂, _∙_, subst}
-use mathlib.Core.Bool.{true, false}
+use mathlib.Core.Path.{_≡_, refl, sym, ap, ap₂, _∙_, subst, subst₂}
+use mathlib.Core.Bool.{Bool, true, false}
 use mathlib.Core.List.{List, [], _∷_}
 use mathlib.Core.Logic.{inl, inr}
 use mathlib.Core.Option.{Option, none, some}
@@ -12,6 +12,8 @@ use native.Mathlib.Omega.{arith}
 use lib.IntN.{ℤ}
 use lib.ListN.{length}
 use Rattle.arith.proofs.Parts.{impossible}
+use Rattle.greedy.specs.declared.Columns.{Columns}
+use Rattle.greedy.specs.declared.Ends.{Ends}
 use Rattle.greedy.specs.Fill.{at}
 use Rattle.places.specs.declared.Settled.{Settled}
 use Rattle.places.specs.declared.Settled.the-variants.{Run, Prefix}
@@ -21,8 +23,9 @@ use Rattle.search.specs.declared.Pairs.{Pairs}
 use Rattle.search.specs.declared.Path.{Path}
 use Rattle.search.specs.declared.Setting.{Setting}
 use Rattle.search.specs.declared.State.{State}
+use Rattle.search.specs.declared.Trial.{Trial}
 use Rattle.search.specs.Search.{startBy}
-use Rattle.search.specs.Steps.{LongPath, Dived, cutAt, Cut, Discarded, LookedAs, Turned, WentOn, Stepped, origin, Begun, After, Took}
+use Rattle.search.specs.Steps.{LongPath, Dived, cutAt, Cut, Discarded, Tries, LookedAs, Turned, WentOn, Stepped, origin, Begun, After, Took}
 use Rattle.search.proofs.Boxes.{start-cong}
 
 -- ---- lists with the same entries are equal
@@ -130,13 +133,16 @@ module _ (s : Setting) (p : Pairs) (t : Path) (b : Incumbent) where
       go (same e) = h .last ∙ ap suc e ∙ sym (h′ .last)
       go (after l) = absurd (h .passed .unpaired (h′ .level) l (h′ .paired))
 
-  pub looked-once : (c c′ : Incumbent) (w w′ : Settled) → LookedAs s p t b c w → LookedAs s p t b c′ w′ → (w ≡ w′) × (c ≡ c′)
+  tries-once : (c : Columns) (e : Ends) (x : List ℤ) (r r′ : Trial) → Tries c e x b r → Tries c e x b r′ → r ≡ r′
+  tries-once c e x r r′ h k = ap₂ (λ (i : Incumbent) (f : Bool). record { best = i; better = f }) (h .best-is ∙ sym (k .best-is)) (h .better-is ∙ sym (k .better-is))
+
+  pub looked-once : (c c′ : Trial) (w w′ : Settled) → LookedAs s p t b c w → LookedAs s p t b c′ w′ → (w ≡ w′) × (c ≡ c′)
   looked-once c c′ (Run d) (Run d′) (e, h) (e′, h′) = (ap Run (cut-once d d′ h h′), e ∙ sym e′)
   looked-once c c′ (Run d) (Prefix n) (e, h) (inl k) = absurd (clash d (h .cut) (k .passed .uncut d (h .level-in)))
   looked-once c c′ (Run d) (Prefix n) (e, h) (inr (e′, k)) = absurd (not-both d n h k)
   looked-once c c′ (Prefix n) (Run d) (inl k) (e, h) = absurd (clash d (h .cut) (k .passed .uncut d (h .level-in)))
   looked-once c c′ (Prefix n) (Run d) (inr (e′, k)) (e, h) = absurd (not-both d n h k)
-  looked-once c c′ (Prefix n) (Prefix n′) (inl h) (inl k) = (ap Prefix (h .all ∙ sym (k .all)), h .better ∙ sym (k .better))
+  looked-once c c′ (Prefix n) (Prefix n′) (inl h) (inl k) = (ap Prefix (h .all ∙ sym (k .all)), tries-once _ _ _ c c′ (h .tries) (k .tries))
   looked-once c c′ (Prefix n) (Prefix n′) (inl h) (inr (e, k)) = absurd (h .passed .unpaired (k .level) (k .level-in) (k .paired))
   looked-once c c′ (Prefix n) (Prefix n′) (inr (e, k)) (inl h) = absurd (h .passed .unpaired (k .level) (k .level-in) (k .paired))
   looked-once c c′ (Prefix n) (Prefix n′) (inr (e, h)) (inr (e′, k)) = (ap Prefix (discarded-once n n′ h k), e ∙ sym e′)
@@ -144,27 +150,27 @@ module _ (s : Setting) (p : Pairs) (t : Path) (b : Incumbent) where
 -- ---- steps
 
 module _ (s : Setting) (p : Pairs) where
-  went-once : (q r r′ : State) (o : Option (ℕ × ℤ)) → WentOn s q o r → WentOn s q o r′ → (r .path ≡ r′ .path) × (r .done ≡ r′ .done)
-  went-once q r r′ none (d, e) (d′, e′) = (e ∙ sym e′, d ∙ sym d′)
-  went-once q r r′ (some m) (d, h) (d′, h′) = (turned-once s (q .path) (m .0) (m .1) (r .path) (r′ .path) h h′, d ∙ sym d′)
+  went-once : (q r r′ : State) (f : Bool) (o : Option (ℕ × ℤ)) → WentOn s q f o r → WentOn s q f o r′ → (r .path ≡ r′ .path) × ((r .from ≡ r′ .from) × (r .done ≡ r′ .done))
+  went-once q r r′ f none (d, (e, l)) (d′, (e′, l′)) = (e ∙ sym e′, (l ∙ sym l′, d ∙ sym d′))
+  went-once q r r′ f (some m) (d, (h, l)) (d′, (h′, l′)) = (turned-once s (q .path) (m .0) (m .1) (r .path) (r′ .path) h h′, (l ∙ sym l′, d ∙ sym d′))
 
-  state-once : (r r′ : State) → r .path ≡ r′ .path → r .best ≡ r′ .best → r .steps ≡ r′ .steps → r .done ≡ r′ .done → r ≡ r′
-  state-once r r′ a b c d = λ i. record { path = a i; best = b i; steps = c i; done = d i }
+  state-once : (r r′ : State) → r .path ≡ r′ .path → r .best ≡ r′ .best → r .steps ≡ r′ .steps → r .from ≡ r′ .from → r .done ≡ r′ .done → r ≡ r′
+  state-once r r′ a b c d e = λ i. record { path = a i; best = b i; steps = c i; from = d i; done = e i }
 
   pub step-once : (q r r′ : State) → Stepped s p q r → Stepped s p q r′ → r ≡ r′
-  step-once q r r′ h k = state-once r r′ (w .0) (l .1) (h .counted ∙ sym (k .counted)) (w .1)
+  step-once q r r′ h k = state-once r r′ (w .0) (ap (λ (x : Trial). x .best) (l .1)) (h .counted ∙ sym (k .counted)) (w .1 .0) (w .1 .1)
     where
-      l : (h .verdict ≡ k .verdict) × (r .best ≡ r′ .best)
-      l = looked-once s p (q .path) (q .best) (r .best) (r′ .best) (h .verdict) (k .verdict) (h .looked) (k .looked)
+      l : (h .verdict ≡ k .verdict) × (_≡_ {A = Trial} (record { best = r .best; better = h .better }) (record { best = r′ .best; better = k .better }))
+      l = looked-once s p (q .path) (q .best) (record { best = r .best; better = h .better }) (record { best = r′ .best; better = k .better }) (h .verdict) (k .verdict) (h .looked) (k .looked)
 
       lead : Settled → Option (ℕ × ℤ)
       lead w = pastOf w (at (s .low)) (at (s .high)) (at (q .path .starts)) (at (q .path .place))
 
-      w : (r .path ≡ r′ .path) × (r .done ≡ r′ .done)
-      w = went-once q r r′ (lead (k .verdict)) (subst (λ v. WentOn s q (lead v) r) (l .0) (h .went)) (k .went)
+      w : (r .path ≡ r′ .path) × ((r .from ≡ r′ .from) × (r .done ≡ r′ .done))
+      w = went-once q r r′ (k .better) (lead (k .verdict)) (subst₂ (λ f v. WentOn s q f (lead v) r) (ap (λ (x : Trial). x .better) (l .1)) (l .0) (h .went)) (k .went)
 
   begun-once : (q q′ : State) → Begun s q → Begun s q′ → q ≡ q′
-  begun-once q q′ h k = state-once q q′ (dived-once s 0 origin (q .path) (q′ .path) (h .first) (k .first)) (h .nothing ∙ sym (k .nothing)) (h .no-steps ∙ sym (k .no-steps)) (h .going ∙ sym (k .going))
+  begun-once q q′ h k = state-once q q′ (dived-once s 0 origin (q .path) (q′ .path) (h .first) (k .first)) (h .nothing ∙ sym (k .nothing)) (h .no-steps ∙ sym (k .no-steps)) (h .top ∙ sym (k .top)) (h .going ∙ sym (k .going))
 
   pub after-once : (n : ℕ) (q q′ : State) → After s p n q → After s p n q′ → q ≡ q′
   unfolding After

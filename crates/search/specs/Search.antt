@@ -1,13 +1,14 @@
 -- The search over places: what each part of a step computes.
 --   spanned e k l u     the box e with the ends l and u for item k
---   fixedBy s P d       the search's box with the first d levels fixed at P
+--   fixedBy s P d       the search's box with the first d levels fixed at P;  fixedIn: by the box and the levels
 --   startBy s P d       where level d starts below P's first d amounts: its item's amount in the relaxation, rounded to the light end
 --   runBox, runEnds     the box of P's run at level d, which starts at v: what is left of its segment there, and all below
 --   bySide x v a b      a below v, b from v on
 --   sparseBy c l f b    no value above b is found on the lattice l, within the room and the slope of the filling f
 --   mixedBy m f …       integer items that take whole strides of the room, and continuous ones that take the rest, make no value above b
 --   cutBy c m l e best  the box e holds nothing, or nothing better than the incumbent
---   triedBy c e x best  the better of the incumbent and the relaxation of e, a place with all levels fixed at x
+--   betterBy c e best   the relaxation of e, a place with all levels fixed, is better than the incumbent
+--   triedBy c e x best  the better of the two, where the levels are fixed at x
 --   Applies s p x d     a domination pair of level d's item and one above can be taken away from x within the box
 use mathlib.Core.Path.{_≡_}
 use mathlib.Core.Bool.{Bool, true, false, not, cond}
@@ -39,9 +40,13 @@ levelAt s d = place (s .level) d
 abbrev pub spanned : Ends → ℕ → ℤ → ℤ → Ends
 spanned e k l u = record { lo = set (e .lo) k l; hi = set (e .hi) k u }
 
-unfoldable pub fixedBy : Setting → (ℕ → ℤ) → ℕ → Ends
-fixedBy s P zero = s .ends
-fixedBy s P (suc d) = spanned (fixedBy s P d) (levelAt s d) (P d) (P d)
+-- the box e with the items of the first d levels l fixed at P
+unfoldable pub fixedIn : Ends → List ℕ → (ℕ → ℤ) → ℕ → Ends
+fixedIn e l P zero = e
+fixedIn e l P (suc d) = spanned (fixedIn e l P d) (place l d) (P d) (P d)
+
+abbrev pub fixedBy : Setting → (ℕ → ℤ) → ℕ → Ends
+fixedBy s P d = fixedIn (s .ends) (s .level) P d
 
 unfoldable pub startBy : Setting → (ℕ → ℤ) → ℕ → ℤ
 startBy s P d = start (s .cols) (fixedBy s P d) (fill (s .cols) (fixedBy s P d)) (levelAt s d)
@@ -95,6 +100,10 @@ cutBy c m l e best =
 -- whether a value is better than the incumbent's
 abbrev pub betters : Mixed → Incumbent → Bool
 betters v best = cond (best .found) (lessMixed (best .value) v) true
+
+-- the relaxation of e is feasible, and better than the incumbent
+unfoldable pub betterBy : Columns → Ends → Incumbent → Bool
+betterBy c e best = cond (ltZ (fill c e .room) (pos 0)) false (betters (bound c (fill c e)) best)
 
 unfoldable pub triedBy : Columns → Ends → List ℤ → Incumbent → Incumbent
 triedBy c e x best =

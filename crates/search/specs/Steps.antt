@@ -1,18 +1,20 @@
 -- What the parts of a step ask and give.
 --   Dived s j p r     r is p with the levels from j on at their starts
 --   Passed s p t b d  the levels above d settle nothing
+--   Looks s p t b n   what a look asks: the levels above n are known to settle nothing
 --   Looked s p t b r  what a look at a place settles, by the first level that settles something, and the incumbent after it
 --   Stepped s p q r   a step from q to r
 --   After s p n q     q after n steps from the first place on; each counts one
 --   Took s p r        r is where a search ends, with the steps that it took
 use mathlib.Core.Path.{_≡_}
 use mathlib.Core.Bool.{Bool, true, false, cond}
+use mathlib.Core.List.{List}
 use mathlib.Core.Logic.{_⊎_}
 use mathlib.Core.Option.{Option, none, some}
 use Prim.Native.Nat.{ℕ, zero, suc, _+_, _≤_, _<_}
 use lib.Dec.{ltb}
 use lib.IntN.{ℤ, pos}
-use lib.ListN.{length, replicate}
+use lib.ListN.{length, set, replicate}
 use lib.Signed.{_≤ℤ_, _<ℤ_}
 use Rattle.arith.specs.Within.{Within}
 use Rattle.arith.specs.Mixed.{Proper}
@@ -36,8 +38,9 @@ use Rattle.search.specs.declared.Incumbent.{Incumbent}
 use Rattle.search.specs.declared.Path.{Path}
 use Rattle.search.specs.declared.Sighting.{Sighting}
 use Rattle.search.specs.declared.State.{State}
-use Rattle.search.specs.Search.{fixedBy, startBy, runEnds, cutBy, triedBy, Applies}
-use Rattle.search.specs.Ready.{Moderate, ReadySetting, Inside}
+use Rattle.search.specs.declared.Trial.{Trial}
+use Rattle.search.specs.Search.{fixedBy, startBy, runEnds, cutBy, betterBy, triedBy, Applies}
+use Rattle.search.specs.Ready.{Moderate, ReadySetting, Ready, Inside}
 
 -- ---- going down
 
@@ -118,23 +121,52 @@ pub record Discarded (s : Setting) (p : Pairs) (t : Path) (b : Incumbent) (n : �
   pub uncut : cutAt s t b level ≡ false
   pub paired : Applies s p (at (t .place)) level
 
+-- r is the incumbent after a trial of e, and whether it is a better one
+pub record Tries (c : Columns) (e : Ends) (x : List ℤ) (b : Incumbent) (r : Trial) : Type 0 where
+  pub best-is : r .best ≡ triedBy c e x b
+  pub better-is : r .better ≡ betterBy c e b
+
 -- no level settles anything: the place is tried
-pub record Tried (s : Setting) (p : Pairs) (t : Path) (b b′ : Incumbent) (n : ℕ) : Type 0 where
+pub record Tried (s : Setting) (p : Pairs) (t : Path) (b : Incumbent) (r : Trial) (n : ℕ) : Type 0 where
   pub all : n ≡ s .levels
   pub passed : Passed s p t b (s .levels)
-  pub better : b′ ≡ triedBy (s .cols) (fixedBy s (at (t .place)) (s .levels)) (t .place) b
+  pub tries : Tries (s .cols) (fixedBy s (at (t .place)) (s .levels)) (t .place) b r
 
-abbrev pub LookedAs : Setting → Pairs → Path → Incumbent → Incumbent → Settled → Type 0
-LookedAs s p t b b′ (Run d) = (b′ ≡ b) × Cut s p t b d
-LookedAs s p t b b′ (Prefix n) = Tried s p t b b′ n ⊎ ((b′ ≡ b) × Discarded s p t b n)
+-- the incumbent stays
+abbrev pub kept : Incumbent → Trial
+kept b = record { best = b; better = false }
+
+-- r is the incumbent after the look, and whether it is a better one
+abbrev pub LookedAs : Setting → Pairs → Path → Incumbent → Trial → Settled → Type 0
+LookedAs s p t b r (Run d) = (r ≡ kept b) × Cut s p t b d
+LookedAs s p t b r (Prefix n) = Tried s p t b r n ⊎ ((r ≡ kept b) × Discarded s p t b n)
 
 abbrev pub Looked : Setting → Pairs → Path → Incumbent → Sighting → Type 0
-Looked s p t b r = LookedAs s p t b (r .best) (r .settled)
+Looked s p t b r = LookedAs s p t b (record { best = r .best; better = r .better }) (r .settled)
+
+-- what a look asks: the levels above n settle nothing
+pub record Looks (s : Setting) (p : Pairs) (t : Path) (b : Incumbent) (n : ℕ) : Type 0 where
+  pub ready : Ready s p
+  pub started : Started s t
+  pub proper : ProperBest b
+  pub from-in : n ≤ s .levels
+  pub passed : Passed s p t b n
+
+-- no pair discards a level above n
+pub record Unpaired (s : Setting) (p : Pairs) (x : List ℤ) (n : ℕ) : Type 0 where
+  pub ready : Ready s p
+  pub inside : Inside s (at x)
+  pub from-in : n ≤ s .levels
+  pub unpaired : (i : ℕ) → i < n → ¬ Applies s p (at x) i
 
 -- ---- going on
 
 abbrev pub nobody : Incumbent
 nobody = record { found = false; place = replicate 16 (pos 0); value = record { whole = pos 0; part = 0; parts = 1 } }
+
+-- the path with the amount v at level j
+abbrev pub turnedAt : Path → ℕ → ℤ → Path
+turnedAt t j v = record { place = set (t .place) j v; starts = t .starts }
 
 pub record Turnable (s : Setting) (t : Path) (j : ℕ) (v : ℤ) : Type 0 where
   pub ready : ReadySetting s
@@ -152,9 +184,13 @@ pub record Turned (s : Setting) (t : Path) (j : ℕ) (v : ℤ) (r : Path) : Type
   pub beyond : (i : ℕ) → s .levels ≤ i → (at (r .place) i ≡ at (t .place) i) × (at (r .starts) i ≡ at (t .starts) i)
   pub long : LongPath r
 
-abbrev pub WentOn : Setting → State → Option (ℕ × ℤ) → State → Type 0
-WentOn s q none r = (r .done ≡ true) × (r .path ≡ q .path)
-WentOn s q (some m) r = (r .done ≡ false) × Turned s (q .path) (m .0) (m .1) (r .path)
+-- after a move at level j the levels above settle nothing, but for a better incumbent
+abbrev pub freshBy : Bool → ℕ → ℕ
+freshBy better j = cond better 0 j
+
+abbrev pub WentOn : Setting → State → Bool → Option (ℕ × ℤ) → State → Type 0
+WentOn s q better none r = (r .done ≡ true) × ((r .path ≡ q .path) × (r .from ≡ 0))
+WentOn s q better (some m) r = (r .done ≡ false) × (Turned s (q .path) (m .0) (m .1) (r .path) × (r .from ≡ freshBy better (m .0)))
 
 -- one more, as long as it fits
 abbrev pub countedBy : ℕ → ℕ
@@ -162,8 +198,9 @@ countedBy n = cond (ltb n 18446744073709551615) (n + 1) n
 
 pub record Stepped (s : Setting) (p : Pairs) (q r : State) : Type 0 where
   pub verdict : Settled
-  pub looked : LookedAs s p (q .path) (q .best) (r .best) verdict
-  pub went : WentOn s q (pastOf verdict (at (s .low)) (at (s .high)) (at (q .path .starts)) (at (q .path .place))) r
+  pub better : Bool
+  pub looked : LookedAs s p (q .path) (q .best) (record { best = r .best; better = better }) verdict
+  pub went : WentOn s q better (pastOf verdict (at (s .low)) (at (s .high)) (at (q .path .starts)) (at (q .path .place))) r
   pub counted : r .steps ≡ countedBy (q .steps)
 
 -- ---- a whole search
@@ -176,6 +213,7 @@ pub record Begun (s : Setting) (q : State) : Type 0 where
   pub first : Dived s 0 origin (q .path)
   pub nothing : q .best ≡ nobody
   pub no-steps : q .steps ≡ 0
+  pub top : q .from ≡ 0
   pub going : q .done ≡ false
 
 -- q after n steps

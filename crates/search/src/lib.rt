@@ -20,13 +20,13 @@ use places::Moved;
 use places::Settled;
 use places::past;
 ghost use mathlib.Core.Path.{_≡_};
-ghost use Prim.Native.Nat.{_≤_, _<_};
+ghost use Prim.Native.Nat.{ℕ, _≤_, _<_};
 ghost use Rattle.arith.specs.Within.{Within};
-ghost use Rattle.greedy.specs.Fill.{at};
+ghost use Rattle.greedy.specs.Fill.{at, place};
 ghost use Rattle.lattice.specs.Lattice.{Tame};
-ghost use Rattle.search.specs.Search.{fixedBy, bySide, mixedBound, mixedBy, hopelessBy, cutBy, triedBy, Stays, Removable, Decides, FirstPaired};
-ghost use Rattle.search.specs.Ready.{Moderate, ReadySetting, Ready, Inside, InsideTo, Searched};
-ghost use Rattle.search.specs.Steps.{Dived, Mixes, Blends, Promises, Judges, ProperBest, Started, Looked, nobody, Turnable, Turned, countedBy, Stepped, Took};
+ghost use Rattle.search.specs.Search.{fixedIn, fixedBy, bySide, mixedBound, mixedBy, hopelessBy, cutBy, Stays, Removable, Decides, FirstPaired};
+ghost use Rattle.search.specs.Ready.{Moderate, ReadySetting, Ready, InsideTo, Searched};
+ghost use Rattle.search.specs.Steps.{Dived, Mixes, Blends, Promises, Judges, Tries, Unpaired, Looks, Looked, nobody, LongPath, turnedAt, freshBy, countedBy, Stepped, Took};
 
 // What does not change during a search: the columns, the box by item, and by level the item, its ends, and the lattice of what the
 // items from that level on change, where no continuous item is free.
@@ -50,10 +50,11 @@ pub struct Soft {
     pub size: i64,
 }
 
-// The domination pairs (01: least pairs) of all pairs of items, at 16 i + j: the steps of i and of j; 0 where there is none.
+// The domination pairs (01: least pairs) of all pairs of items, at 16 i + j: the steps of i and of j; 0 where there is none. Steps are short, and
+// so are their numbers: a struct is copied at a call.
 pub struct Pairs {
-    pub first: [i64; 256],
-    pub second: [i64; 256],
+    pub first: [i16; 256],
+    pub second: [i16; 256],
 }
 
 // The best place so far, and its value.
@@ -69,35 +70,53 @@ pub struct Path {
     pub starts: [i64; 16],
 }
 
-// What a look at a place settled, and the incumbent after it.
+// The incumbent after a trial, and whether that is a better one.
+pub struct Trial {
+    pub best: Incumbent,
+    pub better: bool,
+}
+
+// What a look at a place settled, the incumbent after it, and whether that is a better one.
 pub struct Sighting {
     pub settled: Settled,
     pub best: Incumbent,
+    pub better: bool,
 }
 
-// A search on its way: where it is, and how many steps it took (as many as fit).
+// A search on its way: where it is, and how many steps it took (as many as fit). The levels above `from` settle nothing.
 pub struct State {
     pub path: Path,
     pub best: Incumbent,
     pub steps: u64,
+    pub from: usize,
     pub done: bool,
 }
 
-// The box with the first d levels fixed at x.
+// The box e with the items of the first d levels fixed at x.
+pub fn fixed_in(e: Ends, level: [usize; 16], x: [i64; 16], d: usize) -> Ends
+    requires { ⌜ (d ≤ 16) × ((k : ℕ) → k < d → place level k < 16) ⌝ }
+    ensures { λ r. ⌜ r ≡ fixedIn e level (at x) d ⌝ }
+{
+    let mut to = e;
+    let mut k: usize = 0;
+    while k < d {
+        let i = level[k];
+        let v = x[k];
+        to.lo[i] = v;
+        to.hi[i] = v;
+        k += 1;
+    }
+    to
+}
+
+// The search's box with the first d levels fixed at x.
 pub fn fixed(s: Setting, x: [i64; 16], d: usize) -> Ends
     requires { ⌜ ReadySetting s × (d ≤ s .levels) ⌝ }
     ensures { λ r. ⌜ r ≡ fixedBy s (at x) d ⌝ }
 {
-    let mut e = s.ends;
-    let mut k: usize = 0;
-    while k < d {
-        let i = s.level[k];
-        let v = x[k];
-        e.lo[i] = v;
-        e.hi[i] = v;
-        k += 1;
-    }
-    e
+    let e = s.ends;
+    let level = s.level;
+    fixed_in(e, level, x, d)
 }
 
 // The path with the levels from j on at their starts: in the box with the levels above fixed, each takes its start.
@@ -106,14 +125,15 @@ pub fn dive(s: Setting, p: Path, j: usize) -> Path
     ensures { λ r. ⌜ Dived s j p r ⌝ }
 {
     let n = s.levels;
-    let c = s.cols;
     let mut x = p.place;
     let mut y = p.starts;
-    let mut e = fixed(s, x, j);
+    let ends = s.ends;
+    let level = s.level;
+    let mut e = fixed_in(ends, level, x, j);
     let mut k = j;
     while k < n {
         let i = s.level[k];
-        let v = start_of(c, e, i);
+        let v = start_of(s.cols, e, i);
         e.lo[i] = v;
         e.hi[i] = v;
         x[k] = v;
@@ -211,25 +231,35 @@ pub fn cut(c: Columns, m: Soft, l: Lattice, e: Ends, best: Incumbent) -> bool
 }
 
 // The better of the incumbent and the place x, whose levels are all fixed in e: see proofs/Settle (tried-settles).
-pub fn tried(c: Columns, e: Ends, x: [i64; 16], best: Incumbent) -> Incumbent
+pub fn tried(c: Columns, e: Ends, x: [i64; 16], best: Incumbent) -> Trial
     requires { ⌜ Judges c e best ⌝ }
-    ensures { λ r. ⌜ r ≡ triedBy c e x best ⌝ }
+    ensures { λ r. ⌜ Tries c e x best r ⌝ }
 {
     let f = fill_up(c, e);
     if f.room < 0 {
-        return best;
+        return Trial {
+            best: best,
+            better: false,
+        };
     }
     let v = bound_of(c, f);
     if best.found {
         let b = best.value;
         if !less(b, v) {
-            return best;
+            return Trial {
+                best: best,
+                better: false,
+            };
         }
     }
-    Incumbent {
+    let y = Incumbent {
         found: true,
         place: x,
         value: v,
+    };
+    Trial {
+        best: y,
+        better: true,
     }
 }
 
@@ -259,20 +289,21 @@ pub fn removable(r: i64, t: i64, x: i64, y: i64, l: i64, u: i64, m: i64, w: i64)
     false
 }
 
-// The first level whose item makes a domination pair with one above that discards x: cut by a pair, see proofs/Settle (pair-settles).
-// Structs are copied at a call, and these two are large: one loop over both levels needs them once for each look.
-pub fn first_paired(s: Setting, p: Pairs, x: [i64; 16]) -> usize
-    requires { ⌜ Ready s p × Inside s (at x) ⌝ }
+// The first level whose item makes a domination pair with one above that discards x, where none above `from` does: cut by a pair, see
+// proofs/Settle (pair-settles). Structs are copied at a call, and these two are large: one loop over both levels needs them once for
+// each look.
+pub fn first_paired(s: Setting, p: Pairs, x: [i64; 16], from: usize) -> usize
+    requires { ⌜ Unpaired s p x from ⌝ }
     ensures { λ r. ⌜ FirstPaired s p (at x) r ⌝ }
 {
     let n = s.levels;
-    let mut d: usize = 0;
+    let mut d = from;
     let mut j: usize = 0;
     while d < n {
         if j < d {
             let k = 16 * s.level[d] + s.level[j];
-            let r = p.first[k];
-            let t = p.second[k];
+            let r = p.first[k] as i64;
+            let t = p.second[k] as i64;
             if removable(r, t, x[d], x[j], s.low[d], s.high[d], s.low[j], s.high[j]) {
                 return d;
             }
@@ -292,19 +323,21 @@ pub fn by_side(x: i64, v: i64, first: i64, second: i64) -> i64
     if x < v { first } else { second }
 }
 
-// A look at a place: the first level whose run can be set aside, or that a pair discards; else the place is tried.
-pub fn look(s: Setting, p: Pairs, t: Path, best: Incumbent) -> Sighting
-    requires { ⌜ Ready s p × (Started s t × ProperBest best) ⌝ }
+// A look at a place: the first level whose run can be set aside, or that a pair discards; else the place is tried. Levels above `from`
+// are known to settle nothing.
+pub fn look(s: Setting, p: Pairs, t: Path, best: Incumbent, from: usize) -> Sighting
+    requires { ⌜ Looks s p t best from ⌝ }
     ensures { λ r. ⌜ Looked s p t best r ⌝ }
 {
     let n = s.levels;
     let x = t.place;
     let v = t.starts;
-    let c = s.cols;
     let z = s.soft;
-    let m = first_paired(s, p, x);
-    let mut e = s.ends;
-    let mut d: usize = 0;
+    let m = first_paired(s, p, x, from);
+    let ends = s.ends;
+    let level = s.level;
+    let mut e = fixed_in(ends, level, x, from);
+    let mut d = from;
     while d < n {
         let a = x[d];
         let b = v[d];
@@ -313,26 +346,30 @@ pub fn look(s: Setting, p: Pairs, t: Path, best: Incumbent) -> Sighting
         let h = by_side(a, b, a, s.high[d]);
         e.lo[i] = l;
         e.hi[i] = h;
-        if cut(c, z, s.lattice[d], e, best) {
+        if cut(s.cols, z, s.lattice[d], e, best) {
             return Sighting {
                 settled: Settled::Run(d),
                 best: best,
+                better: false,
             };
         }
         if d == m {
             return Sighting {
                 settled: Settled::Prefix(d + 1),
                 best: best,
+                better: false,
             };
         }
         e.lo[i] = a;
         e.hi[i] = a;
         d += 1;
     }
-    let b = tried(c, e, x, best);
+    let r = tried(s.cols, e, x, best);
+    let b = r.best;
     Sighting {
         settled: Settled::Prefix(n),
         best: b,
+        better: r.better,
     }
 }
 
@@ -358,31 +395,39 @@ pub fn counted(n: u64) -> u64
     if n < 18446744073709551615 { n + 1 } else { n }
 }
 
-// The path with the amount v at level j, and the levels below at their starts.
-pub fn turn(s: Setting, t: Path, j: usize, v: i64) -> Path
-    requires { ⌜ Turnable s t j v ⌝ }
-    ensures { λ r. ⌜ Turned s t j v r ⌝ }
+// The path with the amount v at level j.
+pub fn turn(t: Path, j: usize, v: i64) -> Path
+    requires { ⌜ j < 16 ⌝ }
+    ensures { λ r. ⌜ (r ≡ turnedAt t j v) × LongPath t ⌝ }
 {
     let mut x = t.place;
     x[j] = v;
     let y = t.starts;
-    let p = Path {
+    Path {
         place: x,
         starts: y,
-    };
-    dive(s, p, j + 1)
+    }
+}
+
+// The first level that may settle something after a move at level j: all above have their amounts and starts, and so their runs. A better
+// incumbent may cut any of these.
+pub fn fresh(better: bool, j: usize) -> usize
+    ensures { λ r. ⌜ r ≡ freshBy better j ⌝ }
+{
+    if better { 0 } else { j }
 }
 
 // One step: a look at the place, and the first place after what it settled.
 pub fn step(s: Setting, p: Pairs, q: State) -> State
-    requires { ⌜ Ready s p × (Started s (q .path) × ProperBest (q .best)) ⌝ }
+    requires { ⌜ Looks s p (q .path) (q .best) (q .from) ⌝ }
     ensures { λ r. ⌜ Stepped s p q r ⌝ }
 {
     let t = q.path;
     let a = q.best;
-    let l = look(s, p, t, a);
+    let l = look(s, p, t, a, q.from);
     let w = l.settled;
     let b = l.best;
+    let better = l.better;
     let n = counted(q.steps);
     let x = t.place;
     let y = t.starts;
@@ -390,16 +435,31 @@ pub fn step(s: Setting, p: Pairs, q: State) -> State
     let hi = s.high;
     let o = past(w, x, lo, hi, y);
     match o {
-        Moved::At(j, v) => State {
-            path: turn(s, t, j, v),
-            best: b,
-            steps: n,
-            done: false,
-        },
+        Moved::At(j, v) => {
+            let u = turn(t, j, v);
+            let from = fresh(better, j);
+            if j + 1 < s.levels {
+                return State {
+                    path: dive(s, u, j + 1),
+                    best: b,
+                    steps: n,
+                    from: from,
+                    done: false,
+                };
+            }
+            State {
+                path: u,
+                best: b,
+                steps: n,
+                from: from,
+                done: false,
+            }
+        }
         Moved::Done => State {
             path: t,
             best: b,
             steps: n,
+            from: 0,
             done: true,
         },
     }
@@ -418,6 +478,7 @@ pub fn run(s: Setting, p: Pairs) -> State
         path: dive(s, zero, 0),
         best: no_incumbent(),
         steps: 0,
+        from: 0,
         done: false,
     };
     while !q.done {

@@ -1,6 +1,6 @@
 -- `pairing::pairs_of` meets its contract.
 use borrow.Author.Needs.{needs}
-use Rattle.pairing.proofs.Tables.{held, ready}
+use Rattle.pairing.proofs.Tables.{all-short, held, ready}
 use Rattle.pairing.proofs.pairs_of.Statement.{statement}
 use Rattle.pairing.proofs.pairs_of.Tie as tie
 
@@ -8,7 +8,7 @@ pair-table-requires : tie.Need-pair-table-requires
 pair-table-requires c κs = search needs
 
 spread-requires : tie.Need-spread-requires
-spread-requires c κs = search needs
+spread-requires c κs = all-short (c .before .args .p) (c .pair-table .result) (c .pair-table .ensures)
 
 returns : tie.Need-returns
 returns c =

@@ -12,10 +12,10 @@ use Rattle.search.proofs.dive.Statement.{statement}
 use Rattle.search.proofs.dive.Tie as tie
 
 abbrev Inv-loop : tie.InvT-loop
-Inv-loop j s n c x₀ y₀ e₀ k₀ x y e k = Diving s j (record { place = x₀; starts = y₀ }) (record { place = x; starts = y }) e k
+Inv-loop j s n x₀ y₀ e₀ k₀ x y e k = Diving s j (record { place = x₀; starts = y₀ }) (record { place = x; starts = y }) e k
 
 abbrev μ-loop : tie.MeasureT-loop
-μ-loop j s n c x₀ y₀ e₀ k₀ x y e k = n - k
+μ-loop j s n x₀ y₀ e₀ k₀ x y e k = n - k
 
 -- arrays have a place for each item
 long : (s : tie.Start Inv-loop μ-loop) → Long (s .args .t1 .ends)
@@ -26,7 +26,7 @@ long-path s = record { place-long = search needs; starts-long = search needs }
 
 -- what the function was given, at the loop
 abbrev Of : tie.At-loop Inv-loop μ-loop → tie.Start Inv-loop μ-loop
-Of l = l .before .before .before .before .before
+Of l = l .before .before .before .before .before .before
 
 k<16 : (c : tie.In-loop Inv-loop μ-loop) → c .before .loop .k < 16
 k<16 c = omega (arith, c .loop-test .taken, Of (c .before) .pre .0 .few)
@@ -35,11 +35,14 @@ k<16 c = omega (arith, c .loop-test .taken, Of (c .before) .pre .0 .few)
 item : (c : tie.In-loop Inv-loop μ-loop) → levelAt (Of (c .before) .args .t1) (c .before .loop .k) < 16
 item c = let s = Of (c .before) in item<16 (s .args .t1) (s .pre .0) (long s) (c .before .loop .k) (c .loop-test .taken)
 
-fixed-requires : tie.Need-fixed-requires Inv-loop μ-loop
-fixed-requires c κs = let s = c .before .before .before in (s .pre .0, s .pre .1 .0)
+fixed-in-requires : tie.Need-fixed-in-requires Inv-loop μ-loop
+fixed-in-requires c κs =
+    let s = c .before .before .before .before in
+    let r = s .pre .0 in
+    (omega (arith, s .pre .1 .0, r .few), λ k h. item<16 (s .args .t1) r (long s) k (omega (arith, s .pre .1 .0)))
 
 loop-holds : tie.Need-loop-holds Inv-loop μ-loop
-loop-holds c = let s = c .before .before .before .before in diving-first (s .args .t1) (s .args .j) (s .args .p) (c .fixed .result) (s .pre .1 .0) (long-path s) (c .fixed .ensures) (s .pre .1 .1)
+loop-holds c = let s = c .before .before .before .before .before in diving-first (s .args .t1) (s .args .j) (s .args .p) (c .fixed-in .result) (s .pre .1 .0) (long-path s) (c .fixed-in .ensures) (s .pre .1 .1)
 
 mul-i : tie.Need-mul-i Inv-loop μ-loop
 mul-i c = record { fits = omega (arith, k<16 c) }
@@ -49,44 +52,44 @@ element-copy-out-i c = k<16 c
 
 start-of-requires : tie.Need-start-of-requires Inv-loop μ-loop
 start-of-requires c κs =
-    let i = c .before in
+    let i = c .before .before in
     let l = i .before in
     let s = Of l in
     (diving-sized (s .args .t1) (s .pre .0) (long s) (s .args .j) (s .args .p) _ (l .loop .e) (l .loop .k) (l .loop .inv), item i)
 
 mul-v : tie.Need-mul-v Inv-loop μ-loop
-mul-v c = record { fits = omega (arith, item (c .before .before)) }
+mul-v c = record { fits = omega (arith, item (c .before .before .before)) }
 
 element-set-from-v : tie.Need-element-set-from-v Inv-loop μ-loop
-element-set-from-v c = item (c .before .before)
+element-set-from-v c = item (c .before .before .before)
 
 mul-v-2 : tie.Need-mul-v-2 Inv-loop μ-loop
-mul-v-2 c = record { fits = omega (arith, item (c .before .before)) }
+mul-v-2 c = record { fits = omega (arith, item (c .before .before .before)) }
 
 element-set-from-v-2 : tie.Need-element-set-from-v-2 Inv-loop μ-loop
-element-set-from-v-2 c = item (c .before .before)
+element-set-from-v-2 c = item (c .before .before .before)
 
 mul-x : tie.Need-mul-x Inv-loop μ-loop
-mul-x c = record { fits = omega (arith, k<16 (c .before .before)) }
+mul-x c = record { fits = omega (arith, k<16 (c .before .before .before)) }
 
 array-set-from-x : tie.Need-array-set-from-x Inv-loop μ-loop
-array-set-from-x c = k<16 (c .before .before)
+array-set-from-x c = k<16 (c .before .before .before)
 
 mul-y : tie.Need-mul-y Inv-loop μ-loop
-mul-y c = record { fits = omega (arith, k<16 (c .before .before)) }
+mul-y c = record { fits = omega (arith, k<16 (c .before .before .before)) }
 
 array-set-from-y : tie.Need-array-set-from-y Inv-loop μ-loop
-array-set-from-y c = k<16 (c .before .before)
+array-set-from-y c = k<16 (c .before .before .before)
 
 add-k : tie.Need-add-k Inv-loop μ-loop
-add-k c = record { fits = omega (arith, k<16 (c .before .before)) }
+add-k c = record { fits = omega (arith, k<16 (c .before .before .before)) }
 
 loop-less : tie.Need-loop-less Inv-loop μ-loop
 loop-less c = omega arith
 
 loop-again : tie.Need-loop-again Inv-loop μ-loop
 loop-again c =
-    let i = c .before .before in
+    let i = c .before .before .before in
     let l = i .before in
     let s = Of l in
     let v : c .start-of .result ≡ startIn (s .args .t1) (l .loop .e) (l .loop .k) = c .start-of .ensures in
@@ -104,7 +107,7 @@ dive-spec =
     (tie.spec
     Inv-loop
     μ-loop
-    fixed-requires
+    fixed-in-requires
     loop-holds
     mul-i
     element-copy-out-i

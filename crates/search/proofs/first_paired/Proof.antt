@@ -4,7 +4,11 @@ use Prim.Native.Nat.{ℕ, _+_, _*_, _-_, _≤_, _<_}
 use native.Mathlib.Decide.{ℕ-discrete}
 use native.Mathlib.Omega.{arith}
 use Rattle.arith.specs.Within.{Within}
-use Rattle.arith.proofs.Parts.{abs-within, within-back}
+use lib.Dec.{lit<}
+use mir.Facts.{toZ-ofZ}
+use mir.Syntax.{w16}
+use mir.Val.{toZ, ofZ}
+use Rattle.arith.proofs.Parts.{abs-within, within-width, within-back, within-sfits}
 use Rattle.arith.proofs.Words.{back}
 use Rattle.greedy.specs.Fill.{at}
 use Rattle.search.specs.Search.{levelAt, pairIndex, AppliesAt, Applies, Decides}
@@ -14,30 +18,37 @@ use Rattle.search.proofs.first_paired.Tie as tie
 
 -- no pair of a level before d applies, nor of d and one before j
 abbrev Inv-loop : tie.InvT-loop
-Inv-loop s p x n d₀ j₀ d j = (d ≤ n) × ((j ≤ d) × (((e : ℕ) → e < d → ¬ Applies s p (at x) e) × ((i : ℕ) → i < j → ¬ AppliesAt s p (at x) d i)))
+Inv-loop from s p x n d₀ j₀ d j = (d ≤ n) × ((j ≤ d) × (((e : ℕ) → e < d → ¬ Applies s p (at x) e) × ((i : ℕ) → i < j → ¬ AppliesAt s p (at x) d i)))
 
 abbrev μ-loop : tie.MeasureT-loop
-μ-loop s p x n d₀ j₀ d j = (n - d) * 17 + (17 - j)
+μ-loop from s p x n d₀ j₀ d j = (n - d) * 17 + (17 - j)
 
 -- what the function was given
 module _ (s : tie.Start Inv-loop μ-loop) where
   item<16 : (d : ℕ) → d < s .args .t1 .levels → levelAt (s .args .t1) d < 16
-  item<16 d l = omega (arith, s .pre .0 .setting .level-in d l, s .pre .0 .setting .sized .columns .few)
+  item<16 d l = omega (arith, s .pre .ready .setting .level-in d l, s .pre .ready .setting .sized .columns .few)
 
   amount-within : (d : ℕ) → d < s .args .t1 .levels → Within 300000000 (at (s .args .t3) d)
   amount-within d l =
-      let r = s .pre .0 .setting in
-      let i = s .pre .1 d l in
+      let r = s .pre .ready .setting in
+      let i = s .pre .inside d l in
       between (at (s .args .t1 .low) d) (at (s .args .t1 .high) d) (at (s .args .t3) d) (rw (r .low-is d l) (r .sized .ends .lo-in (levelAt (s .args .t1) d))) (rw (r .high-is d l) (r .sized .ends .hi-in (levelAt (s .args .t1) d))) (i .0) (i .1)
 
   first-within : (k : ℕ) → Within 1000 (at (s .args .t2 .first) k)
-  first-within k = abs-within _ (s .pre .0 .true-pairs .steps-in k .0)
+  first-within k = abs-within _ (s .pre .ready .true-pairs .steps-in k .0)
 
   second-within : (k : ℕ) → Within 1000 (at (s .args .t2 .second) k)
-  second-within k = abs-within _ (s .pre .0 .true-pairs .steps-in k .1)
+  second-within k = abs-within _ (s .pre .ready .true-pairs .steps-in k .1)
+
+  -- a step is read back from its few bits
+  first-back : (k : ℕ) → toZ w16 (ofZ w16 (at (s .args .t2 .first) k)) ≡ at (s .args .t2 .first) k
+  first-back k = toZ-ofZ (within-width w16 (lit< tt) (first-within k))
+
+  second-back : (k : ℕ) → toZ w16 (ofZ w16 (at (s .args .t2 .second) k)) ≡ at (s .args .t2 .second) k
+  second-back k = toZ-ofZ (within-width w16 (lit< tt) (second-within k))
 
 loop-holds : tie.Need-loop-holds Inv-loop μ-loop
-loop-holds c = (omega arith, (omega arith, (λ e h. absurd (omega arith), λ i h. absurd (omega arith))))
+loop-holds c = (c .pre .from-in, (omega arith, (c .pre .unpaired, λ i h. absurd (omega arith))))
 
 -- both levels are levels, and have a place
 module _ (c : tie.Then1 Inv-loop μ-loop) where
@@ -48,10 +59,10 @@ module _ (c : tie.Then1 Inv-loop μ-loop) where
   j-in = omega (arith, c .before .loop-test .taken, c .if1 .taken)
 
   d<16 : c .before .before .loop .d < 16
-  d<16 = omega (arith, d-in, c .before .before .before .pre .0 .setting .few)
+  d<16 = omega (arith, d-in, c .before .before .before .pre .ready .setting .few)
 
   j<16 : c .before .before .loop .j < 16
-  j<16 = omega (arith, j-in, c .before .before .before .pre .0 .setting .few)
+  j<16 = omega (arith, j-in, c .before .before .before .pre .ready .setting .few)
 
   index<256 : pairIndex (levelAt (c .before .before .before .args .t1) (c .before .before .loop .d)) (levelAt (c .before .before .before .args .t1) (c .before .before .loop .j)) < 256
   index<256 = let s = c .before .before .before in omega (arith, item<16 s (c .before .before .loop .d) d-in, item<16 s (c .before .before .loop .j) j-in)
@@ -80,11 +91,21 @@ mul-r c = record { fits = omega (arith, index<256 (c .before .before)) }
 element-copy-out-r : tie.Need-element-copy-out-r Inv-loop μ-loop
 element-copy-out-r c = index<256 (c .before .before)
 
+-- the pair of the two levels
+abbrev K : tie.Then1 Inv-loop μ-loop → ℕ
+K c = pairIndex (levelAt (c .before .before .before .args .t1) (c .before .before .loop .d)) (levelAt (c .before .before .before .args .t1) (c .before .before .loop .j))
+
+cast-r : tie.Need-cast-r Inv-loop μ-loop
+cast-r c = let t = c .before .before .before in let s = t .before .before .before in rw (first-back s (K t)) (within-sfits (lit< tt) (first-within s (K t)))
+
 mul-t : tie.Need-mul-t Inv-loop μ-loop
 mul-t c = record { fits = omega (arith, index<256 (c .before .before .before)) }
 
 element-copy-out-t : tie.Need-element-copy-out-t Inv-loop μ-loop
 element-copy-out-t c = index<256 (c .before .before .before)
+
+cast-t : tie.Need-cast-t Inv-loop μ-loop
+cast-t c = let t = c .before .before .before .before in let s = t .before .before .before in rw (second-back s (K t)) (within-sfits (lit< tt) (second-within s (K t)))
 
 mul-removable : tie.Need-mul-removable Inv-loop μ-loop
 mul-removable c = record { fits = omega (arith, d<16 (c .before .before .before .before)) }
@@ -132,7 +153,7 @@ removable-requires c κs =
     let u = second-within s k in
     let x = amount-within s (l .loop .d) (d-in t) in
     let y = amount-within s (l .loop .j) (j-in t) in
-    rw (within-back tt r, within-back tt u, within-back tt x, within-back tt y) (r, (u, (x, y)))
+    rw (first-back s k, second-back s k, within-back tt r, within-back tt u, within-back tt x, within-back tt y) (r, (u, (x, y)))
 
 -- what the test decides, of the figures themselves
 -- where the loop was
@@ -146,6 +167,8 @@ decided c =
     let s = l .before in
     let k = pairIndex (levelAt (s .args .t1) (l .loop .d)) (levelAt (s .args .t1) (l .loop .j)) in
     rw (
+      first-back s k,
+      second-back s k,
       within-back tt (first-within s k),
       within-back tt (second-within s k),
       within-back tt (amount-within s (l .loop .d) (d-in t)),
@@ -186,12 +209,12 @@ loop-again c =
     more {P} j i h (no q) f g = f i (omega arith)
 
 add-d : tie.Need-add-d Inv-loop μ-loop
-add-d c = record { fits = omega (arith, c .before .loop-test .taken, c .before .before .before .pre .0 .setting .few) }
+add-d c = record { fits = omega (arith, c .before .loop-test .taken, c .before .before .before .pre .ready .setting .few) }
 
 loop-less-2 : tie.Need-loop-less-2 Inv-loop μ-loop
 loop-less-2 c =
     let l = c .before .before in
-    omega (arith, l .loop .inv .1 .0, c .before .loop-test .taken, l .before .pre .0 .setting .few)
+    omega (arith, l .loop .inv .1 .0, c .before .loop-test .taken, l .before .pre .ready .setting .few)
 
 -- a level whose pairs were all looked at
 loop-again-2 : tie.Need-loop-again-2 Inv-loop μ-loop
@@ -225,8 +248,10 @@ first-paired-spec =
     add-k
     mul-r
     element-copy-out-r
+    cast-r
     mul-t
     element-copy-out-t
+    cast-t
     mul-removable
     array-copy-out-removable
     mul-removable-2

@@ -5,7 +5,7 @@ use mathlib.Core.List.{List}
 use mathlib.Core.Logic.{inl, inr}
 use Prim.Native.Nat.{ℕ, _-_, _≤_, _<_}
 use native.Mathlib.Numerals.{add-one}
-use native.Mathlib.Decide.{ℕ-discrete}
+use native.Mathlib.Decide.{decLt, ℕ-discrete}
 use native.Mathlib.Omega.{arith}
 use lib.IntN.{ℤ}
 use lib.Seq.{set-set}
@@ -16,31 +16,53 @@ use Rattle.greedy.specs.declared.Ends.{Ends}
 use Rattle.greedy.specs.Fill.{at}
 use Rattle.lattice.specs.Lattice.{latticeAt}
 use Rattle.search.specs.Steps.{cutAt, Passed}
-use Rattle.search.specs.Search.{levelAt, spanned, fixedBy, bySide, runBox, runEnds, cutBy, Applies}
+use Rattle.search.specs.Search.{levelAt, spanned, fixedIn, fixedBy, bySide, runBox, runEnds, cutBy, Applies}
 use Rattle.search.proofs.Boxes.{item<16}
 use Rattle.search.proofs.Runs.{fixed-judged, run-judged}
 use Rattle.search.proofs.look.Statement.{statement}
 use Rattle.search.proofs.look.Tie as tie
 
 abbrev Inv-loop : tie.InvT-loop
-Inv-loop best s n x v c z m e₀ d₀ e d = (d ≤ n) × ((e ≡ fixedBy s (at x) d) × ((d ≤ m) × ((i : ℕ) → i < d → cutAt s (record { place = x; starts = v }) best i ≡ false)))
+Inv-loop best from s n x v z m e₀ d₀ e d = (d ≤ n) × ((e ≡ fixedBy s (at x) d) × ((d ≤ m) × ((i : ℕ) → i < d → cutAt s (record { place = x; starts = v }) best i ≡ false)))
 
 abbrev μ-loop : tie.MeasureT-loop
-μ-loop best s n x v c z m e₀ d₀ e d = n - d
+μ-loop best from s n x v z m e₀ d₀ e d = n - d
 
 -- what the function was given, at the loop
 abbrev Of : tie.At-loop Inv-loop μ-loop → tie.Start Inv-loop μ-loop
-Of l = l .before .before .before .before .before .before .before
+Of l = l .before .before .before .before .before .before .before .before
 
 d<16 : (c : tie.In-loop Inv-loop μ-loop) → c .before .loop .d < 16
-d<16 c = omega (arith, c .loop-test .taken, Of (c .before) .pre .0 .setting .few)
+d<16 c = omega (arith, c .loop-test .taken, Of (c .before) .pre .ready .setting .few)
 
 first-paired-requires : tie.Need-first-paired-requires Inv-loop μ-loop
-first-paired-requires c κs = let s = c .before .before .before .before in (s .pre .0, s .pre .1 .0 .inside)
+first-paired-requires c κs = let s = c .before .before .before in record { ready = s .pre .ready; inside = s .pre .started .inside; from-in = s .pre .from-in; unpaired = s .pre .passed .unpaired }
+
+-- no level above the first that is looked at is paired
+least : (c : tie.After-first-paired Inv-loop μ-loop) → c .before .before .before .before .args .from ≤ c .first-paired .result
+least c = go (decLt m (s .args .from))
+  where
+    s : tie.Start Inv-loop μ-loop
+    s = c .before .before .before .before
+
+    m : ℕ
+    m = c .first-paired .result
+
+    go : Dec (m < s .args .from) → s .args .from ≤ m
+    go (yes l) = absurd (s .pre .passed .unpaired m l (c .first-paired .ensures .here (omega (arith, l, s .pre .from-in))))
+    go (no l) = omega arith
+
+fixed-in-requires : tie.Need-fixed-in-requires Inv-loop μ-loop
+fixed-in-requires c κs =
+    let s = c .before .before .before .before .before .before in
+    let r = s .pre .ready .setting in
+    (omega (arith, s .pre .from-in, r .few), λ k h. item<16 (s .args .t1) r (s .pre .started .long) k (omega (arith, s .pre .from-in)))
 
 loop-holds : tie.Need-loop-holds Inv-loop μ-loop
-unfolding fixedBy
-loop-holds c = (omega arith, (refl, (omega arith, λ i h. absurd (omega arith))))
+loop-holds c =
+    let f = c .before .before .before in
+    let s = f .before .before .before .before in
+    (s .pre .from-in, (c .fixed-in .ensures, (least f, s .pre .passed .uncut)))
 
 mul-a : tie.Need-mul-a Inv-loop μ-loop
 mul-a c = record { fits = omega (arith, d<16 c) }
@@ -80,7 +102,7 @@ by-side-requires-2 c κs = tt
 
 -- the level's item has a place
 item : (c : tie.In-loop Inv-loop μ-loop) → levelAt (Of (c .before) .args .t1) (c .before .loop .d) < 16
-item c = let s = Of (c .before) in item<16 (s .args .t1) (s .pre .0 .setting) (s .pre .1 .0 .long) (c .before .loop .d) (c .loop-test .taken)
+item c = let s = Of (c .before) in item<16 (s .args .t1) (s .pre .ready .setting) (s .pre .started .long) (c .before .loop .d) (c .loop-test .taken)
 
 -- where a turn of the loop began
 abbrev Turn : tie.After-by-side2 Inv-loop μ-loop → tie.In-loop Inv-loop μ-loop
@@ -130,48 +152,48 @@ element-set-from-h : tie.Need-element-set-from-h Inv-loop μ-loop
 element-set-from-h c = item (Turn c)
 
 mul-cut : tie.Need-mul-cut Inv-loop μ-loop
-mul-cut c = record { fits = omega (arith, d<16 (Turn c)) }
+mul-cut c = record { fits = omega (arith, d<16 (Turn (c .before))) }
 
 element-copy-out-cut : tie.Need-element-copy-out-cut Inv-loop μ-loop
-element-copy-out-cut c = d<16 (Turn c)
+element-copy-out-cut c = d<16 (Turn (c .before))
 
 cut-requires : tie.Need-cut-requires Inv-loop μ-loop
 cut-requires c κs =
-    let b = c .before in
+    let b = c .before .before in
     let i = Turn b in
     let l = i .before in
     let s = Of l in
-    rw (run-is b) (run-judged (s .args .t1) (s .pre .0 .setting) (s .pre .1 .0 .long) (at (s .args .t .place)) (s .pre .1 .0 .inside) (at (s .args .t .starts) (l .loop .d)) (l .loop .d) (s .args .best) (i .loop-test .taken) (s .pre .1 .1), (s .pre .0 .setting .tame (l .loop .d) (d<16 i), s .pre .0 .setting .moderate))
+    rw (run-is b) (run-judged (s .args .t1) (s .pre .ready .setting) (s .pre .started .long) (at (s .args .t .place)) (s .pre .started .inside) (at (s .args .t .starts) (l .loop .d)) (l .loop .d) (s .args .best) (i .loop-test .taken) (s .pre .proper), (s .pre .ready .setting .tame (l .loop .d) (d<16 i), s .pre .ready .setting .moderate))
 
 -- the levels above settle nothing
 passed : (l : tie.At-loop Inv-loop μ-loop) (d : ℕ) → d ≤ l .loop .d → Passed (Of l .args .t1) (Of l .args .p) (Of l .args .t) (Of l .args .best) d
-passed l d h = record { uncut = λ i g. l .loop .inv .1 .1 .1 i (omega arith); unpaired = λ i g. l .before .before .first-paired .ensures .before i (omega (arith, l .loop .inv .1 .1 .0)) }
+passed l d h = record { uncut = λ i g. l .loop .inv .1 .1 .1 i (omega arith); unpaired = λ i g. l .before .before .before .before .first-paired .ensures .before i (omega (arith, l .loop .inv .1 .1 .0)) }
 
 -- whether the run of the level is cut
-judged : (c : tie.After-cut Inv-loop μ-loop) → c .cut .result ≡ cutAt (Of (Turn (c .before .before) .before) .args .t1) (Of (Turn (c .before .before) .before) .args .t) (Of (Turn (c .before .before) .before) .args .best) (Turn (c .before .before) .before .loop .d)
+judged : (c : tie.After-cut Inv-loop μ-loop) → c .cut .result ≡ cutAt (Of (Turn (c .before .before .before) .before) .args .t1) (Of (Turn (c .before .before .before) .before) .args .t) (Of (Turn (c .before .before .before) .before) .args .best) (Turn (c .before .before .before) .before .loop .d)
 judged c =
-    let b = c .before .before in
+    let b = c .before .before .before in
     let l = Turn b .before in
     let s = Of l in
     c .cut .ensures ∙ ap (λ e. cutBy (s .args .t1 .cols) (s .args .t1 .soft) (latticeAt (s .args .t1 .lattice) (l .loop .d)) e (s .args .best)) (run-is b)
 
 returns : tie.Need-returns Inv-loop μ-loop
 returns c =
-    let i = Turn (c .before .before .before) in
+    let i = Turn (c .before .before .before .before) in
     let l = i .before in
     (refl, record { level-in = i .loop-test .taken; passed = passed l (l .loop .d) (omega arith); cut = sym (judged (c .before)) ∙ c .if1 .taken })
 
-add-t47 : tie.Need-add-t47 Inv-loop μ-loop
-add-t47 c = record { fits = omega (arith, d<16 (Turn (c .before .before .before .before))) }
+add-t51 : tie.Need-add-t51 Inv-loop μ-loop
+add-t51 c = record { fits = omega (arith, d<16 (Turn (c .before .before .before .before .before))) }
 
 -- the level that a pair discards
 returns-2 : tie.Need-returns-2 Inv-loop μ-loop
 returns-2 c =
     let e = c .before in
-    let i = Turn (e .before .before .before) in
+    let i = Turn (e .before .before .before .before) in
     let l = i .before in
     let s = Of l in
-    let f = l .before .before .first-paired in
+    let f = l .before .before .before .before .first-paired in
     let q = c .if2 .taken in
     inr (
       refl,
@@ -186,38 +208,38 @@ returns-2 c =
     )
 
 mul-a-2 : tie.Need-mul-a-2 Inv-loop μ-loop
-mul-a-2 c = record { fits = omega (arith, item (Turn (c .before .before .before .before))) }
+mul-a-2 c = record { fits = omega (arith, item (Turn (c .before .before .before .before .before))) }
 
 element-set-from-a : tie.Need-element-set-from-a Inv-loop μ-loop
-element-set-from-a c = item (Turn (c .before .before .before .before))
+element-set-from-a c = item (Turn (c .before .before .before .before .before))
 
 mul-a-3 : tie.Need-mul-a-3 Inv-loop μ-loop
-mul-a-3 c = record { fits = omega (arith, item (Turn (c .before .before .before .before))) }
+mul-a-3 c = record { fits = omega (arith, item (Turn (c .before .before .before .before .before))) }
 
 element-set-from-a-2 : tie.Need-element-set-from-a-2 Inv-loop μ-loop
-element-set-from-a-2 c = item (Turn (c .before .before .before .before))
+element-set-from-a-2 c = item (Turn (c .before .before .before .before .before))
 
 add-d : tie.Need-add-d Inv-loop μ-loop
-add-d c = record { fits = omega (arith, d<16 (Turn (c .before .before .before .before))) }
+add-d c = record { fits = omega (arith, d<16 (Turn (c .before .before .before .before .before))) }
 
 loop-less : tie.Need-loop-less Inv-loop μ-loop
-loop-less c = let i = Turn (c .before .before .before .before) in omega (arith, i .loop-test .taken)
+loop-less c = let i = Turn (c .before .before .before .before .before) in omega (arith, i .loop-test .taken)
 
 -- ends written twice are those written last
 rewritten : (e : Ends) (k : ℕ) (l h u : ℤ) → spanned (spanned e k l h) k u u ≡ spanned e k u u
 rewritten e k l h u = ap₂ (λ (x y : List ℤ). record { lo = x; hi = y }) (set-set (e .lo) k l u) (set-set (e .hi) k h u)
 
 -- so does the level itself
-still : (c : tie.Else1 Inv-loop μ-loop) (i : ℕ) → i ≤ Turn (c .before .before .before) .before .loop .d → Dec (i ≡ Turn (c .before .before .before) .before .loop .d)
-    → cutAt (Of (Turn (c .before .before .before) .before) .args .t1) (Of (Turn (c .before .before .before) .before) .args .t) (Of (Turn (c .before .before .before) .before) .args .best) i ≡ false
+still : (c : tie.Else1 Inv-loop μ-loop) (i : ℕ) → i ≤ Turn (c .before .before .before .before) .before .loop .d → Dec (i ≡ Turn (c .before .before .before .before) .before .loop .d)
+    → cutAt (Of (Turn (c .before .before .before .before) .before) .args .t1) (Of (Turn (c .before .before .before .before) .before) .args .t) (Of (Turn (c .before .before .before .before) .before) .args .best) i ≡ false
 still c i h (yes e) = rw e (sym (judged (c .before)) ∙ c .if1 .left)
-still c i h (no e) = Turn (c .before .before .before) .before .loop .inv .1 .1 .1 i (omega (arith, e))
+still c i h (no e) = Turn (c .before .before .before .before) .before .loop .inv .1 .1 .1 i (omega (arith, e))
 
 loop-again : tie.Need-loop-again Inv-loop μ-loop
-unfolding fixedBy
+unfolding fixedIn
 loop-again c =
     let u = c .before in
-    let b = u .before .before .before in
+    let b = u .before .before .before .before in
     let i = Turn b in
     let l = i .before in
     let s = Of l in
@@ -232,17 +254,18 @@ loop-again c =
 
 tried-requires : tie.Need-tried-requires Inv-loop μ-loop
 tried-requires c κs =
-    let l = c .before in
+    let l = c .before .before in
     let s = Of l in
-    rw (l .loop .inv .1 .0) (fixed-judged (s .args .t1) (s .pre .0 .setting) (s .pre .1 .0 .long) (at (s .args .t .place)) (s .pre .1 .0 .inside) (l .loop .d) (s .args .best) (l .loop .inv .0) (s .pre .1 .1))
+    rw (l .loop .inv .1 .0) (fixed-judged (s .args .t1) (s .pre .ready .setting) (s .pre .started .long) (at (s .args .t .place)) (s .pre .started .inside) (l .loop .d) (s .args .best) (l .loop .inv .0) (s .pre .proper))
 
 returns-3 : tie.Need-returns-3 Inv-loop μ-loop
 returns-3 c =
-    let l = c .before .before in
+    let y = c .before in
+    let l = y .before .before .before in
     let s = Of l in
-    let n : l .loop .d ≡ s .args .t1 .levels = omega (arith, c .before .loop-test .left, l .loop .inv .0) in
+    let n : l .loop .d ≡ s .args .t1 .levels = omega (arith, y .before .before .loop-test .left, l .loop .inv .0) in
     let e = l .loop .inv .1 .0 ∙ ap (fixedBy (s .args .t1) (at (s .args .t .place))) n in
-    inl (record { all = refl; passed = passed l (s .args .t1 .levels) (omega (arith, n)); better = rw e at (c .tried .ensures) })
+    inl (record { all = refl; passed = passed l (s .args .t1 .levels) (omega (arith, n)); tries = rw e at (y .tried .ensures) })
 
 pub look-spec : {M : Type 1} → statement M
 look-spec =
@@ -251,6 +274,7 @@ look-spec =
     Inv-loop
     μ-loop
     first-paired-requires
+    fixed-in-requires
     loop-holds
     mul-a
     array-copy-out-a
@@ -272,7 +296,7 @@ look-spec =
     element-copy-out-cut
     cut-requires
     returns
-    add-t47
+    add-t51
     returns-2
     mul-a-2
     element-set-from-a

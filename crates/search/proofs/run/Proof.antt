@@ -5,12 +5,12 @@ use Prim.Native.Nat.{ℕ, suc}
 use native.Mathlib.Omega.{arith}
 use borrow.Author.Needs.{needs}
 use Rattle.search.specs.Steps.{Long, After}
-use Rattle.search.proofs.Finish.{Going, left, going-first, going-on, going-less, searched}
+use Rattle.search.proofs.Finish.{Going, Fresh, fresh-top, left, going-first, going-on, going-less, fresh-on, searched}
 use Rattle.search.proofs.run.Statement.{statement}
 use Rattle.search.proofs.run.Tie as tie
 
 abbrev Inv-loop : tie.InvT-loop
-Inv-loop s p q₀ q = Going s q × ((n : ℕ) × After s p n q)
+Inv-loop s p q₀ q = Going s q × (Fresh s p q × ((n : ℕ) × After s p n q))
 
 abbrev μ-loop : tie.MeasureT-loop
 μ-loop s p q₀ q = left s q
@@ -31,13 +31,14 @@ loop-holds c =
     let d = c .before .dive in
     rw (c .no-incumbent .ensures) (
       going-first (s .args .s) (s .pre .setting) (long s) _ (d .result) 0 (d .ensures),
-      (0, record { first = d .ensures; nothing = refl; no-steps = refl; going = refl }),
+      (fresh-top (s .args .s) (s .args .p) _ refl, (0, record { first = d .ensures; nothing = refl; no-steps = refl; top = refl; going = refl })),
     )
 
 step-requires : tie.Need-step-requires Inv-loop μ-loop
 step-requires c κs =
     let l = c .before .before in
-    (l .before .before .before .pre, (l .loop .inv .0 .started, l .loop .inv .0 .good .proper))
+    let v = l .loop .inv in
+    record { ready = l .before .before .before .pre; started = v .0 .started; proper = v .0 .good .proper; from-in = v .1 .0 .from-in; passed = v .1 .0 .passed }
 
 -- a test that is turned round
 turned-true : (b : Bool) → not b ≡ true → b ≡ false
@@ -64,15 +65,21 @@ loop-again c =
     let t = c .before in
     let l = t .before .before in
     let s = l .before .before .before in
-    let h = l .loop .inv .1 in
-    (going-on (s .args .s) (s .args .p) (s .pre) (l .loop .q) (c .step .result) (l .loop .inv .0) (on t) (c .step .ensures), (suc (h .0), (l .loop .q, (h .1, (on t, c .step .ensures)))))
+    let g = l .loop .inv .0 in
+    let h = l .loop .inv .1 .1 in (
+      going-on (s .args .s) (s .args .p) (s .pre) (l .loop .q) (c .step .result) g (on t) (c .step .ensures),
+      (
+        fresh-on (s .args .s) (s .args .p) (s .pre) (l .loop .q) (c .step .result) g (on t) (c .step .ensures),
+        (suc (h .0), (l .loop .q, (h .1, (on t, c .step .ensures)))),
+      ),
+    )
 
 returns : tie.Need-returns Inv-loop μ-loop
 returns c =
     let l = c .before .before in
     let s = l .before .before .before in
     let over = turned-false (l .loop .q .done) (c .if1 .left) in
-    (searched (s .args .s) (s .pre .setting) (l .loop .q) (l .loop .inv .0) over, record { count = l .loop .inv .1 .0; after = l .loop .inv .1 .1; over = over })
+    (searched (s .args .s) (s .pre .setting) (l .loop .q) (l .loop .inv .0) over, record { count = l .loop .inv .1 .1 .0; after = l .loop .inv .1 .1 .1; over = over })
 
 pub run-spec : {M : Type 1} → statement M
 run-spec = tie.close (tie.spec Inv-loop μ-loop dive-requires no-incumbent-requires loop-holds step-requires loop-less loop-again returns)

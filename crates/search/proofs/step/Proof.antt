@@ -1,13 +1,19 @@
 -- `search::step` meets its contract.
-use mathlib.Core.Path.{_≡_, refl, sym, _∙_}
+use mathlib.Core.Path.{_≡_, refl, sym, _∙_, subst}
+use mathlib.Core.Bool.{false}
 use mathlib.Core.Option.{Option, some}
-use Prim.Native.Nat.{ℕ}
+use Prim.Native.Nat.{ℕ, _+_, _≤_}
+use native.Mathlib.Omega.{arith}
 use lib.IntN.{ℤ}
+use lib.ListN.{length-set}
 use borrow.Author.Needs.{needs}
 use Rattle.arith.proofs.Words.{back}
 use Rattle.greedy.specs.Fill.{at}
 use Rattle.places.specs.Moves.{SettledIn, pastOf}
 use Rattle.places.proofs.Steps.{moved-at, moved-done}
+use Rattle.search.specs.declared.Path.{Path}
+use Rattle.search.specs.Steps.{LongPath, Dived, Turnable, turnedAt, Stepped}
+use Rattle.search.proofs.Dives.{dived-none, turn-inside, turned-by}
 use Rattle.search.proofs.Turns.{looked-in, wider, past-started, MoveIn, move-in}
 use Rattle.search.proofs.step.Statement.{statement}
 use Rattle.search.proofs.step.Tie as tie
@@ -19,13 +25,13 @@ counted-requires : tie.Need-counted-requires
 counted-requires c κs = search needs
 
 settled-in : (c : tie.After-look) → SettledIn (c .before .before .before .args .s .levels) (c .look .result .settled)
-settled-in c = let s = c .before .before .before in looked-in (s .args .s) (s .args .p) (s .args .q .path) (s .args .q .best) (c .look .result .best) (c .look .result .settled) (c .look .ensures)
+settled-in c = let s = c .before .before .before in looked-in (s .args .s) (s .args .p) (s .args .q .path) (s .args .q .best) (record { best = c .look .result .best; better = c .look .result .better }) (c .look .result .settled) (c .look .ensures)
 
 past-requires : tie.Need-past-requires
 past-requires c κs =
     let k = c .before .before .before .before .before .before in
     let s = k .before .before .before in
-    wider (k .look .result .settled) (s .args .s .levels) (s .pre .0 .setting .few) (settled-in k)
+    wider (k .look .result .settled) (s .args .s .levels) (s .pre .ready .setting .few) (settled-in k)
 
 enum-known-o : tie.Need-enum-known-o
 enum-known-o c = search needs
@@ -38,43 +44,90 @@ module _ (c : tie.After-known-told) where
   went : goal (c .before .before .before) ≡ some (c .before .o .given .0 .0, c .before .o .given .0 .1 .0)
   went = moved-at (goal (c .before .before .before)) (c .before .o .given .0 .0) (c .before .o .given .0 .1 .0) (sym (c .before .o .given .1) ∙ c .before .before .before .past .ensures)
 
-  moves : MoveIn (c .before .before .before .before .before .before .before .before .before .before .before .before .before .args .s) (c .before .o .given .0 .0) (c .before .o .given .0 .1 .0)
+  moves : MoveIn (c .before .before .before .before .before .before .before .before .before .before .before .before .before .args .s) (c .before .before .before .before .before .before .before .before .before .before .look .result .settled) (c .before .o .given .0 .0) (c .before .o .given .0 .1 .0)
   moves =
       let k = c .before .before .before .before .before .before .before .before .before .before in
       let s = k .before .before .before in
       let w = k .look .result .settled in
-      move-in (s .args .s) (s .pre .0 .setting) (s .pre .1 .0 .long) (at (s .args .q .path .place)) (s .pre .1 .0 .inside) w (settled-in k) (c .before .o .given .0 .0) (c .before .o .given .0 .1 .0)
-      (sym (past-started (s .args .s) (s .args .q .path) w (s .pre .1 .0) (settled-in k)) ∙ went)
+      move-in (s .args .s) (s .pre .ready .setting) (s .pre .started .long) (at (s .args .q .path .place)) (s .pre .started .inside) w (settled-in k) (c .before .o .given .0 .0) (c .before .o .given .0 .1 .0)
+      (sym (past-started (s .args .s) (s .args .q .path) w (s .pre .started) (settled-in k)) ∙ went)
+
+  -- the move can be made
+  turnable : Turnable (c .before .before .before .before .before .before .before .before .before .before .before .before .before .args .s) (c .before .before .before .before .before .before .before .before .before .before .before .before .before .args .q .path) (c .before .o .given .0 .0) (c .before .o .given .0 .1 .0)
+  turnable = let s = c .before .before .before .before .before .before .before .before .before .before .before .before .before in record { ready = s .pre .ready .setting; started = s .pre .started; level-in = moves .level-in; low = moves .low; high = moves .high }
 
 turn-requires : tie.Need-turn-requires
-turn-requires c κs =
-    let s = c .before .before .before .before .before .before .before .before .before .before .before .before .before in
-    rw (back (c .before .o .given .0 .1 .0) (c .known-told .given .1 .0 .1)) (record { ready = s .pre .0 .setting; started = s .pre .1 .0; level-in = moves c .level-in; low = moves c .low; high = moves c .high })
+turn-requires c κs = omega (arith, moves c .level-in, c .before .before .before .before .before .before .before .before .before .before .before .before .before .pre .ready .setting .few)
 
-enum-told : tie.Need-enum-told
-enum-told c = search needs
+-- the path that the dive goes on from
+turned : (c : tie.After-turn) → c .turn .result ≡ turnedAt (c .before .before .before .before .before .before .before .before .before .before .before .before .before .before .args .q .path) (c .before .before .o .given .0 .0) (c .before .before .o .given .0 .1 .0)
+turned c = let t = c .before in rw (back (t .before .o .given .0 .1 .0) (t .known-told .given .1 .0 .1)) at (c .turn .ensures .0)
 
-returns : tie.Need-returns
-returns c =
-    let t = c .before in
+fresh-requires : tie.Need-fresh-requires
+fresh-requires c κs = search needs
+
+-- where the move was found
+abbrev Told : tie.After-fresh → tie.After-known-told
+Told f = f .before .before
+
+next-in : (f : tie.After-fresh) → Told f .before .o .given .0 .0 + 1 ≤ 16
+next-in f = let t = Told f in omega (arith, moves t .level-in, t .before .before .before .before .before .before .before .before .before .before .before .before .before .pre .ready .setting .few)
+
+add-if1 : tie.Need-add-if1
+add-if1 c = omega (arith, next-in c)
+
+add-dive : tie.Need-add-dive
+add-dive c = search needs
+
+dive-requires : tie.Need-dive-requires
+dive-requires c κs =
+    let f = c .before .before in
+    let t = Told f in
+    let s = t .before .before .before .before .before .before .before .before .before .before .before .before .before in
+    rw (turned (f .before)) (s .pre .ready .setting, (omega (arith, moves t .level-in), turn-inside (s .args .s) (s .args .q .path) (t .before .o .given .0 .0) (t .before .o .given .0 .1 .0) (turnable t) (f .before .turn .ensures .1)))
+
+-- a step that goes on along the path r
+onward : (f : tie.After-fresh) (r : Path) → Dived (Told f .before .before .before .before .before .before .before .before .before .before .before .before .before .args .s) (Told f .before .o .given .0 .0 + 1) (f .before .turn .result) r
+    → Stepped (Told f .before .before .before .before .before .before .before .before .before .before .before .before .before .args .s) (Told f .before .before .before .before .before .before .before .before .before .before .before .before .before .args .p) (Told f .before .before .before .before .before .before .before .before .before .before .before .before .before .args .q) (record { path = r; best = Told f .before .before .before .before .before .before .before .before .before .before .look .result .best; steps = Told f .before .before .before .before .before .before .before .before .counted .result; from = f .fresh .result; done = false })
+onward f r d =
+    let u = f .before in
+    let t = Told f in
     let k = t .before .before .before .before .before .before .before .before .before .before in
     let s = k .before .before .before in
     record {
       verdict = k .look .result .settled;
+      better = k .look .result .better;
       looked = k .look .ensures;
-      went = rw (went t) (refl, rw (back (t .before .o .given .0 .1 .0) (t .known-told .given .1 .0 .1)) at (c .turn .ensures));
-      counted = c .before .before .before .before .before .before .before .before .before .counted .ensures;
+      went = rw (went t) (refl, (turned-by (s .args .s) (s .args .q .path) (t .before .o .given .0 .0) (t .before .o .given .0 .1 .0) (turnable t) (u .turn .ensures .1) r (subst (λ z. Dived (s .args .s) (t .before .o .given .0 .0 + 1) z r) (turned u) d), f .fresh .ensures));
+      counted = t .before .before .before .before .before .before .before .before .counted .ensures;
     }
 
+returns : tie.Need-returns
+returns c = onward (c .before .before .before) (c .dive .result) (c .dive .ensures)
+
+enum-told : tie.Need-enum-told
+enum-told c = search needs
+
+-- at the last level there is no farther to go
 returns-2 : tie.Need-returns-2
 returns-2 c =
+    let f = c .before .before in
+    let u = f .before in
+    let s = Told f .before .before .before .before .before .before .before .before .before .before .before .before .before in
+    let l = u .turn .ensures .1 in
+    let long : LongPath (u .turn .result) = rw (u .turn .ensures .0) (record { place-long = simp length-set (l .place-long); starts-long = l .starts-long }) in
+    onward f (u .turn .result) (dived-none (s .args .s) _ (u .turn .result) (c .if1 .left) long)
+
+returns-3 : tie.Need-returns-3
+returns-3 c =
     let p = c .before .before in
     let k = p .before .before .before .before .before .before .before in
     record {
       verdict = k .look .result .settled;
+      better = k .look .result .better;
       looked = k .look .ensures;
-      went = rw (moved-done (goal p) (sym (c .enum-told .given .1) ∙ p .past .ensures)) (refl, refl);
-      counted = c .before .before .before .before .before .before .before .counted .ensures;
+      went = rw (moved-done (goal p) (sym (c .enum-told .given .1) ∙ p .past .ensures)) (refl, (refl, refl));
+      counted = p .before .before .before .before .before .counted .ensures;
     }
 
 pub step-spec : {M : Type 1} → statement M
@@ -86,6 +139,11 @@ step-spec =
     past-requires
     enum-known-o
     turn-requires
-    enum-told
+    fresh-requires
+    add-if1
+    add-dive
+    dive-requires
     returns
-    returns-2)
+    enum-told
+    returns-2
+    returns-3)

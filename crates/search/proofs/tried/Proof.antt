@@ -8,7 +8,7 @@ use Rattle.arith.proofs.Parts.{within-back}
 use Rattle.greedy.specs.Fill.{fill, bound}
 use Rattle.greedy.specs.Sized.{SizedFill}
 use Rattle.greedy.proofs.Sizes.{fill-sized}
-use Rattle.search.specs.Search.{triedBy}
+use Rattle.search.specs.Search.{betterBy, triedBy}
 use Rattle.search.proofs.Bounds.{bound-proper}
 use borrow.Author.Needs.{needs}
 use Rattle.search.proofs.tried.Statement.{statement}
@@ -21,12 +21,12 @@ sized : (s : tie.Start) → SizedFill (s .args .c) (fill (s .args .c) (s .args .
 sized s = fill-sized (s .args .c) (s .args .e) (s .pre .sized)
 
 returns : tie.Need-returns
-unfolding triedBy
+unfolding triedBy betterBy
 returns c =
     let s = c .before .before .before .before in
     let f = c .before .before .before .fill-up .ensures in
     let t = rw (f, within-back tt (sized s .room-in)) at (c .if1 .taken) in
-    rw t
+    record { best-is = rw t; better-is = rw t }
 
 not-empty : (c : tie.Else1) → ltZ (fill (c .before .before .before .before .args .c) (c .before .before .before .before .args .e) .room) (pos 0) ≡ false
 not-empty c =
@@ -58,22 +58,30 @@ compared : (c : tie.After-less) → c .less .result ≡ lessMixed (c .before .be
 compared c = c .less .ensures ∙ ap (λ v. lessMixed (c .before .before .before .before .before .before .before .before .args .best .value) v) (bound-is (c .before .before .before))
 
 returns-2 : tie.Need-returns-2
-unfolding triedBy
+unfolding triedBy betterBy
 returns-2 c =
     let d = c .before in
     let t = d .before .before in
-    rw (not-empty (t .before .before), t .if2 .taken, sym (compared d) ∙ turned-true (d .less .result) (c .if3 .taken))
+    let l = sym (compared d) ∙ turned-true (d .less .result) (c .if3 .taken) in
+    record { best-is = rw (not-empty (t .before .before), t .if2 .taken, l); better-is = rw (not-empty (t .before .before), t .if2 .taken, l) }
 
 returns-3 : tie.Need-returns-3
-unfolding triedBy
+unfolding triedBy betterBy
 returns-3 c =
     let d = c .before in
     let t = d .before .before in
-    rw (not-empty (t .before .before), t .if2 .taken, sym (compared d) ∙ turned-false (d .less .result) (c .if3 .left)) (ap (λ v. record { found = true; place = t .before .before .before .before .before .before .args .x; value = v }) (bound-is (t .before)))
+    let l = sym (compared d) ∙ turned-false (d .less .result) (c .if3 .left) in
+    record {
+      best-is = rw (not-empty (t .before .before), t .if2 .taken, l) (ap (λ v. record { found = true; place = t .before .before .before .before .before .before .args .x; value = v }) (bound-is (t .before)));
+      better-is = rw (not-empty (t .before .before), t .if2 .taken, l);
+    }
 
 returns-4 : tie.Need-returns-4
-unfolding triedBy
-returns-4 c = rw (not-empty (c .before .before), c .if2 .left) (ap (λ v. record { found = true; place = c .before .before .before .before .before .before .args .x; value = v }) (bound-is (c .before)))
+unfolding triedBy betterBy
+returns-4 c = record {
+  best-is = rw (not-empty (c .before .before), c .if2 .left) (ap (λ v. record { found = true; place = c .before .before .before .before .before .before .args .x; value = v }) (bound-is (c .before)));
+  better-is = rw (not-empty (c .before .before), c .if2 .left);
+}
 
 pub tried-spec : {M : Type 1} → statement M
 tried-spec =
