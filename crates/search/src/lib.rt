@@ -1,6 +1,6 @@
 // The search for the best place: a place is an amount for each level, a level is an integer item. A step looks at one place and
-// sets aside a run of places from it on, with the lemma that allows it: see proofs/Settle. A step depends on the place and the
-// incumbent alone.
+// sets aside a run of places from it on, with the lemma that allows it: see proofs/Settle. What a step gives depends on the place and the
+// incumbent alone; the state also says which levels are known to settle nothing, so that they are not looked at again.
 use arith::Mixed;
 use arith::ceil_div;
 use arith::floor_div;
@@ -50,8 +50,8 @@ pub struct Soft {
     pub size: i64,
 }
 
-// The domination pairs (01: least pairs) of all pairs of items, at 16 i + j: the steps of i and of j; 0 where there is none. Steps are short, and
-// so are their numbers: a struct is copied at a call.
+// The domination pairs (01: least pairs) of all pairs of items, at 16 i + j: the steps of i and of j; 0 where there is none. The numbers
+// are short because a struct is copied at a call.
 pub struct Pairs {
     pub first: [i16; 256],
     pub second: [i16; 256],
