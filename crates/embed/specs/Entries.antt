@@ -11,9 +11,9 @@ use Rattle.knapsack.specs.declared.Answer.{Answer}
 use Rattle.knapsack.specs.declared.Problem.{Problem}
 use Rattle.knapsack.specs.declared.Verdict.{Verdict}
 use Rattle.knapsack.specs.declared.Verdict.the-variants.{Accepted, Refused}
-use Rattle.listing.specs.declared.Listed.{Listed}
-use Rattle.listing.specs.declared.Listed.the-variants.{Written, Refused as NotWritten}
-use Rattle.listing.specs.Listing.{told, filled}
+use Rattle.text.specs.declared.Listed.{Listed}
+use Rattle.text.specs.declared.Listed.the-variants.{Written, Refused as NotWritten}
+use Rattle.text.specs.Buffer.{told, filled}
 use Rattle.listing.specs.Printing.{printed}
 use Rattle.planner.specs.declared.Solved.{Solved}
 use Rattle.planner.specs.Outcomes.{Solves}

@@ -2,9 +2,9 @@
 // takes. bench/charge.h declares them. Paper 01, "The sheet" and "What `charge` prints". Nothing is asked of a caller but that each
 // pointer has as many bytes behind it as the length beside it says.
 use knapsack::Verdict;
-use listing::Listed;
-use listing::ROOM;
-use listing::hand_over;
+use text::Listed;
+use text::ROOM;
+use text::hand_over;
 use planner::solve;
 use replies::reply_to;
 use sheet::Reading;

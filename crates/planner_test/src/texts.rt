@@ -3,7 +3,7 @@ use crate::rows::sheet_a;
 use crate::rows::sheet_e;
 use crate::rows::sheet_g;
 use knapsack::Problem;
-use listing::Listed;
+use text::Listed;
 use replies::list;
 use trials::make::held;
 use trials::make::one;

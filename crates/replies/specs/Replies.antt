@@ -11,10 +11,10 @@ use Rattle.knapsack.specs.declared.Problem.{Problem}
 use Rattle.knapsack.specs.declared.Verdict.{Verdict}
 use Rattle.knapsack.specs.declared.Verdict.the-variants.{Accepted, Refused}
 use Rattle.knapsack.specs.Meaning.{bare, Planned}
-use Rattle.listing.specs.declared.Listed.{Listed}
-use Rattle.listing.specs.declared.Text.{Text}
-use Rattle.listing.specs.Printing.{printed}
-use Rattle.listing.specs.Listing.{Shows, told, filled, noted, unlessRefused}
+use Rattle.text.specs.declared.Listed.{Listed}
+use Rattle.text.specs.declared.Text.{Text}
+use Rattle.listing.specs.Printing.{printed, unlessRefused}
+use Rattle.text.specs.Buffer.{Shows, told, filled, noted}
 use Rattle.sheet.specs.declared.Reading.{Reading}
 use Rattle.sheet.specs.Reading.{readSheet}
 

@@ -1,6 +1,6 @@
 use mathlib.Core.Path.{subst}
 use borrow.Author.Needs.{needs}
-use Rattle.listing.specs.Listing.{Shows}
+use Rattle.text.specs.Buffer.{Shows}
 use Rattle.listing.specs.Printing.{printed}
 use Rattle.sheet.specs.declared.Reading.{Reading}
 use Rattle.replies.specs.Replies.{Answered}

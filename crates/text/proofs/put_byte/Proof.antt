@@ -1,9 +1,9 @@
--- `listing::put::put_byte` meets its contract: a store is a text of one byte.
+-- `text::put_byte` meets its contract: a store is a text of one byte.
 use native.Mathlib.Omega.{arith}
-use Rattle.listing.proofs.Buffers.{put-byte}
+use Rattle.text.proofs.Buffers.{put-byte}
 use borrow.Author.Needs.{needs}
-use Rattle.listing.proofs.put.put_byte.Statement.{statement}
-use Rattle.listing.proofs.put.put_byte.Tie as tie
+use Rattle.text.proofs.put_byte.Statement.{statement}
+use Rattle.text.proofs.put_byte.Tie as tie
 
 slice-write-out : tie.Need-slice-write-out
 slice-write-out c = search needs

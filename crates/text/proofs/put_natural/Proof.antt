@@ -1,15 +1,15 @@
--- `listing::put::put_natural` meets its contract: the digits as a word, and the byte behind them.
+-- `text::put_natural` meets its contract: the digits as a word, and the byte behind them.
 use mathlib.Core.Path.{_≡_, _∙_}
 use Prim.Native.Nat.{_-_}
 use lib.ListN.{take, drop, length-drop}
 use lib.Seq.{take-all}
-use Rattle.listing.specs.Decimal.{decimal}
-use Rattle.listing.proofs.Decimals.{decimal-length}
-use Rattle.listing.proofs.Buffers.{puts, roomier}
+use Rattle.text.specs.Decimal.{decimal}
+use Rattle.text.proofs.Decimals.{decimal-length}
+use Rattle.text.proofs.Buffers.{puts, roomier}
 use native.Mathlib.Omega.{arith}
 use borrow.Author.Needs.{needs}
-use Rattle.listing.proofs.put.put_natural.Statement.{statement}
-use Rattle.listing.proofs.put.put_natural.Tie as tie
+use Rattle.text.proofs.put_natural.Statement.{statement}
+use Rattle.text.proofs.put_natural.Tie as tie
 
 digits-of-requires : tie.Need-digits-of-requires
 digits-of-requires c κs = search needs

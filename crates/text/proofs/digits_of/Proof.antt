@@ -1,4 +1,4 @@
--- `listing::put::digits_of` meets its contract: the digits of the rest, and those stored, are the number's.
+-- `text::digits_of` meets its contract: the digits of the rest, and those stored, are the number's.
 use mathlib.Core.Path.{_≡_, refl, _∙_}
 use mathlib.Core.List.{List, [], _∷_, _++_, append-assoc}
 use Prim.Native.Nat.{ℕ, zero, suc, _+_, _-_, _/_, _%_, _^_, _≤_, _<_}
@@ -6,10 +6,10 @@ use native.Mathlib.Numerals.{sub-one}
 use native.Mathlib.Omega.{arith}
 use borrow.Author.Needs.{needs}
 use lib.ListN.{length, drop, set, length-set}
-use Rattle.listing.specs.Decimal.{digit, digits, decimal}
-use Rattle.listing.proofs.Decimals.{digits-zero, digits-step}
-use Rattle.listing.proofs.put.digits_of.Statement.{statement}
-use Rattle.listing.proofs.put.digits_of.Tie as tie
+use Rattle.text.specs.Decimal.{digit, digits, decimal}
+use Rattle.text.proofs.Decimals.{digits-zero, digits-step}
+use Rattle.text.proofs.digits_of.Statement.{statement}
+use Rattle.text.proofs.digits_of.Tie as tie
 
 -- a rest that is not 0 has a place left for its last digit
 fewer : (rest first : ℕ) → 0 < rest → rest < 10 ^ first → (1 ≤ first) × (rest / 10 < 10 ^ (first - 1))

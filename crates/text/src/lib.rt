@@ -1,11 +1,28 @@
-// Bytes and numbers at a place of a lent buffer. Each function replies with the place behind what it wrote.
+// Text: numbers in base ten, and texts in a buffer, by value or lent. Paper 01, "Text", and refusal 11.
+// A put_* function writes at a place of a buffer and replies with the place behind what it wrote; hand_over fills a lent buffer or leaves it.
+use knapsack::Refusal;
 ghost use mathlib.Core.Path.{_≡_};
 ghost use mathlib.Core.List.{[], _∷_, _++_};
 ghost use Prim.Native.Nat.{_+_, _≤_};
 ghost use lib.IntN.{natAbs};
 ghost use lib.ListN.{length};
-ghost use Rattle.listing.specs.Decimal.{decimal, integer};
-ghost use Rattle.listing.specs.Buffer.{Put, Spelled};
+ghost use Rattle.text.specs.Decimal.{decimal, integer};
+ghost use Rattle.text.specs.Buffer.{Put, Spelled, told, filled};
+
+// Room for the longest text that is written: a reply, with a heading of at most 50 bytes and 16 lines of at most 86.
+pub const ROOM: usize = 1440;
+
+// A text by value: the first len bytes.
+pub struct Text {
+    pub bytes: [u8; ROOM],
+    pub len: usize,
+}
+
+// What a caller that lent a buffer is told: how long the text is that stands there, or why there is none.
+pub enum Listed {
+    Written(usize),
+    Refused(Refusal),
+}
 
 // The digits of a number: the places of bytes from first on.
 pub struct Digits {
@@ -64,7 +81,7 @@ pub fn put_natural(out: &mut [u8], at: usize, n: u64, end: u8) -> usize
     put_byte(out, next, end)
 }
 
-// |z|, also of the least z, whose opposite does not fit.
+// |z|, also of the least z, whose opposite does not fit (arith's magnitude is of numbers far from it).
 pub fn magnitude(z: i64) -> u64
     ensures { λ r. ⌜ r ≡ natAbs z ⌝ }
 {
@@ -86,4 +103,26 @@ pub fn put_integer(out: &mut [u8], at: usize, z: i64, end: u8) -> usize
     } else {
         put_natural(out, at, n, end)
     }
+}
+
+// The bytes before there is a text.
+pub fn space() -> [u8; ROOM]
+    ensures { λ r. ⌜ length r ≡ 1440 ⌝ }
+{
+    [0; ROOM]
+}
+
+// A text at the start of a lent buffer; the bytes behind it stay. Refusal 11, and no byte changes, where the buffer is shorter.
+pub fn hand_over(text: &[u8], out: &mut [u8]) -> Listed
+    ensures { λ r. ⌜ r ≡ told (now (text .entry)) (now (out .entry)) ⌝ }
+    ensures { λ r. ⌜ now (out .exit) ≡ filled (now (text .entry)) (now (out .entry)) ⌝ }
+{
+    if out.len() < text.len() {
+        return Listed::Refused(Refusal {
+            number: 11,
+            line: 0,
+        });
+    }
+    put_word(out, 0, text);
+    Listed::Written(text.len())
 }

@@ -1,14 +1,14 @@
--- `listing::put::put_word` meets its contract: the first i bytes of the word stand in the buffer.
+-- `text::put_word` meets its contract: the first i bytes of the word stand in the buffer.
 use mathlib.Core.Path.{_≡_, refl, sym, _∙_}
 use Prim.Native.Nat.{_+_, _-_, _≤_, _<_}
 use native.Mathlib.Numerals.{add-one}
 use native.Mathlib.Omega.{arith}
 use lib.ListN.{length, take, length-set}
 use lib.Seq.{take-length}
-use Rattle.listing.specs.Buffer.{put}
-use Rattle.listing.proofs.Buffers.{put-nothing, put-more}
-use Rattle.listing.proofs.put.put_word.Statement.{statement}
-use Rattle.listing.proofs.put.put_word.Tie as tie
+use Rattle.text.specs.Buffer.{put}
+use Rattle.text.proofs.Buffers.{put-nothing, put-more}
+use Rattle.text.proofs.put_word.Statement.{statement}
+use Rattle.text.proofs.put_word.Tie as tie
 
 abbrev Inv-loop : tie.InvT-loop
 Inv-loop out₀ at w i₀ out i = (i ≤ length w) × ((length out ≡ length out₀) × (out ≡ put at (take i w) out₀))

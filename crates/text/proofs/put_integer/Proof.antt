@@ -1,16 +1,16 @@
--- `listing::put::put_integer` meets its contract: a minus where the number is below 0, and its magnitude.
+-- `text::put_integer` meets its contract: a minus where the number is below 0, and its magnitude.
 use mathlib.Core.Path.{_≡_, ap, _∙_}
 use mathlib.Core.List.{_∷_}
 use native.Mathlib.Omega.{arith}
 use lib.IntN.{natAbs}
 use mir.Facts.{toZ-ofZ}
 use Rattle.arith.proofs.Parts.{zs}
-use Rattle.listing.specs.Decimal.{decimal, integer}
-use Rattle.listing.proofs.Decimals.{integer-below, integer-above}
-use Rattle.listing.proofs.Buffers.{puts, roomier}
+use Rattle.text.specs.Decimal.{decimal, integer}
+use Rattle.text.proofs.Decimals.{integer-below, integer-above}
+use Rattle.text.proofs.Buffers.{puts, roomier}
 use borrow.Author.Needs.{needs}
-use Rattle.listing.proofs.put.put_integer.Statement.{statement}
-use Rattle.listing.proofs.put.put_integer.Tie as tie
+use Rattle.text.proofs.put_integer.Statement.{statement}
+use Rattle.text.proofs.put_integer.Tie as tie
 
 sized : (c : tie.After-magnitude) → c .magnitude .result ≡ natAbs (c .before .before .args .z)
 sized c = c .magnitude .ensures ∙ ap natAbs (toZ-ofZ (c .before .before .fits .z))

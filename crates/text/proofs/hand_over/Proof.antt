@@ -1,13 +1,13 @@
--- `listing::hand_over` meets its contract: the buffer is tried before a byte is written.
+-- `text::hand_over` meets its contract: the buffer is tried before a byte is written.
 use mathlib.Core.Path.{_≡_, _∙_}
 use mathlib.Core.Bool.{true, false}
 use native.Mathlib.Omega.{arith}
 use borrow.Author.Tests.{lt-ltb, le-ltb}
-use Rattle.listing.specs.Listing.{tooShort, told, filled}
-use Rattle.listing.proofs.Buffers.{put-start}
+use Rattle.text.specs.Buffer.{tooShort, told, filled}
+use Rattle.text.proofs.Buffers.{put-start}
 use borrow.Author.Needs.{needs}
-use Rattle.listing.proofs.hand_over.Statement.{statement}
-use Rattle.listing.proofs.hand_over.Tie as tie
+use Rattle.text.proofs.hand_over.Statement.{statement}
+use Rattle.text.proofs.hand_over.Tie as tie
 
 returns : tie.Need-returns
 unfolding told filled

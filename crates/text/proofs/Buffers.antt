@@ -10,7 +10,7 @@ use native.Mathlib.Numerals.{add-one}
 use native.Mathlib.Omega.{arith}
 use lib.ListN.{length, take, drop, getD, set, length-append, take-append-drop}
 use lib.Seq.{take-at, take-append-seam, take-suc, length-take-le, set-split, drop-append-add, drop-drop}
-use Rattle.listing.specs.Buffer.{put, Put}
+use Rattle.text.specs.Buffer.{put, Put}
 
 pub put-nothing : (at : ℕ) (b : List ℕ) → put at [] b ≡ b
 unfolding put

@@ -1,4 +1,4 @@
--- `listing::put::magnitude` meets its contract: of a number below 0, one more than the opposite of the next.
+-- `text::magnitude` meets its contract: of a number below 0, one more than the opposite of the next.
 use mathlib.Core.Path.{_≡_}
 use Prim.Native.Nat.{_+_, _≤_, _^_}
 use native.Mathlib.Omega.{arith}
@@ -10,8 +10,8 @@ use mir.Facts.{toZ-ofZ}
 use Rattle.arith.proofs.Integers.{split, zed}
 use Rattle.arith.proofs.Parts.{zs, from-sfits, sum, diff, cast-in}
 use borrow.Author.Needs.{needs}
-use Rattle.listing.proofs.put.magnitude.Statement.{statement}
-use Rattle.listing.proofs.put.magnitude.Tie as tie
+use Rattle.text.proofs.magnitude.Statement.{statement}
+use Rattle.text.proofs.magnitude.Tie as tie
 
 one-less : (z : ℤ) → z <ℤ pos 0 → natAbs (pos 0 -ℤ (z +ℤ pos 1)) + 1 ≡ natAbs z
 one-less = split _ (λ a b. simp zed (omega arith))

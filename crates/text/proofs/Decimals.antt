@@ -12,7 +12,7 @@ use lib.IntN.{ℤ, pos, negsuc, natAbs}
 use lib.Signed.{_≤ℤ_, _<ℤ_}
 use lib.ListN.{length, getD, length-append}
 use Rattle.arith.proofs.Parts.{from-lt}
-use Rattle.listing.specs.Decimal.{digit, digitsIn, digits, decimal, integer, readAfter, Plain}
+use Rattle.text.specs.Decimal.{digit, digitsIn, digits, decimal, integer, readAfter, Plain}
 
 -- ---- turns
 
