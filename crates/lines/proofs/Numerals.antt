@@ -1,6 +1,6 @@
 -- Laws of numbers on a sheet (specs/Numbers.antt).
 -- digit-yes, digit-low, digit-high, leading-…: what a byte is.
--- count-more, value-more, count-stop, value-stop, count-end, value-end: a run of digits, a byte at a time.
+-- run-more, run-stop, run-end: a run of digits, a byte at a time.
 -- saturate: a value that stops at a bound stays right up to the bound; figure-saturated: no narrow range sees the difference.
 -- figure-in: a figure that is in is the number itself, and lies in its range.
 use mathlib.Core.Path.{_≡_, refl, sym, _∙_}
@@ -16,9 +16,10 @@ use lib.Seq.{drop-cons}
 use lib.Signed.{ltZ, _≤ℤ_}
 use Rattle.arith.specs.Within.{Within}
 use Rattle.arith.proofs.Words.{no-lt}
+use Rattle.text.specs.Decimal.{readAfter}
 use Rattle.lines.specs.declared.number.Range.{Range}
 use Rattle.lines.specs.declared.number.Figure.the-variants.{In, Out}
-use Rattle.lines.specs.Numbers.{isDigit, isLeading, digitCount, valueAfter, signedOf, figure, Narrow}
+use Rattle.lines.specs.Numbers.{isDigit, isLeading, digitRun, signedOf, figure, Narrow}
 
 pub digit-yes : (b : ℕ) → 48 ≤ b → b ≤ 57 → isDigit b ≡ true
 digit-yes b h k = rw (le-ltb b 48 h, lt-ltb b 58 (omega arith))
@@ -40,46 +41,25 @@ leading-high b h = rw (le-ltb b 49 (omega arith), le-ltb b 58 (omega arith))
 
 -- ---- a run of digits, from the place i on
 
-pub count-more : (s : List ℕ) (i : ℕ) → i < length s → isDigit (getD s i 0) ≡ true → digitCount (drop i s) ≡ suc (digitCount (drop (suc i) s))
-unfolding digitCount
-count-more s i h e = rw (drop-cons s i 0 h, e)
+pub run-more : (s : List ℕ) (i : ℕ) → i < length s → isDigit (getD s i 0) ≡ true → digitRun (drop i s) ≡ getD s i 0 ∷ digitRun (drop (suc i) s)
+unfolding digitRun
+run-more s i h e = rw (drop-cons s i 0 h, e)
 
-pub value-more : (v : ℕ) (s : List ℕ) (i : ℕ) → i < length s → isDigit (getD s i 0) ≡ true →
-    valueAfter v (drop i s) ≡ valueAfter (10 * v + (getD s i 0 - 48)) (drop (suc i) s)
-unfolding valueAfter
-value-more v s i h e = rw (drop-cons s i 0 h, e)
+pub run-stop : (s : List ℕ) (i : ℕ) → i < length s → isDigit (getD s i 0) ≡ false → digitRun (drop i s) ≡ []
+unfolding digitRun
+run-stop s i h e = rw (drop-cons s i 0 h, e)
 
-pub count-stop : (s : List ℕ) (i : ℕ) → i < length s → isDigit (getD s i 0) ≡ false → digitCount (drop i s) ≡ 0
-unfolding digitCount
-count-stop s i h e = rw (drop-cons s i 0 h, e)
-
-pub value-stop : (v : ℕ) (s : List ℕ) (i : ℕ) → i < length s → isDigit (getD s i 0) ≡ false → valueAfter v (drop i s) ≡ v
-unfolding valueAfter
-value-stop v s i h e = rw (drop-cons s i 0 h, e)
-
-pub count-end : (s : List ℕ) (i : ℕ) → length s ≤ i → digitCount (drop i s) ≡ 0
-unfolding digitCount
-count-end s i h = rw (drop-of-length-le s h)
-
-pub value-end : (v : ℕ) (s : List ℕ) (i : ℕ) → length s ≤ i → valueAfter v (drop i s) ≡ v
-unfolding valueAfter
-value-end v s i h = rw (drop-of-length-le s h)
-
-cap : (L v d : ℕ) → min (10 * v + d) L ≡ min (10 * min v L + d) L
-cap L v d = omega arith
+pub run-end : (s : List ℕ) (i : ℕ) → length s ≤ i → digitRun (drop i s) ≡ []
+unfolding digitRun
+run-end s i h = rw (drop-of-length-le s h)
 
 -- the value may stop at L on the way
-pub saturate : (L v : ℕ) (l : List ℕ) → min (valueAfter v l) L ≡ min (valueAfter (min v L) l) L
-unfolding valueAfter
+pub saturate : (L v : ℕ) (ds : List ℕ) → min (readAfter v ds) L ≡ min (readAfter (min v L) ds) L
+unfolding readAfter
 saturate L v [] = omega arith
-saturate L v (b ∷ l) = go (isDigit b) (saturate L (10 * v + (b - 48)) l) (saturate L (10 * min v L + (b - 48)) l)
-  where
-    go : (t : Bool) →
-        min (valueAfter (10 * v + (b - 48)) l) L ≡ min (valueAfter (min (10 * v + (b - 48)) L) l) L →
-        min (valueAfter (10 * min v L + (b - 48)) l) L ≡ min (valueAfter (min (10 * min v L + (b - 48)) L) l) L →
-        min (cond t (valueAfter (10 * v + (b - 48)) l) v) L ≡ min (cond t (valueAfter (10 * min v L + (b - 48)) l) (min v L)) L
-    go true p q = p ∙ rw (cap L v (b - 48)) (sym q)
-    go false p q = omega arith
+saturate L v (b ∷ ds) =
+    let e : min (10 * v + (b - 48)) L ≡ min (10 * min v L + (b - 48)) L = omega arith in
+    saturate L (10 * v + (b - 48)) ds ∙ rw e (sym (saturate L (10 * min v L + (b - 48)) ds))
 
 -- ---- figures
 

@@ -1,4 +1,4 @@
--- Laws of places, words and line ends (specs/Text.antt).
+-- Laws of places, words and line ends (specs/Places.antt).
 -- after-hit, after-miss, after-end: what stands at a place decides afterByte.
 -- word-more, word-not, word-done: afterWord, a byte of the word at a time.
 -- end-here, end-later, end-none: firstEnd, a byte of the text at a time; end-within: where it stands.
@@ -15,10 +15,10 @@ use borrow.Author.Tests.{eq-eqb, ne-eqb}
 use lib.Dec.{eqb, ltb}
 use lib.ListN.{length-drop, length, take, drop, getD, List·getD-eq-default, drop-of-length-le}
 use lib.Seq.{drop-cons, drop-drop}
-use Rattle.lines.specs.declared.text.Place.{Place}
-use Rattle.lines.specs.declared.text.Place.the-variants.{Nothing, At}
-use Rattle.lines.specs.Text.{afterByte, afterWord, firstEnd, ends, closedLine, askedLine}
-use Rattle.lines.specs.declared.text.Span.the-variants.{Nothing as NoLine, Line}
+use Rattle.lines.specs.declared.scan.Place.{Place}
+use Rattle.lines.specs.declared.scan.Place.the-variants.{Nothing, At}
+use Rattle.lines.specs.Places.{afterByte, afterWord, firstEnd, ends, closedLine, askedLine}
+use Rattle.lines.specs.declared.scan.Span.the-variants.{Nothing as NoLine, Line}
 
 -- at a place of the text every default gives its byte
 pub default : (s : List ℕ) (i d e : ℕ) → i < length s → getD s i d ≡ getD s i e

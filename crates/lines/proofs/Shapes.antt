@@ -11,8 +11,8 @@ use borrow.Author.Tests.{leb-false}
 use lib.Dec.{leb, leb→le}
 use lib.IntN.{ℤ, pos, negsuc, natAbs}
 use lib.Signed.{_≤ℤ_}
-use Rattle.lines.specs.declared.text.Place.{Place}
-use Rattle.lines.specs.declared.text.Place.the-variants.{Nothing, At}
+use Rattle.lines.specs.declared.scan.Place.{Place}
+use Rattle.lines.specs.declared.scan.Place.the-variants.{Nothing, At}
 use Rattle.lines.specs.declared.number.Range.{Range}
 use Rattle.lines.specs.declared.number.Figure.{Figure}
 use Rattle.lines.specs.declared.number.Figure.the-variants.{In, Out}
@@ -28,7 +28,7 @@ use Rattle.lines.specs.declared.Marked.{Marked}
 use Rattle.lines.specs.declared.Marked.the-variants.{Malformed as NoMark, Mark as MarkOf}
 use Rattle.lines.specs.declared.ItemRead.the-variants.{Fault as ItemFault, Read as ItemIs}
 use Rattle.lines.specs.declared.BoundRead.the-variants.{Fault as BoundFault, Read as BoundIs}
-use Rattle.lines.specs.Text.{afterByte, afterWord, onPlace}
+use Rattle.lines.specs.Places.{afterByte, afterWord, onPlace}
 use Rattle.lines.specs.Numbers.{Numeral, none, numeral, numberAt, figure, inRange, closedBy, fieldAt}
 use Rattle.lines.specs.Lines.{onField, headingLine, pairLine, markAt, weights, withNumbers, marked, itemLine, itemOf, itemRead, countOf}
 use Rattle.lines.specs.Lines.{countAt, numbered, boundOf, boundRead, prices}

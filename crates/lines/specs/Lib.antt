@@ -1,3 +1,3 @@
-pub mod Text
+pub mod Places
 pub mod Numbers
 pub mod Lines

@@ -32,7 +32,7 @@ use Rattle.lines.specs.declared.ItemRead.{ItemRead}
 use Rattle.lines.specs.declared.ItemRead.the-variants.{Fault as ItemFault, Read as ItemIs}
 use Rattle.lines.specs.declared.BoundRead.{BoundRead}
 use Rattle.lines.specs.declared.BoundRead.the-variants.{Fault as BoundFault, Read as BoundIs}
-use Rattle.lines.specs.Text.{afterByte, afterWord, onPlace}
+use Rattle.lines.specs.Places.{afterByte, afterWord, onPlace}
 use Rattle.lines.specs.Numbers.{fieldAt}
 
 abbrev pub onField : {A : Type 0} → Field → A → (Figure → ℕ → A) → A

@@ -1,12 +1,12 @@
 // The lines of a sheet (paper 01, "The sheet", "Refused, by place"): places and numbers in the sheet's bytes, the form of a line, and
 // then what its values must be. A line's answer is an enum: its values and the place behind it, or the number of its refusal.
-pub mod text; // places, words, line ends; the part that holds a line
+pub mod scan; // places, words, line ends; the part that holds a line
 pub mod number; // numbers of any length
 
 use crate::number::Field;
 use crate::number::Figure;
 use crate::number::Range;
-use crate::text::Place;
+use crate::scan::Place;
 use knapsack::Bound;
 use knapsack::Item;
 use knapsack::Mark;
@@ -55,11 +55,11 @@ fn heading_line(s: &[u8], at: usize, word: &[u8], range: Range) -> Field
     requires { ⌜ Narrow range ⌝ }
     ensures { λ r. ⌜ r ≡ headingLine (now (word .entry)) range (now (s .entry)) at ⌝ }
 {
-    let w = crate::text::after_word(s, at, word);
+    let w = crate::scan::after_word(s, at, word);
     match w {
         Place::Nothing => Field::Malformed,
         Place::At(b) => {
-            let p = crate::text::after_byte(s, b, b' ');
+            let p = crate::scan::after_byte(s, b, b' ');
             match p {
                 Place::Nothing => Field::Malformed,
                 Place::At(next) => crate::number::closed_number(s, next, range, b'\n'),
@@ -90,11 +90,11 @@ fn pair_line(s: &[u8], at: usize, first: Range, second: Range) -> Pair
 fn mark_field(s: &[u8], at: usize) -> Marked
     ensures { λ r. ⌜ r ≡ markAt (now (s .entry)) at ⌝ }
 {
-    let w = crate::text::after_word(s, at, b"W ");
+    let w = crate::scan::after_word(s, at, b"W ");
     match w {
         Place::At(next) => Marked::Mark(Mark::Integer, next),
         Place::Nothing => {
-            let l = crate::text::after_word(s, at, b"L ");
+            let l = crate::scan::after_word(s, at, b"L ");
             match l {
                 Place::At(next) => Marked::Mark(Mark::Continuous, next),
                 Place::Nothing => Marked::Malformed,

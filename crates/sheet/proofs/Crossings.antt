@@ -8,7 +8,7 @@ use Rattle.knapsack.specs.declared.Bound.{Bound}
 use Rattle.knapsack.specs.declared.Bound.the-variants.{Absent, At}
 use Rattle.knapsack.specs.declared.Item.{Item}
 use Rattle.knapsack.specs.declared.Verdict.the-variants.{Accepted}
-use Rattle.lines.specs.Text.{refusal}
+use Rattle.lines.specs.Places.{refusal}
 use Rattle.sheet.specs.Reading.{upperLine, crossFrom}
 
 pub cross-here : (n : ℕ) (f : ℕ → Item) (k line : ℕ) → crosses (f k) ≡ true → crossFrom (suc n) f k line ≡ refusal 6 (upperLine (f k .upper) line)

@@ -14,9 +14,9 @@ use lib.Dec.{ltb, eqb, lit<}
 use lib.IntN.{ℤ, pos, negℤ}
 use lib.ListN.{length, take, drop, List·getD-eq-default, take-append-drop}
 use lib.Seq.{drop-cons, drop-drop}
-use Rattle.lines.specs.declared.text.Place.{Place}
-use Rattle.lines.specs.declared.text.Place.the-variants.{Nothing, At}
-use Rattle.lines.specs.Text.{byteAt, afterByte, onPlace, afterWord}
+use Rattle.lines.specs.declared.scan.Place.{Place}
+use Rattle.lines.specs.declared.scan.Place.the-variants.{Nothing, At}
+use Rattle.lines.specs.Places.{byteAt, afterByte, onPlace, afterWord}
 use Rattle.lines.specs.Numbers.{isDigit, isLeading, digitCount, valueAfter, none, numeral, signedOf, unsignedAt, numberAt}
 use Rattle.sheet.specs.Printing.{digitsOnto, decimal, numberText}
 use Rattle.lines.proofs.Places.{nowhere}

@@ -26,8 +26,8 @@ use Rattle.knapsack.specs.declared.Item.{Item}
 use Rattle.knapsack.specs.declared.Problem.{Problem}
 use Rattle.knapsack.specs.declared.Verdict.{Verdict}
 use Rattle.knapsack.specs.declared.Verdict.the-variants.{Accepted, Refused}
-use Rattle.lines.specs.declared.text.Place.{Place}
-use Rattle.lines.specs.declared.text.Place.the-variants.{Nothing, At as AtPlace}
+use Rattle.lines.specs.declared.scan.Place.{Place}
+use Rattle.lines.specs.declared.scan.Place.the-variants.{Nothing, At as AtPlace}
 use Rattle.lines.specs.declared.number.Range.{Range}
 use Rattle.lines.specs.declared.number.Figure.the-variants.{In, Out}
 use Rattle.lines.specs.declared.number.Field.{Field}
@@ -43,7 +43,7 @@ use Rattle.lines.specs.declared.ItemRead.the-variants.{Fault as ItemFault, Read
 use Rattle.lines.specs.declared.BoundRead.{BoundRead}
 use Rattle.lines.specs.declared.BoundRead.the-variants.{Fault as BoundFault, Read as BoundIs}
 use Rattle.sheet.specs.declared.Progress.{Progress}
-use Rattle.lines.specs.Text.{afterWord, onPlace}
+use Rattle.lines.specs.Places.{afterWord, onPlace}
 use Rattle.sheet.specs.Reading.{onVerdict, onward, withItem, itemTaken, itemStep, itemLines, withBound, boundTaken, boundStep, boundLines}
 use Rattle.sheet.specs.Reading.{bounded, limit, items, wordOf, refusedAt, onCount, limits, capacityOf, capacityLine, limitSection, withCount}
 use Rattle.sheet.specs.Reading.{itemsSection, fromPlace, boundsSection}

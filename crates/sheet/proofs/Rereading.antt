@@ -35,8 +35,8 @@ use Rattle.lines.specs.declared.number.Figure.the-variants.{In}
 use Rattle.lines.specs.declared.number.Field.the-variants.{Number}
 use Rattle.lines.specs.declared.Pair.the-variants.{Numbers}
 use Rattle.lines.specs.declared.Count.the-variants.{Lines}
-use Rattle.lines.specs.declared.text.Place.the-variants.{Nothing, At}
-use Rattle.lines.specs.Text.{byteAt, afterByte, afterWord}
+use Rattle.lines.specs.declared.scan.Place.the-variants.{Nothing, At}
+use Rattle.lines.specs.Places.{byteAt, afterByte, afterWord}
 use Rattle.lines.specs.Numbers.{isDigit, digitCount, valueAfter, numeral, signedOf, unsignedAt, numberAt, figure, fieldAt}
 use Rattle.lines.specs.Lines.{headingLine, pairLine, markAt, weights, prices, itemLine, countAt, itemRead, boundRead}
 use Rattle.sheet.specs.Reading.{limit, items, wordOf, limits, withCapacity, capacityLine, limitSection, withCount, withItem, itemStep}

@@ -26,7 +26,7 @@ use Rattle.sheet.specs.declared.Side.{Side}
 use Rattle.sheet.specs.declared.Side.the-variants.{Lower, Upper}
 use Rattle.sheet.specs.declared.Progress.{Progress}
 use Rattle.sheet.specs.declared.Reading.{Reading}
-use Rattle.lines.specs.Text.{lineOf, refusal}
+use Rattle.lines.specs.Places.{lineOf, refusal}
 use Rattle.sheet.specs.Reading.{items, wordOf, refusedAt, withCapacity, limitSection, itemsSection, boundsSection, endOfSheet}
 use Rattle.sheet.specs.Reading.{crossFrom, crossOf, crossCheck, itemsOf, lowerOf, upperOf, wholeOf, readSheet}
 use Rattle.sheet.specs.Printing.{headingText, itemText, boundAt, sideText, limitText, itemsPart, printing, Tidy, SheetOf}

@@ -9,7 +9,7 @@ use Rattle.knapsack.specs.Records.{crosses}
 use Rattle.knapsack.specs.declared.Item.{Item}
 use Rattle.knapsack.specs.declared.Refusal.{Refusal}
 use Rattle.knapsack.specs.declared.Verdict.the-variants.{Accepted, Refused}
-use Rattle.lines.specs.Text.{refusal}
+use Rattle.lines.specs.Places.{refusal}
 use Rattle.sheet.specs.Reading.{upperLine, crossFrom}
 
 pub no-refusal : {A : Type 0} {r : Refusal} → Refused r ≡ Accepted → A

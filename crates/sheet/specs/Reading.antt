@@ -31,7 +31,7 @@ use Rattle.lines.specs.declared.BoundRead.{BoundRead}
 use Rattle.lines.specs.declared.BoundRead.the-variants.{Fault as BoundFault, Read as BoundIs}
 use Rattle.sheet.specs.declared.Progress.{Progress}
 use Rattle.sheet.specs.declared.Reading.{Reading}
-use Rattle.lines.specs.Text.{lineOf, refusal}
+use Rattle.lines.specs.Places.{lineOf, refusal}
 use Rattle.lines.specs.Numbers.{fieldAt}
 use Rattle.lines.specs.Lines.{countAt, itemRead, boundRead}
 

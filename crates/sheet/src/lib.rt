@@ -12,9 +12,9 @@ use lines::ItemRead;
 use lines::number::Field;
 use lines::number::Figure;
 use lines::number::Range;
-pub use lines::text::check_line;
-pub use lines::text::first_line_end;
-pub use lines::text::line_part;
+pub use lines::scan::check_line;
+pub use lines::scan::first_line_end;
+pub use lines::scan::line_part;
 ghost use mathlib.Core.Path.{_≡_};
 ghost use Prim.Native.Nat.{_+_, _^_, _≤_, _<_};
 ghost use lib.IntN.{pos};
@@ -83,7 +83,7 @@ fn stopped(refusal: Refusal) -> Progress
 fn refused(s: &[u8], number: u64, at: usize) -> Progress
     ensures { λ r. ⌜ r ≡ refusedAt (now (s .entry)) number at ⌝ }
 {
-    let line = lines::text::line_at(s, at);
+    let line = lines::scan::line_at(s, at);
     stopped(Refusal { number, line })
 }
 
@@ -429,7 +429,7 @@ fn uncrossed(s: &[u8], heading: usize, p: Progress) -> Progress
         Verdict::Refused(_) => p,
         Verdict::Accepted => {
             let q = p.problem;
-            let told = crossing(q, lines::text::line_at(s, heading));
+            let told = crossing(q, lines::scan::line_at(s, heading));
             match told {
                 Verdict::Accepted => p,
                 Verdict::Refused(r) => stopped(r),
@@ -455,7 +455,7 @@ fn whole(s: &[u8]) -> Progress
 pub fn read(sheet: &[u8]) -> Reading
     ensures { λ r. ⌜ r ≡ readSheet (now (sheet .entry)) ⌝ }
 {
-    if lines::text::LONGEST < sheet.len() {
+    if lines::scan::LONGEST < sheet.len() {
         let problem = knapsack::empty_problem();
         return Reading {
             verdict: Verdict::Refused(Refusal { number: 1, line: 0 }),

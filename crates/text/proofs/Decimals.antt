@@ -2,10 +2,11 @@
 -- digits-zero, digits-step, decimal-digits: the digits of n are those of n / 10 and one more, in as many turns as that takes.
 -- decimal-read: read back, the number is n; so no two numbers have the same digits (decimal-one).
 -- decimal-plain: nothing but digits. decimal-lead: the first is `0` for 0 alone.
+-- decimal-only: digits that no `0` leads are those of what they read. decimal-zero: of 0.
 -- decimal-length, decimal-some, integer-length: how many bytes.
 -- integer-below, integer-above: a number's text by its sign.
 use mathlib.Core.Path.{_≡_, refl, sym, ap, _∙_}
-use mathlib.Core.List.{List, [], _∷_, _++_}
+use mathlib.Core.List.{List, [], _∷_, _++_, append-assoc, append-nil}
 use Prim.Native.Nat.{ℕ, zero, suc, _+_, _*_, _-_, _/_, _%_, _^_, _≤_, _<_}
 use native.Mathlib.Omega.{arith}
 use lib.IntN.{ℤ, pos, negsuc, natAbs}
@@ -105,6 +106,40 @@ pub decimal-lead : (n : ℕ) → 0 < n → 48 < getD (decimal n) 0 0
 unfolding digits
 decimal-lead n h = rw (decimal-digits n h) (lead-in n n (omega arith) h)
 
+-- ---- and no other text is so
+
+read-grows : (v : ℕ) (ds : List ℕ) → v ≤ readAfter v ds
+unfolding readAfter
+read-grows v [] = omega arith
+read-grows v (b ∷ ds) = omega (arith, read-grows (10 * v + (b - 48)) ds)
+
+-- one digit more
+digits-more : (v d : ℕ) → 1 ≤ v → d < 10 → digits (10 * v + d) ≡ digits v ++ (digit d ∷ [])
+digits-more v d h k =
+    let q : (10 * v + d) / 10 ≡ v = omega arith in
+    let r : (10 * v + d) % 10 ≡ d = omega arith in
+    digits-step (10 * v + d) (omega arith) ∙ rw (q, r)
+
+digits-run : (v : ℕ) (ds : List ℕ) → 1 ≤ v → Plain ds → digits (readAfter v ds) ≡ digits v ++ ds
+unfolding readAfter Plain
+digits-run v [] h p = sym (append-nil (digits v))
+digits-run v (b ∷ ds) h p =
+    let e : digit (b - 48) ≡ b = omega arith in
+    digits-run (10 * v + (b - 48)) ds (omega arith) (p .1) ∙ rw (digits-more v (b - 48) h (omega arith), e) (append-assoc (digits v) (b ∷ []) ds)
+
+pub decimal-only : (b : ℕ) (ds : List ℕ) → 48 < b → Plain (b ∷ ds) → (1 ≤ readAfter 0 (b ∷ ds)) × (decimal (readAfter 0 (b ∷ ds)) ≡ b ∷ ds)
+unfolding readAfter Plain
+decimal-only b ds h p =
+    let v = 10 * 0 + (b - 48) in
+    let g : 1 ≤ readAfter v ds = omega (arith, read-grows v ds) in
+    let q : v / 10 ≡ 0 = omega arith in
+    let r : digit (v % 10) ≡ b = omega arith in
+    (g, decimal-digits (readAfter v ds) g ∙ digits-run v ds (omega arith) (p .1) ∙ rw (digits-step v (omega arith), q, r, digits-zero))
+
+pub decimal-zero : decimal 0 ≡ 48 ∷ []
+unfolding decimal digits digitsIn
+decimal-zero = refl
+
 -- ---- how many
 
 length-in : (t k n : ℕ) → n < 10 ^ k → length (digitsIn t n) ≤ k
@@ -123,18 +158,15 @@ unfolding decimal
 decimal-some n = simp length-append (omega arith)
 
 pub integer-length : (k : ℕ) (z : ℤ) → natAbs z < 10 ^ suc k → length (integer z) ≤ suc (suc k)
-unfolding integer
 integer-length k (pos n) h = omega (arith, decimal-length k n h)
 integer-length k (negsuc n) h = omega (arith, decimal-length k (suc n) h)
 
 -- ---- by the sign
 
 pub integer-below : (z : ℤ) → z <ℤ pos 0 → integer z ≡ 45 ∷ decimal (natAbs z)
-unfolding integer
 integer-below (pos n) h = absurd (omega (arith, from-lt h))
 integer-below (negsuc n) h = refl
 
 pub integer-above : (z : ℤ) → pos 0 ≤ℤ z → integer z ≡ decimal (natAbs z)
-unfolding integer
 integer-above (pos n) h = refl
 integer-above (negsuc n) h = absurd (h .le)

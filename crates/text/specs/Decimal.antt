@@ -6,7 +6,7 @@
 --   integer z         likewise, with a minus in front where z is below 0
 --   readAfter v ds    the number that the digits of v, and behind them ds, write
 --   Plain ds          nothing but digits
--- What makes decimal right is in proofs/Decimals: it reads back, is plain, and has no leading zero.
+-- What makes decimal right is in proofs/Decimals: it reads back, is plain, and has no leading zero; and no other text is so.
 use mathlib.Core.List.{List, [], _∷_, _++_}
 use Prim.Native.Nat.{ℕ, zero, suc, _+_, _*_, _-_, _/_, _%_, _≤_}
 use lib.IntN.{ℤ, pos, negsuc}
@@ -28,7 +28,7 @@ unfoldable pub decimal : ℕ → List ℕ
 decimal n = digits (n / 10) ++ (digit (n % 10) ∷ [])
 
 -- 45 is the minus
-unfoldable pub integer : ℤ → List ℕ
+abbrev pub integer : ℤ → List ℕ
 integer (pos n) = decimal n
 integer (negsuc n) = 45 ∷ decimal (suc n)
 

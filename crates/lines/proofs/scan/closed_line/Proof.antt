@@ -4,11 +4,11 @@ use native.Mathlib.Numerals.{add-one}
 use native.Mathlib.Omega.{arith}
 use borrow.Author.Needs.{needs}
 use lib.ListN.{length, drop}
-use Rattle.lines.specs.declared.text.Place.the-variants.{At}
-use Rattle.lines.specs.Text.{firstEnd, closedLine}
+use Rattle.lines.specs.declared.scan.Place.the-variants.{At}
+use Rattle.lines.specs.Places.{firstEnd, closedLine}
 use Rattle.lines.proofs.Places.{end-within, closed-none, closed-last, closed-more}
-use Rattle.lines.proofs.text.closed_line.Statement.{statement}
-use Rattle.lines.proofs.text.closed_line.Tie as tie
+use Rattle.lines.proofs.scan.closed_line.Statement.{statement}
+use Rattle.lines.proofs.scan.closed_line.Tie as tie
 
 abbrev Inv-loop : tie.InvT-loop
 Inv-loop s n from₀ left₀ from left = (from ≤ length s) × (closedLine n s 0 ≡ closedLine left s from)

@@ -14,10 +14,10 @@ use lib.Dec.{eqb, ltb}
 use lib.ListN.{length, getD, take, drop}
 use Rattle.knapsack.specs.declared.Verdict.{Verdict}
 use Rattle.knapsack.specs.declared.Verdict.the-variants.{Accepted, Refused}
-use Rattle.lines.specs.declared.text.Place.{Place}
-use Rattle.lines.specs.declared.text.Place.the-variants.{Nothing, At}
-use Rattle.lines.specs.declared.text.Span.{Span}
-use Rattle.lines.specs.declared.text.Span.the-variants.{Nothing as NoLine, Line}
+use Rattle.lines.specs.declared.scan.Place.{Place}
+use Rattle.lines.specs.declared.scan.Place.the-variants.{Nothing, At}
+use Rattle.lines.specs.declared.scan.Span.{Span}
+use Rattle.lines.specs.declared.scan.Span.the-variants.{Nothing as NoLine, Line}
 
 abbrev pub byteAt : List ℕ → ℕ → ℕ
 byteAt s at = getD s at 256

@@ -1,7 +1,7 @@
 use borrow.Author.Tests.{lt-ltb, le-ltb, eq-eqb, ne-eqb}
 use borrow.Author.Needs.{needs}
-use Rattle.lines.proofs.text.asked_line.Statement.{statement}
-use Rattle.lines.proofs.text.asked_line.Tie as tie
+use Rattle.lines.proofs.scan.asked_line.Statement.{statement}
+use Rattle.lines.proofs.scan.asked_line.Tie as tie
 
 returns : tie.Need-returns
 returns c = rw (lt-ltb _ _ (c .if1 .taken))

@@ -4,10 +4,10 @@ use native.Mathlib.Numerals.{add-one}
 use native.Mathlib.Omega.{arith}
 use borrow.Author.Needs.{needs}
 use lib.ListN.{length, drop}
-use Rattle.lines.specs.Text.{afterWord}
+use Rattle.lines.specs.Places.{afterWord}
 use Rattle.lines.proofs.Places.{word-more, word-not, word-done}
-use Rattle.lines.proofs.text.after_word.Statement.{statement}
-use Rattle.lines.proofs.text.after_word.Tie as tie
+use Rattle.lines.proofs.scan.after_word.Statement.{statement}
+use Rattle.lines.proofs.scan.after_word.Tie as tie
 
 abbrev Inv-loop : tie.InvT-loop
 Inv-loop s from w at₀ i₀ at i = (i ≤ length w) × (afterWord s from w ≡ afterWord s at (drop i w))

@@ -3,7 +3,7 @@ use knapsack::Refusal;
 use knapsack::Verdict;
 ghost use mathlib.Core.Path.{_≡_};
 ghost use lib.ListN.{drop};
-ghost use Rattle.lines.specs.Text.{afterByte, afterWord, firstEnd, lineOf, closedLine, askedLine, linePart, checkLine};
+ghost use Rattle.lines.specs.Places.{afterByte, afterWord, firstEnd, lineOf, closedLine, askedLine, linePart, checkLine};
 
 // The most bytes that a sheet may have.
 pub const LONGEST: usize = 4096;

@@ -5,11 +5,11 @@ use native.Mathlib.Numerals.{add-one}
 use native.Mathlib.Omega.{arith}
 use borrow.Author.Needs.{needs}
 use lib.ListN.{length, drop}
-use Rattle.lines.specs.declared.text.Place.the-variants.{At}
-use Rattle.lines.specs.Text.{firstEnd, lineOf}
+use Rattle.lines.specs.declared.scan.Place.the-variants.{At}
+use Rattle.lines.specs.Places.{firstEnd, lineOf}
 use Rattle.lines.proofs.Places.{end-within, endsFrom, ends-past, ends-before, ends-none}
-use Rattle.lines.proofs.text.line_at.Statement.{statement}
-use Rattle.lines.proofs.text.line_at.Tie as tie
+use Rattle.lines.proofs.scan.line_at.Statement.{statement}
+use Rattle.lines.proofs.scan.line_at.Tie as tie
 
 -- the bytes 10 from `from` on are still to be counted, and each line has one
 abbrev Inv-loop : tie.InvT-loop

@@ -2,8 +2,8 @@ use mathlib.Core.Path.{sym}
 use native.Mathlib.Omega.{arith}
 use borrow.Author.Needs.{needs}
 use Rattle.lines.proofs.Places.{after-hit, after-miss, after-end}
-use Rattle.lines.proofs.text.after_byte.Statement.{statement}
-use Rattle.lines.proofs.text.after_byte.Tie as tie
+use Rattle.lines.proofs.scan.after_byte.Statement.{statement}
+use Rattle.lines.proofs.scan.after_byte.Tie as tie
 
 returns : tie.Need-returns
 returns c = sym (after-end (c .before .args .s .now) (c .before .args .at) (c .before .args .b) (c .if1 .taken) (omega arith))

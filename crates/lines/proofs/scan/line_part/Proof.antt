@@ -4,8 +4,8 @@ use Prim.Native.Nat.{_≤_, _<_}
 use lib.ListN.{length}
 use Rattle.lines.proofs.Places.{asked-within}
 use borrow.Author.Needs.{needs}
-use Rattle.lines.proofs.text.line_part.Statement.{statement}
-use Rattle.lines.proofs.text.line_part.Tie as tie
+use Rattle.lines.proofs.scan.line_part.Statement.{statement}
+use Rattle.lines.proofs.scan.line_part.Tie as tie
 
 asked-line-requires : tie.Need-asked-line-requires
 asked-line-requires c κs = search needs

@@ -1,8 +1,8 @@
 use borrow.Author.Tests.{lt-ltb, le-ltb, eq-eqb, ne-eqb}
 use mathlib.Core.Path.{sym, _∙_}
 use borrow.Author.Needs.{needs}
-use Rattle.lines.proofs.text.check_line.Statement.{statement}
-use Rattle.lines.proofs.text.check_line.Tie as tie
+use Rattle.lines.proofs.scan.check_line.Statement.{statement}
+use Rattle.lines.proofs.scan.check_line.Tie as tie
 
 returns : tie.Need-returns
 returns c = rw (lt-ltb _ _ (c .if1 .taken))

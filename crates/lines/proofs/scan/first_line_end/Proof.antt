@@ -3,10 +3,10 @@ use mathlib.Core.Path.{_≡_, refl, sym, _∙_}
 use native.Mathlib.Numerals.{add-one}
 use native.Mathlib.Omega.{arith}
 use lib.ListN.{length, drop}
-use Rattle.lines.specs.Text.{firstEnd}
+use Rattle.lines.specs.Places.{firstEnd}
 use Rattle.lines.proofs.Places.{end-here, end-later, end-none}
-use Rattle.lines.proofs.text.first_line_end.Statement.{statement}
-use Rattle.lines.proofs.text.first_line_end.Tie as tie
+use Rattle.lines.proofs.scan.first_line_end.Statement.{statement}
+use Rattle.lines.proofs.scan.first_line_end.Tie as tie
 
 abbrev Inv-loop : tie.InvT-loop
 Inv-loop s from at₀ at = firstEnd from (drop from s) ≡ firstEnd at (drop at s)
