@@ -25,7 +25,7 @@ use Rattle.arith.proofs.Parts.{lt-le}
 use Rattle.arith.proofs.Sums.{bump-same, bump-other}
 use Rattle.knapsack.specs.declared.Item.{Item}
 use Rattle.knapsack.specs.declared.Problem.{Problem}
-use Rattle.knapsack.specs.Records.{itemAt}
+use Rattle.knapsack.specs.Ranges.{itemAt}
 use Rattle.knapsack.specs.Meaning.{Instance, instanceOf, Point, Keeps, weights, prices, Optimal, CostPair, EqualPair}
 use Rattle.knapsack.proofs.Common.{Keepsᴰ, weighsᴰ, valueᴰ, Feasibleᴰ}
 use Rattle.knapsack.proofs.Bridge.{over-lower, over-upper, Reads, bridge-feasible, bridge-value}

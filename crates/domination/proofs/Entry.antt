@@ -17,7 +17,7 @@ use Rattle.knapsack.specs.declared.Problem.{Problem}
 use Rattle.knapsack.specs.declared.Refusal.{Refusal}
 use Rattle.knapsack.specs.declared.Verdict.{Verdict}
 use Rattle.knapsack.specs.declared.Verdict.the-variants.{Accepted, Refused as Rejected}
-use Rattle.knapsack.specs.Records.{itemAt, verdict, ItemInRange}
+use Rattle.knapsack.specs.Ranges.{itemAt, verdict, ItemInRange}
 use Rattle.knapsack.specs.Meaning.{CostPair, LeastPair, NoPair}
 use Rattle.knapsack.proofs.Items.{accepted}
 use Rattle.domination.specs.declared.Pair.{Pair}

@@ -9,7 +9,7 @@ use Rattle.knapsack.specs.declared.Bound.the-variants.{At}
 use Rattle.knapsack.specs.declared.Mark.the-variants.{Integer}
 use Rattle.knapsack.specs.declared.Item.{Item}
 use Rattle.knapsack.specs.declared.Problem.{Problem}
-use Rattle.knapsack.specs.Records.{blank, someItem, verdict}
+use Rattle.knapsack.specs.Ranges.{blank, someItem, verdict}
 use Rattle.knapsack.specs.Meaning.{LeastPair, NoPair}
 use Rattle.domination.specs.declared.Pair.the-variants.{Missing, Steps}
 use Rattle.domination.specs.declared.PairReply.the-variants.{Found}

@@ -11,7 +11,7 @@ use pairing::pair_of;
 ghost use mathlib.Core.Path.{_≡_};
 ghost use Prim.Native.Nat.{ℕ, _+_, _*_, _/_, _%_, _<_};
 ghost use lib.ListN.{getD, replicate};
-ghost use Rattle.knapsack.specs.Records.{ItemInRange, InRange};
+ghost use Rattle.knapsack.specs.Ranges.{ItemInRange, InRange};
 ghost use Rattle.domination.specs.Pairs.{wrongNumber, wrongNumbers, refuse, paired, numbered, leastPair, orMissing, tabled};
 
 mod pairing; // pairing.rt: the least pair of two items

@@ -11,7 +11,7 @@ use sheet::Reading;
 use sheet::read;
 ghost use mathlib.Core.Path.{_≡_};
 ghost use Rattle.knapsack.specs.declared.Verdict.the-variants.{Accepted};
-ghost use Rattle.knapsack.specs.Records.{InRange};
+ghost use Rattle.knapsack.specs.Ranges.{InRange};
 ghost use Rattle.sheet.specs.Reading.{readSheet};
 ghost use Rattle.embed.specs.Entries.{numberOf, lineOf, lengthOf, Plans, Steps};
 

@@ -25,7 +25,7 @@ use Rattle.knapsack.specs.declared.Refusal.{Refusal}
 use Rattle.knapsack.specs.declared.Verdict.{Verdict}
 use Rattle.knapsack.specs.declared.Verdict.the-variants as verdicts
 use Rattle.knapsack.specs.Meaning.{Keeps, Feasible, instanceOf}
-use Rattle.knapsack.specs.Records.{itemAt, verdict, InRange}
+use Rattle.knapsack.specs.Ranges.{itemAt, verdict, InRange}
 use Rattle.knapsack.proofs.Items.{accepted, in-range}
 use Rattle.feasibility.specs.declared.Candidate.{Candidate}
 use Rattle.feasibility.specs.declared.Figure.{Figure}

@@ -10,7 +10,7 @@ use Rattle.arith.proofs.Integers.{natAbs-times}
 use Rattle.arith.proofs.Parts.{abs-within, within-add, within-mul, within-more}
 use Rattle.knapsack.specs.declared.Item.{Item}
 use Rattle.knapsack.specs.declared.Problem.{Problem}
-use Rattle.knapsack.specs.Records.{itemAt, ItemInRange}
+use Rattle.knapsack.specs.Ranges.{itemAt, ItemInRange}
 use Rattle.feasibility.specs.declared.Candidate.{Candidate}
 use Rattle.feasibility.specs.declared.Figure.{Figure}
 use Rattle.feasibility.specs.declared.Figure.the-variants.{Weight, Price}

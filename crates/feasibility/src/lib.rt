@@ -15,7 +15,7 @@ use knapsack::check_record;
 ghost use mathlib.Core.Path.{_≡_};
 ghost use Prim.Native.Nat.{_*_, _≤_, _<_};
 ghost use lib.IntN.{pos, natAbs, _*ℤ_};
-ghost use Rattle.knapsack.specs.Records.{BoundInRange, ItemInRange, InRange};
+ghost use Rattle.knapsack.specs.Ranges.{BoundInRange, ItemInRange, InRange};
 ghost use Rattle.feasibility.specs.Amounts.{amountAt, farther, badAmount, joined, commonDivisor, GoodAmount};
 ghost use Rattle.feasibility.specs.Check.{breaksMark, breaksBound, breaks, orElse, numbered, firstBroken, figureOf, term, totalOf, refuse, judged, amountCheck, pointCheck, Ready};
 

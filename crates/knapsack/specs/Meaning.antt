@@ -1,4 +1,4 @@
--- What the answers mean: paper 01, "The problem". A reader has to believe this file and Records, and nothing behind them.
+-- What the answers mean: paper 01, "The problem". A reader has to believe this file and Ranges, and nothing behind them.
 --   Instance          a problem as mathematics: capacity (01: limit), count, and an item for each place
 --   Point             an amount for each item, a fraction of any size with any divisor
 --   Feasible s x      x keeps marks, bounds and the capacity (01: permitted)
@@ -8,7 +8,7 @@
 --   Unbounded s x d   steps d on one or two items that keep x feasible and raise its value every time (01: whole steps)
 --   relaxed s         every item continuous
 --   Shown, ShownSteps the limits on the amounts and steps of an answer
---   Answers s a       the answer a is true of s;  Planned p a: of a record, refusals included
+--   Answers s a       the answer a is true of s
 --   CostPair, LeastPair, EqualPair   steps on two integer items that a search may take away (01: least pair, equal-value pair)
 use mathlib.Core.Path.{_≡_}
 use mathlib.Core.Logic.{_≢_}
@@ -25,12 +25,10 @@ use Rattle.knapsack.specs.declared.Mark.{Mark}
 use Rattle.knapsack.specs.declared.Mark.the-variants.{Integer, Continuous}
 use Rattle.knapsack.specs.declared.Item.{Item}
 use Rattle.knapsack.specs.declared.Problem.{Problem}
-use Rattle.knapsack.specs.declared.Verdict.{Verdict}
-use Rattle.knapsack.specs.declared.Verdict.the-variants.{Accepted, Refused}
 use Rattle.knapsack.specs.declared.Kind.{Kind}
 use Rattle.knapsack.specs.declared.Kind.the-variants as kind
 use Rattle.knapsack.specs.declared.Answer.{Answer}
-use Rattle.knapsack.specs.Records.{itemAt, verdict}
+use Rattle.knapsack.specs.Ranges.{itemAt}
 
 -- ---- instances and points
 
@@ -164,17 +162,6 @@ AnswersAs s a (kind.Refused f) = ⊥
 
 abbrev pub Answers : Instance → Answer → Type 0
 Answers s a = AnswersAs s a (a .kind)
-
-abbrev pub RepliesAs : Instance → Answer → Verdict → Type 0
-RepliesAs s a Accepted = Answers s a
-RepliesAs s a (Refused f) = a ≡ bare (kind.Refused f)
-
--- what the planner owes for a record, and the relaxation
-abbrev pub Planned : Problem → Answer → Type 0
-Planned p a = RepliesAs (instanceOf p) a (verdict p)
-
-abbrev pub Relaxed : Problem → Answer → Type 0
-Relaxed p a = RepliesAs (relaxed (instanceOf p)) a (verdict p)
 
 -- ---- pairs of steps that a search may take away
 

@@ -12,7 +12,7 @@ use Rattle.knapsack.specs.declared.Bound.the-variants.{Absent, At}
 use Rattle.knapsack.specs.declared.Mark.{Mark}
 use Rattle.knapsack.specs.declared.Mark.the-variants.{Integer, Continuous}
 use Rattle.knapsack.specs.declared.Item.{Item}
-use Rattle.knapsack.specs.Records.{blank}
+use Rattle.knapsack.specs.Ranges.{blank}
 use Rattle.knapsack.specs.Meaning.{Instance, Point, value, Optimal, Infeasible, Unbounded, relaxed, LeastPair, NoPair}
 
 abbrev pub item : Mark → ℤ → ℤ → Bound → Bound → Item

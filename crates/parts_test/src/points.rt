@@ -25,7 +25,7 @@ ghost use mathlib.Core.Path.{_≡_};
 ghost use Prim.Native.Nat.{_≤_};
 ghost use lib.IntN.{pos, natAbs};
 ghost use lib.Signed.{_≤ℤ_};
-ghost use Rattle.knapsack.specs.Records.{outside};
+ghost use Rattle.knapsack.specs.Ranges.{outside};
 
 // ---- what is drawn
 

@@ -26,7 +26,7 @@ ghost use mathlib.Core.Path.{_≡_};
 ghost use Rattle.arith.proofs.Mixes.{over};
 ghost use Rattle.greedy.specs.Fill.{at};
 ghost use Rattle.greedy.specs.Sized.{Sized};
-ghost use Rattle.knapsack.specs.Records.{InRange};
+ghost use Rattle.knapsack.specs.Ranges.{InRange};
 ghost use Rattle.knapsack.specs.Meaning.{bare, Planned};
 ghost use Rattle.search.specs.Ready.{ReadySetting, Inside};
 ghost use Rattle.planner.specs.Outcomes.{Joinable, Cornered, Best, Decides, Solves};

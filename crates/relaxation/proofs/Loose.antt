@@ -11,7 +11,7 @@ use Rattle.knapsack.specs.declared.Answer.{Answer}
 use Rattle.knapsack.specs.declared.Item.{Item}
 use Rattle.knapsack.specs.declared.Problem.{Problem}
 use Rattle.knapsack.specs.Meaning.{instanceOf, relaxed, Answers}
-use Rattle.knapsack.specs.Records.{blank, itemAt, ItemInRange, InRange}
+use Rattle.knapsack.specs.Ranges.{blank, itemAt, ItemInRange, InRange}
 use Rattle.knapsack.specs.Items.{withItem}
 use Rattle.relaxation.specs.Lent.{loose, Loosened}
 use Rattle.relaxation.proofs.Same.{same-answers}

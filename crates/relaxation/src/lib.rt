@@ -15,7 +15,7 @@ ghost use mathlib.Core.Path.{_≡_};
 ghost use Prim.Native.Nat.{_≤_, _<_};
 ghost use mathlib.Core.List.{[]};
 ghost use Rattle.knapsack.specs.Meaning.{instanceOf, relaxed, Answers};
-ghost use Rattle.knapsack.specs.Records.{itemAt, InRange};
+ghost use Rattle.knapsack.specs.Ranges.{itemAt, InRange};
 ghost use Rattle.knapsack.specs.Items.{withItem};
 ghost use Rattle.relaxation.specs.Lent.{usable, loaded, loose, Loosened, Settles, Relaxes};
 

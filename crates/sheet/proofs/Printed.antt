@@ -17,13 +17,15 @@ use lib.ListN.{length, getD, set, replicate, length-set, length-replicate, getD-
 use lib.Seq.{getD-set-same, getD-set-other}
 use lib.Signed.{_≤ℤ_}
 use Rattle.arith.specs.Sum.{Each}
-use Rattle.knapsack.specs.Records.{blank, itemAt, outside, badBound}
+use Rattle.knapsack.specs.Ranges.{blank}
+use Rattle.model.specs.Setters.{bounded}
+use Rattle.model.specs.Records.{itemAt, outside, badBound}
 use Rattle.knapsack.specs.declared.Bound.{Bound}
 use Rattle.knapsack.specs.declared.Bound.the-variants.{Absent, At}
 use Rattle.knapsack.specs.declared.Mark.{Mark}
 use Rattle.knapsack.specs.declared.Mark.the-variants.{Integer, Continuous}
 use Rattle.knapsack.specs.declared.Item.{Item}
-use Rattle.knapsack.specs.declared.Problem.{Problem}
+use Rattle.model.specs.declared.Model.{Model}
 use Rattle.knapsack.specs.declared.Verdict.{Verdict}
 use Rattle.knapsack.specs.declared.Verdict.the-variants.{Accepted, Refused}
 use Rattle.lines.specs.declared.scan.Place.{Place}
@@ -34,8 +36,8 @@ use Rattle.lines.specs.declared.number.Field.{Field}
 use Rattle.lines.specs.declared.number.Field.the-variants.{Malformed, Number}
 use Rattle.lines.specs.declared.Pair.the-variants.{Numbers}
 use Rattle.lines.specs.declared.Marked.the-variants.{Malformed as NoMark, Mark as MarkOf}
-use Rattle.sheet.specs.declared.Side.{Side}
-use Rattle.sheet.specs.declared.Side.the-variants.{Lower, Upper}
+use Rattle.model.specs.declared.Side.{Side}
+use Rattle.model.specs.declared.Side.the-variants.{Lower, Upper}
 use Rattle.lines.specs.declared.Count.{Count}
 use Rattle.lines.specs.declared.Count.the-variants.{Fault as CountFault, Lines}
 use Rattle.lines.specs.declared.ItemRead.{ItemRead}
@@ -45,7 +47,7 @@ use Rattle.lines.specs.declared.BoundRead.the-variants.{Fault as BoundFault, Re
 use Rattle.sheet.specs.declared.Progress.{Progress}
 use Rattle.lines.specs.Places.{afterWord, onPlace}
 use Rattle.sheet.specs.Reading.{onVerdict, onward, withItem, itemTaken, itemStep, itemLines, withBound, boundTaken, boundStep, boundLines}
-use Rattle.sheet.specs.Reading.{bounded, limit, items, wordOf, refusedAt, onCount, limits, capacityOf, capacityLine, limitSection, withCount}
+use Rattle.sheet.specs.Reading.{limit, items, wordOf, refusedAt, onCount, limits, capacityOf, capacityLine, limitSection, withCount}
 use Rattle.sheet.specs.Reading.{itemsSection, fromPlace, boundsSection}
 use Rattle.lines.specs.Numbers.{fieldAt}
 use Rattle.lines.specs.Lines.{pairLine, markAt, weights, prices, countAt, itemRead, boundRead}
@@ -153,13 +155,13 @@ pub record BoundStep (s : List ℕ) (side : Side) (p : Progress) : Type 0 where
   pub value : ℤ
   pub next : ℕ
   pub before : p .verdict ≡ Accepted
-  pub line : boundRead (p .problem .count) (p .item) s (p .at) ≡ BoundIs number value next
+  pub line : boundRead (p .model .count) (p .item) s (p .at) ≡ BoundIs number value next
   pub is : boundStep s side p ≡ withBound p side number value next
 
 pub bound-step : (s : List ℕ) (side : Side) (p : Progress) → boundStep s side p .verdict ≡ Accepted → BoundStep s side p
 unfolding boundStep
 bound-step s side p h =
-    let r = boundRead (p .problem .count) (p .item) s (p .at) in
+    let r = boundRead (p .model .count) (p .item) s (p .at) in
     let w = went p (boundTaken s side p r) h in
     let l = bound-line s side p r (w .after) in
     record { number = l .0; value = l .1; next = l .2; before = w .before; line = l .3; is = w .is ∙ ap (boundTaken s side p) (l .3) }
@@ -201,12 +203,12 @@ items-cong (suc n) f g h = ap₂ _++_ (items-cong n f g (λ k l. h k (omega arit
 -- n items of a section that begins at the place a have been read
 pub record Items (s : List ℕ) (a n : ℕ) (b : ℤ) (p : Progress) : Type 0 where
   pub accepted : p .verdict ≡ Accepted
-  pub text : Has s a (itemsText (p .item) (itemAt (p .problem))) (p .at)
-  pub bare : Each (p .item) (λ k. Bare (itemAt (p .problem) k))
-  pub rest : (k : ℕ) → p .item ≤ k → itemAt (p .problem) k ≡ blank
-  pub places : length (p .problem .items) ≡ 16
-  pub count : p .problem .count ≡ n
-  pub capacity : p .problem .capacity ≡ b
+  pub text : Has s a (itemsText (p .item) (itemAt (p .model))) (p .at)
+  pub bare : Each (p .item) (λ k. Bare (itemAt (p .model) k))
+  pub rest : (k : ℕ) → p .item ≤ k → itemAt (p .model) k ≡ blank
+  pub places : length (p .model .items) ≡ 16
+  pub count : p .model .count ≡ n
+  pub capacity : p .model .capacity ≡ b
 
 -- an item put at a place: that one, and the others as they were
 pub put-same : (l : List Item) (k : ℕ) (i : Item) → k < length l → getD (set l k i) k blank ≡ i
@@ -220,7 +222,7 @@ unfolding itemsText
 more-items s a n b p g l t = rw (t .is) (record {
   accepted = refl;
   text =
-      has-join (rw (items-cong (p .item) (itemAt (p .problem)) (itemAt (withItem p (t .item) (t .next) .problem)) (λ k m. ap itemText (sym (old k (omega arith))))) at (g .text)) (rw here (item-has s (p .at) (t .item) (t .next) (t .line)));
+      has-join (rw (items-cong (p .item) (itemAt (p .model)) (itemAt (withItem p (t .item) (t .next) .model)) (λ k m. ap itemText (sym (old k (omega arith))))) at (g .text)) (rw here (item-has s (p .at) (t .item) (t .next) (t .line)));
   bare = λ k m. either k m (ℕ-discrete k (p .item));
   rest = λ k m. old k (omega arith) ∙ g .rest k (omega arith);
   places = simp length-set (g .places);
@@ -228,13 +230,13 @@ more-items s a n b p g l t = rw (t .is) (record {
   capacity = g .capacity;
 })
   where
-    here : getD (set (p .problem .items) (p .item) (t .item)) (p .item) blank ≡ t .item
-    here = put-same (p .problem .items) (p .item) (t .item) (omega (arith, g .places))
+    here : getD (set (p .model .items) (p .item) (t .item)) (p .item) blank ≡ t .item
+    here = put-same (p .model .items) (p .item) (t .item) (omega (arith, g .places))
 
-    old : (k : ℕ) → (k ≡ p .item → ⊥) → getD (set (p .problem .items) (p .item) (t .item)) k blank ≡ itemAt (p .problem) k
-    old k ne = put-other (p .problem .items) (p .item) (t .item) k ne
+    old : (k : ℕ) → (k ≡ p .item → ⊥) → getD (set (p .model .items) (p .item) (t .item)) k blank ≡ itemAt (p .model) k
+    old k ne = put-other (p .model .items) (p .item) (t .item) k ne
 
-    either : (k : ℕ) → k < suc (p .item) → Dec (k ≡ p .item) → Bare (getD (set (p .problem .items) (p .item) (t .item)) k blank)
+    either : (k : ℕ) → k < suc (p .item) → Dec (k ≡ p .item) → Bare (getD (set (p .model .items) (p .item) (t .item)) k blank)
     either k m (yes e) = rw (e, here) (item-bare s (p .at) (t .item) (t .next) (t .line))
     either k m (no e) = rw (old k e) (g .bare k (omega arith))
 
@@ -316,59 +318,59 @@ bounded-side Lower v i = refl
 bounded-side Upper v i = refl
 
 -- m lines of a section that begins at the place a have been read, over the problem q
-pub record Bounds (s : List ℕ) (side : Side) (a : ℕ) (q : Problem) (m : ℕ) (p : Progress) : Type 0 where
+pub record Bounds (s : List ℕ) (side : Side) (a : ℕ) (q : Model) (m : ℕ) (p : Progress) : Type 0 where
   pub accepted : p .verdict ≡ Accepted
-  pub text : Has s a (boundsText (p .item) (boundAt side (p .problem))) (p .at)
-  pub lines : boundsCount (p .item) (boundAt side (p .problem)) ≡ m
-  pub rest : (k : ℕ) → p .item ≤ k → boundAt side (p .problem) k ≡ Absent
-  pub fair : (k : ℕ) → badBound (boundAt side (p .problem) k) ≡ false
+  pub text : Has s a (boundsText (p .item) (boundAt side (p .model))) (p .at)
+  pub lines : boundsCount (p .item) (boundAt side (p .model)) ≡ m
+  pub rest : (k : ℕ) → p .item ≤ k → boundAt side (p .model) k ≡ Absent
+  pub fair : (k : ℕ) → badBound (boundAt side (p .model) k) ≡ false
   pub within : p .item ≤ q .count
-  pub places : length (p .problem .items) ≡ 16
-  pub count : p .problem .count ≡ q .count
-  pub capacity : p .problem .capacity ≡ q .capacity
-  pub same : (k : ℕ) → Kept side (itemAt q k) (itemAt (p .problem) k)
+  pub places : length (p .model .items) ≡ 16
+  pub count : p .model .count ≡ q .count
+  pub capacity : p .model .capacity ≡ q .capacity
+  pub same : (k : ℕ) → Kept side (itemAt q k) (itemAt (p .model) k)
 
-module _ (s : List ℕ) (side : Side) (a : ℕ) (q : Problem) (m : ℕ) (p : Progress) (g : Bounds s side a q m p) (few : q .count ≤ 16) (t : BoundStep s side p) where
+module _ (s : List ℕ) (side : Side) (a : ℕ) (q : Model) (m : ℕ) (p : Progress) (g : Bounds s side a q m p) (few : q .count ≤ 16) (t : BoundStep s side p) where
   -- the place of the item on the line
   place : ℕ
   place = t .number - 1
 
-  parts : BoundParts (p .problem .count) (p .item) s (p .at) (t .number) (t .value) (t .next)
-  parts = bound-parts (p .problem .count) (p .item) s (p .at) (t .number) (t .value) (t .next) (t .line)
+  parts : BoundParts (p .model .count) (p .item) s (p .at) (t .number) (t .value) (t .next)
+  parts = bound-parts (p .model .count) (p .item) s (p .at) (t .number) (t .value) (t .next) (t .line)
 
-  new : Problem
-  new = withBound p side (t .number) (t .value) (t .next) .problem
+  new : Model
+  new = withBound p side (t .number) (t .value) (t .next) .model
 
-  here : itemAt new place ≡ bounded side (t .value) (itemAt (p .problem) place)
+  here : itemAt new place ≡ bounded side (t .value) (itemAt (p .model) place)
   unfolding place new
-  here = put-same (p .problem .items) place _ (omega (arith, parts .least, parts .most, g .count, g .places))
+  here = put-same (p .model .items) place _ (omega (arith, parts .least, parts .most, g .count, g .places))
 
-  old : (k : ℕ) → (k ≡ place → ⊥) → itemAt new k ≡ itemAt (p .problem) k
+  old : (k : ℕ) → (k ≡ place → ⊥) → itemAt new k ≡ itemAt (p .model) k
   unfolding place new
-  old k ne = put-other (p .problem .items) place _ k ne
+  old k ne = put-other (p .model .items) place _ k ne
 
   counts : t .number ≡ suc place
   unfolding place
   counts = omega (arith, parts .least)
 
   there : boundAt side new place ≡ At (t .value)
-  there = ap (sideOf side) here ∙ bounded-side side (t .value) (itemAt (p .problem) place)
+  there = ap (sideOf side) here ∙ bounded-side side (t .value) (itemAt (p .model) place)
 
-  elsewhere : (k : ℕ) → (k ≡ place → ⊥) → boundAt side new k ≡ boundAt side (p .problem) k
+  elsewhere : (k : ℕ) → (k ≡ place → ⊥) → boundAt side new k ≡ boundAt side (p .model) k
   elsewhere k ne = ap (sideOf side) (old k ne)
 
-  texts : boundsText (t .number) (boundAt side new) ≡ boundsText (p .item) (boundAt side (p .problem)) ++ boundText (t .number) (At (t .value))
+  texts : boundsText (t .number) (boundAt side new) ≡ boundsText (p .item) (boundAt side (p .model)) ++ boundText (t .number) (At (t .value))
   texts =
-      bounds-more (p .item) place (t .number) (boundAt side (p .problem)) (boundAt side new) (t .value) counts (omega (arith, parts .rises, counts)) (g .rest) (λ k l. elsewhere k (omega arith)) there
+      bounds-more (p .item) place (t .number) (boundAt side (p .model)) (boundAt side new) (t .value) counts (omega (arith, parts .rises, counts)) (g .rest) (λ k l. elsewhere k (omega arith)) there
 
   numbers : boundsCount (t .number) (boundAt side new) ≡ suc m
   numbers =
-      counts-more (p .item) place (t .number) (boundAt side (p .problem)) (boundAt side new) (t .value) counts (omega (arith, parts .rises, counts)) (g .rest) (λ k l. elsewhere k (omega arith)) there
+      counts-more (p .item) place (t .number) (boundAt side (p .model)) (boundAt side new) (t .value) counts (omega (arith, parts .rises, counts)) (g .rest) (λ k l. elsewhere k (omega arith)) there
       ∙ ap suc (g .lines)
 
   value-fair : badBound (At (t .value)) ≡ false
   value-fair =
-      let y = pair-parts (from-to 1 (p .problem .count)) prices s (p .at) (In (pos (t .number))) (In (t .value)) (t .next) (parts .pair) in
+      let y = pair-parts (from-to 1 (p .model .count)) prices s (p .at) (In (pos (t .number))) (In (t .value)) (t .next) (parts .pair) in
       let r = field-range 10 prices s (y .next) (t .value) (t .next) (y .second) in
       within-range 9999 (t .value) (r .0) (r .1)
 
@@ -377,14 +379,14 @@ module _ (s : List ℕ) (side : Side) (a : ℕ) (q : Problem) (m : ℕ) (p : Pro
   fairs k (no e) = rw (elsewhere k e) (g .fair k)
 
   keeps : (k : ℕ) → Dec (k ≡ place) → Kept side (itemAt q k) (itemAt new k)
-  keeps k (yes e) = rw (e, here) (kept-bounded side (t .value) (itemAt q place) (itemAt (p .problem) place) (g .same place))
+  keeps k (yes e) = rw (e, here) (kept-bounded side (t .value) (itemAt q place) (itemAt (p .model) place) (g .same place))
   keeps k (no e) = rw (old k e) (g .same k)
 
   more-bounds : Bounds s side a q (suc m) (boundStep s side p)
   unfolding new
   more-bounds = rw (t .is) (record {
     accepted = refl;
-    text = rw texts (has-join (g .text) (bound-has (p .problem .count) (p .item) s (p .at) (t .number) (t .value) (t .next) (t .line)));
+    text = rw texts (has-join (g .text) (bound-has (p .model .count) (p .item) s (p .at) (t .number) (t .value) (t .next) (t .line)));
     lines = numbers;
     rest = λ k l. elsewhere k (omega (arith, counts)) ∙ g .rest k (omega (arith, parts .rises));
     fair = λ k. fairs k (ℕ-discrete k place);
@@ -400,7 +402,7 @@ unfolding boundLines
 bounds-before zero s side p h = h
 bounds-before (suc n) s side p h = bound-step s side p (bounds-before n s side (boundStep s side p) h) .before
 
-all-bounds : (n : ℕ) (s : List ℕ) (side : Side) (a : ℕ) (q : Problem) (m : ℕ) (p : Progress) → Bounds s side a q m p → q .count ≤ 16 →
+all-bounds : (n : ℕ) (s : List ℕ) (side : Side) (a : ℕ) (q : Model) (m : ℕ) (p : Progress) → Bounds s side a q m p → q .count ≤ 16 →
     boundLines n s side p .verdict ≡ Accepted → Bounds s side a q (m + n) (boundLines n s side p)
 unfolding boundLines
 all-bounds zero s side a q m p g few h = let e : m + 0 ≡ m = omega arith in rw e g
@@ -420,7 +422,7 @@ pub record LimitRead (s : List ℕ) (p : Progress) : Type 0 where
   pub limit : ℤ
   pub text : Has s 0 (limitText limit) (p .at)
   pub fair : outside 100000000 limit ≡ false
-  pub is : p .problem ≡ record { items = replicate 16 blank; count = 0; capacity = limit }
+  pub is : p .model ≡ record { items = replicate 16 blank; count = 0; capacity = limit }
 
 -- the line of the limit, behind its heading
 limit-line : (s : List ℕ) (n : ℕ) → Has s 0 (headingText limit 1) n → (x : Field) → fieldAt 10 limits s n ≡ x → capacityOf s n x .verdict ≡ Accepted →
@@ -442,13 +444,13 @@ limit-read s h =
 
 -- the section of items, from a problem with blank places only
 pub record ItemsRead (s : List ℕ) (a : ℕ) (b : ℤ) (p : Progress) : Type 0 where
-  pub text : Has s a (itemsPart (p .problem)) (p .at)
-  pub bare : Each (p .problem .count) (λ k. Bare (itemAt (p .problem) k))
-  pub rest : (k : ℕ) → p .problem .count ≤ k → itemAt (p .problem) k ≡ blank
-  pub places : length (p .problem .items) ≡ 16
-  pub least : 1 ≤ p .problem .count
-  pub most : p .problem .count ≤ 16
-  pub capacity : p .problem .capacity ≡ b
+  pub text : Has s a (itemsPart (p .model)) (p .at)
+  pub bare : Each (p .model .count) (λ k. Bare (itemAt (p .model) k))
+  pub rest : (k : ℕ) → p .model .count ≤ k → itemAt (p .model) k ≡ blank
+  pub places : length (p .model .items) ≡ 16
+  pub least : 1 ≤ p .model .count
+  pub most : p .model .count ≤ 16
+  pub capacity : p .model .capacity ≡ b
 
 pub blanks : (k : ℕ) → getD (replicate 16 blank) k blank ≡ blank
 blanks k = go (decLt k 16)
@@ -458,11 +460,11 @@ blanks k = go (decLt k 16)
     go (no l) = List·getD-eq-default (replicate 16 blank) blank {n = k} (omega (arith, length-replicate 16 blank))
 
 -- before the first item
-items-start : (s : List ℕ) (p : Progress) (b : ℤ) (n next : ℕ) → p .problem ≡ record { items = replicate 16 blank; count = 0; capacity = b } →
+items-start : (s : List ℕ) (p : Progress) (b : ℤ) (n next : ℕ) → p .model ≡ record { items = replicate 16 blank; count = 0; capacity = b } →
     Items s next n b (withCount p n next)
 unfolding itemsText
 items-start s p b n next e =
-    let empty : p .problem .items ≡ replicate 16 blank = ap (λ (q : Problem). q .items) e in
+    let empty : p .model .items ≡ replicate 16 blank = ap (λ (q : Model). q .items) e in
     record {
       accepted = refl;
       text = has-none;
@@ -470,10 +472,10 @@ items-start s p b n next e =
       rest = λ k l. rw empty (blanks k);
       places = rw empty refl;
       count = refl;
-      capacity = ap (λ (q : Problem). q .capacity) e;
+      capacity = ap (λ (q : Model). q .capacity) e;
     }
 
-pub items-read : (s : List ℕ) (p : Progress) (b : ℤ) → p .problem ≡ record { items = replicate 16 blank; count = 0; capacity = b } →
+pub items-read : (s : List ℕ) (p : Progress) (b : ℤ) → p .model ≡ record { items = replicate 16 blank; count = 0; capacity = b } →
     itemsSection s p .verdict ≡ Accepted → ItemsRead s (p .at) b (itemsSection s p)
 unfolding itemsSection
 items-read s p b e h =
@@ -485,7 +487,7 @@ items-read s p b e h =
     let r = all-items n s next n b (withCount p n next) (items-start s p b n next e) (omega (arith, c .most)) (rw (l .2) at (w .after)) in
     let g = r .0 in
     let q = itemLines n s (withCount p n next) in
-    let d : q .item ≡ q .problem .count = omega (arith, r .1, g .count) in
+    let d : q .item ≡ q .model .count = omega (arith, r .1, g .count) in
     let t = count-has items 1 16 s (p .at) n next (lit< tt, (lit< tt, (lit< tt, (lit< tt, (lit< tt, tt))))) (l .2) in
     rw (w .is, l .2) (record {
       text = has-join (rw (← g .count) at t) (rw d at (g .text));
@@ -498,18 +500,18 @@ items-read s p b e h =
     })
 
 -- a section of bounds, over a problem with no such bounds
-pub record SideRead (s : List ℕ) (side : Side) (a : ℕ) (q : Problem) (p : Progress) : Type 0 where
-  pub text : Has s a (sideText side (p .problem)) (p .at)
-  pub rest : (k : ℕ) → p .problem .count ≤ k → boundAt side (p .problem) k ≡ Absent
-  pub fair : (k : ℕ) → badBound (boundAt side (p .problem) k) ≡ false
-  pub places : length (p .problem .items) ≡ 16
-  pub count : p .problem .count ≡ q .count
-  pub capacity : p .problem .capacity ≡ q .capacity
-  pub same : (k : ℕ) → Kept side (itemAt q k) (itemAt (p .problem) k)
+pub record SideRead (s : List ℕ) (side : Side) (a : ℕ) (q : Model) (p : Progress) : Type 0 where
+  pub text : Has s a (sideText side (p .model)) (p .at)
+  pub rest : (k : ℕ) → p .model .count ≤ k → boundAt side (p .model) k ≡ Absent
+  pub fair : (k : ℕ) → badBound (boundAt side (p .model) k) ≡ false
+  pub places : length (p .model .items) ≡ 16
+  pub count : p .model .count ≡ q .count
+  pub capacity : p .model .capacity ≡ q .capacity
+  pub same : (k : ℕ) → Kept side (itemAt q k) (itemAt (p .model) k)
 
 -- before the first bound
-bounds-start : (s : List ℕ) (side : Side) (p : Progress) (next : ℕ) → length (p .problem .items) ≡ 16 →
-    ((k : ℕ) → boundAt side (p .problem) k ≡ Absent) → Bounds s side next (p .problem) 0 (fromPlace p next)
+bounds-start : (s : List ℕ) (side : Side) (p : Progress) (next : ℕ) → length (p .model .items) ≡ 16 →
+    ((k : ℕ) → boundAt side (p .model) k ≡ Absent) → Bounds s side next (p .model) 0 (fromPlace p next)
 unfolding boundsText boundsCount
 bounds-start s side p next size free = record {
   accepted = refl;
@@ -524,20 +526,20 @@ bounds-start s side p next size free = record {
   same = λ k. record { mark = refl; weight = refl; price = refl; other = refl };
 }
 
-pub side-read : (s : List ℕ) (side : Side) (p : Progress) → p .problem .count ≤ 16 → length (p .problem .items) ≡ 16 →
-    ((k : ℕ) → boundAt side (p .problem) k ≡ Absent) →
-    boundsSection s side p .verdict ≡ Accepted → SideRead s side (p .at) (p .problem) (boundsSection s side p)
+pub side-read : (s : List ℕ) (side : Side) (p : Progress) → p .model .count ≤ 16 → length (p .model .items) ≡ 16 →
+    ((k : ℕ) → boundAt side (p .model) k ≡ Absent) →
+    boundsSection s side p .verdict ≡ Accepted → SideRead s side (p .at) (p .model) (boundsSection s side p)
 unfolding boundsSection
 side-read s side p few size free h =
     let w = went p _ h in
-    let o = p .problem .count in
+    let o = p .model .count in
     let l = count-line s (p .at) (λ m next. boundLines m s side (fromPlace p next)) (countAt (wordOf side) (from-to 0 o) s (p .at)) (w .after) in
     let m = l .0 in
     let next = l .1 in
-    let g = all-bounds m s side next (p .problem) 0 (fromPlace p next) (bounds-start s side p next size free) few (rw (l .2) at (w .after)) in
+    let g = all-bounds m s side next (p .model) 0 (fromPlace p next) (bounds-start s side p next size free) few (rw (l .2) at (w .after)) in
     let q = boundLines m s side (fromPlace p next) in
-    let n = q .problem .count in
-    let f = boundAt side (q .problem) in
+    let n = q .model .count in
+    let f = boundAt side (q .model) in
     let i : q .item ≤ n = omega (arith, g .within, g .count) in
     let d : boundsCount n f ≡ m = counts-skip (q .item) n f (g .rest) i ∙ g .lines ∙ omega arith in
     let b : boundsText n f ≡ boundsText (q .item) f = bounds-skip (q .item) n f (g .rest) i in

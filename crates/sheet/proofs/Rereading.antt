@@ -16,17 +16,19 @@ use lib.IntN.{ℤ, pos, negsuc}
 use lib.ListN.{length, drop, getD, set, drop-of-length-le, length-append, length-set}
 use lib.Seq.{drop-cons, drop-drop, drop-append-seam, getD-set-same, getD-set-other}
 use Rattle.arith.specs.Sum.{Each}
-use Rattle.knapsack.specs.Records.{blank, itemAt, outside, badBound, badFigure}
+use Rattle.knapsack.specs.Ranges.{blank}
+use Rattle.model.specs.Setters.{bounded}
+use Rattle.model.specs.Records.{itemAt, outside, badBound, badFigure}
 use Rattle.knapsack.specs.declared.Bound.{Bound}
 use Rattle.knapsack.specs.declared.Bound.the-variants.{Absent, At as AtBound}
 use Rattle.knapsack.specs.declared.Mark.{Mark}
 use Rattle.knapsack.specs.declared.Mark.the-variants.{Integer, Continuous}
 use Rattle.knapsack.specs.declared.Item.{Item}
-use Rattle.knapsack.specs.declared.Problem.{Problem}
+use Rattle.model.specs.declared.Model.{Model}
 use Rattle.knapsack.specs.declared.Verdict.the-variants.{Accepted}
 use Rattle.lines.specs.declared.Marked.the-variants.{Mark as MarkOf}
-use Rattle.sheet.specs.declared.Side.{Side}
-use Rattle.sheet.specs.declared.Side.the-variants.{Lower, Upper}
+use Rattle.model.specs.declared.Side.{Side}
+use Rattle.model.specs.declared.Side.the-variants.{Lower, Upper}
 use Rattle.lines.specs.declared.ItemRead.the-variants.{Read as ItemIs}
 use Rattle.lines.specs.declared.BoundRead.the-variants.{Read as BoundIs}
 use Rattle.sheet.specs.declared.Progress.{Progress}
@@ -40,14 +42,14 @@ use Rattle.lines.specs.Places.{byteAt, afterByte, afterWord}
 use Rattle.lines.specs.Numbers.{isDigit, digitCount, valueAfter, numeral, signedOf, unsignedAt, numberAt, figure, fieldAt}
 use Rattle.lines.specs.Lines.{headingLine, pairLine, markAt, weights, prices, itemLine, countAt, itemRead, boundRead}
 use Rattle.sheet.specs.Reading.{limit, items, wordOf, limits, withCapacity, capacityLine, limitSection, withCount, withItem, itemStep}
-use Rattle.sheet.specs.Reading.{itemLines, itemsSection, withBound, boundStep, boundLines, bounded, fromPlace, boundsSection}
+use Rattle.sheet.specs.Reading.{itemLines, itemsSection, withBound, boundStep, boundLines, fromPlace, boundsSection}
 use Rattle.sheet.specs.Printing.{digitsOnto, decimal, numberText, pairText, headingText, markByte, itemText, itemsText, boundText, boundsText}
 use Rattle.sheet.specs.Printing.{boundsCount, listed, boundAt, sideOf, sideText, limitText, itemsPart}
 use Rattle.lines.proofs.Numerals.{digit-yes, leading-yes}
 use Rattle.lines.proofs.Shapes.{from-to}
 use Rattle.sheet.proofs.Decimals.{zero-text}
 use Rattle.sheet.proofs.Printed.{Kept, kept-bounded, bounded-side, put-same, put-other, blanks}
-use Rattle.knapsack.proofs.Items.{Unfaulted}
+use Rattle.model.proofs.Records.{Unfaulted}
 
 -- what stands at a place, and what follows
 pub standing : (s : List ℕ) (at b : ℕ) (l : List ℕ) → drop at s ≡ b ∷ l → (byteAt s at ≡ b) × (drop (suc at) s ≡ l)
@@ -263,7 +265,7 @@ unfolding itemStep
 item-taken s p i n a e = rw (a, e)
 
 pub bound-taken : (s : List ℕ) (side : Side) (p : Progress) (k : ℕ) (v : ℤ) (n : ℕ) → p .verdict ≡ Accepted →
-    boundRead (p .problem .count) (p .item) s (p .at) ≡ BoundIs k v n → boundStep s side p ≡ withBound p side k v n
+    boundRead (p .model .count) (p .item) s (p .at) ≡ BoundIs k v n → boundStep s side p ≡ withBound p side k v n
 unfolding boundStep
 bound-taken s side p k v n a e = rw (a, e)
 
@@ -282,17 +284,17 @@ items-split j (suc m) f =
     rw e (items-split (suc j) m f ∙ append-assoc (itemsText j f) (itemText (f j)) (itemsFrom (suc j) m f))
 
 -- j items of p have been read, and l is left
-pub record ItemsBack (p : Problem) (s : List ℕ) (j : ℕ) (l : List ℕ) (q : Progress) : Type 0 where
+pub record ItemsBack (p : Model) (s : List ℕ) (j : ℕ) (l : List ℕ) (q : Progress) : Type 0 where
   pub accepted : q .verdict ≡ Accepted
   pub left : drop (q .at) s ≡ l
   pub number : q .item ≡ j
-  pub done : Each j (λ k. itemAt (q .problem) k ≡ bareOf (itemAt p k))
-  pub rest : (k : ℕ) → j ≤ k → itemAt (q .problem) k ≡ blank
-  pub places : length (q .problem .items) ≡ 16
-  pub count : q .problem .count ≡ p .count
-  pub capacity : q .problem .capacity ≡ p .capacity
+  pub done : Each j (λ k. itemAt (q .model) k ≡ bareOf (itemAt p k))
+  pub rest : (k : ℕ) → j ≤ k → itemAt (q .model) k ≡ blank
+  pub places : length (q .model .items) ≡ 16
+  pub count : q .model .count ≡ p .count
+  pub capacity : q .model .capacity ≡ p .capacity
 
-next-item : (p : Problem) (s : List ℕ) (j n : ℕ) (l m : List ℕ) (q : Progress) → ItemsBack p s j l q → j < 16 → drop n s ≡ m →
+next-item : (p : Model) (s : List ℕ) (j n : ℕ) (l m : List ℕ) (q : Progress) → ItemsBack p s j l q → j < 16 → drop n s ≡ m →
     ItemsBack p s (suc j) m (withItem q (bareOf (itemAt p j)) n)
 next-item p s j n l m q g b h = record {
   accepted = refl;
@@ -306,16 +308,16 @@ next-item p s j n l m q g b h = record {
 }
   where
     new : ℕ → Item
-    new k = getD (set (q .problem .items) (q .item) (bareOf (itemAt p j))) k blank
+    new k = getD (set (q .model .items) (q .item) (bareOf (itemAt p j))) k blank
 
-    old : (k : ℕ) → (k ≡ j → ⊥) → new k ≡ itemAt (q .problem) k
-    old k ne = getD-set-other (q .problem .items) (q .item) k _ blank (λ e. ne (e ∙ g .number))
+    old : (k : ℕ) → (k ≡ j → ⊥) → new k ≡ itemAt (q .model) k
+    old k ne = getD-set-other (q .model .items) (q .item) k _ blank (λ e. ne (e ∙ g .number))
 
     either : (k : ℕ) → k < suc j → Dec (k ≡ j) → new k ≡ bareOf (itemAt p k)
-    either k m (yes e) = rw (e, g .number) (getD-set-same (q .problem .items) j _ blank (omega (arith, g .places)))
+    either k m (yes e) = rw (e, g .number) (getD-set-same (q .model .items) j _ blank (omega (arith, g .places)))
     either k m (no e) = old k e ∙ g .done k (omega arith)
 
-items-go : (m j : ℕ) (p : Problem) (s l : List ℕ) (q : Progress) → j + m ≤ 16 → Each (j + m) (λ k. badFigure (itemAt p k) ≡ false) →
+items-go : (m j : ℕ) (p : Model) (s l : List ℕ) (q : Progress) → j + m ≤ 16 → Each (j + m) (λ k. badFigure (itemAt p k) ≡ false) →
     ItemsBack p s j (itemsFrom j m (itemAt p) ++ l) q → ItemsBack p s (j + m) l (itemLines m s q)
 unfolding itemLines itemsFrom
 items-go zero j p s l q b f g = let e : j + 0 ≡ j = omega arith in rw e g
@@ -328,7 +330,7 @@ items-go (suc m) j p s l q b f g =
     (items-go m (suc j) p s l (withItem q (bareOf i) (r .0)) (omega arith) (λ k n. f k (omega arith)) (next-item p s j (r .0) _ _ q g (omega arith) (r .2)))
 
 -- all of them
-pub items-all : (p : Problem) (s l : List ℕ) (q : Progress) → p .count ≤ 16 → Each (p .count) (λ k. badFigure (itemAt p k) ≡ false) →
+pub items-all : (p : Model) (s l : List ℕ) (q : Progress) → p .count ≤ 16 → Each (p .count) (λ k. badFigure (itemAt p k) ≡ false) →
     ItemsBack p s 0 (itemsText (p .count) (itemAt p) ++ l) q → ItemsBack p s (p .count) l (itemLines (p .count) s q)
 unfolding itemsText
 items-all p s l q b f g =
@@ -359,19 +361,19 @@ counts-split j zero f = let e : j + 0 ≡ j = omega arith in rw e (omega arith)
 counts-split j (suc m) f = let e : j + suc m ≡ suc j + m = omega arith in rw e (counts-split (suc j) m f ∙ omega arith)
 
 -- the bounds of the first j items of p have been read over the problem o, and l is left
-pub record BoundsBack (side : Side) (p o : Problem) (s : List ℕ) (j : ℕ) (l : List ℕ) (q : Progress) : Type 0 where
+pub record BoundsBack (side : Side) (p o : Model) (s : List ℕ) (j : ℕ) (l : List ℕ) (q : Progress) : Type 0 where
   pub accepted : q .verdict ≡ Accepted
   pub left : drop (q .at) s ≡ l
   pub number : q .item ≤ j
-  pub done : Each j (λ k. boundAt side (q .problem) k ≡ boundAt side p k)
-  pub rest : (k : ℕ) → j ≤ k → boundAt side (q .problem) k ≡ Absent
-  pub places : length (q .problem .items) ≡ 16
-  pub count : q .problem .count ≡ p .count
-  pub capacity : q .problem .capacity ≡ p .capacity
-  pub same : (k : ℕ) → Kept side (itemAt o k) (itemAt (q .problem) k)
+  pub done : Each j (λ k. boundAt side (q .model) k ≡ boundAt side p k)
+  pub rest : (k : ℕ) → j ≤ k → boundAt side (q .model) k ≡ Absent
+  pub places : length (q .model .items) ≡ 16
+  pub count : q .model .count ≡ p .count
+  pub capacity : q .model .capacity ≡ p .capacity
+  pub same : (k : ℕ) → Kept side (itemAt o k) (itemAt (q .model) k)
 
 -- an item that is not listed
-skip-bound : (side : Side) (p o : Problem) (s : List ℕ) (j : ℕ) (l : List ℕ) (q : Progress) → BoundsBack side p o s j l q →
+skip-bound : (side : Side) (p o : Model) (s : List ℕ) (j : ℕ) (l : List ℕ) (q : Progress) → BoundsBack side p o s j l q →
     boundAt side p j ≡ Absent →
     BoundsBack side p o s (suc j) l q
 skip-bound side p o s j l q g e = record {
@@ -386,11 +388,11 @@ skip-bound side p o s j l q g e = record {
   same = g .same;
 }
   where
-    either : (k : ℕ) → k < suc j → Dec (k ≡ j) → boundAt side (q .problem) k ≡ boundAt side p k
+    either : (k : ℕ) → k < suc j → Dec (k ≡ j) → boundAt side (q .model) k ≡ boundAt side p k
     either k m (yes d) = rw d (g .rest j (omega arith) ∙ sym e)
     either k m (no d) = g .done k (omega arith)
 
-next-bound : (side : Side) (p o : Problem) (s : List ℕ) (j n : ℕ) (v : ℤ) (l m : List ℕ) (q : Progress) → BoundsBack side p o s j l q → j < 16 →
+next-bound : (side : Side) (p o : Model) (s : List ℕ) (j n : ℕ) (v : ℤ) (l m : List ℕ) (q : Progress) → BoundsBack side p o s j l q → j < 16 →
     boundAt side p j ≡ AtBound v → drop n s ≡ m → BoundsBack side p o s (suc j) m (withBound q side (suc j) v n)
 next-bound side p o s j n v l m q g b e h = record {
   accepted = refl;
@@ -408,27 +410,27 @@ next-bound side p o s j n v l m q g b e h = record {
     place = omega arith
 
     new : ℕ → Item
-    new k = getD (set (q .problem .items) (suc j - 1) (bounded side v (itemAt (q .problem) (suc j - 1)))) k blank
+    new k = getD (set (q .model .items) (suc j - 1) (bounded side v (itemAt (q .model) (suc j - 1)))) k blank
 
-    here : new j ≡ bounded side v (itemAt (q .problem) j)
-    here = rw place (put-same (q .problem .items) j _ (omega (arith, g .places)))
+    here : new j ≡ bounded side v (itemAt (q .model) j)
+    here = rw place (put-same (q .model .items) j _ (omega (arith, g .places)))
 
-    old : (k : ℕ) → (k ≡ j → ⊥) → new k ≡ itemAt (q .problem) k
-    old k ne = rw place (put-other (q .problem .items) j _ k ne)
+    old : (k : ℕ) → (k ≡ j → ⊥) → new k ≡ itemAt (q .model) k
+    old k ne = rw place (put-other (q .model .items) j _ k ne)
 
     either : (k : ℕ) → k < suc j → Dec (k ≡ j) → sideOf side (new k) ≡ boundAt side p k
-    either k m (yes d) = rw d (ap (sideOf side) here ∙ bounded-side side v (itemAt (q .problem) j) ∙ sym e)
+    either k m (yes d) = rw d (ap (sideOf side) here ∙ bounded-side side v (itemAt (q .model) j) ∙ sym e)
     either k m (no d) = ap (sideOf side) (old k d) ∙ g .done k (omega arith)
 
     keeps : (k : ℕ) → Dec (k ≡ j) → Kept side (itemAt o k) (new k)
-    keeps k (yes d) = rw (d, here) (kept-bounded side v (itemAt o j) (itemAt (q .problem) j) (g .same j))
+    keeps k (yes d) = rw (d, here) (kept-bounded side v (itemAt o j) (itemAt (q .model) j) (g .same j))
     keeps k (no d) = rw (old k d) (g .same k)
 
 one-more : (n : ℕ) (s : List ℕ) (side : Side) (q : Progress) → boundLines (suc n) s side q ≡ boundLines n s side (boundStep s side q)
 unfolding boundLines
 one-more n s side q = refl
 
-bounds-go : (m j : ℕ) (side : Side) (p o : Problem) (s l : List ℕ) (q : Progress) → j + m ≡ p .count → p .count ≤ 16 →
+bounds-go : (m j : ℕ) (side : Side) (p o : Model) (s l : List ℕ) (q : Progress) → j + m ≡ p .count → p .count ≤ 16 →
     Each (j + m) (λ k. badBound (boundAt side p k) ≡ false) → BoundsBack side p o s j (boundsFrom j m (boundAt side p) ++ l) q →
     BoundsBack side p o s (j + m) l (boundLines (countFrom j m (boundAt side p)) s side q)
 unfolding boundLines boundsFrom countFrom
@@ -453,12 +455,12 @@ bounds-go (suc m) j side p o s l q n b f g =
         let c : listed (boundAt side p j) + more ≡ suc more = rw e (omega arith) in
         let h : drop (q .at) s ≡ boundText (suc j) (AtBound v) ++ left = rw e at (g .left)
         ∙ append-assoc (boundText (suc j) (AtBound v)) (boundsFrom (suc j) m (boundAt side p)) l in
-        let r = bound-reads (q .problem .count) (q .item) s (q .at) (suc j) v left (omega arith) (omega (arith, g .count)) (omega (arith, g .number)) (rw e at (f j (omega arith))) h in
+        let r = bound-reads (q .model .count) (q .item) s (q .at) (suc j) v left (omega arith) (omega (arith, g .count)) (omega (arith, g .number)) (rw e at (f j (omega arith))) h in
         rw (c, one-more more s side q, bound-taken s side q (suc j) v (r .0) (g .accepted) (r .1))
         (ih (withBound q side (suc j) v (r .0)) (omega arith) b (λ k i. f k (omega arith)) (next-bound side p o s j (r .0) v _ left q g (omega arith) e (r .2)))
 
 -- all of them
-pub bounds-all : (side : Side) (p o : Problem) (s l : List ℕ) (q : Progress) → p .count ≤ 16 →
+pub bounds-all : (side : Side) (p o : Model) (s l : List ℕ) (q : Progress) → p .count ≤ 16 →
     Each (p .count) (λ k. badBound (boundAt side p k) ≡ false) → BoundsBack side p o s 0 (boundsText (p .count) (boundAt side p) ++ l) q →
     BoundsBack side p o s (p .count) l (boundLines (boundsCount (p .count) (boundAt side p)) s side q)
 unfolding boundsText boundsCount
@@ -479,7 +481,7 @@ limit-reads s b l f h =
     let d = field-reads 10 limits s (c .0) b l refl (figure-within 99999999 b f) (c .2 ∙ append-assoc (numberText b) _ l) in
     (d .0, rw (c .1, d .1), d .2)
 
-pub items-section : (p : Problem) (s l : List ℕ) (n : ℕ) → Unfaulted p → drop n s ≡ itemsPart p ++ l →
+pub items-section : (p : Model) (s l : List ℕ) (n : ℕ) → Unfaulted p → drop n s ≡ itemsPart p ++ l →
     ItemsBack p s (p .count) l (itemsSection s (withCapacity (p .capacity) n))
 unfolding itemsSection
 items-section p s l n r h =
@@ -504,14 +506,14 @@ counts-small (suc n) f = go (f n) (counts-small n f)
     go Absent h = omega arith
     go (AtBound v) h = omega arith
 
-pub side-section : (side : Side) (p : Problem) (s l : List ℕ) (q : Progress) → Unfaulted p → q .verdict ≡ Accepted → q .problem .count ≡ p .count →
-    q .problem .capacity ≡ p .capacity → length (q .problem .items) ≡ 16 → ((k : ℕ) → boundAt side (q .problem) k ≡ Absent) →
-    drop (q .at) s ≡ sideText side p ++ l → BoundsBack side p (q .problem) s (p .count) l (boundsSection s side q)
+pub side-section : (side : Side) (p : Model) (s l : List ℕ) (q : Progress) → Unfaulted p → q .verdict ≡ Accepted → q .model .count ≡ p .count →
+    q .model .capacity ≡ p .capacity → length (q .model .items) ≡ 16 → ((k : ℕ) → boundAt side (q .model) k ≡ Absent) →
+    drop (q .at) s ≡ sideText side p ++ l → BoundsBack side p (q .model) s (p .count) l (boundsSection s side q)
 unfolding boundsSection
 side-section side p s l q r a e b z free h =
     let m = boundsCount (p .count) (boundAt side p) in
-    let c = heading-reads (wordOf side) 0 (q .problem .count) s (q .at) m (boundsText (p .count) (boundAt side p) ++ l) (omega arith) (omega (arith, e, counts-small (p .count) (boundAt side p))) (h ∙ append-assoc (headingText (wordOf side) m) _ l) in
-    rw (a, c .1) (bounds-all side p (q .problem) s l (fromPlace q (c .0)) (r .most) (λ k n. fair-side side (itemAt p k) (r .figures k n)) (record {
+    let c = heading-reads (wordOf side) 0 (q .model .count) s (q .at) m (boundsText (p .count) (boundAt side p) ++ l) (omega arith) (omega (arith, e, counts-small (p .count) (boundAt side p))) (h ∙ append-assoc (headingText (wordOf side) m) _ l) in
+    rw (a, c .1) (bounds-all side p (q .model) s l (fromPlace q (c .0)) (r .most) (λ k n. fair-side side (itemAt p k) (r .figures k n)) (record {
       accepted = refl;
       left = c .2;
       number = omega arith;

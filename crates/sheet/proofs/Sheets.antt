@@ -15,15 +15,16 @@ use lib.Dec.{ltb}
 use lib.ListN.{length, drop, drop-of-length-le, length-drop}
 use lib.Seq.{ext-getD}
 use Rattle.arith.specs.Sum.{Each}
-use Rattle.knapsack.specs.Records.{blank, emptyProblem, itemAt, badFigure, crosses, verdict}
+use Rattle.knapsack.specs.Ranges.{blank}
+use Rattle.model.specs.Records.{emptyModel, itemAt, badFigure, crosses, verdict}
 use Rattle.knapsack.specs.declared.Bound.{Bound}
 use Rattle.knapsack.specs.declared.Bound.the-variants.{Absent}
 use Rattle.knapsack.specs.declared.Item.{Item}
-use Rattle.knapsack.specs.declared.Problem.{Problem}
+use Rattle.model.specs.declared.Model.{Model}
 use Rattle.knapsack.specs.declared.Verdict.{Verdict}
 use Rattle.knapsack.specs.declared.Verdict.the-variants.{Accepted, Refused}
-use Rattle.sheet.specs.declared.Side.{Side}
-use Rattle.sheet.specs.declared.Side.the-variants.{Lower, Upper}
+use Rattle.model.specs.declared.Side.{Side}
+use Rattle.model.specs.declared.Side.the-variants.{Lower, Upper}
 use Rattle.sheet.specs.declared.Progress.{Progress}
 use Rattle.sheet.specs.declared.Reading.{Reading}
 use Rattle.lines.specs.Places.{lineOf, refusal}
@@ -31,7 +32,7 @@ use Rattle.sheet.specs.Reading.{items, wordOf, refusedAt, withCapacity, 
 use Rattle.sheet.specs.Reading.{crossFrom, crossOf, crossCheck, itemsOf, lowerOf, upperOf, wholeOf, readSheet}
 use Rattle.sheet.specs.Printing.{headingText, itemText, boundAt, sideText, limitText, itemsPart, printing, Tidy, SheetOf}
 use Rattle.sheet.proofs.Decimals.{has-join}
-use Rattle.knapsack.proofs.Items.{Unfaulted, unfaulted, unrefused}
+use Rattle.model.proofs.Records.{Unfaulted, unfaulted, unrefused}
 use Rattle.sheet.proofs.Verdicts.{no-refusal, cross-all, all-cross}
 use Rattle.sheet.proofs.Lengths.{printing-short}
 use Rattle.sheet.proofs.Rereading.{bareOf, ItemsBack, BoundsBack, limit-reads, items-section, side-section}
@@ -59,7 +60,7 @@ ended s p h =
 record Uncrossed (s : List ℕ) (heading : ℕ) (p : Progress) : Type 0 where
   before : p .verdict ≡ Accepted
   is : crossCheck s heading p ≡ p
-  none : Each (p .problem .count) (λ k. crosses (itemAt (p .problem) k) ≡ false)
+  none : Each (p .model .count) (λ k. crosses (itemAt (p .model) k) ≡ false)
 
 all-clear : (p : Progress) (v : Verdict) → crossOf p v .verdict ≡ Accepted → v ≡ Accepted
 all-clear p Accepted h = refl
@@ -69,8 +70,8 @@ uncrossed : (s : List ℕ) (heading : ℕ) (p : Progress) → crossCheck s headi
 unfolding crossCheck
 uncrossed s heading p h =
     let w = went p _ h in
-    let n = p .problem .count in
-    let f = itemAt (p .problem) in
+    let n = p .model .count in
+    let f = itemAt (p .model) in
     let e = all-clear p (crossFrom n f 0 (lineOf s heading)) (w .after) in
     record { before = w .before; is = w .is ∙ rw e; none = λ k l. rw (zero-add k) at (cross-all n f 0 (lineOf s heading) e k l) }
 
@@ -81,7 +82,7 @@ same-item : (i j : Item) → i .mark ≡ j .mark → i .weight ≡ j .weight →
 same-item i j a b c d e =
     let r : i ≡ record { mark = i .mark; weight = i .weight; price = i .price; lower = i .lower; upper = i .upper } = refl in r ∙ rw (a, b, c, d, e)
 
-same-problem : (p q : Problem) → p .items ≡ q .items → p .count ≡ q .count → p .capacity ≡ q .capacity → p ≡ q
+same-problem : (p q : Model) → p .items ≡ q .items → p .count ≡ q .count → p .capacity ≡ q .capacity → p ≡ q
 same-problem p q a b c = let r : p ≡ record { items = p .items; count = p .count; capacity = p .capacity } = refl in r ∙ rw (a, b, c)
 
 kept-text : (side : Side) (i j : Item) → Kept side i j → itemText j ≡ itemText i
@@ -99,14 +100,14 @@ side-before s side p h = went p _ h .before
 record Sections (s : List ℕ) : Type 0 where
   limit : LimitRead s (limitSection s)
   items : ItemsRead s (limitSection s .at) (limit .limit) (itemsOf s)
-  lower : SideRead s Lower (itemsOf s .at) (itemsOf s .problem) (lowerOf s)
-  upper : SideRead s Upper (lowerOf s .at) (lowerOf s .problem) (upperOf s)
+  lower : SideRead s Lower (itemsOf s .at) (itemsOf s .model) (lowerOf s)
+  upper : SideRead s Upper (lowerOf s .at) (lowerOf s .model) (upperOf s)
   past : length s ≤ upperOf s .at
-  crossed : Each (upperOf s .problem .count) (λ k. crosses (itemAt (upperOf s .problem) k) ≡ false)
+  crossed : Each (upperOf s .model .count) (λ k. crosses (itemAt (upperOf s .model) k) ≡ false)
   is : wholeOf s ≡ upperOf s
 
 -- items that were just read have no bounds
-no-bounds : (side : Side) (p : Problem) → Each (p .count) (λ k. Bare (itemAt p k)) → ((k : ℕ) → p .count ≤ k → itemAt p k ≡ blank) → (k : ℕ) →
+no-bounds : (side : Side) (p : Model) → Each (p .count) (λ k. Bare (itemAt p k)) → ((k : ℕ) → p .count ≤ k → itemAt p k ≡ blank) → (k : ℕ) →
     boundAt side p k ≡ Absent
 no-bounds side p b r k = go side (decLt k (p .count))
   where
@@ -125,7 +126,7 @@ sections s h =
     let hi = side-before s Lower (itemsOf s) hl in
     let b = limit-read s (items-before s (limitSection s) hi) in
     let i = items-read s (limitSection s) (b .limit) (b .is) hi in
-    let none : (side : Side) (k : ℕ) → boundAt side (itemsOf s .problem) k ≡ Absent = λ side. no-bounds side (itemsOf s .problem) (i .bare) (i .rest) in
+    let none : (side : Side) (k : ℕ) → boundAt side (itemsOf s .model) k ≡ Absent = λ side. no-bounds side (itemsOf s .model) (i .bare) (i .rest) in
     let l = side-read s Lower (itemsOf s) (i .most) (i .places) (none Lower) hl in
     let u = side-read s Upper (lowerOf s) (omega (arith, l .count, i .most)) (l .places) (λ k. l .same k .other ∙ none Upper k) (e .before) in
     record {
@@ -140,40 +141,40 @@ sections s h =
 
 module _ (s : List ℕ) (r : Sections s) where
   -- the problem that was read
-  found : Problem
-  found = upperOf s .problem
+  found : Model
+  found = upperOf s .model
 
   -- an item keeps its mark and figures from the section of items on, and its lower bound from `lower` on
-  item-kept : (k : ℕ) → itemText (itemAt found k) ≡ itemText (itemAt (itemsOf s .problem) k)
+  item-kept : (k : ℕ) → itemText (itemAt found k) ≡ itemText (itemAt (itemsOf s .model) k)
   unfolding found
   item-kept k = kept-text Upper _ _ (r .upper .same k) ∙ kept-text Lower _ _ (r .lower .same k)
 
-  lower-kept : (k : ℕ) → boundAt Lower found k ≡ boundAt Lower (lowerOf s .problem) k
+  lower-kept : (k : ℕ) → boundAt Lower found k ≡ boundAt Lower (lowerOf s .model) k
   unfolding found
   lower-kept k = r .upper .same k .other
 
-  counted : (found .count ≡ lowerOf s .problem .count) × (found .count ≡ itemsOf s .problem .count)
+  counted : (found .count ≡ lowerOf s .model .count) × (found .count ≡ itemsOf s .model .count)
   unfolding found
   counted = (r .upper .count, r .upper .count ∙ r .lower .count)
 
-  items-text : itemsPart (itemsOf s .problem) ≡ itemsPart found
+  items-text : itemsPart (itemsOf s .model) ≡ itemsPart found
   items-text =
       rw (counted .1)
-      (ap (λ l. headingText items (itemsOf s .problem .count) ++ l) (sym (items-cong (itemsOf s .problem .count) (itemAt found) (itemAt (itemsOf s .problem)) (λ k l. item-kept k))))
+      (ap (λ l. headingText items (itemsOf s .model .count) ++ l) (sym (items-cong (itemsOf s .model .count) (itemAt found) (itemAt (itemsOf s .model)) (λ k l. item-kept k))))
 
-  lower-text : sideText Lower (lowerOf s .problem) ≡ sideText Lower found
+  lower-text : sideText Lower (lowerOf s .model) ≡ sideText Lower found
   lower-text =
       rw (counted .0)
       (sym (ap₂ (λ m l. headingText (wordOf Lower) m ++ l) (counts-cong n f g (λ k l. lower-kept k)) (bounds-cong n f g (λ k l. lower-kept k))))
     where
       n : ℕ
-      n = lowerOf s .problem .count
+      n = lowerOf s .model .count
 
       f : ℕ → Bound
       f = boundAt Lower found
 
       g : ℕ → Bound
-      g = boundAt Lower (lowerOf s .problem)
+      g = boundAt Lower (lowerOf s .model)
 
   capacity-is : found .capacity ≡ r .limit .limit
   unfolding found
@@ -223,25 +224,25 @@ module _ (s : List ℕ) (r : Sections s) where
   }
 
 -- what is accepted with a problem is that problem's sheet
-pub accepted-sheet : (s : List ℕ) (p : Problem) → readSheet s ≡ record { verdict = Accepted; problem = p } → SheetOf s p
+pub accepted-sheet : (s : List ℕ) (p : Model) → readSheet s ≡ record { verdict = Accepted; model = p } → SheetOf s p
 unfolding readSheet found
 accepted-sheet s p h = go (ltb 4096 (length s)) h
   where
-    read : Reading → Problem
-    read r = r .problem
+    read : Reading → Model
+    read r = r .model
 
     go : (t : Bool) →
-        _≡_ {A = Reading} (cond t (record { verdict = refusal 1 0; problem = emptyProblem }) (record { verdict = wholeOf s .verdict; problem = wholeOf s .problem })) (record { verdict = Accepted; problem = p }) →
+        _≡_ {A = Reading} (cond t (record { verdict = refusal 1 0; model = emptyModel }) (record { verdict = wholeOf s .verdict; model = wholeOf s .model })) (record { verdict = Accepted; model = p }) →
         SheetOf s p
     go true h = no-refusal (ap (λ (r : Reading). r .verdict) h)
     go false h =
         let r = sections s (ap (λ (r : Reading). r .verdict) h) in
-        let e : upperOf s .problem ≡ p = ap (λ (q : Progress). q .problem) (sym (r .is)) ∙ ap read h in
+        let e : upperOf s .model ≡ p = ap (λ (q : Progress). q .model) (sym (r .is)) ∙ ap read h in
         rw (← e) (found-sheet s r)
 
 -- ---- the printing of a problem is read back
 
-module _ (p : Problem) (r : Unfaulted p) (tidy : Tidy p) where
+module _ (p : Model) (r : Unfaulted p) (tidy : Tidy p) where
   sheet : List ℕ
   sheet = printing p
 
@@ -257,59 +258,59 @@ module _ (p : Problem) (r : Unfaulted p) (tidy : Tidy p) where
   unfolding itemsOf
   items-back = rw (limit-back .1) (items-section p sheet behind-items (limit-back .0) r (limit-back .2))
 
-  no-bounds-yet : (side : Side) (k : ℕ) → boundAt side (itemsOf sheet .problem) k ≡ Absent
+  no-bounds-yet : (side : Side) (k : ℕ) → boundAt side (itemsOf sheet .model) k ≡ Absent
   no-bounds-yet side k = go side (decLt k (p .count))
     where
-      go : (side : Side) → Dec (k < p .count) → boundAt side (itemsOf sheet .problem) k ≡ Absent
+      go : (side : Side) → Dec (k < p .count) → boundAt side (itemsOf sheet .model) k ≡ Absent
       go Lower (yes l) = ap (λ (i : Item). i .lower) (items-back .done k l)
       go Upper (yes l) = ap (λ (i : Item). i .upper) (items-back .done k l)
       go Lower (no l) = ap (λ (i : Item). i .lower) (items-back .rest k (omega arith))
       go Upper (no l) = ap (λ (i : Item). i .upper) (items-back .rest k (omega arith))
 
-  lower-back : BoundsBack Lower p (itemsOf sheet .problem) sheet (p .count) (sideText Upper p) (lowerOf sheet)
+  lower-back : BoundsBack Lower p (itemsOf sheet .model) sheet (p .count) (sideText Upper p) (lowerOf sheet)
   unfolding lowerOf behind-items
   lower-back =
       let i = items-back in
       side-section Lower p sheet (sideText Upper p) (itemsOf sheet) r (i .accepted) (i .count) (i .capacity) (i .places) (no-bounds-yet Lower) (i .left)
 
-  upper-back : BoundsBack Upper p (lowerOf sheet .problem) sheet (p .count) [] (upperOf sheet)
+  upper-back : BoundsBack Upper p (lowerOf sheet .model) sheet (p .count) [] (upperOf sheet)
   unfolding upperOf
   upper-back =
       let l = lower-back in
       side-section Upper p sheet [] (lowerOf sheet) r (l .accepted) (l .count) (l .capacity) (l .places) (λ k. l .same k .other ∙ no-bounds-yet Upper k) (l .left ∙ sym (append-nil (sideText Upper p)))
 
-  item-back : (k : ℕ) → itemAt (upperOf sheet .problem) k ≡ itemAt p k
+  item-back : (k : ℕ) → itemAt (upperOf sheet .model) k ≡ itemAt p k
   item-back k = go (decLt k (p .count))
     where
-      u : Kept Upper (itemAt (lowerOf sheet .problem) k) (itemAt (upperOf sheet .problem) k)
+      u : Kept Upper (itemAt (lowerOf sheet .model) k) (itemAt (upperOf sheet .model) k)
       u = upper-back .same k
 
-      v : Kept Lower (itemAt (itemsOf sheet .problem) k) (itemAt (lowerOf sheet .problem) k)
+      v : Kept Lower (itemAt (itemsOf sheet .model) k) (itemAt (lowerOf sheet .model) k)
       v = lower-back .same k
 
       -- the item as the section of items left it
-      from : (i : Item) → itemAt (itemsOf sheet .problem) k ≡ i → i .mark ≡ itemAt p k .mark → i .weight ≡ itemAt p k .weight →
+      from : (i : Item) → itemAt (itemsOf sheet .model) k ≡ i → i .mark ≡ itemAt p k .mark → i .weight ≡ itemAt p k .weight →
           i .price ≡ itemAt p k .price →
-          boundAt Lower (lowerOf sheet .problem) k ≡ itemAt p k .lower → boundAt Upper (upperOf sheet .problem) k ≡ itemAt p k .upper → itemAt (upperOf sheet .problem) k ≡ itemAt p k
-      from i e a b c f g = same-item (itemAt (upperOf sheet .problem) k) (itemAt p k)
+          boundAt Lower (lowerOf sheet .model) k ≡ itemAt p k .lower → boundAt Upper (upperOf sheet .model) k ≡ itemAt p k .upper → itemAt (upperOf sheet .model) k ≡ itemAt p k
+      from i e a b c f g = same-item (itemAt (upperOf sheet .model) k) (itemAt p k)
           (u .mark ∙ v .mark ∙ ap (λ (i : Item). i .mark) e ∙ a)
           (u .weight ∙ v .weight ∙ ap (λ (i : Item). i .weight) e ∙ b)
           (u .price ∙ v .price ∙ ap (λ (i : Item). i .price) e ∙ c)
           (u .other ∙ f)
           g
 
-      go : Dec (k < p .count) → itemAt (upperOf sheet .problem) k ≡ itemAt p k
+      go : Dec (k < p .count) → itemAt (upperOf sheet .model) k ≡ itemAt p k
       go (yes l) = from (bareOf (itemAt p k)) (items-back .done k l) refl refl refl (lower-back .done k l) (upper-back .done k l)
       go (no l) =
           let e = tidy .unused k (omega arith) in
           from blank (items-back .rest k (omega arith)) (ap (λ (i : Item). i .mark) (sym e)) (ap (λ (i : Item). i .weight) (sym e)) (ap (λ (i : Item). i .price) (sym e))
           (lower-back .rest k (omega arith) ∙ ap (λ (i : Item). i .lower) (sym e)) (upper-back .rest k (omega arith) ∙ ap (λ (i : Item). i .upper) (sym e))
 
-  problem-back : upperOf sheet .problem ≡ p
+  problem-back : upperOf sheet .model ≡ p
   problem-back =
       let u = upper-back in
-      let e : upperOf sheet .problem .items ≡ p .items = ext-getD blank (upperOf sheet .problem .items) (p .items) (u .places ∙ sym (tidy .places)) (λ k l. item-back k) in
-      same-problem (upperOf sheet .problem) p e (u .count) (u .capacity)
+      let e : upperOf sheet .model .items ≡ p .items = ext-getD blank (upperOf sheet .model .items) (p .items) (u .places ∙ sym (tidy .places)) (λ k l. item-back k) in
+      same-problem (upperOf sheet .model) p e (u .count) (u .capacity)
 
   end-back : endOfSheet sheet (upperOf sheet) ≡ upperOf sheet
   unfolding endOfSheet
@@ -335,20 +336,20 @@ module _ (p : Problem) (r : Unfaulted p) (tidy : Tidy p) where
   unfolding sheet
   short = printing-short p r
 
-  reading-back : readSheet sheet ≡ record { verdict = Accepted; problem = p }
+  reading-back : readSheet sheet ≡ record { verdict = Accepted; model = p }
   unfolding readSheet
   reading-back =
       rw (le-ltb 4096 (length sheet) short, whole-back, upper-back .accepted, problem-back)
 
 -- the sheet of a problem is accepted with that problem
-pub sheet-accepted : (s : List ℕ) (p : Problem) → SheetOf s p → readSheet s ≡ record { verdict = Accepted; problem = p }
+pub sheet-accepted : (s : List ℕ) (p : Model) → SheetOf s p → readSheet s ≡ record { verdict = Accepted; model = p }
 unfolding sheet
 sheet-accepted s p h = rw (h .text) (reading-back p (unfaulted p (h .fair)) (h .tidy))
 
 -- a sheet is accepted with a problem exactly if it is that problem's sheet
-pub accepted-exactly : (s : List ℕ) (p : Problem) → (readSheet s ≡ record { verdict = Accepted; problem = p }) ↔ SheetOf s p
+pub accepted-exactly : (s : List ℕ) (p : Model) → (readSheet s ≡ record { verdict = Accepted; model = p }) ↔ SheetOf s p
 accepted-exactly s p = (accepted-sheet s p, sheet-accepted s p)
 
 -- two problems in range have equal sheets only if they are equal
-pub sheet-unique : (s : List ℕ) (p q : Problem) → SheetOf s p → SheetOf s q → p ≡ q
-sheet-unique s p q h k = ap (λ (r : Reading). r .problem) (sym (sheet-accepted s p h) ∙ sheet-accepted s q k)
+pub sheet-unique : (s : List ℕ) (p q : Model) → SheetOf s p → SheetOf s q → p ≡ q
+sheet-unique s p q h k = ap (λ (r : Reading). r .model) (sym (sheet-accepted s p h) ∙ sheet-accepted s q k)

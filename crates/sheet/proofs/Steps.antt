@@ -15,7 +15,7 @@ use Rattle.knapsack.specs.declared.Verdict.the-variants.{Accepted, Refused}
 use Rattle.lines.specs.declared.number.Figure.the-variants.{In, Out}
 use Rattle.lines.specs.declared.number.Field.{Field}
 use Rattle.lines.specs.declared.number.Field.the-variants.{Malformed, Number}
-use Rattle.sheet.specs.declared.Side.{Side}
+use Rattle.model.specs.declared.Side.{Side}
 use Rattle.lines.specs.declared.Count.{Count}
 use Rattle.lines.specs.declared.Count.the-variants.{Fault as CountFault, Lines}
 use Rattle.lines.specs.declared.ItemRead.{ItemRead}
@@ -46,7 +46,7 @@ step-item s p = onward-ind (λ q. q .item ≤ suc (p .item)) p _ (omega arith) (
     go (ItemIs i n) = omega arith
 
 abbrev pub Few : Progress → Type 0
-Few p = p .problem .count ≤ 16
+Few p = p .model .count ≤ 16
 
 step-few : (s : List ℕ) (p : Progress) → Few p → Few (itemStep s p)
 unfolding itemStep
@@ -63,7 +63,7 @@ lines-few (suc n) s p h = lines-few n s (itemStep s p) (step-few s p h)
 
 pub bound-few : (s : List ℕ) (side : Side) (p : Progress) → Few p → Few (boundStep s side p)
 unfolding boundStep
-bound-few s side p h = onward-ind Few p _ h (go (boundRead (p .problem .count) (p .item) s (p .at)))
+bound-few s side p h = onward-ind Few p _ h (go (boundRead (p .model .count) (p .item) s (p .at)))
   where
     go : (r : BoundRead) → Few (boundTaken s side p r)
     go (BoundFault n) = omega arith
@@ -102,7 +102,7 @@ items-few s p h = onward-ind Few p _ h (go (countAt items (from-to 1 16) s (p .a
 
 pub section-few : (s : List ℕ) (side : Side) (p : Progress) → Few p → Few (boundsSection s side p)
 unfolding boundsSection
-section-few s side p h = onward-ind Few p _ h (go (countAt (wordOf side) (from-to 0 (p .problem .count)) s (p .at)))
+section-few s side p h = onward-ind Few p _ h (go (countAt (wordOf side) (from-to 0 (p .model .count)) s (p .at)))
   where
     go : (c : Count) → Few (onCount c (λ n. refusedAt s n (p .at)) (λ m next. boundLines m s side (fromPlace p next)))
     go (CountFault n) = omega arith

@@ -14,16 +14,17 @@ use Prim.Native.Nat.{ℕ, zero, suc, _+_, _/_, _%_, _≤_}
 use lib.Dec.{ltb}
 use lib.IntN.{ℤ, pos, negsuc}
 use lib.ListN.{length}
-use Rattle.knapsack.specs.Records.{blank, itemAt, verdict}
+use Rattle.knapsack.specs.Ranges.{blank}
+use Rattle.model.specs.Records.{itemAt, verdict}
 use Rattle.knapsack.specs.declared.Bound.{Bound}
 use Rattle.knapsack.specs.declared.Bound.the-variants.{Absent, At}
 use Rattle.knapsack.specs.declared.Mark.{Mark}
 use Rattle.knapsack.specs.declared.Mark.the-variants.{Integer, Continuous}
 use Rattle.knapsack.specs.declared.Item.{Item}
-use Rattle.knapsack.specs.declared.Problem.{Problem}
+use Rattle.model.specs.declared.Model.{Model}
 use Rattle.knapsack.specs.declared.Verdict.the-variants.{Accepted}
-use Rattle.sheet.specs.declared.Side.{Side}
-use Rattle.sheet.specs.declared.Side.the-variants.{Lower, Upper}
+use Rattle.model.specs.declared.Side.{Side}
+use Rattle.model.specs.declared.Side.the-variants.{Lower, Upper}
 use Rattle.sheet.specs.Reading.{limit, items, wordOf}
 
 -- the digits of n, then the tail, in at most so many turns; a quotient by 10 falls at each, so n + 1 turns are enough
@@ -79,26 +80,26 @@ abbrev pub sideOf : Side → Item → Bound
 sideOf Lower i = i .lower
 sideOf Upper i = i .upper
 
-abbrev pub boundAt : Side → Problem → ℕ → Bound
+abbrev pub boundAt : Side → Model → ℕ → Bound
 boundAt side p k = sideOf side (itemAt p k)
 
-abbrev pub sideText : Side → Problem → List ℕ
+abbrev pub sideText : Side → Model → List ℕ
 sideText side p = headingText (wordOf side) (boundsCount (p .count) (boundAt side p)) ++ boundsText (p .count) (boundAt side p)
 
 abbrev pub limitText : ℤ → List ℕ
 limitText b = headingText limit 1 ++ (numberText b ++ (10 ∷ []))
 
-abbrev pub itemsPart : Problem → List ℕ
+abbrev pub itemsPart : Model → List ℕ
 itemsPart p = headingText items (p .count) ++ itemsText (p .count) (itemAt p)
 
-unfoldable pub printing : Problem → List ℕ
+unfoldable pub printing : Model → List ℕ
 printing p = limitText (p .capacity) ++ (itemsPart p ++ (sideText Lower p ++ sideText Upper p))
 
-pub record Tidy (p : Problem) : Type 0 where
+pub record Tidy (p : Model) : Type 0 where
   pub places : length (p .items) ≡ 16
   pub unused : (k : ℕ) → p .count ≤ k → itemAt p k ≡ blank
 
-pub record SheetOf (s : List ℕ) (p : Problem) : Type 0 where
+pub record SheetOf (s : List ℕ) (p : Model) : Type 0 where
   pub fair : verdict p ≡ Accepted
   pub tidy : Tidy p
   pub text : s ≡ printing p

@@ -10,7 +10,9 @@ use Prim.Native.Nat.{ℕ, zero, suc, _-_}
 use lib.Dec.{ltb}
 use lib.IntN.{ℤ, pos, negsuc}
 use lib.ListN.{length, set, replicate}
-use Rattle.knapsack.specs.Records.{blank, emptyProblem, itemAt, crosses}
+use Rattle.knapsack.specs.Ranges.{blank}
+use Rattle.model.specs.Setters.{bounded}
+use Rattle.model.specs.Records.{emptyModel, itemAt, crosses}
 use Rattle.knapsack.specs.declared.Bound.{Bound}
 use Rattle.knapsack.specs.declared.Bound.the-variants.{Absent, At}
 use Rattle.knapsack.specs.declared.Item.{Item}
@@ -21,8 +23,8 @@ use Rattle.lines.specs.declared.number.Range.{Range}
 use Rattle.lines.specs.declared.number.Figure.the-variants.{In, Out}
 use Rattle.lines.specs.declared.number.Field.{Field}
 use Rattle.lines.specs.declared.number.Field.the-variants.{Malformed, Number}
-use Rattle.sheet.specs.declared.Side.{Side}
-use Rattle.sheet.specs.declared.Side.the-variants.{Lower, Upper}
+use Rattle.model.specs.declared.Side.{Side}
+use Rattle.model.specs.declared.Side.the-variants.{Lower, Upper}
 use Rattle.lines.specs.declared.Count.{Count}
 use Rattle.lines.specs.declared.Count.the-variants.{Fault as CountFault, Lines}
 use Rattle.lines.specs.declared.ItemRead.{ItemRead}
@@ -48,7 +50,7 @@ wordOf Upper = 117 ∷ 112 ∷ 112 ∷ 101 ∷ 114 ∷ []
 
 -- ---- a refusal ends the reading
 abbrev pub stoppedBy : Refusal → Progress
-stoppedBy r = record { verdict = Refused r; problem = emptyProblem; at = 0; item = 0 }
+stoppedBy r = record { verdict = Refused r; model = emptyModel; at = 0; item = 0 }
 
 abbrev pub refusedAt : List ℕ → ℕ → ℕ → Progress
 refusedAt s n at = stoppedBy (record { number = n; line = lineOf s at })
@@ -72,7 +74,7 @@ limits = record { lo = negsuc 99999999; hi = pos 100000000 }
 abbrev pub withCapacity : ℤ → ℕ → Progress
 withCapacity b next = record {
   verdict = Accepted;
-  problem = record { items = replicate 16 blank; count = 0; capacity = b };
+  model = record { items = replicate 16 blank; count = 0; capacity = b };
   at = next;
   item = 0;
 }
@@ -93,7 +95,7 @@ limitSection s =
 abbrev pub withCount : Progress → ℕ → ℕ → Progress
 withCount p n next = record {
   verdict = Accepted;
-  problem = record { items = p .problem .items; count = n; capacity = p .problem .capacity };
+  model = record { items = p .model .items; count = n; capacity = p .model .capacity };
   at = next;
   item = 0;
 }
@@ -101,7 +103,7 @@ withCount p n next = record {
 abbrev pub withItem : Progress → Item → ℕ → Progress
 withItem p i next = record {
   verdict = Accepted;
-  problem = record { items = set (p .problem .items) (p .item) i; count = p .problem .count; capacity = p .problem .capacity };
+  model = record { items = set (p .model .items) (p .item) i; count = p .model .count; capacity = p .model .capacity };
   at = next;
   item = suc (p .item);
 }
@@ -122,17 +124,13 @@ itemsSection s p = onward p
     (onCount (countAt items (record { lo = pos 1; hi = pos 16 }) s (p .at)) (λ n. refusedAt s n (p .at)) (λ n next. itemLines n s (withCount p n next)))
 
 -- ---- lower m and upper m, and m lines
-abbrev pub bounded : Side → ℤ → Item → Item
-bounded Lower v i = record { mark = i .mark; weight = i .weight; price = i .price; lower = At v; upper = i .upper }
-bounded Upper v i = record { mark = i .mark; weight = i .weight; price = i .price; lower = i .lower; upper = At v }
-
 abbrev pub withBound : Progress → Side → ℕ → ℤ → ℕ → Progress
 withBound p side k v next = record {
   verdict = Accepted;
-  problem = record {
-    items = set (p .problem .items) (k - 1) (bounded side v (itemAt (p .problem) (k - 1)));
-    count = p .problem .count;
-    capacity = p .problem .capacity;
+  model = record {
+    items = set (p .model .items) (k - 1) (bounded side v (itemAt (p .model) (k - 1)));
+    count = p .model .count;
+    capacity = p .model .capacity;
   };
   at = next;
   item = k;
@@ -143,18 +141,18 @@ boundTaken s side p (BoundFault n) = refusedAt s n (p .at)
 boundTaken s side p (BoundIs k v n) = withBound p side k v n
 
 unfoldable pub boundStep : List ℕ → Side → Progress → Progress
-boundStep s side p = onward p (boundTaken s side p (boundRead (p .problem .count) (p .item) s (p .at)))
+boundStep s side p = onward p (boundTaken s side p (boundRead (p .model .count) (p .item) s (p .at)))
 
 unfoldable pub boundLines : ℕ → List ℕ → Side → Progress → Progress
 boundLines zero s side p = p
 boundLines (suc n) s side p = boundLines n s side (boundStep s side p)
 
 abbrev pub fromPlace : Progress → ℕ → Progress
-fromPlace p next = record { verdict = Accepted; problem = p .problem; at = next; item = 0 }
+fromPlace p next = record { verdict = Accepted; model = p .model; at = next; item = 0 }
 
 unfoldable pub boundsSection : List ℕ → Side → Progress → Progress
 boundsSection s side p = onward p
-    (onCount (countAt (wordOf side) (record { lo = pos 0; hi = pos (p .problem .count) }) s (p .at)) (λ n. refusedAt s n (p .at)) (λ m next. boundLines m s side (fromPlace p next)))
+    (onCount (countAt (wordOf side) (record { lo = pos 0; hi = pos (p .model .count) }) s (p .at)) (λ n. refusedAt s n (p .at)) (λ m next. boundLines m s side (fromPlace p next)))
 
 -- ---- behind the last section
 unfoldable pub endOfSheet : List ℕ → Progress → Progress
@@ -178,7 +176,7 @@ crossOf p (Refused r) = stoppedBy r
 
 -- heading is a place of the line `upper m`
 unfoldable pub crossCheck : List ℕ → ℕ → Progress → Progress
-crossCheck s heading p = onward p (crossOf p (crossFrom (p .problem .count) (itemAt (p .problem)) 0 (lineOf s heading)))
+crossCheck s heading p = onward p (crossOf p (crossFrom (p .model .count) (itemAt (p .model)) 0 (lineOf s heading)))
 
 -- ---- the sheet
 unfoldable pub itemsOf : List ℕ → Progress
@@ -196,5 +194,5 @@ wholeOf s = crossCheck s (lowerOf s .at) (endOfSheet s (upperOf s))
 unfoldable pub readSheet : List ℕ → Reading
 readSheet s =
     cond (ltb 4096 (length s))
-    (record { verdict = refusal 1 0; problem = emptyProblem })
-    (record { verdict = wholeOf s .verdict; problem = wholeOf s .problem })
+    (record { verdict = refusal 1 0; model = emptyModel })
+    (record { verdict = wholeOf s .verdict; model = wholeOf s .model })

@@ -3,7 +3,6 @@
 // A line is read in two steps, its form and then its values (crate lines); a section is a loop over its lines.
 use knapsack::Bound;
 use knapsack::Item;
-use knapsack::Problem;
 use knapsack::Refusal;
 use knapsack::Verdict;
 use lines::BoundRead;
@@ -15,11 +14,13 @@ use lines::number::Range;
 pub use lines::scan::check_line;
 pub use lines::scan::first_line_end;
 pub use lines::scan::line_part;
+use model::Model;
+use model::Side;
 ghost use mathlib.Core.Path.{_≡_};
 ghost use Prim.Native.Nat.{_+_, _^_, _≤_, _<_};
 ghost use lib.IntN.{pos};
-ghost use Rattle.knapsack.specs.Records.{itemAt, crossed};
 ghost use Rattle.lines.specs.Lines.{countAt};
+ghost use Rattle.model.specs.Records.{itemAt};
 ghost use Rattle.sheet.specs.Reading.{
   wordOf,
   stoppedBy,
@@ -32,7 +33,6 @@ ghost use Rattle.sheet.specs.Reading.{
   itemStep,
   itemLines,
   itemsSection,
-  bounded,
   withBound,
   boundStep,
   boundLines,
@@ -46,22 +46,16 @@ ghost use Rattle.sheet.specs.Reading.{
   readSheet,
 };
 
-// The two sections of bounds.
-pub enum Side {
-    Lower,
-    Upper,
-}
-
 // What a sheet gives: its problem, or a refusal beside the empty record.
 pub struct Reading {
     pub verdict: Verdict,
-    pub problem: Problem,
+    pub model: Model,
 }
 
 // A sheet read up to the place at. item is the number of the item that the section's last line was about, 0 at its start.
 pub struct Progress {
     pub verdict: Verdict,
-    pub problem: Problem,
+    pub model: Model,
     pub at: usize,
     pub item: usize,
 }
@@ -70,10 +64,10 @@ pub struct Progress {
 fn stopped(refusal: Refusal) -> Progress
     ensures { λ r. ⌜ r ≡ stoppedBy refusal ⌝ }
 {
-    let problem = knapsack::empty_problem();
+    let model = model::setters::empty_model();
     Progress {
         verdict: Verdict::Refused(refusal),
-        problem,
+        model,
         at: 0,
         item: 0,
     }
@@ -93,16 +87,16 @@ fn refused(s: &[u8], number: u64, at: usize) -> Progress
 fn with_capacity(b: i64, next: usize) -> Progress
     ensures { λ r. ⌜ r ≡ withCapacity b next ⌝ }
 {
-    let empty = knapsack::empty_problem();
+    let empty = model::setters::empty_model();
     let items = empty.items;
-    let problem = Problem {
+    let model = Model {
         items,
         count: 0,
         capacity: b,
     };
     Progress {
         verdict: Verdict::Accepted,
-        problem,
+        model,
         at: next,
         item: 0,
     }
@@ -141,16 +135,16 @@ fn limit_section(s: &[u8]) -> Progress
 fn with_count(p: Progress, n: usize, next: usize) -> Progress
     ensures { λ r. ⌜ r ≡ withCount p n next ⌝ }
 {
-    let q = p.problem;
+    let q = p.model;
     let items = q.items;
-    let problem = Problem {
+    let model = Model {
         items,
         count: n,
         capacity: q.capacity,
     };
     Progress {
         verdict: Verdict::Accepted,
-        problem,
+        model,
         at: next,
         item: 0,
     }
@@ -161,18 +155,18 @@ fn with_item(p: Progress, item: Item, next: usize) -> Progress
     requires { ⌜ p .item < 16 ⌝ }
     ensures { λ r. ⌜ r ≡ withItem p item next ⌝ }
 {
-    let q = p.problem;
+    let q = p.model;
     let k = p.item;
     let mut items = q.items;
     items[k] = item;
-    let problem = Problem {
+    let model = Model {
         items,
         count: q.count,
         capacity: q.capacity,
     };
     Progress {
         verdict: Verdict::Accepted,
-        problem,
+        model,
         at: next,
         item: k + 1,
     }
@@ -229,51 +223,24 @@ fn items_section(s: &[u8], p: Progress) -> Progress
 
 // ---- lower m and upper m, and m lines
 
-// An item with one more bound.
-fn with_side(item: Item, side: Side, v: i64) -> Item
-    ensures { λ r. ⌜ r ≡ bounded side v item ⌝ }
-{
-    let mark = item.mark;
-    let weight = item.weight;
-    let price = item.price;
-    let lower = item.lower;
-    let upper = item.upper;
-    match side {
-        Side::Lower => Item {
-            mark,
-            weight,
-            price,
-            lower: Bound::At(v),
-            upper,
-        },
-        Side::Upper => Item {
-            mark,
-            weight,
-            price,
-            lower,
-            upper: Bound::At(v),
-        },
-    }
-}
-
 // A bound of item k.
 fn with_bound(p: Progress, side: Side, k: usize, v: i64, next: usize) -> Progress
     requires { ⌜ (1 ≤ k) × (k ≤ 16) ⌝ }
     ensures { λ r. ⌜ r ≡ withBound p side k v next ⌝ }
 {
-    let q = p.problem;
+    let q = p.model;
     let mut items = q.items;
     let i = k - 1;
     let item = items[i];
-    items[i] = with_side(item, side, v);
-    let problem = Problem {
+    items[i] = model::setters::with_side(item, side, v);
+    let model = Model {
         items,
         count: q.count,
         capacity: q.capacity,
     };
     Progress {
         verdict: Verdict::Accepted,
-        problem,
+        model,
         at: next,
         item: k,
     }
@@ -281,7 +248,7 @@ fn with_bound(p: Progress, side: Side, k: usize, v: i64, next: usize) -> Progres
 
 // One line of a bound.
 fn bound_step(s: &[u8], side: Side, p: Progress) -> Progress
-    requires { ⌜ p .problem .count ≤ 16 ⌝ }
+    requires { ⌜ p .model .count ≤ 16 ⌝ }
     ensures { λ r. ⌜ r ≡ boundStep (now (s .entry)) side p ⌝ }
 {
     let verdict = p.verdict;
@@ -289,7 +256,7 @@ fn bound_step(s: &[u8], side: Side, p: Progress) -> Progress
         Verdict::Refused(_) => p,
         Verdict::Accepted => {
             let at = p.at;
-            let q = p.problem;
+            let q = p.model;
             let r = lines::bound_at(s, at, q.count, p.item);
             match r {
                 BoundRead::Fault(n) => refused(s, n, at),
@@ -300,7 +267,7 @@ fn bound_step(s: &[u8], side: Side, p: Progress) -> Progress
 }
 
 fn bound_lines(s: &[u8], side: Side, m: usize, p: Progress) -> Progress
-    requires { ⌜ p .problem .count ≤ 16 ⌝ }
+    requires { ⌜ p .model .count ≤ 16 ⌝ }
     ensures { λ r. ⌜ r ≡ boundLines m (now (s .entry)) side p ⌝ }
 {
     let mut r = p;
@@ -331,17 +298,17 @@ fn bounds_heading(s: &[u8], side: Side, at: usize, n: usize) -> Count
 fn from_place(p: Progress, at: usize) -> Progress
     ensures { λ r. ⌜ r ≡ fromPlace p at ⌝ }
 {
-    let problem = p.problem;
+    let model = p.model;
     Progress {
         verdict: Verdict::Accepted,
-        problem,
+        model,
         at,
         item: 0,
     }
 }
 
 fn bounds_section(s: &[u8], side: Side, p: Progress) -> Progress
-    requires { ⌜ p .problem .count ≤ 16 ⌝ }
+    requires { ⌜ p .model .count ≤ 16 ⌝ }
     ensures { λ r. ⌜ r ≡ boundsSection (now (s .entry)) side p ⌝ }
 {
     let verdict = p.verdict;
@@ -349,7 +316,7 @@ fn bounds_section(s: &[u8], side: Side, p: Progress) -> Progress
         Verdict::Refused(_) => p,
         Verdict::Accepted => {
             let at = p.at;
-            let q = p.problem;
+            let q = p.model;
             let c = bounds_heading(s, side, at, q.count);
             match c {
                 Count::Fault(n) => refused(s, n, at),
@@ -374,19 +341,6 @@ fn end_of_sheet(s: &[u8], p: Progress) -> Progress
     }
 }
 
-// Whether a lower bound is above an upper.
-fn cross(lower: Bound, upper: Bound) -> bool
-    ensures { λ r. ⌜ r ≡ crossed lower upper ⌝ }
-{
-    match lower {
-        Bound::Absent => false,
-        Bound::At(l) => match upper {
-            Bound::Absent => false,
-            Bound::At(u) => u < l,
-        },
-    }
-}
-
 // The line in `upper` of an item that has the bound, if the last one before it had the line given.
 fn upper_line(upper: Bound, line: u64) -> u64
     requires { ⌜ line + 1 < 2 ^ 64 ⌝ }
@@ -399,19 +353,19 @@ fn upper_line(upper: Bound, line: u64) -> u64
 }
 
 // The first item whose bounds cross; heading is the line of `upper m`.
-fn crossing(problem: Problem, heading: u64) -> Verdict
-    requires { ⌜ (problem .count ≤ 16) × (heading ≤ 2 ^ 63) ⌝ }
-    ensures { λ r. ⌜ r ≡ crossFrom (problem .count) (itemAt problem) 0 heading ⌝ }
+fn crossing(model: Model, heading: u64) -> Verdict
+    requires { ⌜ (model .count ≤ 16) × (heading ≤ 2 ^ 63) ⌝ }
+    ensures { λ r. ⌜ r ≡ crossFrom (model .count) (itemAt model) 0 heading ⌝ }
 {
-    let n = problem.count;
+    let n = model.count;
     let mut line = heading;
     let mut k: usize = 0;
     while k < n {
-        let item = problem.items[k];
+        let item = model.items[k];
         let lower = item.lower;
         let upper = item.upper;
         line = upper_line(upper, line);
-        if cross(lower, upper) {
+        if model::crossed_bounds(lower, upper) {
             return Verdict::Refused(Refusal { number: 6, line });
         }
         k += 1;
@@ -421,14 +375,14 @@ fn crossing(problem: Problem, heading: u64) -> Verdict
 
 // heading is a place of the line `upper m`.
 fn uncrossed(s: &[u8], heading: usize, p: Progress) -> Progress
-    requires { ⌜ p .problem .count ≤ 16 ⌝ }
+    requires { ⌜ p .model .count ≤ 16 ⌝ }
     ensures { λ r. ⌜ r ≡ crossCheck (now (s .entry)) heading p ⌝ }
 {
     let verdict = p.verdict;
     match verdict {
         Verdict::Refused(_) => p,
         Verdict::Accepted => {
-            let q = p.problem;
+            let q = p.model;
             let told = crossing(q, lines::scan::line_at(s, heading));
             match told {
                 Verdict::Accepted => p,
@@ -456,14 +410,14 @@ pub fn read(sheet: &[u8]) -> Reading
     ensures { λ r. ⌜ r ≡ readSheet (now (sheet .entry)) ⌝ }
 {
     if lines::scan::LONGEST < sheet.len() {
-        let problem = knapsack::empty_problem();
+        let model = model::setters::empty_model();
         return Reading {
             verdict: Verdict::Refused(Refusal { number: 1, line: 0 }),
-            problem,
+            model,
         };
     }
     let p = whole(sheet);
     let verdict = p.verdict;
-    let problem = p.problem;
-    Reading { verdict, problem }
+    let model = p.model;
+    Reading { verdict, model }
 }

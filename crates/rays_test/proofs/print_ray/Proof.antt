@@ -1,6 +1,6 @@
 -- `rays_test::print_ray` meets its contract: an accepted record is in range, which is all that the scan asks.
 use mathlib.Core.Path.{sym, _∙_}
-use Rattle.knapsack.specs.Records.{InRange}
+use Rattle.knapsack.specs.Ranges.{InRange}
 use Rattle.knapsack.proofs.Items.{accepted}
 use borrow.Author.Needs.{needs}
 use Rattle.rays_test.proofs.print_ray.Statement.{statement}

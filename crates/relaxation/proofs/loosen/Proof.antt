@@ -3,7 +3,7 @@ use Prim.Native.Nat.{_≤_, _-_}
 use native.Mathlib.Omega.{arith}
 use lib.ListN.{length, length-map, length-set}
 use borrow.Author.Needs.{needs}
-use Rattle.knapsack.specs.Records.{itemAt}
+use Rattle.knapsack.specs.Ranges.{itemAt}
 use Rattle.knapsack.specs.Items.{withItem}
 use Rattle.relaxation.specs.Lent.{loose, Loosened}
 use Rattle.relaxation.proofs.Loose.{loosened-none, loosened-more}

@@ -56,7 +56,7 @@ use denote.Signature.{plain}
 use Rattle.knapsack.specs.declared.Answer.{Answer}
 use Rattle.knapsack.specs.declared.Item.{Item}
 use Rattle.knapsack.specs.declared.Problem.{Problem}
-use Rattle.knapsack.specs.Records.{blank, itemAt}
+use Rattle.knapsack.specs.Ranges.{blank, itemAt}
 use Rattle.knapsack.proofs.Answer as Q
 use Rattle.knapsack.proofs.Answer.Laws as Q′
 use Rattle.knapsack.proofs.Item as T

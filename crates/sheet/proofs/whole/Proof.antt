@@ -3,7 +3,7 @@ use mathlib.Core.Path.{_≡_, ap, _∙_}
 use mathlib.Core.List.{List}
 use Prim.Native.Nat.{ℕ}
 use borrow.Author.Needs.{needs}
-use Rattle.sheet.specs.declared.Side.the-variants.{Lower, Upper}
+use Rattle.model.specs.declared.Side.the-variants.{Lower, Upper}
 use Rattle.sheet.specs.Reading.{limitSection, itemsSection, boundsSection, endOfSheet, itemsOf, lowerOf, upperOf, wholeOf}
 use Rattle.sheet.proofs.Steps.{Few, limit-few, items-few, section-few, end-few}
 use Rattle.sheet.proofs.whole.Statement.{statement}

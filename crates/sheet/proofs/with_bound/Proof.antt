@@ -26,7 +26,7 @@ array-set-from-items c = search needs
 returns : tie.Need-returns
 returns c =
     let p = c .before .before .before .before .before .args .p in
-    let f : SFits w64 (p .problem .capacity) = search needs in
+    let f : SFits w64 (p .model .capacity) = search needs in
     rw (toZ-ofZ f, c .before .with-side .ensures, toZ-ofZ (c .before .before .before .before .before .fits .v))
 
 pub with-bound-spec : {M : Type 1} → statement M

@@ -18,7 +18,7 @@ add-t8 c = search needs
 returns : tie.Need-returns
 returns c =
     let p = c .before .before .before .args .p in
-    let f : SFits w64 (p .problem .capacity) = search needs in
+    let f : SFits w64 (p .model .capacity) = search needs in
     rw (toZ-ofZ f, add-one)
 
 pub with-item-spec : {M : Type 1} → statement M

@@ -1,0 +1,12 @@
+-- `model::refused_if` meets its contract.
+use Rattle.model.proofs.refused_if.Statement.{statement}
+use Rattle.model.proofs.refused_if.Tie as tie
+
+returns : tie.Need-returns
+returns c = rw (c .if1 .taken)
+
+returns-2 : tie.Need-returns-2
+returns-2 c = rw (c .if1 .left)
+
+pub refused-if-spec : {M : Type 1} → statement M
+refused-if-spec = tie.close (tie.spec returns returns-2)
