@@ -6,7 +6,7 @@
 --   signedOf m n        n, or its opposite where there is a minus
 --   unsignedAt m s at   the number behind its sign
 --   numberAt s at       the number at a place, and the place behind it
---   figure r z          z, if it lies in the range
+--   ranged r z          z, if it lies in the range
 --   inRange r x         a numeral as a field of the range
 --   closedBy b s x      the field, if the byte b closes it
 --   fieldAt b r s at    a number that the byte b closes
@@ -23,8 +23,8 @@ use Rattle.arith.specs.Within.{Within}
 use Rattle.text.specs.Decimal.{readAfter}
 use Rattle.lines.specs.declared.number.Run.{Run}
 use Rattle.lines.specs.declared.number.Range.{Range}
-use Rattle.lines.specs.declared.number.Figure.{Figure}
-use Rattle.lines.specs.declared.number.Figure.the-variants.{In, Out}
+use Rattle.lines.specs.declared.number.Ranged.{Ranged}
+use Rattle.lines.specs.declared.number.Ranged.the-variants.{In, Out}
 use Rattle.lines.specs.declared.number.Field.{Field}
 use Rattle.lines.specs.declared.number.Field.the-variants.{Malformed, Number}
 use Rattle.lines.specs.Places.{byteAt, afterByte, onPlace}
@@ -67,12 +67,12 @@ numberAt s at =
     (onPlace (afterByte s at 45) (unsignedAt false s at) (λ n. unsignedAt true s n))
     (λ n. numeral (pos 0) n)
 
-abbrev pub figure : Range → ℤ → Figure
-figure r z = cond (ltZ z (r .lo)) Out (cond (ltZ (r .hi) z) Out (In z))
+abbrev pub ranged : Range → ℤ → Ranged
+ranged r z = cond (ltZ z (r .lo)) Out (cond (ltZ (r .hi) z) Out (In z))
 
 abbrev pub inRange : Range → Numeral → Field
 inRange r none = Malformed
-inRange r (numeral z n) = Number (figure r z) n
+inRange r (numeral z n) = Number (ranged r z) n
 
 abbrev pub closedBy : ℕ → List ℕ → Field → Field
 closedBy b s Malformed = Malformed

@@ -3,7 +3,7 @@ use crate::scan::Place;
 ghost use mathlib.Core.Path.{_≡_};
 ghost use Prim.Native.Nat.{_+_, _*_, _-_, _≤_, min};
 ghost use Rattle.lines.specs.Places.{byteAt};
-ghost use Rattle.lines.specs.Numbers.{Narrow, isLeading, RunFrom, signedOf, unsignedAt, numberAt, figure, inRange, fieldAt};
+ghost use Rattle.lines.specs.Numbers.{Narrow, isLeading, RunFrom, signedOf, unsignedAt, numberAt, ranged, inRange, fieldAt};
 
 // Where the value of a run of digits stops: beyond every range that a sheet knows (Narrow), so that no digit is lost that counts.
 const BEYOND: u64 = 1_000_000_000;
@@ -15,7 +15,7 @@ pub struct Range {
 }
 
 // A number, if it lies in the range that was asked for.
-pub enum Figure {
+pub enum Ranged {
     In(i64),
     Out,
 }
@@ -23,7 +23,7 @@ pub enum Figure {
 // What stands in a number's place, and the place behind it.
 pub enum Field {
     Malformed,
-    Number(Figure, usize),
+    Number(Ranged, usize),
 }
 
 // A run of digits: what it writes, BEYOND where that is more, and the place behind it.
@@ -62,18 +62,18 @@ fn digits_from(s: &[u8], from: usize) -> Run
 }
 
 // A number by its range.
-fn ranged(z: i64, range: Range) -> Figure
-    ensures { λ r. ⌜ r ≡ figure range z ⌝ }
+fn by_range(z: i64, range: Range) -> Ranged
+    ensures { λ r. ⌜ r ≡ ranged range z ⌝ }
 {
     let lo = range.lo;
     let hi = range.hi;
     if z < lo {
-        return Figure::Out;
+        return Ranged::Out;
     }
     if hi < z {
-        return Figure::Out;
+        return Ranged::Out;
     }
-    Figure::In(z)
+    Ranged::In(z)
 }
 
 fn signed(negative: bool, n: u64) -> i64
@@ -108,7 +108,7 @@ fn unsigned(s: &[u8], at: usize, negative: bool, range: Range) -> Field
     if leads(s, at) {
         let d = digits_from(s, at);
         let z = signed(negative, d.value);
-        let f = ranged(z, range);
+        let f = by_range(z, range);
         Field::Number(f, d.next)
     } else {
         Field::Malformed
@@ -123,7 +123,7 @@ fn number(s: &[u8], at: usize, range: Range) -> Field
     let zero = crate::scan::after_byte(s, at, b'0');
     match zero {
         Place::At(next) => {
-            let f = ranged(0, range);
+            let f = by_range(0, range);
             Field::Number(f, next)
         }
         Place::Nothing => {

@@ -3,7 +3,7 @@ use knapsack::Refusal;
 use knapsack::Verdict;
 ghost use mathlib.Core.Path.{_≡_};
 ghost use lib.ListN.{drop};
-ghost use Rattle.lines.specs.Places.{afterByte, afterWord, firstEnd, lineOf, closedLine, askedLine, linePart, checkLine};
+ghost use Rattle.lines.specs.Places.{afterByte, afterWord, firstEnd, lineAt, closedLine, tooLong, askedLine, linePart, checkLine};
 
 // The most bytes that a sheet may have.
 pub const LONGEST: usize = 4096;
@@ -17,6 +17,12 @@ pub enum Place {
 // A line that the text closes: its bytes stand from the first place up to the second, where its byte 10 is.
 pub enum Span {
     Nothing,
+    Line(usize, usize),
+}
+
+// The line that was asked for, likewise, or the refusal that is told.
+pub enum Asked {
+    Refused(Refusal),
     Line(usize, usize),
 }
 
@@ -71,7 +77,7 @@ pub fn after_word(s: &[u8], from: usize, w: &[u8]) -> Place
 
 // The number of the line that holds a place.
 pub fn line_at(s: &[u8], at: usize) -> u64
-    ensures { λ r. ⌜ r ≡ lineOf (now (s .entry)) at ⌝ }
+    ensures { λ r. ⌜ r ≡ lineAt (now (s .entry)) at ⌝ }
 {
     let mut line: u64 = 1;
     let mut from: usize = 0;
@@ -115,27 +121,44 @@ fn closed_line(s: &[u8], n: u64) -> Span
     }
 }
 
-// The line with a number, where line_part and check_line give one.
-fn asked_line(s: &[u8], line: u64) -> Span
+// The line with a number, or why there is none.
+fn asked_line(s: &[u8], line: u64) -> Asked
     ensures { λ r. ⌜ r ≡ askedLine (now (s .entry)) line ⌝ }
 {
     if LONGEST < s.len() {
-        return Span::Nothing;
+        return overlong();
     }
     if line == 0 {
-        return Span::Nothing;
+        return overlong();
     }
-    closed_line(s, line - 1)
+    let span = closed_line(s, line - 1);
+    match span {
+        Span::Nothing => Asked::Refused(Refusal {
+            number: model::refusals::FORM,
+            line,
+        }),
+        Span::Line(a, e) => Asked::Line(a, e),
+    }
+}
+
+// No line is asked for of a sheet that is too long, and there is no line 0.
+fn overlong() -> Asked
+    ensures { λ r. ⌜ r ≡ tooLong ⌝ }
+{
+    Asked::Refused(Refusal {
+        number: model::refusals::OVERLONG,
+        line: 0,
+    })
 }
 
 // A line of the sheet without its byte 10; empty where check_line refuses.
 pub fn line_part(s: &[u8], line: u64) -> &[u8]
     ensures { λ r. ⌜ now r ≡ linePart (now (s .entry)) line ⌝ }
 {
-    let span = asked_line(s, line);
-    match span {
-        Span::Nothing => &s[0..0],
-        Span::Line(a, e) => &s[a..e],
+    let asked = asked_line(s, line);
+    match asked {
+        Asked::Refused(_) => &s[0..0],
+        Asked::Line(a, e) => &s[a..e],
     }
 }
 
@@ -143,15 +166,9 @@ pub fn line_part(s: &[u8], line: u64) -> &[u8]
 pub fn check_line(s: &[u8], line: u64) -> Verdict
     ensures { λ r. ⌜ r ≡ checkLine (now (s .entry)) line ⌝ }
 {
-    if LONGEST < s.len() {
-        return Verdict::Refused(Refusal { number: 1, line: 0 });
-    }
-    if line == 0 {
-        return Verdict::Refused(Refusal { number: 1, line: 0 });
-    }
-    let span = closed_line(s, line - 1);
-    match span {
-        Span::Nothing => Verdict::Refused(Refusal { number: 2, line }),
-        Span::Line(_, _) => Verdict::Accepted,
+    let asked = asked_line(s, line);
+    match asked {
+        Asked::Refused(r) => Verdict::Refused(r),
+        Asked::Line(_, _) => Verdict::Accepted,
     }
 }

@@ -44,7 +44,7 @@ number-short : (z : ℤ) → natAbs z < 1000000000 → length (numberText z) ≤
 number-short (pos n) h = omega (arith, decimal-short n h)
 number-short (negsuc n) h = omega (arith, decimal-short (suc n) h)
 
--- a figure in range
+-- a ranged in range
 within : (n : ℕ) (z : ℤ) → n < 1000000000 → outside n z ≡ false → natAbs z < 1000000000
 within n z h e = omega (arith, ltb-false n (natAbs z) e)
 

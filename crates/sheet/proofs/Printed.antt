@@ -31,10 +31,10 @@ use Rattle.knapsack.specs.declared.Verdict.the-variants.{Accepted, Refused}
 use Rattle.lines.specs.declared.scan.Place.{Place}
 use Rattle.lines.specs.declared.scan.Place.the-variants.{Nothing, At as AtPlace}
 use Rattle.lines.specs.declared.number.Range.{Range}
-use Rattle.lines.specs.declared.number.Figure.the-variants.{In, Out}
+use Rattle.lines.specs.declared.number.Ranged.the-variants.{In, Out}
 use Rattle.lines.specs.declared.number.Field.{Field}
 use Rattle.lines.specs.declared.number.Field.the-variants.{Malformed, Number}
-use Rattle.lines.specs.declared.Pair.the-variants.{Numbers}
+use Rattle.lines.specs.declared.TwoNumbers.the-variants.{Both}
 use Rattle.lines.specs.declared.Marked.the-variants.{Malformed as NoMark, Mark as MarkOf}
 use Rattle.model.specs.declared.Side.{Side}
 use Rattle.model.specs.declared.Side.the-variants.{Lower, Upper}
@@ -54,7 +54,7 @@ use Rattle.lines.specs.Lines.{pairLine, markAt, weights, prices, countAt, itemR
 use Rattle.sheet.specs.Printing.{pairText, numberText, headingText, markByte, itemText, itemsText, boundText, boundsText, boundsCount, listed}
 use Rattle.sheet.specs.Printing.{sideOf, boundAt, limitText, itemsPart, sideText}
 use Rattle.sheet.proofs.Verdicts.{no-refusal}
-use Rattle.lines.proofs.Numerals.{figure-in}
+use Rattle.lines.proofs.Numerals.{ranged-in}
 use Rattle.lines.proofs.Shapes.{from-to, field-parts, field-range, pair-parts, heading-parts, item-parts, count-parts, BoundParts, bound-parts}
 use Rattle.sheet.proofs.Decimals.{Has, has-join, has-none, Bytes, byte-has, word-has, number-has}
 
@@ -64,10 +64,10 @@ pub field-has : (b : ℕ) (r : Range) (s : List ℕ) (at : ℕ) (z : ℤ) (n : �
     Has s at (numberText z ++ b ∷ []) n
 field-has b r s at z n l h =
     let p = field-parts b r s at (In z) n h in
-    let e = figure-in r (p .value) z (p .figured) .0 in
+    let e = ranged-in r (p .value) z (p .figured) .0 in
     rw (← e) (has-join (number-has s at (p .value) (p .close) (p .number)) (byte-has s (p .close) b n l (p .closed)))
 
-pair-has : (r q : Range) (s : List ℕ) (at : ℕ) (x y : ℤ) (n : ℕ) → pairLine r q s at ≡ Numbers (In x) (In y) n → Has s at (pairText x y) n
+pair-has : (r q : Range) (s : List ℕ) (at : ℕ) (x y : ℤ) (n : ℕ) → pairLine r q s at ≡ Both (In x) (In y) n → Has s at (pairText x y) n
 pair-has r q s at x y n h =
     let p = pair-parts r q s at (In x) (In y) n h in
     let j = has-join (field-has 32 r s at x (p .next) (lit< tt) (p .first)) (field-has 10 q s (p .next) y n (lit< tt) (p .second)) in
@@ -180,7 +180,7 @@ within-range n (pos k) h l = le-ltb (suc n) k (leb→le k (suc n) (l .le))
 within-range n (negsuc k) h l = le-ltb (suc n) (suc k) (omega (arith, leb→le k n (h .le)))
 
 pair-in : (m n : ℕ) (s : List ℕ) (at : ℕ) (x y : ℤ) (end : ℕ) →
-    pairLine (record { lo = negsuc m; hi = pos (suc m) }) (record { lo = negsuc n; hi = pos (suc n) }) s at ≡ Numbers (In x) (In y) end →
+    pairLine (record { lo = negsuc m; hi = pos (suc m) }) (record { lo = negsuc n; hi = pos (suc n) }) s at ≡ Both (In x) (In y) end →
     (outside (suc m) x ≡ false) × (outside (suc n) y ≡ false)
 pair-in m n s at x y end h =
     let p = pair-parts _ _ s at (In x) (In y) end h in

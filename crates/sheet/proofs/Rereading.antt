@@ -33,13 +33,13 @@ use Rattle.lines.specs.declared.ItemRead.the-variants.{Read as ItemIs}
 use Rattle.lines.specs.declared.BoundRead.the-variants.{Read as BoundIs}
 use Rattle.sheet.specs.declared.Progress.{Progress}
 use Rattle.lines.specs.declared.number.Range.{Range}
-use Rattle.lines.specs.declared.number.Figure.the-variants.{In}
+use Rattle.lines.specs.declared.number.Ranged.the-variants.{In}
 use Rattle.lines.specs.declared.number.Field.the-variants.{Number}
-use Rattle.lines.specs.declared.Pair.the-variants.{Numbers}
+use Rattle.lines.specs.declared.TwoNumbers.the-variants.{Both}
 use Rattle.lines.specs.declared.Count.the-variants.{Lines}
 use Rattle.lines.specs.declared.scan.Place.the-variants.{Nothing, At}
 use Rattle.lines.specs.Places.{byteAt, afterByte, afterWord}
-use Rattle.lines.specs.Numbers.{isDigit, digitCount, valueAfter, numeral, signedOf, unsignedAt, numberAt, figure, fieldAt}
+use Rattle.lines.specs.Numbers.{isDigit, digitCount, valueAfter, numeral, signedOf, unsignedAt, numberAt, ranged, fieldAt}
 use Rattle.lines.specs.Lines.{headingLine, pairLine, markAt, weights, prices, itemLine, countAt, itemRead, boundRead}
 use Rattle.sheet.specs.Reading.{limit, items, wordOf, limits, withCapacity, capacityLine, limitSection, withCount, withItem, itemStep}
 use Rattle.sheet.specs.Reading.{itemLines, itemsSection, withBound, boundStep, boundLines, fromPlace, boundsSection}
@@ -180,15 +180,15 @@ number-reads s at (negsuc k) l h d =
 -- ---- lines
 
 -- a number, and a byte that is no digit
-pub field-reads : (b : ℕ) (r : Range) (s : List ℕ) (at : ℕ) (z : ℤ) (l : List ℕ) → isDigit b ≡ false → figure r z ≡ In z →
+pub field-reads : (b : ℕ) (r : Range) (s : List ℕ) (at : ℕ) (z : ℤ) (l : List ℕ) → isDigit b ≡ false → ranged r z ≡ In z →
     drop at s ≡ numberText z ++ (b ∷ l) → (n : ℕ) × (fieldAt b r s at ≡ Number (In z) n) × (drop n s ≡ l)
 unfolding fieldAt digitCount
 field-reads b r s at z l e f h =
     let q = number-reads s at z (b ∷ l) h (rw e refl) in
     (suc (q .0), rw (q .1, byte-reads s (q .0) b l (q .2), f), standing s (q .0) b l (q .2) .1)
 
-pub pair-reads : (r q : Range) (s : List ℕ) (at : ℕ) (x y : ℤ) (l : List ℕ) → figure r x ≡ In x → figure q y ≡ In y → drop at s ≡ pairText x y ++ l →
-    (n : ℕ) × (pairLine r q s at ≡ Numbers (In x) (In y) n) × (drop n s ≡ l)
+pub pair-reads : (r q : Range) (s : List ℕ) (at : ℕ) (x y : ℤ) (l : List ℕ) → ranged r x ≡ In x → ranged q y ≡ In y → drop at s ≡ pairText x y ++ l →
+    (n : ℕ) × (pairLine r q s at ≡ Both (In x) (In y) n) × (drop n s ≡ l)
 unfolding pairLine
 pair-reads r q s at x y l f g h =
     let a = field-reads 32 r s at x ((numberText y ++ (10 ∷ [])) ++ l) refl f (h ∙ append-assoc (numberText x) _ l) in
@@ -204,10 +204,10 @@ heading-reads w a b s at m l f g h =
     let q = field-reads 10 (from-to a b) s (suc (p .0)) (pos m) l refl (rw (le-ltb m a f, le-ltb b m g)) (standing s (p .0) 32 c (p .2) .1 ∙ append-assoc (decimal m) _ l) in
     (q .0, rw (p .1, byte-reads s (p .0) 32 c (p .2), q .1), q .2)
 
--- a figure no farther from zero than n + 1
-pub figure-within : (n : ℕ) (z : ℤ) → outside (suc n) z ≡ false → figure (record { lo = negsuc n; hi = pos (suc n) }) z ≡ In z
-figure-within n (pos k) h = rw (h)
-figure-within n (negsuc k) h = let l = ltb-false (suc n) (suc k) h in rw (le-ltb n k (omega arith))
+-- a ranged no farther from zero than n + 1
+pub ranged-within : (n : ℕ) (z : ℤ) → outside (suc n) z ≡ false → ranged (record { lo = negsuc n; hi = pos (suc n) }) z ≡ In z
+ranged-within n (pos k) h = rw (h)
+ranged-within n (negsuc k) h = let l = ltb-false (suc n) (suc k) h in rw (le-ltb n k (omega arith))
 
 -- an item as its line gives it
 abbrev pub bareOf : Item → Item
@@ -229,14 +229,14 @@ pub item-reads : (s : List ℕ) (at : ℕ) (i : Item) (l : List ℕ) → outside
 unfolding itemRead itemLine
 item-reads s at i l f g h =
     let m = mark-reads s at (i .mark) (pairText (i .weight) (i .price) ++ l) h in
-    let p = pair-reads weights prices s (suc (suc at)) (i .weight) (i .price) l (figure-within 999 (i .weight) f) (figure-within 9999 (i .price) g) (m .1) in
+    let p = pair-reads weights prices s (suc (suc at)) (i .weight) (i .price) l (ranged-within 999 (i .weight) f) (ranged-within 9999 (i .price) g) (m .1) in
     (p .0, rw (m .0, p .1), p .2)
 
 pub bound-reads : (count before : ℕ) (s : List ℕ) (at k : ℕ) (v : ℤ) (l : List ℕ) → 1 ≤ k → k ≤ count → before < k → outside 10000 v ≡ false →
     drop at s ≡ boundText k (AtBound v) ++ l → (n : ℕ) × (boundRead count before s at ≡ BoundIs k v n) × (drop n s ≡ l)
 unfolding boundRead
 bound-reads count before s at k v l a b c f h =
-    let p = pair-reads (from-to 1 count) prices s at (pos k) v l (rw (le-ltb k 1 a, le-ltb count k b)) (figure-within 9999 v f) h in
+    let p = pair-reads (from-to 1 count) prices s at (pos k) v l (rw (le-ltb k 1 a, le-ltb count k b)) (ranged-within 9999 v f) h in
     (p .0, rw (p .1, lt-leb k before c), p .2)
 
 -- the figures of an item in range
@@ -478,7 +478,7 @@ pub limit-reads : (s : List ℕ) (b : ℤ) (l : List ℕ) → outside 100000000 
 unfolding limitSection capacityLine
 limit-reads s b l f h =
     let c = heading-reads limit 1 1 s 0 1 ((numberText b ++ (10 ∷ [])) ++ l) (omega arith) (omega arith) (h ∙ append-assoc (headingText limit 1) _ l) in
-    let d = field-reads 10 limits s (c .0) b l refl (figure-within 99999999 b f) (c .2 ∙ append-assoc (numberText b) _ l) in
+    let d = field-reads 10 limits s (c .0) b l refl (ranged-within 99999999 b f) (c .2 ∙ append-assoc (numberText b) _ l) in
     (d .0, rw (c .1, d .1), d .2)
 
 pub items-section : (p : Model) (s l : List ℕ) (n : ℕ) → Unfaulted p → drop n s ≡ itemsPart p ++ l →

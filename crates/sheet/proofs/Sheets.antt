@@ -27,7 +27,7 @@ use Rattle.model.specs.declared.Side.{Side}
 use Rattle.model.specs.declared.Side.the-variants.{Lower, Upper}
 use Rattle.sheet.specs.declared.Progress.{Progress}
 use Rattle.sheet.specs.declared.Reading.{Reading}
-use Rattle.lines.specs.Places.{lineOf, refusal}
+use Rattle.lines.specs.Places.{lineAt, refusal}
 use Rattle.sheet.specs.Reading.{items, wordOf, refusedAt, withCapacity, limitSection, itemsSection, boundsSection, endOfSheet}
 use Rattle.sheet.specs.Reading.{crossFrom, crossOf, crossCheck, itemsOf, lowerOf, upperOf, wholeOf, readSheet}
 use Rattle.sheet.specs.Printing.{headingText, itemText, boundAt, sideText, limitText, itemsPart, printing, Tidy, SheetOf}
@@ -72,8 +72,8 @@ uncrossed s heading p h =
     let w = went p _ h in
     let n = p .model .count in
     let f = itemAt (p .model) in
-    let e = all-clear p (crossFrom n f 0 (lineOf s heading)) (w .after) in
-    record { before = w .before; is = w .is ∙ rw e; none = λ k l. rw (zero-add k) at (cross-all n f 0 (lineOf s heading) e k l) }
+    let e = all-clear p (crossFrom n f 0 (lineAt s heading)) (w .after) in
+    record { before = w .before; is = w .is ∙ rw e; none = λ k l. rw (zero-add k) at (cross-all n f 0 (lineAt s heading) e k l) }
 
 -- ---- from section to section
 
@@ -325,7 +325,7 @@ module _ (p : Model) (r : Unfaulted p) (tidy : Tidy p) where
       rw (
         upper-back .accepted,
         problem-back,
-        all-cross (p .count) (itemAt p) 0 (lineOf sheet (lowerOf sheet .at)) (λ k l. rw (zero-add k) (r .uncrossed k l)),
+        all-cross (p .count) (itemAt p) 0 (lineAt sheet (lowerOf sheet .at)) (λ k l. rw (zero-add k) (r .uncrossed k l)),
       )
 
   whole-back : wholeOf sheet ≡ upperOf sheet

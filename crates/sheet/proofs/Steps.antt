@@ -12,7 +12,7 @@ use lib.Dec.{ltb}
 use lib.ListN.{length}
 use Rattle.knapsack.specs.declared.Verdict.{Verdict}
 use Rattle.knapsack.specs.declared.Verdict.the-variants.{Accepted, Refused}
-use Rattle.lines.specs.declared.number.Figure.the-variants.{In, Out}
+use Rattle.lines.specs.declared.number.Ranged.the-variants.{In, Out}
 use Rattle.lines.specs.declared.number.Field.{Field}
 use Rattle.lines.specs.declared.number.Field.the-variants.{Malformed, Number}
 use Rattle.model.specs.declared.Side.{Side}

@@ -20,7 +20,7 @@ use Rattle.knapsack.specs.declared.Refusal.{Refusal}
 use Rattle.knapsack.specs.declared.Verdict.{Verdict}
 use Rattle.knapsack.specs.declared.Verdict.the-variants.{Accepted, Refused}
 use Rattle.lines.specs.declared.number.Range.{Range}
-use Rattle.lines.specs.declared.number.Figure.the-variants.{In, Out}
+use Rattle.lines.specs.declared.number.Ranged.the-variants.{In, Out}
 use Rattle.lines.specs.declared.number.Field.{Field}
 use Rattle.lines.specs.declared.number.Field.the-variants.{Malformed, Number}
 use Rattle.model.specs.declared.Side.{Side}
@@ -33,7 +33,7 @@ use Rattle.lines.specs.declared.BoundRead.{BoundRead}
 use Rattle.lines.specs.declared.BoundRead.the-variants.{Fault as BoundFault, Read as BoundIs}
 use Rattle.sheet.specs.declared.Progress.{Progress}
 use Rattle.sheet.specs.declared.Reading.{Reading}
-use Rattle.lines.specs.Places.{lineOf, refusal}
+use Rattle.lines.specs.Places.{lineAt, refusal}
 use Rattle.lines.specs.Numbers.{fieldAt}
 use Rattle.lines.specs.Lines.{countAt, itemRead, boundRead}
 
@@ -53,7 +53,7 @@ abbrev pub stoppedBy : Refusal → Progress
 stoppedBy r = record { verdict = Refused r; model = emptyModel; at = 0; item = 0 }
 
 abbrev pub refusedAt : List ℕ → ℕ → ℕ → Progress
-refusedAt s n at = stoppedBy (record { number = n; line = lineOf s at })
+refusedAt s n at = stoppedBy (record { number = n; line = lineAt s at })
 
 abbrev pub onVerdict : {A : Type 0} → Verdict → A → A → A
 onVerdict Accepted a b = a
@@ -176,7 +176,7 @@ crossOf p (Refused r) = stoppedBy r
 
 -- heading is a place of the line `upper m`
 unfoldable pub crossCheck : List ℕ → ℕ → Progress → Progress
-crossCheck s heading p = onward p (crossOf p (crossFrom (p .model .count) (itemAt (p .model)) 0 (lineOf s heading)))
+crossCheck s heading p = onward p (crossOf p (crossFrom (p .model .count) (itemAt (p .model)) 0 (lineAt s heading)))
 
 -- ---- the sheet
 unfoldable pub itemsOf : List ℕ → Progress

@@ -9,7 +9,7 @@ use lines::BoundRead;
 use lines::Count;
 use lines::ItemRead;
 use lines::number::Field;
-use lines::number::Figure;
+use lines::number::Ranged;
 use lines::number::Range;
 pub use lines::scan::check_line;
 pub use lines::scan::first_line_end;
@@ -113,8 +113,8 @@ fn capacity_line(s: &[u8], at: usize) -> Progress
     match f {
         Field::Malformed => refused(s, 2, at),
         Field::Number(g, next) => match g {
-            Figure::Out => refused(s, 4, at),
-            Figure::In(b) => with_capacity(b, next),
+            Ranged::Out => refused(s, 4, at),
+            Ranged::In(b) => with_capacity(b, next),
         },
     }
 }

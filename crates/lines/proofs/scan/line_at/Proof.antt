@@ -6,14 +6,14 @@ use native.Mathlib.Omega.{arith}
 use borrow.Author.Needs.{needs}
 use lib.ListN.{length, drop}
 use Rattle.lines.specs.declared.scan.Place.the-variants.{At}
-use Rattle.lines.specs.Places.{firstEnd, lineOf}
+use Rattle.lines.specs.Places.{firstEnd, lineAt}
 use Rattle.lines.proofs.Places.{end-within, endsFrom, ends-past, ends-before, ends-none}
 use Rattle.lines.proofs.scan.line_at.Statement.{statement}
 use Rattle.lines.proofs.scan.line_at.Tie as tie
 
 -- the bytes 10 from `from` on are still to be counted, and each line has one
 abbrev Inv-loop : tie.InvT-loop
-Inv-loop s at line₀ from₀ line from = (from ≤ length s) × ((line ≤ from + 1) × (lineOf s at ≡ line + endsFrom s from at))
+Inv-loop s at line₀ from₀ line from = (from ≤ length s) × ((line ≤ from + 1) × (lineAt s at ≡ line + endsFrom s from at))
 
 abbrev μ-loop : tie.MeasureT-loop
 μ-loop s at line₀ from₀ line from = length s - from

@@ -22,14 +22,17 @@ part-result-start c = search needs
 part-result-end : tie.Need-part-result-end
 part-result-end c = search needs
 
-enum-known-span : tie.Need-enum-known-span
-enum-known-span c = search needs
+enum-known-asked : tie.Need-enum-known-asked
+enum-known-asked c = search needs
 
 -- where the line stands
 within : (c : tie.After-known-told) →
-    (c .before .span .given .0 .0 ≤ c .before .span .given .0 .1 .0) × (c .before .span .given .0 .1 .0 < length (c .before .before .before .before .before .args .s .now))
+    let k = c .before in (k .asked .given .0 .0 ≤ k .asked .given .0 .1 .0) × (k .asked .given .0 .1 .0 < length (k .before .before .before .before .args .s .now))
 within c =
-    asked-within (c .before .before .before .before .before .args .s .now) (c .before .before .before .before .before .args .line) _ _ (sym (c .before .before .before .asked-line .ensures) ∙ c .before .span .given .1)
+    let k = c .before in
+    let l = k .before .before in
+    let s = l .before .before in
+    asked-within (s .args .s .now) (s .args .line) _ _ (sym (l .asked-line .ensures) ∙ k .asked .given .1)
 
 sub-result-2 : tie.Need-sub-result-2
 sub-result-2 c = omega (arith, within c)
@@ -41,10 +44,10 @@ part-result-end-2 : tie.Need-part-result-end-2
 part-result-end-2 c = omega (arith, within c)
 
 returns : tie.Need-returns
-returns c = rw (sym (c .before .before .before .asked-line .ensures) ∙ c .before .enum-told .given .1)
+returns c = let k = c .before in rw (sym (k .before .before .asked-line .ensures) ∙ k .enum-told .given .1)
 
 returns-2 : tie.Need-returns-2
-returns-2 c = rw (sym (c .before .before .before .before .asked-line .ensures) ∙ c .before .before .span .given .1)
+returns-2 c = let k = c .before .before in rw (sym (k .before .before .asked-line .ensures) ∙ k .asked .given .1)
 
 pub line-part-spec : {M : Type 1} → statement M
 line-part-spec =
@@ -55,7 +58,7 @@ line-part-spec =
     sub-result
     part-result-start
     part-result-end
-    enum-known-span
+    enum-known-asked
     sub-result-2
     part-result-start-2
     part-result-end-2

@@ -1,8 +1,8 @@
-use Rattle.lines.specs.Lines.{pairLine}
+use Rattle.lines.specs.Lines.{numbersLine}
 use mathlib.Core.Path.{sym, _∙_}
 use borrow.Author.Needs.{needs}
-use Rattle.lines.proofs.pair_line.Statement.{statement}
-use Rattle.lines.proofs.pair_line.Tie as tie
+use Rattle.lines.proofs.numbers_line.Statement.{statement}
+use Rattle.lines.proofs.numbers_line.Tie as tie
 
 closed-number-requires : tie.Need-closed-number-requires
 closed-number-requires c κs = search needs
@@ -23,11 +23,11 @@ enum-known-g : tie.Need-enum-known-g
 enum-known-g c = search needs
 
 returns : tie.Need-returns
-unfolding pairLine
+unfolding numbersLine
 returns c = rw (sym (c .before .before .closed-number .ensures) ∙ c .enum-told .given .1)
 
 returns-2 : tie.Need-returns-2
-unfolding pairLine
+unfolding numbersLine
 returns-2 c =
     let k = c .before .before .before in
     rw (
@@ -36,7 +36,7 @@ returns-2 c =
     )
 
 returns-3 : tie.Need-returns-3
-unfolding pairLine
+unfolding numbersLine
 returns-3 c =
     let k = c .before .before .before .before in
     rw (
@@ -44,8 +44,8 @@ returns-3 c =
       sym (c .before .before .before .closed-number2 .ensures) ∙ c .before .g .given .1,
     )
 
-pub pair-line-spec : {M : Type 1} → statement M
-pair-line-spec =
+pub numbers-line-spec : {M : Type 1} → statement M
+numbers-line-spec =
     tie.close
     (tie.spec
     closed-number-requires

@@ -6,8 +6,8 @@ use mir.Val.{SFits}
 use mir.Facts.{toZ-ofZ}
 use borrow.Author.Needs.{needs}
 use Rattle.arith.proofs.Parts.{plain-lt}
-use Rattle.lines.proofs.number.ranged.Statement.{statement}
-use Rattle.lines.proofs.number.ranged.Tie as tie
+use Rattle.lines.proofs.number.by_range.Statement.{statement}
+use Rattle.lines.proofs.number.by_range.Tie as tie
 
 lo-fits : (c : tie.After-struct-told2) → SFits w64 (c .before .before .args .range .lo)
 lo-fits c = search needs
@@ -29,5 +29,5 @@ returns-3 c =
     let f = c .before .before .before .before .fits .z in
     rw (toZ-ofZ f, not-low (c .before), plain-lt (hi-fits (c .before .before)) f (c .if2 .left))
 
-pub ranged-spec : {M : Type 1} → statement M
-ranged-spec = tie.close (tie.spec returns returns-2 returns-3)
+pub by-range-spec : {M : Type 1} → statement M
+by-range-spec = tie.close (tie.spec returns returns-2 returns-3)
