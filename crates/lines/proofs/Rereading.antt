@@ -30,11 +30,10 @@ use Rattle.lines.specs.declared.Count.the-variants.{Lines}
 use Rattle.lines.specs.declared.ItemRead.the-variants.{Read as ItemIs}
 use Rattle.lines.specs.declared.BoundRead.the-variants.{Read as BoundIs}
 use Rattle.lines.specs.Places.{byteAt, afterByte, afterWord}
-use Rattle.lines.specs.Numbers.{isDigit, digitRun, numeral, signedOf, unsignedAt, numberAt, ranged, fieldAt}
+use Rattle.lines.specs.Numbers.{isDigit, digitRun, numeral, signedOf, unsignedAt, numberAt, fromTo, ranged, fieldAt}
 use Rattle.lines.specs.Lines.{headingLine, numbersLine, markAt, weights, prices, itemLine, countAt, itemRead, boundRead}
 use Rattle.lines.specs.Layout.{headingText, numbersText, markByte, itemText, Bounding, boundText}
 use Rattle.lines.proofs.Numerals.{leading-yes, run-append}
-use Rattle.lines.proofs.Shapes.{from-to}
 
 -- what stands at a place, and what follows
 standing : (s : List ℕ) (at b : ℕ) (l : List ℕ) → drop at s ≡ b ∷ l → (byteAt s at ≡ b) × (drop (suc at) s ≡ l)
@@ -118,12 +117,12 @@ numbers-reads r q s at x y l f g h =
     (b .0, rw (a .1, b .1), b .2)
 
 pub count-reads : (w : List ℕ) (a b : ℕ) (s : List ℕ) (at m : ℕ) (l : List ℕ) → a ≤ m → m ≤ b → drop at s ≡ headingText w m ++ l →
-    (n : ℕ) × (countAt w (from-to a b) s at ≡ Lines m n) × (drop n s ≡ l)
+    (n : ℕ) × (countAt w (fromTo a b) s at ≡ Lines m n) × (drop n s ≡ l)
 unfolding countAt headingLine
 count-reads w a b s at m l f g h =
     let c = decimal m ++ (10 ∷ l) in
     let p = word-reads s at w (32 ∷ c) (h ∙ simp append-assoc) in
-    let q = field-reads 10 (from-to a b) s (suc (p .0)) (pos m) l refl (rw (le-ltb m a f, le-ltb b m g)) (standing s (p .0) 32 c (p .2) .1) in
+    let q = field-reads 10 (fromTo a b) s (suc (p .0)) (pos m) l refl (rw (le-ltb m a f, le-ltb b m g)) (standing s (p .0) 32 c (p .2) .1) in
     (q .0, rw (p .1, byte-reads s (p .0) 32 c (p .2), q .1), q .2)
 
 abbrev pub bareOf : Item → Item
@@ -155,5 +154,5 @@ pub bound-reads : (count before : ℕ) (s : List ℕ) (at : ℕ) (b : Bounding) 
 unfolding boundRead
 bound-reads count before s at b l least most rises f h =
     let k = b .number in
-    let p = numbers-reads (from-to 1 count) prices s at (pos k) (b .bound) l (rw (le-ltb k 1 least, le-ltb count k most)) (ranged-within 9999 (b .bound) f) h in
+    let p = numbers-reads (fromTo 1 count) prices s at (pos k) (b .bound) l (rw (le-ltb k 1 least, le-ltb count k most)) (ranged-within 9999 (b .bound) f) h in
     (p .0, rw (p .1, lt-leb k before rises), p .2)

@@ -29,7 +29,7 @@ use Rattle.lines.specs.declared.Marked.the-variants.{Malformed as NoMark
 use Rattle.lines.specs.declared.ItemRead.the-variants.{Fault as ItemFault, Read as ItemIs}
 use Rattle.lines.specs.declared.BoundRead.the-variants.{Fault as BoundFault, Read as BoundIs}
 use Rattle.lines.specs.Places.{afterByte, afterWord, onPlace}
-use Rattle.lines.specs.Numbers.{Numeral, none, numeral, numberAt, ranged, inRange, closedBy, fieldAt}
+use Rattle.lines.specs.Numbers.{Numeral, none, numeral, numberAt, fromTo, ranged, inRange, closedBy, fieldAt}
 use Rattle.lines.specs.Lines.{onField, headingLine, numbersLine, markAt, weights, withNumbers, marked, itemLine, itemOf, itemRead, countOf}
 use Rattle.lines.specs.Lines.{countAt, numbered, boundOf, boundRead, prices}
 use Rattle.lines.proofs.Numerals.{ranged-in}
@@ -155,33 +155,30 @@ between : (a b : ℕ) (z : ℤ) → pos a ≤ℤ z → z ≤ℤ pos b → (z ≡
 between a b (pos n) h k = (refl, (leb→le a n (h .le), leb→le n b (k .le)))
 between a b (negsuc n) h k = absurd (h .le)
 
-abbrev pub from-to : ℕ → ℕ → Range
-from-to a b = record { lo = pos a; hi = pos b }
-
 pub record CountParts (w : List ℕ) (a b : ℕ) (s : List ℕ) (at m end : ℕ) : Type 0 where
-  pub heading : headingLine w (from-to a b) s at ≡ Number (In (pos m)) end
+  pub heading : headingLine w (fromTo a b) s at ≡ Number (In (pos m)) end
   pub least : a ≤ m
   pub most : m ≤ b
 
-pub count-parts : (w : List ℕ) (a b : ℕ) (s : List ℕ) (at m end : ℕ) → countAt w (from-to a b) s at ≡ Lines m end → CountParts w a b s at m end
+pub count-parts : (w : List ℕ) (a b : ℕ) (s : List ℕ) (at m end : ℕ) → countAt w (fromTo a b) s at ≡ Lines m end → CountParts w a b s at m end
 unfolding countAt
-count-parts w a b s at m end h = go (headingLine w (from-to a b) s at) refl h
+count-parts w a b s at m end h = go (headingLine w (fromTo a b) s at) refl h
   where
     fault : {n : ℕ} → CountFault n ≡ Lines m end → CountParts w a b s at m end
     fault h = absurd (let z : _≡_ {A = ℕ} 0 1 = cc in omega arith)
 
-    go : (x : Field) → headingLine w (from-to a b) s at ≡ x → countOf x ≡ Lines m end → CountParts w a b s at m end
+    go : (x : Field) → headingLine w (fromTo a b) s at ≡ x → countOf x ≡ Lines m end → CountParts w a b s at m end
     go Malformed e h = fault h
     go (Number Out n) e h = fault h
     go (Number (In z) n) e h =
         let u : natAbs z ≡ m = cc in
         let v : n ≡ end = cc in
-        let q = heading-range w (from-to a b) s at z n e in
+        let q = heading-range w (fromTo a b) s at z n e in
         let k = between a b z (q .0) (q .1) in
         record { heading = e ∙ rw (k .0, u, v); least = omega arith; most = omega arith }
 
 pub record BoundParts (count before : ℕ) (s : List ℕ) (at k : ℕ) (v : ℤ) (end : ℕ) : Type 0 where
-  pub pair : numbersLine (from-to 1 count) prices s at ≡ Both (In (pos k)) (In v) end
+  pub pair : numbersLine (fromTo 1 count) prices s at ≡ Both (In (pos k)) (In v) end
   pub least : 1 ≤ k
   pub most : k ≤ count
   pub rises : before < k
@@ -189,12 +186,12 @@ pub record BoundParts (count before : ℕ) (s : List ℕ) (at k : ℕ) (v : ℤ)
 pub bound-parts : (count before : ℕ) (s : List ℕ) (at k : ℕ) (v : ℤ) (end : ℕ) → boundRead count before s at ≡ BoundIs k v end →
     BoundParts count before s at k v end
 unfolding boundRead
-bound-parts count before s at k v end h = go (numbersLine (from-to 1 count) prices s at) refl h
+bound-parts count before s at k v end h = go (numbersLine (fromTo 1 count) prices s at) refl h
   where
     fault : {n : ℕ} → BoundFault n ≡ BoundIs k v end → BoundParts count before s at k v end
     fault h = absurd (let z : _≡_ {A = ℕ} 0 1 = cc in omega arith)
 
-    last : (z : ℤ) (y : Ranged) (n : ℕ) → numbersLine (from-to 1 count) prices s at ≡ Both (In z) y n → (t : Bool) → leb (natAbs z) before ≡ t →
+    last : (z : ℤ) (y : Ranged) (n : ℕ) → numbersLine (fromTo 1 count) prices s at ≡ Both (In z) y n → (t : Bool) → leb (natAbs z) before ≡ t →
         cond t (BoundFault 5) (boundOf (natAbs z) y n) ≡ BoundIs k v end → BoundParts count before s at k v end
     last z y n e true f h = fault h
     last z Out n e false f h = fault h
@@ -202,11 +199,11 @@ bound-parts count before s at k v end h = go (numbersLine (from-to 1 count) pric
         let u : natAbs z ≡ k = cc in
         let w : x ≡ v = cc in
         let m : n ≡ end = cc in
-        let q = numbers-range (from-to 1 count) prices s at z (In x) n e in
+        let q = numbers-range (fromTo 1 count) prices s at z (In x) n e in
         let o = between 1 count z (q .0) (q .1) in
         record { pair = e ∙ rw (o .0, u, w, m); least = omega arith; most = omega arith; rises = rw u at (leb-false (natAbs z) before f) }
 
-    go : (x : TwoNumbers) → numbersLine (from-to 1 count) prices s at ≡ x → numbered before x ≡ BoundIs k v end → BoundParts count before s at k v end
+    go : (x : TwoNumbers) → numbersLine (fromTo 1 count) prices s at ≡ x → numbered before x ≡ BoundIs k v end → BoundParts count before s at k v end
     go NoNumbers e h = fault h
     go (Both Out y n) e h = fault h
     go (Both (In z) y n) e h = last z y n e (leb (natAbs z) before) refl h

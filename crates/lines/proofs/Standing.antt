@@ -32,12 +32,12 @@ use Rattle.lines.specs.declared.Count.the-variants.{Lines}
 use Rattle.lines.specs.declared.ItemRead.the-variants.{Read as ItemIs}
 use Rattle.lines.specs.declared.BoundRead.the-variants.{Read as BoundIs}
 use Rattle.lines.specs.Places.{byteAt, afterByte, onPlace, afterWord}
-use Rattle.lines.specs.Numbers.{isLeading, digitRun, none, numeral, signedOf, unsignedAt, numberAt, fieldAt}
+use Rattle.lines.specs.Numbers.{isLeading, digitRun, none, numeral, signedOf, unsignedAt, numberAt, fromTo, fieldAt}
 use Rattle.lines.specs.Lines.{numbersLine, markAt, weights, prices, countAt, itemRead, boundRead}
 use Rattle.lines.specs.Layout.{headingText, numbersText, markByte, itemText, boundText}
 use Rattle.lines.proofs.Places.{nowhere}
 use Rattle.lines.proofs.Numerals.{run-plain, run-splits, run-leads, ranged-in}
-use Rattle.lines.proofs.Shapes.{from-to, field-parts, numbers-parts, heading-parts, item-parts, count-parts, bound-parts}
+use Rattle.lines.proofs.Shapes.{field-parts, numbers-parts, heading-parts, item-parts, count-parts, bound-parts}
 
 pub record Has (s : List ℕ) (a : ℕ) (w : List ℕ) (b : ℕ) : Type 0 where
   pub has : drop a s ≡ w ++ drop b s
@@ -135,12 +135,12 @@ numbers-has r q s at x y n h =
     let p = numbers-parts r q s at (In x) (In y) n h in
     has-join (field-has 32 r s at x (p .next) (lit< tt) (p .first)) (field-has 10 q s (p .next) y n (lit< tt) (p .second))
 
-pub count-has : (w : List ℕ) (a b : ℕ) (s : List ℕ) (at m n : ℕ) → Bytes w → countAt w (from-to a b) s at ≡ Lines m n → Has s at (headingText w m) n
+pub count-has : (w : List ℕ) (a b : ℕ) (s : List ℕ) (at m n : ℕ) → Bytes w → countAt w (fromTo a b) s at ≡ Lines m n → Has s at (headingText w m) n
 count-has w a b s at m n l h =
     let c = count-parts w a b s at m n h in
-    let p = heading-parts w (from-to a b) s at (In (pos m)) n (c .heading) in
+    let p = heading-parts w (fromTo a b) s at (In (pos m)) n (c .heading) in
     let f = has-join (word-has s at w (p .blank) l (p .word)) (byte-has s (p .blank) 32 (p .next) (lit< tt) (p .space)) in
-    has-join f (field-has 10 (from-to a b) s (p .next) (pos m) n (lit< tt) (p .count))
+    has-join f (field-has 10 (fromTo a b) s (p .next) (pos m) n (lit< tt) (p .count))
 
 mark-has : (s : List ℕ) (at : ℕ) (m : Mark) (n : ℕ) → markAt s at ≡ MarkOf m n → Has s at (markByte m ∷ 32 ∷ []) n
 unfolding markAt
@@ -167,4 +167,4 @@ item-has s at i n h =
 pub bound-has : (count before : ℕ) (s : List ℕ) (at k : ℕ) (v : ℤ) (n : ℕ) → boundRead count before s at ≡ BoundIs k v n →
     Has s at (boundText (record { number = k; bound = v })) n
 bound-has count before s at k v n h =
-    let p = bound-parts count before s at k v n h in numbers-has (from-to 1 count) prices s at (pos k) v n (p .pair)
+    let p = bound-parts count before s at k v n h in numbers-has (fromTo 1 count) prices s at (pos k) v n (p .pair)

@@ -37,7 +37,7 @@ use Rattle.lines.specs.declared.ItemRead.the-variants.{Fault as ItemFaul
 use Rattle.lines.specs.declared.BoundRead.{BoundRead}
 use Rattle.lines.specs.declared.BoundRead.the-variants.{Fault as BoundFault, Read as BoundIs}
 use Rattle.lines.specs.Places.{afterByte, afterWord, onPlace}
-use Rattle.lines.specs.Numbers.{fieldAt}
+use Rattle.lines.specs.Numbers.{fromTo, fieldAt}
 
 abbrev pub onField : {A : Type 0} → Field → A → (Ranged → ℕ → A) → A
 onField Malformed a f = a
@@ -105,4 +105,4 @@ numbered before (Both Out v n) = BoundFault refusal.item-number
 numbered before (Both (In z) v n) = cond (leb (natAbs z) before) (BoundFault refusal.item-number) (boundOf (natAbs z) v n)
 
 unfoldable pub boundRead : ℕ → ℕ → List ℕ → ℕ → BoundRead
-boundRead count before s at = numbered before (numbersLine (record { lo = pos 1; hi = pos count }) prices s at)
+boundRead count before s at = numbered before (numbersLine (fromTo 1 count) prices s at)

@@ -6,6 +6,7 @@
 --   signedOf m n        n, or its opposite where there is a minus
 --   unsignedAt m s at   the number behind its sign
 --   numberAt s at       the number at a place, and the place behind it
+--   fromTo a b          the range of the numbers from a to b
 --   ranged r z          z, if it lies in the range
 --   inRange r x         a numeral as a field of the range
 --   closedBy b s x      the field, if the byte b closes it
@@ -66,6 +67,9 @@ numberAt s at =
     onPlace (afterByte s at 48)
     (onPlace (afterByte s at 45) (unsignedAt false s at) (λ n. unsignedAt true s n))
     (λ n. numeral (pos 0) n)
+
+abbrev pub fromTo : ℕ → ℕ → Range
+fromTo a b = record { lo = pos a; hi = pos b }
 
 abbrev pub ranged : Range → ℤ → Ranged
 ranged r z = cond (ltZ z (r .lo)) Out (cond (ltZ (r .hi) z) Out (In z))

@@ -14,7 +14,7 @@ ghost use mathlib.Core.Path.{_≡_};
 ghost use Prim.Native.Nat.{_≤_};
 ghost use lib.IntN.{pos};
 ghost use lib.Signed.{_≤ℤ_};
-ghost use Rattle.lines.specs.Numbers.{Narrow};
+ghost use Rattle.lines.specs.Numbers.{Narrow, fromTo};
 ghost use Rattle.lines.specs.Lines.{headingLine, numbersLine, markAt, itemLine, prices, countAt, itemOf, itemRead, boundOf, boundRead};
 ghost use Rattle.lines.specs.declared.ItemLine.{ItemLine};
 
@@ -188,7 +188,7 @@ fn bound_of(k: usize, v: Ranged, next: usize) -> BoundRead
 // Item number and bound.
 fn bound_line(s: &[u8], at: usize, count: usize) -> TwoNumbers
     requires { ⌜ count ≤ 16 ⌝ }
-    ensures { λ r. ⌜ r ≡ numbersLine (record { lo = pos 1; hi = pos count }) prices (now (s .entry)) at ⌝ }
+    ensures { λ r. ⌜ r ≡ numbersLine (fromTo 1 count) prices (now (s .entry)) at ⌝ }
 {
     let numbers = Range {
         lo: 1,

@@ -1,7 +1,7 @@
 use denote.Ref.{now}
-use lib.IntN.{pos}
 use mir.Syntax.{w64}
 use mir.Val.{ofZ, toZ}
+use Rattle.lines.specs.Numbers.{fromTo}
 use Rattle.lines.specs.Lines.{numbersLine, prices}
 use Rattle.lines.specs.declared.number.Ranged.the-variants.{In}
 use Rattle.lines.specs.declared.TwoNumbers.the-variants.{Both}
@@ -41,7 +41,7 @@ back-z c = back _ (c .known-told2 .given .0 .1)
 -- the line that was read
 read : (c : tie.After-known-told2) →
     let k = c .before .before .before .before in
-    numbersLine (record { lo = pos 1; hi = pos (start c .args .count) }) prices (now (start c .args .s)) (start c .args .at)
+    numbersLine (fromTo 1 (start c .args .count)) prices (now (start c .args .s)) (start c .args .at)
     ≡ Both (In (c .before .f .given .0 .0)) (k .l .given .0 .1 .0) (k .l .given .0 .1 .1 .0)
 read c =
     let k = c .before .before .before .before in
