@@ -1,5 +1,6 @@
 -- A section of any form of line, both ways (specs/Sections.antt).
 -- no-refusal: a refusal is no acceptance. went, step-read: what an accepted step did. onward-keeps, step-keeps, lines-keep, section-keeps: what steps keep.
+-- section-before: a section is read where nothing was refused.
 --   Laws f Fits       what a form owes: a line that is read stands there and fits, and a line that stands there and fits is read
 --   Fitting I Fits    each line of a list fits where those before it have been read
 -- lines-read, section-read: what is accepted stands there, line by line. lines-back, section-back: what stands there is accepted.
@@ -13,6 +14,7 @@ use Rattle.knapsack.specs.declared.Refusal.{Refusal}
 use Rattle.knapsack.specs.declared.Verdict.{Verdict}
 use Rattle.knapsack.specs.declared.Verdict.the-variants.{Accepted, Refused}
 use Rattle.model.specs.declared.Model.{Model}
+use Rattle.lines.specs.declared.number.Range.{Range}
 use Rattle.lines.specs.declared.Count.{Count}
 use Rattle.lines.specs.declared.Count.the-variants.{Fault, Lines}
 use Rattle.lines.specs.Numbers.{fromTo}
@@ -98,6 +100,12 @@ section-keeps f P w a b m s p stop next first h = onward-keeps P p _ h (go (coun
     go (Fault n) e = stop _
     go (Lines n at) e = lines-keep f P n s _ stop next (first n at (count-parts w a b s (p .at) n at e .most))
 
+-- a section is read where nothing was refused before
+pub section-before : {A : Type 0} (f : LineForm A) (w : List ℕ) (r : Range) (m : ℕ → Model) (s : List ℕ) (p : Progress) →
+    sectionOf f w r m s p .verdict ≡ Accepted → p .verdict ≡ Accepted
+unfolding sectionOf
+section-before f w r m s p h = went p _ h .before
+
 -- ---- both ways
 
 pub record Laws {A : Type 0} (f : LineForm A) (Fits : Progress → A → Type 0) : Type 0 where
@@ -122,13 +130,12 @@ pub record Back {A : Type 0} (I : List A → Progress → Type 0) (s l : List �
   pub left : drop (q .at) s ≡ l
   pub holds : I vs q
 
--- a section that was read
-pub record SectionRead {A : Type 0} (f : LineForm A) (I : ℕ → List A → Progress → Type 0) (w s : List ℕ) (a b : ℕ) (p q : Progress) : Type 0 where
-  pub before : p .verdict ≡ Accepted
+-- a section that was read from the place at on, up to where q stands
+pub record SectionRead {A : Type 0} (f : LineForm A) (I : ℕ → List A → Progress → Type 0) (w s : List ℕ) (a b at : ℕ) (q : Progress) : Type 0 where
   pub values : List A
   pub least : a ≤ length values
   pub most : length values ≤ b
-  pub text : Has s (p .at) (sectionText f w values) (q .at)
+  pub text : Has s at (sectionText f w values) (q .at)
   pub holds : I (length values) values q
 
 module _ {A : Type 0} (f : LineForm A) (Fits : Progress → A → Type 0) (laws : Laws f Fits) (I : ℕ → List A → Progress → Type 0)
@@ -161,20 +168,19 @@ module _ {A : Type 0} (f : LineForm A) (Fits : Progress → A → Type 0) (laws 
 
   pub section-read : (w : List ℕ) (a b : ℕ) (m : ℕ → Model) (s : List ℕ) (p : Progress) → Bytes w →
       ((n at : ℕ) → a ≤ n → n ≤ b → I n [] (goesOn (m n) at 0)) → sectionOf f w (fromTo a b) m s p .verdict ≡ Accepted →
-      SectionRead f I w s a b p (sectionOf f w (fromTo a b) m s p)
+      SectionRead f I w s a b (p .at) (sectionOf f w (fromTo a b) m s p)
   unfolding sectionOf
-  section-read w a b m s p bytes first h = let g = went p _ h in rw (g .is) (go (countAt w (fromTo a b) s (p .at)) refl (g .before) (g .after))
+  section-read w a b m s p bytes first h = let g = went p _ h in rw (g .is) (go (countAt w (fromTo a b) s (p .at)) refl (g .after))
     where
-      go : (c : Count) → countAt w (fromTo a b) s (p .at) ≡ c → p .verdict ≡ Accepted →
+      go : (c : Count) → countAt w (fromTo a b) s (p .at) ≡ c →
           onCount c (λ n. refusedAt s n (p .at)) (λ n at. linesOf f n s (goesOn (m n) at 0)) .verdict ≡ Accepted →
-          SectionRead f I w s a b p (onCount c (λ n. refusedAt s n (p .at)) (λ n at. linesOf f n s (goesOn (m n) at 0)))
-      go (Fault n) e v h = no-refusal h
-      go (Lines n at) e v h =
+          SectionRead f I w s a b (p .at) (onCount c (λ n. refusedAt s n (p .at)) (λ n at. linesOf f n s (goesOn (m n) at 0)))
+      go (Fault n) e h = no-refusal h
+      go (Lines n at) e h =
           let c = count-parts w a b s (p .at) n at e in
           let r = lines-read n n s (goesOn (m n) at 0) (omega arith) (first n at (c .least) (c .most)) h in
           let many = r .many in
           record {
-            before = v;
             values = r .values;
             least = omega (arith, c .least);
             most = omega (arith, c .most);

@@ -1,0 +1,100 @@
+-- The printing of a record in range is shorter than a sheet may be: printing-short, by 1,163 bytes at most.
+use mathlib.Core.Path.{_≡_, refl}
+use mathlib.Core.Bool.{false}
+use mathlib.Core.List.{List, [], _∷_, _++_}
+use Prim.Native.Nat.{ℕ, zero, suc, _+_, _*_, _≤_, _<_}
+use native.Mathlib.Omega.{arith}
+use borrow.Author.Tests.{ltb-false}
+use lib.IntN.{ℤ, pos, natAbs}
+use lib.ListN.{length, length-append}
+use Rattle.arith.specs.Sum.{Each}
+use Rattle.knapsack.specs.declared.Bound.{Bound}
+use Rattle.knapsack.specs.declared.Bound.the-variants.{Absent, At}
+use Rattle.knapsack.specs.declared.Item.{Item}
+use Rattle.model.specs.declared.Model.{Model}
+use Rattle.model.specs.declared.Side.{Side}
+use Rattle.model.specs.declared.Side.the-variants.{Lower, Upper}
+use Rattle.model.specs.Records.{itemAt, outside, badBound, badFigure}
+use Rattle.model.proofs.Records.{Unfaulted}
+use Rattle.text.specs.Decimal.{integer}
+use Rattle.text.proofs.Decimals.{decimal-length, integer-length}
+use Rattle.lines.specs.Layout.{headingText, numbersText, itemText, Bounding, boundText}
+use Rattle.sheet.specs.Sections.{LineForm, linesText, sectionText}
+use Rattle.sheet.specs.Reading.{limit, items, wordOf, limitForm, itemForm, boundForm}
+use Rattle.sheet.specs.Printing.{upTo, boundAt, boundOnto, boundsUpTo, sideText, printing}
+use Rattle.sheet.proofs.Forms.{bare-of, fair-side}
+use Rattle.sheet.proofs.Filling.{upto-length, bounds-few}
+
+-- ---- lines
+
+number-short : (n : ℕ) (z : ℤ) → n < 1000000000 → outside n z ≡ false → length (integer z) ≤ 10
+number-short n z h e = integer-length 8 z (omega (arith, ltb-false n (natAbs z) e))
+
+heading-short : (w : List ℕ) (n : ℕ) → length w ≡ 5 → n ≤ 16 → length (headingText w n) ≤ 16
+heading-short w n e h = simp length-append (omega (arith, decimal-length 8 n (omega arith)))
+
+item-short : (i : Item) → badFigure i ≡ false → length (itemText i) ≤ 24
+item-short i h =
+    let b = bare-of i h in
+    let w = number-short 1000 (i .weight) (omega arith) (b .weight) in
+    let c = number-short 10000 (i .price) (omega arith) (b .price) in
+    simp length-append (omega arith)
+
+bound-short : (b : Bounding) → b .number ≤ 16 → outside 10000 (b .bound) ≡ false → length (boundText b) ≤ 22
+bound-short b h f =
+    let n = decimal-length 8 (b .number) (omega arith) in
+    let v = number-short 10000 (b .bound) (omega arith) f in
+    simp length-append (omega arith)
+
+-- ---- sections
+
+-- no line of the list is longer than c
+abbrev Short : {A : Type 0} → (A → List ℕ) → ℕ → List A → Type 0
+Short t c [] = Unit {0}
+Short t c (a ∷ vs) = (length (t a) ≤ c) × Short t c vs
+
+lines-short : {A : Type 0} (t : A → List ℕ) (c : ℕ) (vs : List A) → Short t c vs → length (linesText t vs) ≤ c * length vs
+unfolding linesText
+lines-short t c [] h = omega arith
+lines-short t c (a ∷ vs) h = simp length-append (omega (arith, lines-short t c vs (h .1), h .0))
+
+section-short : {A : Type 0} (f : LineForm A) (w : List ℕ) (c : ℕ) (vs : List A) → length w ≡ 5 → length vs ≤ 16 → Short (f .text) c vs →
+    length (sectionText f w vs) ≤ 16 + c * length vs
+section-short f w c vs e n h =
+    omega (arith, length-append (headingText w (length vs)) (linesText (f .text) vs), heading-short w (length vs) e n, lines-short (f .text) c vs h)
+
+items-short : (n : ℕ) (f : ℕ → Item) → Each n (λ k. badFigure (f k) ≡ false) → Short itemText 24 (upTo n f)
+unfolding upTo
+items-short zero f h = tt
+items-short (suc n) f h = (item-short (f n) (h n (omega arith)), items-short n f (λ k l. h k (omega arith)))
+
+bounds-short : (n : ℕ) (f : ℕ → Bound) → n ≤ 16 → Each n (λ k. badBound (f k) ≡ false) → Short boundText 22 (boundsUpTo n f)
+unfolding boundsUpTo
+bounds-short zero f l h = tt
+bounds-short (suc n) f l h = go (f n) (h n (omega arith)) (bounds-short n f (omega arith) (λ k l. h k (omega arith)))
+  where
+    go : (b : Bound) → badBound b ≡ false → Short boundText 22 (boundsUpTo n f) → Short boundText 22 (boundOnto (suc n) b (boundsUpTo n f))
+    go Absent e ih = ih
+    go (At v) e ih = (bound-short (record { number = suc n; bound = v }) l e, ih)
+
+side-short : (side : Side) (m : Model) → Unfaulted m → length (sideText side m) ≤ 368
+side-short side m r =
+    let few = bounds-few (m .count) (boundAt side m) in
+    let short = bounds-short (m .count) (boundAt side m) (r .most) (λ k l. fair-side side (itemAt m k) (r .figures k l)) in
+    let s = section-short (boundForm side) (wordOf side) 22 (boundsUpTo (m .count) (boundAt side m)) (five side) (omega (arith, r .most)) short in
+    omega (arith, r .most)
+  where
+    five : (side : Side) → length (wordOf side) ≡ 5
+    five Lower = refl
+    five Upper = refl
+
+pub printing-short : (m : Model) → Unfaulted m → length (printing m) ≤ 1163
+unfolding printing
+printing-short m r =
+    let b = number-short 100000000 (m .capacity) (omega arith) (r .capacity) in
+    let one : length (integer (m .capacity) ++ (10 ∷ [])) ≤ 11 = simp length-append (omega arith) in
+    let l = section-short limitForm limit 11 (m .capacity ∷ []) refl (omega arith) (one, tt) in
+    let few = upto-length (m .count) (itemAt m) in
+    let short = items-short (m .count) (itemAt m) (r .figures) in
+    let i = section-short itemForm items 24 (upTo (m .count) (itemAt m)) refl (omega (arith, r .most)) short in
+    simp length-append (omega (arith, simp length-append at l, simp length-append at i, simp length-append at (side-short Lower m r), simp length-append at (side-short Upper m r), r .most))
