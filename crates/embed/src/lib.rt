@@ -2,13 +2,13 @@
 // takes. bench/charge.h declares them. Paper 01, "The sheet" and "What `charge` prints". Nothing is asked of a caller but that each
 // pointer has as many bytes behind it as the length beside it says.
 use knapsack::Verdict;
-use text::Listed;
-use text::ROOM;
-use text::hand_over;
 use planner::solve;
 use replies::reply_to;
 use sheet::Reading;
 use sheet::read;
+use text::Listed;
+use text::ROOM;
+use text::hand_over;
 ghost use mathlib.Core.Path.{_≡_};
 ghost use Rattle.knapsack.specs.declared.Verdict.the-variants.{Accepted};
 ghost use Rattle.knapsack.specs.Ranges.{InRange};

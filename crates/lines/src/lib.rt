@@ -4,8 +4,8 @@ pub mod scan; // places, words, line ends; the part that holds a line
 pub mod number; // numbers of any length
 
 use crate::number::Field;
-use crate::number::Ranged;
 use crate::number::Range;
+use crate::number::Ranged;
 use crate::scan::Place;
 use knapsack::Bound;
 use knapsack::Item;

@@ -4,14 +4,14 @@ use knapsack::Answer;
 use knapsack::Kind;
 use knapsack::Problem;
 use knapsack::Verdict;
-use text::Listed;
-use text::Text;
 use listing::list_reply;
 use listing::text_of;
 use planner::no_point;
 use planner::plan;
 use sheet::Reading;
 use sheet::read;
+use text::Listed;
+use text::Text;
 ghost use Rattle.replies.specs.Replies.{Answered, Replies, Lists};
 
 // The answer of what was read.

@@ -4,3 +4,4 @@ pub mod Filling
 pub mod Steps
 pub mod Crossings
 pub mod Lengths
+pub mod Sheets

@@ -259,7 +259,11 @@ fn end_of_sheet(s: &[u8], p: Progress) -> Progress
         Verdict::Refused(_) => p,
         Verdict::Accepted => {
             let at = p.at;
-            if at < s.len() { refused(s, refusals::FORM, at) } else { p }
+            if at < s.len() {
+                refused(s, refusals::FORM, at)
+            } else {
+                p
+            }
         }
     }
 }
