@@ -22,6 +22,7 @@ ghost use Rattle.model.specs.Records.{
   faulty,
   someItem,
   held,
+  refusalOf,
   refusedIf,
   orElse,
   countVerdict,
@@ -153,11 +154,18 @@ fn some_faulty(m: Model, f: Fault) -> bool
 
 // ---- verdicts: a row of the refusals is one function
 
+// No sheet was read, so there is no line.
+pub fn refusal_of(number: u64) -> Refusal
+    ensures { λ r. ⌜ r ≡ refusalOf number ⌝ }
+{
+    Refusal { number, line: 0 }
+}
+
 fn refused_if(test: bool, number: u64) -> Verdict
     ensures { λ r. ⌜ r ≡ refusedIf test number ⌝ }
 {
     if test {
-        return Verdict::Refused(Refusal { number, line: 0 });
+        return Verdict::Refused(refusal_of(number));
     }
     Verdict::Accepted
 }

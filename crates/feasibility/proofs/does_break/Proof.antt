@@ -5,7 +5,7 @@ use mir.Val.{SFits}
 use mir.Facts.{toZ-ofZ}
 use borrow.Author.Needs.{needs}
 use Rattle.feasibility.specs.Check.{breaksBound, breaks}
-use Rattle.feasibility.specs.declared.Side.the-variants.{Lower}
+use Rattle.model.specs.declared.Side.the-variants.{Lower}
 use Rattle.feasibility.proofs.does_break.Statement.{statement}
 use Rattle.feasibility.proofs.does_break.Tie as tie
 

@@ -4,15 +4,15 @@ use Prim.Native.Nat.{ℕ, zero, suc}
 use native.Mathlib.Numerals.{add-one}
 use native.Mathlib.Omega.{arith}
 use borrow.Author.Needs.{needs}
-use Rattle.feasibility.specs.Check.{orElse, numbered}
+use Rattle.feasibility.specs.Check.{earlierOf, numbered}
 use Rattle.feasibility.proofs.earlier.Statement.{statement}
 use Rattle.feasibility.proofs.earlier.Tie as tie
 
-none-yet : (m n : ℕ) → m ≡ 0 → orElse m n ≡ n
+none-yet : (m n : ℕ) → m ≡ 0 → earlierOf m n ≡ n
 none-yet zero n e = refl
 none-yet (suc m) n e = absurd (omega arith)
 
-stays : (m n : ℕ) → (m ≡ 0 → ⊥) → orElse m n ≡ m
+stays : (m n : ℕ) → (m ≡ 0 → ⊥) → earlierOf m n ≡ m
 stays zero n h = absurd (h refl)
 stays (suc m) n h = refl
 
