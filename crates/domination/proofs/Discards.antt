@@ -25,7 +25,7 @@ use Rattle.arith.proofs.Parts.{lt-le}
 use Rattle.arith.proofs.Sums.{bump-same, bump-other}
 use Rattle.knapsack.specs.declared.Item.{Item}
 use Rattle.knapsack.specs.declared.Problem.{Problem}
-use Rattle.knapsack.specs.Ranges.{itemAt}
+use Rattle.knapsack.specs.Ranges.{itemAt, InRange}
 use Rattle.knapsack.specs.Meaning.{Instance, instanceOf, Point, Keeps, weights, prices, Optimal, CostPair, EqualPair}
 use Rattle.knapsack.proofs.Common.{Keepsᴰ, weighsᴰ, valueᴰ, Feasibleᴰ}
 use Rattle.knapsack.proofs.Bridge.{over-lower, over-upper, Reads, bridge-feasible, bridge-value}
@@ -119,10 +119,11 @@ cost-not-optimal s x i j r t l m ne c ki kj =
       second-within = within-over (z .D) (x j) (z .N j) t (s .item j) (z .D≥1) (z .reads j m) kj;
     }) c (z .D≥1) x (z .reads)
 
--- an entry of the table discards
-pub tabled-not-optimal : (p : Problem) (i j : ℕ) (r t : ℤ) → tabled p i j ≡ Steps r t → (x : Point) → Keeps (itemAt p i) (x i +ᶠ int (negℤ r)) → Keeps (itemAt p j) (x j +ᶠ int (negℤ t)) → ¬ Optimal (instanceOf p) x
-tabled-not-optimal p i j r t e x ki kj =
-    let a = tabled-steps r t p i j e in
+-- End theorem: an entry of the table discards.
+pub tabled-not-optimal : (p : Problem) → InRange p → (i j : ℕ) (r t : ℤ) → tabled p i j ≡ Steps r t → (x : Point) →
+    Keeps (itemAt p i) (x i +ᶠ int (negℤ r)) → Keeps (itemAt p j) (x j +ᶠ int (negℤ t)) → ¬ Optimal (instanceOf p) x
+tabled-not-optimal p range i j r t e x ki kj =
+    let a = tabled-steps r t p range i j e in
     cost-not-optimal (instanceOf p) x i j r t (a .first-place) (a .second-place) (λ n. a .different (sym n)) (a .pair) ki kj
 
 -- ---- which of two points of equal value comes first

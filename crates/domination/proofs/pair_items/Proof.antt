@@ -3,17 +3,18 @@ use mathlib.Core.Path.{_≡_, sym, _∙_}
 use mathlib.Core.Logic.{⊎-elim}
 use mathlib.Core.Bool.{true, false}
 use Rattle.knapsack.specs.declared.Item.{Item}
-use Rattle.domination.specs.Pairs.{eligible, refuse, paired}
+use Rattle.model.specs.Refusals.{pair-items}
+use Rattle.domination.specs.Pairs.{eligible, refusePair, paired}
 use Rattle.domination.proofs.Eligible.{eligible-iff}
 use borrow.Author.Needs.{needs}
 use Rattle.domination.proofs.pair_items.Statement.{statement}
 use Rattle.domination.proofs.pair_items.Tie as tie
 
-first-fails : (x y : Item) → eligible x ≡ false → refuse 10 ≡ paired x y
+first-fails : (x y : Item) → eligible x ≡ false → refusePair pair-items ≡ paired x y
 unfolding paired
 first-fails x y p = rw p
 
-second-fails : (x y : Item) → eligible x ≡ true → eligible y ≡ false → refuse 10 ≡ paired x y
+second-fails : (x y : Item) → eligible x ≡ true → eligible y ≡ false → refusePair pair-items ≡ paired x y
 unfolding paired
 second-fails x y p q = rw (p, q)
 
@@ -37,13 +38,13 @@ returns c =
     let q = sym (c .before .before .is-eligible2 .ensures) ∙ c .before .if2 .taken in
     rw (p, q, c .pair-of .ensures)
 
-refusal-requires : tie.Need-refusal-requires
-refusal-requires c κs = search needs
+refused-requires : tie.Need-refused-requires
+refused-requires c κs = search needs
 
 returns-2 : tie.Need-returns-2
 returns-2 c =
     let e = sym (c .before .before .is-eligible .ensures) in
-    c .refusal .ensures ∙ ⊎-elim (λ w. second-fails _ _ (e ∙ w .0 .taken) (sym (w .1 .ensures) ∙ w .2 .left)) (λ w. first-fails _ _ (e ∙ w .left)) (c .before .if1 .came)
+    c .refused .ensures ∙ ⊎-elim (λ w. second-fails _ _ (e ∙ w .0 .taken) (sym (w .1 .ensures) ∙ w .2 .left)) (λ w. first-fails _ _ (e ∙ w .left)) (c .before .if1 .came)
 
 pub pair-items-spec : {M : Type 1} → statement M
 pair-items-spec =
@@ -53,5 +54,5 @@ pair-items-spec =
     is-eligible-requires-2
     pair-of-requires
     returns
-    refusal-requires
+    refused-requires
     returns-2)
