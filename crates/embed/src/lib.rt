@@ -5,6 +5,7 @@ use knapsack::Verdict;
 use listing::Listed;
 use listing::ROOM;
 use listing::hand_over;
+use model::plain_of;
 use planner::solve;
 use replies::reply_to;
 use sheet::Reading;
@@ -12,6 +13,7 @@ use sheet::read;
 ghost use mathlib.Core.Path.{_≡_};
 ghost use Rattle.knapsack.specs.declared.Verdict.the-variants.{Accepted};
 ghost use Rattle.knapsack.specs.Ranges.{InRange};
+ghost use Rattle.model.specs.Records.{plainOf};
 ghost use Rattle.sheet.specs.Reading.{readSheet};
 ghost use Rattle.embed.specs.Entries.{numberOf, lineOf, lengthOf, Plans, Steps};
 
@@ -47,14 +49,14 @@ fn length_of(w: Listed) -> usize
 
 // The steps of the search for what was read.
 fn steps_of(r: Reading) -> u64
-    requires { ⌜ (r .verdict ≡ Accepted → InRange (r .problem)) ⌝ }
+    requires { ⌜ (r .verdict ≡ Accepted → InRange (plainOf (r .model))) ⌝ }
     ensures { λ n. ⌜ Steps r n ⌝ }
 {
     let v = r.verdict;
-    let p = r.problem;
+    let m = r.model;
     match v {
         Verdict::Accepted => {
-            let q = solve(p);
+            let q = solve(plain_of(m));
             q.steps
         }
         Verdict::Refused(_) => 0,

@@ -6,7 +6,7 @@ use feasibility::check_point;
 use knapsack::Bound;
 use knapsack::Item;
 use knapsack::Mark;
-use knapsack::Problem;
+use model::Model;
 use trials::count::one_more;
 use trials::count::print_count;
 use trials::draw::Spans;
@@ -25,7 +25,7 @@ ghost use mathlib.Core.Path.{_≡_};
 ghost use Prim.Native.Nat.{_≤_};
 ghost use lib.IntN.{pos, natAbs};
 ghost use lib.Signed.{_≤ℤ_};
-ghost use Rattle.knapsack.specs.Ranges.{outside};
+ghost use Rattle.model.specs.Records.{outside};
 
 // ---- what is drawn
 
@@ -279,7 +279,7 @@ fn with_item(s: Sums, k: usize, i: Item, x: Fraction, divisor: u64) -> Sums {
     }
 }
 
-fn sums_of(p: Problem, c: Candidate, n: usize, divisor: u64) -> Sums
+fn sums_of(p: Model, c: Candidate, n: usize, divisor: u64) -> Sums
     requires { ⌜ n ≤ 15 ⌝ }
 {
     let items = p.items;
@@ -323,12 +323,12 @@ fn is_value(v: Fraction, value: i64, divisor: u64) -> bool {
     product(as_signed(divisor), v.p) == product(as_signed(v.q), value)
 }
 
-fn is_over(p: Problem, s: Sums, divisor: u64) -> bool {
+fn is_over(p: Model, s: Sums, divisor: u64) -> bool {
     times(p.capacity, as_signed(divisor)) < s.weight
 }
 
 // The reply to a point that is not refused.
-fn is_told(r: PointReply, p: Problem, s: Sums, divisor: u64) -> bool {
+fn is_told(r: PointReply, p: Model, s: Sums, divisor: u64) -> bool {
     let over = is_over(p, s, divisor);
     match r {
         PointReply::Refused(_) => false,
@@ -351,7 +351,7 @@ fn is_refused(r: PointReply, number: u64) -> bool {
     }
 }
 
-fn agrees(r: PointReply, p: Problem, c: Candidate, n: usize) -> bool
+fn agrees(r: PointReply, p: Model, c: Candidate, n: usize) -> bool
     requires { ⌜ n ≤ 15 ⌝ }
 {
     let h = shape_of(c, n);
@@ -403,7 +403,7 @@ fn print_amount(x: Fraction) {
     print_number(x.q);
 }
 
-fn print_wrong(p: Problem, c: Candidate, n: usize)
+fn print_wrong(p: Model, c: Candidate, n: usize)
     requires { ⌜ n ≤ 15 ⌝ }
 {
     print(b"disagreement: ");
@@ -419,7 +419,7 @@ fn print_wrong(p: Problem, c: Candidate, n: usize)
     print(b"\n");
 }
 
-fn tried(t: Tally, p: Problem, c: Candidate, n: usize) -> Tally
+fn tried(t: Tally, p: Model, c: Candidate, n: usize) -> Tally
     requires { ⌜ n ≤ 15 ⌝ }
 {
     let r = check_point(p, c);

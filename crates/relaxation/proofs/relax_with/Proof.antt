@@ -1,5 +1,5 @@
 -- `relax_with` meets its contract: a walk of its MIR, by hand, with two loops. The borrow is opened once: the first loop copies the items
--- into a problem, the core answers it and puts its items in order, and the second loop stores them back; then the borrow is closed.
+-- into a record, the core answers it and puts its items in order, and the second loop stores them back; then the borrow is closed.
 use mathlib.Core.Path.{_≡_, refl, sym, ap, subst, _∙_}
 use mathlib.Core.Bool.{Bool}
 use mathlib.Core.WellFounded.{WellFounded, InvImage·wf}
@@ -55,18 +55,18 @@ use denote.Triple.Walked.{says, Stays, stay-none, stay-slice, walkOf, goes-none,
 use denote.Signature.{plain}
 use Rattle.knapsack.specs.declared.Answer.{Answer}
 use Rattle.knapsack.specs.declared.Item.{Item}
-use Rattle.knapsack.specs.declared.Problem.{Problem}
+use Rattle.model.specs.declared.Model.{Model}
 use Rattle.knapsack.specs.Ranges.{blank, itemAt}
 use Rattle.knapsack.proofs.Answer as Q
 use Rattle.knapsack.proofs.Answer.Laws as Q′
 use Rattle.knapsack.proofs.Item as T
 use Rattle.knapsack.proofs.Item.Laws as T′
-use Rattle.knapsack.proofs.Problem as P
-use Rattle.knapsack.proofs.Problem.Laws as P′
+use Rattle.model.proofs.Model as P
+use Rattle.model.proofs.Model.Laws as P′
 use Rattle.ordering.proofs.Lists.{store-more, store-length}
 use Rattle.relaxation.specs.declared.Outcome.{Outcome}
-use Rattle.knapsack.specs.Items.{withItem}
-use Rattle.relaxation.specs.Lent.{usable, loaded, problemOf, after, settled, Settles, Relaxes}
+use Rattle.model.specs.Setters.{withItem}
+use Rattle.relaxation.specs.Lent.{usable, loaded, modelOf, after, settled, Settles, Relaxes}
 use Rattle.relaxation.proofs.Lent.{load-more, load-all, settled-length, stored, after-length}
 use Rattle.relaxation.proofs.Calls.{asks}
 use Rattle.relaxation.proofs.Outcome as O
@@ -79,10 +79,10 @@ use Rattle.relaxation.proofs.opened as opened′
 use Rattle.relaxation.proofs.opened.Symbol as opened-def
 use Rattle.relaxation.proofs.opened.Symbol.{name as #opened}
 use Rattle.relaxation.proofs.opened.Met as opened-thm
-use Rattle.relaxation.proofs.with as with′
-use Rattle.relaxation.proofs.with.Symbol as with-def
-use Rattle.relaxation.proofs.with.Symbol.{name as #with}
-use Rattle.relaxation.proofs.with.Met as with-thm
+use Rattle.model.proofs.setters.with_item as with′
+use Rattle.model.proofs.setters.with_item.Symbol as with-def
+use Rattle.model.proofs.setters.with_item.Symbol.{name as #with}
+use Rattle.model.proofs.setters.with_item.Met as with-thm
 use Rattle.relaxation.proofs.core as core′
 use Rattle.relaxation.proofs.core.Symbol as core-def
 use Rattle.relaxation.proofs.core.Symbol.{name as #core}
@@ -140,13 +140,13 @@ module _ {M : Type 1} (𝓤 : URA M) (H : Heap 𝓤) (A : Atoms 𝓤) (mem : Mem
   usable-of : (m r : ℕ) → ent 𝓤 (ensured 𝓤 H A usable′.ended (usable′.clauses 𝓤 H A mem run) tt (m, tt) tt r) (fact 𝓤 (r ≡ usable m))
   usable-of m r = exE 𝓤 _ (λ ws. snd∗ 𝓤 (sem 𝓤 H A (lasts usable′.ended tt (m, tt) ws)) (fact 𝓤 (r ≡ usable m)))
 
-  opened-of : (c : ℤ) (m : ℕ) (r : Problem) → ent 𝓤 (ensured 𝓤 H A opened′.ended (opened′.clauses 𝓤 H A mem run) tt (c, (m, tt)) tt r) (fact 𝓤 (r ≡ loaded c m []))
+  opened-of : (c : ℤ) (m : ℕ) (r : Model) → ent 𝓤 (ensured 𝓤 H A opened′.ended (opened′.clauses 𝓤 H A mem run) tt (c, (m, tt)) tt r) (fact 𝓤 (r ≡ loaded c m []))
   opened-of c m r = exE 𝓤 _ (λ ws. snd∗ 𝓤 (sem 𝓤 H A (lasts opened′.ended tt (c, (m, tt)) ws)) (fact 𝓤 (r ≡ loaded c m [])))
 
-  with-of : (p : Problem) (i : ℕ) (x : Item) (r : Problem) → ent 𝓤 (ensured 𝓤 H A with′.ended (with′.clauses 𝓤 H A mem run) tt (p, (i, (x, tt))) tt r) (fact 𝓤 (r ≡ withItem p i x))
+  with-of : (p : Model) (i : ℕ) (x : Item) (r : Model) → ent 𝓤 (ensured 𝓤 H A with′.ended (with′.clauses 𝓤 H A mem run) tt (p, (i, (x, tt))) tt r) (fact 𝓤 (r ≡ withItem p i x))
   with-of p i x r = exE 𝓤 _ (λ ws. snd∗ 𝓤 (sem 𝓤 H A (lasts with′.ended tt (p, (i, (x, tt))) ws)) (fact 𝓤 (r ≡ withItem p i x)))
 
-  core-of : (p : Problem) (r : Outcome) → ent 𝓤 (ensured 𝓤 H A core′.ended (core′.clauses 𝓤 H A mem run) tt (p, tt) tt r) (fact 𝓤 (Settles p r))
+  core-of : (p : Model) (r : Outcome) → ent 𝓤 (ensured 𝓤 H A core′.ended (core′.clauses 𝓤 H A mem run) tt (p, tt) tt r) (fact 𝓤 (Settles p r))
   core-of p r = exE 𝓤 _ (λ ws. snd∗ 𝓤 (sem 𝓤 H A (lasts core′.ended tt (p, tt) ws)) (fact 𝓤 (Settles p r)))
 
   nth-of : (o : Outcome) (i : ℕ) (r : Item) → ent 𝓤 (ensured 𝓤 H A nth′.ended (nth′.clauses 𝓤 H A mem run) tt (o, (i, tt)) tt r) (fact 𝓤 (r ≡ itemAt (o .problem) i))
@@ -158,7 +158,7 @@ module _ {M : Type 1} (𝓤 : URA M) (H : Heap 𝓤) (A : Atoms 𝓤) (mem : Mem
 -- ---- where the first loop stands
 record Loading (c : ℤ) (ys : List Item) : Type 0 where
   i : ℕ
-  p : Problem
+  p : Model
   v : Val
   is : Is P.the-row p (v ∷ [])
   le : i ≤ usable (length ys)
@@ -178,7 +178,7 @@ module _ {M : Type 1} (𝓤 : URA M) (H : Heap 𝓤) (A : Atoms 𝓤) (W : Given
   zs = after c ys
 
   abbrev os : List Item
-  os = settled (problemOf c ys) .items
+  os = settled (modelOf c ys) .items
 
   abbrev x : List Item → RefT (List Item)
   x l = record { ptr = (b, o); name = γ; now = l }
@@ -207,12 +207,12 @@ module _ {M : Type 1} (𝓤 : URA M) (H : Heap 𝓤) (A : Atoms 𝓤) (W : Given
       qed W (‵ ftrue ∷ []) ∵ nothing ! $ owned ! usize (Is usize) (uint-makes 𝓤 H A W w64) len _ (refl, room .0) $ fjoin ! $ owned ! i64 (Is i64) (sint-makes 𝓤 H A W w64) c _ (refl, c-fits) $ fjoin ! $
       move ! (1 ∷ 0 ∷ []) $ join ! $ frame ! $ done !
 
-  goes-with : (p : Problem) (v : Val) (i : ℕ) (y : Item) → Is P.the-row p (v ∷ []) → Is R y (val y ∷ []) → i < n → ent 𝓤 (sem 𝓤 H A ftrue) (With 𝓤 H A mem run .pre ((tt, tt, tt, (p, (i, (y, tt))), (v ∷ [], (vint w64 i ∷ [], (val y ∷ [], tt)))), tt))
+  goes-with : (p : Model) (v : Val) (i : ℕ) (y : Item) → Is P.the-row p (v ∷ []) → Is R y (val y ∷ []) → i < n → ent 𝓤 (sem 𝓤 H A ftrue) (With 𝓤 H A mem run .pre ((tt, tt, tt, (p, (i, (y, tt))), (v ∷ [], (vint w64 i ∷ [], (val y ∷ [], tt)))), tt))
   goes-with p v i y gp gy h =
       qed W (‵ ftrue ∷ []) ∵ says ! (omega arith) $ frame ! $ nothing ! $ owned ! R (Is R) (LL.makes T.the-type T′.the-plain 𝓤 H A) y _ gy $ fjoin ! $ owned ! usize (Is usize) (uint-makes 𝓤 H A W w64) i _ (refl, omega arith) $ fjoin ! $
       owned ! P.the-row (Is P.the-row) (LL.makes P.the-type P′.the-plain 𝓤 H A) p _ gp $ fjoin ! $ done !
 
-  goes-core : (p : Problem) (v : Val) → Is P.the-row p (v ∷ []) → ent 𝓤 (sem 𝓤 H A ftrue) (Core 𝓤 H A mem run .pre ((tt, tt, tt, (p, tt), (v ∷ [], tt)), tt))
+  goes-core : (p : Model) (v : Val) → Is P.the-row p (v ∷ []) → ent 𝓤 (sem 𝓤 H A ftrue) (Core 𝓤 H A mem run .pre ((tt, tt, tt, (p, tt), (v ∷ [], tt)), tt))
   goes-core p v gp =
       qed W (‵ ftrue ∷ []) ∵ nothing ! $ owned ! P.the-row (Is P.the-row) (LL.makes P.the-type P′.the-plain 𝓤 H A) p _ gp $ fjoin ! $ move ! (1 ∷ 0 ∷ []) $ join ! $ frame ! $ done !
 
@@ -280,7 +280,7 @@ module _ {M : Type 1} (𝓤 : URA M) (H : Heap 𝓤) (A : Atoms 𝓤) (W : Given
       next-fits i h = omega arith
 
       -- ---- the second loop
-      module _ (a : Outcome) (w : Val) (ga : Is O.the-row a (w ∷ [])) (does : Settles (problemOf c ys) a) where
+      module _ (a : Outcome) (w : Val) (ga : Is O.the-row a (w ∷ [])) (does : Settles (modelOf c ys) a) where
         abbrev part : ℕ → List Item
         part j = take j os ++ dropList j ys
 
@@ -356,7 +356,7 @@ module _ {M : Type 1} (𝓤 : URA M) (H : Heap 𝓤) (A : Atoms 𝓤) (W : Given
             (loop-rule 𝓤 H (W .laws) 𝓣 _<_ (Nat·lt-wfRel .wf) En mir′.turn-2 Left2 I2 turn2 n)
 
       -- ---- the first loop
-      more1 : (u : Loading c ys) → u .i < n → (X : SProp 𝓤) → ((r : Problem) (w : Val) → Is P.the-row r (w ∷ []) → r ≡ withItem (u .p) (u .i) (getD ys (u .i) blank) → ent 𝓤 (⋆ 𝓤 H A (At1 (u .i + 1) w)) X)
+      more1 : (u : Loading c ys) → u .i < n → (X : SProp 𝓤) → ((r : Model) (w : Val) → Is P.the-row r (w ∷ []) → r ≡ withItem (u .p) (u .i) (getD ys (u .i) blank) → ent 𝓤 (⋆ 𝓤 H A (At1 (u .i + 1) w)) X)
           → ent 𝓤 (⋆ 𝓤 H A (At1 (u .i) (u .v))) (Wp 𝓤 H C Λ En mir′.turn-1 (afterTurn 𝓤 H X Left1))
       unfolding afterTurn
       more1 u h X k =
@@ -502,7 +502,7 @@ relax-with-spec 𝓤 H 𝓜 𝓖 𝓡 =
     (relax-meets 𝓤 H (𝓖 .A) (givenOf 𝓤 H 𝓜 𝓖) (𝓜 .mem) (𝓡 .run) (tablesOf 𝓤 H 𝓜 (tables 𝓤 H 𝓜 𝓡 code.env))
     (cited 𝓤 H (Usable 𝓤 H (𝓖 .A) (𝓜 .mem) (𝓡 .run)) 𝓜 𝓡 code.env #usable-of usable-def.routine code.calls-relaxation·usable-of (usable-thm.met 𝓤 H 𝓜 𝓖 𝓡))
     (cited 𝓤 H (Opened 𝓤 H (𝓖 .A) (𝓜 .mem) (𝓡 .run)) 𝓜 𝓡 code.env #opened opened-def.routine code.calls-relaxation·opened (opened-thm.met 𝓤 H 𝓜 𝓖 𝓡))
-    (cited 𝓤 H (With 𝓤 H (𝓖 .A) (𝓜 .mem) (𝓡 .run)) 𝓜 𝓡 code.env #with with-def.routine code.calls-relaxation·with (with-thm.met 𝓤 H 𝓜 𝓖 𝓡))
+    (cited 𝓤 H (With 𝓤 H (𝓖 .A) (𝓜 .mem) (𝓡 .run)) 𝓜 𝓡 code.env #with with-def.routine code.calls-model·setters·with-item (with-thm.met 𝓤 H 𝓜 𝓖 𝓡))
     (cited 𝓤 H (Core 𝓤 H (𝓖 .A) (𝓜 .mem) (𝓡 .run)) 𝓜 𝓡 code.env #core core-def.routine code.calls-relaxation·core (core-thm.met 𝓤 H 𝓜 𝓖 𝓡))
     (cited 𝓤 H (Nth 𝓤 H (𝓖 .A) (𝓜 .mem) (𝓡 .run)) 𝓜 𝓡 code.env #nth nth-def.routine code.calls-relaxation·nth (nth-thm.met 𝓤 H 𝓜 𝓖 𝓡))
     (cited 𝓤 H (AnswerOf 𝓤 H (𝓖 .A) (𝓜 .mem) (𝓡 .run)) 𝓜 𝓡 code.env #answer-of answer-def.routine code.calls-relaxation·answer-of (answer-thm.met 𝓤 H 𝓜 𝓖 𝓡)))
