@@ -1,9 +1,10 @@
 -- `relaxation::core` meets its contract.
-use mathlib.Core.Path.{_≡_, sym, _∙_, subst}
+use mathlib.Core.Path.{_≡_, sym, ap, _∙_, subst}
 use borrow.Author.Needs.{needs}
 use Rattle.knapsack.specs.Meaning.{instanceOf, relaxed, Answers}
 use Rattle.knapsack.specs.Ranges.{InRange}
 use Rattle.knapsack.specs.declared.Verdict.the-variants.{Accepted}
+use Rattle.model.specs.declared.Model.{Model}
 use Rattle.model.specs.Promises.{RepliesAs}
 use Rattle.model.specs.Records.{plainOf, verdict}
 use Rattle.model.proofs.Records.{plain-in-range}
@@ -22,11 +23,21 @@ check-model-requires c κs = search needs
 enum-told : tie.Need-enum-told
 enum-told c = search needs
 
+abbrev asked : tie.After-check-model → Model
+asked k = k .before .before .args .m
+
+-- the record is accepted, so its plain problem is in range
+taken : (t : tie.After-enum-told) → verdict (asked (t .before .before)) ≡ Accepted
+taken t = sym (t .before .before .check-model .ensures) ∙ t .enum-told .given .1
+
+ranged : (t : tie.After-enum-told) → InRange (t .before .before .before .plain-of .result)
+ranged t = rw (t .before .before .before .plain-of .ensures) (plain-in-range _ (taken t))
+
 relaxed-answer-requires : tie.Need-relaxed-answer-requires
-relaxed-answer-requires c κs = ?
+relaxed-answer-requires c κs = ranged c
 
 arrange-requires : tie.Need-arrange-requires
-arrange-requires c κs = ?
+arrange-requires c κs = in-range-ranged _ (ranged (c .before))
 
 enum-known-v : tie.Need-enum-known-v
 enum-known-v c = search needs
@@ -35,10 +46,27 @@ no-point-requires : tie.Need-no-point-requires
 no-point-requires c κs = search needs
 
 returns : tie.Need-returns
-returns c = ?
+returns c =
+    let a = c .before in
+    let k = a .before .before .before in
+    let m = asked k in
+    let plain = k .before .plain-of .ensures in
+    let answers : Answers (relaxed (instanceOf (plainOf m))) (a .relaxed-answer .result) = rw plain at (a .relaxed-answer .ensures) in
+    record {
+      reply = subst (RepliesAs (relaxed (instanceOf (plainOf m))) (a .relaxed-answer .result)) (sym (taken (a .before))) answers;
+      problem = c .arrange .ensures ∙ ap arranged plain ∙ sym (settled-accepted m (taken (a .before)));
+    }
 
 returns-2 : tie.Need-returns-2
-returns-2 c = ?
+returns-2 c =
+    let v = c .before .before in
+    let k = v .before .before in
+    let m = asked k in
+    let is = sym (k .check-model .ensures) ∙ v .v .given .1 in
+    record {
+      reply = subst (RepliesAs (relaxed (instanceOf (plainOf m))) (c .no-point .result)) (sym is) (c .no-point .ensures);
+      problem = k .before .plain-of .ensures ∙ sym (settled-refused m _ is);
+    }
 
 pub core-spec : {M : Type 1} → statement M
 core-spec =
