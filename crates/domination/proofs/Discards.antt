@@ -54,7 +54,8 @@ module _ (s : Instance) (D : ℕ) (N : ℕ → ℤ) (i j : ℕ) (r t : ℤ) (h :
   N′ = without D N i r j t
 
   keeps-without : Each (s .count) (λ k. Keepsᴰ D (s .item k) (N k)) → Each (s .count) (λ k. Keepsᴰ D (s .item k) (N′ k))
-  keeps-without p = keeps-shift s D N i j (negℤ r) (negℤ t) (h .first-in) (h .second-in) (h .different) p (rw (away D (N i) r) at (h .first-within)) (rw (away D (N j) t) at (h .second-within))
+  keeps-without p = keeps-shift s D N i j (negℤ r) (negℤ t) (h .first-in) (h .second-in) (h .different) p (rw (away D (N i) r) at (h .first-within))
+      (rw (away D (N j) t) at (h .second-within))
 
   -- a weighted sum falls by what the steps weigh
   sum-without : (a : ℕ → ℤ) → sum (s .count) (λ k. a k *ℤ N′ k) ≡ sum (s .count) (λ k. a k *ℤ N k) -ℤ (a i *ℤ r +ℤ a j *ℤ t) *ℤ pos D
@@ -67,7 +68,8 @@ module _ (s : Instance) (D : ℕ) (N : ℕ → ℤ) (i j : ℕ) (r t : ℤ) (h :
   cost-discard c p = (
     record {
       keeps = keeps-without (p .keeps);
-      fits = rw (sum-without (weights s)) (lighter (weighsᴰ s N) (s .capacity *ℤ pos D) (s .item i .weight *ℤ r +ℤ s .item j .weight *ℤ t) (p .fits) (c .heavy));
+      fits = rw (sum-without (weights s)) (lighter (weighsᴰ s N) (s .capacity *ℤ pos D) (s .item i .weight *ℤ r +ℤ s .item j .weight *ℤ t) (p .fits)
+          (c .heavy));
     },
     rw (sum-without (prices s)) (more (valueᴰ s N) (s .item i .price *ℤ r +ℤ s .item j .price *ℤ t) (c .loss)),
   )
@@ -132,6 +134,7 @@ pub record ComesFirst (N M : ℕ → ℤ) (f : ℕ) : Type 0 where
   pub before : (k : ℕ) → k < f → N k ≡ M k
   pub less : N f <ℤ M f
 
+-- End theorem: a point without an equal-value pair's steps comes first, if the first step is above zero.
 pub equal-first : (D : ℕ) (N : ℕ → ℤ) (i j : ℕ) (r t : ℤ) → 1 ≤ D → i < j → pos 0 <ℤ r → ComesFirst (without D N i r j t) N i
 equal-first D N i j r t d l h = record {
   before = λ k m. later k (omega arith) ∙ bump-other N i (negℤ r *ℤ pos D) k (omega arith);
@@ -144,6 +147,7 @@ equal-first D N i j r t d l h = record {
     falls : (n r : ℤ) → pos 0 <ℤ r → (n +ℤ negℤ r *ℤ pos D) <ℤ n
     falls = split2 _ (λ a b c e. simp zed (λ l. omega (arith, mul-le-mul-left D l)))
 
+-- End theorem: no two points come before each other.
 pub first-once : (N M : ℕ → ℤ) (f g : ℕ) → ComesFirst N M f → ComesFirst M N g → ⊥
 first-once N M f g p q = go (decLt f g) (decLt g f)
   where

@@ -65,23 +65,35 @@ module _ (m : Model) (i j : ℕ) where
   unfolding leastPair numbered paired
   refused-items e n h = rw (e, numbers-iff (m .count) i j .1 n) (go (eligible first) (eligible second) refl refl)
     where
-      go : (s t : Bool) → eligible first ≡ s → eligible second ≡ t → cond s (cond t (Found (pairOf first second)) (refusePair pair-items)) (refusePair pair-items) ≡ refusePair pair-items
+      go : (s t : Bool) → eligible first ≡ s → eligible second ≡ t →
+          cond s (cond t (Found (pairOf first second)) (refusePair pair-items)) (refusePair pair-items) ≡ refusePair pair-items
       go true true a b = absurd (h (eligible-iff first .0 a, eligible-iff second .0 b))
       go true false a b = refl
       go false t a b = refl
 
   pub answered : Answerable → leastPair m i j ≡ Found (pairOf first second)
   unfolding leastPair numbered paired
-  answered h = rw (h .is-accepted, numbers-iff (m .count) i j .1 (h .numbers), eligible-iff first .1 (h .first-eligible), eligible-iff second .1 (h .second-eligible))
+  answered h = rw (
+    h .is-accepted,
+    numbers-iff (m .count) i j .1 (h .numbers),
+    eligible-iff first .1 (h .first-eligible),
+    eligible-iff second .1 (h .second-eligible),
+  )
 
   found : (q : Pair) → Answerable → (leastPair m i j ≡ Found q) ↔ (pairOf first second ≡ q)
   found q h = let e = answered h in (λ k. cc, λ k. cc)
 
   pub least-pair-steps : Answerable → (r s : ℤ) → (leastPair m i j ≡ Found (Steps r s)) ↔ LeastPair first second r s
-  least-pair-steps h r s = let a = found (Steps r s) h in let b = pair-steps first second (h .first-eligible) (h .second-eligible) r s in (λ k. b .0 (a .0 k), λ l. a .1 (b .1 l))
+  least-pair-steps h r s =
+      let a = found (Steps r s) h in
+      let b = pair-steps first second (h .first-eligible) (h .second-eligible) r s in
+      (λ k. b .0 (a .0 k), λ l. a .1 (b .1 l))
 
   pub least-pair-missing : Answerable → (leastPair m i j ≡ Found Missing) ↔ NoPair first second
-  least-pair-missing h = let a = found Missing h in let b = pair-missing first second (h .first-eligible) (h .second-eligible) in (λ k. b .0 (a .0 k), λ l. a .1 (b .1 l))
+  least-pair-missing h =
+      let a = found Missing h in
+      let b = pair-missing first second (h .first-eligible) (h .second-eligible) in
+      (λ k. b .0 (a .0 k), λ l. a .1 (b .1 l))
 
 -- ---- the table
 
@@ -104,16 +116,20 @@ module _ (r s : ℤ) where
   unfolding paired
   items x y = go (eligible x) (eligible y) refl refl
     where
-      go : (a b : Bool) → eligible x ≡ a → eligible y ≡ b → cond a (cond b (Found (pairOf x y)) (refusePair pair-items)) (refusePair pair-items) ≡ Found (Steps r s) → (Eligible x) × (Eligible y) × (pairOf x y ≡ Steps r s)
+      go : (a b : Bool) → eligible x ≡ a → eligible y ≡ b →
+          cond a (cond b (Found (pairOf x y)) (refusePair pair-items)) (refusePair pair-items) ≡ Found (Steps r s) →
+          (Eligible x) × (Eligible y) × (pairOf x y ≡ Steps r s)
       go true true e f h = (eligible-iff x .0 e, eligible-iff y .0 f, cc)
       go true false e f h = absurd (let z : _≡_ {A = ℕ} 0 1 = cc in omega arith)
       go false b e f h = absurd (let z : _≡_ {A = ℕ} 0 1 = cc in omega arith)
 
-  numbers-of : (p : Problem) (i j : ℕ) → numbered p i j ≡ Found (Steps r s) → Numbers (p .count) i j × (paired (itemAt p (i - 1)) (itemAt p (j - 1)) ≡ Found (Steps r s))
+  numbers-of : (p : Problem) (i j : ℕ) → numbered p i j ≡ Found (Steps r s) →
+      Numbers (p .count) i j × (paired (itemAt p (i - 1)) (itemAt p (j - 1)) ≡ Found (Steps r s))
   unfolding numbered
   numbers-of p i j = go (wrongNumbers (p .count) i j) refl
     where
-      go : (a : Bool) → wrongNumbers (p .count) i j ≡ a → cond a (refusePair pair-numbers) (paired (itemAt p (i - 1)) (itemAt p (j - 1))) ≡ Found (Steps r s) → Numbers (p .count) i j × (paired (itemAt p (i - 1)) (itemAt p (j - 1)) ≡ Found (Steps r s))
+      go : (a : Bool) → wrongNumbers (p .count) i j ≡ a → cond a (refusePair pair-numbers) (paired (itemAt p (i - 1)) (itemAt p (j - 1))) ≡ Found (Steps r s) →
+          Numbers (p .count) i j × (paired (itemAt p (i - 1)) (itemAt p (j - 1)) ≡ Found (Steps r s))
       go true e h = absurd (let z : _≡_ {A = ℕ} 0 1 = cc in omega arith)
       go false e h = (numbers-iff (p .count) i j .0 e, h)
 
@@ -122,7 +138,9 @@ module _ (r s : ℤ) where
       let n = numbers-of p (i + 1) (j + 1) (answer (numbered p (i + 1) (j + 1)) e) in
       go (range .items-in) (n .0) (items (itemAt p (i + 1 - 1)) (itemAt p (j + 1 - 1)) (n .1))
     where
-      go : ((k : ℕ) → k < p .count → ItemInRange (itemAt p k)) → Numbers (p .count) (i + 1) (j + 1) → (Eligible (itemAt p (i + 1 - 1))) × (Eligible (itemAt p (j + 1 - 1))) × (pairOf (itemAt p (i + 1 - 1)) (itemAt p (j + 1 - 1)) ≡ Steps r s) → Applies p i j r s
+      go : ((k : ℕ) → k < p .count → ItemInRange (itemAt p k)) → Numbers (p .count) (i + 1) (j + 1) →
+          (Eligible (itemAt p (i + 1 - 1))) × (Eligible (itemAt p (j + 1 - 1))) × (pairOf (itemAt p (i + 1 - 1)) (itemAt p (j + 1 - 1)) ≡ Steps r s) →
+          Applies p i j r s
       go f n h =
           let u : i + 1 - 1 ≡ i = omega arith in
           let v : j + 1 - 1 ≡ j = omega arith in
@@ -130,7 +148,8 @@ module _ (r s : ℤ) where
           let lj : j < p .count = omega (arith, n .second-most) in
           let k = rw (u, v) at h in
           let m = pair-steps (itemAt p i) (itemAt p j) (k .0) (k .1) r s .0 (k .2) in
-          let z : Small (Steps r s) = subst Small (k .2) (pair-small (itemAt p i) (itemAt p j) (record { in-range = f i li; is-eligible = k .0 }) (record { in-range = f j lj; is-eligible = k .1 })) in
+          let z : Small (Steps r s) = subst Small (k .2) (pair-small (itemAt p i) (itemAt p j) (record { in-range = f i li; is-eligible = k .0 })
+          (record { in-range = f j lj; is-eligible = k .1 })) in
           record {
             first-place = li;
             second-place = lj;

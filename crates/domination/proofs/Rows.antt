@@ -43,6 +43,7 @@ pair-M : pairOf (item 3 5 3) (item 4 6 10) ≡ Missing
 unfolding signed serving leastGive oneWay pairOf
 pair-M = refl
 
+-- End theorems: what the rows mean.
 pub row-L-least : LeastPair (item 3 5 10) (item 4 6 10) (negsuc 3) (pos 3)
 row-L-least = pair-steps (item 3 5 10) (item 4 6 10) (eligible-iff (item 3 5 10) .0 refl) (eligible-iff (item 4 6 10) .0 refl) (negsuc 3) (pos 3) .0 pair-L
 

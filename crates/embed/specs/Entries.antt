@@ -1,6 +1,6 @@
 -- What the entries reply.
---   numberOf v         the number of a refusal, 0 where there is none
---   lineOf v           the line of a refusal, 0 where there is none
+--   toldNumber v       the number of a refusal, 0 where there is none
+--   toldLine v         the line of a refusal, 0 where there is none
 --   lengthOf w         how long the text is that was handed over, 0 where none was
 --   StepsAs v m n      n steps are those of the search for the record m with that verdict; 0 where it is refused
 --   Steps r n          n steps are those of the search for what was read
@@ -24,13 +24,13 @@ use Rattle.replies.specs.Replies.{Answered}
 use Rattle.sheet.specs.declared.Reading.{Reading}
 use Rattle.sheet.specs.Reading.{readSheet}
 
-abbrev pub numberOf : Verdict → ℕ
-numberOf Accepted = 0
-numberOf (Refused f) = f .number
+abbrev pub toldNumber : Verdict → ℕ
+toldNumber Accepted = 0
+toldNumber (Refused f) = f .number
 
-abbrev pub lineOf : Verdict → ℕ
-lineOf Accepted = 0
-lineOf (Refused f) = f .line
+abbrev pub toldLine : Verdict → ℕ
+toldLine Accepted = 0
+toldLine (Refused f) = f .line
 
 abbrev pub lengthOf : Listed → ℕ
 lengthOf (Written n) = n

@@ -43,7 +43,8 @@ unfolding firstBroken
 found zero p c = none (λ k l. absurd (omega arith))
 found (suc n) p c = go (firstBroken n p c) (found n p c)
   where
-    last : Each n (λ k. breaks (itemAt p k) (proposedAt c k) ≡ false) → (b : Bool) → breaks (itemAt p n) (proposedAt c n) ≡ b → Found (suc n) p c (cond b (suc n) 0)
+    last : Each n (λ k. breaks (itemAt p k) (proposedAt c k) ≡ false) → (b : Bool) → breaks (itemAt p n) (proposedAt c n) ≡ b →
+        Found (suc n) p c (cond b (suc n) 0)
     last h true e = first n (omega arith) e h
     last h false e = none (one-more n h e)
 
@@ -55,7 +56,8 @@ found (suc n) p c = go (firstBroken n p c) (found n p c)
 
 -- in lowest terms a whole number has the divisor 1
 whole : (x : Fraction) (n : ℤ) → GoodAmount x → x .p ≡ n *ℤ pos (x .q) → x .q ≤ 1
-whole x n g e = not-above (x .q) (subst (Divides (x .q)) (g .lowest) (gcd-is (natAbs (x .p)) (x .q) .most (x .q) (natAbs n, ap natAbs e ∙ natAbs-times n (x .q)) (divides-self (x .q))))
+whole x n g e = not-above (x .q) (subst (Divides (x .q)) (g .lowest)
+    (gcd-is (natAbs (x .p)) (x .q) .most (x .q) (natAbs n, ap natAbs e ∙ natAbs-times n (x .q)) (divides-self (x .q))))
 
 keeps-mark : (m : Mark) (x : Fraction) → GoodAmount x → (breaksMark m (x .q) ≡ false) ↔ KeepsMark m (frac (x .p) (x .q))
 keeps-mark Integer x g = (to, from)

@@ -34,9 +34,30 @@ use Rattle.feasibility.specs.declared.Figure.the-variants.{Weight, Price
 use Rattle.feasibility.specs.declared.PointReply.{PointReply}
 use Rattle.feasibility.specs.declared.PointReply.the-variants as reply
 use Rattle.feasibility.specs.Amounts.{proposedAt, GoodPoint, commonDivisor, numerator}
-use Rattle.feasibility.specs.Check.{breaks, firstBroken, figureOf, totalOf, afterItems, judged, refusePoint, amountCheck, afterRecord, pointCheck, asked, proposedPoint, Proposed, RefusedAs, by-record, by-count, by-amounts, ToldWeight, ToldItem, Told}
+use Rattle.feasibility.specs.Check.{
+  breaks,
+  firstBroken,
+  figureOf,
+  totalOf,
+  afterItems,
+  judged,
+  refusePoint,
+  amountCheck,
+  afterRecord,
+  pointCheck,
+  asked,
+  proposedPoint,
+  Proposed,
+  RefusedAs,
+  by-record,
+  by-count,
+  by-amounts,
+  ToldWeight,
+  ToldItem,
+  Told,
+}
 use Rattle.feasibility.proofs.Breaking.{Found, none, first, found, keeps-iff}
-use Rattle.feasibility.proofs.Divisor.{Serves, serves, divisor-iff}
+use Rattle.feasibility.proofs.Divisor.{Divided, divided, divisor-iff}
 
 -- ---- amounts and values over the common divisor
 
@@ -56,15 +77,18 @@ over-lowest v d l =
 
 -- ---- yes or no
 
-module _ (m : Model) (c : Candidate) (d : ℕ) (asked : Proposed m c) (s : Serves (m .count) (proposedAt c) d) where
+module _ (m : Model) (c : Candidate) (d : ℕ) (asked : Proposed m c) (s : Divided (m .count) (proposedAt c) d) where
   total-over : (f : Figure) → Over d (total (m .count) (λ k. figureOf f (itemAt m k) ·ᶠ proposedPoint c k)) (totalOf f d (m .count) (plainOf m) c)
-  total-over f = over-total d (m .count) (proposedPoint c) (λ k. numerator d (proposedAt c k)) (λ k l. over-numerator d (proposedAt c k) (s .fine k l .some) (s .divides k l)) (λ k. figureOf f (itemAt m k))
+  total-over f = over-total d (m .count) (proposedPoint c) (λ k. numerator d (proposedAt c k))
+      (λ k l. over-numerator d (proposedAt c k) (s .fine k l .some) (s .divides k l)) (λ k. figureOf f (itemAt m k))
 
   kept : (k : ℕ) → k < m .count → (breaks (itemAt m k) (proposedAt c k) ≡ false) ↔ Keeps (itemAt m k) (proposedPoint c k)
   kept k l = keeps-iff (itemAt m k) (proposedAt c k) (s .fine k l)
 
   -- where every item is kept the weight decides
-  by-weight : ((k : ℕ) → k < m .count → Keeps (itemAt m k) (proposedPoint c k)) → (b : Bool) → ltZ (m .capacity *ℤ pos d) (totalOf Weight d (m .count) (plainOf m) c) ≡ b → Told m c (cond b (reply.Violates 0) (reply.Feasible (lowest (totalOf Price d (m .count) (plainOf m) c) d)))
+  by-weight : ((k : ℕ) → k < m .count → Keeps (itemAt m k) (proposedPoint c k)) → (b : Bool) →
+      ltZ (m .capacity *ℤ pos d) (totalOf Weight d (m .count) (plainOf m) c) ≡ b →
+      Told m c (cond b (reply.Violates 0) (reply.Feasible (lowest (totalOf Price d (m .count) (plainOf m) c) d)))
   by-weight k true e = record { proposed = asked; keeps = k; over = over-< (s .some) (over-int d (m .capacity)) (total-over Weight) (yes-lt e) }
   by-weight k false e =
       let v = totalOf Price d (m .count) (plainOf m) c in
@@ -80,7 +104,9 @@ module _ (m : Model) (c : Candidate) (d : ℕ) (asked : Proposed m c) (s : Serve
   unfolding judged
   judged-told = go (firstBroken (m .count) (plainOf m) c) (found (m .count) (plainOf m) c)
     where
-      go : (n : ℕ) → Found (m .count) (plainOf m) c n → Told m c (afterItems n (cond (ltZ (m .capacity *ℤ pos d) (totalOf Weight d (m .count) (plainOf m) c)) (reply.Violates 0) (reply.Feasible (lowest (totalOf Price d (m .count) (plainOf m) c) d))))
+      go : (n : ℕ) → Found (m .count) (plainOf m) c n →
+          Told m c (afterItems n (cond (ltZ (m .capacity *ℤ pos d) (totalOf Weight d (m .count) (plainOf m) c)) (reply.Violates 0)
+          (reply.Feasible (lowest (totalOf Price d (m .count) (plainOf m) c) d))))
       go n (none h) = by-weight (λ k l. kept k l .0 (h k l)) _ refl
       go n (first k l e h) = record {
         proposed = asked;
@@ -95,7 +121,8 @@ amounts-told : (m : Model) (c : Candidate) → Admissible m → Told m c (amount
 unfolding amountCheck
 amounts-told m c r = go _ refl _ refl
   where
-    go : (b : Bool) → eqb (c .count) (m .count) ≡ b → (z : Bool) → eqb (commonDivisor (c .count) (proposedAt c)) 0 ≡ z → Told m c (cond (not b) (refusePoint amounts) (cond z (refusePoint amount) (judged (commonDivisor (c .count) (proposedAt c)) (plainOf m) c)))
+    go : (b : Bool) → eqb (c .count) (m .count) ≡ b → (z : Bool) → eqb (commonDivisor (c .count) (proposedAt c)) 0 ≡ z →
+        Told m c (cond (not b) (refusePoint amounts) (cond z (refusePoint amount) (judged (commonDivisor (c .count) (proposedAt c)) (plainOf m) c)))
     go false e z f = by-count r (eqb-false (c .count) (m .count) e)
     go true e true f =
         let n = eqb-true (c .count) (m .count) e in
@@ -103,7 +130,13 @@ amounts-told m c r = go _ refl _ refl
     go true e false f =
         let n = eqb-true (c .count) (m .count) e in
         let h = eqb-false (commonDivisor (c .count) (proposedAt c)) 0 f in
-        judged-told m c _ (record { admissible = r; counted = n; amounts = subst (λ n. GoodPoint n (proposedAt c)) n (divisor-iff (c .count) (proposedAt c) .0 h) }) (subst (λ n. Serves n (proposedAt c) (commonDivisor (c .count) (proposedAt c))) n (serves (c .count) (proposedAt c) h))
+        judged-told m c _ (record {
+          admissible = r;
+          counted = n;
+          amounts = subst (λ n. GoodPoint n (proposedAt c)) n
+              (divisor-iff (c .count) (proposedAt c) .0 h);
+        }) (subst (λ n. Divided n (proposedAt c) (commonDivisor (c .count) (proposedAt c))) n (divided (c .count)
+        (proposedAt c) h))
 
 pub told : (m : Model) (c : Candidate) → Told m c (pointCheck m c)
 unfolding pointCheck

@@ -13,6 +13,7 @@ use knapsack::Refusal;
 use knapsack::Verdict;
 use model::Model;
 use model::Side;
+use model::beyond;
 use model::check_model;
 use model::plain_of;
 use model::refusal_of;
@@ -22,7 +23,22 @@ ghost use Prim.Native.Nat.{_*_, _≤_, _<_};
 ghost use lib.IntN.{pos, natAbs, _*ℤ_};
 ghost use Rattle.knapsack.specs.Ranges.{BoundInRange, ItemInRange, InRange};
 ghost use Rattle.feasibility.specs.Amounts.{proposedAt, farther, badAmount, joined, commonDivisor, GoodAmount};
-ghost use Rattle.feasibility.specs.Check.{breaksMark, breaksBound, breaks, earlierOf, numbered, firstBroken, figureOf, term, totalOf, refusePoint, judged, amountCheck, pointCheck, Checkable};
+ghost use Rattle.feasibility.specs.Check.{
+  breaksMark,
+  breaksBound,
+  breaks,
+  earlierOf,
+  numbered,
+  firstBroken,
+  figureOf,
+  term,
+  totalOf,
+  refusePoint,
+  judged,
+  amountCheck,
+  pointCheck,
+  Checkable,
+};
 
 // 01's proposed point: an amount for each item, at the first count places.
 pub struct Candidate {
@@ -57,11 +73,7 @@ fn is_farther(p: i64, q: u64) -> bool
     requires { ⌜ q ≤ 1000 ⌝ }
     ensures { λ r. ⌜ r ≡ farther p q ⌝ }
 {
-    let n = times(1000000000, q);
-    if p < 0 - n {
-        return true;
-    }
-    n < p
+    beyond(p, times(1000000000, q))
 }
 
 // Refusal 8 of an amount by itself. The size is tried before the common divisor, so that |p| is known to fit.

@@ -126,7 +126,8 @@ item-in i h k =
     }
 
 in-item : (i : Item) → ItemInRange i → faulty Figure i ≡ false
-in-item i r = rw (not-outside 1000 (i .weight) (r .weight-in), not-outside 10000 (i .price) (r .price-in), in-bound (i .lower) (r .lower-in)) (in-bound (i .upper) (r .upper-in))
+in-item i r = rw (not-outside 1000 (i .weight) (r .weight-in), not-outside 10000 (i .price) (r .price-in), in-bound (i .lower) (r .lower-in))
+    (in-bound (i .upper) (r .upper-in))
 
 -- no item fails
 all-pass : (n : ℕ) (f : ℕ → Item) (test : Item → Bool) → ((k : ℕ) → k < n → test (f k) ≡ false) → someItem n f test ≡ false

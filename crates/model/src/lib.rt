@@ -66,7 +66,7 @@ pub fn plain_of(m: Model) -> Problem
 
 // Whether x is farther than n from zero.
 pub fn beyond(x: i64, n: i64) -> bool
-    requires { ⌜ (pos 0 ≤ℤ n) × (n ≤ℤ pos 1000000000) ⌝ }
+    requires { ⌜ (pos 0 ≤ℤ n) × (n ≤ℤ pos 1000000000000000000) ⌝ }
     ensures { λ r. ⌜ r ≡ outside (natAbs n) x ⌝ }
 {
     if x < 0 - n {

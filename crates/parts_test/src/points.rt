@@ -7,6 +7,7 @@ use knapsack::Bound;
 use knapsack::Item;
 use knapsack::Mark;
 use model::Model;
+use model::beyond;
 use trials::count::one_more;
 use trials::count::print_count;
 use trials::draw::Spans;
@@ -23,9 +24,6 @@ use trials::print::print_signed;
 use trials::print::size_of;
 ghost use mathlib.Core.Path.{_≡_};
 ghost use Prim.Native.Nat.{_≤_};
-ghost use lib.IntN.{pos, natAbs};
-ghost use lib.Signed.{_≤ℤ_};
-ghost use Rattle.model.specs.Records.{outside};
 
 // ---- what is drawn
 
@@ -189,33 +187,22 @@ struct Sums {
     value: i64,
 }
 
-// Whether x is farther than n from zero.
-fn is_farther(x: i64, n: i64) -> bool
-    requires { ⌜ (pos 0 ≤ℤ n) × (n ≤ℤ pos 1000000000000000000) ⌝ }
-    ensures { λ r. ⌜ r ≡ outside (natAbs n) x ⌝ }
-{
-    if x < 0 - n {
-        return true;
-    }
-    n < x
-}
-
 // a · b of a figure and a number of any amount, and a + b; what is farther off is handed on.
 fn product(a: i64, b: i64) -> i64 {
-    if is_farther(a, 10000) {
+    if beyond(a, 10000) {
         return a;
     }
-    if is_farther(b, 100000000000000) {
+    if beyond(b, 100000000000000) {
         return b;
     }
     a * b
 }
 
 fn total(a: i64, b: i64) -> i64 {
-    if is_farther(a, 1000000000000000000) {
+    if beyond(a, 1000000000000000000) {
         return a;
     }
-    if is_farther(b, 1000000000000000000) {
+    if beyond(b, 1000000000000000000) {
         return b;
     }
     a + b

@@ -44,7 +44,8 @@ pub load-none : filled 16 [] ≡ replicate 16 blank
 unfolding filled
 load-none = refl
 
-pub load-more : (b : ℤ) (l : List Item) (i : ℕ) → i < usable (length l) → withItem (loaded b (length l) (take i l)) i (getD l i blank) ≡ loaded b (length l) (take (suc i) l)
+pub load-more : (b : ℤ) (l : List Item) (i : ℕ) → i < usable (length l) →
+    withItem (loaded b (length l) (take i l)) i (getD l i blank) ≡ loaded b (length l) (take (suc i) l)
 load-more b l i h = rw (fill-more 16 i l (omega arith) (omega arith))
 
 pub load-all : (b : ℤ) (l : List Item) → loaded b (length l) (take (usable (length l)) l) ≡ modelOf b l
@@ -106,11 +107,17 @@ module _ (b : ℤ) (l : List Item) where
   unfolding settled arranged after
   stored = go (verdict m) refl
     where
-      go : (v : Verdict) → verdict m ≡ v → take n (ifAccepted v (arranged p) p .items) ++ drop n l ≡ ifAccepted v (orderedItems (λ k. getD l k blank) (length l)) l
+      go : (v : Verdict) → verdict m ≡ v →
+          take n (ifAccepted v (arranged p) p .items) ++ drop n l ≡ ifAccepted v (orderedItems (λ k. getD l k blank) (length l)) l
       go Accepted e =
           let few = accepted-few e in
           let all : n ≡ length l = omega arith in
-          rw (all, take-at (orderedItems (itemAt p) (length l)) (drop (length l) (filled 16 l)) (length l) (items-length (itemAt p) (length l)), drop-length l, append-nil)
+          rw (
+            all,
+            take-at (orderedItems (itemAt p) (length l)) (drop (length l) (filled 16 l)) (length l) (items-length (itemAt p) (length l)),
+            drop-length l,
+            append-nil,
+          )
           (items-cong (itemAt p) (λ k. getD l k blank) (length l) (λ k h. filled-at 16 k l (omega arith)))
       go (Refused f) e = rw (filled-take 16 n l (omega arith) (omega arith)) (take-append-drop n l)
 

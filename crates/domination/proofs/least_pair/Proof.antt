@@ -18,18 +18,18 @@ plain-of-requires : tie.Need-plain-of-requires
 plain-of-requires c κs = search needs
 
 -- the record is accepted
-taken : (c : tie.After-plain-of) → verdict (c .before .before .before .before .args .m) ≡ Accepted
-taken c = let e = c .before in sym (e .before .before .check-model .ensures) ∙ e .enum-told .given .1
+taken : (e : tie.After-enum-told) → verdict (e .before .before .before .args .m) ≡ Accepted
+taken e = sym (e .before .before .check-model .ensures) ∙ e .enum-told .given .1
 
 pair-numbered-requires : tie.Need-pair-numbered-requires
-pair-numbered-requires c κs = rw (c .plain-of .ensures) (plain-in-range _ (taken c))
+pair-numbered-requires c κs = rw (c .plain-of .ensures) (plain-in-range _ (taken (c .before)))
 
 enum-known-v : tie.Need-enum-known-v
 enum-known-v c = search needs
 
 returns : tie.Need-returns
 unfolding leastPair
-returns c = rw (taken (c .before), ← c .before .plain-of .ensures) (c .pair-numbered .ensures)
+returns c = rw (taken (c .before .before), ← c .before .plain-of .ensures) (c .pair-numbered .ensures)
 
 returns-2 : tie.Need-returns-2
 unfolding leastPair

@@ -28,8 +28,13 @@ pair-of-requires : tie.Need-pair-of-requires
 pair-of-requires c κs =
     let s = c .before .before .before .before in
     let p = sym (c .before .before .before .is-eligible .ensures) ∙ c .before .before .if1 .taken in
-    let q = sym (c .before .is-eligible2 .ensures) ∙ c .if2 .taken in
-    (record { in-range = s .pre .0; is-eligible = eligible-iff (s .args .x) .0 p }, record { in-range = s .pre .1; is-eligible = eligible-iff (s .args .y) .0 q })
+    let q = sym (c .before .is-eligible2 .ensures) ∙ c .if2 .taken in (
+      record { in-range = s .pre .0; is-eligible = eligible-iff (s .args .x) .0 p },
+      record {
+        in-range = s .pre .1;
+        is-eligible = eligible-iff (s .args .y) .0 q;
+      },
+    )
 
 returns : tie.Need-returns
 unfolding paired
@@ -44,7 +49,8 @@ refused-requires c κs = search needs
 returns-2 : tie.Need-returns-2
 returns-2 c =
     let e = sym (c .before .before .is-eligible .ensures) in
-    c .refused .ensures ∙ ⊎-elim (λ w. second-fails _ _ (e ∙ w .0 .taken) (sym (w .1 .ensures) ∙ w .2 .left)) (λ w. first-fails _ _ (e ∙ w .left)) (c .before .if1 .came)
+    c .refused .ensures ∙ ⊎-elim (λ w. second-fails _ _ (e ∙ w .0 .taken) (sym (w .1 .ensures) ∙ w .2 .left)) (λ w. first-fails _ _ (e ∙ w .left))
+    (c .before .if1 .came)
 
 pub pair-items-spec : {M : Type 1} → statement M
 pair-items-spec =

@@ -25,12 +25,18 @@ add-result c = search needs
 returns : tie.Need-returns
 returns c =
     let t = c .before .before in
-    rw (none-yet (t .before .args .found) (numbered (t .before .args .k) (t .before .args .i) (t .before .args .x)) (t .if1 .taken), sym (c .before .does-break .ensures) ∙ c .if2 .taken) (add-one (t .before .args .k))
+    rw (
+      none-yet (t .before .args .found) (numbered (t .before .args .k) (t .before .args .i) (t .before .args .x)) (t .if1 .taken),
+      sym (c .before .does-break .ensures) ∙ c .if2 .taken,
+    ) (add-one (t .before .args .k))
 
 returns-2 : tie.Need-returns-2
 returns-2 c =
     let t = c .before .before in
-    rw (none-yet (t .before .args .found) (numbered (t .before .args .k) (t .before .args .i) (t .before .args .x)) (t .if1 .taken), sym (c .before .does-break .ensures) ∙ c .if2 .left) (t .if1 .taken)
+    rw (
+      none-yet (t .before .args .found) (numbered (t .before .args .k) (t .before .args .i) (t .before .args .x)) (t .if1 .taken),
+      sym (c .before .does-break .ensures) ∙ c .if2 .left,
+    ) (t .if1 .taken)
 
 returns-3 : tie.Need-returns-3
 returns-3 c = sym (stays _ _ (c .if1 .left))

@@ -19,11 +19,11 @@ plain-of-requires : tie.Need-plain-of-requires
 plain-of-requires c κs = search needs
 
 -- the record is accepted
-taken : (c : tie.After-plain-of) → verdict (c .before .before .before .before .args .m) ≡ Accepted
-taken c = let e = c .before in sym (e .before .before .check-model .ensures) ∙ e .enum-told .given .1
+taken : (e : tie.After-enum-told) → verdict (e .before .before .before .args .m) ≡ Accepted
+taken e = sym (e .before .before .check-model .ensures) ∙ e .enum-told .given .1
 
 solve-requires : tie.Need-solve-requires
-solve-requires c κs = rw (c .plain-of .ensures) (plain-in-range _ (taken c))
+solve-requires c κs = rw (c .plain-of .ensures) (plain-in-range _ (taken (c .before)))
 
 enum-known-v : tie.Need-enum-known-v
 enum-known-v c = search needs
@@ -35,15 +35,17 @@ returns : tie.Need-returns
 returns c =
     let r = c .before in
     let p = r .before in
-    let m = p .before .before .before .before .args .m in
+    let e = p .before in
+    let m = e .before .before .before .args .m in
     let answers : Answers (instanceOf (plainOf m)) (r .solve .result .answer) = rw (p .plain-of .ensures) at (r .solve .ensures .answers) in
-    subst (RepliesAs (instanceOf (plainOf m)) (r .solve .result .answer)) (sym (taken p)) answers
+    subst (RepliesAs (instanceOf (plainOf m)) (r .solve .result .answer)) (sym (taken e)) answers
 
 returns-2 : tie.Need-returns-2
 returns-2 c =
     let v = c .before .before in
     let k = v .before .before in
-    subst (RepliesAs (instanceOf (plainOf (k .before .args .m))) (c .no-point .result)) (sym (sym (k .check-model .ensures) ∙ v .v .given .1)) (c .no-point .ensures)
+    let is = sym (k .check-model .ensures) ∙ v .v .given .1 in
+    subst (RepliesAs (instanceOf (plainOf (k .before .args .m))) (c .no-point .result)) (sym is) (c .no-point .ensures)
 
 pub plan-spec : {M : Type 1} → statement M
 plan-spec =

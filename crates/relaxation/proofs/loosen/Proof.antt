@@ -44,8 +44,15 @@ loop-again c =
     let b = c .before .before .before .before in
     let p = b .before .args .t1 in
     let x : c .before .loose-item .result ≡ loose (itemAt p (b .loop .k)) = c .before .loose-item .ensures in
-    let q : c .with-item .result ≡ withItem (b .loop .q) (b .loop .k) (loose (itemAt p (b .loop .k))) = c .with-item .ensures ∙ ap (withItem (b .loop .q) (b .loop .k)) x in
-    (omega arith, rw q (simp length-set (b .loop .inv .1 .0), loosened-more p (b .loop .q) (b .loop .k) (omega (arith, b .loop .inv .1 .0)) (b .loop .inv .1 .1)))
+    let q : c .with-item .result ≡ withItem (b .loop .q) (b .loop .k) (loose (itemAt p (b .loop .k))) = c .with-item .ensures ∙
+    ap (withItem (b .loop .q) (b .loop .k)) x in (
+      omega arith,
+      rw q (
+        simp length-set (b .loop .inv .1 .0),
+        loosened-more p (b .loop .q) (b .loop .k) (omega (arith, b .loop .inv .1 .0))
+            (b .loop .inv .1 .1),
+      ),
+    )
 
 returns : tie.Need-returns Inv-loop μ-loop
 returns c =
