@@ -104,7 +104,7 @@ abbrev pub crossingVerdict : Model → Verdict
 crossingVerdict m = refusedIf (someItem (held m) (itemAt m) (faulty Crossing)) refusal.crossing
 
 unfoldable pub verdict : Model → Verdict
-verdict m = orElse (countVerdict m) (orElse (figureVerdict m) (crossingVerdict m))
+verdict m = orElse (orElse (countVerdict m) (figureVerdict m)) (crossingVerdict m)
 
 -- ---- the ranges: today a record is asked for what the solver asks of its problem
 

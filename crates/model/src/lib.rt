@@ -209,6 +209,7 @@ fn check_crossings(m: Model) -> Verdict
 pub fn check_model(m: Model) -> Verdict
     ensures { λ r. ⌜ r ≡ verdict m ⌝ }
 {
-    let figures = first_of(check_figures(m), check_crossings(m));
-    first_of(check_counts(m), figures)
+    let v = check_counts(m);
+    let v = first_of(v, check_figures(m));
+    first_of(v, check_crossings(m))
 }

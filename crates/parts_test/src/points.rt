@@ -22,7 +22,6 @@ use trials::print::print_number;
 use trials::print::print_problem;
 use trials::print::print_signed;
 use trials::print::size_of;
-ghost use mathlib.Core.Path.{_≡_};
 ghost use Prim.Native.Nat.{_≤_};
 
 // ---- what is drawn
