@@ -126,7 +126,8 @@ item-in i h k =
     }
 
 in-item : (i : Item) → ItemInRange i → faulty Figure i ≡ false
-in-item i r = rw (not-outside 1000 (i .weight) (r .weight-in), not-outside 10000 (i .price) (r .price-in), in-bound (i .lower) (r .lower-in)) (in-bound (i .upper) (r .upper-in))
+in-item i r = rw (not-outside 1000 (i .weight) (r .weight-in), not-outside 10000 (i .price) (r .price-in), in-bound (i .lower) (r .lower-in))
+    (in-bound (i .upper) (r .upper-in))
 
 -- no item fails
 all-pass : (n : ℕ) (f : ℕ → Item) (test : Item → Bool) → ((k : ℕ) → k < n → test (f k) ≡ false) → someItem n f test ≡ false
@@ -149,10 +150,10 @@ held-all m h = rw (le-ltb 16 (m .count) h)
 pub unfaulted : (m : Model) → verdict m ≡ Accepted → Unfaulted m
 unfolding verdict
 unfaulted m h =
-    let r = both-accept (countVerdict m) (orElse (figureVerdict m) (crossingVerdict m)) h in
-    let s = both-accept (figureVerdict m) (crossingVerdict m) (r .1) in
+    let s = both-accept (orElse (countVerdict m) (figureVerdict m)) (crossingVerdict m) h in
+    let r = both-accept (countVerdict m) (figureVerdict m) (s .0) in
     let each : Fault → Bool = λ t. someItem (held m) (itemAt m) (faulty t) in
-    let f = both-accept (refusedIf (outside 100000000 (m .capacity)) figure) (refusedIf (each Figure) figure) (s .0) in
+    let f = both-accept (refusedIf (outside 100000000 (m .capacity)) figure) (refusedIf (each Figure) figure) (r .1) in
     let n = neither (eqb (m .count) 0) (ltb 16 (m .count)) (row-clear (badCount (m .count)) count (r .0)) in
     let some = eqb-false (m .count) 0 (n .0) in
     let few = ltb-false 16 (m .count) (n .1) in

@@ -8,7 +8,8 @@
 --   someItem n f t   the test holds of one of the first n items
 --   badCount n       n is no number of items
 --   held m           how many items there are to be tried: the count, at most 16
---   refuse n         refusal n; a record's has line 0
+--   refusalOf n      a refusal of a record, and of an entry that was given one: line 0
+--   refuse n         refusal n
 --   refusedIf t n    refusal n if the test holds
 --   orElse v w       the first that refuses
 --   countVerdict, figureVerdict, crossingVerdict   the rows of the refusals of a record: 3, 4, 6
@@ -25,6 +26,7 @@ use Rattle.knapsack.specs.declared.Bound.{Bound}
 use Rattle.knapsack.specs.declared.Bound.the-variants.{Absent, At}
 use Rattle.knapsack.specs.declared.Item.{Item}
 use Rattle.knapsack.specs.declared.Problem.{Problem}
+use Rattle.knapsack.specs.declared.Refusal.{Refusal}
 use Rattle.knapsack.specs.declared.Verdict.{Verdict}
 use Rattle.knapsack.specs.declared.Verdict.the-variants.{Accepted, Refused}
 use Rattle.model.specs.declared.Fault.{Fault}
@@ -77,8 +79,11 @@ held m = cond (ltb 16 (m .count)) 16 (m .count)
 
 -- ---- verdicts
 
+abbrev pub refusalOf : ℕ → Refusal
+refusalOf n = record { number = n; line = 0 }
+
 abbrev pub refuse : ℕ → Verdict
-refuse n = Refused (record { number = n; line = 0 })
+refuse n = Refused (refusalOf n)
 
 abbrev pub refusedIf : Bool → ℕ → Verdict
 refusedIf t n = cond t (refuse n) Accepted
@@ -99,7 +104,7 @@ abbrev pub crossingVerdict : Model → Verdict
 crossingVerdict m = refusedIf (someItem (held m) (itemAt m) (faulty Crossing)) refusal.crossing
 
 unfoldable pub verdict : Model → Verdict
-verdict m = orElse (countVerdict m) (orElse (figureVerdict m) (crossingVerdict m))
+verdict m = orElse (orElse (countVerdict m) (figureVerdict m)) (crossingVerdict m)
 
 -- ---- the ranges: today a record is asked for what the solver asks of its problem
 

@@ -1,9 +1,11 @@
 -- Records by steps: the equations of src/setters.rt.
 --   withCapacity m b    with that capacity
 --   withCount m n       with that count
+--   withItems m l       with those items, all 16 places
 --   withItem m j x      with x at place j
 --   bounded side v i    the item with that bound at v
 --   withBound m side j v   with a bound of the item at place j
+use mathlib.Core.List.{List}
 use Prim.Native.Nat.{ℕ}
 use lib.IntN.{ℤ}
 use lib.ListN.{set}
@@ -19,6 +21,9 @@ withCapacity m b = record { items = m .items; count = m .count; capacity = b }
 
 abbrev pub withCount : Model → ℕ → Model
 withCount m n = record { items = m .items; count = n; capacity = m .capacity }
+
+abbrev pub withItems : Model → List Item → Model
+withItems m l = record { items = l; count = m .count; capacity = m .capacity }
 
 abbrev pub withItem : Model → ℕ → Item → Model
 withItem m j x = record { items = set (m .items) j x; count = m .count; capacity = m .capacity }

@@ -22,6 +22,7 @@ ghost use Rattle.model.specs.Records.{
   faulty,
   someItem,
   held,
+  refusalOf,
   refusedIf,
   orElse,
   countVerdict,
@@ -65,7 +66,7 @@ pub fn plain_of(m: Model) -> Problem
 
 // Whether x is farther than n from zero.
 pub fn beyond(x: i64, n: i64) -> bool
-    requires { ⌜ (pos 0 ≤ℤ n) × (n ≤ℤ pos 1000000000) ⌝ }
+    requires { ⌜ (pos 0 ≤ℤ n) × (n ≤ℤ pos 1000000000000000000) ⌝ }
     ensures { λ r. ⌜ r ≡ outside (natAbs n) x ⌝ }
 {
     if x < 0 - n {
@@ -153,11 +154,18 @@ fn some_faulty(m: Model, f: Fault) -> bool
 
 // ---- verdicts: a row of the refusals is one function
 
+// No sheet was read, so there is no line.
+pub fn refusal_of(number: u64) -> Refusal
+    ensures { λ r. ⌜ r ≡ refusalOf number ⌝ }
+{
+    Refusal { number, line: 0 }
+}
+
 fn refused_if(test: bool, number: u64) -> Verdict
     ensures { λ r. ⌜ r ≡ refusedIf test number ⌝ }
 {
     if test {
-        return Verdict::Refused(Refusal { number, line: 0 });
+        return Verdict::Refused(refusal_of(number));
     }
     Verdict::Accepted
 }
@@ -201,6 +209,7 @@ fn check_crossings(m: Model) -> Verdict
 pub fn check_model(m: Model) -> Verdict
     ensures { λ r. ⌜ r ≡ verdict m ⌝ }
 {
-    let figures = first_of(check_figures(m), check_crossings(m));
-    first_of(check_counts(m), figures)
+    let v = check_counts(m);
+    let v = first_of(v, check_figures(m));
+    first_of(v, check_crossings(m))
 }

@@ -6,7 +6,7 @@ use knapsack::Item;
 ghost use mathlib.Core.Path.{_≡_};
 ghost use Prim.Native.Nat.{_<_};
 ghost use Rattle.model.specs.Records.{emptyModel};
-ghost use Rattle.model.specs.Setters.{withCapacity, withCount, withItem, bounded, withBound};
+ghost use Rattle.model.specs.Setters.{withCapacity, withCount, withItems, withItem, bounded, withBound};
 
 // The record of a refusal.
 pub fn empty_model() -> Model
@@ -33,6 +33,15 @@ pub fn with_count(m: Model, count: usize) -> Model
 {
     let mut n = m;
     n.count = count;
+    n
+}
+
+// All places at once.
+pub fn with_items(m: Model, items: [Item; 16]) -> Model
+    ensures { λ r. ⌜ r ≡ withItems m items ⌝ }
+{
+    let mut n = m;
+    n.items = items;
     n
 }
 

@@ -39,4 +39,8 @@ module _ (p q : Problem) (e : Loosened p (p .count) q) where
   }
 
   pub loosened-answers : (a : Answer) → Answers (instanceOf q) a → Answers (relaxed (instanceOf p)) a
-  loosened-answers = same-answers (instanceOf q) (relaxed (instanceOf p)) (record { capacity = e .capacity; count = e .count; items = λ k h. e .items k (omega (arith, e .count)) })
+  loosened-answers = same-answers (instanceOf q) (relaxed (instanceOf p)) (record {
+    capacity = e .capacity;
+    count = e .count;
+    items = λ k h. e .items k (omega (arith, e .count));
+  })

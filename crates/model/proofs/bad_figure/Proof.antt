@@ -35,7 +35,9 @@ bad-bound-requires : tie.Need-bad-bound-requires
 bad-bound-requires c κs = search needs
 
 -- both figures are in range
-figures : (c : tie.Else2) → (outside 1000 (c .before .before .before .before .before .before .args .i .weight) ≡ false) × (outside 10000 (c .before .before .before .before .before .before .args .i .price) ≡ false)
+figures : (c : tie.Else2) →
+    (outside 1000 (c .before .before .before .before .before .before .args .i .weight) ≡ false) ×
+    (outside 10000 (c .before .before .before .before .before .before .args .i .price) ≡ false)
 figures c = let e = c .before .before .before in (weight-test (e .before) ∙ e .if1 .left, price-test (c .before) ∙ c .if2 .left)
 
 returns-3 : tie.Need-returns-3

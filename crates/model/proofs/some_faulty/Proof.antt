@@ -37,7 +37,8 @@ returns c =
     let l = c .before .before .before .before in
     let h = l .before in
     let a = h .before .args in
-    let found = some-found (h .held-items .result) (l .loop .k) (itemAt (a .t1)) (faulty (a .f)) (omega arith) (sym (c .before .is-faulty .ensures) ∙ c .if1 .taken) in
+    let found = some-found (h .held-items .result) (l .loop .k) (itemAt (a .t1)) (faulty (a .f)) (omega arith)
+    (sym (c .before .is-faulty .ensures) ∙ c .if1 .taken) in
     sym (rw (h .held-items .ensures .0) at found)
 
 add-k : tie.Need-add-k Inv-loop μ-loop
