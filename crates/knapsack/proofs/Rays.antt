@@ -27,7 +27,8 @@ pub over-stepped : (s : Instance) (D : ℕ) (x : Point) (N d : ℕ → ℤ) (t :
 over-stepped s D x N d t h k l = over-+ (h k l) (over-int D (pos t *ℤ d k))
 
 pub sum-stepped : (n D : ℕ) (a N d : ℕ → ℤ) (t : ℕ) → sum n (λ k. a k *ℤ steppedᴰ D N d t k) ≡ sum n (λ k. a k *ℤ N k) +ℤ pos (t * D) *ℤ sum n (λ k. a k *ℤ d k)
-sum-stepped n D a N d t = sum-cong n _ _ (λ k l. apart (a k) (N k) (d k)) ∙ sum-lin n (pos 1) (pos (t * D)) (λ k. a k *ℤ N k) (λ k. a k *ℤ d k) ∙ one (sum n (λ k. a k *ℤ N k)) (sum n (λ k. a k *ℤ d k))
+sum-stepped n D a N d t = sum-cong n _ _ (λ k l. apart (a k) (N k) (d k)) ∙ sum-lin n (pos 1) (pos (t * D)) (λ k. a k *ℤ N k) (λ k. a k *ℤ d k) ∙
+    one (sum n (λ k. a k *ℤ N k)) (sum n (λ k. a k *ℤ d k))
   where
     apart : (a n d : ℤ) → a *ℤ (n +ℤ (pos t *ℤ d) *ℤ pos D) ≡ pos 1 *ℤ (a *ℤ n) +ℤ pos (t * D) *ℤ (a *ℤ d)
     apart = split3 _ (λ a b c e f g. simp zed (omega arith))
@@ -49,7 +50,8 @@ ray-stays s D N d r p t = record {
     above = lo (s .item k .lower) (N k) (d k) (r .down k l) (≤ℤ-or-< (pos 0) (d k)) (p .keeps k l .above);
     below = up (s .item k .upper) (N k) (d k) (r .up k l) (≤ℤ-or-< (d k) (pos 0)) (p .keeps k l .below);
   };
-  fits = rw (sum-stepped (s .count) D (weights s) N d t) (lighter (weighsᴰ s N) (s .capacity *ℤ pos D) (sum (s .count) (λ k. weights s k *ℤ d k)) (t * D) (p .fits) (r .light));
+  fits = rw (sum-stepped (s .count) D (weights s) N d t) (lighter (weighsᴰ s N) (s .capacity *ℤ pos D) (sum (s .count) (λ k. weights s k *ℤ d k)) (t * D)
+      (p .fits) (r .light));
 }
   where
     lighter : (w b x : ℤ) (m : ℕ) → w ≤ℤ b → x ≤ℤ pos 0 → (w +ℤ pos m *ℤ x) ≤ℤ b
@@ -71,7 +73,8 @@ ray-stays s D N d r p t = record {
     up (At u) n d f (inl c) h = fall (u *ℤ pos D) n d c h
     up (At u) n d f (inr c) h = subst (λ b. KeepsUpperᴰ D b (n +ℤ (pos t *ℤ d) *ℤ pos D)) (sym (f c)) tt
 
-pub ray-unbounded : (s : Instance) (x : Point) (d : ℕ → ℤ) (i j : ℕ) → i < s .count → j < s .count → d i ≢ pos 0 → d j ≢ pos 0 → ((k : ℕ) → k ≢ i → k ≢ j → d k ≡ pos 0) → Ray s d → Feasible s x → Unbounded s x d
+pub ray-unbounded : (s : Instance) (x : Point) (d : ℕ → ℤ) (i j : ℕ) → i < s .count → j < s .count → d i ≢ pos 0 → d j ≢ pos 0 →
+    ((k : ℕ) → k ≢ i → k ≢ j → d k ≡ pos 0) → Ray s d → Feasible s x → Unbounded s x d
 ray-unbounded s x d i j li lj di dj rest r p = record {
   i = i;
   j = j;
@@ -81,9 +84,12 @@ ray-unbounded s x d i j li lj di dj rest r p = record {
   j-moves = dj;
   others = rest;
   from = p;
-  stays = λ t. bridge-feasible s D (stepped x d t) (steppedᴰ D N d t) D≥1 (over-stepped s D x N d t reads) .1 (ray-stays s D N d r (bridge-feasible s D x N D≥1 reads .0 p) t);
-  rises = λ t. over-< D≥1 (over-total D (s .count) (stepped x d t) (steppedᴰ D N d t) (over-stepped s D x N d t reads) (prices s)) (over-total D (s .count) (stepped x d (suc t)) (steppedᴰ D N d (suc t)) (over-stepped s D x N d (suc t) reads) (prices s))
-      (rw (sum-stepped (s .count) D (prices s) N d t, sum-stepped (s .count) D (prices s) N d (suc t)) (more D t D≥1 (valueᴰ s N) (sum (s .count) (λ k. prices s k *ℤ d k)) (r .gain)));
+  stays = λ t. bridge-feasible s D (stepped x d t) (steppedᴰ D N d t) D≥1 (over-stepped s D x N d t reads) .1
+      (ray-stays s D N d r (bridge-feasible s D x N D≥1 reads .0 p) t);
+  rises = λ t. over-< D≥1 (over-total D (s .count) (stepped x d t) (steppedᴰ D N d t) (over-stepped s D x N d t reads) (prices s))
+      (over-total D (s .count) (stepped x d (suc t)) (steppedᴰ D N d (suc t)) (over-stepped s D x N d (suc t) reads) (prices s))
+      (rw (sum-stepped (s .count) D (prices s) N d t, sum-stepped (s .count) D (prices s) N d (suc t))
+      (more D t D≥1 (valueᴰ s N) (sum (s .count) (λ k. prices s k *ℤ d k)) (r .gain)));
 }
   where
     c : Common (s .count) x
@@ -119,7 +125,8 @@ optimal-not-unbounded s x y d b u = go (common (s .count) y) (common (s .count) 
     flat : (D : ℕ) (v g : ℤ) → g ≤ℤ pos 0 → (v +ℤ pos (1 * D) *ℤ g) ≤ℤ (v +ℤ pos (0 * D) *ℤ g)
     flat D = split2 _ (λ a b c e. simp zed (λ h. omega (arith, mul-le-mul-left D h)))
 
-    past : (D E t : ℕ) → 1 ≤ D → 1 ≤ E → (v g m : ℤ) → pos 0 <ℤ g → ((v +ℤ pos (t * D) *ℤ g) *ℤ pos E) ≤ℤ (m *ℤ pos D) → (m *ℤ pos D +ℤ pos 1) ≤ℤ (v *ℤ pos E +ℤ pos t) → ⊥
+    past : (D E t : ℕ) → 1 ≤ D → 1 ≤ E → (v g m : ℤ) → pos 0 <ℤ g → ((v +ℤ pos (t * D) *ℤ g) *ℤ pos E) ≤ℤ (m *ℤ pos D) →
+        (m *ℤ pos D +ℤ pos 1) ≤ℤ (v *ℤ pos E +ℤ pos t) → ⊥
     past D E t d e = split3 _ (λ a b c f h i. simp zed (λ k l m. omega (arith, mul-le-mul-left (t * D * E) k, mul-le-mul-left t (mul-le-mul d e))))
 
     go : Common (s .count) y → Common (s .count) x → ⊥
@@ -129,10 +136,13 @@ optimal-not-unbounded s x y d b u = go (common (s .count) y) (common (s .count) 
         gains = sum (s .count) (λ k. prices s k *ℤ d k)
 
         worth : (t : ℕ) → Over (c .D) (value s (stepped y d t)) (valueᴰ s (c .N) +ℤ pos (t * c .D) *ℤ gains)
-        worth t = rw (sum-stepped (s .count) (c .D) (prices s) (c .N) d t) at (over-total (c .D) (s .count) (stepped y d t) (steppedᴰ (c .D) (c .N) d t) (over-stepped s (c .D) y (c .N) d t (c .reads)) (prices s))
+        worth t = rw (sum-stepped (s .count) (c .D) (prices s) (c .N) d t) at (over-total (c .D) (s .count) (stepped y d t) (steppedᴰ (c .D) (c .N) d t)
+            (over-stepped s (c .D) y (c .N) d t (c .reads)) (prices s))
 
         below : (t : ℕ) → ((valueᴰ s (c .N) +ℤ pos (t * c .D) *ℤ gains) *ℤ pos (e .D)) ≤ℤ (valueᴰ s (e .N) *ℤ pos (c .D))
-        below t = over-≤ (mul-le-mul (c .D≥1) (e .D≥1)) (over-scale (e .D) (worth t)) (rw (mul-comm (e .D) (c .D)) at (over-scale (c .D) (over-total (e .D) (s .count) x (e .N) (e .reads) (prices s)))) .0 (b .highest (stepped y d t) (u .stays t))
+        below t = over-≤ (mul-le-mul (c .D≥1) (e .D≥1)) (over-scale (e .D) (worth t))
+            (rw (mul-comm (e .D) (c .D)) at (over-scale (c .D) (over-total (e .D) (s .count) x (e .N) (e .reads) (prices s)))) .0
+            (b .highest (stepped y d t) (u .stays t))
 
         steep : (gains ≤ℤ pos 0) ⊎ (pos 0 <ℤ gains) → ⊥
         steep (inl h) = no-rise _ _ (u .rises 0) (over-≤ (c .D≥1) (worth 1) (worth 0) .1 (flat (c .D) (valueᴰ s (c .N)) gains h))
@@ -142,6 +152,7 @@ optimal-not-unbounded s x y d b u = go (common (s .count) y) (common (s .count) 
 pub optimal-feasible : (s : Instance) (x : Point) → Optimal s x → Infeasible s → ⊥
 optimal-feasible s x o h = h x (o .feasible)
 
--- no two of the three answers hold of one instance
-pub exclusive : (s : Instance) (x y : Point) (d : ℕ → ℤ) → (Optimal s x → Infeasible s → ⊥) × (Optimal s x → Unbounded s y d → ⊥) × (Unbounded s y d → Infeasible s → ⊥)
+-- End theorem: no two of the three answers hold of one instance.
+pub exclusive : (s : Instance) (x y : Point) (d : ℕ → ℤ) →
+    (Optimal s x → Infeasible s → ⊥) × (Optimal s x → Unbounded s y d → ⊥) × (Unbounded s y d → Infeasible s → ⊥)
 exclusive s x y d = (optimal-feasible s x, optimal-not-unbounded s x y d, unbounded-feasible s y d)

@@ -6,7 +6,7 @@ use lib.IntN.{pos}
 use lib.ListN.{replicate}
 use Rattle.knapsack.specs.declared.Answer.{Answer}
 use Rattle.knapsack.specs.declared.Kind.the-variants.{Optimal}
-use Rattle.listing.specs.Decimal.{digitsIn, digits, decimal, integer}
+use Rattle.text.specs.Decimal.{digitsIn, digits, decimal, integer}
 use Rattle.listing.specs.Printing.{itemLines, printed}
 
 abbrev pub answer : Answer

@@ -12,6 +12,7 @@ use lib.ListN.{length, getD, replicate, length-set, length-replicate}
 use lib.Seq.{getD-set-same, getD-set-other}
 use Rattle.arith.proofs.Parts.{within-abs}
 use Rattle.knapsack.specs.declared.Problem.{Problem}
+use Rattle.knapsack.specs.Ranges.{InRange}
 use Rattle.domination.specs.declared.Pair.{Pair}
 use Rattle.domination.specs.declared.Pair.the-variants.{Missing, Steps}
 use Rattle.domination.specs.Pairs.{tabled}
@@ -75,10 +76,10 @@ spread-step t n r l s = record {
 abbrev Tabled : Problem → List Pair → Type 0
 Tabled p t = (i j : ℕ) → i < 16 → j < 16 → getD t (16 * i + j) Missing ≡ tabled p i j
 
-module _ (p : Problem) where
+module _ (p : Problem) (range : InRange p) where
   steps-small : (i j : ℕ) (q : Pair) → tabled p i j ≡ q → Short q
   steps-small i j Missing e = (omega arith, omega arith)
-  steps-small i j (Steps a b) e = let h = tabled-steps a b p i j e in (within-abs a (h .first-small), within-abs b (h .second-small))
+  steps-small i j (Steps a b) e = let h = tabled-steps a b p range i j e in (within-abs a (h .first-small), within-abs b (h .second-small))
 
   entry : (t : List Pair) → Tabled p t → (k : ℕ) → k < 256 → getD t k Missing ≡ tabled p (k / 16) (k % 16)
   entry t f k l = let e : 16 * (k / 16) + k % 16 ≡ k = omega arith in rw e at (f (k / 16) (k % 16) (omega arith) (omega arith))
@@ -93,7 +94,7 @@ module _ (p : Problem) where
     true-pair : (c : Columns) → Agrees p c → (i j : ℕ) (q : Pair) → tabled p i j ≡ q → Holds r (pairIndex i j) q → at (r .first) (pairIndex i j) ≢ pos 0 → TruePair c r i j
     true-pair c g i j Missing e h ne = absurd (ne (h .first-step))
     true-pair c g i j (Steps a b) e h ne =
-        let s = tabled-steps a b p i j e in
+        let s = tabled-steps a b p range i j e in
         record {
           heavy = rw (h .first-step, h .second-step, g .weights-agree i (s .first-place), g .weights-agree j (s .second-place)) (s .pair .heavy);
           loss = rw (h .first-step, h .second-step, g .prices-agree i (s .first-place), g .prices-agree j (s .second-place)) (s .pair .loss);

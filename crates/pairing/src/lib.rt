@@ -8,6 +8,7 @@ ghost use mathlib.Core.Path.{_≡_};
 ghost use Prim.Native.Nat.{ℕ, _<_};
 ghost use lib.ListN.{getD};
 ghost use Rattle.domination.specs.declared.Pair.the-variants.{Missing};
+ghost use Rattle.knapsack.specs.Ranges.{InRange};
 ghost use Rattle.pairing.specs.Tables.{Short, noSteps, withPair, Spread, PairsOf};
 
 // The tables before they are filled.
@@ -50,8 +51,9 @@ fn spread(t: [Pair; 256]) -> Pairs
     r
 }
 
-// The least pairs of a problem, true of every columns that hold its weights and prices. A record that is refused has none.
+// The least pairs of a problem, true of every columns that hold its weights and prices.
 pub fn pairs_of(p: Problem) -> Pairs
+    requires { ⌜ InRange p ⌝ }
     ensures { λ r. ⌜ PairsOf p r ⌝ }
 {
     let t = pair_table(p);

@@ -30,7 +30,7 @@ use Rattle.greedy.specs.declared.Ends.{Ends}
 use Rattle.greedy.specs.declared.Fill.{Fill}
 use Rattle.greedy.specs.Fill.{at, weightOf, priceOf, itemOf, rankOf, lightest, lightOf, cornerWeight, begun, bound, unit, stand, solution}
 use Rattle.greedy.specs.Ordered.{Ordered}
-use Rattle.knapsack.specs.Records.{itemAt, InRange}
+use Rattle.knapsack.specs.Ranges.{itemAt, InRange}
 use Rattle.knapsack.specs.Meaning.{Instance, instanceOf, amountAt, pointOf, weights, prices, Infeasible, Shown, bare, Answers}
 use Rattle.knapsack.specs.declared.Answer.{Answer}
 use Rattle.knapsack.specs.declared.Item.{Item}

@@ -12,7 +12,9 @@ use knapsack::Answer;
 use knapsack::Kind;
 use knapsack::Problem;
 use knapsack::Verdict;
-use knapsack::check_record;
+use model::Model;
+use model::check_model;
+use model::plain_of;
 use pairing::pairs_of;
 use prepare::narrowed;
 use prepare::prepare;
@@ -26,8 +28,9 @@ ghost use mathlib.Core.Path.{_≡_};
 ghost use Rattle.arith.proofs.Mixes.{over};
 ghost use Rattle.greedy.specs.Fill.{at};
 ghost use Rattle.greedy.specs.Sized.{Sized};
-ghost use Rattle.knapsack.specs.Records.{InRange};
-ghost use Rattle.knapsack.specs.Meaning.{bare, Planned};
+ghost use Rattle.knapsack.specs.Ranges.{InRange};
+ghost use Rattle.knapsack.specs.Meaning.{bare};
+ghost use Rattle.model.specs.Promises.{Planned};
 ghost use Rattle.search.specs.Ready.{ReadySetting, Inside};
 ghost use Rattle.planner.specs.Outcomes.{Joinable, Cornered, Best, Decides, Solves};
 
@@ -145,13 +148,13 @@ pub fn solve(p: Problem) -> Solved
 }
 
 // The planner's reply to any record.
-pub fn plan(p: Problem) -> Answer
-    ensures { λ r. ⌜ Planned p r ⌝ }
+pub fn plan(m: Model) -> Answer
+    ensures { λ r. ⌜ Planned m r ⌝ }
 {
-    let v = check_record(p);
+    let v = check_model(m);
     match v {
         Verdict::Accepted => {
-            let r = solve(p);
+            let r = solve(plain_of(m));
             r.answer
         }
         Verdict::Refused(f) => no_point(Kind::Refused(f)),

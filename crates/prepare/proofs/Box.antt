@@ -13,7 +13,7 @@ use Rattle.greedy.proofs.Relaxed.{boxOf}
 use Rattle.knapsack.proofs.Common.{Keepsᴰ, valueᴰ, Feasibleᴰ, Optimalᴰ}
 use Rattle.knapsack.proofs.Reach.{closed, shutAt}
 use Rattle.knapsack.specs.Meaning.{Instance, instanceOf, weights, prices}
-use Rattle.knapsack.specs.Records.{itemAt}
+use Rattle.knapsack.specs.Ranges.{itemAt}
 use Rattle.knapsack.specs.declared.Bound.the-variants.{Absent, At}
 use Rattle.knapsack.specs.declared.Bound.{Bound}
 use Rattle.knapsack.specs.declared.Item.{Item}

@@ -15,7 +15,7 @@ use Rattle.arith.proofs.Integers.{≤ℤ-antisym}
 use Rattle.arith.proofs.Parts.{impossible}
 use Rattle.arith.proofs.Words.{no-lt}
 use Rattle.greedy.specs.Fill.{place}
-use Rattle.knapsack.specs.Records.{itemAt, InOrder}
+use Rattle.knapsack.specs.Ranges.{itemAt, BoundsInOrder}
 use Rattle.knapsack.specs.declared.Bound.the-variants.{Absent, At}
 use Rattle.knapsack.specs.declared.Bound.{Bound}
 use Rattle.knapsack.specs.declared.Item.{Item}
@@ -36,12 +36,12 @@ not-not : (b : Bool) → not b ≡ true → b ≡ false
 not-not true h = absurd (impossible h)
 not-not false h = refl
 
-meet-ends : (l u : Bound) (a b : ℤ) → meet l u ≡ true → InOrder l u → endOr l a ≡ endOr u b
+meet-ends : (l u : Bound) (a b : ℤ) → meet l u ≡ true → BoundsInOrder l u → endOr l a ≡ endOr u b
 meet-ends Absent u a b h o = absurd (impossible h)
 meet-ends (At l) Absent a b h o = absurd (impossible h)
 meet-ends (At l) (At u) a b h o = ≤ℤ-antisym o (no-lt (not-not (ltZ l u) h))
 
-pub fixed-ends : (i : Item) → InOrder (i .lower) (i .upper) → fixed i ≡ true → isInteger (i .mark) ≡ false → lowEnd i ≡ highEnd i
+pub fixed-ends : (i : Item) → BoundsInOrder (i .lower) (i .upper) → fixed i ≡ true → isInteger (i .mark) ≡ false → lowEnd i ≡ highEnd i
 fixed-ends i o h e = meet-ends (i .lower) (i .upper) _ _ (rw e at h) o
 
 -- ---- the lattices are true of the levels

@@ -15,7 +15,7 @@ use Rattle.greedy.specs.Fill.{at, place}
 use Rattle.greedy.specs.Sized.{SizedColumns}
 use Rattle.greedy.specs.declared.Columns.{Columns}
 use Rattle.greedy.specs.declared.Fill.{Fill}
-use Rattle.knapsack.specs.Records.{itemAt}
+use Rattle.knapsack.specs.Ranges.{itemAt}
 use Rattle.knapsack.specs.declared.Item.{Item}
 use Rattle.knapsack.specs.declared.Mark.the-variants.{Integer, Continuous}
 use Rattle.knapsack.specs.declared.Mark.{Mark}

@@ -23,7 +23,7 @@ use Rattle.knapsack.proofs.Common.{Feasibleᴰ, Optimalᴰ}
 use Rattle.knapsack.proofs.Reach.{NoRay, AroundAt, Open, RangesAt, Reaches, shutAt, reach-empty-at, reach-optimal-at}
 use Rattle.knapsack.specs.Meaning.{Instance, instanceOf}
 use Rattle.knapsack.specs.Items.{isAbsent, isOpen}
-use Rattle.knapsack.specs.Records.{itemAt, BoundInRange, ItemInRange, InRange}
+use Rattle.knapsack.specs.Ranges.{itemAt, BoundInRange, ItemInRange, InRange}
 use Rattle.knapsack.specs.declared.Bound.the-variants.{Absent, At}
 use Rattle.knapsack.specs.declared.Bound.{Bound}
 use Rattle.knapsack.specs.declared.Item.{Item}

@@ -20,7 +20,7 @@ use Rattle.greedy.specs.Fill.{at, place, weightOf, priceOf, itemOf, rankOf}
 use Rattle.greedy.specs.Ordered.{Idle, weightAt, rateAt, Ordered}
 use Rattle.greedy.specs.Sized.{SizedColumns}
 use Rattle.greedy.specs.declared.Columns.{Columns}
-use Rattle.knapsack.specs.Records.{itemAt, ItemInRange, InRange}
+use Rattle.knapsack.specs.Ranges.{itemAt, ItemInRange, InRange}
 use Rattle.knapsack.specs.declared.Bound.the-variants.{Absent, At}
 use Rattle.knapsack.specs.declared.Bound.{Bound}
 use Rattle.knapsack.specs.declared.Item.{Item}

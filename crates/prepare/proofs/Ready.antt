@@ -11,7 +11,7 @@ use Rattle.arith.proofs.Parts.{zs}
 use Rattle.greedy.specs.Fill.{at, fill}
 use Rattle.greedy.specs.Sized.{SizedEnds}
 use Rattle.greedy.specs.declared.Ends.{Ends}
-use Rattle.knapsack.specs.Records.{itemAt, BoundInRange, InOrder, InRange}
+use Rattle.knapsack.specs.Ranges.{itemAt, BoundInRange, BoundsInOrder, InRange}
 use Rattle.knapsack.specs.declared.Bound.the-variants.{Absent, At}
 use Rattle.knapsack.specs.declared.Bound.{Bound}
 use Rattle.knapsack.specs.declared.Problem.{Problem}
@@ -42,7 +42,7 @@ above-reach = split _ (λ a b. simp zed (omega arith))
 below-reach : (v : ℤ) → natAbs v ≤ 10000 → v ≤ℤ pos 300000000
 below-reach = split _ (λ a b. simp zed (omega arith))
 
-ends-in-order : (l u : Bound) → BoundInRange l → BoundInRange u → InOrder l u → endOr l (negsuc 299999999) ≤ℤ endOr u (pos 300000000)
+ends-in-order : (l u : Bound) → BoundInRange l → BoundInRange u → BoundsInOrder l u → endOr l (negsuc 299999999) ≤ℤ endOr u (pos 300000000)
 ends-in-order Absent Absent h g o = omega (arith, zs)
 ends-in-order Absent (At u) h g o = above-reach u g
 ends-in-order (At l) Absent h g o = below-reach l h

@@ -22,7 +22,7 @@ use Rattle.greedy.specs.Fill.{at, weightOf, priceOf, itemOf, rankOf}
 use Rattle.greedy.specs.Ordered.{weightAt, rateAt, Ordered}
 use Rattle.greedy.specs.declared.Columns.{Columns}
 use Rattle.greedy.proofs.Greedy.{abs≥1}
-use Rattle.knapsack.specs.Records.{itemAt, InRange}
+use Rattle.knapsack.specs.Ranges.{itemAt, InRange}
 use Rattle.knapsack.specs.declared.Mark.{Mark}
 use Rattle.knapsack.specs.declared.Mark.the-variants.{Integer, Continuous}
 use Rattle.knapsack.specs.declared.Problem.{Problem}

@@ -15,7 +15,7 @@ use lib.ListN.{length}
 use lib.Signed.{ltZ}
 use Rattle.greedy.specs.Fill.{at, weightOf}
 use Rattle.knapsack.specs.Items.{isOpen}
-use Rattle.knapsack.specs.Records.{itemAt}
+use Rattle.knapsack.specs.Ranges.{itemAt}
 use Rattle.knapsack.specs.declared.Bound.the-variants.{Absent, At}
 use Rattle.knapsack.specs.declared.Bound.{Bound}
 use Rattle.knapsack.specs.declared.Item.{Item}

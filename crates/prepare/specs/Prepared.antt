@@ -19,7 +19,7 @@ use Rattle.greedy.specs.Fill.{at, weightOf, priceOf, fill}
 use Rattle.greedy.specs.declared.Columns.{Columns}
 use Rattle.greedy.specs.declared.Ends.{Ends}
 use Rattle.greedy.specs.declared.Fill.{Fill}
-use Rattle.knapsack.specs.Records.{itemAt}
+use Rattle.knapsack.specs.Ranges.{itemAt}
 use Rattle.knapsack.specs.declared.Problem.{Problem}
 use Rattle.lattice.specs.Building.{latticeOf}
 use Rattle.lattice.specs.Lattice.{unknown, latticeAt}

@@ -9,7 +9,7 @@ use lib.IntN.{ℤ, pos, natAbs}
 use Rattle.arith.specs.Gcd.{gcdOf}
 use Rattle.greedy.specs.Fill.{at}
 use Rattle.greedy.specs.declared.Columns.{Columns}
-use Rattle.knapsack.specs.Records.{itemAt}
+use Rattle.knapsack.specs.Ranges.{itemAt}
 use Rattle.knapsack.specs.declared.Item.{Item}
 use Rattle.knapsack.specs.declared.Mark.{Mark}
 use Rattle.knapsack.specs.declared.Mark.the-variants.{Integer, Continuous}

@@ -24,7 +24,7 @@ ghost use mathlib.Core.Path.{_≡_};
 ghost use Prim.Native.Nat.{_<_};
 ghost use Rattle.greedy.specs.Fill.{fill};
 ghost use Rattle.greedy.specs.Sized.{Sized};
-ghost use Rattle.knapsack.specs.Records.{InRange};
+ghost use Rattle.knapsack.specs.Ranges.{InRange};
 ghost use Rattle.prepare.specs.Prepared.{Columned, Boxed, criticalKey, Latticing, Prepared};
 ghost use Rattle.tables.specs.Tables.{Listing};
 

@@ -14,7 +14,7 @@ ghost use Prim.Native.Nat.{ℕ, _*_, _≤_, _<_};
 ghost use lib.IntN.{natAbs};
 ghost use Rattle.arith.specs.Within.{Within};
 ghost use Rattle.greedy.specs.Fill.{at, place};
-ghost use Rattle.knapsack.specs.Records.{ItemInRange, BoundInRange, InRange};
+ghost use Rattle.knapsack.specs.Ranges.{ItemInRange, BoundInRange, InRange};
 ghost use Rattle.search.specs.Ready.{ReadySetting};
 ghost use Rattle.prepare.specs.Narrowing.{larger, boundSize, openWeight, grownBy, mostOf, leadBy, burdenOf, reachOf, spanBy, clampBy, clampTo, Narrowed, Small};
 

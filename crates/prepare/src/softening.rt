@@ -10,7 +10,7 @@ use tables::Test;
 use tables::leading;
 ghost use mathlib.Core.Path.{_≡_};
 ghost use lib.IntN.{pos};
-ghost use Rattle.knapsack.specs.Records.{ItemInRange, InRange};
+ghost use Rattle.knapsack.specs.Ranges.{ItemInRange, InRange};
 ghost use Rattle.prepare.specs.Prepared.{Columned};
 ghost use Rattle.prepare.specs.Softening.{stepBy, strideOf, Softens};
 

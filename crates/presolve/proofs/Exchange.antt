@@ -17,7 +17,7 @@ use Rattle.arith.specs.Sum.{sum, bump}
 use Rattle.knapsack.proofs.Common.{KeepsMarkᴰ, KeepsLowerᴰ, KeepsUpperᴰ, Keepsᴰ, Feasibleᴰ}
 use Rattle.knapsack.proofs.Moves.{mark-step}
 use Rattle.knapsack.specs.Meaning.{Instance, weights}
-use Rattle.knapsack.specs.Records.{InOrder}
+use Rattle.knapsack.specs.Ranges.{BoundsInOrder}
 use Rattle.knapsack.specs.declared.Bound.{Bound}
 use Rattle.knapsack.specs.declared.Bound.the-variants.{Absent, At}
 use Rattle.knapsack.specs.declared.Mark.{Mark}
@@ -123,11 +123,11 @@ module _ (D : ℕ) where
       mark Integer = (v, refl)
       mark Continuous = tt
 
-      low : (l : Bound) → InOrder l (At v) → KeepsLowerᴰ D l (v *ℤ pos D)
+      low : (l : Bound) → BoundsInOrder l (At v) → KeepsLowerᴰ D l (v *ℤ pos D)
       low Absent h = tt
       low (At l) h = times-≤ D l v h
 
-      high : (u : Bound) → InOrder (At v) u → KeepsUpperᴰ D u (v *ℤ pos D)
+      high : (u : Bound) → BoundsInOrder (At v) u → KeepsUpperᴰ D u (v *ℤ pos D)
       high Absent h = tt
       high (At u) h = times-≤ D v u h
 

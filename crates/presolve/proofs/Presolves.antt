@@ -21,7 +21,7 @@ use Rattle.arith.proofs.Sums.{sum-cong}
 use Rattle.arith.specs.Sum.{sum}
 use Rattle.knapsack.proofs.Common.{KeepsLowerᴰ, KeepsUpperᴰ, Keepsᴰ, valueᴰ, Feasibleᴰ}
 use Rattle.knapsack.specs.Meaning.{instanceOf, prices}
-use Rattle.knapsack.specs.Records.{blank, itemAt, InOrder, ItemInRange, InRange}
+use Rattle.knapsack.specs.Ranges.{blank, itemAt, BoundsInOrder, ItemInRange, InRange}
 use Rattle.knapsack.specs.declared.Bound.{Bound}
 use Rattle.knapsack.specs.declared.Bound.the-variants.{Absent, At}
 use Rattle.knapsack.specs.declared.Item.{Item}
@@ -74,11 +74,11 @@ presolves-trans p q r f g = record {
 unfixed : (D : ℕ) (y : Item) (a b : Bound) (v n : ℤ) → Rests a b (y .lower) (y .upper) v → Keepsᴰ D (fixedAt v y) n → Keepsᴰ D y n
 unfixed D y a b v n g p = record { marked = p .marked; above = low (y .lower) (g .over); below = high (y .upper) (g .under) }
   where
-    low : (l : Bound) → InOrder l (At v) → KeepsLowerᴰ D l n
+    low : (l : Bound) → BoundsInOrder l (At v) → KeepsLowerᴰ D l n
     low Absent h = tt
     low (At l) h = ≤ℤ-trans (times-≤ D l v h) (p .above)
 
-    high : (u : Bound) → InOrder (At v) u → KeepsUpperᴰ D u n
+    high : (u : Bound) → BoundsInOrder (At v) u → KeepsUpperᴰ D u n
     high Absent h = tt
     high (At u) h = ≤ℤ-trans (p .below) (times-≤ D v u h)
 

@@ -12,7 +12,7 @@ ghost use mathlib.Core.Path.{_≡_};
 ghost use Prim.Native.Nat.{_<_};
 ghost use lib.IntN.{pos, _*ℤ_};
 ghost use Rattle.arith.specs.Within.{Within};
-ghost use Rattle.knapsack.specs.Records.{itemAt, ItemInRange, InRange};
+ghost use Rattle.knapsack.specs.Ranges.{itemAt, ItemInRange, InRange};
 ghost use Rattle.presolve.specs.Presolve.{same, takesOver, suits, multiple, stopLowered, stopRaised, openTo, orElse, restOf, fixedTo, beside, tried, fixedBy, presolved};
 
 fn equal(a: i64, b: i64) -> bool

@@ -23,7 +23,7 @@ use Rattle.knapsack.specs.declared.Bound.the-variants.{Absent, At}
 use Rattle.knapsack.specs.declared.Mark.{Mark}
 use Rattle.knapsack.specs.declared.Mark.the-variants.{Integer, Continuous}
 use Rattle.knapsack.specs.declared.Problem.{Problem}
-use Rattle.knapsack.specs.Records.{itemAt, BoundInRange, InOrder, InRange}
+use Rattle.knapsack.specs.Ranges.{itemAt, BoundInRange, BoundsInOrder, InRange}
 use Rattle.knapsack.specs.Meaning.{Instance, Point, instanceOf, relaxed, weights, Feasible, Infeasible, Unbounded, nought, Shown}
 use Rattle.knapsack.proofs.Branch.{empty}
 use Rattle.knapsack.proofs.Bridge.{Reads, bridge-feasible, bridge-infeasible}
@@ -84,7 +84,7 @@ ends-ordered p r k m l u hl hu = go (itemAt p k .lower) (itemAt p k .upper) (r .
     far : (a : ℤ) → natAbs a ≤ 10000 → (negℤ (pos 300000000) ≤ℤ a) × (a ≤ℤ pos 300000000)
     far = split _ (λ a b. simp zed (λ h. (omega arith, omega arith)))
 
-    go : (b c : Bound) → BoundInRange b → BoundInRange c → InOrder b c → closed b (negℤ (pos 300000000)) ≡ At l → closed c (pos 300000000) ≡ At u → l ≤ℤ u
+    go : (b c : Bound) → BoundInRange b → BoundInRange c → BoundsInOrder b c → closed b (negℤ (pos 300000000)) ≡ At l → closed c (pos 300000000) ≡ At u → l ≤ℤ u
     go Absent Absent rb rc o hb hc = subst₂ _≤ℤ_ (at-inj hb) (at-inj hc) (simp zed (omega arith))
     go Absent (At c) rb rc o hb hc = subst₂ _≤ℤ_ (at-inj hb) (at-inj hc) (far c rc .0)
     go (At b) Absent rb rc o hb hc = subst₂ _≤ℤ_ (at-inj hb) (at-inj hc) (far b rb .1)

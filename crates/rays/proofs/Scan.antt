@@ -21,7 +21,7 @@ use Rattle.knapsack.specs.declared.Bound.{Bound}
 use Rattle.knapsack.specs.declared.Bound.the-variants.{Absent, At}
 use Rattle.knapsack.specs.declared.Problem.{Problem}
 use Rattle.knapsack.specs.declared.Item.{Item}
-use Rattle.knapsack.specs.Records.{itemAt, ItemInRange, InRange}
+use Rattle.knapsack.specs.Ranges.{itemAt, ItemInRange, InRange}
 use Rattle.knapsack.specs.Meaning.{instanceOf}
 use Rattle.knapsack.proofs.Reach.{Way, fore, aft, turn, Free, NoRay}
 use Rattle.rays.specs.declared.Direction.{Direction}

@@ -22,7 +22,7 @@ use Rattle.arith.specs.Sum.{sum, bump}
 use Rattle.knapsack.specs.declared.Bound.the-variants.{Absent}
 use Rattle.knapsack.specs.declared.Problem.{Problem}
 use Rattle.knapsack.specs.declared.Item.{Item}
-use Rattle.knapsack.specs.Records.{itemAt, InRange}
+use Rattle.knapsack.specs.Ranges.{itemAt, InRange}
 use Rattle.knapsack.specs.Meaning.{Point, instanceOf, relaxed, Feasible, Unbounded}
 use Rattle.knapsack.proofs.Rays.{ray-unbounded}
 use Rattle.knapsack.proofs.Reach.{Way, fore, aft, turn, turn-mul, Free}

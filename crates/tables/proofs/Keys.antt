@@ -7,7 +7,7 @@ use native.Mathlib.Omega.{arith}
 use lib.Dec.{eqb}
 use lib.IntN.{pos, negsuc, natAbs}
 use Rattle.arith.proofs.Parts.{within-more}
-use Rattle.knapsack.specs.Records.{itemAt, ItemInRange, InRange}
+use Rattle.knapsack.specs.Ranges.{itemAt, ItemInRange, InRange}
 use Rattle.knapsack.specs.declared.Item.{Item}
 use Rattle.knapsack.specs.declared.Problem.{Problem}
 use Rattle.ordering.proofs.Order.{order-cong}

@@ -7,7 +7,7 @@ use Rattle.arith.proofs.Parts.{within-more, within-add, within-sub, within-mul,
 use Rattle.arith.specs.Within.{Within}
 use Rattle.arith.proofs.Signs.{within-turned, turned-self}
 use Rattle.arith.specs.Signs.{turned}
-use Rattle.knapsack.specs.Records.{BoundInRange, ItemInRange}
+use Rattle.knapsack.specs.Ranges.{BoundInRange, ItemInRange}
 use Rattle.knapsack.specs.declared.Bound.the-variants.{Absent, At}
 use Rattle.knapsack.specs.declared.Bound.{Bound}
 use Rattle.knapsack.specs.declared.Item.{Item}

@@ -15,7 +15,7 @@ use lib.IntN.{ℤ, pos}
 use lib.ListN.{length, getD, set, replicate, length-set}
 use lib.Seq.{getD-set-same, getD-set-other}
 use Rattle.greedy.specs.Fill.{at, place}
-use Rattle.knapsack.specs.Records.{blank}
+use Rattle.knapsack.specs.Ranges.{blank}
 use Rattle.knapsack.specs.declared.Item.{Item}
 use Rattle.knapsack.specs.declared.Problem.{Problem}
 use Rattle.tables.specs.Tables.{Tabled, Listing, Leading, Permuted}

@@ -2,7 +2,7 @@ use denote.Ref.{now}
 use mir.Syntax.{w64}
 use mir.Val.{ofZ, toZ}
 use Rattle.lines.specs.Lines.{headingLine}
-use Rattle.lines.specs.declared.number.Figure.the-variants.{In}
+use Rattle.lines.specs.declared.number.Ranged.the-variants.{In}
 use Rattle.lines.specs.declared.number.Field.the-variants.{Number}
 use Rattle.lines.specs.Lines.{countAt}
 use mathlib.Core.Path.{_≡_, sym, ap, _∙_}

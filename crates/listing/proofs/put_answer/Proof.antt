@@ -5,7 +5,7 @@ use native.Mathlib.Omega.{arith}
 use Rattle.knapsack.specs.declared.Answer.{Answer}
 use Rattle.knapsack.specs.declared.Kind.{Kind}
 use Rattle.listing.specs.Printing.{printed, printedAs}
-use Rattle.listing.proofs.Buffers.{puts, roomier}
+use Rattle.text.proofs.Buffers.{puts, roomier}
 use borrow.Author.Needs.{needs}
 use Rattle.listing.proofs.put_answer.Statement.{statement}
 use Rattle.listing.proofs.put_answer.Tie as tie

@@ -5,7 +5,7 @@ use native.Mathlib.Omega.{arith}
 use mir.Syntax.{w64}
 use mir.Val.{SFits}
 use mir.Facts.{toZ-ofZ}
-use Rattle.listing.proofs.Buffers.{puts, roomier}
+use Rattle.text.proofs.Buffers.{puts, roomier}
 use borrow.Author.Needs.{needs}
 use Rattle.listing.proofs.put_item.Statement.{statement}
 use Rattle.listing.proofs.put_item.Tie as tie

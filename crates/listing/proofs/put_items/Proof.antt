@@ -5,9 +5,9 @@ use native.Mathlib.Numerals.{add-one}
 use native.Mathlib.Omega.{arith}
 use lib.ListN.{length}
 use Rattle.arith.proofs.Words.{back}
-use Rattle.listing.specs.Buffer.{Put}
+use Rattle.text.specs.Buffer.{Put}
 use Rattle.listing.specs.Printing.{stepAt, itemLines}
-use Rattle.listing.proofs.Buffers.{put-nothing, puts, roomier}
+use Rattle.text.proofs.Buffers.{put-nothing, puts, roomier}
 use Rattle.listing.proofs.put_items.Statement.{statement}
 use Rattle.listing.proofs.put_items.Tie as tie
 

@@ -8,14 +8,15 @@ pair-table-requires : tie.Need-pair-table-requires
 pair-table-requires c κs = search needs
 
 spread-requires : tie.Need-spread-requires
-spread-requires c κs = all-short (c .before .args .p) (c .pair-table .result) (c .pair-table .ensures)
+spread-requires c κs = all-short (c .before .args .p) (c .before .pre) (c .pair-table .result) (c .pair-table .ensures)
 
 returns : tie.Need-returns
 returns c =
     let t = c .before .pair-table in
+    let s = c .before .before in
     record {
-      held = held (c .before .before .args .p) (c .spread .result) (t .result) (t .ensures) (c .spread .ensures);
-      ready = ready (c .before .before .args .p) (c .spread .result) (t .result) (t .ensures) (c .spread .ensures);
+      held = held (s .args .p) (s .pre) (c .spread .result) (t .result) (t .ensures) (c .spread .ensures);
+      ready = ready (s .args .p) (s .pre) (c .spread .result) (t .result) (t .ensures) (c .spread .ensures);
     }
 
 pub pairs-of-spec : {M : Type 1} → statement M

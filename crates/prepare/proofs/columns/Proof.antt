@@ -4,7 +4,7 @@ use borrow.Author.Needs.{needs}
 use mir.Facts.{toZ-ofZ}
 use mir.Syntax.{w64}
 use mir.Val.{SFits}
-use Rattle.knapsack.specs.Records.{itemAt}
+use Rattle.knapsack.specs.Ranges.{itemAt}
 use Rattle.tables.specs.Figures.{keyOf}
 use Rattle.tables.specs.Tables.{Listing, Permuted}
 use Rattle.tables.specs.declared.Figure.the-variants.{Weight, Price}

@@ -2,7 +2,7 @@
 use mathlib.Core.Path.{sym, subst}
 use borrow.Author.Needs.{needs}
 use Rattle.greedy.specs.Fill.{fill}
-use Rattle.knapsack.specs.Records.{itemAt}
+use Rattle.knapsack.specs.Ranges.{itemAt}
 use Rattle.tables.specs.Figures.{keyOf, SmallKey}
 use Rattle.tables.specs.Tables.{Listing}
 use Rattle.prepare.proofs.Levels.{critical-small}

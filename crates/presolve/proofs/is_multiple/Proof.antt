@@ -6,7 +6,7 @@ use mir.Facts.{toZ-ofZ}
 use borrow.Author.Needs.{needs}
 use Rattle.arith.proofs.Parts.{abs-within, within-more, within-back}
 use Rattle.arith.specs.Within.{Within}
-use Rattle.knapsack.specs.Records.{ItemInRange}
+use Rattle.knapsack.specs.Ranges.{ItemInRange}
 use Rattle.knapsack.specs.declared.Item.{Item}
 use Rattle.presolve.specs.Presolve.{same}
 use Rattle.presolve.proofs.is_multiple.Statement.{statement}

@@ -2,7 +2,7 @@
 use mathlib.Core.Path.{_≡_, refl, sym, _∙_}
 use Prim.Native.Nat.{_-_, _≤_, _<_}
 use native.Mathlib.Omega.{arith}
-use Rattle.knapsack.specs.Records.{itemAt, InRange}
+use Rattle.knapsack.specs.Ranges.{itemAt, InRange}
 use Rattle.presolve.specs.Presolve.{fixedAround, presolvedFrom, presolved}
 use Rattle.presolve.proofs.Presolves.{around-presolves, presolved-next}
 use Rattle.presolve.proofs.Tests.{takes-over-weighs}

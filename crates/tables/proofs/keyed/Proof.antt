@@ -3,7 +3,7 @@ use mathlib.Core.Path.{_≡_, refl}
 use Prim.Native.Nat.{ℕ, _-_, _≤_, _<_}
 use native.Mathlib.Omega.{arith}
 use lib.ListN.{length, getD, length-set, length-map}
-use Rattle.knapsack.specs.Records.{blank, itemAt}
+use Rattle.knapsack.specs.Ranges.{blank, itemAt}
 use Rattle.tables.specs.Figures.{keyOf}
 use Rattle.tables.proofs.Tables.{item-set}
 use Rattle.tables.proofs.keyed.Statement.{statement}

@@ -9,7 +9,7 @@ use mir.Facts.{toZ-pos}
 use borrow.Author.Needs.{needs}
 use borrow.Author.Tests.{lt-ltb, le-ltb}
 use Rattle.arith.proofs.Parts.{within-back}
-use Rattle.knapsack.specs.Records.{itemAt}
+use Rattle.knapsack.specs.Ranges.{itemAt}
 use Rattle.tables.specs.Figures.{keyOf}
 use Rattle.tables.specs.declared.Key.the-variants.{Filling}
 use Rattle.prepare.specs.Softening.{strideOf}
