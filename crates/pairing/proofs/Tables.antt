@@ -18,9 +18,8 @@ use Rattle.domination.specs.Pairs.{tabled}
 use Rattle.domination.proofs.Entry.{tabled-steps}
 use Rattle.greedy.specs.declared.Columns.{Columns}
 use Rattle.greedy.specs.Fill.{at}
-use Rattle.search.specs.declared.Pairs.{Pairs}
-use Rattle.search.specs.Search.{pairIndex}
-use Rattle.search.specs.Ready.{TruePair, ReadyPairs}
+use Rattle.setting.specs.declared.Pairs.{Pairs}
+use Rattle.setting.specs.Ready.{pairIndex, TruePair, ReadyPairs}
 use Rattle.pairing.specs.Tables.{Short, noSteps, withPair, Holds, Spread, Agrees}
 
 -- ---- the loop

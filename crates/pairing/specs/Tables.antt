@@ -19,8 +19,8 @@ use Rattle.domination.specs.declared.Pair.the-variants.{Missing, Steps}
 use Rattle.domination.specs.Pairs.{tabled}
 use Rattle.greedy.specs.declared.Columns.{Columns}
 use Rattle.greedy.specs.Fill.{at, weightOf, priceOf}
-use Rattle.search.specs.declared.Pairs.{Pairs}
-use Rattle.search.specs.Ready.{ReadyPairs}
+use Rattle.setting.specs.declared.Pairs.{Pairs}
+use Rattle.setting.specs.Ready.{ReadyPairs}
 
 abbrev pub firstStep : Pair → ℤ
 firstStep Missing = pos 0

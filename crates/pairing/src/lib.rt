@@ -3,7 +3,7 @@
 use domination::Pair;
 use domination::pair_table;
 use knapsack::Problem;
-use search::Pairs;
+use setting::Pairs;
 ghost use mathlib.Core.Path.{_≡_};
 ghost use Prim.Native.Nat.{ℕ, _<_};
 ghost use lib.ListN.{getD};

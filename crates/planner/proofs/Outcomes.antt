@@ -46,9 +46,9 @@ use Rattle.rays.specs.declared.RayReply.{RayReply}
 use Rattle.rays.specs.Rays.{RayFound}
 use Rattle.rays.proofs.Corner.{LightCorner, ranges-of, corner-feasible, corner-infeasible, corner-shown, corner-unbounded}
 use Rattle.search.specs.declared.Incumbent.{Incumbent}
-use Rattle.search.specs.declared.Setting.{Setting}
-use Rattle.search.specs.Ready.{Searched}
-use Rattle.search.proofs.Boxes.{between}
+use Rattle.setting.specs.declared.Setting.{Setting}
+use Rattle.search.specs.Searched.{Searched}
+use Rattle.setting.proofs.Boxes.{between}
 use Rattle.planner.specs.Outcomes.{unfilled, Cornered, boxAt, fillAt, valueAt, Best}
 use Rattle.planner.proofs.Terms.{over-lowest, lowest-one, lowest-whole, lowest-divides, lowest-small}
 

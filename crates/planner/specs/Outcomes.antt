@@ -27,10 +27,10 @@ use Rattle.pairing.specs.Tables.{PairsOf}
 use Rattle.prepare.specs.Narrowing.{spanOf}
 use Rattle.prepare.specs.Prepared.{PreparedAt}
 use Rattle.presolve.specs.Presolve.{presolved}
-use Rattle.search.specs.declared.Pairs.{Pairs}
-use Rattle.search.specs.declared.Setting.{Setting}
+use Rattle.setting.specs.declared.Pairs.{Pairs}
+use Rattle.setting.specs.declared.Setting.{Setting}
 use Rattle.search.specs.declared.State.{State}
-use Rattle.search.specs.Search.{fixedBy}
+use Rattle.setting.specs.Box.{fixedBy}
 use Rattle.search.specs.Steps.{Took}
 use Rattle.planner.specs.declared.Solved.{Solved}
 

@@ -19,8 +19,8 @@ use prepare::prepare;
 use prepare::reach_of;
 use presolve::presolve;
 use rays::find_ray;
-use search::Setting;
-use search::fixed;
+use setting::Setting;
+use setting::fixed;
 use search::run;
 ghost use mathlib.Core.Path.{_≡_};
 ghost use Rattle.arith.proofs.Mixes.{over};
@@ -28,7 +28,8 @@ ghost use Rattle.greedy.specs.Fill.{at};
 ghost use Rattle.greedy.specs.Sized.{Sized};
 ghost use Rattle.knapsack.specs.Records.{InRange};
 ghost use Rattle.knapsack.specs.Meaning.{bare, Planned};
-ghost use Rattle.search.specs.Ready.{ReadySetting, Inside};
+ghost use Rattle.setting.specs.Ready.{ReadySetting};
+ghost use Rattle.setting.specs.Box.{Inside};
 ghost use Rattle.planner.specs.Outcomes.{Joinable, Cornered, Best, Decides, Solves};
 
 // A value as one number of parts.

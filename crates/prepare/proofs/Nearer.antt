@@ -29,9 +29,9 @@ use Rattle.knapsack.specs.declared.Bound.{Bound}
 use Rattle.knapsack.specs.declared.Item.{Item}
 use Rattle.knapsack.specs.declared.Problem.{Problem}
 use Rattle.greedy.specs.Fill.{at, weightOf}
-use Rattle.search.specs.Ready.{Mild}
-use Rattle.search.specs.Search.{levelAt}
-use Rattle.search.specs.declared.Setting.{Setting}
+use Rattle.setting.specs.Ready.{Mild}
+use Rattle.setting.specs.Box.{levelAt}
+use Rattle.setting.specs.declared.Setting.{Setting}
 use Rattle.tables.specs.Figures.{endOr}
 use Rattle.prepare.specs.Narrowing.{larger, boundSize, openWeight, grownBy, mostOf, ownBound, leadBy, burdenOf, reachOf, spanBy, spanOf, clampTo, Narrowed, Small}
 use Rattle.prepare.specs.declared.Reach.{Reach}

@@ -17,9 +17,9 @@ use Rattle.knapsack.specs.declared.Bound.{Bound}
 use Rattle.knapsack.specs.declared.Problem.{Problem}
 use Rattle.ordering.specs.Ranking.{Sorted}
 use Rattle.lattice.specs.Lattice.{latticeAt}
-use Rattle.search.specs.Ready.{Changes, Marked, Mild, Softened}
-use Rattle.search.specs.Search.{levelAt}
-use Rattle.search.specs.declared.Setting.{Setting}
+use Rattle.setting.specs.Ready.{Changes, Marked, Mild, Softened}
+use Rattle.setting.specs.Box.{levelAt}
+use Rattle.setting.specs.declared.Setting.{Setting}
 use Rattle.tables.proofs.Ranges.{low-within, high-within}
 use Rattle.tables.specs.Figures.{endOr, lowEnd, highEnd, figureOf, isInteger, fixed, passes, keyOf}
 use Rattle.tables.specs.Tables.{Tabled, listed, Leading}

@@ -26,8 +26,8 @@ use Rattle.knapsack.specs.Records.{itemAt, InRange}
 use Rattle.knapsack.specs.declared.Mark.{Mark}
 use Rattle.knapsack.specs.declared.Mark.the-variants.{Integer, Continuous}
 use Rattle.knapsack.specs.declared.Problem.{Problem}
-use Rattle.search.specs.Ready.{Mild, Moderate}
-use Rattle.search.specs.declared.Soft.{Soft}
+use Rattle.setting.specs.Ready.{Mild, Moderate}
+use Rattle.setting.specs.declared.Soft.{Soft}
 use Rattle.tables.specs.Figures.{fixed, passes}
 use Rattle.tables.specs.Tables.{listed, Leading}
 use Rattle.tables.specs.declared.Test.the-variants.{Fixed}

@@ -20,8 +20,8 @@ use Rattle.knapsack.specs.declared.Bound.the-variants.{Absent, At}
 use Rattle.knapsack.specs.declared.Bound.{Bound}
 use Rattle.knapsack.specs.declared.Item.{Item}
 use Rattle.knapsack.specs.declared.Problem.{Problem}
-use Rattle.search.specs.declared.Setting.{Setting}
-use Rattle.search.specs.Search.{levelAt}
+use Rattle.setting.specs.declared.Setting.{Setting}
+use Rattle.setting.specs.Box.{levelAt}
 use Rattle.prepare.specs.declared.Most.{Most}
 use Rattle.prepare.specs.declared.Reach.{Reach}
 

@@ -25,8 +25,8 @@ use Rattle.lattice.specs.Building.{latticeOf}
 use Rattle.lattice.specs.Lattice.{unknown, latticeAt}
 use Rattle.lattice.specs.declared.Lattice.{Lattice}
 use Rattle.ordering.specs.Ranking.{Sorted}
-use Rattle.search.specs.Ready.{ReadySetting, Marked}
-use Rattle.search.specs.declared.Setting.{Setting}
+use Rattle.setting.specs.Ready.{ReadySetting, Marked}
+use Rattle.setting.specs.declared.Setting.{Setting}
 use Rattle.tables.specs.Figures.{endOr, figureOf, fixed, passes, keyOf}
 use Rattle.tables.specs.Tables.{Tabled, listed, Leading, Inverted}
 use Rattle.tables.specs.declared.Figure.the-variants.{Weight, Price, Low, High, Size, Rate}

@@ -14,7 +14,7 @@ use Rattle.knapsack.specs.declared.Item.{Item}
 use Rattle.knapsack.specs.declared.Mark.{Mark}
 use Rattle.knapsack.specs.declared.Mark.the-variants.{Integer, Continuous}
 use Rattle.knapsack.specs.declared.Problem.{Problem}
-use Rattle.search.specs.declared.Soft.{Soft}
+use Rattle.setting.specs.declared.Soft.{Soft}
 use Rattle.tables.specs.Figures.{passes}
 use Rattle.tables.specs.Tables.{listed, Leading}
 use Rattle.tables.specs.declared.Test.the-variants.{Fixed}

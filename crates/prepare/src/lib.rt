@@ -10,7 +10,7 @@ use lattice::lattices;
 use lattice::unknown_lattices;
 pub use narrowing::narrowed;
 pub use narrowing::reach_of;
-use search::Setting;
+use setting::Setting;
 use softening::soft_of;
 use tables::Figure;
 use tables::Key;

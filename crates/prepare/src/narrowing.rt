@@ -8,14 +8,14 @@ use knapsack::Bound;
 use knapsack::Item;
 use knapsack::Problem;
 use knapsack::is_open;
-use search::Setting;
+use setting::Setting;
 ghost use mathlib.Core.Path.{_≡_};
 ghost use Prim.Native.Nat.{ℕ, _*_, _≤_, _<_};
 ghost use lib.IntN.{natAbs};
 ghost use Rattle.arith.specs.Within.{Within};
 ghost use Rattle.greedy.specs.Fill.{at, place};
 ghost use Rattle.knapsack.specs.Records.{ItemInRange, BoundInRange, InRange};
-ghost use Rattle.search.specs.Ready.{ReadySetting};
+ghost use Rattle.setting.specs.Ready.{ReadySetting};
 ghost use Rattle.prepare.specs.Narrowing.{larger, boundSize, openWeight, grownBy, mostOf, leadBy, burdenOf, reachOf, spanBy, clampBy, clampTo, Narrowed, Small};
 
 fn larger_of(a: u64, b: u64) -> u64

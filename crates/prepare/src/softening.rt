@@ -5,7 +5,7 @@ use greedy::Columns;
 use knapsack::Item;
 use knapsack::Mark;
 use knapsack::Problem;
-use search::Soft;
+use setting::Soft;
 use tables::Test;
 use tables::leading;
 ghost use mathlib.Core.Path.{_≡_};

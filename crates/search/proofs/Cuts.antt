@@ -39,12 +39,13 @@ use Rattle.lattice.specs.Lattice.{On, latticeAt, barrenBy}
 use Rattle.lattice.proofs.Members.{on-zero, on-scale, Lies, sum-lies}
 use Rattle.lattice.proofs.Descent.{barren-true, known}
 use Rattle.places.proofs.Places.{Agree, Run}
-use Rattle.search.specs.declared.Setting.{Setting}
+use Rattle.setting.specs.declared.Setting.{Setting}
 use Rattle.search.specs.declared.Incumbent.{Incumbent}
-use Rattle.search.specs.Search.{levelAt, spanned, fixedIn, fixedBy, startBy, runEnds, slopeOf, sparseBy}
-use Rattle.search.specs.Ready.{ReadySetting, Marked}
-use Rattle.search.specs.Steps.{Long}
-use Rattle.search.proofs.Boxes.{at-same, at-other, orderOf, item<16, fixed-long, fixed-level, fixed-other}
+use Rattle.setting.specs.Box.{levelAt, spanned, fixedIn, fixedBy, Long}
+use Rattle.search.specs.Search.{startBy, runEnds, slopeOf, sparseBy}
+use Rattle.setting.specs.Ready.{ReadySetting, Marked}
+use Rattle.setting.proofs.Boxes.{at-same, at-other, item<16, fixed-long, fixed-level, fixed-other}
+use Rattle.search.proofs.Starts.{orderOf}
 use Rattle.search.proofs.Bounds.{steep}
 
 -- ---- points of a box

@@ -13,12 +13,14 @@ use lib.Signed.{_≤ℤ_}
 use Rattle.greedy.specs.declared.Ends.{Ends}
 use Rattle.greedy.specs.Fill.{at, fill, start}
 use Rattle.greedy.specs.Sized.{Sized}
-use Rattle.search.specs.declared.Setting.{Setting}
+use Rattle.setting.specs.declared.Setting.{Setting}
 use Rattle.search.specs.declared.Path.{Path}
-use Rattle.search.specs.Search.{levelAt, spanned, fixedIn, fixedBy, startBy}
-use Rattle.search.specs.Ready.{ReadySetting, InsideTo}
-use Rattle.search.specs.Steps.{Long, LongPath, Dived, Turnable, Turned}
-use Rattle.search.proofs.Boxes.{at-same, at-other, fixed-cong, start-cong, start-in, fixed-sized}
+use Rattle.setting.specs.Box.{levelAt, spanned, fixedIn, fixedBy, InsideTo, Long}
+use Rattle.search.specs.Search.{startBy}
+use Rattle.setting.specs.Ready.{ReadySetting}
+use Rattle.search.specs.Steps.{LongPath, Dived, Turnable, Turned}
+use Rattle.setting.proofs.Boxes.{at-same, at-other, fixed-cong, fixed-sized}
+use Rattle.search.proofs.Starts.{start-cong, start-in}
 
 pub record Diving (s : Setting) (j : ℕ) (p q : Path) (e : Ends) (k : ℕ) : Type 0 where
   pub past : j ≤ k

@@ -33,21 +33,23 @@ use Rattle.places.specs.declared.Settled.the-variants.{Run, Prefix}
 use Rattle.places.specs.Moves.{SettledIn, pastOf}
 use Rattle.places.proofs.Places.{Place, Box, Agree, Moved, Covers, All, μ, covers-mono, covers-first, starts-box}
 use Rattle.places.proofs.Steps.{Settles, Goes, step-goes}
-use Rattle.search.specs.declared.Setting.{Setting}
-use Rattle.search.specs.declared.Pairs.{Pairs}
+use Rattle.setting.specs.declared.Setting.{Setting}
+use Rattle.setting.specs.declared.Pairs.{Pairs}
 use Rattle.search.specs.declared.Incumbent.{Incumbent}
 use Rattle.search.specs.declared.Path.{Path}
 use Rattle.search.specs.declared.State.{State}
 use Rattle.search.specs.declared.Trial.{Trial}
-use Rattle.search.specs.Search.{levelAt, fixedBy, startBy, runEnds, cutBy, betters, triedBy}
-use Rattle.search.specs.Ready.{ReadySetting, ReadyPairs, Ready, Inside, Marked, chosen, Searched}
-use Rattle.search.specs.Steps.{Long, Started, ProperBest, Judges, Passed, kept, LookedAs, Dived, nobody, Turned, freshBy, WentOn, Stepped}
-use Rattle.search.proofs.Boxes.{orderOf, order-laws, fixed-order, fixed-level, fixed-other}
+use Rattle.setting.specs.Box.{levelAt, fixedBy, Inside, Long}
+use Rattle.search.specs.Search.{startBy, runEnds, cutBy, betters, triedBy}
+use Rattle.setting.specs.Ready.{ReadySetting, ReadyPairs, Ready, Marked}
+use Rattle.search.specs.Searched.{chosen, Searched}
+use Rattle.search.specs.Steps.{Started, ProperBest, Judges, Passed, kept, LookedAs, Dived, nobody, Turned, freshBy, WentOn, Stepped}
+use Rattle.search.proofs.Starts.{orderOf, order-laws}
+use Rattle.setting.proofs.Boxes.{fixed-order, fixed-level, fixed-other}
 use Rattle.search.proofs.Bounds.{bound-proper}
 use Rattle.search.proofs.Runs.{fixed-judged}
 use Rattle.search.proofs.Turns.{looked-in, looked-passed, looked-kept, past-started, move-in, passed-on}
-use Rattle.search.proofs.Cuts.{box, AtPlace, AtMostBest, Bettered, InBox, rebox}
-use Rattle.search.proofs.Cuts.{Settled as SettledAt}
+use Rattle.search.proofs.Cuts.{box, AtPlace, AtMostBest, Bettered, InBox, rebox, Settled as SettledAt}
 use Rattle.search.proofs.Settle.{cut-settles, pair-settles, tried-settles, tried-keeps}
 
 -- the box of a place, all levels fixed, and its filling

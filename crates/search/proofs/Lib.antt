@@ -1,4 +1,4 @@
-pub mod Boxes
+pub mod Starts
 pub mod Dives
 pub mod Bounds
 pub mod Runs

@@ -31,12 +31,13 @@ use Rattle.lattice.specs.Lattice.{On}
 use Rattle.lattice.proofs.Members.{Lies}
 use Rattle.lattice.proofs.Ranges.{nonzero}
 use Rattle.places.proofs.Places.{Run}
-use Rattle.search.specs.declared.Setting.{Setting}
-use Rattle.search.specs.declared.Soft.{Soft}
-use Rattle.search.specs.Search.{levelAt, startBy, runEnds, strideFill, mixedBound}
-use Rattle.search.specs.Ready.{ReadySetting, Marked, Mild, Softened}
-use Rattle.search.specs.Steps.{Long}
-use Rattle.search.proofs.Boxes.{orderOf, fixed-other}
+use Rattle.setting.specs.declared.Setting.{Setting}
+use Rattle.setting.specs.declared.Soft.{Soft}
+use Rattle.setting.specs.Box.{levelAt, Long}
+use Rattle.search.specs.Search.{startBy, runEnds, strideFill, mixedBound}
+use Rattle.setting.specs.Ready.{ReadySetting, Marked, Mild, Softened}
+use Rattle.search.proofs.Starts.{orderOf}
+use Rattle.setting.proofs.Boxes.{fixed-other}
 use Rattle.search.proofs.Cuts.{box, AtPlace, in-e, box-stands, point-lies, other-ends}
 use Rattle.search.proofs.Bounds.{steep}
 

@@ -19,14 +19,14 @@ use Rattle.places.specs.declared.Settled.{Settled}
 use Rattle.places.specs.declared.Settled.the-variants.{Run, Prefix}
 use Rattle.places.specs.Moves.{pastOf}
 use Rattle.search.specs.declared.Incumbent.{Incumbent}
-use Rattle.search.specs.declared.Pairs.{Pairs}
+use Rattle.setting.specs.declared.Pairs.{Pairs}
 use Rattle.search.specs.declared.Path.{Path}
-use Rattle.search.specs.declared.Setting.{Setting}
+use Rattle.setting.specs.declared.Setting.{Setting}
 use Rattle.search.specs.declared.State.{State}
 use Rattle.search.specs.declared.Trial.{Trial}
 use Rattle.search.specs.Search.{startBy}
 use Rattle.search.specs.Steps.{LongPath, Dived, cutAt, Cut, Discarded, Tries, LookedAs, Turned, WentOn, Stepped, origin, Begun, After, Took}
-use Rattle.search.proofs.Boxes.{start-cong}
+use Rattle.search.proofs.Starts.{start-cong}
 
 -- ---- lists with the same entries are equal
 

@@ -7,12 +7,13 @@ use lib.Signed.{_≤ℤ_, ltZ}
 use Rattle.arith.specs.Within.{Within}
 use Rattle.greedy.specs.declared.Ends.{Ends}
 use Rattle.greedy.specs.Fill.{at}
-use Rattle.search.specs.declared.Setting.{Setting}
+use Rattle.setting.specs.declared.Setting.{Setting}
 use Rattle.search.specs.declared.Incumbent.{Incumbent}
-use Rattle.search.specs.Search.{levelAt, spanned, fixedBy, runEnds}
-use Rattle.search.specs.Ready.{ReadySetting, Inside}
-use Rattle.search.specs.Steps.{Long, ProperBest, Judges}
-use Rattle.search.proofs.Boxes.{item<16, fixed-long, fixed-sized, fixed-order, span-sized, span-order, low-within, high-within, inside-within}
+use Rattle.setting.specs.Box.{levelAt, spanned, fixedBy, Inside, Long}
+use Rattle.search.specs.Search.{runEnds}
+use Rattle.setting.specs.Ready.{ReadySetting}
+use Rattle.search.specs.Steps.{ProperBest, Judges}
+use Rattle.setting.proofs.Boxes.{item<16, fixed-long, fixed-sized, fixed-order, span-sized, span-order, low-within, high-within, inside-within}
 
 module _ (s : Setting) (r : ReadySetting s) (long : Long (s .ends)) (P : ℕ → ℤ) (inside : Inside s P) where
   pub fixed-judged : (d : ℕ) (b : Incumbent) → d ≤ s .levels → ProperBest b → Judges (s .cols) (fixedBy s P d) b

@@ -31,13 +31,15 @@ use Rattle.greedy.proofs.Sizes.{fill-sized}
 use Rattle.lattice.specs.Lattice.{latticeAt}
 use Rattle.lattice.proofs.Ranges.{nonzero}
 use Rattle.places.proofs.Places.{Agree, Run}
-use Rattle.search.specs.declared.Setting.{Setting}
-use Rattle.search.specs.declared.Pairs.{Pairs}
+use Rattle.setting.specs.declared.Setting.{Setting}
+use Rattle.setting.specs.declared.Pairs.{Pairs}
 use Rattle.search.specs.declared.Incumbent.{Incumbent}
-use Rattle.search.specs.Search.{levelAt, fixedBy, startBy, runEnds, sparseBy, strideFill, mixedBound, mixedBy, blendBy, cutBy, betters, triedBy, pairIndex, Applies}
-use Rattle.search.specs.Ready.{ReadySetting, ReadyPairs, TruePair, Inside, Marked}
-use Rattle.search.specs.Steps.{Long, ProperBest, Judges}
-use Rattle.search.proofs.Boxes.{orderOf, item<16}
+use Rattle.setting.specs.Box.{levelAt, fixedBy, Inside, Long}
+use Rattle.search.specs.Search.{startBy, runEnds, sparseBy, strideFill, mixedBound, mixedBy, blendBy, cutBy, betters, triedBy, Applies}
+use Rattle.setting.specs.Ready.{pairIndex, ReadySetting, ReadyPairs, TruePair, Marked}
+use Rattle.search.specs.Steps.{ProperBest, Judges}
+use Rattle.search.proofs.Starts.{orderOf}
+use Rattle.setting.proofs.Boxes.{item<16}
 use Rattle.search.proofs.Bounds.{above-zero, shared-proper, bound-proper}
 use Rattle.search.proofs.Runs.{fixed-judged, run-judged}
 use Rattle.search.proofs.Cuts.{box, AtMostBest, Bettered, Settled, no-better, rebox, in-fixed, in-run, bounded, sparse-most}

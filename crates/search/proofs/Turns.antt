@@ -18,15 +18,17 @@ use Rattle.places.specs.declared.Settled.the-variants.{Run, Prefix}
 use Rattle.places.specs.Moves.{SettledIn, pastOf}
 use Rattle.places.proofs.Places.{Sound, carry-sound, run-sound}
 use Rattle.places.proofs.Steps.{past-cong}
-use Rattle.search.specs.declared.Setting.{Setting}
-use Rattle.search.specs.declared.Pairs.{Pairs}
+use Rattle.setting.specs.declared.Setting.{Setting}
+use Rattle.setting.specs.declared.Pairs.{Pairs}
 use Rattle.search.specs.declared.Incumbent.{Incumbent}
 use Rattle.search.specs.declared.Path.{Path}
 use Rattle.search.specs.declared.Trial.{Trial}
-use Rattle.search.specs.Search.{levelAt, fixedBy, startBy, runBox, cutBy, betters, betterBy, triedBy, pairIndex, Removable, Applies}
-use Rattle.search.specs.Ready.{ReadySetting, Inside}
-use Rattle.search.specs.Steps.{Long, Started, cutAt, Passed, LookedAs, Turned}
-use Rattle.search.proofs.Boxes.{orderOf, fixed-cong, start-cong, order-laws}
+use Rattle.setting.specs.Box.{levelAt, fixedBy, Inside, Long}
+use Rattle.search.specs.Search.{startBy, runBox, cutBy, betters, betterBy, triedBy, Removable, Applies}
+use Rattle.setting.specs.Ready.{pairIndex, ReadySetting}
+use Rattle.search.specs.Steps.{Started, cutAt, Passed, LookedAs, Turned}
+use Rattle.search.proofs.Starts.{orderOf, start-cong, order-laws}
+use Rattle.setting.proofs.Boxes.{fixed-cong}
 
 passed-less : (s : Setting) (p : Pairs) (t : Path) (b : Incumbent) (d j : ℕ) → j ≤ d → Passed s p t b d → Passed s p t b j
 passed-less s p t b d j l h = record { uncut = λ i m. h .uncut i (omega arith); unpaired = λ i m. h .unpaired i (omega arith) }

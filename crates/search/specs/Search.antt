@@ -1,6 +1,4 @@
 -- The search over places: what each part of a step computes.
---   spanned e k l u     the box e with the ends l and u for item k
---   fixedBy s P d       the search's box with the first d levels fixed at P;  fixedIn: by the box and the levels
 --   startBy s P d       where level d starts below P's first d amounts: its item's amount in the relaxation, rounded to the light end
 --   runBox, runEnds     the box of P's run at level d, which starts at v: what is left of its segment there, and all below
 --   bySide x v a b      a below v, b from v on
@@ -14,10 +12,9 @@ use mathlib.Core.Path.{_≡_}
 use mathlib.Core.Bool.{Bool, true, false, not, cond}
 use mathlib.Core.List.{List}
 use mathlib.Core.Logic.{_≢_}
-use Prim.Native.Nat.{ℕ, zero, suc, _+_, _*_, _≤_, _<_}
+use Prim.Native.Nat.{ℕ, _+_, _*_, _≤_, _<_}
 use lib.Dec.{ltb}
 use lib.IntN.{ℤ, pos, natAbs, _+ℤ_, _-ℤ_, _*ℤ_}
-use lib.ListN.{set}
 use lib.Signed.{ltZ, _≤ℤ_}
 use Rattle.arith.specs.Division.{floorDiv, ceilDiv}
 use Rattle.arith.specs.Mixed.{lessMixed}
@@ -29,24 +26,12 @@ use Rattle.greedy.specs.Fill.{at, place, fill, sharedBy, bound, start}
 use Rattle.lattice.specs.declared.Lattice.{Lattice}
 use Rattle.lattice.specs.declared.Slope.{Slope}
 use Rattle.lattice.specs.Lattice.{barrenBy}
-use Rattle.search.specs.declared.Setting.{Setting}
-use Rattle.search.specs.declared.Soft.{Soft}
-use Rattle.search.specs.declared.Pairs.{Pairs}
+use Rattle.setting.specs.declared.Setting.{Setting}
+use Rattle.setting.specs.declared.Soft.{Soft}
+use Rattle.setting.specs.declared.Pairs.{Pairs}
+use Rattle.setting.specs.Box.{levelAt, spanned, fixedBy}
+use Rattle.setting.specs.Ready.{pairIndex}
 use Rattle.search.specs.declared.Incumbent.{Incumbent}
-
-abbrev pub levelAt : Setting → ℕ → ℕ
-levelAt s d = place (s .level) d
-
-abbrev pub spanned : Ends → ℕ → ℤ → ℤ → Ends
-spanned e k l u = record { lo = set (e .lo) k l; hi = set (e .hi) k u }
-
--- the box e with the items of the first d levels l fixed at P
-unfoldable pub fixedIn : Ends → List ℕ → (ℕ → ℤ) → ℕ → Ends
-fixedIn e l P zero = e
-fixedIn e l P (suc d) = spanned (fixedIn e l P d) (place l d) (P d) (P d)
-
-abbrev pub fixedBy : Setting → (ℕ → ℤ) → ℕ → Ends
-fixedBy s P d = fixedIn (s .ends) (s .level) P d
 
 unfoldable pub startBy : Setting → (ℕ → ℤ) → ℕ → ℤ
 startBy s P d = start (s .cols) (fixedBy s P d) (fill (s .cols) (fixedBy s P d)) (levelAt s d)
@@ -114,10 +99,6 @@ triedBy c e x best =
 pub record Stays (x r l u : ℤ) : Type 0 where
   pub low : l ≤ℤ (x -ℤ r)
   pub high : (x -ℤ r) ≤ℤ u
-
--- the steps of the pair of two items
-abbrev pub pairIndex : ℕ → ℕ → ℕ
-pairIndex i j = 16 * i + j
 
 -- steps of r and t, of which r is not 0, can be taken away from x and y within their ends
 pub record Removable (r t x y l u m w : ℤ) : Type 0 where

@@ -31,16 +31,17 @@ use Rattle.lattice.specs.Lattice.{Tame, Steep, latticeAt}
 use Rattle.places.specs.declared.Settled.{Settled}
 use Rattle.places.specs.declared.Settled.the-variants.{Run, Prefix}
 use Rattle.places.specs.Moves.{pastOf}
-use Rattle.search.specs.declared.Setting.{Setting}
-use Rattle.search.specs.declared.Soft.{Soft}
-use Rattle.search.specs.declared.Pairs.{Pairs}
+use Rattle.setting.specs.declared.Setting.{Setting}
+use Rattle.setting.specs.declared.Soft.{Soft}
+use Rattle.setting.specs.declared.Pairs.{Pairs}
 use Rattle.search.specs.declared.Incumbent.{Incumbent}
 use Rattle.search.specs.declared.Path.{Path}
 use Rattle.search.specs.declared.Sighting.{Sighting}
 use Rattle.search.specs.declared.State.{State}
 use Rattle.search.specs.declared.Trial.{Trial}
-use Rattle.search.specs.Search.{fixedBy, startBy, runEnds, cutBy, betterBy, triedBy, Applies}
-use Rattle.search.specs.Ready.{Moderate, ReadySetting, Ready, Inside}
+use Rattle.setting.specs.Box.{fixedBy, Long, Inside}
+use Rattle.search.specs.Search.{startBy, runEnds, cutBy, betterBy, triedBy, Applies}
+use Rattle.setting.specs.Ready.{Moderate, ReadySetting, Ready}
 
 -- ---- going down
 
@@ -75,11 +76,6 @@ pub record Blends (m : Soft) (f : Fill) (size rate : ℤ) (b : Mixed) : Type 0 w
 pub record Promises (m : Soft) (l : Lattice) (f : Fill) (size rate : ℤ) (b : Mixed) : Type 0 where
   pub blends : Blends m f size rate b
   pub tame : Tame l
-
--- the lists of a box have a place for each item
-pub record Long (e : Ends) : Type 0 where
-  pub lo-long : length (e .lo) ≡ 16
-  pub hi-long : length (e .hi) ≡ 16
 
 -- the path's place is in the box, and its starts are the place's
 pub record Started (s : Setting) (t : Path) : Type 0 where

@@ -11,7 +11,7 @@ use borrow.Author.Needs.{needs}
 use Rattle.arith.proofs.Parts.{abs-within, within-width, within-back}
 use Rattle.domination.specs.declared.Pair.{Pair}
 use Rattle.domination.specs.declared.Pair.the-variants.{Steps}
-use Rattle.search.specs.declared.Pairs.{Pairs}
+use Rattle.setting.specs.declared.Pairs.{Pairs}
 use Rattle.pairing.specs.Tables.{Short, withPair}
 use Rattle.pairing.proofs.with_pair.Statement.{statement}
 use Rattle.pairing.proofs.with_pair.Tie as tie

@@ -8,8 +8,8 @@ use Rattle.arith.proofs.Words.{back}
 use Rattle.greedy.specs.Fill.{at, fill, bound}
 use Rattle.greedy.specs.Sized.{Sized, SizedFill}
 use Rattle.greedy.proofs.Sizes.{fill-sized}
-use Rattle.search.specs.Steps.{Long}
-use Rattle.search.proofs.Boxes.{fixed-sized}
+use Rattle.setting.specs.Box.{Long}
+use Rattle.setting.proofs.Boxes.{fixed-sized}
 use Rattle.search.proofs.Bounds.{bound-proper}
 use Rattle.planner.specs.Outcomes.{boxAt, fillAt, valueAt}
 use Rattle.planner.proofs.Values.{bound-joins, joined-within}

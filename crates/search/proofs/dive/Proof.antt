@@ -4,9 +4,9 @@ use Prim.Native.Nat.{_-_, _<_}
 use native.Mathlib.Omega.{arith}
 use borrow.Author.Needs.{needs}
 use Rattle.arith.proofs.Words.{back}
-use Rattle.search.specs.Search.{levelAt}
-use Rattle.search.specs.Steps.{Long, LongPath}
-use Rattle.search.proofs.Boxes.{item<16}
+use Rattle.setting.specs.Box.{levelAt, Long}
+use Rattle.search.specs.Steps.{LongPath}
+use Rattle.setting.proofs.Boxes.{item<16}
 use Rattle.search.proofs.Dives.{Diving, startIn, diving-first, diving-sized, diving-step, diving-done}
 use Rattle.search.proofs.dive.Statement.{statement}
 use Rattle.search.proofs.dive.Tie as tie

@@ -11,8 +11,10 @@ use mir.Val.{toZ, ofZ}
 use Rattle.arith.proofs.Parts.{abs-within, within-width, within-back, within-sfits}
 use Rattle.arith.proofs.Words.{back}
 use Rattle.greedy.specs.Fill.{at}
-use Rattle.search.specs.Search.{levelAt, pairIndex, AppliesAt, Applies, Decides}
-use Rattle.search.proofs.Boxes.{between}
+use Rattle.setting.specs.Box.{levelAt}
+use Rattle.setting.specs.Ready.{pairIndex}
+use Rattle.search.specs.Search.{AppliesAt, Applies, Decides}
+use Rattle.setting.proofs.Boxes.{between}
 use Rattle.search.proofs.first_paired.Statement.{statement}
 use Rattle.search.proofs.first_paired.Tie as tie
 

@@ -16,8 +16,9 @@ use Rattle.greedy.specs.declared.Ends.{Ends}
 use Rattle.greedy.specs.Fill.{at}
 use Rattle.lattice.specs.Lattice.{latticeAt}
 use Rattle.search.specs.Steps.{cutAt, Passed}
-use Rattle.search.specs.Search.{levelAt, spanned, fixedIn, fixedBy, bySide, runBox, runEnds, cutBy, Applies}
-use Rattle.search.proofs.Boxes.{item<16}
+use Rattle.setting.specs.Box.{levelAt, spanned, fixedIn, fixedBy}
+use Rattle.search.specs.Search.{bySide, runBox, runEnds, cutBy, Applies}
+use Rattle.setting.proofs.Boxes.{item<16}
 use Rattle.search.proofs.Runs.{fixed-judged, run-judged}
 use Rattle.search.proofs.look.Statement.{statement}
 use Rattle.search.proofs.look.Tie as tie

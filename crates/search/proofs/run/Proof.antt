@@ -4,7 +4,8 @@ use mathlib.Core.Bool.{Bool, true, false, not}
 use Prim.Native.Nat.{ℕ, suc}
 use native.Mathlib.Omega.{arith}
 use borrow.Author.Needs.{needs}
-use Rattle.search.specs.Steps.{Long, After}
+use Rattle.setting.specs.Box.{Long}
+use Rattle.search.specs.Steps.{After}
 use Rattle.search.proofs.Finish.{Going, Fresh, fresh-top, left, going-first, going-on, going-less, fresh-on, searched}
 use Rattle.search.proofs.run.Statement.{statement}
 use Rattle.search.proofs.run.Tie as tie

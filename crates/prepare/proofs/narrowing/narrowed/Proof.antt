@@ -3,7 +3,7 @@ use mathlib.Core.Path.{refl}
 use Prim.Native.Nat.{ℕ, _≤_, _<_}
 use native.Mathlib.Omega.{arith}
 use borrow.Author.Needs.{needs}
-use Rattle.search.specs.Search.{levelAt}
+use Rattle.setting.specs.Box.{levelAt}
 use Rattle.prepare.proofs.narrowing.narrowed.Statement.{statement}
 use Rattle.prepare.proofs.narrowing.narrowed.Tie as tie
 

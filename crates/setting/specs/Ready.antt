@@ -1,33 +1,26 @@
--- What a search relies on, and what it gives.
+-- What a search relies on.
 --   ReadySetting s   the setting is in order: sizes, the order by price per weight, the levels, the lattices
 --   ReadyPairs c p   the pairs are true of the columns
---   Inside s x       a place is in the box
 --   Marked s marks   the integer items are those of the levels
---   Searched s r     the incumbent r is optimal for the box, or there is none and the box holds nothing feasible
 use mathlib.Core.Path.{_≡_}
-use mathlib.Core.Bool.{true, false}
 use mathlib.Core.Logic.{_≢_, _⊎_}
-use Prim.Native.Nat.{ℕ, _≤_, _<_}
+use Prim.Native.Nat.{ℕ, _+_, _*_, _≤_, _<_}
 use lib.IntN.{ℤ, pos, natAbs, _+ℤ_, _*ℤ_}
 use lib.Signed.{_≤ℤ_, _<ℤ_}
 use Rattle.knapsack.specs.declared.Mark.{Mark}
 use Rattle.knapsack.specs.declared.Mark.the-variants.{Integer}
 use Rattle.arith.specs.Signs.{turned}
 use Rattle.arith.specs.Within.{Within}
-use Rattle.arith.specs.Mixed.{Proper}
-use Rattle.arith.proofs.Mixes.{over}
-use Rattle.knapsack.proofs.Common.{valueᴰ, Feasibleᴰ, Optimalᴰ}
 use Rattle.greedy.specs.declared.Columns.{Columns}
-use Rattle.greedy.specs.Fill.{at, weightOf, priceOf, rankOf, fill, bound, solution}
+use Rattle.greedy.specs.Fill.{at, weightOf, priceOf, rankOf}
 use Rattle.greedy.specs.Sized.{Sized}
 use Rattle.greedy.specs.Ordered.{Ordered}
-use Rattle.greedy.proofs.Relaxed.{boxOf, InOrder}
+use Rattle.greedy.proofs.Relaxed.{InOrder}
 use Rattle.lattice.specs.Lattice.{On, Tame, latticeAt}
-use Rattle.search.specs.declared.Setting.{Setting}
-use Rattle.search.specs.declared.Soft.{Soft}
-use Rattle.search.specs.declared.Pairs.{Pairs}
-use Rattle.search.specs.declared.Incumbent.{Incumbent}
-use Rattle.search.specs.Search.{levelAt, fixedBy, pairIndex}
+use Rattle.setting.specs.declared.Setting.{Setting}
+use Rattle.setting.specs.declared.Soft.{Soft}
+use Rattle.setting.specs.declared.Pairs.{Pairs}
+use Rattle.setting.specs.Box.{levelAt}
 
 -- every item of no level is fixed, and what the levels from d on change is on d's lattice
 pub record Changes (s : Setting) (d : ℕ) : Type 0 where
@@ -50,6 +43,10 @@ pub record Moderate (m : Soft) : Type 0 where
   pub rate≥0 : pos 0 ≤ℤ m .rate
   pub size-in : Within 1000 (m .size)
   pub size≥1 : pos 0 <ℤ m .size
+
+-- the steps of the pair of two items
+abbrev pub pairIndex : ℕ → ℕ → ℕ
+pairIndex i j = 16 * i + j
 
 -- taking the pair's steps away weighs no more and is worth more
 pub record TruePair (c : Columns) (p : Pairs) (i j : ℕ) : Type 0 where
@@ -78,26 +75,6 @@ pub record Ready (s : Setting) (p : Pairs) : Type 0 where
   pub setting : ReadySetting s
   pub true-pairs : ReadyPairs (s .cols) p
 
--- the first n levels are within their ends
-abbrev pub InsideTo : Setting → ℕ → (ℕ → ℤ) → Type 0
-InsideTo s n x = (d : ℕ) → d < n → (at (s .low) d ≤ℤ x d) × (x d ≤ℤ at (s .high) d)
-
-abbrev pub Inside : Setting → (ℕ → ℤ) → Type 0
-Inside s x = InsideTo s (s .levels) x
-
 pub record Marked (s : Setting) (marks : ℕ → Mark) : Type 0 where
   pub integer : (d : ℕ) → d < s .levels → marks (levelAt s d) ≡ Integer
   pub level : (k : ℕ) → k < s .cols .count → marks k ≡ Integer → (d : ℕ) × (d < s .levels) × (levelAt s d ≡ k)
-
--- the point that an incumbent stands for, over its value's divisor
-abbrev pub chosen : Setting → Incumbent → ℕ → ℤ
-chosen s r = solution (s .cols) (fixedBy s (at (r .place)) (s .levels)) (fill (s .cols) (fixedBy s (at (r .place)) (s .levels)))
-
-pub record Searched (s : Setting) (r : Incumbent) : Type 0 where
-  pub inside : r .found ≡ true → Inside s (at (r .place))
-  pub optimal : r .found ≡ true → (marks : ℕ → Mark) → Marked s marks → Optimalᴰ (boxOf (s .cols) (s .ends) marks) (r .value .parts) (chosen s r)
-  pub value-is : r .found ≡ true → (marks : ℕ → Mark) → Marked s marks → valueᴰ (boxOf (s .cols) (s .ends) marks) (chosen s r) ≡ over (r .value)
-  pub proper : r .found ≡ true → Proper (r .value)
-  pub roomy : r .found ≡ true → pos 0 ≤ℤ fill (s .cols) (fixedBy s (at (r .place)) (s .levels)) .room
-  pub parts-are : r .found ≡ true → r .value ≡ bound (s .cols) (fill (s .cols) (fixedBy s (at (r .place)) (s .levels)))
-  pub empty : r .found ≡ false → (marks : ℕ → Mark) → Marked s marks → (D : ℕ) (N : ℕ → ℤ) → 1 ≤ D → ¬ Feasibleᴰ (boxOf (s .cols) (s .ends) marks) D N

@@ -1,7 +1,7 @@
--- `search::fixed` meets its contract.
+-- `setting::fixed` meets its contract.
 use native.Mathlib.Omega.{arith}
-use Rattle.search.proofs.fixed.Statement.{statement}
-use Rattle.search.proofs.fixed.Tie as tie
+use Rattle.setting.proofs.fixed.Statement.{statement}
+use Rattle.setting.proofs.fixed.Tie as tie
 
 fixed-in-requires : tie.Need-fixed-in-requires
 fixed-in-requires c κs =

@@ -1,13 +1,13 @@
--- `search::fixed_in` meets its contract.
+-- `setting::fixed_in` meets its contract.
 use mathlib.Core.Path.{_≡_, refl}
 use Prim.Native.Nat.{_-_, _≤_, _<_}
 use native.Mathlib.Numerals.{add-one}
 use native.Mathlib.Omega.{arith}
 use Rattle.arith.proofs.Words.{back}
 use Rattle.greedy.specs.Fill.{at, place}
-use Rattle.search.specs.Search.{fixedIn}
-use Rattle.search.proofs.fixed_in.Statement.{statement}
-use Rattle.search.proofs.fixed_in.Tie as tie
+use Rattle.setting.specs.Box.{fixedIn}
+use Rattle.setting.proofs.fixed_in.Statement.{statement}
+use Rattle.setting.proofs.fixed_in.Tie as tie
 
 abbrev Inv-loop : tie.InvT-loop
 Inv-loop d level x to₀ k₀ to k = (k ≤ d) × (to ≡ fixedIn to₀ level (at x) k)

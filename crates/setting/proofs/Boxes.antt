@@ -3,7 +3,7 @@
 -- fixed-level, fixed-other: the ends of a fixed level's item, and of the others.
 -- fixed-sized, fixed-order: a box with levels fixed inside stays in its ranges and in order.
 -- order-laws: starts hang on the levels above, and lie within their ends.
-use mathlib.Core.Path.{_≡_, refl, sym, ap, ap₂, _∙_, subst}
+use mathlib.Core.Path.{_≡_, refl, sym, ap₂, _∙_, subst}
 use mathlib.Core.List.{List}
 use mathlib.Core.Logic.{_≢_}
 use Prim.Native.Nat.{ℕ, zero, suc, _≤_, _<_}
@@ -16,16 +16,13 @@ use lib.Signed.{_≤ℤ_, ≤ℤ-refl}
 use Rattle.arith.specs.Sum.{Each}
 use Rattle.arith.specs.Within.{Within}
 use Rattle.arith.proofs.Parts.{zs, to-within}
-use Rattle.knapsack.specs.declared.Mark.the-variants.{Integer}
 use Rattle.greedy.specs.declared.Ends.{Ends}
-use Rattle.greedy.specs.Fill.{at, fill, start}
+use Rattle.greedy.specs.Fill.{at}
 use Rattle.greedy.specs.Sized.{SizedEnds}
-use Rattle.greedy.proofs.Relaxed.{InOrder, start-inside}
-use Rattle.places.proofs.Places.{Order, Laws}
-use Rattle.search.specs.declared.Setting.{Setting}
-use Rattle.search.specs.Search.{levelAt, spanned, fixedIn, fixedBy, startBy}
-use Rattle.search.specs.Ready.{ReadySetting, InsideTo}
-use Rattle.search.specs.Steps.{Long}
+use Rattle.greedy.proofs.Relaxed.{InOrder}
+use Rattle.setting.specs.declared.Setting.{Setting}
+use Rattle.setting.specs.Box.{levelAt, spanned, fixedIn, fixedBy, InsideTo, Long}
+use Rattle.setting.specs.Ready.{ReadySetting}
 
 -- ---- one entry set
 
@@ -55,9 +52,6 @@ span-sized e k l u h n wl wu z = record {
 -- what lies between two numbers in a range is in it
 pub between : {n : ℕ} (l u x : ℤ) → Within n l → Within n u → l ≤ℤ x → x ≤ℤ u → Within n x
 between l u x wl wu h k = to-within (omega (arith, zs, wl .above, wl .below, wu .above, wu .below)) (omega (arith, zs, wl .above, wl .below, wu .above, wu .below))
-
-abbrev pub orderOf : Setting → Order
-orderOf s = record { m = s .levels; lo = at (s .low); hi = at (s .high); start = startBy s }
 
 module _ (s : Setting) (r : ReadySetting s) (long : Long (s .ends)) where
   pub item<16 : (d : ℕ) → d < s .levels → levelAt s d < 16
@@ -131,24 +125,8 @@ module _ (s : Setting) (r : ReadySetting s) (long : Long (s .ends)) where
   fixed-order P zero l = r .in-order
   fixed-order P (suc d) l = span-order (fixedBy s P d) (levelAt s d) (P d) (P d) (fixed-long P d) (item<16 d (omega arith)) (≤ℤ-refl (P d)) (fixed-order P d (omega arith))
 
-  -- ---- starts
-
-  pub start-in : (P : ℕ → ℤ) (d : ℕ) → d < s .levels → (at (s .low) d ≤ℤ startBy s P d) × (startBy s P d ≤ℤ at (s .high) d)
-  unfolding startBy
-  start-in P d l =
-      let h = start-inside (s .cols) (fixedBy s P d) (λ k. Integer) (r .ordered) (fixed-order P d (omega arith)) (levelAt s d) (r .level-in d l) in
-      let own = fixed-own P d l in
-      (subst (λ z. z ≤ℤ start (s .cols) (fixedBy s P d) (fill (s .cols) (fixedBy s P d)) (levelAt s d)) (own .0) (h .0), subst (λ z. start (s .cols) (fixedBy s P d) (fill (s .cols) (fixedBy s P d)) (levelAt s d) ≤ℤ z) (own .1) (h .1))
-
 -- the levels above alone count
 pub fixed-cong : (s : Setting) (P Q : ℕ → ℤ) (d : ℕ) → Each d (λ k. P k ≡ Q k) → fixedBy s P d ≡ fixedBy s Q d
 unfolding fixedIn
 fixed-cong s P Q zero h = refl
 fixed-cong s P Q (suc d) h = ap₂ (λ (e : Ends) (v : ℤ). spanned e (levelAt s d) v v) (fixed-cong s P Q d (λ k l. h k (omega arith))) (h d (omega arith))
-
-pub start-cong : (s : Setting) (P Q : ℕ → ℤ) (d : ℕ) → Each d (λ k. P k ≡ Q k) → startBy s P d ≡ startBy s Q d
-unfolding startBy
-start-cong s P Q d h = ap (λ (e : Ends). start (s .cols) e (fill (s .cols) e) (levelAt s d)) (fixed-cong s P Q d h)
-
-pub order-laws : (s : Setting) → ReadySetting s → Long (s .ends) → Laws (orderOf s)
-order-laws s r long = record { by-prefix = λ P Q d h. start-cong s P Q d h; inside = λ P d l b. start-in s r long P d l }
