@@ -130,9 +130,16 @@ abbrev pub unit : ℤ → ℤ
 unit (pos n) = pos 1
 unit (negsuc n) = negsuc 0
 
--- what the critical item takes of the room
+-- what the item of rank v takes of the room where the filling stops at rank u, n ranks being live
+abbrev pub takenBy : ℤ → ℤ → ℕ → ℕ → ℕ → ℤ
+takenBy a room v u n = cond (ltb u n) (cond (eqb v u) (unit a *ℤ room) (pos 0)) (pos 0)
+
 abbrev pub taken : Columns → Fill → ℕ → ℤ
-taken c f k = cond (ltb (f .at) (c .live)) (cond (eqb (rankOf c k) (f .at)) (unit (weightOf c k) *ℤ f .room) (pos 0)) (pos 0)
+taken c f k = takenBy (weightOf c k) (f .room) (rankOf c k) (f .at) (c .live)
+
+-- item k's amount times q: its whole amount, and what the critical item takes
+abbrev pub numerator : Columns → Ends → Fill → ℕ → ℕ → ℤ
+numerator c e f q k = stand c e (f .at) k *ℤ pos q +ℤ taken c f k
 
 abbrev pub solution : Columns → Ends → Fill → ℕ → ℤ
-solution c e f k = stand c e (f .at) k *ℤ pos (bound c f .parts) +ℤ taken c f k
+solution c e f k = numerator c e f (bound c f .parts) k

@@ -5,11 +5,15 @@ use arith::Mixed;
 use arith::ceil_div;
 use arith::floor_div;
 use arith::magnitude;
+pub use point::Amounted;
+pub use point::amounts;
 ghost use mathlib.Core.Path.{_≡_};
 ghost use Prim.Native.Nat.{_<_};
 ghost use Rattle.greedy.specs.Fill.{lightest, heaviest, fitted, begun, withItem, turnBy, fill, bound, sharedBy, start, roundedBy};
 ghost use Rattle.arith.specs.Within.{Within};
 ghost use Rattle.greedy.specs.Sized.{Sized, SizedFill, Raisable, Shareable, Fittable};
+
+mod point; // point.rt: the amounts of a filling
 
 // A problem by columns. By item: weight and price. By rank, in the order of falling price per weight: the item, its weight and
 // price without the sign of the weight. rank is order turned round; the first live ranks are worth their weight.

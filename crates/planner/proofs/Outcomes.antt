@@ -24,11 +24,10 @@ use Rattle.arith.proofs.Mixes.{over}
 use Rattle.arith.proofs.Parts.{within-mul, within-abs, abs-within, lt-le}
 use Rattle.arith.proofs.Sums.{sum-cong}
 use Rattle.arith.proofs.Words.{lt-yes, le-no}
-use Rattle.amounts.specs.Amounts.{numerator}
+use Rattle.greedy.specs.Fill.{numerator, at, weightOf, priceOf, itemOf, rankOf, lightest, lightOf, cornerWeight, begun, bound, unit, stand, solution}
 use Rattle.greedy.specs.declared.Columns.{Columns}
 use Rattle.greedy.specs.declared.Ends.{Ends}
 use Rattle.greedy.specs.declared.Fill.{Fill}
-use Rattle.greedy.specs.Fill.{at, weightOf, priceOf, itemOf, rankOf, lightest, lightOf, cornerWeight, begun, bound, unit, stand, solution}
 use Rattle.greedy.specs.Ordered.{Ordered}
 use Rattle.knapsack.specs.Records.{itemAt, InRange}
 use Rattle.knapsack.specs.Meaning.{Instance, instanceOf, amountAt, pointOf, weights, prices, Infeasible, Shown, bare, Answers}

@@ -14,7 +14,7 @@ use Rattle.arith.specs.Within.{Within}
 use Rattle.arith.specs.Gcd.{lowest}
 use Rattle.arith.specs.declared.Mixed.{Mixed}
 use Rattle.arith.proofs.Mixes.{over}
-use Rattle.amounts.specs.Amounts.{Amounts}
+use Rattle.greedy.specs.Amounts.{Amounts}
 use Rattle.greedy.specs.declared.Ends.{Ends}
 use Rattle.greedy.specs.declared.Fill.{Fill}
 use Rattle.greedy.specs.Fill.{at, fill, bound}
@@ -23,7 +23,7 @@ use Rattle.knapsack.specs.declared.Answer.{Answer}
 use Rattle.knapsack.specs.declared.Kind.{Kind}
 use Rattle.knapsack.specs.declared.Kind.the-variants as kind
 use Rattle.knapsack.specs.declared.Problem.{Problem}
-use Rattle.pairing.specs.Tables.{PairsOf}
+use Rattle.prepare.specs.Pairs.{PairsOf}
 use Rattle.prepare.specs.Narrowing.{spanOf}
 use Rattle.prepare.specs.Prepared.{PreparedAt}
 use Rattle.presolve.specs.Presolve.{presolved}

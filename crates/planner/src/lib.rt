@@ -1,10 +1,10 @@
 // The planner: from a record to its answer. Paper 01, "The problem" and what it owes for each record: optimal, infeasible and
 // unbounded are said exactly when they are true, and a record out of range is refused.
-use amounts::amounts;
 use arith::Fraction;
 use arith::Mixed;
 use arith::reduce;
 use greedy::Fill;
+use greedy::amounts;
 use greedy::begin;
 use greedy::bound_of;
 use greedy::fill_up;
@@ -13,15 +13,15 @@ use knapsack::Kind;
 use knapsack::Problem;
 use knapsack::Verdict;
 use knapsack::check_record;
-use pairing::pairs_of;
 use prepare::narrowed;
+use prepare::pairs_of;
 use prepare::prepare;
 use prepare::reach_of;
 use presolve::presolve;
 use rays::find_ray;
+use search::run;
 use setting::Setting;
 use setting::fixed;
-use search::run;
 ghost use mathlib.Core.Path.{_≡_};
 ghost use Rattle.arith.proofs.Mixes.{over};
 ghost use Rattle.greedy.specs.Fill.{at};

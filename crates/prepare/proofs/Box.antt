@@ -19,7 +19,7 @@ use Rattle.knapsack.specs.declared.Bound.{Bound}
 use Rattle.knapsack.specs.declared.Item.{Item}
 use Rattle.knapsack.specs.declared.Problem.{Problem}
 use Rattle.setting.specs.declared.Setting.{Setting}
-use Rattle.tables.specs.Figures.{endOr}
+use Rattle.prepare.specs.Figures.{endOr}
 use Rattle.prepare.specs.Prepared.{PreparedAt}
 
 -- two instances that agree

@@ -24,10 +24,10 @@ use Rattle.lattice.proofs.Levels.{unknown-tame, lattice-known}
 use Rattle.lattice.specs.Building.{entry, Items, Known, latticeOf}
 use Rattle.lattice.specs.Lattice.{On, Tame, unknown, latticeAt}
 use Rattle.lattice.specs.declared.Lattice.{Lattice}
-use Rattle.tables.proofs.Ranges.{zero-within, weight-within, price-within}
-use Rattle.tables.specs.Figures.{lowEnd, highEnd, endOr, isInteger, meet, fixed, passes}
-use Rattle.tables.specs.Tables.{Tabled, Listing, listed, Leading}
-use Rattle.tables.specs.declared.Test.the-variants.{Fixed}
+use Rattle.prepare.proofs.Ranges.{zero-within, weight-within, price-within}
+use Rattle.prepare.specs.Figures.{lowEnd, highEnd, endOr, isInteger, meet, fixed, passes}
+use Rattle.prepare.specs.Tables.{Tabled, Listing, listed, Leading}
+use Rattle.prepare.specs.declared.tables.Test.the-variants.{Fixed}
 use Rattle.prepare.specs.Prepared.{column, latticeBy, Latticing}
 
 -- ---- items with one amount

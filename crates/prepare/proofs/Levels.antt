@@ -24,12 +24,12 @@ use Rattle.ordering.proofs.Insertion.{sorted-order}
 use Rattle.ordering.proofs.Order as keyed
 use Rattle.ordering.proofs.Permutations.{onto}
 use Rattle.ordering.specs.Ranking.{Sorted}
-use Rattle.tables.proofs.Ranges.{zero-within}
-use Rattle.tables.specs.Figures.{isInteger, passes, keyItem, branchingPrice, keyOf, SmallKey}
-use Rattle.tables.specs.Tables.{listed, Leading}
-use Rattle.tables.specs.declared.Key.the-variants.{Branching}
-use Rattle.tables.specs.declared.Key.{Key}
-use Rattle.tables.specs.declared.Test.the-variants.{Level}
+use Rattle.prepare.proofs.Ranges.{zero-within}
+use Rattle.prepare.specs.Figures.{isInteger, passes, keyItem, branchingPrice, keyOf, SmallKey}
+use Rattle.prepare.specs.Tables.{listed, Leading}
+use Rattle.prepare.specs.declared.tables.Key.the-variants.{Branching}
+use Rattle.prepare.specs.declared.tables.Key.{Key}
+use Rattle.prepare.specs.declared.tables.Test.the-variants.{Level}
 use Rattle.prepare.specs.Prepared.{byPrice, criticalKey}
 
 -- ---- the key that is chosen

@@ -1,3 +1,6 @@
+pub mod Ranges
+pub mod Keys
+pub mod Tabling
 pub mod Lists
 pub mod Order
 pub mod Levels
@@ -6,3 +9,4 @@ pub mod Softness
 pub mod Ready
 pub mod Box
 pub mod Nearer
+pub mod Spreading

@@ -19,10 +19,10 @@ use Rattle.knapsack.specs.declared.Item.{Item}
 use Rattle.knapsack.specs.declared.Problem.{Problem}
 use Rattle.ordering.proofs.Insertion.{sorted-low, sorted-order}
 use Rattle.ordering.specs.Ranking.{Sorted}
-use Rattle.tables.proofs.Ranges.{zero-within}
-use Rattle.tables.specs.Figures.{figureOf}
-use Rattle.tables.specs.Tables.{Tabled, Listing, listed, Permuted}
-use Rattle.tables.specs.declared.Figure.{Figure}
+use Rattle.prepare.proofs.Ranges.{zero-within}
+use Rattle.prepare.specs.Figures.{figureOf}
+use Rattle.prepare.specs.Tables.{Tabled, Listing, listed, Permuted}
+use Rattle.prepare.specs.declared.tables.Figure.{Figure}
 
 module _ (n : ℕ) (f : ℕ → ℤ) (l : List ℤ) (t : Tabled n f l) where
   pub tabled-below : (u : ℕ) → u < n → at l u ≡ f u

@@ -32,7 +32,7 @@ use Rattle.greedy.specs.Fill.{at, weightOf}
 use Rattle.setting.specs.Ready.{Mild}
 use Rattle.setting.specs.Box.{levelAt}
 use Rattle.setting.specs.declared.Setting.{Setting}
-use Rattle.tables.specs.Figures.{endOr}
+use Rattle.prepare.specs.Figures.{endOr}
 use Rattle.prepare.specs.Narrowing.{larger, boundSize, openWeight, grownBy, mostOf, ownBound, leadBy, burdenOf, reachOf, spanBy, spanOf, clampTo, Narrowed, Small}
 use Rattle.prepare.specs.declared.Reach.{Reach}
 use Rattle.prepare.specs.Prepared.{PreparedAt, Prepared}

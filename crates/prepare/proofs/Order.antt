@@ -30,11 +30,11 @@ use Rattle.ordering.proofs.Order as keyed
 use Rattle.ordering.proofs.Order.{AtLeast}
 use Rattle.ordering.proofs.Permutations.{onto}
 use Rattle.arith.proofs.Signs.{within-turned}
-use Rattle.tables.proofs.Ranges.{size-within, weight-within, price-within}
-use Rattle.tables.specs.Figures.{figureOf, live, lightBound, headStart, fillingKey, keyOf}
-use Rattle.tables.specs.Tables.{listed}
-use Rattle.tables.specs.declared.Figure.the-variants.{Weight, Price, Size, Rate}
-use Rattle.tables.specs.declared.Key.the-variants.{Filling}
+use Rattle.prepare.proofs.Ranges.{size-within, weight-within, price-within}
+use Rattle.prepare.specs.Figures.{figureOf, live, lightBound, headStart, fillingKey, keyOf}
+use Rattle.prepare.specs.Tables.{listed}
+use Rattle.prepare.specs.declared.tables.Figure.the-variants.{Weight, Price, Size, Rate}
+use Rattle.prepare.specs.declared.tables.Key.the-variants.{Filling}
 use Rattle.prepare.specs.Prepared.{Columned}
 use Rattle.prepare.proofs.Lists.{tabled-below, tabled-within}
 

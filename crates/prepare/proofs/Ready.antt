@@ -20,12 +20,12 @@ use Rattle.lattice.specs.Lattice.{latticeAt}
 use Rattle.setting.specs.Ready.{Changes, Marked, Mild, Softened}
 use Rattle.setting.specs.Box.{levelAt}
 use Rattle.setting.specs.declared.Setting.{Setting}
-use Rattle.tables.proofs.Ranges.{low-within, high-within}
-use Rattle.tables.specs.Figures.{endOr, lowEnd, highEnd, figureOf, isInteger, fixed, passes, keyOf}
-use Rattle.tables.specs.Tables.{Tabled, listed, Leading}
-use Rattle.tables.specs.declared.Figure.the-variants.{Low, High}
-use Rattle.tables.specs.declared.Key.{Key}
-use Rattle.tables.specs.declared.Test.the-variants.{Level}
+use Rattle.prepare.proofs.Ranges.{low-within, high-within}
+use Rattle.prepare.specs.Figures.{endOr, lowEnd, highEnd, figureOf, isInteger, fixed, passes, keyOf}
+use Rattle.prepare.specs.Tables.{Tabled, listed, Leading}
+use Rattle.prepare.specs.declared.tables.Figure.the-variants.{Low, High}
+use Rattle.prepare.specs.declared.tables.Key.{Key}
+use Rattle.prepare.specs.declared.tables.Test.the-variants.{Level}
 use Rattle.prepare.specs.Prepared.{Columned, Boxed, criticalKey, Latticing, Prepared}
 use Rattle.prepare.specs.Softening.{Softens}
 use Rattle.prepare.proofs.Lattices.{fixed-ends, LatticesTrue, lattices-true}

@@ -28,9 +28,9 @@ use Rattle.knapsack.specs.declared.Mark.the-variants.{Integer, Continuous}
 use Rattle.knapsack.specs.declared.Problem.{Problem}
 use Rattle.setting.specs.Ready.{Mild, Moderate}
 use Rattle.setting.specs.declared.Soft.{Soft}
-use Rattle.tables.specs.Figures.{fixed, passes}
-use Rattle.tables.specs.Tables.{listed, Leading}
-use Rattle.tables.specs.declared.Test.the-variants.{Fixed}
+use Rattle.prepare.specs.Figures.{fixed, passes}
+use Rattle.prepare.specs.Tables.{listed, Leading}
+use Rattle.prepare.specs.declared.tables.Test.the-variants.{Fixed}
 use Rattle.prepare.specs.Prepared.{Columned}
 use Rattle.prepare.specs.Softening.{stepAs, stepBy, strideOf, softAt, noSoft, Softens}
 use Rattle.prepare.proofs.Order.{columns-ordered, columns-sized}

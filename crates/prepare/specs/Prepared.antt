@@ -27,12 +27,12 @@ use Rattle.lattice.specs.declared.Lattice.{Lattice}
 use Rattle.ordering.specs.Ranking.{Sorted}
 use Rattle.setting.specs.Ready.{ReadySetting, Marked}
 use Rattle.setting.specs.declared.Setting.{Setting}
-use Rattle.tables.specs.Figures.{endOr, figureOf, fixed, passes, keyOf}
-use Rattle.tables.specs.Tables.{Tabled, listed, Leading, Inverted}
-use Rattle.tables.specs.declared.Figure.the-variants.{Weight, Price, Low, High, Size, Rate}
-use Rattle.tables.specs.declared.Key.the-variants.{Filling, Branching}
-use Rattle.tables.specs.declared.Key.{Key}
-use Rattle.tables.specs.declared.Test.the-variants.{Live, Level}
+use Rattle.prepare.specs.Figures.{endOr, figureOf, fixed, passes, keyOf}
+use Rattle.prepare.specs.Tables.{Tabled, listed, Leading, Inverted}
+use Rattle.prepare.specs.declared.tables.Figure.the-variants.{Weight, Price, Low, High, Size, Rate}
+use Rattle.prepare.specs.declared.tables.Key.the-variants.{Filling, Branching}
+use Rattle.prepare.specs.declared.tables.Key.{Key}
+use Rattle.prepare.specs.declared.tables.Test.the-variants.{Live, Level}
 use Rattle.prepare.specs.Softening.{Softens}
 
 pub record Columned (p : Problem) (c : Columns) : Type 0 where

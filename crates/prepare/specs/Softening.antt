@@ -15,9 +15,9 @@ use Rattle.knapsack.specs.declared.Mark.{Mark}
 use Rattle.knapsack.specs.declared.Mark.the-variants.{Integer, Continuous}
 use Rattle.knapsack.specs.declared.Problem.{Problem}
 use Rattle.setting.specs.declared.Soft.{Soft}
-use Rattle.tables.specs.Figures.{passes}
-use Rattle.tables.specs.Tables.{listed, Leading}
-use Rattle.tables.specs.declared.Test.the-variants.{Fixed}
+use Rattle.prepare.specs.Figures.{passes}
+use Rattle.prepare.specs.Tables.{listed, Leading}
+use Rattle.prepare.specs.declared.tables.Test.the-variants.{Fixed}
 
 abbrev pub stepAs : Mark → ℕ → ℤ → ℕ
 stepAs Integer g a = gcdOf g (natAbs a)

@@ -10,6 +10,7 @@ use lattice::lattices;
 use lattice::unknown_lattices;
 pub use narrowing::narrowed;
 pub use narrowing::reach_of;
+pub use pairs::pairs_of;
 use setting::Setting;
 use softening::soft_of;
 use tables::Figure;
@@ -26,10 +27,12 @@ ghost use Rattle.greedy.specs.Fill.{fill};
 ghost use Rattle.greedy.specs.Sized.{Sized};
 ghost use Rattle.knapsack.specs.Records.{InRange};
 ghost use Rattle.prepare.specs.Prepared.{Columned, Boxed, criticalKey, Latticing, Prepared};
-ghost use Rattle.tables.specs.Tables.{Listing};
+ghost use Rattle.prepare.specs.Tables.{Listing};
 
 mod narrowing; // narrowing.rt: the nearer box of a search
+mod pairs; // pairs.rt: the table of domination pairs
 mod softening; // softening.rt: what continuous items can add
+mod tables; // tables.rt: arrays by item, by rank and by level, and the two orders
 
 // Of some items, without sign: the greatest weight of one that lacks a bound, and the greatest bound.
 pub struct Most {

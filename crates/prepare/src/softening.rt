@@ -1,4 +1,6 @@
 // What the free continuous items of a problem can add to a filling, and the stride of its integer items: see search, Soft.
+use super::tables::Test;
+use super::tables::leading;
 use arith::gcd;
 use arith::magnitude;
 use greedy::Columns;
@@ -6,8 +8,6 @@ use knapsack::Item;
 use knapsack::Mark;
 use knapsack::Problem;
 use setting::Soft;
-use tables::Test;
-use tables::leading;
 ghost use mathlib.Core.Path.{_≡_};
 ghost use lib.IntN.{pos};
 ghost use Rattle.knapsack.specs.Records.{ItemInRange, InRange};

@@ -5,10 +5,10 @@ use mir.Facts.{toZ-ofZ}
 use mir.Syntax.{w64}
 use mir.Val.{SFits}
 use Rattle.knapsack.specs.Records.{itemAt}
-use Rattle.tables.specs.Figures.{keyOf}
-use Rattle.tables.specs.Tables.{Listing, Permuted}
-use Rattle.tables.specs.declared.Figure.the-variants.{Weight, Price}
-use Rattle.tables.specs.declared.Key.the-variants.{Filling}
+use Rattle.prepare.specs.Figures.{keyOf}
+use Rattle.prepare.specs.Tables.{Listing, Permuted}
+use Rattle.prepare.specs.declared.tables.Figure.the-variants.{Weight, Price}
+use Rattle.prepare.specs.declared.tables.Key.the-variants.{Filling}
 use Rattle.prepare.proofs.Lists.{places-listing, tabled-places, sorted-listing, sorted-permuted}
 use Rattle.prepare.proofs.columns.Statement.{statement}
 use Rattle.prepare.proofs.columns.Tie as tie

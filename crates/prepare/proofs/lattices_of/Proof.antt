@@ -4,9 +4,9 @@ use borrow.Author.Needs.{needs}
 use borrow.Author.Tests.{lt-ltb, le-ltb}
 use Rattle.lattice.proofs.Levels.{unknown-at}
 use Rattle.lattice.specs.Building.{entry}
-use Rattle.tables.specs.Figures.{figureOf}
-use Rattle.tables.specs.Tables.{listed}
-use Rattle.tables.specs.declared.Figure.the-variants.{Weight, Price}
+use Rattle.prepare.specs.Figures.{figureOf}
+use Rattle.prepare.specs.Tables.{listed}
+use Rattle.prepare.specs.declared.tables.Figure.the-variants.{Weight, Price}
 use Rattle.prepare.specs.Prepared.{column}
 use Rattle.prepare.proofs.Lattices.{items-in, tabled-column, leading-places}
 use Rattle.prepare.proofs.Lists.{places-listing}

@@ -3,8 +3,8 @@ use mathlib.Core.Path.{sym, subst}
 use borrow.Author.Needs.{needs}
 use Rattle.greedy.specs.Fill.{fill}
 use Rattle.knapsack.specs.Records.{itemAt}
-use Rattle.tables.specs.Figures.{keyOf, SmallKey}
-use Rattle.tables.specs.Tables.{Listing}
+use Rattle.prepare.specs.Figures.{keyOf, SmallKey}
+use Rattle.prepare.specs.Tables.{Listing}
 use Rattle.prepare.proofs.Levels.{critical-small}
 use Rattle.prepare.proofs.Lists.{sorted-listing, shorter-listing}
 use Rattle.prepare.proofs.Order.{columns-sized}

@@ -10,8 +10,8 @@ use borrow.Author.Needs.{needs}
 use borrow.Author.Tests.{lt-ltb, le-ltb}
 use Rattle.arith.proofs.Parts.{within-back}
 use Rattle.knapsack.specs.Records.{itemAt}
-use Rattle.tables.specs.Figures.{keyOf}
-use Rattle.tables.specs.declared.Key.the-variants.{Filling}
+use Rattle.prepare.specs.Figures.{keyOf}
+use Rattle.prepare.specs.declared.tables.Key.the-variants.{Filling}
 use Rattle.prepare.specs.Softening.{strideOf}
 use Rattle.prepare.proofs.Lists.{sorted-listing}
 use Rattle.prepare.proofs.Order.{columns-sized}
