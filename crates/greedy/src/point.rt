@@ -8,6 +8,7 @@ use arith::Fraction;
 use arith::reduce;
 ghost use mathlib.Core.Path.{_≡_};
 ghost use mathlib.Core.Bool.{cond};
+ghost use Rattle.arith.specs.Limits.{mostRoom};
 ghost use Rattle.arith.specs.Within.{Within};
 ghost use Rattle.greedy.specs.Fill.{lightest, heaviest, takenBy, numerator};
 ghost use Rattle.greedy.specs.Amounts.{amountOf, Countable, Amounts};
@@ -30,7 +31,7 @@ fn standing(a: i64, p: i64, l: i64, h: i64, raised: bool) -> i64
 
 // What the item of rank v takes of the room, if the filling ended there.
 fn taking(a: i64, room: i64, v: usize, u: usize, n: usize) -> i64
-    requires { ⌜ Within 20000000000000 room ⌝ }
+    requires { ⌜ Within mostRoom room ⌝ }
     ensures { λ r. ⌜ r ≡ takenBy a room v u n ⌝ }
 {
     if u < n {

@@ -1,10 +1,14 @@
--- The answers that a search and a ray are turned into.
+-- The answers that a search and a ray are made into.
 --   Joinable v        the value v fits one number of parts
+--   unfilled          no rank is raised
 --   Cornered s d a    a shows the light ends of the box and the steps d, and no value
---   Walked p n        n steps were taken by the search of p
---   Counts p a n      n steps were taken for the answer a
---   Decides p r       r is the answer of p, with the steps of its search;  Solves p r: with those of the presolved problem
+--   boxAt, fillAt, valueAt s x
+--                     the box of the place x, its filling, and its value
 --   Best s x a        a shows the relaxation of the place x and its value in lowest terms, and no steps
+--   Walked p n        n steps were taken by the search of p
+--   CountsAs k p n, Counts p a n
+--                     n steps were taken for an answer of that kind, for the answer a
+--   Decides p r       r is the answer of p, with the steps of its search;  Solves p r: with those of the presolved problem
 use mathlib.Core.Path.{_≡_}
 use mathlib.Core.List.{List}
 use Prim.Native.Nat.{ℕ, _≤_}
@@ -31,7 +35,7 @@ use Rattle.setting.specs.declared.Pairs.{Pairs}
 use Rattle.setting.specs.declared.Setting.{Setting}
 use Rattle.search.specs.declared.State.{State}
 use Rattle.setting.specs.Box.{fixedBy}
-use Rattle.search.specs.Steps.{Took}
+use Rattle.search.specs.Steps.{EndsAfter}
 use Rattle.planner.specs.declared.Solved.{Solved}
 
 pub record Joinable (v : Mixed) : Type 0 where
@@ -74,7 +78,7 @@ pub record Walked (p : Problem) (n : ℕ) : Type 0 where
   pub pairs : Pairs
   pub pairs-are : PairsOf p pairs
   pub end : State
-  pub took : Took setting pairs end
+  pub ended : EndsAfter setting pairs end
   pub steps-are : n ≡ end .steps
 
 -- an optimum is searched for; no other answer is

@@ -94,7 +94,7 @@ fn optimal(s: Setting, x: [i64; 16]) -> Answer
     }
 }
 
-// An answer, and how many steps its search took.
+// An answer, and how many steps its search ended.
 pub struct Solved {
     pub answer: Answer,
     pub steps: u64,

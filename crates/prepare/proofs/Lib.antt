@@ -5,7 +5,7 @@ pub mod Lists
 pub mod Order
 pub mod Levels
 pub mod Lattices
-pub mod Softness
+pub mod StridesTrue
 pub mod Ready
 pub mod Box
 pub mod Nearer

@@ -45,7 +45,12 @@ stands r n (Steps a b) l m h = record { first-step = getD-set-same (r .first) n 
 -- and the other places keep theirs
 stays : (r : Pairs) (n : ℕ) (q : Pair) (k : ℕ) (o : Pair) → k ≢ n → Holds r k o → Holds (withPair r n q) k o
 stays r n Missing k o ne h = h
-stays r n (Steps a b) k o ne h = record { first-step = getD-set-other (r .first) n k a (pos 0) ne ∙ h .first-step; second-step = getD-set-other (r .second) n k b (pos 0) ne ∙ h .second-step }
+stays r n (Steps a b) k o ne h =
+    record {
+      first-step =
+          getD-set-other (r .first) n k a (pos 0) ne ∙ h .first-step;
+      second-step = getD-set-other (r .second) n k b (pos 0) ne ∙ h .second-step;
+    }
 
 lengths : (r : Pairs) (n : ℕ) (q : Pair) → (length (withPair r n q .first) ≡ length (r .first)) × (length (withPair r n q .second) ≡ length (r .second))
 lengths r n Missing = (refl, refl)
@@ -89,7 +94,8 @@ module _ (p : Problem) where
     small-at : (k : ℕ) (q : Pair) → Holds r k q → Short q → (natAbs (at (r .first) k) ≤ 1000) × (natAbs (at (r .second) k) ≤ 1000)
     small-at k q h s = rw (h .first-step, h .second-step) s
 
-    true-pair : (c : Columns) → Agrees p c → (i j : ℕ) (q : Pair) → tabled p i j ≡ q → Holds r (pairIndex i j) q → at (r .first) (pairIndex i j) ≢ pos 0 → TruePair c r i j
+    true-pair : (c : Columns) → Agrees p c → (i j : ℕ) (q : Pair) → tabled p i j ≡ q → Holds r (pairIndex i j) q → at (r .first) (pairIndex i j) ≢ pos 0
+        → TruePair c r i j
     true-pair c g i j Missing e h ne = absurd (ne (h .first-step))
     true-pair c g i j (Steps a b) e h ne =
         let s = tabled-steps a b p i j e in

@@ -1,7 +1,7 @@
 -- Laws for the loops that fill arrays.
 --   Filled n f u l    the array at place u of n: so far it is tabled
 --   Passed n t u      the places before u pass the test
---   Turned n l u r    the places before u are led back
+--   InvertedTo n l u r    the places before u are led back
 -- …-none, …-more: before the first turn, and after one turn more. listing-inside: a listed place is one of the array's.
 use mathlib.Core.Path.{_≡_, refl, sym, ap, _∙_}
 use mathlib.Core.Bool.{Bool, true, false, cond}
@@ -46,7 +46,12 @@ pub record Filled (n : ℕ) (f : ℕ → ℤ) (u : ℕ) (l : List ℤ) : Type 0 
   pub so-far : Tabled u f l
 
 pub filled-none : (n : ℕ) (f : ℕ → ℤ) → Filled n f 0 (replicate 16 (pos 0))
-filled-none n f = record { most = omega arith; long = refl; so-far = λ u. nothing-at (pos 0) 16 u ∙ sym (ap (λ b. cond b (f u) (pos 0)) (le-ltb u 0 (omega arith))) }
+filled-none n f = record {
+  most = omega arith;
+  long = refl;
+  so-far = λ u. nothing-at (pos 0) 16 u
+      ∙ sym (ap (λ b. cond b (f u) (pos 0)) (le-ltb u 0 (omega arith)));
+}
 
 pub filled-more : (n : ℕ) (f : ℕ → ℤ) (u : ℕ) (l : List ℤ) (x : ℤ) → n ≤ 16 → u < n → x ≡ f u → Filled n f u l → Filled n f (u + 1) (set l u x)
 filled-more n f u l x few h e r = record { most = omega arith; long = length-set l u x ∙ r .long; so-far = λ v. entry v (ℕ-discrete v u) }
@@ -79,16 +84,16 @@ passed-all n test u g r = record { most = r .most; pass = r .pass; stop = λ h. 
 
 -- ---- a list led back
 
-pub record Turned (n : ℕ) (l : List ℕ) (u : ℕ) (r : List ℕ) : Type 0 where
+pub record InvertedTo (n : ℕ) (l : List ℕ) (u : ℕ) (r : List ℕ) : Type 0 where
   pub most : u ≤ n
   pub long : length r ≡ 16
   pub so-far : (v : ℕ) → v < u → place r (place l v) ≡ v
 
-pub turned-none : (n : ℕ) (l : List ℕ) → Turned n l 0 (replicate 16 0)
-turned-none n l = record { most = omega arith; long = refl; so-far = λ v h. absurd (omega arith) }
+pub inverted-none : (n : ℕ) (l : List ℕ) → InvertedTo n l 0 (replicate 16 0)
+inverted-none n l = record { most = omega arith; long = refl; so-far = λ v h. absurd (omega arith) }
 
-pub turned-more : (n : ℕ) (l : List ℕ) (u : ℕ) (r : List ℕ) → Permuted n l → u < n → Turned n l u r → Turned n l (u + 1) (set r (place l u) u)
-turned-more n l u r p h t = record { most = omega arith; long = length-set r (place l u) u ∙ t .long; so-far = λ v g. entry v (ℕ-discrete v u) g }
+pub inverted-more : (n : ℕ) (l : List ℕ) (u : ℕ) (r : List ℕ) → Permuted n l → u < n → InvertedTo n l u r → InvertedTo n l (u + 1) (set r (place l u) u)
+inverted-more n l u r p h t = record { most = omega arith; long = length-set r (place l u) u ∙ t .long; so-far = λ v g. entry v (ℕ-discrete v u) g }
   where
     entry : (v : ℕ) → Dec (v ≡ u) → v < u + 1 → place (set r (place l u) u) (place l v) ≡ v
     entry v (yes q) g = rw q (getD-set-same r (place l u) u 0 (omega (arith, t .long, p .below u h, p .few)))
@@ -96,7 +101,8 @@ turned-more n l u r p h t = record { most = omega arith; long = length-set r (pl
 
 -- ---- keys
 
-pub item-set : (l : List Item) (k j : ℕ) (x : Item) → j < k + 1 → k < length l → (y : ℕ → Item) → x ≡ y k → ((j : ℕ) → j < k → getD l j blank ≡ y j) → getD (set l k x) j blank ≡ y j
+pub item-set : (l : List Item) (k j : ℕ) (x : Item) → j < k + 1 → k < length l → (y : ℕ → Item) → x ≡ y k → ((j : ℕ) → j < k → getD l j blank ≡ y j)
+    → getD (set l k x) j blank ≡ y j
 item-set l k j x h g y e old = entry (ℕ-discrete j k)
   where
     entry : Dec (j ≡ k) → getD (set l k x) j blank ≡ y j

@@ -1,20 +1,28 @@
 -- What the planner's arrays hold of an item, and the keys by which it orders the items.
---   reach               what stands for an absent bound: no feasible point needs to go as far (knapsack, proofs/Reach)
---   lowEnd, highEnd     an item's ends in the box
+--   endOr b d           the bound b, or d where it is absent
+--   lowEnd, highEnd     an item's ends in the box; the farthest amount stands for an absent bound
 --   figureOf f i        the figure f of the item i
+--   live a c            an item of that weight and price is worth its weight
+--   isInteger, meet, fixed  an item's mark; that nothing lies between its bounds; one of the two
 --   passes t i          the item i passes the test t: worth its weight; integer; integer or with only one amount
+--   lightBound i        the bound where the item weighs least
+--   headStart b a       what parts equals of filling: those that lack the light end come first
+--   keyItem a c         an item of weight a and price c that stands for a key
 --   fillingKey i        the key for filling: falling price per weight; of equals, those that lack the light end first
 --   reducedPrice p q i  what a unit of the item is worth beyond its weight at the price p for a weight of q, times q
+--   weightedPrice, branchingPrice
+--                       the reduced price without sign, the heavier of equals first; the same, what weighs nothing last
 --   branchingKey p q i  the key for branching: falling reduced price, of equals the heavier first, then what weighs nothing, the continuous
 --                       items last
 --   keyOf b i           one of these
---   SmallKey b          the key's numbers are a price and a weight
+--   SmallRatio, SmallKey  the key's numbers are a price and a weight
 use mathlib.Core.Bool.{Bool, true, false, cond, not}
 use lib.Dec.{eqb}
 use lib.IntN.{ℤ, pos, negsuc, negℤ, natAbs, _+ℤ_, _-ℤ_, _*ℤ_}
 use lib.Signed.{ltZ}
+use Rattle.arith.specs.Limits.{farthest}
 use Rattle.arith.specs.Within.{Within}
-use Rattle.arith.specs.Signs.{turned}
+use Rattle.arith.specs.Signs.{timesSign}
 use Rattle.knapsack.specs.declared.Bound.the-variants.{Absent, At}
 use Rattle.knapsack.specs.declared.Bound.{Bound}
 use Rattle.knapsack.specs.declared.Item.{Item}
@@ -29,19 +37,16 @@ use Rattle.prepare.specs.declared.tables.Test.{Test}
 
 -- ---- figures
 
-abbrev pub reach : ℤ
-reach = pos 300000000
-
 -- the bound, or d where it is absent
 abbrev pub endOr : Bound → ℤ → ℤ
 endOr Absent d = d
 endOr (At v) d = v
 
 abbrev pub lowEnd : Item → ℤ
-lowEnd i = endOr (i .lower) (negℤ reach)
+lowEnd i = endOr (i .lower) (negℤ (pos farthest))
 
 abbrev pub highEnd : Item → ℤ
-highEnd i = endOr (i .upper) reach
+highEnd i = endOr (i .upper) (pos farthest)
 
 -- size and rate are weight and price without the sign of the weight
 abbrev pub figureOf : Figure → Item → ℤ
@@ -50,13 +55,13 @@ figureOf Price i = i .price
 figureOf Low i = lowEnd i
 figureOf High i = highEnd i
 figureOf Size i = pos (natAbs (i .weight))
-figureOf Rate i = turned (i .weight) (i .price)
+figureOf Rate i = timesSign (i .weight) (i .price)
 
 -- ---- tests
 
 -- worth its weight
 abbrev pub live : ℤ → ℤ → Bool
-live a c = cond (eqb (natAbs a) 0) false (ltZ (pos 0) (turned a c))
+live a c = cond (eqb (natAbs a) 0) false (ltZ (pos 0) (timesSign a c))
 
 abbrev pub isInteger : Mark → Bool
 isInteger Integer = true
@@ -93,7 +98,7 @@ keyItem a c = record { mark = Integer; weight = a; price = c; lower = Absent; up
 
 -- different prices per weight differ by 1 / 1,000,000 or more, so that a head start of 1 / 2,000,000 parts only equals
 abbrev pub fillingKey : Item → Item
-fillingKey i = keyItem (pos (natAbs (i .weight))) (pos 2000000 *ℤ turned (i .weight) (i .price) +ℤ headStart (lightBound i) (i .weight))
+fillingKey i = keyItem (pos (natAbs (i .weight))) (pos 2000000 *ℤ timesSign (i .weight) (i .price) +ℤ headStart (lightBound i) (i .weight))
 
 abbrev pub reducedPrice : ℤ → ℤ → Item → ℤ
 reducedPrice p q i = q *ℤ i .price -ℤ p *ℤ i .weight

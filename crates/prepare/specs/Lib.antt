@@ -2,5 +2,5 @@ pub mod Figures
 pub mod Tables
 pub mod Prepared
 pub mod Narrowing
-pub mod Softening
+pub mod Strides
 pub mod Pairs

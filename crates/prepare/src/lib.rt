@@ -12,7 +12,7 @@ pub use narrowing::narrowed;
 pub use narrowing::reach_of;
 pub use pairs::pairs_of;
 use setting::Setting;
-use softening::soft_of;
+use stride::stride_bound;
 use tables::Figure;
 use tables::Key;
 use tables::Test;
@@ -31,7 +31,7 @@ ghost use Rattle.prepare.specs.Tables.{Listing};
 
 mod narrowing; // narrowing.rt: the nearer box of a search
 mod pairs; // pairs.rt: the table of domination pairs
-mod softening; // softening.rt: what continuous items can add
+mod stride; // stride.rt: what continuous items can add
 mod tables; // tables.rt: arrays by item, by rank and by level, and the two orders
 
 // Of some items, without sign: the greatest weight of one that lacks a bound, and the greatest bound.
@@ -130,7 +130,7 @@ pub fn prepare(p: Problem) -> Setting
     let low = table(p, level, levels, Figure::Low);
     let high = table(p, level, levels, Figure::High);
     let lattice = lattices_of(p, level, levels);
-    let soft = soft_of(p, cols);
+    let strides = stride_bound(p, cols);
     Setting {
         cols: cols,
         ends: ends,
@@ -139,6 +139,6 @@ pub fn prepare(p: Problem) -> Setting
         high: high,
         lattice: lattice,
         levels: levels,
-        soft: soft,
+        strides: strides,
     }
 }

@@ -13,6 +13,7 @@ use lib.ListN.{length, set, length-set}
 use lib.Seq.{getD-set-same, getD-set-other}
 use lib.IntN.{ℤ, pos}
 use lib.Signed.{_≤ℤ_, ≤ℤ-refl}
+use Rattle.arith.specs.Limits.{farthest}
 use Rattle.arith.specs.Sum.{Each}
 use Rattle.arith.specs.Within.{Within}
 use Rattle.arith.proofs.Parts.{zs, to-within}
@@ -43,15 +44,16 @@ at-all P l k v h all new i = go (ℕ-discrete i k)
 pub span-long : (e : Ends) (k : ℕ) (l u : ℤ) → Long e → Long (spanned e k l u)
 span-long e k l u h = record { lo-long = simp length-set (h .lo-long); hi-long = simp length-set (h .hi-long) }
 
-pub span-sized : (e : Ends) (k : ℕ) (l u : ℤ) → Long e → k < 16 → Within 300000000 l → Within 300000000 u → SizedEnds e → SizedEnds (spanned e k l u)
+pub span-sized : (e : Ends) (k : ℕ) (l u : ℤ) → Long e → k < 16 → Within farthest l → Within farthest u → SizedEnds e → SizedEnds (spanned e k l u)
 span-sized e k l u h n wl wu z = record {
-  lo-in = at-all (Within 300000000) (e .lo) k l (omega (arith, h .lo-long)) (z .lo-in) wl;
-  hi-in = at-all (Within 300000000) (e .hi) k u (omega (arith, h .hi-long)) (z .hi-in) wu;
+  lo-in = at-all (Within farthest) (e .lo) k l (omega (arith, h .lo-long)) (z .lo-in) wl;
+  hi-in = at-all (Within farthest) (e .hi) k u (omega (arith, h .hi-long)) (z .hi-in) wu;
 }
 
 -- what lies between two numbers in a range is in it
 pub between : {n : ℕ} (l u x : ℤ) → Within n l → Within n u → l ≤ℤ x → x ≤ℤ u → Within n x
-between l u x wl wu h k = to-within (omega (arith, zs, wl .above, wl .below, wu .above, wu .below)) (omega (arith, zs, wl .above, wl .below, wu .above, wu .below))
+between l u x wl wu h k =
+    to-within (omega (arith, zs, wl .above, wl .below, wu .above, wu .below)) (omega (arith, zs, wl .above, wl .below, wu .above, wu .below))
 
 module _ (s : Setting) (r : ReadySetting s) (long : Long (s .ends)) where
   pub item<16 : (d : ℕ) → d < s .levels → levelAt s d < 16
@@ -63,7 +65,8 @@ module _ (s : Setting) (r : ReadySetting s) (long : Long (s .ends)) where
   fixed-long P (suc d) = span-long (fixedBy s P d) (levelAt s d) (P d) (P d) (fixed-long P d)
 
   -- an item of none of the levels passed keeps its ends
-  pub fixed-other : (P : ℕ → ℤ) (d k : ℕ) → ((j : ℕ) → j < d → levelAt s j ≢ k) → (at (fixedBy s P d .lo) k ≡ at (s .ends .lo) k) × (at (fixedBy s P d .hi) k ≡ at (s .ends .hi) k)
+  pub fixed-other : (P : ℕ → ℤ) (d k : ℕ) → ((j : ℕ) → j < d → levelAt s j ≢ k) → (at (fixedBy s P d .lo) k ≡ at (s .ends .lo) k)
+      × (at (fixedBy s P d .hi) k ≡ at (s .ends .hi) k)
   unfolding fixedIn
   fixed-other P zero k h = (refl, refl)
   fixed-other P (suc d) k h =
@@ -80,15 +83,21 @@ module _ (s : Setting) (r : ReadySetting s) (long : Long (s .ends)) where
       e : Ends
       e = fixedBy s P d
 
-      go : Dec (j ≡ d) → (j < d → (at (e .lo) (levelAt s j) ≡ P j) × (at (e .hi) (levelAt s j) ≡ P j)) → (at (set (e .lo) (levelAt s d) (P d)) (levelAt s j) ≡ P j) × (at (set (e .hi) (levelAt s d) (P d)) (levelAt s j) ≡ P j)
-      go (yes q) ih = rw q (at-same (e .lo) (levelAt s d) (P d) (omega (arith, fixed-long P d .lo-long, item<16 d (omega arith))), at-same (e .hi) (levelAt s d) (P d) (omega (arith, fixed-long P d .hi-long, item<16 d (omega arith))))
+      go : Dec (j ≡ d) → (j < d → (at (e .lo) (levelAt s j) ≡ P j) × (at (e .hi) (levelAt s j) ≡ P j))
+          → (at (set (e .lo) (levelAt s d) (P d)) (levelAt s j) ≡ P j) × (at (set (e .hi) (levelAt s d) (P d)) (levelAt s j) ≡ P j)
+      go (yes q) ih = rw q (
+        at-same (e .lo) (levelAt s d) (P d) (omega (arith, fixed-long P d .lo-long, item<16 d (omega arith))),
+        at-same (e .hi) (levelAt s d)
+            (P d) (omega (arith, fixed-long P d .hi-long, item<16 d (omega arith))),
+      )
       go (no q) ih =
           let ne : levelAt s j ≢ levelAt s d = λ h. q (r .distinct j d (omega arith) (omega arith) h) in
           let h = ih (omega arith) in
           (at-other (e .lo) (levelAt s d) (P d) (levelAt s j) ne ∙ h .0, at-other (e .hi) (levelAt s d) (P d) (levelAt s j) ne ∙ h .1)
 
   -- the level itself still has its own ends
-  pub fixed-own : (P : ℕ → ℤ) (d : ℕ) → d < s .levels → (at (fixedBy s P d .lo) (levelAt s d) ≡ at (s .low) d) × (at (fixedBy s P d .hi) (levelAt s d) ≡ at (s .high) d)
+  pub fixed-own : (P : ℕ → ℤ) (d : ℕ) → d < s .levels → (at (fixedBy s P d .lo) (levelAt s d) ≡ at (s .low) d)
+      × (at (fixedBy s P d .hi) (levelAt s d) ≡ at (s .high) d)
   fixed-own P d l =
       let h = fixed-other P d (levelAt s d) (λ j m e. apart j m (r .distinct j d (omega arith) l e)) in
       (h .0 ∙ sym (r .low-is d l), h .1 ∙ sym (r .high-is d l))
@@ -96,13 +105,13 @@ module _ (s : Setting) (r : ReadySetting s) (long : Long (s .ends)) where
       apart : (j : ℕ) → j < d → j ≡ d → ⊥
       apart j m e = omega arith
 
-  pub low-within : (d : ℕ) → d < s .levels → Within 300000000 (at (s .low) d)
-  low-within d l = subst (Within 300000000) (sym (r .low-is d l)) (r .sized .ends .lo-in (levelAt s d))
+  pub low-within : (d : ℕ) → d < s .levels → Within farthest (at (s .low) d)
+  low-within d l = subst (Within farthest) (sym (r .low-is d l)) (r .sized .ends .lo-in (levelAt s d))
 
-  pub high-within : (d : ℕ) → d < s .levels → Within 300000000 (at (s .high) d)
-  high-within d l = subst (Within 300000000) (sym (r .high-is d l)) (r .sized .ends .hi-in (levelAt s d))
+  pub high-within : (d : ℕ) → d < s .levels → Within farthest (at (s .high) d)
+  high-within d l = subst (Within farthest) (sym (r .high-is d l)) (r .sized .ends .hi-in (levelAt s d))
 
-  pub inside-within : (P : ℕ → ℤ) (n d : ℕ) → n ≤ s .levels → d < n → InsideTo s n P → Within 300000000 (P d)
+  pub inside-within : (P : ℕ → ℤ) (n d : ℕ) → n ≤ s .levels → d < n → InsideTo s n P → Within farthest (P d)
   inside-within P n d m l h = between (at (s .low) d) (at (s .high) d) (P d) (low-within d (omega arith)) (high-within d (omega arith)) (h d l .0) (h d l .1)
 
   pub fixed-sized : (P : ℕ → ℤ) (d : ℕ) → d ≤ s .levels → InsideTo s d P → SizedEnds (fixedBy s P d)
@@ -110,7 +119,8 @@ module _ (s : Setting) (r : ReadySetting s) (long : Long (s .ends)) where
   fixed-sized P zero l h = r .sized .ends
   fixed-sized P (suc d) l h =
       let w = inside-within P (suc d) d l (omega arith) h in
-      span-sized (fixedBy s P d) (levelAt s d) (P d) (P d) (fixed-long P d) (item<16 d (omega arith)) w w (fixed-sized P d (omega arith) (λ j m. h j (omega arith)))
+      span-sized (fixedBy s P d) (levelAt s d) (P d) (P d) (fixed-long P d) (item<16 d (omega arith)) w w
+      (fixed-sized P d (omega arith) (λ j m. h j (omega arith)))
 
   -- a box whose item k has the ends l ≤ u is in order if the rest is
   pub span-order : (e : Ends) (k : ℕ) (l u : ℤ) → Long e → k < 16 → l ≤ℤ u → InOrder (s .cols) e → InOrder (s .cols) (spanned e k l u)
@@ -123,7 +133,8 @@ module _ (s : Setting) (r : ReadySetting s) (long : Long (s .ends)) where
   pub fixed-order : (P : ℕ → ℤ) (d : ℕ) → d ≤ s .levels → InOrder (s .cols) (fixedBy s P d)
   unfolding fixedIn
   fixed-order P zero l = r .in-order
-  fixed-order P (suc d) l = span-order (fixedBy s P d) (levelAt s d) (P d) (P d) (fixed-long P d) (item<16 d (omega arith)) (≤ℤ-refl (P d)) (fixed-order P d (omega arith))
+  fixed-order P (suc d) l =
+      span-order (fixedBy s P d) (levelAt s d) (P d) (P d) (fixed-long P d) (item<16 d (omega arith)) (≤ℤ-refl (P d)) (fixed-order P d (omega arith))
 
 -- the levels above alone count
 pub fixed-cong : (s : Setting) (P Q : ℕ → ℤ) (d : ℕ) → Each d (λ k. P k ≡ Q k) → fixedBy s P d ≡ fixedBy s Q d

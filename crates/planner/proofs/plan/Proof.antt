@@ -26,7 +26,8 @@ returns c =
     let r = c .before in
     let t = r .before in
     let k = t .before .before in
-    subst (RepliesAs (instanceOf (k .before .args .p)) (r .solve .result .answer)) (sym (sym (k .check-record .ensures) ∙ t .enum-told .given .1)) (r .solve .ensures .answers)
+    subst (RepliesAs (instanceOf (k .before .args .p)) (r .solve .result .answer)) (sym (sym (k .check-record .ensures) ∙ t .enum-told .given .1))
+    (r .solve .ensures .answers)
 
 returns-2 : tie.Need-returns-2
 returns-2 c =

@@ -41,11 +41,15 @@ table-requires-2 : tie.Need-table-requires-2
 table-requires-2 c κs = search needs
 
 -- the tables, as columns of the levels
-weights : (c : tie.After-table) → entry (c .table .result) ≡ column (c .before .before .before .before .before .args .n) (λ u. listed (c .before .before .before .before .before .args .p) (c .before .before .before .before .before .args .level) u .weight)
-weights c = let s = c .before .before .before .before .before in tabled-column (s .args .n) (λ u. figureOf Weight (listed (s .args .p) (s .args .level) u)) (c .table .result) (c .table .ensures)
+weights : (c : tie.After-table) → entry (c .table .result) ≡ column (c .before .before .before .before .before .args .n)
+    (λ u. listed (c .before .before .before .before .before .args .p) (c .before .before .before .before .before .args .level) u .weight)
+weights c = let s = c .before .before .before .before .before in tabled-column (s .args .n) (λ u. figureOf Weight (listed (s .args .p) (s .args .level) u))
+    (c .table .result) (c .table .ensures)
 
-prices : (c : tie.After-table2) → entry (c .table2 .result) ≡ column (c .before .before .before .before .before .before .args .n) (λ u. listed (c .before .before .before .before .before .before .args .p) (c .before .before .before .before .before .before .args .level) u .price)
-prices c = let s = c .before .before .before .before .before .before in tabled-column (s .args .n) (λ u. figureOf Price (listed (s .args .p) (s .args .level) u)) (c .table2 .result) (c .table2 .ensures)
+prices : (c : tie.After-table2) → entry (c .table2 .result) ≡ column (c .before .before .before .before .before .before .args .n)
+    (λ u. listed (c .before .before .before .before .before .before .args .p) (c .before .before .before .before .before .before .args .level) u .price)
+prices c = let s = c .before .before .before .before .before .before in tabled-column (s .args .n)
+    (λ u. figureOf Price (listed (s .args .p) (s .args .level) u)) (c .table2 .result) (c .table2 .ensures)
 
 lattices-requires : tie.Need-lattices-requires
 lattices-requires c κs =

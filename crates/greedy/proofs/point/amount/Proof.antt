@@ -16,7 +16,8 @@ numerator-of-requires : tie.Need-numerator-of-requires
 numerator-of-requires c κs = search needs
 
 -- the numerator, as the code holds it
-held : (c : tie.After-numerator-of) → toZ w64 (ofZ w64 (c .numerator-of .result)) ≡ numerator (c .before .args .cols) (c .before .args .ends) (c .before .args .f) (c .before .args .q) (c .before .args .k)
+held : (c : tie.After-numerator-of) → toZ w64 (ofZ w64 (c .numerator-of .result)) ≡ numerator (c .before .args .cols) (c .before .args .ends)
+    (c .before .args .f) (c .before .args .q) (c .before .args .k)
 held c = back (c .numerator-of .result) (c .numerator-of .ok) ∙ c .numerator-of .ensures
 
 reduce-requires : tie.Need-reduce-requires

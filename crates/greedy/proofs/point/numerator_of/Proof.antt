@@ -53,39 +53,51 @@ standing-requires : tie.Need-standing-requires
 standing-requires c κs = search needs
 
 taking-requires : tie.Need-taking-requires
-taking-requires c κs = let s = c .before .before .before .before .before .before .before in rw (within-back tt (s .pre .filled .room-in)) (s .pre .filled .room-in)
+taking-requires c κs =
+    let s = c .before .before .before .before .before .before .before in rw (within-back tt (s .pre .filled .room-in)) (s .pre .filled .room-in)
 
 cast-result : tie.Need-cast-result
 cast-result c = search needs
 
 -- the two terms, as the code holds them
-whole-is : (c : tie.After-taking) → toZ w64 (ofZ w64 (c .before .before .standing .result)) *ℤ toZ w64 (S c .args .q) ≡ stand (S c .args .t1) (S c .args .t2) (S c .args .f .at) (S c .args .k) *ℤ pos (S c .args .q)
+whole-is : (c : tie.After-taking) → toZ w64 (ofZ w64 (c .before .before .standing .result)) *ℤ toZ w64 (S c .args .q) ≡ stand (S c .args .t1) (S c .args .t2)
+    (S c .args .f .at) (S c .args .k) *ℤ pos (S c .args .q)
 unfolding S
 whole-is c =
     let s = S c in
     let k = s .args .k in
     let d = c .before .before .standing in
-    let e = rw (within-back tt (s .pre .sized .columns .weights-in k), within-back tt (s .pre .sized .columns .prices-in k), within-back tt (s .pre .sized .ends .lo-in k), within-back tt (s .pre .sized .ends .hi-in k)) at (d .ensures) in
+    let e = rw (
+      within-back tt (s .pre .sized .columns .weights-in k),
+      within-back tt (s .pre .sized .columns .prices-in k),
+      within-back tt
+          (s .pre .sized .ends .lo-in k),
+      within-back tt (s .pre .sized .ends .hi-in k),
+    ) at (d .ensures) in
     ap₂ (λ (x y : ℤ). x *ℤ y) (back (d .result) (d .ok) ∙ e) (toZ-pos w64 (omega (arith, s .pre .few)))
 
-taken-is : (c : tie.After-taking) → toZ w64 (ofZ w64 (c .taking .result)) ≡ takenBy (weightOf (S c .args .t1) (S c .args .k)) (S c .args .f .room) (rankOf (S c .args .t1) (S c .args .k)) (S c .args .f .at) (S c .args .t1 .live)
+taken-is : (c : tie.After-taking) → toZ w64 (ofZ w64 (c .taking .result)) ≡ takenBy (weightOf (S c .args .t1) (S c .args .k)) (S c .args .f .room)
+    (rankOf (S c .args .t1) (S c .args .k)) (S c .args .f .at) (S c .args .t1 .live)
 unfolding S
 taken-is c =
     let s = S c in
-    let e : c .taking .result ≡ takenBy (weightOf (s .args .t1) (s .args .k)) (s .args .f .room) (rankOf (s .args .t1) (s .args .k)) (s .args .f .at) (s .args .t1 .live) =
+    let e : c .taking .result ≡ takenBy (weightOf (s .args .t1) (s .args .k)) (s .args .f .room) (rankOf (s .args .t1) (s .args .k)) (s .args .f .at)
+    (s .args .t1 .live) =
     rw (within-back tt (s .pre .sized .columns .weights-in (s .args .k)), within-back tt (s .pre .filled .room-in)) at (c .taking .ensures) in
     back (c .taking .result) (c .taking .ok) ∙ e
 
 mul-result : tie.Need-mul-result
 unfolding S
-mul-result c = let s = S c in rw (whole-is c) (within-sfits (lit< tt) (whole-within (s .args .t1) (s .args .t2) (s .args .f) (s .args .q) (s .args .k) (s .pre)))
+mul-result c = let s =
+    S c in rw (whole-is c) (within-sfits (lit< tt) (whole-within (s .args .t1) (s .args .t2) (s .args .f) (s .args .q) (s .args .k) (s .pre)))
 
 -- and their sum
 inside : (c : tie.After-taking) → Within 20300000000000 (numerator (S c .args .t1) (S c .args .t2) (S c .args .f) (S c .args .q) (S c .args .k))
 unfolding S
 inside c = let s = S c in numerator-within (s .args .t1) (s .args .t2) (s .args .f) (s .args .q) (s .args .k) (s .pre)
 
-held : (c : tie.After-taking) → toZ w64 (ofZ w64 (toZ w64 (ofZ w64 (c .before .before .standing .result)) *ℤ toZ w64 (S c .args .q))) +ℤ toZ w64 (ofZ w64 (c .taking .result)) ≡ numerator (S c .args .t1) (S c .args .t2) (S c .args .f) (S c .args .q) (S c .args .k)
+held : (c : tie.After-taking) → toZ w64 (ofZ w64 (toZ w64 (ofZ w64 (c .before .before .standing .result)) *ℤ toZ w64 (S c .args .q))) +ℤ toZ w64
+    (ofZ w64 (c .taking .result)) ≡ numerator (S c .args .t1) (S c .args .t2) (S c .args .f) (S c .args .q) (S c .args .k)
 unfolding S
 held c =
     let s = S c in

@@ -8,6 +8,7 @@ use mir.Syntax.{w64}
 use mir.Val.{SFits}
 use mir.Facts.{toZ-ofZ}
 use borrow.Author.Tests.{lt-ltb, le-ltb, eq-eqb, ne-eqb}
+use Rattle.arith.specs.Limits.{mostRoom}
 use Rattle.arith.specs.Within.{Within}
 use Rattle.arith.proofs.Integers.{split, zed}
 use Rattle.arith.proofs.Parts.{zs, within-neg, within-sfits, within-back, zero-less}
@@ -29,7 +30,7 @@ unit-above : (a r : ℤ) → pos 0 ≤ℤ a → r ≡ unit a *ℤ r
 unit-above (pos n) r h = once r
 unit-above (negsuc n) r h = absurd (omega (arith, zs))
 
-less-fits : (r : ℤ) → Within 20000000000000 r → SFits w64 (pos 0 -ℤ r)
+less-fits : (r : ℤ) → Within mostRoom r → SFits w64 (pos 0 -ℤ r)
 less-fits r h = rw (zero-less r) (within-sfits (lit< tt) (within-neg r h))
 
 sub-result : tie.Need-sub-result
@@ -39,7 +40,13 @@ returns : tie.Need-returns
 returns c =
     let s = c .before .before .before in
     let t = rw (toZ-ofZ (s .fits .a)) at (c .if3 .taken) in
-    rw (lt-ltb _ _ (c .before .before .if1 .taken), eq-eqb _ _ (c .before .if2 .taken), within-back tt (s .pre), toZ-ofZ (less-fits (s .args .room) (s .pre)), zero-less (s .args .room))
+    rw (
+      lt-ltb _ _ (c .before .before .if1 .taken),
+      eq-eqb _ _ (c .before .if2 .taken),
+      within-back tt (s .pre),
+      toZ-ofZ (less-fits (s .args .room) (s .pre)),
+      zero-less (s .args .room),
+    )
     (unit-below (s .args .a) (s .args .room) (omega (arith, zs)))
 
 returns-2 : tie.Need-returns-2

@@ -57,7 +57,8 @@ returns-2 : tie.Need-returns-2
 returns-2 c =
     let a = c .before .q .given .0 .0 in
     let b = c .before .q .given .0 .1 .0 in
-    rw (within-back tt (abs-within a (steps c .0)), within-back tt (abs-within b (steps c .1)), toZ-ofZ (short a (steps c .0)), toZ-ofZ (short b (steps c .1))) (put _ _ _ a b (c .before .q .given .1))
+    rw (within-back tt (abs-within a (steps c .0)), within-back tt (abs-within b (steps c .1)), toZ-ofZ (short a (steps c .0)), toZ-ofZ (short b (steps c .1)))
+    (put _ _ _ a b (c .before .q .given .1))
 
 pub with-pair-spec : {M : Type 1} → statement M
 with-pair-spec =

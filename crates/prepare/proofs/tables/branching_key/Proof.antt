@@ -28,7 +28,8 @@ is-zero : (a : ℤ) → natAbs a ≡ 0 → a ≡ pos 0
 is-zero = split _ (λ a b. simp zed (omega arith))
 
 weighs : (c : tie.Else2) → eqb (natAbs (c .before .before .before .before .args .i .weight)) 0 ≡ false
-weighs c = let s = c .before .before .before .before in ne-eqb (natAbs (s .args .i .weight)) 0 (λ e. c .if2 .left (ap (ofZ w64) (is-zero (s .args .i .weight) e)))
+weighs c = let s = c .before .before .before .before in ne-eqb (natAbs (s .args .i .weight)) 0
+    (λ e. c .if2 .left (ap (ofZ w64) (is-zero (s .args .i .weight) e)))
 
 key-item-requires : tie.Need-key-item-requires
 key-item-requires c κs = search needs
@@ -75,7 +76,8 @@ size c =
 add-key-item : tie.Need-add-key-item
 add-key-item c =
     let s = S (c .before) in
-    rw (price (c .before), within-back tt (counted-within (s .args .i) (s .pre .0) (s .args .p) (s .args .q) (s .pre .1)), size c) (within-sfits (lit< tt) (weighted-within (s .args .i) (s .pre .0) (s .args .p) (s .args .q) (s .pre .1)))
+    rw (price (c .before), within-back tt (counted-within (s .args .i) (s .pre .0) (s .args .p) (s .args .q) (s .pre .1)), size c)
+    (within-sfits (lit< tt) (weighted-within (s .args .i) (s .pre .0) (s .args .p) (s .args .q) (s .pre .1)))
 
 key-item-requires-2 : tie.Need-key-item-requires-2
 key-item-requires-2 c κs = search needs
@@ -87,7 +89,13 @@ returns-2 c =
     let s = S (b .before) in
     let i = s .args .i in
     rw (integer (e .before), weighs e)
-    (rw (price (b .before), within-back tt (counted-within i (s .pre .0) (s .args .p) (s .args .q) (s .pre .1)), size b, within-back tt (weighted-within i (s .pre .0) (s .args .p) (s .args .q) (s .pre .1))) at (c .key-item2 .ensures))
+    (rw (
+      price (b .before),
+      within-back tt (counted-within i (s .pre .0) (s .args .p) (s .args .q) (s .pre .1)),
+      size b,
+      within-back tt
+          (weighted-within i (s .pre .0) (s .args .p) (s .args .q) (s .pre .1)),
+    ) at (c .key-item2 .ensures))
 
 key-item-requires-3 : tie.Need-key-item-requires-3
 key-item-requires-3 c κs = search needs

@@ -40,8 +40,8 @@ absolute-requires c κs =
 enum-told-6 : tie.Need-enum-told-6
 enum-told-6 c = search needs
 
-turn-requires : tie.Need-turn-requires
-turn-requires c κs =
+times-sign-requires : tie.Need-times-sign-requires
+times-sign-requires c κs =
     let s = c .before .before .before .before in
     let w = price-within (s .args .i) (s .pre) in
     rw (within-back tt w) (within-more (omega arith) w)
@@ -65,12 +65,14 @@ returns-4 c = rw (c .before .enum-told4 .given .1, back (c .end-or2 .result) (c 
 returns-5 : tie.Need-returns-5
 returns-5 c =
     let s = c .before .before .before .before .before in
-    rw (c .before .enum-told5 .given .1, back (c .absolute .result) (c .absolute .ok)) (rw (within-back tt (weight-within (s .args .i) (s .pre))) at (c .absolute .ensures))
+    rw (c .before .enum-told5 .given .1, back (c .absolute .result) (c .absolute .ok))
+    (rw (within-back tt (weight-within (s .args .i) (s .pre))) at (c .absolute .ensures))
 
 returns-6 : tie.Need-returns-6
 returns-6 c =
     let s = c .before .before .before .before .before in
-    rw (c .before .enum-told6 .given .1, back (c .turn .result) (c .turn .ok)) (rw (within-back tt (weight-within (s .args .i) (s .pre)), within-back tt (price-within (s .args .i) (s .pre))) at (c .turn .ensures))
+    rw (c .before .enum-told6 .given .1, back (c .times-sign .result) (c .times-sign .ok))
+    (rw (within-back tt (weight-within (s .args .i) (s .pre)), within-back tt (price-within (s .args .i) (s .pre))) at (c .times-sign .ensures))
 
 pub figure-of-spec : {M : Type 1} → statement M
 figure-of-spec =
@@ -86,7 +88,7 @@ figure-of-spec =
     enum-told-5
     absolute-requires
     enum-told-6
-    turn-requires
+    times-sign-requires
     returns
     returns-2
     returns-3

@@ -8,7 +8,7 @@ use mir.Syntax.{w64}
 use mir.Val.{toZ, ofZ}
 use Rattle.arith.proofs.Parts.{within-more, within-back, within-sfits}
 use Rattle.arith.proofs.Words.{back}
-use Rattle.arith.specs.Signs.{turned}
+use Rattle.arith.specs.Signs.{timesSign}
 use Rattle.prepare.specs.Figures.{lightBound, headStart}
 use Rattle.prepare.proofs.Ranges.{weight-within, price-within, scaled-within, key-within}
 use Rattle.prepare.proofs.tables.filling_key.Statement.{statement}
@@ -19,11 +19,12 @@ abbrev S : tie.After-absolute → tie.Start
 S c = c .before .before .before .before .before .before
 
 -- the three numbers that the key is made of
-first : (c : tie.After-absolute) → toZ w64 (ofZ w64 (c .before .before .turn .result)) ≡ turned (S c .args .i .weight) (S c .args .i .price)
+first : (c : tie.After-absolute) → toZ w64 (ofZ w64 (c .before .before .times-sign .result)) ≡ timesSign (S c .args .i .weight) (S c .args .i .price)
 first c =
     let s = S c in
-    back (c .before .before .turn .result) (c .before .before .turn .ok)
-    ∙ (rw (within-back tt (weight-within (s .args .i) (s .pre)), within-back tt (price-within (s .args .i) (s .pre))) at (c .before .before .turn .ensures))
+    back (c .before .before .times-sign .result) (c .before .before .times-sign .ok)
+    ∙ (rw (within-back tt (weight-within (s .args .i) (s .pre)), within-back tt (price-within (s .args .i) (s .pre))) at
+    (c .before .before .times-sign .ensures))
 
 second : (c : tie.After-absolute) → toZ w64 (ofZ w64 (c .before .head-start .result)) ≡ headStart (lightBound (S c .args .i)) (S c .args .i .weight)
 second c =
@@ -39,8 +40,8 @@ size c =
 light-bound-requires : tie.Need-light-bound-requires
 light-bound-requires c κs = search needs
 
-turn-requires : tie.Need-turn-requires
-turn-requires c κs =
+times-sign-requires : tie.Need-times-sign-requires
+times-sign-requires c κs =
     let s = c .before .before .before in
     let w = price-within (s .args .i) (s .pre) in
     rw (within-back tt w) (within-more (omega arith) w)
@@ -74,14 +75,15 @@ returns : tie.Need-returns
 returns c =
     let s = S (c .before) in
     let i = s .args .i in
-    rw (size (c .before), first (c .before), within-back tt (scaled-within i (s .pre)), second (c .before), within-back tt (key-within i (s .pre))) at (c .key-item .ensures)
+    rw (size (c .before), first (c .before), within-back tt (scaled-within i (s .pre)), second (c .before), within-back tt (key-within i (s .pre))) at
+    (c .key-item .ensures)
 
 pub filling-key-spec : {M : Type 1} → statement M
 filling-key-spec =
     tie.close
     (tie.spec
     light-bound-requires
-    turn-requires
+    times-sign-requires
     head-start-requires
     absolute-requires
     mul-key-item

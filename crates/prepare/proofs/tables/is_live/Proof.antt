@@ -20,14 +20,14 @@ is-zero = split _ (λ a b. simp zed (omega arith))
 returns : tie.Need-returns
 returns c = rw (bits-zero (c .before .args .a) (c .before .fits .a) (c .if1 .taken))
 
-turn-requires : tie.Need-turn-requires
-turn-requires c κs = search needs
+times-sign-requires : tie.Need-times-sign-requires
+times-sign-requires c κs = search needs
 
 returns-2 : tie.Need-returns-2
 returns-2 c =
     let s = c .before .before in
-    rw (ne-eqb (natAbs (s .args .a)) 0 (λ e. c .before .if1 .left (ap (ofZ w64) (is-zero (s .args .a) e))), back (c .turn .result) (c .turn .ok))
-    (ap (ltZ (pos 0)) (rw (toZ-ofZ (s .fits .a), toZ-ofZ (s .fits .c)) at (c .turn .ensures)))
+    rw (ne-eqb (natAbs (s .args .a)) 0 (λ e. c .before .if1 .left (ap (ofZ w64) (is-zero (s .args .a) e))), back (c .times-sign .result) (c .times-sign .ok))
+    (ap (ltZ (pos 0)) (rw (toZ-ofZ (s .fits .a), toZ-ofZ (s .fits .c)) at (c .times-sign .ensures)))
 
 pub is-live-spec : {M : Type 1} → statement M
-is-live-spec = tie.close (tie.spec returns turn-requires returns-2)
+is-live-spec = tie.close (tie.spec returns times-sign-requires returns-2)

@@ -51,7 +51,8 @@ loop-again c =
       omega arith,
       (
         simp length-set (l .loop .inv .1 .0),
-        λ j h. item-set (l .loop .items) k j (c .key-of .result) h (omega (arith, l .loop .inv .1 .0, s .pre .0 .few-items)) (λ v. keyOf (s .args .by) (itemAt (s .args .t1) v)) (c .key-of .ensures) (l .loop .inv .1 .1),
+        λ j h. item-set (l .loop .items) k j (c .key-of .result) h (omega (arith, l .loop .inv .1 .0, s .pre .0 .few-items))
+            (λ v. keyOf (s .args .by) (itemAt (s .args .t1) v)) (c .key-of .ensures) (l .loop .inv .1 .1),
       ),
     )
 

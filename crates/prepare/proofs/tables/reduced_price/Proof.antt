@@ -19,8 +19,15 @@ module _ (s : tie.Start) where
   cost : toZ w64 (ofZ w64 (s .args .p)) *ℤ toZ w64 (ofZ w64 (s .args .i .weight)) ≡ s .args .p *ℤ s .args .i .weight
   cost = rw (within-back tt (s .pre .1 .price), within-back tt (weight-within (s .args .i) (s .pre .0)))
 
-  difference : toZ w64 (ofZ w64 (toZ w64 (ofZ w64 (s .args .q)) *ℤ toZ w64 (ofZ w64 (s .args .i .price)))) -ℤ toZ w64 (ofZ w64 (toZ w64 (ofZ w64 (s .args .p)) *ℤ toZ w64 (ofZ w64 (s .args .i .weight)))) ≡ reducedPrice (s .args .p) (s .args .q) (s .args .i)
-  difference = rw (gain, cost, within-back tt (gain-within (s .args .i) (s .pre .0) (s .args .p) (s .args .q) (s .pre .1)), within-back tt (cost-within (s .args .i) (s .pre .0) (s .args .p) (s .args .q) (s .pre .1)))
+  difference : toZ w64 (ofZ w64 (toZ w64 (ofZ w64 (s .args .q)) *ℤ toZ w64 (ofZ w64 (s .args .i .price)))) -ℤ toZ w64
+      (ofZ w64 (toZ w64 (ofZ w64 (s .args .p)) *ℤ toZ w64 (ofZ w64 (s .args .i .weight)))) ≡ reducedPrice (s .args .p) (s .args .q) (s .args .i)
+  difference = rw (
+    gain,
+    cost,
+    within-back tt (gain-within (s .args .i) (s .pre .0) (s .args .p) (s .args .q) (s .pre .1)),
+    within-back tt
+        (cost-within (s .args .i) (s .pre .0) (s .args .p) (s .args .q) (s .pre .1)),
+  )
 
 mul-absolute : tie.Need-mul-absolute
 mul-absolute c =

@@ -56,7 +56,8 @@ loop-again : tie.Need-loop-again Inv-loop μ-loop
 loop-again c =
     let l = c .before .before .before in
     let s = l .before in
-    filled-more (s .args .n) (λ v. figureOf (s .args .f) (listed (s .args .t1) (s .args .t2) v)) (l .loop .u) (l .loop .to) _ (s .pre .few) (omega arith) (back (c .figure-of .result) (c .figure-of .ok) ∙ c .figure-of .ensures) (l .loop .inv)
+    filled-more (s .args .n) (λ v. figureOf (s .args .f) (listed (s .args .t1) (s .args .t2) v)) (l .loop .u) (l .loop .to) _ (s .pre .few) (omega arith)
+    (back (c .figure-of .result) (c .figure-of .ok) ∙ c .figure-of .ensures) (l .loop .inv)
 
 returns : tie.Need-returns Inv-loop μ-loop
 returns c =

@@ -1,4 +1,4 @@
--- `prepare::softening::soft_of` meets its contract.
+-- `prepare::stride::stride_bound` meets its contract.
 use mathlib.Core.Path.{_≡_}
 use Prim.Native.Nat.{_<_}
 use native.Mathlib.Omega.{arith}
@@ -12,14 +12,15 @@ use Rattle.arith.proofs.Parts.{within-back}
 use Rattle.knapsack.specs.Records.{itemAt}
 use Rattle.prepare.specs.Figures.{keyOf}
 use Rattle.prepare.specs.declared.tables.Key.the-variants.{Filling}
-use Rattle.prepare.specs.Softening.{strideOf}
+use Rattle.prepare.specs.Strides.{strideOf}
 use Rattle.prepare.proofs.Lists.{sorted-listing}
 use Rattle.prepare.proofs.Order.{columns-sized}
-use Rattle.prepare.proofs.Softness.{stride-small}
-use Rattle.prepare.proofs.softening.soft_of.Statement.{statement}
-use Rattle.prepare.proofs.softening.soft_of.Tie as tie
+use Rattle.prepare.proofs.StridesTrue.{stride-small}
+use Rattle.prepare.proofs.stride.stride_bound.Statement.{statement}
+use Rattle.prepare.proofs.stride.stride_bound.Tie as tie
 
-up : (c : tie.After-stride-of) → toZ w64 (c .stride-of .result) ≡ pos (strideOf (c .before .before .before .before .before .args .p) (c .before .before .before .before .before .args .p .count))
+up : (c : tie.After-stride-of) → toZ w64 (c .stride-of .result) ≡ pos (strideOf (c .before .before .before .before .before .args .p)
+    (c .before .before .before .before .before .args .p .count))
 up c =
     let s = c .before .before .before .before .before in
     let b = stride-small (s .args .p) (s .pre .0) (s .args .p .count) (omega arith) in
@@ -31,7 +32,8 @@ rank<16 c =
     omega (arith, c .if2 .taken, s .pre .1 .live .most, s .pre .0 .few-items)
 
 leading-requires : tie.Need-leading-requires
-leading-requires c κs = let s = c .before in sorted-listing (s .args .p) (s .pre .0) (λ k. keyOf Filling (itemAt (s .args .p) k)) (s .args .t2 .order) (s .pre .1 .order)
+leading-requires c κs =
+    let s = c .before in sorted-listing (s .args .p) (s .pre .0) (λ k. keyOf Filling (itemAt (s .args .p) k)) (s .args .t2 .order) (s .pre .1 .order)
 
 stride-of-requires : tie.Need-stride-of-requires
 stride-of-requires c κs = search needs
@@ -64,7 +66,13 @@ returns c =
     record {
       first = u;
       leads = l .leading .ensures;
-      is = rw (up (t .before), within-back tt (z .rates-in u), within-back tt (z .sizes-in u), lt-ltb u (s .args .p .count) (t .before .before .if1 .taken), lt-ltb u (s .args .t2 .live) (t .if2 .taken));
+      is = rw (
+        up (t .before),
+        within-back tt (z .rates-in u),
+        within-back tt (z .sizes-in u),
+        lt-ltb u (s .args .p .count) (t .before .before .if1 .taken),
+        lt-ltb u (s .args .t2 .live) (t .if2 .taken),
+      );
     }
 
 returns-2 : tie.Need-returns-2
@@ -72,20 +80,26 @@ returns-2 c =
     let s = c .before .before .before .before .before .before in
     let l = c .before .before .before .before in
     let u = l .leading .result in
-    record { first = u; leads = l .leading .ensures; is = rw (up (c .before), lt-ltb u (s .args .p .count) (c .before .before .if1 .taken), le-ltb u (s .args .t2 .live) (c .if2 .left)) }
+    record {
+      first = u;
+      leads =
+          l .leading .ensures;
+      is =
+          rw (up (c .before), lt-ltb u (s .args .p .count) (c .before .before .if1 .taken), le-ltb u (s .args .t2 .live) (c .if2 .left));
+    }
 
-no-soft-requires : tie.Need-no-soft-requires
-no-soft-requires c κs = search needs
+no-stride-bound-requires : tie.Need-no-stride-bound-requires
+no-stride-bound-requires c κs = search needs
 
 returns-3 : tie.Need-returns-3
 returns-3 c =
     let s = c .before .before .before .before .before in
     let l = c .before .before .before in
     let u = l .leading .result in
-    record { first = u; leads = l .leading .ensures; is = rw (c .no-soft .ensures, le-ltb u (s .args .p .count) (c .before .if1 .left)) }
+    record { first = u; leads = l .leading .ensures; is = rw (c .no-stride-bound .ensures, le-ltb u (s .args .p .count) (c .before .if1 .left)) }
 
-pub soft-of-spec : {M : Type 1} → statement M
-soft-of-spec =
+pub stride-bound-spec : {M : Type 1} → statement M
+stride-bound-spec =
     tie.close
     (tie.spec
     leading-requires
@@ -97,5 +111,5 @@ soft-of-spec =
     element-copy-out-t19
     returns
     returns-2
-    no-soft-requires
+    no-stride-bound-requires
     returns-3)

@@ -22,11 +22,11 @@ use Rattle.setting.specs.declared.Setting.{Setting}
 use Rattle.setting.specs.declared.Pairs.{Pairs}
 use Rattle.search.specs.declared.Incumbent.{Incumbent}
 use Rattle.search.specs.declared.Path.{Path}
-use Rattle.search.specs.declared.Trial.{Trial}
+use Rattle.search.specs.declared.Comparison.{Comparison}
 use Rattle.setting.specs.Box.{levelAt, fixedBy, Inside, Long}
 use Rattle.search.specs.Search.{startBy, runBox, cutBy, betters, betterBy, triedBy, Removable, Applies}
 use Rattle.setting.specs.Ready.{pairIndex, ReadySetting}
-use Rattle.search.specs.Steps.{Started, cutAt, Passed, LookedAs, Turned}
+use Rattle.search.specs.Steps.{Started, cutAt, Passed, LookedAs, MovedTo}
 use Rattle.search.proofs.Starts.{orderOf, start-cong, order-laws}
 use Rattle.setting.proofs.Boxes.{fixed-cong}
 
@@ -43,7 +43,7 @@ tried-kept c e x b f = go (ltZ (fill c e .room) (pos 0)) (betters (bound c (fill
     go false false h = refl
 
 -- a verdict of a look is within the levels
-pub looked-in : (s : Setting) (p : Pairs) (t : Path) (b : Incumbent) (r : Trial) (w : Settled) → LookedAs s p t b r w → SettledIn (s .levels) w
+pub looked-in : (s : Setting) (p : Pairs) (t : Path) (b : Incumbent) (r : Comparison) (w : Settled) → LookedAs s p t b r w → SettledIn (s .levels) w
 looked-in s p t b r (Run d) (e, c) = c .level-in
 looked-in s p t b r (Prefix n) (inl h) = omega (arith, h .all)
 looked-in s p t b r (Prefix n) (inr (e, c)) = omega (arith, c .last, c .level-in)
@@ -53,24 +53,27 @@ abbrev pub covered : Settled → ℕ
 covered (Run d) = suc d
 covered (Prefix n) = n
 
-pub looked-passed : (s : Setting) (p : Pairs) (t : Path) (b : Incumbent) (r : Trial) (w : Settled) → LookedAs s p t b r w → (j : ℕ) → j < covered w → Passed s p t b j
+pub looked-passed : (s : Setting) (p : Pairs) (t : Path) (b : Incumbent) (r : Comparison) (w : Settled) → LookedAs s p t b r w → (j : ℕ) → j < covered w
+    → Passed s p t b j
 looked-passed s p t b r (Run d) (e, c) j l = passed-less s p t b d j (omega arith) (c .passed)
 looked-passed s p t b r (Prefix n) (inl h) j l = passed-less s p t b (s .levels) j (omega (arith, h .all)) (h .passed)
 looked-passed s p t b r (Prefix n) (inr (e, c)) j l = passed-less s p t b (c .level) j (omega (arith, c .last)) (c .passed)
 
 -- an incumbent that is not bettered stays
-pub looked-kept : (s : Setting) (p : Pairs) (t : Path) (b : Incumbent) (r : Trial) (w : Settled) → LookedAs s p t b r w → r .better ≡ false → r .best ≡ b
-looked-kept s p t b r (Run d) (e, c) f = ap (λ (r : Trial). r .best) e
+pub looked-kept : (s : Setting) (p : Pairs) (t : Path) (b : Incumbent) (r : Comparison) (w : Settled) → LookedAs s p t b r w → r .better ≡ false → r .best ≡ b
+looked-kept s p t b r (Run d) (e, c) f = ap (λ (r : Comparison). r .best) e
 looked-kept s p t b r (Prefix n) (inl h) f = h .tries .best-is ∙ tried-kept (s .cols) _ (t .place) b (sym (h .tries .better-is) ∙ f)
-looked-kept s p t b r (Prefix n) (inr (e, c)) f = ap (λ (r : Trial). r .best) e
+looked-kept s p t b r (Prefix n) (inr (e, c)) f = ap (λ (r : Comparison). r .best) e
 
 pub wider : (w : Settled) (m : ℕ) → m ≤ 16 → SettledIn m w → SettledIn 16 w
 wider (Run d) m l h = omega arith
 wider (Prefix n) m l h = omega arith
 
 -- the path's starts are the place's
-pub past-started : (s : Setting) (t : Path) (w : Settled) → Started s t → SettledIn (s .levels) w → pastOf w (at (s .low)) (at (s .high)) (at (t .starts)) (at (t .place)) ≡ pastOf w (at (s .low)) (at (s .high)) (startBy s (at (t .place))) (at (t .place))
-past-started s t w h l = past-cong w (s .levels) (at (s .low)) (at (s .high)) (at (t .starts)) (startBy s (at (t .place))) (at (t .place)) l (λ k n. h .starts k n)
+pub past-started : (s : Setting) (t : Path) (w : Settled) → Started s t → SettledIn (s .levels) w
+    → pastOf w (at (s .low)) (at (s .high)) (at (t .starts)) (at (t .place)) ≡ pastOf w (at (s .low)) (at (s .high)) (startBy s (at (t .place))) (at (t .place))
+past-started s t w h l =
+    past-cong w (s .levels) (at (s .low)) (at (s .high)) (at (t .starts)) (startBy s (at (t .place))) (at (t .place)) l (λ k n. h .starts k n)
 
 pub record MoveIn (s : Setting) (w : Settled) (j : ℕ) (v : ℤ) : Type 0 where
   pub level-in : j < s .levels
@@ -78,7 +81,8 @@ pub record MoveIn (s : Setting) (w : Settled) (j : ℕ) (v : ℤ) : Type 0 where
   pub low : at (s .low) j ≤ℤ v
   pub high : v ≤ℤ at (s .high) j
 
-pub move-in : (s : Setting) → ReadySetting s → Long (s .ends) → (P : ℕ → ℤ) → Inside s P → (w : Settled) → SettledIn (s .levels) w → (j : ℕ) (v : ℤ) → pastOf w (at (s .low)) (at (s .high)) (startBy s P) P ≡ some (j, v) → MoveIn s w j v
+pub move-in : (s : Setting) → ReadySetting s → Long (s .ends) → (P : ℕ → ℤ) → Inside s P → (w : Settled) → SettledIn (s .levels) w → (j : ℕ) (v : ℤ)
+    → pastOf w (at (s .low)) (at (s .high)) (startBy s P) P ≡ some (j, v) → MoveIn s w j v
 move-in s r long P inside (Run d) l j v e = sound (suc d) l (subst (Sound (orderOf s) (suc d) P) e (run-sound (order-laws s r long) P inside d l)) refl
   where
     sound : (n : ℕ) → n ≤ s .levels → Sound (orderOf s) n P (some (j, v)) → n ≡ suc d → MoveIn s (Run d) j v
@@ -90,20 +94,25 @@ move-in s r long P inside (Prefix n) l j v e = sound n l (subst (Sound (orderOf 
 
 -- ---- what settles nothing before a move settles nothing after it
 
-module _ (s : Setting) (p : Pairs) (t r : Path) (b : Incumbent) (j : ℕ) (v : ℤ) (started : Started s t) (level-in : j < s .levels) (h : Turned s t j v r) where
+module _ (s : Setting) (p : Pairs) (t r : Path) (b : Incumbent) (j : ℕ) (v : ℤ) (started : Started s t) (level-in : j < s .levels) (h : MovedTo s t j v r) where
   same-starts : (i : ℕ) → i < j → at (r .starts) i ≡ at (t .starts) i
-  same-starts i l = h .starts i (omega arith) ∙ start-cong s (at (r .place)) (at (t .place)) i (λ k m. h .above k (omega arith)) ∙ sym (started .starts i (omega arith))
+  same-starts i l = h .starts i (omega arith) ∙ start-cong s (at (r .place)) (at (t .place)) i (λ k m. h .above k (omega arith))
+      ∙ sym (started .starts i (omega arith))
 
   same-cut : (i : ℕ) → i < j → cutAt s r b i ≡ cutAt s t b i
   same-cut i l =
-      ap (λ e. cutBy (s .cols) (s .soft) (latticeAt (s .lattice) i) (runBox e (levelAt s i) (at (s .low) i) (at (s .high) i) (at (r .place) i) (at (r .starts) i)) b) (fixed-cong s (at (r .place)) (at (t .place)) i (λ k m. h .above k (omega arith)))
-      ∙ ap₂ (λ (x y : ℤ). cutBy (s .cols) (s .soft) (latticeAt (s .lattice) i) (runBox (fixedBy s (at (t .place)) i) (levelAt s i) (at (s .low) i) (at (s .high) i) x y) b) (h .above i l) (same-starts i l)
+      ap (λ e. cutBy (s .cols) (s .strides) (latticeAt (s .lattice) i) (runBox e (levelAt s i) (at (s .low) i) (at (s .high) i) (at (r .place) i)
+      (at (r .starts) i)) b) (fixed-cong s (at (r .place)) (at (t .place)) i (λ k m. h .above k (omega arith)))
+      ∙ ap₂ (λ (x y : ℤ). cutBy (s .cols) (s .strides) (latticeAt (s .lattice) i)
+      (runBox (fixedBy s (at (t .place)) i) (levelAt s i) (at (s .low) i) (at (s .high) i) x y) b) (h .above i l) (same-starts i l)
 
   same-pairs : (i : ℕ) → i < j → Applies s p (at (r .place)) i → Applies s p (at (t .place)) i
   same-pairs i l a = record {
     above = a .above;
     is-above = a .is-above;
-    here = subst₂ (λ (x y : ℤ). Removable (at (p .first) (pairIndex (levelAt s i) (levelAt s (a .above)))) (at (p .second) (pairIndex (levelAt s i) (levelAt s (a .above)))) x y (at (s .low) i) (at (s .high) i) (at (s .low) (a .above)) (at (s .high) (a .above))) (h .above i l) (h .above (a .above) (omega (arith, a .is-above))) (a .here);
+    here = subst₂ (λ (x y : ℤ). Removable (at (p .first) (pairIndex (levelAt s i) (levelAt s (a .above))))
+        (at (p .second) (pairIndex (levelAt s i) (levelAt s (a .above)))) x y (at (s .low) i) (at (s .high) i) (at (s .low) (a .above))
+        (at (s .high) (a .above))) (h .above i l) (h .above (a .above) (omega (arith, a .is-above))) (a .here);
   }
 
   pub passed-on : Passed s p t b j → Passed s p r b j

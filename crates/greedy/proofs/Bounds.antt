@@ -1,5 +1,5 @@
 -- How large a filling's bound is, and that it can be compared.
-use mathlib.Core.Path.{_≡_, refl, sym, subst}
+use mathlib.Core.Path.{_≡_, refl}
 use mathlib.Core.Bool.{Bool, true, false, cond}
 use Prim.Native.Nat.{ℕ, _*_, _/_, _≤_, _<_}
 use native.Mathlib.Nat.{div-le-self, mod-lt, mul-le-mul}
@@ -11,15 +11,11 @@ use borrow.Author.Tests.{ltb-true}
 use Rattle.arith.specs.Within.{Within}
 use Rattle.arith.specs.Mixed.{Proper}
 use Rattle.arith.proofs.Integers.{split, zed}
-use Rattle.arith.proofs.Parts.{within-add, within-more, within-abs, lt-le}
+use Rattle.arith.proofs.Parts.{within-add, within-more, within-abs}
 use Rattle.greedy.specs.declared.Columns.{Columns}
 use Rattle.greedy.specs.declared.Fill.{Fill}
 use Rattle.greedy.specs.Fill.{at, sizeOf, rateOf, sharedBy, bound}
 use Rattle.greedy.specs.Sized.{SizedFill}
-use Rattle.greedy.specs.Ordered.{weightAt, Ordered}
-use Rattle.greedy.proofs.Greedy.{abs≥1}
-use Rattle.lattice.specs.Lattice.{Steep}
-use Rattle.search.specs.Search.{slopeOf}
 
 -- what is above 0 has a size
 pub above-zero : (z : ℤ) → pos 0 <ℤ z → 0 < natAbs z
@@ -35,7 +31,8 @@ module _ (c : Columns) (f : Fill) (z : SizedFill c f) where
   bound-proper = go (ltb (f .at) (c .live)) refl
     where
       go : (b : Bool) → ltb (f .at) (c .live) ≡ b → Proper (cond b (sharedBy f (sizeOf c f) (rateOf c f)) (record { whole = f .worth; part = 0; parts = 1 }))
-      go true h = shared-proper f (sizeOf c f) (rateOf c f) (z .columns .live-sizes (f .at) (ltb-true (f .at) (c .live) h)) (within-abs (at (c .size) (f .at)) (z .columns .sizes-in (f .at)))
+      go true h = shared-proper f (sizeOf c f) (rateOf c f) (z .columns .live-sizes (f .at) (ltb-true (f .at) (c .live) h))
+          (within-abs (at (c .size) (f .at)) (z .columns .sizes-in (f .at)))
       go false h = record { low = omega arith; few = omega arith }
 
   pub bound-within : Within 201000000000000000 (bound c f .whole)
@@ -51,16 +48,3 @@ module _ (c : Columns) (f : Fill) (z : SizedFill c f) where
       go : (b : Bool) → Within 201000000000000000 (cond b (sharedBy f (sizeOf c f) (rateOf c f)) (record { whole = f .worth; part = 0; parts = 1 }) .whole)
       go true = within-more (omega arith) (within-add (z .worth-in) share-within)
       go false = within-more (omega arith) (z .worth-in)
-
--- the slope of a filling that ends at a rank
-pub steep : (c : Columns) (f : Fill) → Ordered c → SizedFill c f → f .at < c .live → Steep (slopeOf c f)
-steep c f o z l = record {
-  worth-in = z .worth-in;
-  rate-in = z .columns .rates-in (f .at);
-  rate≥0 = lt-le (subst (λ x. pos 0 <ℤ x) (sym (o .rates (f .at) l)) (o .live-rate (f .at) l));
-  size-in = z .columns .sizes-in (f .at);
-  size≥1 = subst (λ x. pos 0 <ℤ x) (sym (o .sizes (f .at) l)) (above (natAbs (weightAt c (f .at))) (abs≥1 (weightAt c (f .at)) (o .live-weight (f .at) l)));
-}
-  where
-    above : (n : ℕ) → 1 ≤ n → pos 0 <ℤ pos n
-    above n h = simp zed (omega arith)

@@ -1,12 +1,12 @@
--- `prepare::softening::stepped` meets its contract.
+-- `prepare::stride::stepped` meets its contract.
 use mathlib.Core.Path.{ap, _∙_}
 use native.Mathlib.Omega.{arith}
 use borrow.Author.Needs.{needs}
 use Rattle.arith.specs.Gcd.{gcdOf}
 use Rattle.arith.specs.Within.{Within}
 use Rattle.arith.proofs.Parts.{within-more, within-back, abs-within}
-use Rattle.prepare.proofs.softening.stepped.Statement.{statement}
-use Rattle.prepare.proofs.softening.stepped.Tie as tie
+use Rattle.prepare.proofs.stride.stepped.Statement.{statement}
+use Rattle.prepare.proofs.stride.stepped.Tie as tie
 
 weight-in : (s : tie.Start) → Within 1000 (s .args .i .weight)
 weight-in s = abs-within (s .args .i .weight) (s .pre .weight-in)

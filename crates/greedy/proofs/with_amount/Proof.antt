@@ -1,4 +1,4 @@
--- `greedy::with_item` meets its contract: nothing overflows.
+-- `greedy::with_amount` meets its contract: nothing overflows.
 use mathlib.Core.Path.{_≡_}
 use lib.Dec.{lit<}
 use lib.IntN.{_+ℤ_, _-ℤ_, _*ℤ_}
@@ -6,8 +6,8 @@ use mir.Syntax.{w64}
 use mir.Val.{SFits, toZ, ofZ}
 use mir.Facts.{toZ-ofZ}
 use Rattle.arith.proofs.Parts.{within-mul, within-add, within-sub, within-sfits}
-use Rattle.greedy.proofs.with_item.Statement.{statement}
-use Rattle.greedy.proofs.with_item.Tie as tie
+use Rattle.greedy.proofs.with_amount.Statement.{statement}
+use Rattle.greedy.proofs.with_amount.Tie as tie
 
 -- the numbers at entry, as the arguments hold them
 weight-term : (s : tie.Start) → toZ w64 (ofZ w64 (s .args .a)) *ℤ toZ w64 (ofZ w64 (s .args .x)) ≡ s .args .a *ℤ s .args .x
@@ -51,5 +51,5 @@ returns c =
     let s = c .before .before .before .before in
     rw (room-back s, weight-term s, toZ-ofZ (weight-in s), toZ-ofZ (room-in s), worth-back s, price-term s, toZ-ofZ (price-in s), toZ-ofZ (worth-in s))
 
-pub with-item-spec : {M : Type 1} → statement M
-with-item-spec = tie.close (tie.spec mul-t5 sub-t6 mul-t7 add-t8 returns)
+pub with-amount-spec : {M : Type 1} → statement M
+with-amount-spec = tie.close (tie.spec mul-t5 sub-t6 mul-t7 add-t8 returns)

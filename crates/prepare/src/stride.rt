@@ -1,4 +1,4 @@
-// What the free continuous items of a problem can add to a filling, and the stride of its integer items: see search, Soft.
+// What the free continuous items of a problem can add to a filling, and the stride of its integer items: see search, StrideBound.
 use super::tables::Test;
 use super::tables::leading;
 use arith::gcd;
@@ -7,12 +7,12 @@ use greedy::Columns;
 use knapsack::Item;
 use knapsack::Mark;
 use knapsack::Problem;
-use setting::Soft;
+use setting::StrideBound;
 ghost use mathlib.Core.Path.{_≡_};
 ghost use lib.IntN.{pos};
 ghost use Rattle.knapsack.specs.Records.{ItemInRange, InRange};
 ghost use Rattle.prepare.specs.Prepared.{Columned};
-ghost use Rattle.prepare.specs.Softening.{stepBy, strideOf, Softens};
+ghost use Rattle.prepare.specs.Strides.{stepBy, strideOf, StrideBoundOf};
 
 // The greatest common divisor of g and the weight of an integer item.
 fn stepped(g: u64, i: Item) -> u64
@@ -43,10 +43,10 @@ fn stride_of(p: Problem) -> u64
 }
 
 // Nothing is known.
-fn no_soft() -> Soft
+fn no_stride_bound() -> StrideBound
     ensures { λ r. ⌜ r ≡ record { stride = pos 0; rank = 0; rate = pos 0; size = pos 1 } ⌝ }
 {
-    Soft {
+    StrideBound {
         stride: 0,
         rank: 0,
         rate: 0,
@@ -55,28 +55,28 @@ fn no_soft() -> Soft
 }
 
 // Where no continuous item is free nothing is said: the lattice says more.
-pub fn soft_of(p: Problem, cols: Columns) -> Soft
+pub fn stride_bound(p: Problem, cols: Columns) -> StrideBound
     requires { ⌜ InRange p × Columned p cols ⌝ }
-    ensures { λ r. ⌜ Softens p cols r ⌝ }
+    ensures { λ r. ⌜ StrideBoundOf p cols r ⌝ }
 {
     let order = cols.order;
     let r = leading(p, order, Test::Fixed);
     if r < p.count {
         let g = stride_of(p) as i64;
         if r < cols.live {
-            return Soft {
+            return StrideBound {
                 stride: g,
                 rank: r,
                 rate: cols.rate[r],
                 size: cols.size[r],
             };
         }
-        return Soft {
+        return StrideBound {
             stride: g,
             rank: r,
             rate: 0,
             size: 1,
         };
     }
-    no_soft()
+    no_stride_bound()
 }

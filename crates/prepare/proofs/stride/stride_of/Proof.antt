@@ -1,12 +1,12 @@
--- `prepare::softening::stride_of` meets its contract.
+-- `prepare::stride::stride_of` meets its contract.
 use mathlib.Core.Path.{_≡_, refl, ap, _∙_}
 use Prim.Native.Nat.{_-_, _≤_, _<_}
 use native.Mathlib.Numerals.{add-one}
 use native.Mathlib.Omega.{arith}
 use Rattle.knapsack.specs.Records.{itemAt}
-use Rattle.prepare.specs.Softening.{stepBy, strideOf}
-use Rattle.prepare.proofs.softening.stride_of.Statement.{statement}
-use Rattle.prepare.proofs.softening.stride_of.Tie as tie
+use Rattle.prepare.specs.Strides.{stepBy, strideOf}
+use Rattle.prepare.proofs.stride.stride_of.Statement.{statement}
+use Rattle.prepare.proofs.stride.stride_of.Tie as tie
 
 abbrev Inv-loop : tie.InvT-loop
 Inv-loop p n g₀ k₀ g k = (k ≤ n) × (g ≡ strideOf p k)
