@@ -14,6 +14,7 @@ use lib.IntN.{ℤ, pos, negsuc, negℤ, natAbs, _+ℤ_, _-ℤ_, _*ℤ_}
 use lib.Signed.{_≤ℤ_, _<ℤ_, ≤ℤ-refl}
 use Rattle.arith.proofs.Integers.{split, split2, split3, split4, zed, ≤ℤ-trans, ≤ℤ-reflexive, ≤ℤ-or-<, times-≤, natAbs-mul}
 use Rattle.arith.proofs.Sums.{bump-other, each-bump, sum-bump, sum-cong, sum-scale, part-of-sum, far, far-bump, find}
+use Rattle.arith.specs.Limits.{farthest}
 use Rattle.arith.specs.Sum.{sum, Each, bump}
 use Rattle.knapsack.proofs.Branch.{AtMost, boxed, into-box}
 use Rattle.knapsack.proofs.Climb.{descend}
@@ -576,17 +577,14 @@ pub record Ranges (s : Instance) : Type 0 where
   pub uppers : (k : ℕ) → k < s .count → Around (s .item k .upper)
   pub limited : natAbs (s .capacity) ≤ 100000000
 
-abbrev pub farthest : ℕ → ℕ
-farthest k = 300000000
-
 abbrev pub lowers : Instance → ℕ → Bound
-lowers s k = lowersAt farthest s k
+lowers s k = lowersAt (λ k. farthest) s k
 
 abbrev pub uppers : Instance → ℕ → Bound
-uppers s k = uppersAt farthest s k
+uppers s k = uppersAt (λ k. farthest) s k
 
 abbrev pub shut : Instance → Instance
-shut s = shutAt farthest s
+shut s = shutAt (λ k. farthest) s
 
 pub out-of-shut : (s : Instance) (D : ℕ) (N : ℕ → ℤ) → Feasibleᴰ (shut s) D N → Feasibleᴰ s D N
-out-of-shut s D N p = out-of-shut-at farthest s D N p
+out-of-shut s D N p = out-of-shut-at (λ k. farthest) s D N p

@@ -75,7 +75,12 @@ pub multiple-true : (m : ℤ) (x y : Item) → multiple m x y ≡ true → Multi
 multiple-true m x y h =
     let w = both (same (m *ℤ x .weight) (y .weight)) _ h in
     let c = both (same (m *ℤ x .price) (y .price)) _ (w .1) in
-    record { weights = same-true (m *ℤ x .weight) (y .weight) (w .0); prices = same-true (m *ℤ x .price) (y .price) (c .0); marks = suits-true (x .mark) (y .mark) (c .1) }
+    record {
+      weights = same-true (m *ℤ x .weight) (y .weight) (w .0);
+      prices =
+          same-true (m *ℤ x .price) (y .price) (c .0);
+      marks = suits-true (x .mark) (y .mark) (c .1);
+    }
 
 -- lowered or raised to v, it is at v at once or the other meets no bound
 pub record Rests (a b l u : Bound) (v : ℤ) : Type 0 where
@@ -105,7 +110,8 @@ at-upper a l u s o = record { over = o; under = ≤ℤ-refl u; lowered = inl ref
 rests-by : (a b l u : Bound) (v : ℤ) → BoundInRange l → BoundInRange u → BoundsInOrder l u → restBy a b l u ≡ At v → Rests a b l u v
 rests-by Absent b (At l) u v sl su o h = rw (← at-injective h) (at-lower b u l sl o)
 rests-by Absent Absent Absent (At u) v sl su o h = rw (← at-injective h) (at-upper Absent Absent u su tt)
-rests-by Absent Absent Absent Absent v sl su o h = rw (← at-injective h) (record { over = tt; under = tt; lowered = inr refl; raised = inr refl; small = omega arith })
+rests-by Absent Absent Absent Absent v sl su o h =
+    rw (← at-injective h) (record { over = tt; under = tt; lowered = inr refl; raised = inr refl; small = omega arith })
 rests-by Absent (At w) Absent u v sl su o h = absurd (not-at h)
 rests-by (At w) Absent l (At u) v sl su o h = rw (← at-injective h) (at-upper (At w) l u su o)
 rests-by (At w) Absent l Absent v sl su o h = absurd (not-at h)

@@ -10,7 +10,7 @@ use Rattle.arith.proofs.Parts.{within-sub, within-more, within-back}
 use Rattle.greedy.specs.declared.Columns.{Columns}
 use Rattle.greedy.specs.declared.Ends.{Ends}
 use Rattle.greedy.specs.declared.Fill.{Fill}
-use Rattle.greedy.specs.Fill.{at, weightOf, priceOf, lightOf, cornerWeight, cornerWorth, withItem}
+use Rattle.greedy.specs.Fill.{at, weightOf, priceOf, lightOf, cornerWeight, cornerWorth, withAmount}
 use Rattle.greedy.proofs.Sizes.{light-within, corner-weight-within, corner-worth-within}
 use Rattle.greedy.proofs.begin.Statement.{statement}
 use Rattle.greedy.proofs.begin.Tie as tie
@@ -19,8 +19,9 @@ use Rattle.greedy.proofs.begin.Tie as tie
 abbrev partly : Columns → Ends → ℕ → Fill
 partly c e k = record { at = 0; room = c .capacity -ℤ cornerWeight c e k; worth = cornerWorth c e k }
 
-more : (c : Columns) (e : Ends) (k : ℕ) → withItem (partly c e k) (weightOf c k) (priceOf c k) (lightOf c e k) ≡ partly c e (k + 1)
-more c e k = rw add-one (ap₂ (λ (r w : ℤ). record { at = 0; room = r; worth = w }) (take (c .capacity) (cornerWeight c e k) (weightOf c k *ℤ lightOf c e k)) refl)
+more : (c : Columns) (e : Ends) (k : ℕ) → withAmount (partly c e k) (weightOf c k) (priceOf c k) (lightOf c e k) ≡ partly c e (k + 1)
+more c e k = rw add-one (ap₂ (λ (r w : ℤ). record { at = 0; room = r; worth = w }) (take (c .capacity) (cornerWeight c e k) (weightOf c k *ℤ lightOf c e k))
+    refl)
   where
     take : (x y z : ℤ) → (x -ℤ y) -ℤ z ≡ x -ℤ (y +ℤ z)
     take = split3 _ (λ a b c e f g. simp zed (omega arith))
@@ -32,7 +33,11 @@ abbrev μ-loop : tie.MeasureT-loop
 μ-loop cols ends n f₀ k₀ f k = n - k
 
 loop-holds : tie.Need-loop-holds Inv-loop μ-loop
-loop-holds c = (omega arith, ap₂ (λ (r w : ℤ). record { at = 0; room = r; worth = w }) (within-back tt (c .before .pre .columns .capacity-in) ∙ nothing (c .before .args .t1 .capacity)) refl)
+loop-holds c = (
+  omega arith,
+  ap₂ (λ (r w : ℤ). record { at = 0; room = r; worth = w })
+      (within-back tt (c .before .pre .columns .capacity-in) ∙ nothing (c .before .args .t1 .capacity)) refl,
+)
   where
     nothing : (x : ℤ) → x ≡ x -ℤ pos 0
     nothing = split _ (λ a b. simp zed (omega arith))
@@ -65,15 +70,23 @@ light-end-requires : tie.Need-light-end-requires Inv-loop μ-loop
 light-end-requires c κs = search needs
 
 -- the light end of the turn's item
-amount : (c : tie.After-light-end Inv-loop μ-loop) → c .light-end .result ≡ lightOf (c .before .before .before .before .before .before .before .before .args .t1) (c .before .before .before .before .before .before .before .before .args .t2) (c .before .before .before .before .before .before .loop .k)
+amount : (c : tie.After-light-end Inv-loop μ-loop) → c .light-end .result ≡ lightOf
+    (c .before .before .before .before .before .before .before .before .args .t1) (c .before .before .before .before .before .before .before .before .args .t2)
+    (c .before .before .before .before .before .before .loop .k)
 amount c =
     let l = c .before .before .before .before .before .before in
     let z = l .before .before .pre in
     let k = l .loop .k in
-    rw (within-back tt (z .columns .weights-in k), within-back tt (z .columns .prices-in k), within-back tt (z .ends .lo-in k), within-back tt (z .ends .hi-in k)) at (c .light-end .ensures)
+    rw (
+      within-back tt (z .columns .weights-in k),
+      within-back tt (z .columns .prices-in k),
+      within-back tt (z .ends .lo-in k),
+      within-back tt
+          (z .ends .hi-in k),
+    ) at (c .light-end .ensures)
 
-with-item-requires : tie.Need-with-item-requires Inv-loop μ-loop
-with-item-requires c κs =
+with-amount-requires : tie.Need-with-amount-requires Inv-loop μ-loop
+with-amount-requires c κs =
     let l = c .before .before .before .before .before .before in
     let s = l .before .before in
     let z = s .pre in
@@ -86,7 +99,8 @@ with-item-requires c κs =
         (
           w,
           (
-            within-more (omega arith) (within-sub (z .columns .capacity-in) (corner-weight-within (s .args .t1) (s .args .t2) z k (omega (arith, z .columns .few)))),
+            within-more (omega arith) (within-sub (z .columns .capacity-in)
+                (corner-weight-within (s .args .t1) (s .args .t2) z k (omega (arith, z .columns .few)))),
             within-more (omega arith) (corner-worth-within (s .args .t1) (s .args .t2) z k (omega (arith, z .columns .few))),
           ),
         ),
@@ -105,7 +119,14 @@ loop-again c =
     let s = l .before .before in
     let z = s .pre in
     let k = l .loop .k in
-    let e = rw (within-back tt (z .columns .weights-in k), within-back tt (z .columns .prices-in k), amount (c .before), within-back tt (light-within (s .args .t1) (s .args .t2) z k), l .loop .inv .1) at (c .with-item .ensures) in
+    let e = rw (
+      within-back tt (z .columns .weights-in k),
+      within-back tt (z .columns .prices-in k),
+      amount (c .before),
+      within-back tt
+          (light-within (s .args .t1) (s .args .t2) z k),
+      l .loop .inv .1,
+    ) at (c .with-amount .ensures) in
     (omega arith, e ∙ more (s .args .t1) (s .args .t2) k)
 
 returns : tie.Need-returns Inv-loop μ-loop
@@ -129,7 +150,7 @@ begin-spec =
     mul-u
     element-copy-out-u
     light-end-requires
-    with-item-requires
+    with-amount-requires
     add-k
     loop-less
     loop-again

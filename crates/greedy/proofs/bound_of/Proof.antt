@@ -33,10 +33,12 @@ magnitude-requires-2 c κs =
     let h = s .pre .columns .rates-in (s .args .f .at) in
     rw (within-back tt h) (within-more (omega arith) h)
 
-size-is : (c : tie.After-magnitude) → c .magnitude .result ≡ natAbs (at (c .before .before .before .before .args .t1 .size) (c .before .before .before .before .args .f .at))
+size-is : (c : tie.After-magnitude) → c .magnitude .result ≡ natAbs (at (c .before .before .before .before .args .t1 .size)
+    (c .before .before .before .before .args .f .at))
 size-is c = let s = c .before .before .before .before in rw (within-back tt (s .pre .columns .sizes-in (s .args .f .at))) at (c .magnitude .ensures)
 
-rate-is : (c : tie.After-magnitude2) → c .magnitude2 .result ≡ natAbs (at (c .before .before .before .before .before .args .t1 .rate) (c .before .before .before .before .before .args .f .at))
+rate-is : (c : tie.After-magnitude2) → c .magnitude2 .result ≡ natAbs (at (c .before .before .before .before .before .args .t1 .rate)
+    (c .before .before .before .before .before .args .f .at))
 rate-is c = let s = c .before .before .before .before .before in rw (within-back tt (s .pre .columns .rates-in (s .args .f .at))) at (c .magnitude2 .ensures)
 
 share-requires : tie.Need-share-requires

@@ -1,7 +1,7 @@
 -- `greedy::raise` meets its contract: nothing overflows.
 use mathlib.Core.Path.{_≡_}
 use lib.Dec.{lit<}
-use lib.IntN.{ℤ, _+ℤ_, _-ℤ_, _*ℤ_}
+use lib.IntN.{_+ℤ_, _-ℤ_, _*ℤ_}
 use mir.Syntax.{w64}
 use mir.Val.{toZ, ofZ}
 use mir.Facts.{toZ-ofZ}
@@ -60,7 +60,17 @@ returns-2 : tie.Need-returns-2
 returns-2 c =
     let s = c .before .before .before .before .before .before .before .before in
     let t = rw (within-back tt (s .pre .room-in), need s, within-back tt (need-within s)) at (c .before .before .before .before .before .if1 .left) in
-    rw (within-back tt (s .pre .room-in), need s, within-back tt (need-within s), within-back tt (room-within s), within-back tt (s .pre .worth-in), gain s, within-back tt (gain-within s), within-back tt (worth-within s), t)
+    rw (
+      within-back tt (s .pre .room-in),
+      need s,
+      within-back tt (need-within s),
+      within-back tt (room-within s),
+      within-back tt (s .pre .worth-in),
+      gain s,
+      within-back tt (gain-within s),
+      within-back tt (worth-within s),
+      t,
+    )
 
 pub raise-spec : {M : Type 1} → statement M
 raise-spec = tie.close (tie.spec mul-need returns add-t8 sub-t9 mul-t10 add-t11 returns-2)

@@ -56,12 +56,14 @@ returns-3 c =
     let t = c .before in
     let s = S (t .before .before .before .before) in
     let e = rw (toZ-ofZ (s .fits .a), toZ-ofZ (s .fits .l), toZ-ofZ (s .fits .u), within-back tt (s .pre .room-in)) at (c .fitting .ensures) in
-    rw (not-empty (t .before .before .before), le-ltb _ _ (t .before .before .if2 .left), eq-eqb _ _ (t .before .if3 .taken), lt-ltb _ _ (t .if4 .taken)) (back (c .fitting .result) (c .fitting .ok) ∙ e)
+    rw (not-empty (t .before .before .before), le-ltb _ _ (t .before .before .if2 .left), eq-eqb _ _ (t .before .if3 .taken), lt-ltb _ _ (t .if4 .taken))
+    (back (c .fitting .result) (c .fitting .ok) ∙ e)
 
 returns-4 : tie.Need-returns-4
 returns-4 c =
     let t = c .before in
-    rw (not-empty (t .before .before), le-ltb _ _ (t .before .if2 .left), eq-eqb _ _ (t .if3 .taken), le-ltb _ _ (c .if4 .left)) (light-is (t .before .before .before))
+    rw (not-empty (t .before .before), le-ltb _ _ (t .before .if2 .left), eq-eqb _ _ (t .if3 .taken), le-ltb _ _ (c .if4 .left))
+    (light-is (t .before .before .before))
 
 returns-5 : tie.Need-returns-5
 returns-5 c = rw (not-empty (c .before .before), le-ltb _ _ (c .before .if2 .left), ne-eqb _ _ (c .if3 .left)) (light-is (c .before .before .before))

@@ -60,7 +60,13 @@ returns c =
     let i = l .loop .j - 1 in
     rw (back (c .before .o .given .0 .0) (c .known-told .given .0 .1), l .loop .inv .1)
     (carry-here (at (a .t3)) (at (a .t4)) (at (a .t5)) (at (a .t1)) (l .loop .j) (c .before .o .given .0 .0) (omega arith)
-    (simp (back (at (a .t3) i) (p .before .before .before .next-value-arg .given), back (at (a .t4) i) (p .before .before .next-value-arg2 .given), back (at (a .t5) i) (p .before .next-value-arg3 .given), back (at (a .t1) i) (p .next-value-arg4 .given))
+    (simp (
+      back (at (a .t3) i) (p .before .before .before .next-value-arg .given),
+      back (at (a .t4) i) (p .before .before .next-value-arg2 .given),
+      back
+          (at (a .t5) i) (p .before .next-value-arg3 .given),
+      back (at (a .t1) i) (p .next-value-arg4 .given),
+    )
     at (sym (c .before .o .given .1) ∙ c .before .before .before .next-value .ensures)))
 
 enum-told : tie.Need-enum-told Inv-loop μ-loop
@@ -77,7 +83,13 @@ loop-again c =
     let i = l .loop .j - 1 in (
       omega arith,
       l .loop .inv .1 ∙ carry-on (at (a .t3)) (at (a .t4)) (at (a .t5)) (at (a .t1)) (l .loop .j) (omega arith)
-          (simp (back (at (a .t3) i) (p .before .before .before .next-value-arg .given), back (at (a .t4) i) (p .before .before .next-value-arg2 .given), back (at (a .t5) i) (p .before .next-value-arg3 .given), back (at (a .t1) i) (p .next-value-arg4 .given))
+          (simp (
+            back (at (a .t3) i) (p .before .before .before .next-value-arg .given),
+            back (at (a .t4) i) (p .before .before .next-value-arg2 .given),
+            back
+                (at (a .t5) i) (p .before .next-value-arg3 .given),
+            back (at (a .t1) i) (p .next-value-arg4 .given),
+          )
           at (sym (c .enum-told .given .1) ∙ c .before .before .next-value .ensures)),
     )
 

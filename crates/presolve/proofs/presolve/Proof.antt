@@ -42,7 +42,8 @@ fix-by-requires c κs =
     (l .inv .0, (item<count n, takes-over-weighs (itemAt (l .q) (l .i - 1)) (sym (t .takes-over .ensures) ∙ c .if1 .taken)))
 
 -- one item more
-next : (n : tie.In-loop Inv-loop μ-loop) → Inv-loop (n .before .before .args .p) (n .before .before .args .p .count) (fixedAround (n .before .loop .q) (n .before .loop .i - 1)) (n .before .loop .i - 1)
+next : (n : tie.In-loop Inv-loop μ-loop) → Inv-loop (n .before .before .args .p) (n .before .before .args .p .count)
+    (fixedAround (n .before .loop .q) (n .before .loop .i - 1)) (n .before .loop .i - 1)
 next n =
     let l = n .before .loop in
     let f = around-presolves (l .q) (l .i - 1) (l .inv .0) (item<count n) in

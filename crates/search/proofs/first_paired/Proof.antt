@@ -3,6 +3,7 @@ use mathlib.Core.Path.{_≡_, sym, subst}
 use Prim.Native.Nat.{ℕ, _+_, _*_, _-_, _≤_, _<_}
 use native.Mathlib.Decide.{ℕ-discrete}
 use native.Mathlib.Omega.{arith}
+use Rattle.arith.specs.Limits.{farthest}
 use Rattle.arith.specs.Within.{Within}
 use lib.Dec.{lit<}
 use mir.Facts.{toZ-ofZ}
@@ -11,8 +12,10 @@ use mir.Val.{toZ, ofZ}
 use Rattle.arith.proofs.Parts.{abs-within, within-width, within-back, within-sfits}
 use Rattle.arith.proofs.Words.{back}
 use Rattle.greedy.specs.Fill.{at}
-use Rattle.search.specs.Search.{levelAt, pairIndex, AppliesAt, Applies, Decides}
-use Rattle.search.proofs.Boxes.{between}
+use Rattle.setting.specs.Box.{levelAt}
+use Rattle.setting.specs.Ready.{pairIndex}
+use Rattle.search.specs.Search.{AppliesAt, Applies, Reflects}
+use Rattle.setting.proofs.Boxes.{between}
 use Rattle.search.proofs.first_paired.Statement.{statement}
 use Rattle.search.proofs.first_paired.Tie as tie
 
@@ -28,11 +31,12 @@ module _ (s : tie.Start Inv-loop μ-loop) where
   item<16 : (d : ℕ) → d < s .args .t1 .levels → levelAt (s .args .t1) d < 16
   item<16 d l = omega (arith, s .pre .ready .setting .level-in d l, s .pre .ready .setting .sized .columns .few)
 
-  amount-within : (d : ℕ) → d < s .args .t1 .levels → Within 300000000 (at (s .args .t3) d)
+  amount-within : (d : ℕ) → d < s .args .t1 .levels → Within farthest (at (s .args .t3) d)
   amount-within d l =
       let r = s .pre .ready .setting in
       let i = s .pre .inside d l in
-      between (at (s .args .t1 .low) d) (at (s .args .t1 .high) d) (at (s .args .t3) d) (rw (r .low-is d l) (r .sized .ends .lo-in (levelAt (s .args .t1) d))) (rw (r .high-is d l) (r .sized .ends .hi-in (levelAt (s .args .t1) d))) (i .0) (i .1)
+      between (at (s .args .t1 .low) d) (at (s .args .t1 .high) d) (at (s .args .t3) d) (rw (r .low-is d l) (r .sized .ends .lo-in (levelAt (s .args .t1) d)))
+      (rw (r .high-is d l) (r .sized .ends .hi-in (levelAt (s .args .t1) d))) (i .0) (i .1)
 
   first-within : (k : ℕ) → Within 1000 (at (s .args .t2 .first) k)
   first-within k = abs-within _ (s .pre .ready .true-pairs .steps-in k .0)
@@ -64,7 +68,8 @@ module _ (c : tie.Then1 Inv-loop μ-loop) where
   j<16 : c .before .before .loop .j < 16
   j<16 = omega (arith, j-in, c .before .before .before .pre .ready .setting .few)
 
-  index<256 : pairIndex (levelAt (c .before .before .before .args .t1) (c .before .before .loop .d)) (levelAt (c .before .before .before .args .t1) (c .before .before .loop .j)) < 256
+  index<256 : pairIndex (levelAt (c .before .before .before .args .t1) (c .before .before .loop .d))
+      (levelAt (c .before .before .before .args .t1) (c .before .before .loop .j)) < 256
   index<256 = let s = c .before .before .before in omega (arith, item<16 s (c .before .before .loop .d) d-in, item<16 s (c .before .before .loop .j) j-in)
 
 mul-k : tie.Need-mul-k Inv-loop μ-loop
@@ -93,7 +98,8 @@ element-copy-out-r c = index<256 (c .before .before)
 
 -- the pair of the two levels
 abbrev K : tie.Then1 Inv-loop μ-loop → ℕ
-K c = pairIndex (levelAt (c .before .before .before .args .t1) (c .before .before .loop .d)) (levelAt (c .before .before .before .args .t1) (c .before .before .loop .j))
+K c = pairIndex (levelAt (c .before .before .before .args .t1) (c .before .before .loop .d))
+    (levelAt (c .before .before .before .args .t1) (c .before .before .loop .j))
 
 cast-r : tie.Need-cast-r Inv-loop μ-loop
 cast-r c = let t = c .before .before .before in let s = t .before .before .before in rw (first-back s (K t)) (within-sfits (lit< tt) (first-within s (K t)))
@@ -105,7 +111,8 @@ element-copy-out-t : tie.Need-element-copy-out-t Inv-loop μ-loop
 element-copy-out-t c = index<256 (c .before .before .before)
 
 cast-t : tie.Need-cast-t Inv-loop μ-loop
-cast-t c = let t = c .before .before .before .before in let s = t .before .before .before in rw (second-back s (K t)) (within-sfits (lit< tt) (second-within s (K t)))
+cast-t c = let t = c .before .before .before .before in let s =
+    t .before .before .before in rw (second-back s (K t)) (within-sfits (lit< tt) (second-within s (K t)))
 
 mul-removable : tie.Need-mul-removable Inv-loop μ-loop
 mul-removable c = record { fits = omega (arith, d<16 (c .before .before .before .before)) }
@@ -160,7 +167,8 @@ removable-requires c κs =
 abbrev At : tie.After-removable Inv-loop μ-loop → tie.At-loop Inv-loop μ-loop
 At c = c .before .before .before .before .before .before .before .before .before .before .before .before .before
 
-decided : (c : tie.After-removable Inv-loop μ-loop) → Decides (AppliesAt (At c .before .args .t1) (At c .before .args .t2) (at (At c .before .args .t3)) (At c .loop .d) (At c .loop .j)) (c .removable .result)
+decided : (c : tie.After-removable Inv-loop μ-loop) → Reflects (AppliesAt (At c .before .args .t1) (At c .before .args .t2) (at (At c .before .args .t3))
+    (At c .loop .d) (At c .loop .j)) (c .removable .result)
 decided c =
     let t = c .before .before .before .before .before .before .before .before .before .before .before in
     let l = At c in
@@ -186,7 +194,11 @@ returns c =
     let i = a .before .before .before .before .before .before .before .before .before .before .before .before in
     record {
       most = omega (arith, i .loop-test .taken);
-      here = λ h. record { above = l .loop .j; is-above = a .before .before .before .before .before .before .before .before .before .before .before .if1 .taken; here = decided a .holds (c .if2 .taken) };
+      here = λ h. record {
+        above = l .loop .j;
+        is-above = a .before .before .before .before .before .before .before .before .before .before .before .if1 .taken;
+        here = decided a .holds (c .if2 .taken);
+      };
       before = l .loop .inv .1 .1 .0;
     }
 
@@ -201,8 +213,17 @@ loop-again c =
     let a = c .before in
     let t = a .before .before .before .before .before .before .before .before .before .before .before in
     let l = At a in
-    let v = l .loop .inv in
-    (v .0, (omega (arith, t .if1 .taken), (v .1 .1 .0, λ i h. more (l .loop .j) i h (ℕ-discrete i (l .loop .j)) (v .1 .1 .1) (decided a .fails (c .if2 .left)))))
+    let v = l .loop .inv in (
+      v .0,
+      (
+        omega (arith, t .if1 .taken),
+        (
+          v .1 .1 .0,
+          λ i h. more (l .loop .j) i h (ℕ-discrete i (l .loop .j)) (v .1 .1 .1)
+              (decided a .fails (c .if2 .left)),
+        ),
+      ),
+    )
   where
     more : {P : ℕ → Type 0} (j i : ℕ) → i < j + 1 → Dec (i ≡ j) → ((k : ℕ) → k < j → ¬ P k) → ¬ P j → ¬ P i
     more {P} j i h (yes q) f g = subst (λ k. ¬ P k) (sym q) g
@@ -220,8 +241,17 @@ loop-less-2 c =
 loop-again-2 : tie.Need-loop-again-2 Inv-loop μ-loop
 loop-again-2 c =
     let l = c .before .before in
-    let v = l .loop .inv in
-    (omega (arith, c .before .loop-test .taken), (omega arith, (λ e h. more (l .loop .d) e h (ℕ-discrete e (l .loop .d)) (v .1 .1 .0) (λ q. v .1 .1 .1 (q .above) (omega (arith, q .is-above, c .if1 .left)) (q .here)), λ i h. absurd (omega arith))))
+    let v = l .loop .inv in (
+      omega (arith, c .before .loop-test .taken),
+      (
+        omega arith,
+        (
+          λ e h. more (l .loop .d) e h (ℕ-discrete e (l .loop .d)) (v .1 .1 .0)
+              (λ q. v .1 .1 .1 (q .above) (omega (arith, q .is-above, c .if1 .left)) (q .here)),
+          λ i h. absurd (omega arith),
+        ),
+      ),
+    )
   where
     more : {P : ℕ → Type 0} (d e : ℕ) → e < d + 1 → Dec (e ≡ d) → ((k : ℕ) → k < d → ¬ P k) → ¬ P d → ¬ P e
     more {P} d e h (yes q) f g = subst (λ k. ¬ P k) (sym q) g

@@ -38,7 +38,9 @@ holds-requires c κs =
     rw (within-back tt w, within-back tt p) (record { tame = s .pre .0; stride≥1 = s .pre .1 .0; weight-in = w; price-in = p })
 
 -- what `holds` says of the item at j
-found : (c : tie.After-holds Inv-loop μ-loop) → c .holds .result ≡ holdsBy (c .before .before .before .before .before .args .l) (entry (c .before .before .before .before .before .args .t2) (c .before .before .before .before .loop .j)) (entry (c .before .before .before .before .before .args .t3) (c .before .before .before .before .loop .j))
+found : (c : tie.After-holds Inv-loop μ-loop) → c .holds .result ≡ holdsBy (c .before .before .before .before .before .args .l)
+    (entry (c .before .before .before .before .before .args .t2) (c .before .before .before .before .loop .j))
+    (entry (c .before .before .before .before .before .args .t3) (c .before .before .before .before .loop .j))
 found c =
     let i = c .before .before .before .before in
     let s = i .before in
@@ -54,13 +56,15 @@ loop-again : tie.Need-loop-again Inv-loop μ-loop
 loop-again c =
     let i = c .before .before .before .before .before in
     let s = i .before in
-    held-step (s .args .l) (entry (s .args .t2)) (entry (s .args .t3)) (i .loop .j) (s .args .n) (omega arith) (sym (found (c .before)) ∙ c .if1 .taken) ∙ i .loop .inv
+    held-step (s .args .l) (entry (s .args .t2)) (entry (s .args .t3)) (i .loop .j) (s .args .n) (omega arith) (sym (found (c .before)) ∙ c .if1 .taken)
+    ∙ i .loop .inv
 
 returns : tie.Need-returns Inv-loop μ-loop
 returns c =
     let i = c .before .before .before .before .before in
     let s = i .before in
-    sym (sym (i .loop .inv) ∙ held-stop (s .args .l) (entry (s .args .t2)) (entry (s .args .t3)) (i .loop .j) (s .args .n) (omega arith) (sym (found (c .before)) ∙ c .if1 .left))
+    sym (sym (i .loop .inv) ∙ held-stop (s .args .l) (entry (s .args .t2)) (entry (s .args .t3)) (i .loop .j) (s .args .n) (omega arith)
+    (sym (found (c .before)) ∙ c .if1 .left))
 
 returns-2 : tie.Need-returns-2 Inv-loop μ-loop
 returns-2 c =

@@ -60,7 +60,9 @@ widen-requires c κs =
     rw (within-back tt a, within-back tt p) (guessed n, (a, p))
 
 -- the guess with the level's item
-wider : (c : tie.After-widen Inv-loop μ-loop) → c .widen .result ≡ widenedBy (c .before .before .before .before .loop .l) (entry (c .before .before .before .before .before .before .before .args .t1) (c .before .before .before .before .loop .d - 1)) (entry (c .before .before .before .before .before .before .before .args .t2) (c .before .before .before .before .loop .d - 1))
+wider : (c : tie.After-widen Inv-loop μ-loop) → c .widen .result ≡ widenedBy (c .before .before .before .before .loop .l)
+    (entry (c .before .before .before .before .before .before .before .args .t1) (c .before .before .before .before .loop .d - 1))
+    (entry (c .before .before .before .before .before .before .before .args .t2) (c .before .before .before .before .loop .d - 1))
 wider c =
     let i = c .before .before .before .before in
     let s = i .before .before .before in
@@ -88,14 +90,16 @@ loop-again c =
     let w = c .before in
     let i = w .before .before .before .before in
     let s = i .before .before .before in
-    rw (c .checked .ensures) (built-more (entry (s .args .t1)) (entry (s .args .t2)) (s .args .n) (i .loop .d) (i .loop .l) (w .widen .result) (i .loop .to) (s .pre .few) (omega arith) (wider w) (i .loop .inv))
+    rw (c .checked .ensures) (built-more (entry (s .args .t1)) (entry (s .args .t2)) (s .args .n) (i .loop .d) (i .loop .l) (w .widen .result) (i .loop .to)
+    (s .pre .few) (omega arith) (wider w) (i .loop .inv))
 
 returns : tie.Need-returns Inv-loop μ-loop
 returns c =
     let i = c .before in
     let s = i .before .before .before in
     let none : i .loop .d ≡ 0 = omega (arith, c .loop-test .left) in
-    built-done (entry (s .args .t1)) (entry (s .args .t2)) (s .args .n) (i .loop .l) (i .loop .to) (subst (λ d. Built (entry (s .args .t1)) (entry (s .args .t2)) (s .args .n) d (i .loop .l) (i .loop .to)) none (i .loop .inv))
+    built-done (entry (s .args .t1)) (entry (s .args .t2)) (s .args .n) (i .loop .l) (i .loop .to)
+    (subst (λ d. Built (entry (s .args .t1)) (entry (s .args .t2)) (s .args .n) d (i .loop .l) (i .loop .to)) none (i .loop .inv))
 
 pub lattices-spec : {M : Type 1} → statement M
 lattices-spec =
