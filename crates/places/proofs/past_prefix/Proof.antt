@@ -52,10 +52,14 @@ next-value-requires c κs = search needs
 enum-known-o : tie.Need-enum-known-o Inv-loop μ-loop
 enum-known-o c = search needs
 
+-- the moments that are spoken of below
+abbrev at-loop : tie.After-next-value-arg4 Inv-loop μ-loop → tie.At-loop Inv-loop μ-loop
+at-loop c = c .before .before .before .before .before
+
 returns : tie.Need-returns Inv-loop μ-loop
 returns c =
     let p = c .before .before .before .before in
-    let l = p .before .before .before .before .before in
+    let l = at-loop p in
     let a = l .before .args in
     let i = l .loop .j - 1 in
     rw (back (c .before .o .given .0 .0) (c .known-told .given .0 .1), l .loop .inv .1)
@@ -78,7 +82,7 @@ loop-less c = search needs
 loop-again : tie.Need-loop-again Inv-loop μ-loop
 loop-again c =
     let p = c .before .before .before in
-    let l = p .before .before .before .before .before in
+    let l = at-loop p in
     let a = l .before .args in
     let i = l .loop .j - 1 in (
       omega arith,
