@@ -96,8 +96,7 @@ amount c =
       within-back tt (z .columns .weights-in k),
       within-back tt (z .columns .prices-in k),
       within-back tt (z .ends .lo-in k),
-      within-back tt
-          (z .ends .hi-in k),
+      within-back tt (z .ends .hi-in k),
     ) at (c .light-end .ensures)
 
 with-amount-requires : tie.Need-with-amount-requires Inv-loop μ-loop
@@ -138,8 +137,7 @@ loop-again c =
       within-back tt (z .columns .weights-in k),
       within-back tt (z .columns .prices-in k),
       amount (c .before),
-      within-back tt
-          (light-within (s .args .t1) (s .args .t2) z k),
+      within-back tt (light-within (s .args .t1) (s .args .t2) z k),
       l .loop .inv .1,
     ) at (c .with-amount .ensures) in
     (omega arith, e ∙ more (s .args .t1) (s .args .t2) k)

@@ -178,8 +178,7 @@ raise-requires c κs =
       within-back tt (s .pre .columns .sizes-in u),
       within-back tt (s .pre .columns .rates-in u),
       within-back tt (s .pre .ends .hi-in k),
-      within-back tt
-          (s .pre .ends .lo-in k),
+      within-back tt (s .pre .ends .lo-in k),
       within-back tt w,
     ) (record {
       rank-in = rank<16 t;
@@ -204,8 +203,7 @@ raise-is c =
       within-back tt (s .pre .columns .sizes-in u),
       within-back tt (s .pre .columns .rates-in u),
       within-back tt (s .pre .ends .hi-in k),
-      within-back tt
-          (s .pre .ends .lo-in k),
+      within-back tt (s .pre .ends .lo-in k),
       within-back tt w,
     ) at (c .raise .ensures)
 

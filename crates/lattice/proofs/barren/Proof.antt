@@ -72,8 +72,7 @@ judge-requires c κs =
     let s = start-by-at-loop a in
     record {
       tame = s .pre .0;
-      steep =
-          s .pre .1 .0;
+      steep = s .pre .1 .0;
       weight-in = within-more (omega arith) (a .loop .inv .1 .1 .0);
       worth-in = within-more (omega arith) (a .loop .inv .1 .1 .1);
     }
@@ -141,8 +140,7 @@ loop-again c =
             ∙ (sym (ap (λ y. verdict y below) (t .enum-told3 .given .1)) ∙ rest j),
         (
           rw (c .less-stride .ensures) (within-more (omega (arith, less)) (within-sub (a .loop .inv .1 .1 .0) (s .pre .0 .stride-in))),
-          rw
-              (c .less-stride .ensures) (within-more (omega (arith, less)) (within-sub (a .loop .inv .1 .1 .1) (s .pre .0 .slant-in))),
+          rw (c .less-stride .ensures) (within-more (omega (arith, less)) (within-sub (a .loop .inv .1 .1 .1) (s .pre .0 .slant-in))),
         ),
       ),
     )

@@ -86,8 +86,7 @@ returns c =
       held (d .before),
       within-back tt (left s),
       within-back tt (s .pre .tame .slant-in),
-      within-back tt
-          (s .pre .tame .stride-in),
+      within-back tt (s .pre .tame .stride-in),
       within-back tt (weight s),
       within-back tt (worth s),
     )

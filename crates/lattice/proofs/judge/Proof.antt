@@ -74,8 +74,7 @@ above c = let s = start-by-then1 c in rw (
   toZ-ofZ (s .fits .b),
   held (c .before),
   within-back tt (s .pre .steep .worth-in),
-  within-back tt
-      (up-to s),
+  within-back tt (up-to s),
 ) at (c .if1 .taken)
 
 returns : tie.Need-returns

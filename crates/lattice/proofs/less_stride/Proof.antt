@@ -31,8 +31,7 @@ returns c =
       within-back tt (s .pre .weight-in),
       within-back tt (s .pre .tame .stride-in),
       within-back tt (s .pre .worth-in),
-      within-back tt
-          (s .pre .tame .slant-in),
+      within-back tt (s .pre .tame .slant-in),
       within-back tt (weight s),
       within-back tt (worth s),
     )

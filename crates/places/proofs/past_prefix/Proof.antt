@@ -67,8 +67,7 @@ returns c =
     (simp (
       back (at (a .t3) i) (p .before .before .before .next-value-arg .given),
       back (at (a .t4) i) (p .before .before .next-value-arg2 .given),
-      back
-          (at (a .t5) i) (p .before .next-value-arg3 .given),
+      back (at (a .t5) i) (p .before .next-value-arg3 .given),
       back (at (a .t1) i) (p .next-value-arg4 .given),
     )
     at (sym (c .before .o .given .1) ∙ c .before .before .before .next-value .ensures)))
@@ -90,8 +89,7 @@ loop-again c =
           (simp (
             back (at (a .t3) i) (p .before .before .before .next-value-arg .given),
             back (at (a .t4) i) (p .before .before .next-value-arg2 .given),
-            back
-                (at (a .t5) i) (p .before .next-value-arg3 .given),
+            back (at (a .t5) i) (p .before .next-value-arg3 .given),
             back (at (a .t1) i) (p .next-value-arg4 .given),
           )
           at (sym (c .enum-told .given .1) ∙ c .before .before .next-value .ensures)),

@@ -29,8 +29,7 @@ rest-requires c κs =
     let s = c .before in
     rw (within-back tt (s .pre .weight-in), within-back tt (s .pre .tame .stride-in))
     (record {
-      dividend-in =
-          within-more (omega arith) (s .pre .weight-in);
+      dividend-in = within-more (omega arith) (s .pre .weight-in);
       divisor-in = within-more (omega arith) (s .pre .tame .stride-in);
       divisor≥1 = s .pre .stride≥1;
     })

@@ -53,8 +53,7 @@ rest-requires c κs =
     rw (within-back tt (s .pre .first .weight-in), within-back tt (s .pre .second .weight-in))
     (record {
       dividend-in = within-more (omega arith) (s .pre .first .weight-in);
-      divisor-in =
-          within-more (omega arith) (s .pre .second .weight-in);
+      divisor-in = within-more (omega arith) (s .pre .second .weight-in);
       divisor≥1 = s .pre .weight≥1;
     })
 
