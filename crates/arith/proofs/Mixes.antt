@@ -53,8 +53,7 @@ module _ (a b : Mixed) (p : Proper a) (q : Proper b) where
   decide false false u r es et eu e =
       let w : a .whole ≡ b .whole = ≤ℤ-antisym (no-lt et) (no-lt es) in (
         λ h. rw w (level< (a .part) (a .parts) (b .part) (b .parts) (ltb-true _ _ (eu ∙ e ∙ h)) (b .whole)),
-        λ h. rw w
-            (level≤ (b .part) (b .parts) (a .part) (a .parts) (ltb-false _ _ (eu ∙ e ∙ h)) (b .whole)),
+        λ h. rw w (level≤ (b .part) (b .parts) (a .part) (a .parts) (ltb-false _ _ (eu ∙ e ∙ h)) (b .whole)),
       )
 
   pub less-true : lessMixed a b ≡ true → Below

@@ -77,8 +77,7 @@ sum-bump (suc n) a f i r l = go (ℕ-discrete i n) (λ m. sum-bump n a f i r m)
     go (yes e) ih = rw (
       e,
       bump-same f n r,
-      sum-cong n (λ k. a k *ℤ bump f n r k) (λ k. a k *ℤ f k)
-          (λ k m. ap (λ z. a k *ℤ z) (bump-other f n r k (omega arith))),
+      sum-cong n (λ k. a k *ℤ bump f n r k) (λ k. a k *ℤ f k) (λ k m. ap (λ z. a k *ℤ z) (bump-other f n r k (omega arith))),
     ) (last (sum n (λ k. a k *ℤ f k)) (a n) (f n) r)
     go (no e) ih = rw (ih (omega arith), bump-other f i r n (omega arith)) (inner (sum n (λ k. a k *ℤ f k)) (a n) (f n) (a i *ℤ r))
 

@@ -313,8 +313,7 @@ module _ (s : Instance) (lo hi : ℕ → ℤ) (b : Boxed s lo hi) where
     skip t k e r l at idle i =
         record {
           heavy = λ j m o nz h. i .heavy j m (before j m o nz h (ℕ-discrete j k)) nz h;
-          light =
-              λ j m o. i .light j m (after j o);
+          light = λ j m o. i .light j m (after j o);
           level = i .level;
           room = i .room;
         }
@@ -405,8 +404,7 @@ module _ (s : Instance) (lo hi : ℕ → ℤ) (b : Boxed s lo hi) where
         (record {
           p = 0;
           q = 1;
-          q≥1 =
-              omega arith;
+          q≥1 = omega arith;
           ends = λ k l. go k l (stand t e r k l i);
           tight = nought (weighsᴰ s (λ k. e k *ℤ pos 1)) (s .capacity *ℤ pos 1);
         })
@@ -537,8 +535,7 @@ module _ (s : Instance) (lo hi : ℕ → ℤ) (b : Boxed s lo hi) where
         is j m (yes f) = rw (
           f,
           bump-same (λ n. e n *ℤ pos q) k (unit (weights s k) *ℤ (s .capacity -ℤ weighsᴰ s e)),
-          left (weighsᴰ s e) r (s .capacity)
-              (i .level),
+          left (weighsᴰ s e) r (s .capacity) (i .level),
         ) (sym own)
         is j m (no f) = bump-other (λ n. e n *ℤ pos q) k (unit (weights s k) *ℤ (s .capacity -ℤ weighsᴰ s e)) j f ∙ sym (others j m f)
 

@@ -46,8 +46,7 @@ abbrev pub boxOf : Columns → Ends → (ℕ → Mark) → Instance
 boxOf c e marks = record {
   capacity = c .capacity;
   count = c .count;
-  item =
-      λ k. record { mark = marks k; weight = weightOf c k; price = priceOf c k; lower = At (at (e .lo) k); upper = At (at (e .hi) k) };
+  item = λ k. record { mark = marks k; weight = weightOf c k; price = priceOf c k; lower = At (at (e .lo) k); upper = At (at (e .hi) k) };
 }
 
 -- the ends of a box are in order
@@ -441,8 +440,7 @@ module _ (c : Columns) (e : Ends) (marks : ℕ → Mark) (o : Ordered c) (b : In
         keeps = λ i l. record {
           marked = marked i l (ℕ-discrete i (k f (t .good) h j));
           above = at-limit f (t .good) h j .inside i l .above;
-          below =
-              at-limit f (t .good) h j .inside i l .below;
+          below = at-limit f (t .good) h j .inside i l .below;
         };
         fits = level-fits (weighsᴰ s (solution c e f)) (c .capacity *ℤ pos (q f (t .good) h j)) (at-limit f (t .good) h j .proof .p)
             (at-limit f (t .good) h j .p≥1) (at-limit f (t .good) h j .proof .tight);

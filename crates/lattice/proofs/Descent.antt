@@ -97,10 +97,8 @@ module _ (l : Lattice) (t : Tame l) (up : pos 0 ≤ℤ l .stride) (f : Slope) (s
       next = record {
         strides = o .strides -ℤ pos 1;
         gaps = o .gaps;
-        weight-is =
-            ap (λ z. z -ℤ l .stride) (o .weight-is) ∙ one (l .stride) (o .strides);
-        worth-is =
-            ap (λ z. z -ℤ l .slant) (o .worth-is) ∙ one′ (l .slant) (o .strides) (l .gap *ℤ o .gaps);
+        weight-is = ap (λ z. z -ℤ l .stride) (o .weight-is) ∙ one (l .stride) (o .strides);
+        worth-is = ap (λ z. z -ℤ l .slant) (o .worth-is) ∙ one′ (l .slant) (o .strides) (l .gap *ℤ o .gaps);
       }
         where
           one : (x y : ℤ) → x *ℤ y -ℤ x ≡ x *ℤ (y -ℤ pos 1)

@@ -146,8 +146,7 @@ unknown-tame = record {
   stride-in = small 1000 0 (omega arith);
   slant-in = small 100000000 0 (omega arith);
   gap-in = small 100000000 1 (omega arith);
-  gap≥1 =
-      ltZ-yes tt;
+  gap≥1 = ltZ-yes tt;
 }
 
 pub unknown-known : (w c : ℕ → ℤ) (n d : ℕ) → Known w c n d unknown
@@ -175,8 +174,7 @@ upright-is a c h k = go (ltZ a (pos 0)) refl
     go true e = rw (zero-less a, zero-less c) (record {
       weight-in = within-neg a h;
       weight≥0 = turned a (yes-lt e);
-      worth-in = within-more (omega arith)
-          (within-neg c k);
+      worth-in = within-more (omega arith) (within-neg c k);
     })
     go false e = record { weight-in = h; weight≥0 = no-lt e; worth-in = within-more (omega arith) k }
 
@@ -233,8 +231,7 @@ module _ (g : ℤ) (r : Lattice) (x y : Change) where
       go zero l i = absurd (some (y .weight) (yes-lt e) l)
       go (suc n) l i = record {
         steps = n;
-        enough = fewer _ (y .weight) (yes-lt e) (rest-low (x .weight) (y .weight) (yes-lt e))
-            (rest-high (x .weight) (y .weight) (yes-lt e)) n l;
+        enough = fewer _ (y .weight) (yes-lt e) (rest-low (x .weight) (y .weight) (yes-lt e)) (rest-high (x .weight) (y .weight) (yes-lt e)) n l;
         is = i ∙ ap (λ t. cond t (euclid n g y (reducedBy x y g)) (ended x y)) e;
       }
 
@@ -265,8 +262,7 @@ module _ (l : Lattice) (a c : ℤ) (g : Guess l) (h : Within 1000 a) (k : Within
     joined = record {
       stride-in = joining .stride-in;
       stride≥0 = joining .stride≥0;
-      slant-in =
-          tamed-within _ _ (within-more (omega arith) (joining .slant-in)) gap-within;
+      slant-in = tamed-within _ _ (within-more (omega arith) (joining .slant-in)) gap-within;
       gap-in = gap-within;
     };
     gap≥0 = omega (arith, zs);
@@ -277,8 +273,7 @@ none-guess = record {
   joined =
       record {
         stride-in = small 1000 0 (omega arith);
-        stride≥0 =
-            omega (arith, zs);
+        stride≥0 = omega (arith, zs);
         slant-in = small 100000000 0 (omega arith);
         gap-in = small 100000000 0 (omega arith);
       };
@@ -291,8 +286,7 @@ closed-tame l h = go (ltZ (pos 0) (l .gap)) refl
     go : (b : Bool) → ltZ (pos 0) (l .gap) ≡ b → Tame (cond b l (record { stride = l .stride; slant = l .slant; gap = pos 100000000 }))
     go true e = record { stride-in = h .joined .stride-in; slant-in = h .joined .slant-in; gap-in = h .joined .gap-in; gap≥1 = yes-lt e }
     go false e = record {
-      stride-in =
-          h .joined .stride-in;
+      stride-in = h .joined .stride-in;
       slant-in = h .joined .slant-in;
       gap-in = small 100000000 100000000 (omega arith);
       gap≥1 = ltZ-yes tt;
@@ -338,8 +332,7 @@ module _ (w c : ℕ → ℤ) (n : ℕ) where
     most = omega arith;
     long = refl;
     guess = sym (ap (guessOf w c n) (none n));
-    known =
-        λ e g h. unknown-at 16 e h ∙ sym (ap (λ b. cond b (checkedBy w c n e (guessOf w c n (n - e))) unknown) (le-ltb e n g));
+    known = λ e g h. unknown-at 16 e h ∙ sym (ap (λ b. cond b (checkedBy w c n e (guessOf w c n (n - e))) unknown) (le-ltb e n g));
   }
     where
       none : (n : ℕ) → n - n ≡ 0

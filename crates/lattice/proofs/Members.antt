@@ -68,8 +68,7 @@ module _ (l : Lattice) where
         weight = u .weight +ℤ v .weight;
         worth = u .worth +ℤ v .worth;
         on = on-add (u .on) (v .on);
-        weight-is =
-            ap₂ _+ℤ_ (u .weight-is) (v .weight-is) ∙ join (u .weight) (v .weight);
+        weight-is = ap₂ _+ℤ_ (u .weight-is) (v .weight-is) ∙ join (u .weight) (v .weight);
         worth-is = ap₂ _+ℤ_ (u .worth-is) (v .worth-is) ∙ join (u .worth) (v .worth);
       }
     where

@@ -506,8 +506,7 @@ module _ {t : Order} (law : Laws t) (P : Place) (box : Box t (t .m) P) where
         omega (
           arith,
           mul-le-mul-right (width t n) h,
-          left-most (t .lo n) (t .hi n) (t .start P′ n) (P′ n) (law .inside P′ n l (moved-box n (omega arith)))
-              (moved-box (suc n) l n (omega arith)),
+          left-most (t .lo n) (t .hi n) (t .start P′ n) (P′ n) (law .inside P′ n l (moved-box n (omega arith))) (moved-box (suc n) l n (omega arith)),
         )
 
     falling : Later (t .start P j) (P j) v → (n : ℕ) → j < n → n ≤ t .m → rank t n P′ < rank t n P
@@ -551,8 +550,7 @@ after-moved {t} law P n l (j, v) (jn, vi, e) P′ y q w = go w
           j,
           omega arith,
           agree j (omega arith) (rw z at a),
-          later-trans (t .start P j) (P j) v (y j) e
-              (subst₂ (λ s x. Later s x (y j)) (s-same j (omega arith)) (q .here) (rw z at f)),
+          later-trans (t .start P j) (P j) v (y j) e (subst₂ (λ s x. Later s x (y j)) (s-same j (omega arith)) (q .here) (rw z at f)),
         )
         at (no x) (no z) = here (λ k p. a k (omega arith)) (sym (q .here) ∙ a j (omega arith))
 

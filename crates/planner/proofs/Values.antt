@@ -56,8 +56,7 @@ module _ (c : Columns) (f : Fill) (z : SizedFill c f) where
   bound-joins = record {
     whole-in = bound-within c f z;
     product-in = product-within;
-    part-in =
-        omega (arith, bound-proper c f z .low, bound-proper c f z .few);
+    part-in = omega (arith, bound-proper c f z .low, bound-proper c f z .few);
     parts-in = bound-proper c f z .few;
   }
 

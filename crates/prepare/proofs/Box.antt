@@ -71,16 +71,14 @@ module _ {r : ℕ → ℕ} (p : Problem) (s : Setting) (q : PreparedAt r p s) wh
         q .lows k h,
         q .highs k h,
         closed-is (itemAt p k .lower) (negℤ (pos (r k))),
-        closed-is (itemAt p k .upper)
-            (pos (r k)),
+        closed-is (itemAt p k .upper) (pos (r k)),
       )
 
   pub box-is-shut : (D : ℕ) (N : ℕ → ℤ) → (Feasibleᴰ box D N ↔ Feasibleᴰ (shutAt r (instanceOf p)) D N) × (valueᴰ box N ≡ valueᴰ (shutAt r (instanceOf p)) N)
   box-is-shut D N = (
     (
       same-feasible box (shutAt r (instanceOf p)) box-same D N,
-      same-feasible (shutAt r (instanceOf p)) box (same-sym box (shutAt r (instanceOf p)) box-same)
-          D N,
+      same-feasible (shutAt r (instanceOf p)) box (same-sym box (shutAt r (instanceOf p)) box-same) D N,
     ),
     same-value box (shutAt r (instanceOf p)) box-same N,
   )

@@ -99,8 +99,7 @@ module _ (p : Problem) (l : List ℕ) (n : ℕ) (h : Listing p l n) where
   lattices-true r g = record {
     tame = λ d m. at-level d m .tame;
     fixed-all = λ d m. at-level d m .fixed-all;
-    on =
-        λ d m. at-level d (omega (arith, h .few)) .on;
+    on = λ d m. at-level d (omega (arith, h .few)) .on;
   }
     where
       at-level : (d : ℕ) → d < 16 → TrueOf d (latticeAt r d)

@@ -100,8 +100,7 @@ module _ (p : Problem) (r : InRange p) where
   pub reach-small : Small (reachOf p)
   unfolding reachOf
   reach-small = record {
-    weight-in =
-        omega (arith, r .few-items, r .capacity-in, a≤, burden-small A (p .count) a≤ (omega arith));
+    weight-in = omega (arith, r .few-items, r .capacity-in, a≤, burden-small A (p .count) a≤ (omega arith));
     amount-in = omega (arith, a≤, b≤);
   }
     where
@@ -219,8 +218,7 @@ module _ (p : Problem) (range : InRange p) where
       lead≤ : (k : ℕ) → k < p .count → leadBy A (itemAt p k) ≤ mostOf p (p .count) .bound + A
       lead≤ k l = let c = most-covers p (p .count) k l in omega (
         arith,
-        larger-most (boundSize (itemAt p k .lower)) (boundSize (itemAt p k .upper))
-            (mostOf p (p .count) .bound) (c .lower) (c .upper),
+        larger-most (boundSize (itemAt p k .lower)) (boundSize (itemAt p k .upper)) (mostOf p (p .count) .bound) (c .lower) (c .upper),
         open-small A A (isOpen (itemAt p k)) (omega arith),
       )
 
@@ -361,8 +359,7 @@ module _ (p : Problem) (range : InRange p) (s t : Setting) (q : Prepared p s) (n
             ends =
                 record {
                   lo-in = ends-in (t .ends .lo) (long .0) (λ k. at (s .ends .lo) k) lo;
-                  hi-in =
-                      ends-in (t .ends .hi) (long .1) (λ k. at (s .ends .hi) k) hi;
+                  hi-in = ends-in (t .ends .hi) (long .1) (λ k. at (s .ends .hi) k) hi;
                 };
           };
           ordered = rw ec (q .ready .ordered);

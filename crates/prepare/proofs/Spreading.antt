@@ -48,8 +48,7 @@ stays : (r : Pairs) (n : ℕ) (q : Pair) (k : ℕ) (o : Pair) → k ≢ n → Ho
 stays r n Missing k o ne h = h
 stays r n (Steps a b) k o ne h =
     record {
-      first-step =
-          getD-set-other (r .first) n k a (pos 0) ne ∙ h .first-step;
+      first-step = getD-set-other (r .first) n k a (pos 0) ne ∙ h .first-step;
       second-step = getD-set-other (r .second) n k b (pos 0) ne ∙ h .second-step;
     }
 

@@ -124,8 +124,7 @@ module _ (p : Problem) (r : InRange p) (c : Columns) (w : Columned p c) (lead : 
             rate-in = columns-sized p c r w .rates-in lead;
             rate≥0 = lt-le rate>0;
             size-in = columns-sized p c r w .sizes-in lead;
-            size≥1 =
-                size>0;
+            size≥1 = size>0;
           };
       multiples = multiples;
       rate-bounded = λ nz k l e. record { late = late k l e; cheap = cheap k l (late k l e) };
@@ -173,8 +172,7 @@ module _ (p : Problem) (r : InRange p) (c : Columns) (w : Columned p c) (lead : 
         stride-in = g-in;
         rate-in = record { above = omega arith; below = omega arith };
         rate≥0 = simp zed (omega arith);
-        size-in =
-            record { above = omega arith; below = omega arith };
+        size-in = record { above = omega arith; below = omega arith };
         size≥1 = simp zed (omega arith);
       };
       multiples = multiples;
@@ -217,8 +215,7 @@ true-none p c = record {
   in-range = record {
     stride-in = record { above = omega arith; below = omega arith };
     rate-in = record { above = omega arith; below = omega arith };
-    rate≥0 =
-        simp zed (omega arith);
+    rate≥0 = simp zed (omega arith);
     size-in = record { above = omega arith; below = omega arith };
     size≥1 = simp zed (omega arith);
   };

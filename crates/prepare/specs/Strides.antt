@@ -37,8 +37,7 @@ abbrev pub strideBoundAt : Problem → Columns → ℕ → StrideBound
 strideBoundAt p c u =
     record {
       stride = pos (strideOf p (p .count));
-      rank =
-          u;
+      rank = u;
       rate = cond (ltb u (c .live)) (at (c .rate) u) (pos 0);
       size = cond (ltb u (c .live)) (at (c .size) u) (pos 1);
     }

@@ -77,8 +77,7 @@ multiple-true m x y h =
     let c = both (same (m *ℤ x .price) (y .price)) _ (w .1) in
     record {
       weights = same-true (m *ℤ x .weight) (y .weight) (w .0);
-      prices =
-          same-true (m *ℤ x .price) (y .price) (c .0);
+      prices = same-true (m *ℤ x .price) (y .price) (c .0);
       marks = suits-true (x .mark) (y .mark) (c .1);
     }
 

@@ -232,8 +232,7 @@ together-escapes p r u w t =
     let q = pays-says d e (t .paying) in
     two-escapes p r _ _ _ _ (level (d .weight) (e .weight)) (q .2) (apart p u w (t .heavy) (q .1) (q .2))
     (record {
-      number-in =
-          t .u-in;
+      number-in = t .u-in;
       free = g .0;
       forward = flip (e .weight) (q .1);
       small = rw (natAbs-neg (e .weight)) (direction-in p w r (t .w-in) .weight-in);

@@ -91,8 +91,7 @@ stand-fixed c e t k h =
       ← h,
       cond-same (ltZ (pos 0) (priceOf c k)) (at (e .lo) k),
       cond-same (ltZ (weightOf c k) (pos 0)) (at (e .lo) k),
-      cond-same (ltZ (pos 0) (weightOf c k))
-          (at (e .lo) k),
+      cond-same (ltZ (pos 0) (weightOf c k)) (at (e .lo) k),
       cond-same (ltb (rankOf c k) t) (at (e .lo) k),
     )
 
@@ -214,8 +213,7 @@ module _ (s : Setting) (r : ReadySetting s) (long : Long (s .ends)) (marks : ℕ
           worth = pos 0;
           on = on-zero L;
           weight-is = none (weightOf (s .cols) k);
-          worth-is =
-              none (priceOf (s .cols) k);
+          worth-is = none (priceOf (s .cols) k);
         }
           where
             zero-term : (c x : ℤ) → c *ℤ (x *ℤ pos D -ℤ x *ℤ pos D) ≡ pos 0 *ℤ pos D
@@ -239,10 +237,8 @@ module _ (s : Setting) (r : ReadySetting s) (long : Long (s .ends)) (marks : ℕ
             record {
               weight = weightOf (s .cols) (levelAt s j) *ℤ z;
               worth = priceOf (s .cols) (levelAt s j) *ℤ z;
-              on =
-                  on-scale L (on j (omega arith) n) z;
-              weight-is =
-                  scaled (weightOf (s .cols) (levelAt s j));
+              on = on-scale L (on j (omega arith) n) z;
+              weight-is = scaled (weightOf (s .cols) (levelAt s j));
               worth-is = scaled (priceOf (s .cols) (levelAt s j));
             }
           where

@@ -37,8 +37,7 @@ pub diving-first : (s : Setting) (j : ℕ) (p : Path) (e : Ends) → j ≤ s .le
 diving-first s j p e l g h n =
     record {
       past = omega arith;
-      top =
-          l;
+      top = l;
       long = g;
       ends-are = h;
       inside = n;

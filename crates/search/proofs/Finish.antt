@@ -81,8 +81,7 @@ module _ (s : Setting) (r : ReadySetting s) (long : Long (s .ends)) where
 
       new : ltZ (f .room) (pos 0) ≡ false → GoodBest s (record { found = true; place = x; value = bound (s .cols) f })
       new q = record {
-        proper =
-            λ z. bound-proper (s .cols) f (fill-sized (s .cols) e (j .sized));
+        proper = λ z. bound-proper (s .cols) f (fill-sized (s .cols) e (j .sized));
         inside = λ z. inside;
         roomy = λ z. no-lt q;
         value-is = λ z. refl;
@@ -292,8 +291,7 @@ module _ (s : Setting) (r : ReadySetting s) (long : Long (s .ends)) (marks : ℕ
             over (bound (s .cols) (fill (s .cols) (s .ends))),
             (
               bound (s .cols) (fill (s .cols) (s .ends)) .parts,
-              parts≥1 (s .cols) (s .ends) marks (r .ordered)
-                  (r .in-order) (fill (s .cols) (s .ends)) st,
+              parts≥1 (s .cols) (s .ends) marks (r .ordered) (r .in-order) (fill (s .cols) (s .ends)) st,
               fill-bound (s .cols) (s .ends) marks (r .ordered) (r .in-order) (fill (s .cols) (s .ends)) st,
             ),
           )
@@ -397,8 +395,7 @@ pub going-first : (s : Setting) → ReadySetting s → Long (s .ends) → (p r :
 going-first s ready long p r n d = record {
   started = record { long = long; inside = inside; starts = λ i l. let h = d .filled i (omega arith) l in h .1 ∙ h .0 };
   good = record {
-    proper =
-        λ h. absurd (impossible h);
+    proper = λ h. absurd (impossible h);
     inside = λ h. absurd (impossible h);
     roomy = λ h. absurd (impossible h);
     value-is = λ h. absurd (impossible h);

@@ -255,8 +255,7 @@ module _ (D : ℕ) (q s : ℤ) (s≥0 : pos 0 ≤ℤ s) where
   no-gain : (a c t : ℤ) → t ≡ pos 0 → Gains a c t
   no-gain a c t e = subst (Gains a c) (sym e) (
     ≤ℤ-reflexive (sym (none-left a)),
-    ≤ℤ-reflexive
-        (ap (λ z. s *ℤ z) (none-left c) ∙ none-left s ∙ sym (none-left q) ∙ ap (λ z. q *ℤ z) (sym (none-left a))),
+    ≤ℤ-reflexive (ap (λ z. s *ℤ z) (none-left c) ∙ none-left s ∙ sym (none-left q) ∙ ap (λ z. q *ℤ z) (sym (none-left a))),
   )
 
 sum≥0 : (n : ℕ) (f : ℕ → ℤ) → ((k : ℕ) → k < n → pos 0 ≤ℤ f k) → pos 0 ≤ℤ sum n f
@@ -434,8 +433,7 @@ module _ (s : Setting) (r : ReadySetting s) (long : Long (s .ends)) (marks : ℕ
           strides = q .0;
           gaps = priceOf (s .cols) (levelAt s j);
           weight-is = q .1;
-          worth-is = all (q .0)
-              (priceOf (s .cols) (levelAt s j));
+          worth-is = all (q .0) (priceOf (s .cols) (levelAt s j));
         }
           where
             all : (q c : ℤ) → c ≡ pos 0 *ℤ q +ℤ pos 1 *ℤ c

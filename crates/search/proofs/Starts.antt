@@ -29,8 +29,7 @@ module _ (s : Setting) (r : ReadySetting s) (long : Long (s .ends)) where
       let h = start-inside (s .cols) (fixedBy s P d) (λ k. Integer) (r .ordered) (fixed-order s r long P d (omega arith)) (levelAt s d) (r .level-in d l) in
       let own = fixed-own s r long P d l in (
         subst (λ z. z ≤ℤ start (s .cols) (fixedBy s P d) (fill (s .cols) (fixedBy s P d)) (levelAt s d)) (own .0) (h .0),
-        subst
-            (λ z. start (s .cols) (fixedBy s P d) (fill (s .cols) (fixedBy s P d)) (levelAt s d) ≤ℤ z) (own .1) (h .1),
+        subst (λ z. start (s .cols) (fixedBy s P d) (fill (s .cols) (fixedBy s P d)) (levelAt s d) ≤ℤ z) (own .1) (h .1),
       )
 
 pub start-cong : (s : Setting) (P Q : ℕ → ℤ) (d : ℕ) → Each d (λ k. P k ≡ Q k) → startBy s P d ≡ startBy s Q d

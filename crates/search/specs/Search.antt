@@ -67,8 +67,7 @@ abbrev pub strideFill : StrideBound → Fill → ℤ → ℤ → Fill
 strideFill m f size rate =
     record {
       at = 0;
-      room =
-          f .room -ℤ m .stride *ℤ floorDiv (f .room) (m .stride);
+      room = f .room -ℤ m .stride *ℤ floorDiv (f .room) (m .stride);
       worth = f .worth +ℤ ceilDiv (rate *ℤ (m .stride *ℤ floorDiv (f .room) (m .stride))) size;
     }
 

@@ -87,8 +87,7 @@ module _ (s : Setting) (r : ReadySetting s) (long : Long (s .ends)) where
           → (at (set (e .lo) (levelAt s d) (P d)) (levelAt s j) ≡ P j) × (at (set (e .hi) (levelAt s d) (P d)) (levelAt s j) ≡ P j)
       go (yes q) ih = rw q (
         at-same (e .lo) (levelAt s d) (P d) (omega (arith, fixed-long P d .lo-long, item<16 d (omega arith))),
-        at-same (e .hi) (levelAt s d)
-            (P d) (omega (arith, fixed-long P d .hi-long, item<16 d (omega arith))),
+        at-same (e .hi) (levelAt s d) (P d) (omega (arith, fixed-long P d .hi-long, item<16 d (omega arith))),
       )
       go (no q) ih =
           let ne : levelAt s j ≢ levelAt s d = λ h. q (r .distinct j d (omega arith) (omega arith) h) in

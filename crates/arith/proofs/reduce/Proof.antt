@@ -37,8 +37,7 @@ with-sign-requires c κs =
       arith,
       div-le-self (c .before .magnitude .result) (c .gcd .result),
       is-abs (c .before),
-      within-abs (c .before .before .args .p)
-          (c .before .before .pre .0),
+      within-abs (c .before .before .args .p) (c .before .before .pre .0),
     )
 
 div-t7 : tie.Need-div-t7

@@ -48,41 +48,55 @@ mul-a c = omega (arith, c .before .before .before .pre .columns .few)
 element-copy-out-a : tie.Need-element-copy-out-a Inv-loop μ-loop
 element-copy-out-a c = omega (arith, c .before .before .before .pre .columns .few)
 
+-- the moments that are spoken of below
+abbrev at-loop : tie.After-light-end Inv-loop μ-loop → tie.At-loop Inv-loop μ-loop
+at-loop c = c .before .before .before .before .before .before
+
+abbrev start-by-a : tie.After-a Inv-loop μ-loop → tie.Start Inv-loop μ-loop
+start-by-a c = c .before .before .before .before
+
+abbrev start-by-p : tie.After-p Inv-loop μ-loop → tie.Start Inv-loop μ-loop
+start-by-p c = c .before .before .before .before .before
+
+abbrev start-by-l : tie.After-l Inv-loop μ-loop → tie.Start Inv-loop μ-loop
+start-by-l c = c .before .before .before .before .before .before
+
+abbrev start-by-light-end : tie.After-light-end Inv-loop μ-loop → tie.Start Inv-loop μ-loop
+start-by-light-end c = c .before .before .before .before .before .before .before .before
+
 mul-p : tie.Need-mul-p Inv-loop μ-loop
-mul-p c = omega (arith, c .before .before .before .before .pre .columns .few)
+mul-p c = omega (arith, start-by-a c .pre .columns .few)
 
 element-copy-out-p : tie.Need-element-copy-out-p Inv-loop μ-loop
-element-copy-out-p c = omega (arith, c .before .before .before .before .pre .columns .few)
+element-copy-out-p c = omega (arith, start-by-a c .pre .columns .few)
 
 mul-l : tie.Need-mul-l Inv-loop μ-loop
-mul-l c = omega (arith, c .before .before .before .before .before .pre .columns .few)
+mul-l c = omega (arith, start-by-p c .pre .columns .few)
 
 element-copy-out-l : tie.Need-element-copy-out-l Inv-loop μ-loop
-element-copy-out-l c = omega (arith, c .before .before .before .before .before .pre .columns .few)
+element-copy-out-l c = omega (arith, start-by-p c .pre .columns .few)
 
 mul-u : tie.Need-mul-u Inv-loop μ-loop
-mul-u c = omega (arith, c .before .before .before .before .before .before .pre .columns .few)
+mul-u c = omega (arith, start-by-l c .pre .columns .few)
 
 element-copy-out-u : tie.Need-element-copy-out-u Inv-loop μ-loop
-element-copy-out-u c = omega (arith, c .before .before .before .before .before .before .pre .columns .few)
+element-copy-out-u c = omega (arith, start-by-l c .pre .columns .few)
 
 light-end-requires : tie.Need-light-end-requires Inv-loop μ-loop
 light-end-requires c κs = search needs
 
 -- the light end of the turn's item
-amount : (c : tie.After-light-end Inv-loop μ-loop) → c .light-end .result ≡ lightOf
-    (c .before .before .before .before .before .before .before .before .args .t1) (c .before .before .before .before .before .before .before .before .args .t2)
-    (c .before .before .before .before .before .before .loop .k)
+amount : (c : tie.After-light-end Inv-loop μ-loop) → c .light-end .result ≡ lightOf (start-by-light-end c .args .t1) (start-by-light-end c .args .t2)
+    (at-loop c .loop .k)
 amount c =
-    let l = c .before .before .before .before .before .before in
+    let l = at-loop c in
     let z = l .before .before .pre in
     let k = l .loop .k in
     rw (
       within-back tt (z .columns .weights-in k),
       within-back tt (z .columns .prices-in k),
       within-back tt (z .ends .lo-in k),
-      within-back tt
-          (z .ends .hi-in k),
+      within-back tt (z .ends .hi-in k),
     ) at (c .light-end .ensures)
 
 with-amount-requires : tie.Need-with-amount-requires Inv-loop μ-loop
@@ -123,8 +137,7 @@ loop-again c =
       within-back tt (z .columns .weights-in k),
       within-back tt (z .columns .prices-in k),
       amount (c .before),
-      within-back tt
-          (light-within (s .args .t1) (s .args .t2) z k),
+      within-back tt (light-within (s .args .t1) (s .args .t2) z k),
       l .loop .inv .1,
     ) at (c .with-amount .ensures) in
     (omega arith, e ∙ more (s .args .t1) (s .args .t2) k)

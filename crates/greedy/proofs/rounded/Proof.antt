@@ -46,15 +46,19 @@ returns-2 c =
     let e = rw (toZ-ofZ (s .fits .a), toZ-ofZ (s .fits .l), toZ-ofZ (s .fits .u)) at (c .heavy-end .ensures) in
     rw (not-empty (t .before), lt-ltb _ _ (t .if2 .taken)) (back (c .heavy-end .result) (c .heavy-end .ok) ∙ e)
 
+-- the moments that are spoken of below
+abbrev after-light-end : tie.Then4 → tie.After-light-end
+after-light-end c = c .before .before .before .before
+
 fitting-requires : tie.Need-fitting-requires
 fitting-requires c κs =
-    let s = S (c .before .before .before .before) in
+    let s = S (after-light-end c) in
     rw (toZ-ofZ (s .fits .l), toZ-ofZ (s .fits .u), within-back tt (s .pre .room-in)) (s .pre)
 
 returns-3 : tie.Need-returns-3
 returns-3 c =
     let t = c .before in
-    let s = S (t .before .before .before .before) in
+    let s = S (after-light-end t) in
     let e = rw (toZ-ofZ (s .fits .a), toZ-ofZ (s .fits .l), toZ-ofZ (s .fits .u), within-back tt (s .pre .room-in)) at (c .fitting .ensures) in
     rw (not-empty (t .before .before .before), le-ltb _ _ (t .before .before .if2 .left), eq-eqb _ _ (t .before .if3 .taken), lt-ltb _ _ (t .if4 .taken))
     (back (c .fitting .result) (c .fitting .ok) ∙ e)

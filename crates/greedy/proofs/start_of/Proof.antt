@@ -59,8 +59,7 @@ returns c =
       within-back tt (z .columns .weights-in k),
       within-back tt (z .columns .prices-in k),
       within-back tt (z .ends .lo-in k),
-      within-back tt
-          (z .ends .hi-in k),
+      within-back tt (z .ends .hi-in k),
       c .before .before .before .before .before .before .fill-up .ensures,
     ) at (c .rounded .ensures) in
     back (c .rounded .result) (c .rounded .ok) ∙ e

@@ -36,6 +36,10 @@ floor-div-requires-2 c κs = let s = c .before .before .before in rw (held c, wi
 abbrev S : tie.Start → ℤ
 S s = floorDiv (s .args .room) (s .args .l .stride)
 
+-- the moments that are spoken of below
+abbrev start : tie.After-floor-div2 → tie.Start
+start c = c .before .before .before .before
+
 -- the gap times the second quotient, as the local holds it
 multiple : (c : tie.After-floor-div2) → toZ w64 (ofZ w64 (c .before .before .before .before .args .l .gap)) *ℤ toZ w64 (ofZ w64 (c .floor-div2 .result))
     ≡ c .before .before .before .before .args .l .gap *ℤ floorDiv (S (c .before .before .before .before)) (c .before .before .before .before .args .l .gap)
@@ -57,33 +61,32 @@ worth : (s : tie.Start) → Within 10000000000000000 (s .args .l .slant *ℤ (S 
 worth s = within-mul (s .pre .tame .slant-in) (left s)
 
 mul-t : tie.Need-mul-t
-mul-t c = rw (multiple c) (within-sfits (lit< tt) (taken (c .before .before .before .before)))
+mul-t c = rw (multiple c) (within-sfits (lit< tt) (taken (start c)))
 
 sub-t : tie.Need-sub-t
-sub-t c = let s = c .before .before .before .before in rw (multiple c, within-back tt (taken s), held (c .before)) (within-sfits (lit< tt) (left s))
+sub-t c = let s = start c in rw (multiple c, within-back tt (taken s), held (c .before)) (within-sfits (lit< tt) (left s))
 
 mul-t7 : tie.Need-mul-t7
-mul-t7 c = let s = c .before .before .before .before in rw (held (c .before), within-back tt (s .pre .tame .stride-in)) (within-sfits (lit< tt) (weight s))
+mul-t7 c = let s = start c in rw (held (c .before), within-back tt (s .pre .tame .stride-in)) (within-sfits (lit< tt) (weight s))
 
 mul-t8 : tie.Need-mul-t8
 mul-t8 c =
     let d = c .before .before in
-    let s = d .before .before .before .before in
+    let s = start d in
     rw (multiple d, within-back tt (taken s), held (d .before), within-back tt (left s), within-back tt (s .pre .tame .slant-in))
     (within-sfits (lit< tt) (worth s))
 
 returns : tie.Need-returns
 returns c =
     let d = c .before .before in
-    let s = d .before .before .before .before in
+    let s = start d in
     rw (
       multiple d,
       within-back tt (taken s),
       held (d .before),
       within-back tt (left s),
       within-back tt (s .pre .tame .slant-in),
-      within-back tt
-          (s .pre .tame .stride-in),
+      within-back tt (s .pre .tame .stride-in),
       within-back tt (weight s),
       within-back tt (worth s),
     )

@@ -30,8 +30,7 @@ returns c =
       within-back tt (s .pre .steep .rate-in),
       within-back tt (s .pre .weight-in),
       within-back tt (product s),
-      within-back tt
-          (s .pre .steep .size-in),
+      within-back tt (s .pre .steep .size-in),
     ) at (c .floor-div .ensures) in
     back (c .floor-div .result) (c .floor-div .ok) ∙ e
 

@@ -48,7 +48,14 @@ highest-requires c κs =
     let s = h .before .before .before in
     rw (held h, within-back tt (s .pre .worth-in)) (record { tame = s .pre .tame; base-in = s .pre .worth-in; height-in = height-in s })
 
-held-highest : (c : tie.After-highest) → toZ w64 (ofZ w64 (c .highest .result)) ≡ T (c .before .before .before .before .before .before)
+-- the moments that are spoken of below
+abbrev start-by-then1 : tie.Then1 → tie.Start
+start-by-then1 c = c .before .before .before .before
+
+abbrev start-by-highest : tie.After-highest → tie.Start
+start-by-highest c = c .before .before .before .before .before .before
+
+held-highest : (c : tie.After-highest) → toZ w64 (ofZ w64 (c .highest .result)) ≡ T (start-by-highest c)
 held-highest c =
     let h = c .before .before .before in
     let s = h .before .before .before in
@@ -58,18 +65,16 @@ snapped : (s : tie.Start) → Within 250200000100000000 (s .args .f .worth +ℤ 
 snapped s = within-add (s .pre .steep .worth-in) (highest-in s)
 
 add-if2 : tie.Need-add-if2
-add-if2 c = let s = c .before .before .before .before .before .before in rw (held-highest c, within-back tt (s .pre .steep .worth-in))
+add-if2 c = let s = start-by-highest c in rw (held-highest c, within-back tt (s .pre .steep .worth-in))
     (within-sfits (lit< tt) (snapped s))
 
 -- the first test, and the second
-above : (c : tie.Then1) → ltZ (c .before .before .before .before .args .b)
-    (c .before .before .before .before .args .f .worth +ℤ H (c .before .before .before .before)) ≡ true
-above c = let s = c .before .before .before .before in rw (
+above : (c : tie.Then1) → ltZ (start-by-then1 c .args .b) (start-by-then1 c .args .f .worth +ℤ H (start-by-then1 c)) ≡ true
+above c = let s = start-by-then1 c in rw (
   toZ-ofZ (s .fits .b),
   held (c .before),
   within-back tt (s .pre .steep .worth-in),
-  within-back tt
-      (up-to s),
+  within-back tt (up-to s),
 ) at (c .if1 .taken)
 
 returns : tie.Need-returns
@@ -77,7 +82,7 @@ unfolding judged
 returns c =
     let d = c .before in
     let o = d .before .before in
-    let s = o .before .before .before .before in
+    let s = start-by-then1 o in
     let k = rw (toZ-ofZ (s .fits .b), held-highest d, within-back tt (s .pre .steep .worth-in), within-back tt (snapped s)) at (c .if2 .taken) in
     rw (above o, k)
 
@@ -86,7 +91,7 @@ unfolding judged
 returns-2 c =
     let d = c .before in
     let o = d .before .before in
-    let s = o .before .before .before .before in
+    let s = start-by-then1 o in
     let k = rw (toZ-ofZ (s .fits .b), held-highest d, within-back tt (s .pre .steep .worth-in), within-back tt (snapped s)) at (c .if2 .left) in
     rw (above o, k)
 

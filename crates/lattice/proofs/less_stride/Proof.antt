@@ -16,19 +16,22 @@ sub-t3 : tie.Need-sub-t3
 sub-t3 c = let s = c .before .before .before .before in rw (within-back tt (s .pre .weight-in), within-back tt (s .pre .tame .stride-in))
     (within-sfits (lit< tt) (weight s))
 
+-- the moments that are spoken of below
+abbrev start : tie.After-struct-told4 → tie.Start
+start c = c .before .before .before .before .before .before .before .before
+
 sub-t4 : tie.Need-sub-t4
-sub-t4 c = let s = c .before .before .before .before .before .before .before .before in
+sub-t4 c = let s = start c in
     rw (within-back tt (s .pre .worth-in), within-back tt (s .pre .tame .slant-in)) (within-sfits (lit< tt) (worth s))
 
 returns : tie.Need-returns
 returns c =
-    let s = c .before .before .before .before .before .before .before .before in
+    let s = start c in
     rw (
       within-back tt (s .pre .weight-in),
       within-back tt (s .pre .tame .stride-in),
       within-back tt (s .pre .worth-in),
-      within-back tt
-          (s .pre .tame .slant-in),
+      within-back tt (s .pre .tame .slant-in),
       within-back tt (weight s),
       within-back tt (worth s),
     )

@@ -53,8 +53,7 @@ returns-5 c = let s = c .before .before .before in
     simp (
       on-values (s .fits .x) (s .fits .s) (c .before .before .if1 .left),
       on-values (s .fits .x) (s .fits .hi) (c .before .if3 .left),
-      on-values
-          (s .fits .lo) (s .fits .s) (c .if4 .left),
+      on-values (s .fits .lo) (s .fits .s) (c .if4 .left),
     )
 
 pub next-value-spec : {M : Type 1} → statement M

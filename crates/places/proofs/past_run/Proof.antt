@@ -46,8 +46,7 @@ returns c =
     (simp (
       back (at (a .t3) (a .d)) (p .before .before .next-segment-arg .given),
       back (at (a .t5) (a .d)) (p .before .next-segment-arg2 .given),
-      back
-          (at (a .t1) (a .d)) (p .next-segment-arg3 .given),
+      back (at (a .t1) (a .d)) (p .next-segment-arg3 .given),
     )
     at (sym (c .before .o .given .1) ∙ c .before .before .before .next-segment .ensures)))
 
@@ -59,8 +58,7 @@ returns-2 c =
     (simp (
       back (at (a .t3) (a .d)) (p .before .before .next-segment-arg .given),
       back (at (a .t5) (a .d)) (p .before .next-segment-arg2 .given),
-      back
-          (at (a .t1) (a .d)) (p .next-segment-arg3 .given),
+      back (at (a .t1) (a .d)) (p .next-segment-arg3 .given),
     )
     at (sym (c .before .enum-told .given .1) ∙ c .before .before .before .next-segment .ensures)))
     (c .past-prefix .ensures)

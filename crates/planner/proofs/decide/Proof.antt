@@ -35,8 +35,7 @@ returns c =
     let t = rw (b .begin .ensures, within-back tt (begun-within (s .cols) (s .ends) (q .ready .sized))) at (h .before .if1 .taken) in
     rw (c .with-steps .ensures, h .no-point .ensures) (record {
       answers = infeasible-corner (a .before .args .p) (a .before .pre) s q (yes-lt t);
-      counts =
-          refl;
+      counts = refl;
     })
 
 find-ray-requires : tie.Need-find-ray-requires
@@ -97,8 +96,7 @@ run-requires c κs =
     let q = near n in
     record {
       setting = q .ready;
-      true-pairs =
-          c .pairs-of .ensures .ready (n .narrowed .result .cols) (record { weights-agree = q .weights; prices-agree = q .prices });
+      true-pairs = c .pairs-of .ensures .ready (n .narrowed .result .cols) (record { weights-agree = q .weights; prices-agree = q .prices });
     }
 
 -- the search found a place

@@ -21,8 +21,7 @@ long s = record { lo-long = search needs; hi-long = search needs }
 
 sized : (s : tie.Start) → Sized (s .args .s .cols) (boxAt (s .args .s) (s .args .x))
 sized s = record {
-  columns =
-      s .pre .0 .sized .columns;
+  columns = s .pre .0 .sized .columns;
   ends = fixed-sized (s .args .s) (s .pre .0) (long s) (at (s .args .x)) (s .args .s .levels) (omega arith) (s .pre .1);
 }
 

@@ -50,6 +50,10 @@ table-requires-4 c κs = in-order (c .before .before .before .before)
 leading-requires : tie.Need-leading-requires
 leading-requires c κs = in-order (c .before .before .before .before .before)
 
+-- the moments that are spoken of below
+abbrev after-table2 : tie.After-struct-told → tie.After-table2
+after-table2 c = c .before .before .before .before .before
+
 returns : tie.Need-returns
 returns c =
     let o = c .before .before .before .before .before .before .before in
@@ -61,8 +65,7 @@ returns c =
       count = refl;
       capacity = toZ-ofZ fits;
       weights = tabled-places (s .args .p) (s .pre) (items .result) (items .ensures) Weight (t .table .result) (t .table .ensures);
-      prices = tabled-places (s .args .p) (s .pre) (items .result) (items .ensures) Price (c .before .before .before .before .before .table2 .result)
-          (c .before .before .before .before .before .table2 .ensures);
+      prices = tabled-places (s .args .p) (s .pre) (items .result) (items .ensures) Price (after-table2 c .table2 .result) (after-table2 c .table2 .ensures);
       order = o .ranking-by .ensures;
       rank = c .before .before .before .before .inverse .ensures;
       sizes = c .before .before .before .table3 .ensures;

@@ -12,15 +12,21 @@ use Rattle.prepare.proofs.Ready.{box-sized, prepared}
 use Rattle.prepare.proofs.prepare.Statement.{statement}
 use Rattle.prepare.proofs.prepare.Tie as tie
 
-in-order : (c : tie.After-ranking-by) → Listing (c .before .before .before .before .args .p) (c .ranking-by .result)
-    (c .before .before .before .before .args .p .count)
+-- the moments that are spoken of below
+abbrev start-by-ranking-by : tie.After-ranking-by → tie.Start
+start-by-ranking-by c = c .before .before .before .before
+
+abbrev start-by-leading : tie.After-leading → tie.Start
+start-by-leading c = c .before .before .before .before .before
+
+in-order : (c : tie.After-ranking-by) → Listing (start-by-ranking-by c .args .p) (c .ranking-by .result) (start-by-ranking-by c .args .p .count)
 in-order c =
-    let s = c .before .before .before .before in
+    let s = start-by-ranking-by c in
     sorted-listing (s .args .p) (s .pre) (λ k. keyOf (c .before .branching .result) (itemAt (s .args .p) k)) (c .ranking-by .result) (c .ranking-by .ensures)
 
-by-level : (c : tie.After-leading) → Listing (c .before .before .before .before .before .args .p) (c .before .ranking-by .result) (c .leading .result)
+by-level : (c : tie.After-leading) → Listing (start-by-leading c .args .p) (c .before .ranking-by .result) (c .leading .result)
 by-level c =
-    let s = c .before .before .before .before .before in
+    let s = start-by-leading c in
     shorter-listing (s .args .p) (c .before .ranking-by .result) (c .leading .result) (s .args .p .count) (c .leading .ensures .most) (in-order (c .before))
 
 columns-requires : tie.Need-columns-requires
@@ -35,8 +41,7 @@ branching-requires c κs =
     let s = k .before in
     record {
       columns = columns-sized (s .args .p) (k .columns .result) (s .pre) (k .columns .ensures);
-      ends =
-          box-sized (s .args .p) (s .pre) (c .bounding-box .result) (c .bounding-box .ensures);
+      ends = box-sized (s .args .p) (s .pre) (c .bounding-box .result) (c .bounding-box .ensures);
     }
 
 ranking-by-requires : tie.Need-ranking-by-requires

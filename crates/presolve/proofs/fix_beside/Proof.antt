@@ -38,8 +38,7 @@ floor-div-requires c κs = let s = c .before .before in (rw (y-back s) (within-m
 is-multiple-requires : tie.Need-is-multiple-requires
 is-multiple-requires c κs =
     let s = c .before .before .before in (
-      rw (back (c .floor-div .result) (c .floor-div .ok), quotient c)
-          (floor-within (s .args .y .weight) (s .args .x .weight) (y-weight s)),
+      rw (back (c .floor-div .result) (c .floor-div .ok), quotient c) (floor-within (s .args .y .weight) (s .args .x .weight) (y-weight s)),
       s .pre .1,
     )
 

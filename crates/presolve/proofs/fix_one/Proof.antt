@@ -29,8 +29,7 @@ fix-beside-requires c κs =
       s .pre .1 .1 .1,
       (
         s .pre .0 .items-in (s .args .i) (s .pre .1 .0),
-        s .pre .0 .items-in (s .args .j)
-            (s .pre .1 .1 .0),
+        s .pre .0 .items-in (s .args .j) (s .pre .1 .1 .0),
       ),
     )
 

@@ -34,8 +34,7 @@ returns c =
     rw (
       ← g .before .direction-at .ensures,
       sym (g .does-gain .ensures) ∙ c .before .before .before .before .if1 .taken,
-      on-values zero-fits h
-          (c .before .if2 .taken),
+      on-values zero-fits h (c .before .if2 .taken),
     ) (c .partner .ensures)
 
 returns-2 : tie.Need-returns-2

@@ -65,10 +65,8 @@ hopeless-requires c κs =
       mixed-in = record {
         strides-in = s .pre .1 .1;
         steep = steep (s .args .t1) (g .fill-up .result) (s .pre .0 .ordered) z (h .if3 .taken);
-        room≥0 =
-            rw (g .fill-up .ensures) (no-lt (not-empty (h .before .before .before)));
-        room-in =
-            z .room-in;
+        room≥0 = rw (g .fill-up .ensures) (no-lt (not-empty (h .before .before .before)));
+        room-in = z .room-in;
         proper = s .pre .0 .proper (h .before .before .if2 .taken);
       };
       tame = s .pre .1 .0;

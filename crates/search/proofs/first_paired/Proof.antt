@@ -110,45 +110,70 @@ mul-t c = record { fits = omega (arith, index<256 (c .before .before .before)) }
 element-copy-out-t : tie.Need-element-copy-out-t Inv-loop μ-loop
 element-copy-out-t c = index<256 (c .before .before .before)
 
+-- the moments that are spoken of below
+abbrev then1-by-t : tie.After-t Inv-loop μ-loop → tie.Then1 Inv-loop μ-loop
+then1-by-t c = c .before .before .before .before
+
+abbrev then1-by-removable-arg : tie.After-removable-arg Inv-loop μ-loop → tie.Then1 Inv-loop μ-loop
+then1-by-removable-arg c = c .before .before .before .before .before
+
+abbrev then1-by-removable-arg2 : tie.After-removable-arg2 Inv-loop μ-loop → tie.Then1 Inv-loop μ-loop
+then1-by-removable-arg2 c = c .before .before .before .before .before .before
+
+abbrev then1-by-removable-arg3 : tie.After-removable-arg3 Inv-loop μ-loop → tie.Then1 Inv-loop μ-loop
+then1-by-removable-arg3 c = c .before .before .before .before .before .before .before
+
+abbrev then1-by-removable-arg4 : tie.After-removable-arg4 Inv-loop μ-loop → tie.Then1 Inv-loop μ-loop
+then1-by-removable-arg4 c = c .before .before .before .before .before .before .before .before
+
+abbrev then1-by-removable-arg5 : tie.After-removable-arg5 Inv-loop μ-loop → tie.Then1 Inv-loop μ-loop
+then1-by-removable-arg5 c = c .before .before .before .before .before .before .before .before .before
+
+abbrev then1-by-removable : tie.After-removable Inv-loop μ-loop → tie.Then1 Inv-loop μ-loop
+then1-by-removable c = c .before .before .before .before .before .before .before .before .before .before .before
+
+abbrev then1-by-else2 : tie.Else2 Inv-loop μ-loop → tie.Then1 Inv-loop μ-loop
+then1-by-else2 c = c .before .before .before .before .before .before .before .before .before .before .before .before
+
 cast-t : tie.Need-cast-t Inv-loop μ-loop
-cast-t c = let t = c .before .before .before .before in let s =
+cast-t c = let t = then1-by-t c in let s =
     t .before .before .before in rw (second-back s (K t)) (within-sfits (lit< tt) (second-within s (K t)))
 
 mul-removable : tie.Need-mul-removable Inv-loop μ-loop
-mul-removable c = record { fits = omega (arith, d<16 (c .before .before .before .before)) }
+mul-removable c = record { fits = omega (arith, d<16 (then1-by-t c)) }
 
 array-copy-out-removable : tie.Need-array-copy-out-removable Inv-loop μ-loop
-array-copy-out-removable c = d<16 (c .before .before .before .before)
+array-copy-out-removable c = d<16 (then1-by-t c)
 
 mul-removable-2 : tie.Need-mul-removable-2 Inv-loop μ-loop
-mul-removable-2 c = record { fits = omega (arith, j<16 (c .before .before .before .before .before)) }
+mul-removable-2 c = record { fits = omega (arith, j<16 (then1-by-removable-arg c)) }
 
 array-copy-out-removable-2 : tie.Need-array-copy-out-removable-2 Inv-loop μ-loop
-array-copy-out-removable-2 c = j<16 (c .before .before .before .before .before)
+array-copy-out-removable-2 c = j<16 (then1-by-removable-arg c)
 
 mul-removable-3 : tie.Need-mul-removable-3 Inv-loop μ-loop
-mul-removable-3 c = record { fits = omega (arith, d<16 (c .before .before .before .before .before .before)) }
+mul-removable-3 c = record { fits = omega (arith, d<16 (then1-by-removable-arg2 c)) }
 
 element-copy-out-removable : tie.Need-element-copy-out-removable Inv-loop μ-loop
-element-copy-out-removable c = d<16 (c .before .before .before .before .before .before)
+element-copy-out-removable c = d<16 (then1-by-removable-arg2 c)
 
 mul-removable-4 : tie.Need-mul-removable-4 Inv-loop μ-loop
-mul-removable-4 c = record { fits = omega (arith, d<16 (c .before .before .before .before .before .before .before)) }
+mul-removable-4 c = record { fits = omega (arith, d<16 (then1-by-removable-arg3 c)) }
 
 element-copy-out-removable-2 : tie.Need-element-copy-out-removable-2 Inv-loop μ-loop
-element-copy-out-removable-2 c = d<16 (c .before .before .before .before .before .before .before)
+element-copy-out-removable-2 c = d<16 (then1-by-removable-arg3 c)
 
 mul-removable-5 : tie.Need-mul-removable-5 Inv-loop μ-loop
-mul-removable-5 c = record { fits = omega (arith, j<16 (c .before .before .before .before .before .before .before .before)) }
+mul-removable-5 c = record { fits = omega (arith, j<16 (then1-by-removable-arg4 c)) }
 
 element-copy-out-removable-3 : tie.Need-element-copy-out-removable-3 Inv-loop μ-loop
-element-copy-out-removable-3 c = j<16 (c .before .before .before .before .before .before .before .before)
+element-copy-out-removable-3 c = j<16 (then1-by-removable-arg4 c)
 
 mul-removable-6 : tie.Need-mul-removable-6 Inv-loop μ-loop
-mul-removable-6 c = record { fits = omega (arith, j<16 (c .before .before .before .before .before .before .before .before .before)) }
+mul-removable-6 c = record { fits = omega (arith, j<16 (then1-by-removable-arg5 c)) }
 
 element-copy-out-removable-4 : tie.Need-element-copy-out-removable-4 Inv-loop μ-loop
-element-copy-out-removable-4 c = j<16 (c .before .before .before .before .before .before .before .before .before)
+element-copy-out-removable-4 c = j<16 (then1-by-removable-arg5 c)
 
 removable-requires : tie.Need-removable-requires Inv-loop μ-loop
 removable-requires c κs =
@@ -170,7 +195,7 @@ At c = c .before .before .before .before .before .before .before .before .before
 decided : (c : tie.After-removable Inv-loop μ-loop) → Reflects (AppliesAt (At c .before .args .t1) (At c .before .args .t2) (at (At c .before .args .t3))
     (At c .loop .d) (At c .loop .j)) (c .removable .result)
 decided c =
-    let t = c .before .before .before .before .before .before .before .before .before .before .before in
+    let t = then1-by-removable c in
     let l = At c in
     let s = l .before in
     let k = pairIndex (levelAt (s .args .t1) (l .loop .d)) (levelAt (s .args .t1) (l .loop .j)) in
@@ -196,22 +221,22 @@ returns c =
       most = omega (arith, i .loop-test .taken);
       here = λ h. record {
         above = l .loop .j;
-        is-above = a .before .before .before .before .before .before .before .before .before .before .before .if1 .taken;
+        is-above = then1-by-removable a .if1 .taken;
         here = decided a .holds (c .if2 .taken);
       };
       before = l .loop .inv .1 .1 .0;
     }
 
 add-j : tie.Need-add-j Inv-loop μ-loop
-add-j c = record { fits = omega (arith, j<16 (c .before .before .before .before .before .before .before .before .before .before .before .before)) }
+add-j c = record { fits = omega (arith, j<16 (then1-by-else2 c)) }
 
 loop-less : tie.Need-loop-less Inv-loop μ-loop
-loop-less c = omega (arith, j<16 (c .before .before .before .before .before .before .before .before .before .before .before .before))
+loop-less c = omega (arith, j<16 (then1-by-else2 c))
 
 loop-again : tie.Need-loop-again Inv-loop μ-loop
 loop-again c =
     let a = c .before in
-    let t = a .before .before .before .before .before .before .before .before .before .before .before in
+    let t = then1-by-removable a in
     let l = At a in
     let v = l .loop .inv in (
       v .0,
@@ -219,8 +244,7 @@ loop-again c =
         omega (arith, t .if1 .taken),
         (
           v .1 .1 .0,
-          λ i h. more (l .loop .j) i h (ℕ-discrete i (l .loop .j)) (v .1 .1 .1)
-              (decided a .fails (c .if2 .left)),
+          λ i h. more (l .loop .j) i h (ℕ-discrete i (l .loop .j)) (v .1 .1 .1) (decided a .fails (c .if2 .left)),
         ),
       ),
     )

@@ -52,11 +52,17 @@ less-requires c κs =
           (within-abs (s .args .size) (s .pre .mixed-in .steep .size-in))),
     )
 
+-- the moments that are spoken of below
+abbrev start-by-less : tie.After-less → tie.Start
+start-by-less c = c .before .before .before .before
+
+abbrev start-by-barren : tie.After-barren → tie.Start
+start-by-barren c = c .before .before .before .before .before .before .before .before .before
+
 -- what the comparison said
-less-is : (c : tie.After-less) → c .less .result ≡ lessMixed (c .before .before .before .before .args .b)
-    (sharedBy (c .before .before .before .before .args .f) (natAbs (c .before .before .before .before .args .size))
-    (natAbs (c .before .before .before .before .args .rate)))
-less-is c = c .less .ensures ∙ ap (lessMixed (c .before .before .before .before .args .b)) (promise (c .before))
+less-is : (c : tie.After-less) → c .less .result ≡ lessMixed (start-by-less c .args .b)
+    (sharedBy (start-by-less c .args .f) (natAbs (start-by-less c .args .size)) (natAbs (start-by-less c .args .rate)))
+less-is c = c .less .ensures ∙ ap (lessMixed (start-by-less c .args .b)) (promise (c .before))
 
 barren-requires : tie.Need-barren-requires
 barren-requires c κs =
@@ -64,25 +70,22 @@ barren-requires c κs =
     rw (within-back tt (s .pre .mixed-in .steep .worth-in), toZ-ofZ (s .fits .rate), toZ-ofZ (s .fits .size), within-back tt (s .pre .mixed-in .room-in))
     (s .pre .tame, (s .pre .mixed-in .steep, s .pre .mixed-in .room-in))
 
-barren-is : (c : tie.After-barren) → c .barren .result ≡ barrenBy (c .before .before .before .before .before .before .before .before .before .args .l)
+barren-is : (c : tie.After-barren) → c .barren .result ≡ barrenBy (start-by-barren c .args .l)
     (record {
-      worth = c .before .before .before .before .before .before .before .before .before .args .f .worth;
-      rate =
-          c .before .before .before .before .before .before .before .before .before .args .rate;
-      size =
-          c .before .before .before .before .before .before .before .before .before .args .size;
+      worth = start-by-barren c .args .f .worth;
+      rate = c .before .before .before .before .before .before .before .before .before .args .rate;
+      size = c .before .before .before .before .before .before .before .before .before .args .size;
     })
-    (c .before .before .before .before .before .before .before .before .before .args .f .room)
-    (c .before .before .before .before .before .before .before .before .before .args .b .whole)
+    (start-by-barren c .args .f .room)
+    (start-by-barren c .args .b .whole)
 barren-is c =
-    let s = c .before .before .before .before .before .before .before .before .before in
+    let s = start-by-barren c in
     rw (
       within-back tt (s .pre .mixed-in .steep .worth-in),
       toZ-ofZ (s .fits .rate),
       toZ-ofZ (s .fits .size),
       within-back tt (s .pre .mixed-in .room-in),
-      back
-          (s .args .b .whole) (c .before .struct-told3 .given .0 .1),
+      back (s .args .b .whole) (c .before .struct-told3 .given .0 .1),
     ) at (c .barren .ensures)
 
 -- the relaxation promises more

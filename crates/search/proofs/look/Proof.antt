@@ -43,16 +43,31 @@ first-paired-requires c κs =
       ready = s .pre .ready;
       inside = s .pre .started .inside;
       from-in = s .pre .from-in;
-      unpaired =
-          s .pre .passed .unpaired;
+      unpaired = s .pre .passed .unpaired;
     }
 
+-- the moments that are spoken of below
+abbrev after-a : tie.After-by-side Inv-loop μ-loop → tie.After-a Inv-loop μ-loop
+after-a c = c .before .before .before .before
+
+abbrev after-by-side2-by-else1 : tie.Else1 Inv-loop μ-loop → tie.After-by-side2 Inv-loop μ-loop
+after-by-side2-by-else1 c = c .before .before .before .before
+
+abbrev after-by-side2-by-else2 : tie.Else2 Inv-loop μ-loop → tie.After-by-side2 Inv-loop μ-loop
+after-by-side2-by-else2 c = c .before .before .before .before .before
+
+abbrev in-loop : tie.After-by-side Inv-loop μ-loop → tie.In-loop Inv-loop μ-loop
+in-loop c = c .before .before .before .before .before
+
+abbrev start : tie.After-first-paired Inv-loop μ-loop → tie.Start Inv-loop μ-loop
+start c = c .before .before .before .before
+
 -- no level above the first that is looked at is paired
-least : (c : tie.After-first-paired Inv-loop μ-loop) → c .before .before .before .before .args .from ≤ c .first-paired .result
+least : (c : tie.After-first-paired Inv-loop μ-loop) → start c .args .from ≤ c .first-paired .result
 least c = go (decLt m (s .args .from))
   where
     s : tie.Start Inv-loop μ-loop
-    s = c .before .before .before .before
+    s = start c
 
     m : ℕ
     m = c .first-paired .result
@@ -70,7 +85,7 @@ fixed-in-requires c κs =
 loop-holds : tie.Need-loop-holds Inv-loop μ-loop
 loop-holds c =
     let f = c .before .before .before in
-    let s = f .before .before .before .before in
+    let s = start f in
     (s .pre .from-in, (c .fixed-in .ensures, (least f, s .pre .passed .uncut)))
 
 mul-a : tie.Need-mul-a Inv-loop μ-loop
@@ -101,10 +116,10 @@ by-side-requires : tie.Need-by-side-requires Inv-loop μ-loop
 by-side-requires c κs = tt
 
 mul-by-side-2 : tie.Need-mul-by-side-2 Inv-loop μ-loop
-mul-by-side-2 c = record { fits = omega (arith, d<16 (c .before .before .before .before .before)) }
+mul-by-side-2 c = record { fits = omega (arith, d<16 (in-loop c)) }
 
 element-copy-out-by-side-2 : tie.Need-element-copy-out-by-side-2 Inv-loop μ-loop
-element-copy-out-by-side-2 c = d<16 (c .before .before .before .before .before)
+element-copy-out-by-side-2 c = d<16 (in-loop c)
 
 by-side-requires-2 : tie.Need-by-side-requires-2 Inv-loop μ-loop
 by-side-requires-2 c κs = tt
@@ -127,7 +142,7 @@ low-is c =
     let d = l .loop .d in
     let b = c .before .before in
     rw (
-      back (at (s .args .t .place) d) (b .before .before .before .before .a .given),
+      back (at (s .args .t .place) d) (after-a b .a .given),
       back (at (s .args .t .starts) d) (b .before .before .before .b .given),
       back (at (s .args .t1 .low) d) (b .before .by-side-arg .given),
     ) at (b .by-side .ensures)
@@ -141,7 +156,7 @@ high-is c =
     let d = l .loop .d in
     let b = c .before .before in
     rw (
-      back (at (s .args .t .place) d) (b .before .before .before .before .a .given),
+      back (at (s .args .t .place) d) (after-a b .a .given),
       back (at (s .args .t .starts) d) (b .before .before .before .b .given),
       back (at (s .args .t1 .high) d) (c .before .by-side-arg2 .given),
     ) at (c .by-side2 .ensures)
@@ -197,8 +212,7 @@ cut-requires c κs =
 passed : (l : tie.At-loop Inv-loop μ-loop) (d : ℕ) → d ≤ l .loop .d → Passed (Of l .args .t1) (Of l .args .p) (Of l .args .t) (Of l .args .best) d
 passed l d h = record {
   uncut = λ i g. l .loop .inv .1 .1 .1 i (omega arith);
-  unpaired =
-      λ i g. l .before .before .before .before .first-paired .ensures .before i (omega (arith, l .loop .inv .1 .1 .0));
+  unpaired = λ i g. l .before .before .before .before .first-paired .ensures .before i (omega (arith, l .loop .inv .1 .1 .0));
 }
 
 -- whether the run of the level is cut
@@ -224,7 +238,7 @@ add-t51 c = record { fits = omega (arith, d<16 (Round (c .before .before .before
 returns-2 : tie.Need-returns-2 Inv-loop μ-loop
 returns-2 c =
     let e = c .before in
-    let i = Round (e .before .before .before .before) in
+    let i = Round (after-by-side2-by-else1 e) in
     let l = i .before in
     let s = Of l in
     let f = l .before .before .before .before .first-paired in
@@ -242,40 +256,39 @@ returns-2 c =
     )
 
 mul-a-2 : tie.Need-mul-a-2 Inv-loop μ-loop
-mul-a-2 c = record { fits = omega (arith, item (Round (c .before .before .before .before .before))) }
+mul-a-2 c = record { fits = omega (arith, item (Round (after-by-side2-by-else2 c))) }
 
 element-set-from-a : tie.Need-element-set-from-a Inv-loop μ-loop
-element-set-from-a c = item (Round (c .before .before .before .before .before))
+element-set-from-a c = item (Round (after-by-side2-by-else2 c))
 
 mul-a-3 : tie.Need-mul-a-3 Inv-loop μ-loop
-mul-a-3 c = record { fits = omega (arith, item (Round (c .before .before .before .before .before))) }
+mul-a-3 c = record { fits = omega (arith, item (Round (after-by-side2-by-else2 c))) }
 
 element-set-from-a-2 : tie.Need-element-set-from-a-2 Inv-loop μ-loop
-element-set-from-a-2 c = item (Round (c .before .before .before .before .before))
+element-set-from-a-2 c = item (Round (after-by-side2-by-else2 c))
 
 add-d : tie.Need-add-d Inv-loop μ-loop
-add-d c = record { fits = omega (arith, d<16 (Round (c .before .before .before .before .before))) }
+add-d c = record { fits = omega (arith, d<16 (Round (after-by-side2-by-else2 c))) }
 
 loop-less : tie.Need-loop-less Inv-loop μ-loop
-loop-less c = let i = Round (c .before .before .before .before .before) in omega (arith, i .loop-test .taken)
+loop-less c = let i = Round (after-by-side2-by-else2 c) in omega (arith, i .loop-test .taken)
 
 -- ends written twice are those written last
 rewritten : (e : Ends) (k : ℕ) (l h u : ℤ) → spanned (spanned e k l h) k u u ≡ spanned e k u u
 rewritten e k l h u = ap₂ (λ (x y : List ℤ). record { lo = x; hi = y }) (set-set (e .lo) k l u) (set-set (e .hi) k h u)
 
 -- so does the level itself
-still : (c : tie.Else1 Inv-loop μ-loop) (i : ℕ) → i ≤ Round (c .before .before .before .before) .before .loop .d
-    → Dec (i ≡ Round (c .before .before .before .before) .before .loop .d)
-    → cutAt (Of (Round (c .before .before .before .before) .before) .args .t1) (Of (Round (c .before .before .before .before) .before) .args .t)
-    (Of (Round (c .before .before .before .before) .before) .args .best) i ≡ false
+still : (c : tie.Else1 Inv-loop μ-loop) (i : ℕ) → i ≤ Round (after-by-side2-by-else1 c) .before .loop .d
+    → Dec (i ≡ Round (after-by-side2-by-else1 c) .before .loop .d) → cutAt (Of (Round (after-by-side2-by-else1 c) .before) .args .t1)
+    (Of (Round (after-by-side2-by-else1 c) .before) .args .t) (Of (Round (after-by-side2-by-else1 c) .before) .args .best) i ≡ false
 still c i h (yes e) = rw e (sym (cut-is (c .before)) ∙ c .if1 .left)
-still c i h (no e) = Round (c .before .before .before .before) .before .loop .inv .1 .1 .1 i (omega (arith, e))
+still c i h (no e) = Round (after-by-side2-by-else1 c) .before .loop .inv .1 .1 .1 i (omega (arith, e))
 
 loop-again : tie.Need-loop-again Inv-loop μ-loop
 unfolding fixedIn
 loop-again c =
     let u = c .before in
-    let b = u .before .before .before .before in
+    let b = after-by-side2-by-else1 u in
     let i = Round b in
     let l = i .before in
     let s = Of l in

@@ -67,15 +67,17 @@ worth-less c =
       within-back tt (own-rate-in s),
     ) at (c .if3 .left)
 
+-- the moments that are spoken of below
+abbrev then1 : tie.Else3 → tie.Then1
+then1 c = c .before .before .before .before .before .before .before .before
+
 mixed-bound-requires : tie.Need-mixed-bound-requires
 mixed-bound-requires c κs =
     let s = S c in
     rw (toZ-ofZ (s .fits .size), toZ-ofZ (s .fits .rate)) (record {
       strides-in = s .pre .strides-in;
-      stride≥1 = yes-lt
-          (strides (c .before .before .before .before .before .before .before .before));
-      steep =
-          s .pre .steep;
+      stride≥1 = yes-lt (strides (then1 c));
+      steep = s .pre .steep;
       room≥0 = s .pre .room≥0;
       room-in = s .pre .room-in;
     })
@@ -98,7 +100,7 @@ returns-3 c =
     let b = c .before in
     let t = b .before in
     rw (
-      strides (t .before .before .before .before .before .before .before .before),
+      strides (then1 t),
       le-ltb _ _ (t .before .before .before .before .before .if2 .left),
       worth-less t,
     ) (ap not (c .less .ensures ∙ ap (lessMixed (S t .args .b)) (bound-is b)))

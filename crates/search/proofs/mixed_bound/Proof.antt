@@ -83,8 +83,7 @@ ceil-div-requires c κs =
     let d = c .before .before in
     let s = S d in
     rw (toZ-ofZ (s .fits .size)) (
-      subst (λ z. Within 1000000000000000000 (toZ w64 (ofZ w64 z))) (sym (cost-is d))
-          (rw (within-back tt (cost-in s)) (within-more (omega arith) (cost-in s))),
+      subst (λ z. Within 1000000000000000000 (toZ w64 (ofZ w64 z))) (sym (cost-is d)) (rw (within-back tt (cost-in s)) (within-more (omega arith) (cost-in s))),
       nonzero (s .args .size) (s .pre .steep .size≥1),
     )
 
@@ -103,8 +102,7 @@ module _ (c : tie.After-ceil-div) where
   fill-is : _≡_ {A = Fill} (record {
     at = 0;
     room = toZ w64 (ofZ w64 (toZ w64 (ofZ w64 (S F .args .f .room)) -ℤ toZ w64 (ofZ w64 (product F))));
-    worth = toZ w64
-        (ofZ w64 (toZ w64 (ofZ w64 (S F .args .f .worth)) +ℤ toZ w64 (ofZ w64 (c .ceil-div .result))));
+    worth = toZ w64 (ofZ w64 (toZ w64 (ofZ w64 (S F .args .f .worth)) +ℤ toZ w64 (ofZ w64 (c .ceil-div .result))));
   })
       (strideFill (S F .args .m) (S F .args .f) (S F .args .size) (S F .args .rate))
   fill-is = ap₂ (λ (x y : ℤ). record { at = 0; room = x; worth = y }) (ap (λ z. toZ w64 (ofZ w64 z)) (rest-is F) ∙ within-back tt (rest-in (S F)))

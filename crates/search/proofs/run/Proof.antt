@@ -41,8 +41,7 @@ step-requires c κs =
     let v = l .loop .inv in
     record {
       ready = l .before .before .before .pre;
-      started =
-          v .0 .started;
+      started = v .0 .started;
       proper = v .0 .good .proper;
       from-in = v .1 .0 .from-in;
       passed = v .1 .0 .passed;

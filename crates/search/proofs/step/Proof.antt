@@ -45,16 +45,21 @@ goal c = pastOf (c .before .before .before .before .before .before .before .look
     (at (c .before .before .before .before .before .before .before .before .before .before .args .q .path .starts))
     (at (c .before .before .before .before .before .before .before .before .before .before .args .q .path .place))
 
+-- the moments that are spoken of below
+abbrev after-look : tie.After-known-told → tie.After-look
+after-look c = c .before .before .before .before .before .before .before .before .before .before
+
+abbrev start : tie.After-known-told → tie.Start
+start c = c .before .before .before .before .before .before .before .before .before .before .before .before .before
+
 module _ (c : tie.After-known-told) where
   went : goal (c .before .before .before) ≡ some (c .before .o .given .0 .0, c .before .o .given .0 .1 .0)
   went = moved-at (goal (c .before .before .before)) (c .before .o .given .0 .0) (c .before .o .given .0 .1 .0)
       (sym (c .before .o .given .1) ∙ c .before .before .before .past .ensures)
 
-  moves : MoveIn (c .before .before .before .before .before .before .before .before .before .before .before .before .before .args .s)
-      (c .before .before .before .before .before .before .before .before .before .before .look .result .settled) (c .before .o .given .0 .0)
-      (c .before .o .given .0 .1 .0)
+  moves : MoveIn (start c .args .s) (after-look c .look .result .settled) (c .before .o .given .0 .0) (c .before .o .given .0 .1 .0)
   moves =
-      let k = c .before .before .before .before .before .before .before .before .before .before in
+      let k = after-look c in
       let s = k .before .before .before in
       let w = k .look .result .settled in
       move-in (s .args .s) (s .pre .ready .setting) (s .pre .started .long) (at (s .args .q .path .place)) (s .pre .started .inside) w (settled-in k)
@@ -62,10 +67,8 @@ module _ (c : tie.After-known-told) where
       (sym (past-started (s .args .s) (s .args .q .path) w (s .pre .started) (settled-in k)) ∙ went)
 
   -- the move can be made
-  move-in-range : MoveInRange (c .before .before .before .before .before .before .before .before .before .before .before .before .before .args .s)
-      (c .before .before .before .before .before .before .before .before .before .before .before .before .before .args .q .path) (c .before .o .given .0 .0)
-      (c .before .o .given .0 .1 .0)
-  move-in-range = let s = c .before .before .before .before .before .before .before .before .before .before .before .before .before in
+  move-in-range : MoveInRange (start c .args .s) (start c .args .q .path) (c .before .o .given .0 .0) (c .before .o .given .0 .1 .0)
+  move-in-range = let s = start c in
       record { ready = s .pre .ready .setting; started = s .pre .started; level-in = moves .level-in; low = moves .low; high = moves .high }
 
 move-to-requires : tie.Need-move-to-requires
@@ -126,8 +129,7 @@ onward : (f : tie.After-fresh) (r : Path) → Dived
     (record {
       path = r;
       best = Told f .before .before .before .before .before .before .before .before .before .before .look .result .best;
-      steps =
-          Told f .before .before .before .before .before .before .before .before .counted .result;
+      steps = Told f .before .before .before .before .before .before .before .before .counted .result;
       from = f .fresh .result;
       done = false;
     })

@@ -28,16 +28,26 @@ returns c =
     let t = rw (f, within-back tt (sized s .room-in)) at (c .if1 .taken) in
     record { best-is = rw t; better-is = rw t }
 
-not-empty : (c : tie.Else1) → ltZ (fill (c .before .before .before .before .args .c) (c .before .before .before .before .args .e) .room) (pos 0) ≡ false
+-- the moments that are spoken of below
+abbrev start-by-else1 : tie.Else1 → tie.Start
+start-by-else1 c = c .before .before .before .before
+
+abbrev start-by-bound-of : tie.After-bound-of → tie.Start
+start-by-bound-of c = c .before .before .before .before .before
+
+abbrev start-by-less : tie.After-less → tie.Start
+start-by-less c = c .before .before .before .before .before .before .before .before
+
+not-empty : (c : tie.Else1) → ltZ (fill (start-by-else1 c .args .c) (start-by-else1 c .args .e) .room) (pos 0) ≡ false
 not-empty c =
-    let s = c .before .before .before .before in
+    let s = start-by-else1 c in
     rw (c .before .before .before .fill-up .ensures, within-back tt (sized s .room-in)) at (c .if1 .left)
 
 bound-of-requires : tie.Need-bound-of-requires
-bound-of-requires c κs = let s = c .before .before .before .before in rw (c .before .before .before .fill-up .ensures) (sized s)
+bound-of-requires c κs = let s = start-by-else1 c in rw (c .before .before .before .fill-up .ensures) (sized s)
 
-bound-is : (c : tie.After-bound-of) → c .bound-of .result ≡ bound (c .before .before .before .before .before .args .c)
-    (fill (c .before .before .before .before .before .args .c) (c .before .before .before .before .before .args .e))
+bound-is : (c : tie.After-bound-of) → c .bound-of .result ≡ bound (start-by-bound-of c .args .c)
+    (fill (start-by-bound-of c .args .c) (start-by-bound-of c .args .e))
 bound-is c = rw (c .before .before .before .before .fill-up .ensures) at (c .bound-of .ensures)
 
 less-requires : tie.Need-less-requires
@@ -55,11 +65,9 @@ not-false : (b : Bool) → not b ≡ false → b ≡ true
 not-false true h = refl
 not-false false h = sym h
 
-compared : (c : tie.After-less) → c .less .result ≡ lessMixed (c .before .before .before .before .before .before .before .before .args .best .value)
-    (bound (c .before .before .before .before .before .before .before .before .args .c)
-    (fill (c .before .before .before .before .before .before .before .before .args .c)
-    (c .before .before .before .before .before .before .before .before .args .e)))
-compared c = c .less .ensures ∙ ap (λ v. lessMixed (c .before .before .before .before .before .before .before .before .args .best .value) v)
+compared : (c : tie.After-less) → c .less .result ≡ lessMixed (start-by-less c .args .best .value)
+    (bound (start-by-less c .args .c) (fill (start-by-less c .args .c) (start-by-less c .args .e)))
+compared c = c .less .ensures ∙ ap (λ v. lessMixed (start-by-less c .args .best .value) v)
     (bound-is (c .before .before .before))
 
 returns-2 : tie.Need-returns-2
@@ -79,8 +87,7 @@ returns-3 c =
     record {
       best-is = rw (not-empty (t .before .before), t .if2 .taken, l) (ap (λ v. record {
         found = true;
-        place =
-            t .before .before .before .before .before .before .args .x;
+        place = t .before .before .before .before .before .before .args .x;
         value = v;
       }) (bound-is (t .before)));
       better-is = rw (not-empty (t .before .before), t .if2 .taken, l);
@@ -91,8 +98,7 @@ unfolding triedBy betterBy
 returns-4 c = record {
   best-is = rw (not-empty (c .before .before), c .if2 .left) (ap (λ v. record {
     found = true;
-    place =
-        c .before .before .before .before .before .before .args .x;
+    place = c .before .before .before .before .before .before .args .x;
     value = v;
   }) (bound-is (c .before)));
   better-is = rw (not-empty (c .before .before), c .if2 .left);

@@ -70,8 +70,7 @@ whole-is c =
     let e = rw (
       within-back tt (s .pre .sized .columns .weights-in k),
       within-back tt (s .pre .sized .columns .prices-in k),
-      within-back tt
-          (s .pre .sized .ends .lo-in k),
+      within-back tt (s .pre .sized .ends .lo-in k),
       within-back tt (s .pre .sized .ends .hi-in k),
     ) at (d .ensures) in
     ap₂ (λ (x y : ℤ). x *ℤ y) (back (d .result) (d .ok) ∙ e) (toZ-pos w64 (omega (arith, s .pre .few)))

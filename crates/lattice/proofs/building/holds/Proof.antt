@@ -29,8 +29,7 @@ rest-requires c κs =
     let s = c .before in
     rw (within-back tt (s .pre .weight-in), within-back tt (s .pre .tame .stride-in))
     (record {
-      dividend-in =
-          within-more (omega arith) (s .pre .weight-in);
+      dividend-in = within-more (omega arith) (s .pre .weight-in);
       divisor-in = within-more (omega arith) (s .pre .tame .stride-in);
       divisor≥1 = s .pre .stride≥1;
     })
@@ -51,6 +50,10 @@ floor-div-requires c κs =
     rw (within-back tt (s .pre .weight-in), within-back tt (s .pre .tame .stride-in))
     (within-more (omega arith) (s .pre .weight-in), nonzero (s .args .l .stride) (s .pre .stride≥1))
 
+-- the moments that are spoken of below
+abbrev start : tie.After-floor-div → tie.Start
+start c = c .before .before .before .before
+
 -- the slant times the strides, as the locals hold them
 multiple : (c : tie.After-floor-div) → toZ w64 (ofZ w64 (c .before .before .before .before .args .l .slant)) *ℤ toZ w64 (ofZ w64 (c .floor-div .result))
     ≡ c .before .before .before .before .args .l .slant *ℤ S (c .before .before .before .before)
@@ -60,18 +63,18 @@ multiple c =
     rw (within-back tt (s .pre .tame .slant-in), back (c .floor-div .result) (c .floor-div .ok), e)
 
 mul-z : tie.Need-mul-z
-mul-z c = let f = c .before .before in rw (multiple f) (within-sfits (lit< tt) (product (f .before .before .before .before)))
+mul-z c = let f = c .before .before in rw (multiple f) (within-sfits (lit< tt) (product (start f)))
 
 sub-z : tie.Need-sub-z
 sub-z c =
     let f = c .before .before in
-    let s = f .before .before .before .before in
+    let s = start f in
     rw (multiple f, within-back tt (product s), within-back tt (s .pre .price-in)) (within-sfits (lit< tt) (over s))
 
 rest-requires-2 : tie.Need-rest-requires-2
 rest-requires-2 c κs =
     let f = c .before .before .before in
-    let s = f .before .before .before .before in
+    let s = start f in
     rw (multiple f, within-back tt (product s), within-back tt (s .pre .price-in), within-back tt (over s), within-back tt (s .pre .tame .gap-in))
     (record { dividend-in = within-more (omega arith) (over s); divisor-in = s .pre .tame .gap-in; divisor≥1 = s .pre .tame .gap≥1 })
 
@@ -79,7 +82,7 @@ returns-2 : tie.Need-returns-2
 unfolding holdsBy
 returns-2 c =
     let f = c .before .before .before .before in
-    let s = f .before .before .before .before in
+    let s = start f in
     let k = rw (left (f .before .before)) at (f .before .if1 .left) in
     let e = rw (multiple f, within-back tt (product s), within-back tt (s .pre .price-in), within-back tt (over s), within-back tt (s .pre .tame .gap-in)) at
     (c .rest2 .ensures) in

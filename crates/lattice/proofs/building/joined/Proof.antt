@@ -37,8 +37,7 @@ steps c =
     let i = a .loop .inv .0 in
     record {
       first = i .0;
-      second =
-          i .1;
+      second = i .1;
       weight≥1 = yes-lt (rw (within-back tt (i .1 .weight-in)) at (c .if1 .taken));
       gap-in = a .before .before .before .pre .0 .joined .gap-in;
     }
@@ -56,8 +55,7 @@ loop-less c =
       arith,
       from-lt (rest-high (a .loop .x .weight) (a .loop .y .weight) (r .weight≥1)),
       above-dn (u .weight≥0),
-      above-dn
-          (i .1 .weight≥0),
+      above-dn (i .1 .weight≥0),
     ))
 
 loop-again : tie.Need-loop-again Inv-loop μ-loop
@@ -69,8 +67,7 @@ loop-again c =
     let y = rw (within-back tt (r .second .weight-in)) at (t .if1 .taken) in
     rw (c .reduced .ensures, within-back tt (r .gap-in)) (
       (r .second, reduced-upright (a .loop .x) (a .loop .y) g r),
-      rw (within-back tt (r .gap-in)) at
-          (reaches-step _ _ (a .loop .x) (a .loop .y) (r .second) y (a .loop .inv .1)),
+      rw (within-back tt (r .gap-in)) at (reaches-step _ _ (a .loop .x) (a .loop .y) (r .second) y (a .loop .inv .1)),
     )
 
 returns : tie.Need-returns Inv-loop μ-loop

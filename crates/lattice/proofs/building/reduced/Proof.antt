@@ -53,29 +53,34 @@ rest-requires c κs =
     rw (within-back tt (s .pre .first .weight-in), within-back tt (s .pre .second .weight-in))
     (record {
       dividend-in = within-more (omega arith) (s .pre .first .weight-in);
-      divisor-in =
-          within-more (omega arith) (s .pre .second .weight-in);
+      divisor-in = within-more (omega arith) (s .pre .second .weight-in);
       divisor≥1 = s .pre .weight≥1;
     })
 
+-- the moments that are spoken of below
+abbrev after-floor-div : tie.After-rest → tie.After-floor-div
+after-floor-div c = c .before .before .before .before .before
+
+abbrev start : tie.After-rest → tie.Start
+start c = c .before .before .before .before .before .before .before .before
+
 tame-requires : tie.Need-tame-requires
 tame-requires c κs =
-    let f = c .before .before .before .before .before in
+    let f = after-floor-div c in
     let s = f .before .before .before in
     rw (multiple f, within-back tt (product s), within-back tt (s .pre .first .worth-in), within-back tt (worth s), within-back tt (s .pre .gap-in))
     (within-more (omega arith) (worth s), s .pre .gap-in)
 
 -- what the weight leaves, as the local holds it
-left : (c : tie.After-rest) → toZ w64 (ofZ w64 (c .rest .result)) ≡ restOf (c .before .before .before .before .before .before .before .before .args .u .weight)
-    (c .before .before .before .before .before .before .before .before .args .v .weight)
+left : (c : tie.After-rest) → toZ w64 (ofZ w64 (c .rest .result)) ≡ restOf (start c .args .u .weight) (start c .args .v .weight)
 left c =
-    let s = c .before .before .before .before .before .before .before .before in
+    let s = start c in
     rw (back (c .rest .result) (c .rest .ok)) (rw (within-back tt (s .pre .first .weight-in), within-back tt (s .pre .second .weight-in)) at (c .rest .ensures))
 
 returns : tie.Need-returns
 returns c =
     let d = c .before in
-    let f = d .before .before .before .before .before in
+    let f = after-floor-div d in
     let s = f .before .before .before in
     let e = rw (multiple f, within-back tt (product s), within-back tt (s .pre .first .worth-in), within-back tt (worth s), within-back tt (s .pre .gap-in)) at
     (c .tame .ensures) in

@@ -34,8 +34,7 @@ burden-of-requires c κs = let i = c .before in let s = i .before .before in (s 
 small : (l : tie.At-loop Inv-loop μ-loop) → l .loop .t ≤ 176000000
 small l = let s = l .before in rw (l .loop .inv .1) (omega (
   arith,
-  burden-small (s .args .t1) (s .pre .0) (s .args .a) (l .loop .k) (s .pre .1)
-      (l .loop .inv .0),
+  burden-small (s .args .t1) (s .pre .0) (s .args .a) (l .loop .k) (s .pre .1) (l .loop .inv .0),
   l .loop .inv .0,
   s .pre .0 .few-items,
 ))

@@ -12,8 +12,7 @@ returns-2 c = let s =
     c .before .before in rw (
       toZ-ofZ (s .fits .u),
       plain-lt (s .fits .x) (s .fits .l) (c .before .if1 .left),
-      plain-lt (s .fits .u) (s .fits .x)
-          (c .if2 .taken),
+      plain-lt (s .fits .u) (s .fits .x) (c .if2 .taken),
     )
 
 returns-3 : tie.Need-returns-3

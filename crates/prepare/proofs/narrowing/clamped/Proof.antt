@@ -37,8 +37,7 @@ end-within-requires : tie.Need-end-within-requires Inv-loop μ-loop
 end-within-requires c κs =
     let s = c .before .before .before .before in (
       s .pre .0,
-      rw (within-back tt (s .pre .1 (c .before .before .before .loop .k)))
-          (s .pre .1 (c .before .before .before .loop .k)),
+      rw (within-back tt (s .pre .1 (c .before .before .before .loop .k))) (s .pre .1 (c .before .before .before .loop .k)),
     )
 
 mul-to : tie.Need-mul-to Inv-loop μ-loop

@@ -47,8 +47,7 @@ module _ (c : tie.After-magnitude) where
     capacity-is,
     S .pre .capacity-in,
     burden-is,
-    burden-small (S .args .p) (S .pre) (mostOf (S .args .p) (S .args .p .count) .weight)
-        (S .args .p .count) (weight≤ S) (omega arith),
+    burden-small (S .args .p) (S .pre) (mostOf (S .args .p) (S .args .p .count) .weight) (S .args .p .count) (weight≤ S) (omega arith),
     S .pre .few-items,
   )
 
@@ -73,8 +72,7 @@ returns c =
     let d = c .before in
     ap₂ (λ (n t : ℕ). record {
       weight = n + t + d .before .before .before .most-of .result .weight;
-      amount =
-          d .before .before .before .most-of .result .bound + d .before .before .before .most-of .result .weight;
+      amount = d .before .before .before .most-of .result .bound + d .before .before .before .most-of .result .weight;
     }) (capacity-is d) (burden-is d)
     ∙ ap (λ (m : Most). record {
       weight = natAbs (S d .args .p .capacity) + burdenOf (S d .args .p) (mostOf (S d .args .p) (S d .args .p .count) .weight)

@@ -28,11 +28,14 @@ divisor-is c = c .larger-of .ensures ∙ ap (larger 1) (size-is (c .before))
 div-result : tie.Need-div-result
 div-result c = omega (arith, divisor-is (c .before), larger-left 1 (natAbs (c .before .before .before .args .a)))
 
+-- the moments that are spoken of below
+abbrev start : tie.After-struct-known2 → tie.Start
+start c = c .before .before .before .before
+
 -- a span fits
 small : (c : tie.After-struct-known2)
-    → c .before .before .before .before .args .r .amount + c .before .before .before .before .args .r .weight / c .before .before .larger-of .result + 1 ≤
-    farthest
-small c = let s = c .before .before .before .before in omega (
+    → start c .args .r .amount + c .before .before .before .before .args .r .weight / c .before .before .larger-of .result + 1 ≤ farthest
+small c = let s = start c in omega (
   arith,
   div-le-self (s .args .r .weight) (c .before .before .larger-of .result),
   s .pre .0 .weight-in,
@@ -46,7 +49,7 @@ add-result-2 : tie.Need-add-result-2
 add-result-2 c = record { fits = omega (arith, small c) }
 
 returns : tie.Need-returns
-returns c = let r = c .before .before .before .before .args .r in (ap (λ d. r .amount + r .weight / d + 1) (divisor-is (c .before .before)), small c)
+returns c = let r = start c .args .r in (ap (λ d. r .amount + r .weight / d + 1) (divisor-is (c .before .before)), small c)
 
 pub span-of-spec : {M : Type 1} → statement M
 span-of-spec =

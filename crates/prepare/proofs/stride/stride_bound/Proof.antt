@@ -82,10 +82,8 @@ returns-2 c =
     let u = l .leading .result in
     record {
       first = u;
-      leads =
-          l .leading .ensures;
-      is =
-          rw (up (c .before), lt-ltb u (s .args .p .count) (c .before .before .if1 .taken), le-ltb u (s .args .t2 .live) (c .if2 .left));
+      leads = l .leading .ensures;
+      is = rw (up (c .before), lt-ltb u (s .args .p .count) (c .before .before .if1 .taken), le-ltb u (s .args .t2 .live) (c .if2 .left));
     }
 
 no-stride-bound-requires : tie.Need-no-stride-bound-requires

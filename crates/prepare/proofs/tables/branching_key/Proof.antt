@@ -27,8 +27,12 @@ integer c = sym (c .before .is-integer .ensures) ∙ c .if1 .taken
 is-zero : (a : ℤ) → natAbs a ≡ 0 → a ≡ pos 0
 is-zero = split _ (λ a b. simp zed (omega arith))
 
-weighs : (c : tie.Else2) → eqb (natAbs (c .before .before .before .before .args .i .weight)) 0 ≡ false
-weighs c = let s = c .before .before .before .before in ne-eqb (natAbs (s .args .i .weight)) 0
+-- the moments that are spoken of below
+abbrev start : tie.Else2 → tie.Start
+start c = c .before .before .before .before
+
+weighs : (c : tie.Else2) → eqb (natAbs (start c .args .i .weight)) 0 ≡ false
+weighs c = let s = start c in ne-eqb (natAbs (s .args .i .weight)) 0
     (λ e. c .if2 .left (ap (ofZ w64) (is-zero (s .args .i .weight) e)))
 
 key-item-requires : tie.Need-key-item-requires
@@ -43,7 +47,7 @@ returns c =
 
 reduced-price-requires : tie.Need-reduced-price-requires
 reduced-price-requires c κs =
-    let s = c .before .before .before .before in
+    let s = start c in
     rw (within-back tt (s .pre .1 .price), within-back tt (s .pre .1 .weight)) (s .pre)
 
 -- what the function was given
@@ -93,8 +97,7 @@ returns-2 c =
       price (b .before),
       within-back tt (counted-within i (s .pre .0) (s .args .p) (s .args .q) (s .pre .1)),
       size b,
-      within-back tt
-          (weighted-within i (s .pre .0) (s .args .p) (s .args .q) (s .pre .1)),
+      within-back tt (weighted-within i (s .pre .0) (s .args .p) (s .args .q) (s .pre .1)),
     ) at (c .key-item2 .ensures))
 
 key-item-requires-3 : tie.Need-key-item-requires-3

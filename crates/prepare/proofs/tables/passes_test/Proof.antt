@@ -32,8 +32,7 @@ returns c =
     let s = c .before .before .before .before .before in
     rw (c .before .before .before .enum-told .given .1) (rw (
       within-back tt (weight-within (s .args .i) (s .pre)),
-      within-back tt
-          (price-within (s .args .i) (s .pre)),
+      within-back tt (price-within (s .args .i) (s .pre)),
     ) at (c .is-live .ensures))
 
 returns-2 : tie.Need-returns-2

@@ -25,8 +25,7 @@ module _ (s : tie.Start) where
     gain,
     cost,
     within-back tt (gain-within (s .args .i) (s .pre .0) (s .args .p) (s .args .q) (s .pre .1)),
-    within-back tt
-        (cost-within (s .args .i) (s .pre .0) (s .args .p) (s .args .q) (s .pre .1)),
+    within-back tt (cost-within (s .args .i) (s .pre .0) (s .args .p) (s .args .q) (s .pre .1)),
   )
 
 mul-absolute : tie.Need-mul-absolute
@@ -34,19 +33,23 @@ mul-absolute c =
     let s = c .before .before in
     rw (gain s) (within-sfits (lit< tt) (gain-within (s .args .i) (s .pre .0) (s .args .p) (s .args .q) (s .pre .1)))
 
+-- the moments that are spoken of below
+abbrev start : tie.After-struct-told2 → tie.Start
+start c = c .before .before .before .before
+
 mul-absolute-2 : tie.Need-mul-absolute-2
 mul-absolute-2 c =
-    let s = c .before .before .before .before in
+    let s = start c in
     rw (cost s) (within-sfits (lit< tt) (cost-within (s .args .i) (s .pre .0) (s .args .p) (s .args .q) (s .pre .1)))
 
 sub-absolute : tie.Need-sub-absolute
 sub-absolute c =
-    let s = c .before .before .before .before in
+    let s = start c in
     rw (difference s) (within-sfits (lit< tt) (reduced-within (s .args .i) (s .pre .0) (s .args .p) (s .args .q) (s .pre .1)))
 
 absolute-requires : tie.Need-absolute-requires
 absolute-requires c κs =
-    let s = c .before .before .before .before in
+    let s = start c in
     let w = reduced-within (s .args .i) (s .pre .0) (s .args .p) (s .args .q) (s .pre .1) in
     rw (difference s, within-back tt w) (within-more (omega arith) w)
 
