@@ -97,4 +97,6 @@ printing-short m r =
     let few = upto-length (m .count) (itemAt m) in
     let short = items-short (m .count) (itemAt m) (r .figures) in
     let i = section-short itemForm items 24 (upTo (m .count) (itemAt m)) refl (omega (arith, r .most)) short in
-    simp length-append (omega (arith, simp length-append at l, simp length-append at i, simp length-append at (side-short Lower m r), simp length-append at (side-short Upper m r), r .most))
+    let x = simp length-append at (side-short Lower m r) in
+    let y = simp length-append at (side-short Upper m r) in
+    simp length-append (omega (arith, simp length-append at l, simp length-append at i, r .most))

@@ -41,10 +41,11 @@ use Rattle.sheet.specs.Sections.{goesOn, refusedAt, linesText, sectionTe
 use Rattle.sheet.specs.Reading.{limit, items, wordOf, limitForm, itemForm, boundForm, limitSection, itemsSection, boundsSection, endOfSheet}
 use Rattle.sheet.specs.Reading.{crossFrom, crossOf, crossCheck, headOf, lowerOf, upperOf, tailOf, wholeOf, readSheet}
 use Rattle.sheet.specs.Printing.{upTo, boundAt, boundsUpTo, sideText, printing, Tidy, SheetOf}
-use Rattle.sheet.proofs.Sections.{no-refusal, went, section-before, section-read, Fitting, Back, section-back}
+use Rattle.sheet.proofs.Sections.{no-refusal, went, section-before, SectionRead, section-read, Fitting, Back, section-back}
 use Rattle.sheet.proofs.Forms.{LimitFits, limit-laws, Bare, bare-same, bare-of, item-laws, BoundFits, bound-laws, fair-side}
 use Rattle.sheet.proofs.Filling.{upto-length, upto-cong, upto-inj, texts-cong, bounds-cong, bounds-skip, bounds-inj, bounds-few}
-use Rattle.sheet.proofs.Filling.{limited, Limited, limit-next, blanks, ItemsIn, items-next, items-fit, Kept, kept-same, BoundsIn, bounds-next, bounds-fit}
+use Rattle.sheet.proofs.Filling.{limited, Limited, limit-next, blanks, ItemsIn, items-next, items-fit}
+use Rattle.sheet.proofs.Filling.{Kept, kept-same, BoundsIn, bounds-next, bounds-fit}
 use Rattle.sheet.proofs.Lengths.{printing-short}
 use Rattle.sheet.proofs.Crossings.{cross-all, all-cross}
 
@@ -77,7 +78,8 @@ laid-text m b vi vl vu l =
     (let n = m .count in
     let bare : ℕ → Item = λ k. bareOf (itemAt m k) in
     let h = ap (headingText items) (upto-length n (itemAt m) ∙ sym (upto-length n bare)) in
-    ap (λ t. sectionText limitForm limit (m .capacity ∷ []) ++ (t ++ (sideText Lower m ++ sideText Upper m))) (ap₂ _++_ h (texts-cong itemText n (itemAt m) bare (λ k l. refl))))
+    let e = ap₂ _++_ h (texts-cong itemText n (itemAt m) bare (λ k l. refl)) in
+    ap (λ t. sectionText limitForm limit (m .capacity ∷ []) ++ (t ++ (sideText Lower m ++ sideText Upper m))) e)
 
 laid-once : (m o : Model) (b : ℤ) (vi : List Item) (vl vu : List Bounding) → Laid m b vi vl vu → Laid o b vi vl vu → m ≡ o
 laid-once m o b vi vl vu x y =
@@ -149,7 +151,8 @@ kept-bare : (side : Side) (i j : Item) → Kept side i j → bareOf j ≡ bareOf
 kept-bare side i j k = rw (k .mark, k .weight, k .price)
 
 -- the lines of all items are those up to the last that was listed
-bounds-end : (side : Side) (o : Model) (vs : List Bounding) (p : Progress) → BoundsIn side o (length vs) vs p → boundsUpTo (o .count) (boundAt side (p .model)) ≡ vs
+bounds-end : (side : Side) (o : Model) (vs : List Bounding) (p : Progress) → BoundsIn side o (length vs) vs p →
+    boundsUpTo (o .count) (boundAt side (p .model)) ≡ vs
 bounds-end side o vs p g = bounds-skip (p .item) (o .count) (boundAt side (p .model)) (g .rest) (g .within) ∙ g .listed
 
 module _ (b : ℤ) (vi : List Item) (vl vu : List Bounding) (h l u : Progress) (i : ItemsIn b (length vi) vi h)
@@ -177,11 +180,11 @@ module _ (b : ℤ) (vi : List Item) (vl vu : List Bounding) (h l u : Progress) (
       let bare : ℕ → Item = λ k. bareOf (itemAt (u .model) k) in
       let n = counted .0 in
       let e = upto-cong (h .item) bare (itemAt (h .model)) (λ k c. bare-kept k ∙ bare-same (itemAt (h .model) k) (i .bare k c)) in
-      let f = bounds-cong (l .model .count) (boundAt Lower (u .model)) (boundAt Lower (l .model)) (λ k c. lower-kept k) in
+      let f = bounds-cong (h .model .count) (boundAt Lower (u .model)) (boundAt Lower (l .model)) (λ k c. lower-kept k) in
       record {
         limit = y .capacity ∙ x .capacity ∙ i .capacity;
         items = ap (λ n. upTo n bare) n ∙ e ∙ i .listed;
-        lower = ap (λ n. boundsUpTo n (boundAt Lower (u .model))) (counted .1) ∙ f ∙ ap (λ n. boundsUpTo n (boundAt Lower (l .model))) (x .count) ∙ bounds-end Lower (h .model) vl l x;
+        lower = ap (λ n. boundsUpTo n (boundAt Lower (u .model))) (y .count ∙ x .count) ∙ f ∙ bounds-end Lower (h .model) vl l x;
         upper = ap (λ n. boundsUpTo n (boundAt Upper (u .model))) (counted .1) ∙ bounds-end Upper (l .model) vu u y;
         tidy = record { places = y .places; unused = unused-item };
       }
@@ -271,23 +274,36 @@ record Sections (s : List ℕ) : Type 0 where
   upper : BoundsIn Upper (lowerOf s .model) (length vu) vu (upperOf s)
   text : Has s 0 (textOf limit vi vl vu) (upperOf s .at)
 
+side-before : (s : List ℕ) (side : Side) (p : Progress) → boundsSection s side p .verdict ≡ Accepted → p .verdict ≡ Accepted
+unfolding boundsSection
+side-before s side p h = section-before (boundForm side) _ _ _ s p h
+
+side-read : (s : List ℕ) (side : Side) (p : Progress) → p .model .count ≤ 16 → length (p .model .items) ≡ 16 →
+    ((k : ℕ) → boundAt side (p .model) k ≡ Absent) → boundsSection s side p .verdict ≡ Accepted →
+    SectionRead (boundForm side) (BoundsIn side (p .model)) (wordOf side) s 0 (p .model .count) (p .at) (boundsSection s side p)
+unfolding boundsSection
+side-read s side p few size free h =
+    section-read (boundForm side) BoundFits (bound-laws side) (BoundsIn side (p .model)) (bounds-next side (p .model)) (wordOf side) 0 (p .model .count) _
+    s p (word-bytes side) (λ n at x y. bounds-start side (p .model) n at few size free) h
+
 sections : (s : List ℕ) → upperOf s .verdict ≡ Accepted → Sections s
-unfolding upperOf lowerOf headOf limitSection itemsSection boundsSection
+unfolding upperOf lowerOf headOf limitSection itemsSection
 sections s h =
-    let hl = section-before (boundForm Upper) _ _ _ s (lowerOf s) h in
-    let hi = section-before (boundForm Lower) _ _ _ s (headOf s) hl in
+    let hl = side-before s Upper (lowerOf s) h in
+    let hi = side-before s Lower (headOf s) hl in
     let hb = section-before itemForm _ _ _ s (limitSection s) hi in
-    let a = section-read limitForm LimitFits limit-laws Limited limit-next limit 1 1 _ s (goesOn emptyModel 0 0) limit-bytes (λ n at x y. limit-start n at) hb in
+    let a = section-read limitForm LimitFits limit-laws Limited limit-next limit 1 1 _ s (goesOn emptyModel 0 0) limit-bytes
+    (λ n at x y. limit-start n at) hb in
     let o = only (a .values) (a .least) (a .most) in
     let b = o .0 in
     let is : limitSection s .model ≡ withCapacity emptyModel b = a .holds .is ∙ ap limited (o .1) in
-    let i = section-read itemForm (λ p i. Bare i) item-laws (ItemsIn b) (items-next b) items 1 16 _ s (limitSection s) items-bytes (λ n at x y. items-start (limitSection s .model) b n at is y) hi in
+    let i = section-read itemForm (λ p i. Bare i) item-laws (ItemsIn b) (items-next b) items 1 16 _ s (limitSection s) items-bytes
+    (λ n at x y. items-start (limitSection s .model) b n at is y) hi in
     let q = headOf s .model in
     let free : (side : Side) (k : ℕ) → boundAt side q k ≡ Absent = λ side. no-bounds side b (i .values) (headOf s) (i .holds) in
     let few : q .count ≤ 16 = omega (arith, i .most, i .holds .count) in
-    let x = section-read (boundForm Lower) BoundFits (bound-laws Lower) (BoundsIn Lower q) (bounds-next Lower q) (wordOf Lower) 0 (q .count) _ s (headOf s) (word-bytes Lower) (λ n at x y. bounds-start Lower q n at few (i .holds .places) (free Lower)) hl in
-    let r = lowerOf s .model in
-    let y = section-read (boundForm Upper) BoundFits (bound-laws Upper) (BoundsIn Upper r) (bounds-next Upper r) (wordOf Upper) 0 (r .count) _ s (lowerOf s) (word-bytes Upper) (λ n at u v. bounds-start Upper r n at (omega (arith, few, x .holds .count)) (x .holds .places) (λ k. x .holds .same k .other ∙ free Upper k)) h in
+    let x = side-read s Lower (headOf s) few (i .holds .places) (free Lower) hl in
+    let y = side-read s Upper (lowerOf s) (omega (arith, few, x .holds .count)) (x .holds .places) (λ k. x .holds .same k .other ∙ free Upper k) h in
     record {
       limit = b;
       vi = i .values;
@@ -326,7 +342,9 @@ unfolding readSheet wholeOf
 accepted-sheet s m h = go (ltb 4096 (length s)) h
   where
     go : (t : Bool) →
-        _≡_ {A = Reading} (cond t (record { verdict = Refused (told refusal.overlong 0); model = emptyModel }) (record { verdict = wholeOf s .verdict; model = wholeOf s .model })) (record { verdict = Accepted; model = m }) →
+        _≡_ {A = Reading}
+        (cond t (record { verdict = Refused (told refusal.overlong 0); model = emptyModel }) (record { verdict = wholeOf s .verdict; model = wholeOf s .model }))
+        (record { verdict = Accepted; model = m }) →
         SheetOf s m
     go true h = no-refusal (ap (λ (r : Reading). r .verdict) h)
     go false h =
@@ -367,7 +385,8 @@ module _ (m : Model) (r : Unfaulted m) (tidy : Tidy m) where
   limit-back : Back (Limited 1) sheet (sectionText itemForm items vi ++ lower-left) (m .capacity ∷ []) (limitSection sheet)
   unfolding limitSection sheet lower-left upper-left
   limit-back =
-      section-back limitForm LimitFits limit-laws Limited limit-next limit 1 1 _ sheet _ (goesOn emptyModel 0 0) (m .capacity ∷ []) (omega arith) (omega arith) (limit-start 1) ((λ p i. r .capacity), tt) refl refl
+      section-back limitForm LimitFits limit-laws Limited limit-next limit 1 1 _ sheet _ (goesOn emptyModel 0 0) (m .capacity ∷ [])
+      (omega arith) (omega arith) (limit-start 1) ((λ p i. r .capacity), tt) refl refl
 
   items-fits : Fitting (ItemsIn (m .capacity) (length vi)) (λ p i. Bare i) vi
   unfolding vi
@@ -378,7 +397,9 @@ module _ (m : Model) (r : Unfaulted m) (tidy : Tidy m) where
   items-back =
       let l = limit-back in
       let few : length vi ≤ 16 = omega (arith, many, r .most) in
-      let first : (at : ℕ) → ItemsIn (m .capacity) (length vi) [] (goesOn (withCount (limitSection sheet .model) (length vi)) at 0) = λ at. items-start (limitSection sheet .model) (m .capacity) (length vi) at (l .holds .is) few in
+      let o = limitSection sheet .model in
+      let first : (at : ℕ) → ItemsIn (m .capacity) (length vi) [] (goesOn (withCount o (length vi)) at 0)
+      = λ at. items-start o (m .capacity) (length vi) at (l .holds .is) few in
       section-back itemForm (λ p i. Bare i) item-laws (ItemsIn (m .capacity)) (items-next (m .capacity)) items 1 16 _ sheet lower-left
       (limitSection sheet) vi (omega (arith, many, r .least)) few first items-fits (l .accepted) (l .left)
 
@@ -400,7 +421,8 @@ module _ (m : Model) (r : Unfaulted m) (tidy : Tidy m) where
       let n = m .count in
       let vs = boundsUpTo n (boundAt side m) in
       let few = bounds-few n (boundAt side m) in
-      let first : (at : ℕ) → BoundsIn side (p .model) (length vs) [] (goesOn (p .model) at 0) = λ at. bounds-start side (p .model) (length vs) at (omega (arith, c, r .most)) size free in
+      let first : (at : ℕ) → BoundsIn side (p .model) (length vs) [] (goesOn (p .model) at 0)
+      = λ at. bounds-start side (p .model) (length vs) at (omega (arith, c, r .most)) size free in
       let fits = bounds-fit side (p .model) (length vs) n (boundAt side m) (omega (arith, c)) (λ k j. fair-side side (itemAt m k) (r .figures k j)) in
       section-back (boundForm side) BoundFits (bound-laws side) (BoundsIn side (p .model)) (bounds-next side (p .model)) (wordOf side) 0 (p .model .count) _
       sheet l p vs (omega arith) (omega (arith, c, few)) first fits v h
@@ -409,13 +431,15 @@ module _ (m : Model) (r : Unfaulted m) (tidy : Tidy m) where
   unfolding lowerOf bare vl lower-left
   lower-back =
       let i = items-back in
-      side-back Lower upper-left (headOf sheet) (i .accepted) bare-count (i .holds .places) (no-bounds Lower (m .capacity) vi (headOf sheet) (i .holds)) (i .left)
+      let free = no-bounds Lower (m .capacity) vi (headOf sheet) (i .holds) in
+      side-back Lower upper-left (headOf sheet) (i .accepted) bare-count (i .holds .places) free (i .left)
 
   upper-back : Back (BoundsIn Upper (lowerOf sheet .model) (length vu)) sheet [] vu (upperOf sheet)
   unfolding upperOf bare vu upper-left
   upper-back =
       let l = lower-back in
-      let free : (k : ℕ) → boundAt Upper (lowerOf sheet .model) k ≡ Absent = λ k. l .holds .same k .other ∙ no-bounds Upper (m .capacity) vi (headOf sheet) (items-back .holds) k in
+      let free : (k : ℕ) → boundAt Upper (lowerOf sheet .model) k ≡ Absent
+      = λ k. l .holds .same k .other ∙ no-bounds Upper (m .capacity) vi (headOf sheet) (items-back .holds) k in
       side-back Upper [] (lowerOf sheet) (l .accepted) (l .holds .count ∙ bare-count) (l .holds .places) free (l .left ∙ sym (append-nil _))
 
   model-back : upperOf sheet .model ≡ m

@@ -36,15 +36,17 @@ returns c = rw (c .enum-told .given .1)
 returns-2 : tie.Need-returns-2
 unfolding stepOf
 returns-2 c =
-    let k = c .before .before .before .before in
-    rw (k .before .before .enum-told2 .given .1, sym (k .bound-at .ensures) ∙ c .before .before .r .given .1) (c .refused .ensures)
+    let k = c .before .before in
+    let l = k .before .before in
+    rw (l .before .before .enum-told2 .given .1, sym (l .bound-at .ensures) ∙ k .r .given .1) (c .refused .ensures)
 
 returns-3 : tie.Need-returns-3
 unfolding stepOf
 returns-3 c =
-    let k = c .before .before .before .before in
-    rw (k .before .before .enum-told2 .given .1, sym (k .bound-at .ensures) ∙ c .before .before .r2 .given .1)
-    (rw (back (c .before .before .r2 .given .0 .1 .0) (c .before .known-told2 .given .1 .0 .1)) at (c .bound-taken .ensures))
+    let k = c .before .before in
+    let l = k .before .before in
+    rw (l .before .before .enum-told2 .given .1, sym (l .bound-at .ensures) ∙ k .r2 .given .1)
+    (rw (back (k .r2 .given .0 .1 .0) (c .before .known-told2 .given .1 .0 .1)) at (c .bound-taken .ensures))
 
 pub bound-step-spec : {M : Type 1} → statement M
 bound-step-spec =

@@ -34,11 +34,13 @@ crossed-bounds-requires c κs = search needs
 
 returns : tie.Need-returns Inv-loop μ-loop
 returns c =
-    let l = c .before .before .before .before .before in
+    let u = c .before .before in
+    let l = u .before .before .before in
     let p = l .before .args .t1 in
     let k = l .loop .k in
     let q : p .count - k ≡ suc (p .count - (k + 1)) = omega arith in
-    sym (l .loop .inv .1 .1 ∙ rw (q, c .before .before .upper-line .ensures) (cross-here (p .count - (k + 1)) (itemAt p) k (l .loop .line) (sym (c .before .crossed-bounds .ensures) ∙ c .if1 .taken)))
+    let t = sym (c .before .crossed-bounds .ensures) ∙ c .if1 .taken in
+    sym (l .loop .inv .1 .1 ∙ rw (q, u .upper-line .ensures) (cross-here (p .count - (k + 1)) (itemAt p) k (l .loop .line) t))
 
 add-k : tie.Need-add-k Inv-loop μ-loop
 add-k c = omega arith
@@ -48,13 +50,15 @@ loop-less c = omega arith
 
 loop-again : tie.Need-loop-again Inv-loop μ-loop
 loop-again c =
-    let l = c .before .before .before .before .before in
+    let u = c .before .before in
+    let l = u .before .before .before in
     let p = l .before .args .t1 in
     let k = l .loop .k in
     let q : p .count - k ≡ suc (p .count - suc k) = omega arith in
-    let u = upper-near (itemAt p k .upper) (l .loop .line) in
-    let e = c .before .before .upper-line .ensures in
-    (omega arith, (rw e (omega arith), l .loop .inv .1 .1 ∙ rw (q, e, add-one) (cross-later (p .count - suc k) (itemAt p) k (l .loop .line) (sym (c .before .crossed-bounds .ensures) ∙ c .if1 .left))))
+    let n = upper-near (itemAt p k .upper) (l .loop .line) in
+    let e = u .upper-line .ensures in
+    let t = sym (c .before .crossed-bounds .ensures) ∙ c .if1 .left in
+    (omega arith, (rw e (omega arith), l .loop .inv .1 .1 ∙ rw (q, e, add-one) (cross-later (p .count - suc k) (itemAt p) k (l .loop .line) t)))
 
 returns-2 : tie.Need-returns-2 Inv-loop μ-loop
 returns-2 c =

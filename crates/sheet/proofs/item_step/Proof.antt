@@ -32,14 +32,16 @@ returns c = rw (c .enum-told .given .1)
 returns-2 : tie.Need-returns-2
 unfolding stepOf
 returns-2 c =
-    let k = c .before .before .before .before in
-    rw (k .before .enum-told2 .given .1, sym (k .item-at .ensures) ∙ c .before .before .r .given .1) (c .refused .ensures)
+    let k = c .before .before in
+    let l = k .before .before in
+    rw (l .before .enum-told2 .given .1, sym (l .item-at .ensures) ∙ k .r .given .1) (c .refused .ensures)
 
 returns-3 : tie.Need-returns-3
 unfolding stepOf
 returns-3 c =
-    let k = c .before .before .before .before in
-    rw (k .before .enum-told2 .given .1, sym (k .item-at .ensures) ∙ c .before .before .r2 .given .1) (c .item-taken .ensures)
+    let k = c .before .before in
+    let l = k .before .before in
+    rw (l .before .enum-told2 .given .1, sym (l .item-at .ensures) ∙ k .r2 .given .1) (c .item-taken .ensures)
 
 pub item-step-spec : {M : Type 1} → statement M
 item-step-spec =
