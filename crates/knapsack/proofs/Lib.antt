@@ -10,3 +10,4 @@ pub mod Rays
 pub mod Escape
 pub mod Starred
 pub mod Serve
+pub mod Demands
