@@ -3,6 +3,7 @@
 --   Common n x      a divisor that serves the first n of the fractions x
 -- over-…: sums, multiples and orders of fractions are those of the numerators over D.
 -- common: there is such a divisor.
+-- ≤ᶠ-trans, ≤ᶠ-antisym, <ᶠ-not-≤, ≈ᶠ-≤, ≈ᶠ-≥: the order of fractions.
 use mathlib.Core.Path.{_≡_, refl, sym, ap, ap₂, _∙_, subst₂}
 use mathlib.Core.Logic.{_↔_, _⊎_, inl, inr}
 use Prim.Native.Nat.{ℕ, zero, suc, _+_, _*_, _≤_, _<_}
@@ -13,7 +14,7 @@ use lib.IntN.{ℤ, pos, _+ℤ_, _*ℤ_}
 use lib.Signed.{_≤ℤ_, _<ℤ_, clashℤ}
 use Rattle.arith.specs.Sum.{sum, Each, pick}
 use Rattle.arith.specs.Fractions.{Frac, int, frac, _+ᶠ_, _·ᶠ_, _≤ᶠ_, _<ᶠ_, _≈ᶠ_, total}
-use Rattle.arith.proofs.Integers.{split, split2, zed, ≤ℤ-or-<, times-≤, times-≤-back, times-≡-back}
+use Rattle.arith.proofs.Integers.{split, split2, zed, ≤ℤ-or-<, ≤ℤ-trans, ≤ℤ-antisym, ≤ℤ-reflexive, times-≤, times-≤-back, times-≡-back}
 use Rattle.arith.proofs.Sums.{pick-ind}
 
 -- only the first n fractions matter
@@ -141,3 +142,31 @@ over-≈ {D} {x} {y} {m} {n} h k d e =
 
     reorder : (n : ℤ) (s t : ℕ) → (n *ℤ pos s) *ℤ pos t ≡ (n *ℤ pos t) *ℤ pos s
     reorder = split _ (λ a b s t. simp zed (omega arith))
+
+-- ---- the order
+
+pub ≤ᶠ-trans : (x y z : Frac) → x ≤ᶠ y → y ≤ᶠ z → x ≤ᶠ z
+unfolding _≤ᶠ_
+≤ᶠ-trans x y z h k =
+    times-≤-back (y .den) _ _ (y .den≥1)
+    (subst₂ _≤ℤ_ (swap (x .num) (y .den) (z .den)) (swap (z .num) (y .den) (x .den))
+    (≤ℤ-trans (times-≤ (z .den) _ _ h) (subst₂ _≤ℤ_ (swap (y .num) (z .den) (x .den)) refl (times-≤ (x .den) _ _ k))))
+  where
+    swap : (p : ℤ) (s D : ℕ) → (p *ℤ pos s) *ℤ pos D ≡ (p *ℤ pos D) *ℤ pos s
+    swap = split _ (λ a b s D. simp zed (omega arith))
+
+pub ≤ᶠ-antisym : (x y : Frac) → x ≤ᶠ y → y ≤ᶠ x → x ≈ᶠ y
+unfolding _≤ᶠ_ _≈ᶠ_
+≤ᶠ-antisym x y h k = ≤ℤ-antisym h k
+
+pub <ᶠ-not-≤ : (x y : Frac) → x <ᶠ y → y ≤ᶠ x → ⊥
+unfolding _<ᶠ_ _≤ᶠ_
+<ᶠ-not-≤ x y h k = clashℤ h k
+
+pub ≈ᶠ-≤ : (x y : Frac) → x ≈ᶠ y → x ≤ᶠ y
+unfolding _≈ᶠ_ _≤ᶠ_
+≈ᶠ-≤ x y h = ≤ℤ-reflexive h
+
+pub ≈ᶠ-≥ : (x y : Frac) → x ≈ᶠ y → y ≤ᶠ x
+unfolding _≈ᶠ_ _≤ᶠ_
+≈ᶠ-≥ x y h = ≤ℤ-reflexive (sym h)

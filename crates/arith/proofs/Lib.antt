@@ -9,3 +9,4 @@ pub mod Mixes
 pub mod Fractions
 pub mod Sums
 pub mod Signs
+pub mod Lowest

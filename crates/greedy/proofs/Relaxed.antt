@@ -497,7 +497,8 @@ module _ (c : Columns) (e : Ends) (marks : ℕ → Mark) (o : Ordered c) (b : In
 
       rise : (l u : ℤ) (d : ℕ) → pos d ≤ℤ (u -ℤ l) → (l ≤ℤ (l +ℤ pos d)) × ((l +ℤ pos d) ≤ℤ u)
       rise = split2 _ (λ a b c e d. simp zed (λ x. (omega arith, omega arith)))
-  fitted-in (negsuc m) l u n o h = rw (ceil-below n m) (sink l u (n / suc m) (units-in n (suc m) (u -ℤ l) h))
+  fitted-in (negsuc m) l u n o h =
+      subst (λ z. (l ≤ℤ (u +ℤ z)) × ((u +ℤ z) ≤ℤ u)) (sym (ceil-below n m)) (sink l u (n / suc m) (units-in n (suc m) (u -ℤ l) h))
     where
       sink : (l u : ℤ) (d : ℕ) → pos d ≤ℤ (u -ℤ l) → (l ≤ℤ (u +ℤ negℤ (pos d))) × ((u +ℤ negℤ (pos d)) ≤ℤ u)
       sink = split2 _ (λ a b c e d. simp zed (λ x. (omega arith, omega arith)))

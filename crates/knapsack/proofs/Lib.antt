@@ -9,3 +9,4 @@ pub mod Rays
 pub mod Escape
 pub mod Starred
 pub mod Serve
+pub mod Demands

@@ -1,0 +1,26 @@
+// Runs what `charge` is on a sheet of each kind, one after the other as standard input: what it prints is held to a stored output. The
+// last input, a folder, opens and cannot be read: there is no reply.
+use libc::STDIN_FILENO;
+use libc::STDOUT_FILENO;
+
+// The file becomes standard input, for an open takes the lowest number that is free.
+fn try_on(name: &[u8]) {
+    io::write_all(STDOUT_FILENO, name);
+    io::write_all(STDOUT_FILENO, b":\n");
+    libc::close(STDIN_FILENO);
+    if os::open_read(name) == STDIN_FILENO {
+        console::run();
+    } else {
+        os::fail(name);
+    }
+}
+
+fn main() {
+    try_on(b"best");
+    try_on(b"infeasible");
+    try_on(b"unbounded");
+    try_on(b"refused");
+    try_on(b"long");
+    try_on(b"empty");
+    try_on(b".");
+}
