@@ -31,8 +31,7 @@ pub over-stepped : (s : Instance) (D : ℕ) (x : Point) (N d : ℕ → ℤ) (t :
 over-stepped s D x N d t h k l = over-+ (h k l) (over-int D (pos t *ℤ d k))
 
 pub sum-stepped : (n D : ℕ) (a N d : ℕ → ℤ) (t : ℕ) → sum n (λ k. a k *ℤ steppedᴰ D N d t k) ≡ sum n (λ k. a k *ℤ N k) +ℤ pos (t * D) *ℤ sum n (λ k. a k *ℤ d k)
-sum-stepped n D a N d t = sum-cong n _ _ (λ k l. apart (a k) (N k) (d k)) ∙ sum-lin n (pos 1) (pos (t * D)) (λ k. a k *ℤ N k) (λ k. a k *ℤ d k) ∙
-    one (sum n (λ k. a k *ℤ N k)) (sum n (λ k. a k *ℤ d k))
+sum-stepped n D a N d t = sum-cong n _ _ (λ k l. apart (a k) (N k) (d k)) ∙ sum-lin n (pos 1) (pos (t * D)) (λ k. a k *ℤ N k) (λ k. a k *ℤ d k) ∙ one (sum n (λ k. a k *ℤ N k)) (sum n (λ k. a k *ℤ d k))
   where
     apart : (a n d : ℤ) → a *ℤ (n +ℤ (pos t *ℤ d) *ℤ pos D) ≡ pos 1 *ℤ (a *ℤ n) +ℤ pos (t * D) *ℤ (a *ℤ d)
     apart = split3 _ (λ a b c e f g. simp zed (omega arith))
@@ -61,8 +60,7 @@ ray-stays s D N d r p t = record {
     above = lo (s .item k .lower) (N k) (d k) (r .down k l) (≤ℤ-or-< (pos 0) (d k)) (p .keeps k l .above);
     below = up (s .item k .upper) (N k) (d k) (r .up k l) (≤ℤ-or-< (d k) (pos 0)) (p .keeps k l .below);
   };
-  fits = rw (sum-stepped (s .count) D (weights s) N d t) (lighter (weighsᴰ s N) (s .capacity *ℤ pos D) (sum (s .count) (λ k. weights s k *ℤ d k)) (t * D)
-      (p .fits) (r .light));
+  fits = rw (sum-stepped (s .count) D (weights s) N d t) (lighter (weighsᴰ s N) (s .capacity *ℤ pos D) (sum (s .count) (λ k. weights s k *ℤ d k)) (t * D) (p .fits) (r .light));
 }
   where
     lighter : (w b x : ℤ) (m : ℕ) → w ≤ℤ b → x ≤ℤ pos 0 → (w +ℤ pos m *ℤ x) ≤ℤ b
@@ -84,8 +82,7 @@ ray-stays s D N d r p t = record {
     up (At u) n d f (inl c) h = fall (u *ℤ pos D) n d c h
     up (At u) n d f (inr c) h = subst (λ b. KeepsUpperᴰ D b (n +ℤ (pos t *ℤ d) *ℤ pos D)) (sym (f c)) tt
 
-pub ray-unbounded : (s : Instance) (x : Point) (d : ℕ → ℤ) (i j : ℕ) → i < s .count → j < s .count → d i ≢ pos 0 → d j ≢ pos 0 →
-    ((k : ℕ) → k ≢ i → k ≢ j → d k ≡ pos 0) → Ray s d → Feasible s x → Unbounded s x d
+pub ray-unbounded : (s : Instance) (x : Point) (d : ℕ → ℤ) (i j : ℕ) → i < s .count → j < s .count → d i ≢ pos 0 → d j ≢ pos 0 → ((k : ℕ) → k ≢ i → k ≢ j → d k ≡ pos 0) → Ray s d → Feasible s x → Unbounded s x d
 ray-unbounded s x d i j li lj di dj rest r p = record {
   i = i;
   j = j;
@@ -95,8 +92,7 @@ ray-unbounded s x d i j li lj di dj rest r p = record {
   j-moves = dj;
   others = rest;
   from = p;
-  stays = λ t. bridge-feasible s D (stepped x d t) (steppedᴰ D N d t) D≥1 (over-stepped s D x N d t reads) .1
-      (ray-stays s D N d r (bridge-feasible s D x N D≥1 reads .0 p) t);
+  stays = λ t. bridge-feasible s D (stepped x d t) (steppedᴰ D N d t) D≥1 (over-stepped s D x N d t reads) .1 (ray-stays s D N d r (bridge-feasible s D x N D≥1 reads .0 p) t);
   rises = λ t. over-< D≥1 (over-worth s D x N d t reads) (over-worth s D x N d (suc t) reads) (more D t D≥1 (valueᴰ s N) (valueᴰ s d) (r .gain));
 }
   where
@@ -127,15 +123,9 @@ no-climb D d n g u under = go (≤ℤ-or-< g (pos 0))
     past : (t : ℕ) (n g u : ℤ) → pos 0 <ℤ g → (n +ℤ pos (t * D) *ℤ g) ≤ℤ u → (u +ℤ pos 1) ≤ℤ (n +ℤ pos t) → ⊥
     past t = split3 _ (λ a b c e f h. simp zed (λ k l m. omega (arith, mul-le-mul-left (t * D) k, mul-le-mul-left t d)))
 
-<<<<<<< HEAD
-    past : (D E t : ℕ) → 1 ≤ D → 1 ≤ E → (v g m : ℤ) → pos 0 <ℤ g → ((v +ℤ pos (t * D) *ℤ g) *ℤ pos E) ≤ℤ (m *ℤ pos D) →
-        (m *ℤ pos D +ℤ pos 1) ≤ℤ (v *ℤ pos E +ℤ pos t) → ⊥
-    past D E t d e = split3 _ (λ a b c f h i. simp zed (λ k l m. omega (arith, mul-le-mul-left (t * D * E) k, mul-le-mul-left t (mul-le-mul d e))))
-=======
     go : (g ≤ℤ pos 0) ⊎ (pos 0 <ℤ g) → g ≤ℤ pos 0
     go (inl h) = h
     go (inr h) = let t = gap (u +ℤ pos 1) n in absurd (past (t .0) n g u h (under (t .0)) (t .1))
->>>>>>> x
 
 -- an upper bound stops rising steps, and a lower one falling ones
 stopped-above : (D : ℕ) → 1 ≤ D → (n d u : ℤ) → pos 0 <ℤ d → ((t : ℕ) → (n +ℤ (pos t *ℤ d) *ℤ pos D) ≤ℤ u) → ⊥
@@ -216,29 +206,6 @@ ray-endless s x d r p v = go (common (s .count) x)
         D : ℕ
         D = c .D
 
-<<<<<<< HEAD
-        worth : (t : ℕ) → Over (c .D) (value s (stepped y d t)) (valueᴰ s (c .N) +ℤ pos (t * c .D) *ℤ gains)
-        worth t = rw (sum-stepped (s .count) (c .D) (prices s) (c .N) d t) at (over-total (c .D) (s .count) (stepped y d t) (steppedᴰ (c .D) (c .N) d t)
-            (over-stepped s (c .D) y (c .N) d t (c .reads)) (prices s))
-
-        below : (t : ℕ) → ((valueᴰ s (c .N) +ℤ pos (t * c .D) *ℤ gains) *ℤ pos (e .D)) ≤ℤ (valueᴰ s (e .N) *ℤ pos (c .D))
-        below t = over-≤ (mul-le-mul (c .D≥1) (e .D≥1)) (over-scale (e .D) (worth t))
-            (rw (mul-comm (e .D) (c .D)) at (over-scale (c .D) (over-total (e .D) (s .count) x (e .N) (e .reads) (prices s)))) .0
-            (b .highest (stepped y d t) (u .stays t))
-
-        steep : (gains ≤ℤ pos 0) ⊎ (pos 0 <ℤ gains) → ⊥
-        steep (inl h) = no-rise _ _ (u .rises 0) (over-≤ (c .D≥1) (worth 1) (worth 0) .1 (flat (c .D) (valueᴰ s (c .N)) gains h))
-        steep (inr h) = let g = gap (valueᴰ s (e .N) *ℤ pos (c .D) +ℤ pos 1) (valueᴰ s (c .N) *ℤ pos (e .D)) in
-            past (c .D) (e .D) (g .0) (c .D≥1) (e .D≥1) (valueᴰ s (c .N)) gains (valueᴰ s (e .N)) h (below (g .0)) (g .1)
-
-pub optimal-feasible : (s : Instance) (x : Point) → Optimal s x → Infeasible s → ⊥
-optimal-feasible s x o h = h x (o .feasible)
-
--- End theorem: no two of the three answers hold of one instance.
-pub exclusive : (s : Instance) (x y : Point) (d : ℕ → ℤ) →
-    (Optimal s x → Infeasible s → ⊥) × (Optimal s x → Unbounded s y d → ⊥) × (Unbounded s y d → Infeasible s → ⊥)
-exclusive s x y d = (optimal-feasible s x, optimal-not-unbounded s x y d, unbounded-feasible s y d)
-=======
         N : ℕ → ℤ
         N = c .N
 
@@ -250,4 +217,3 @@ exclusive s x y d = (optimal-feasible s x, optimal-not-unbounded s x y d, unboun
           over-< (mul-le-mul (c .D≥1) (v .den≥1)) (over-own D v) (over-scale (v .den) (over-worth s D x N d t (c .reads)))
               (enough D (v .den) t (c .D≥1) (v .den≥1) (valueᴰ s N) (valueᴰ s d) (v .num *ℤ pos D) (r .gain) h),
         )
->>>>>>> x
