@@ -83,7 +83,7 @@ end-of at (b ∷ l) e h = go (eqb b 10) (end-of (suc at) l e) h
 pub end-within : (s : List ℕ) (at e : ℕ) → firstEnd at (drop at s) ≡ At e → (at ≤ e) × (e < length s)
 end-within s at e h = let p = end-of at (drop at s) e h in let q : length (drop at s) ≡ length s - at = length-drop at s in omega arith
 
--- ---- what firstEnd means: the place of a byte 10 with none before it, and nothing where there is none
+-- ---- End theorems: what firstEnd means, the place of a byte 10 with none before it, and nothing where there is none
 
 pub end-first : (s : List ℕ) (at e : ℕ) → at ≤ e → e < length s → getD s e 0 ≡ 10 → ((k : ℕ) → at ≤ k → k < e → getD s k 0 ≡ 10 → ⊥) →
     firstEnd at (drop at s) ≡ At e

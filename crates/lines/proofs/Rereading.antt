@@ -150,7 +150,8 @@ item-reads s at i l f g h =
     (p .0, rw (m .0, p .1), p .2)
 
 pub bound-reads : (count before : ℕ) (s : List ℕ) (at : ℕ) (b : Bounding) (l : List ℕ) → 1 ≤ b .number → b .number ≤ count → before < b .number →
-    outside 10000 (b .bound) ≡ false → drop at s ≡ boundText b ++ l → (n : ℕ) × (boundRead count before s at ≡ BoundIs (b .number) (b .bound) n) × (drop n s ≡ l)
+    outside 10000 (b .bound) ≡ false → drop at s ≡ boundText b ++ l →
+    (n : ℕ) × (boundRead count before s at ≡ BoundIs (b .number) (b .bound) n) × (drop n s ≡ l)
 unfolding boundRead
 bound-reads count before s at b l least most rises f h =
     let k = b .number in

@@ -1,7 +1,8 @@
 -- What a line that was read is made of (specs/Lines.antt): each law takes a reading apart.
 -- place-some, field-some: a result that is not the fault's came by a place, by a number.
--- field-parts, numbers-parts, heading-parts, item-parts, …: the parts of a field and of a line of each kind.
--- field-range: the number of a field that is in lies in the range; count-range, bound-range: so does a count, an item number, a bound.
+-- field-parts, numbers-parts, heading-parts, item-parts: the parts of a field and of a line of each kind.
+-- field-range, heading-range, numbers-range: the number of a field that is in lies in its range.
+-- count-parts, bound-parts: so do a count and an item number, which rises.
 use mathlib.Core.Path.{_≡_, refl, sym, ap, _∙_}
 use mathlib.Core.Bool.{Bool, true, false, cond}
 use mathlib.Core.List.{List}

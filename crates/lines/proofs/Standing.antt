@@ -89,7 +89,8 @@ run-has : (s : List ℕ) (at : ℕ) → isLeading (byteAt s at) ≡ true →
 run-has s at h =
     let r = run-leads (byteAt s at) (drop (suc at) s) h in
     let e = drop-cons s at 256 (byte-there s at (byteAt s at) (omega (arith, r .1 .1)) refl) in
-    let o = rw (← r .0, ← e) at (decimal-only (byteAt s at) (digitRun (drop (suc at) s)) (r .1 .0) (rw (r .0) at (run-plain (byteAt s at ∷ drop (suc at) s)))) in
+    let p = rw (r .0) at (run-plain (byteAt s at ∷ drop (suc at) s)) in
+    let o = rw (← r .0, ← e) at (decimal-only (byteAt s at) (digitRun (drop (suc at) s)) (r .1 .0) p) in
     let ds = digitRun (drop at s) in
     (o .0, record { has = run-splits (drop at s) ∙ ap₂ _++_ (sym (o .1)) (drop-drop (length ds) at s) })
 

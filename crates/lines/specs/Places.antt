@@ -7,7 +7,7 @@
 --   ends l             how many bytes 10 there are
 --   lineAt s at        the number of the line that holds a place, from 1
 --   closedLine n s at  where the line behind n line ends stands, from a place on
---   told n l           refusal n at line l
+--   refusalOn n l           refusal n at line l
 --   tooLong            no line is asked for of a sheet that is too long, and there is no line 0
 --   closedOr n x       the line, or refusal 2 at line n where the sheet closes none
 --   askedLine s n      the line with number n, or the refusal where there is none
@@ -58,14 +58,14 @@ unfoldable pub closedLine : ℕ → List ℕ → ℕ → Span
 closedLine zero s at = onPlace (firstEnd at (drop at s)) NoLine (λ e. Line at e)
 closedLine (suc n) s at = onPlace (firstEnd at (drop at s)) NoLine (λ e. closedLine n s (suc e))
 
-abbrev pub told : ℕ → ℕ → Refusal
-told n l = record { number = n; line = l }
+abbrev pub refusalOn : ℕ → ℕ → Refusal
+refusalOn n l = record { number = n; line = l }
 
 abbrev pub tooLong : Asked
-tooLong = NotAsked (told refusal.overlong 0)
+tooLong = NotAsked (refusalOn refusal.overlong 0)
 
 abbrev pub closedOr : ℕ → Span → Asked
-closedOr n NoLine = NotAsked (told refusal.form n)
+closedOr n NoLine = NotAsked (refusalOn refusal.form n)
 closedOr n (Line a e) = AskedLine a e
 
 abbrev pub askedLine : List ℕ → ℕ → Asked

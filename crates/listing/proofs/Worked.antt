@@ -1,4 +1,4 @@
--- The print that paper 01 works out, under "What `charge` prints": sheet A's answer, byte by byte.
+-- End theorem: the print that paper 01 works out, under "What `charge` prints": sheet A's answer, byte by byte.
 use mathlib.Core.Path.{_≡_, refl}
 use mathlib.Core.List.{List, [], _∷_}
 use Prim.Native.Nat.{ℕ}

@@ -1,5 +1,5 @@
 -- The text of an answer. Paper 01, "What `charge` prints".
---   refused … unbounded  the words that begin it
+--   refused, infeasible, best, unbounded    the words that begin it
 --   refusedLine f        `refused N L`
 --   bestLine v           `best P Q`
 --   itemLine s k x r     `k p q` of the item at place k, from 0; behind it the step r, where steps are shown

@@ -12,12 +12,12 @@ use Rattle.knapsack.specs.declared.Item.{Item}
 use Rattle.knapsack.specs.declared.Verdict.the-variants.{Accepted, Refused}
 use Rattle.model.specs.Refusals as refusal
 use Rattle.model.specs.Records.{crosses}
-use Rattle.lines.specs.Places.{told}
+use Rattle.lines.specs.Places.{refusalOn}
 use Rattle.sheet.specs.Reading.{upperLine, crossFrom}
 use Rattle.sheet.proofs.Sections.{no-refusal}
 
 pub cross-here : (n : ℕ) (f : ℕ → Item) (k line : ℕ) → crosses (f k) ≡ true →
-    crossFrom (suc n) f k line ≡ Refused (told refusal.crossing (upperLine (f k .upper) line))
+    crossFrom (suc n) f k line ≡ Refused (refusalOn refusal.crossing (upperLine (f k .upper) line))
 unfolding crossFrom
 cross-here n f k line h = rw h
 
@@ -40,7 +40,7 @@ cross-all zero f k line h j l = absurd (omega arith)
 cross-all (suc n) f k line h j l = go (crosses (f k)) refl h (λ e i. cross-all n f (suc k) (upperLine (f k .upper) line) e i) j l
   where
     go : (t : Bool) → crosses (f k) ≡ t →
-        cond t (Refused (told refusal.crossing (upperLine (f k .upper) line))) (crossFrom n f (suc k) (upperLine (f k .upper) line)) ≡ Accepted →
+        cond t (Refused (refusalOn refusal.crossing (upperLine (f k .upper) line))) (crossFrom n f (suc k) (upperLine (f k .upper) line)) ≡ Accepted →
         (crossFrom n f (suc k) (upperLine (f k .upper) line) ≡ Accepted → (i : ℕ) → i < n → crosses (f (suc k + i)) ≡ false) → (j : ℕ) → j < suc n →
         crosses (f (k + j)) ≡ false
     go true e h ih j l = no-refusal h

@@ -140,7 +140,7 @@ pub record SectionRead {A : Type 0} (f : LineForm A) (I : ℕ → List A → Pro
 
 module _ {A : Type 0} (f : LineForm A) (Fits : Progress → A → Type 0) (laws : Laws f Fits) (I : ℕ → List A → Progress → Type 0)
     (next : (m : ℕ) (vs : List A) (p : Progress) (a : A) (n : ℕ) → length vs < m → I m vs p → Fits p a →
-        I m (a ∷ vs) (goesOn (f .fill p a) n (f .item p a))) where
+    I m (a ∷ vs) (goesOn (f .fill p a) n (f .item p a))) where
   lines-read : (m n : ℕ) (s : List ℕ) (p : Progress) → n ≤ m → I m [] p → linesOf f n s p .verdict ≡ Accepted → Read f (I m) s (p .at) n (linesOf f n s p)
   unfolding linesOf linesText
   lines-read m zero s p l i h = record { values = []; many = refl; text = has-none; holds = i }

@@ -31,7 +31,7 @@ use Rattle.model.specs.declared.Side.the-variants.{Lower, Upper}
 use Rattle.model.specs.Records.{emptyModel, itemAt, outside, badFigure, crosses, verdict}
 use Rattle.model.specs.Setters.{withCapacity, withCount}
 use Rattle.model.proofs.Records.{Unfaulted, unfaulted, unrefused}
-use Rattle.lines.specs.Places.{lineAt, told}
+use Rattle.lines.specs.Places.{lineAt, refusalOn}
 use Rattle.lines.specs.Layout.{headingText, itemText, Bounding}
 use Rattle.lines.proofs.Standing.{Has, has-join, Bytes}
 use Rattle.lines.proofs.Rereading.{bareOf}
@@ -343,7 +343,9 @@ accepted-sheet s m h = go (ltb 4096 (length s)) h
   where
     go : (t : Bool) →
         _≡_ {A = Reading}
-        (cond t (record { verdict = Refused (told refusal.overlong 0); model = emptyModel }) (record { verdict = wholeOf s .verdict; model = wholeOf s .model }))
+        (cond t
+        (record { verdict = Refused (refusalOn refusal.overlong 0); model = emptyModel })
+        (record { verdict = wholeOf s .verdict; model = wholeOf s .model }))
         (record { verdict = Accepted; model = m }) →
         SheetOf s m
     go true h = no-refusal (ap (λ (r : Reading). r .verdict) h)

@@ -38,7 +38,7 @@ use Rattle.lines.specs.declared.ItemRead.{ItemRead}
 use Rattle.lines.specs.declared.ItemRead.the-variants.{Fault as ItemFault, Read as ItemIs}
 use Rattle.lines.specs.declared.BoundRead.{BoundRead}
 use Rattle.lines.specs.declared.BoundRead.the-variants.{Fault as BoundFault, Read as BoundIs}
-use Rattle.lines.specs.Places.{lineAt, told}
+use Rattle.lines.specs.Places.{lineAt, refusalOn}
 use Rattle.lines.specs.Numbers.{fromTo, fieldAt}
 use Rattle.lines.specs.Lines.{itemRead, boundRead}
 use Rattle.lines.specs.Layout.{itemText, Bounding, boundText}
@@ -120,7 +120,7 @@ upperLine (At u) n = suc n
 unfoldable pub crossFrom : ℕ → (ℕ → Item) → ℕ → ℕ → Verdict
 crossFrom zero f k l = Accepted
 crossFrom (suc n) f k l =
-    cond (crosses (f k)) (Refused (told refusal.crossing (upperLine (f k .upper) l))) (crossFrom n f (suc k) (upperLine (f k .upper) l))
+    cond (crosses (f k)) (Refused (refusalOn refusal.crossing (upperLine (f k .upper) l))) (crossFrom n f (suc k) (upperLine (f k .upper) l))
 
 abbrev pub crossOf : Progress → Verdict → Progress
 crossOf p Accepted = p
@@ -148,5 +148,5 @@ wholeOf s = tailOf s (lowerOf s .at) (upperOf s)
 unfoldable pub readSheet : List ℕ → Reading
 readSheet s =
     cond (ltb 4096 (length s))
-    (record { verdict = Refused (told refusal.overlong 0); model = emptyModel })
+    (record { verdict = Refused (refusalOn refusal.overlong 0); model = emptyModel })
     (record { verdict = wholeOf s .verdict; model = wholeOf s .model })

@@ -25,7 +25,7 @@ use Rattle.model.specs.Records.{emptyModel}
 use Rattle.lines.specs.declared.number.Range.{Range}
 use Rattle.lines.specs.declared.Count.{Count}
 use Rattle.lines.specs.declared.Count.the-variants.{Fault, Lines}
-use Rattle.lines.specs.Places.{lineAt, told}
+use Rattle.lines.specs.Places.{lineAt, refusalOn}
 use Rattle.lines.specs.Lines.{countAt}
 use Rattle.lines.specs.Layout.{headingText}
 use Rattle.sheet.specs.declared.Progress.{Progress}
@@ -39,7 +39,7 @@ abbrev pub stoppedBy : Refusal → Progress
 stoppedBy r = record { verdict = Refused r; model = emptyModel; at = 0; item = 0 }
 
 abbrev pub refusedAt : List ℕ → ℕ → ℕ → Progress
-refusedAt s n at = stoppedBy (told n (lineAt s at))
+refusedAt s n at = stoppedBy (refusalOn n (lineAt s at))
 
 abbrev pub onVerdict : {A : Type 0} → Verdict → A → A → A
 onVerdict Accepted a b = a

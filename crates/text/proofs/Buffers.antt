@@ -40,10 +40,12 @@ put-put at s t b h =
     let f : at + length (s ++ t) ≡ at + length s + length t = simp length-append (omega arith) in
     rw (sym (append-assoc p s d), take-at (p ++ s) d (at + length s) e, drop-past (p ++ s) d (at + length s) (length t) e, drop-drop, f) (simp append-assoc)
 
-pub put-more : (at i : ℕ) (w b : List ℕ) → at ≤ length b → i < length w → at + i < length (put at (take i w) b) → set (put at (take i w) b) (at + i) (getD w i 0) ≡ put at (take (suc i) w) b
+pub put-more : (at i : ℕ) (w b : List ℕ) → at ≤ length b → i < length w → at + i < length (put at (take i w) b) →
+    set (put at (take i w) b) (at + i) (getD w i 0) ≡ put at (take (suc i) w) b
 put-more at i w b h g l =
     let e : length (take i w) ≡ i = length-take-le i w (omega arith) in
-    let f : put (at + length (take i w)) (getD w i 0 ∷ []) (put at (take i w) b) ≡ put at (take (suc i) w) b = put-put at (take i w) (getD w i 0 ∷ []) b h ∙ rw (take-suc w i 0 g) in
+    let f : put (at + length (take i w)) (getD w i 0 ∷ []) (put at (take i w) b) ≡ put at (take (suc i) w) b
+    = put-put at (take i w) (getD w i 0 ∷ []) b h ∙ rw (take-suc w i 0 g) in
     put-byte (at + i) (getD w i 0) (put at (take i w) b) l ∙ rw e at f
 
 pub roomier : {m n at r : ℕ} {s a b : List ℕ} → m ≤ n → Put m at s a b r → Put n at s a b r

@@ -3,7 +3,7 @@
 -- decimal-read: read back, the number is n; so no two numbers have the same digits (decimal-one).
 -- decimal-plain: nothing but digits. decimal-lead: the first is `0` for 0 alone.
 -- decimal-only: digits that no `0` leads are those of what they read. decimal-zero: of 0.
--- decimal-length, decimal-some, integer-length: how many bytes.
+-- decimal-length, integer-length: how many bytes.
 -- integer-below, integer-above: a number's text by its sign.
 use mathlib.Core.Path.{_≡_, refl, sym, ap, _∙_}
 use mathlib.Core.List.{List, [], _∷_, _++_, append-assoc, append-nil}
@@ -62,6 +62,7 @@ pub decimal-read : (n : ℕ) → readAfter 0 (decimal n) ≡ n
 unfolding decimal digits readAfter
 decimal-read n = read-append 0 (digits (n / 10)) (digit (n % 10) ∷ []) ∙ rw (read-in (n / 10) (n / 10) (omega arith)) (omega arith)
 
+-- End theorem: no two numbers have the same digits.
 pub decimal-one : (m n : ℕ) → decimal m ≡ decimal n → m ≡ n
 decimal-one m n e = sym (decimal-read m) ∙ ap (readAfter 0) e ∙ decimal-read n
 
@@ -98,7 +99,8 @@ lead-in zero n h z = absurd (omega arith)
 lead-in (suc t) zero h z = absurd (omega arith)
 lead-in (suc t) (suc n) h z = go (suc n / 10) refl (lead-in t (suc n / 10) (omega arith))
   where
-    go : (m : ℕ) → suc n / 10 ≡ m → (0 < suc n / 10 → 48 < getD (digitsIn t (suc n / 10)) 0 0) → 48 < getD (digitsIn t (suc n / 10) ++ (digit (suc n % 10) ∷ [])) 0 0
+    go : (m : ℕ) → suc n / 10 ≡ m → (0 < suc n / 10 → 48 < getD (digitsIn t (suc n / 10)) 0 0) →
+        48 < getD (digitsIn t (suc n / 10) ++ (digit (suc n % 10) ∷ [])) 0 0
     go zero e ih = rw (e, none-in t) (omega arith)
     go (suc m) e ih = lead-append (digitsIn t (suc n / 10)) _ (ih (omega arith))
 
@@ -152,10 +154,6 @@ length-in (suc t) (suc k) (suc n) h = simp length-append (omega (arith, length-i
 pub decimal-length : (k n : ℕ) → n < 10 ^ suc k → length (decimal n) ≤ suc k
 unfolding decimal digits
 decimal-length k n h = simp length-append (omega (arith, length-in (n / 10) k (n / 10) (omega arith)))
-
-pub decimal-some : (n : ℕ) → 1 ≤ length (decimal n)
-unfolding decimal
-decimal-some n = simp length-append (omega arith)
 
 pub integer-length : (k : ℕ) (z : ℤ) → natAbs z < 10 ^ suc k → length (integer z) ≤ suc (suc k)
 integer-length k (pos n) h = omega (arith, decimal-length k n h)

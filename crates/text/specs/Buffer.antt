@@ -14,6 +14,7 @@ use Prim.Native.Nat.{ℕ, _+_, _≤_}
 use lib.Dec.{ltb}
 use lib.ListN.{length, take, drop}
 use Rattle.knapsack.specs.declared.Refusal.{Refusal}
+use Rattle.model.specs.Refusals.{short-buffer}
 use Rattle.text.specs.declared.Digits.{Digits}
 use Rattle.text.specs.declared.Text.{Text}
 use Rattle.text.specs.declared.Listed.{Listed}
@@ -48,7 +49,7 @@ abbrev pub noted : Refusal → Listed
 noted f = Refused f
 
 unfoldable pub told : List ℕ → List ℕ → Listed
-told text b = cond (tooShort text b) (noted (record { number = 11; line = 0 })) (Written (length text))
+told text b = cond (tooShort text b) (noted (record { number = short-buffer; line = 0 })) (Written (length text))
 
 unfoldable pub filled : List ℕ → List ℕ → List ℕ
 filled text b = cond (tooShort text b) b (text ++ drop (length text) b)

@@ -119,7 +119,7 @@ pub fn hand_over(text: &[u8], out: &mut [u8]) -> Listed
 {
     if out.len() < text.len() {
         return Listed::Refused(Refusal {
-            number: 11,
+            number: model::refusals::SHORT_BUFFER,
             line: 0,
         });
     }

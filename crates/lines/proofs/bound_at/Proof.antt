@@ -32,19 +32,23 @@ enum-told-2 c = search needs
 enum-known-f : tie.Need-enum-known-f
 enum-known-f c = search needs
 
+-- where the line was known, and where all began
+abbrev known : tie.After-known-told2 → tie.After-l
+known c = let f = c .before .before in f .before .before
+
 abbrev start : tie.After-known-told2 → tie.Start
-start c = c .before .before .before .before .before .before .before .before
+start c = let l = known c .before .before in l .before .before
 
 back-z : (c : tie.After-known-told2) → toZ w64 (ofZ w64 (c .before .f .given .0 .0)) ≡ c .before .f .given .0 .0
 back-z c = back _ (c .known-told2 .given .0 .1)
 
 -- the line that was read
 read : (c : tie.After-known-told2) →
-    let k = c .before .before .before .before in
+    let k = known c in
     numbersLine (fromTo 1 (start c .args .count)) prices (now (start c .args .s)) (start c .args .at)
     ≡ Both (In (c .before .f .given .0 .0)) (k .l .given .0 .1 .0) (k .l .given .0 .1 .1 .0)
 read c =
-    let k = c .before .before .before .before in
+    let k = known c in
     sym (k .before .before .bound-line .ensures)
     ∙ k .l .given .1
     ∙ ap (λ x. Both x (k .l .given .0 .1 .0) (k .l .given .0 .1 .1 .0)) (c .before .f .given .1)

@@ -19,7 +19,9 @@ abbrev μ-loop : tie.MeasureT-loop
 
 loop-holds : tie.Need-loop-holds Inv-loop μ-loop
 unfolding itemLines
-loop-holds c = (omega arith, (refl, record { short = omega arith; next = omega arith; bytes = sym (put-nothing (c .before .args .at) (c .before .args .out .now)) }))
+loop-holds c =
+    let a = c .before .args in
+    (omega arith, (refl, record { short = omega arith; next = omega arith; bytes = sym (put-nothing (a .at) (a .out .now)) }))
 
 mul-x : tie.Need-mul-x Inv-loop μ-loop
 mul-x c = omega arith

@@ -21,7 +21,8 @@ drop-set [] i v h = absurd (omega arith)
 drop-set (x ∷ l) zero v h = refl
 drop-set (x ∷ l) (suc i) v h = drop-set l i v (omega arith)
 
-one-more : (rest first : ℕ) (bytes : List ℕ) → 0 < rest → 1 ≤ first → first ≤ length bytes → digits (rest / 10) ++ drop (first - 1) (set bytes (first - 1) (digit (rest % 10))) ≡ digits rest ++ drop first bytes
+one-more : (rest first : ℕ) (bytes : List ℕ) → 0 < rest → 1 ≤ first → first ≤ length bytes →
+    digits (rest / 10) ++ drop (first - 1) (set bytes (first - 1) (digit (rest % 10))) ≡ digits rest ++ drop first bytes
 one-more rest zero bytes z h g = absurd (omega arith)
 one-more rest (suc i) bytes z h g = rw (sub-one, drop-set bytes i (digit (rest % 10)) (omega arith), digits-step rest z) (simp append-assoc)
 

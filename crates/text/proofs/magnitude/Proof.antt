@@ -48,7 +48,10 @@ cast-result : tie.Need-cast-result
 cast-result c = rw (toZ-ofZ (c .before .fits .z), toZ-ofZ (raised c), toZ-ofZ (turned c)) (cast-in (not-below c) (turned c))
 
 add-result-2 : tie.Need-add-result-2
-add-result-2 c = rw (toZ-ofZ (c .before .fits .z), toZ-ofZ (raised c), toZ-ofZ (turned c)) (let e = one-less (c .before .args .z) (below c) in let h = abs-fits (c .before .fits .z) in omega arith)
+add-result-2 c =
+    let e = one-less (c .before .args .z) (below c) in
+    let h = abs-fits (c .before .fits .z) in
+    rw (toZ-ofZ (c .before .fits .z), toZ-ofZ (raised c), toZ-ofZ (turned c)) (omega arith)
 
 cast-result-2 : tie.Need-cast-result-2
 cast-result-2 c = rw (toZ-ofZ (c .before .fits .z)) (cast-in (omega (arith, zs)) (c .before .fits .z))

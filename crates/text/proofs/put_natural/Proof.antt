@@ -40,8 +40,10 @@ returns c =
     let a = d .before .before .args in
     let s = d .digits-of .ensures in
     let r = d .digits-of .result in
-    let e : take (20 - r .first) (drop (r .first) (r .bytes)) ≡ decimal (a .n) = take-all (20 - r .first) (drop (r .first) (r .bytes)) (simp length-drop (omega arith)) ∙ s .spelled in
-    roomier (omega (arith, decimal-length 19 (a .n) (omega (arith, d .before .before .fits .n .fits)))) (puts (omega arith) (rw e at (w .put-word .ensures)) (b .put-byte .ensures))
+    let e : take (20 - r .first) (drop (r .first) (r .bytes)) ≡ decimal (a .n)
+    = take-all (20 - r .first) (drop (r .first) (r .bytes)) (simp length-drop (omega arith)) ∙ s .spelled in
+    let l = decimal-length 19 (a .n) (omega (arith, d .before .before .fits .n .fits)) in
+    roomier (omega arith) (puts (omega arith) (rw e at (w .put-word .ensures)) (b .put-byte .ensures))
 
 pub put-natural-spec : {M : Type 1} → statement M
 put-natural-spec =

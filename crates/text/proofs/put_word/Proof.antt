@@ -39,7 +39,8 @@ loop-again c =
     let a = c .before .before .before .args in
     let l = c .before .before .loop in
     let h : a .at + l .i < length (l .out) = omega arith in
-    (omega arith, (simp length-set (omega arith), rw (add-one, l .inv .1 .1) (put-more (a .at) (l .i) (a .w .now) (a .out .now) (omega arith) (omega arith) (rw (l .inv .1 .1) at h))))
+    let m = put-more (a .at) (l .i) (a .w .now) (a .out .now) (omega arith) (omega arith) (rw (l .inv .1 .1) at h) in
+    (omega arith, (simp length-set (omega arith), rw (add-one, l .inv .1 .1) m))
 
 add-result : tie.Need-add-result Inv-loop μ-loop
 add-result c = omega arith

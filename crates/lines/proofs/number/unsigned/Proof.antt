@@ -22,14 +22,15 @@ by-range-requires c κs = search needs
 
 returns : tie.Need-returns
 returns c =
-    let s = c .before .before .before .before .before .before in
+    let g = c .before in
+    let d = g .before in
+    let t = d .before in
+    let s = t .before .before .before in
     let r = s .args .range in
     let n = s .args .negative in
-    let f = c .by-range .ensures
-    ∙ ap (ranged r) (back (c .before .signed .result) (c .before .signed .ok) ∙ c .before .signed .ensures ∙ ap (signedOf n) (c .before .before .digits-from .ensures .capped))
-    ∙ ranged-saturated r n (readAfter 0 _) (s .pre) in
-    rw (sym (c .before .before .before .before .leads .ensures) ∙ c .before .before .before .if1 .taken)
-    (ap₂ Number f (c .before .before .digits-from .ensures .behind))
+    let z = back (g .signed .result) (g .signed .ok) ∙ g .signed .ensures ∙ ap (signedOf n) (d .digits-from .ensures .capped) in
+    let f = c .by-range .ensures ∙ ap (ranged r) z ∙ ranged-saturated r n (readAfter 0 _) (s .pre) in
+    rw (sym (t .before .leads .ensures) ∙ t .if1 .taken) (ap₂ Number f (d .digits-from .ensures .behind))
 
 returns-2 : tie.Need-returns-2
 returns-2 c = rw (sym (c .before .leads .ensures) ∙ c .if1 .left)

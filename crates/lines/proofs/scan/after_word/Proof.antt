@@ -29,10 +29,12 @@ enum-told c = search needs
 
 returns : tie.Need-returns Inv-loop μ-loop
 returns c =
-    let l = c .before .before .before .before .before in
+    let b = c .before .before in
+    let t = b .before .before in
+    let l = t .before in
     let a = l .before .before .before .args in
-    let e = sym (c .before .before .after-byte .ensures) ∙ c .enum-told .given .1 in
-    sym (l .loop .inv .1 ∙ word-not (a .s .now) (a .w .now) (l .loop .at) (l .loop .i) (c .before .before .before .before .loop-test .taken) e)
+    let e = sym (b .after-byte .ensures) ∙ c .enum-told .given .1 in
+    sym (l .loop .inv .1 ∙ word-not (a .s .now) (a .w .now) (l .loop .at) (l .loop .i) (t .loop-test .taken) e)
 
 enum-known-p : tie.Need-enum-known-p Inv-loop μ-loop
 enum-known-p c = search needs
@@ -45,10 +47,13 @@ loop-less c = search needs
 
 loop-again : tie.Need-loop-again Inv-loop μ-loop
 loop-again c =
-    let l = c .before .before .before .before .before .before in
+    let k = c .before in
+    let b = k .before .before in
+    let t = b .before .before in
+    let l = t .before in
     let a = l .before .before .before .args in
-    let e = sym (c .before .before .before .after-byte .ensures) ∙ c .before .p .given .1 in
-    let m = word-more (a .s .now) (a .w .now) (l .loop .at) (l .loop .i) (c .before .p .given .0 .0) (c .before .before .before .before .before .loop-test .taken) e in
+    let e = sym (b .after-byte .ensures) ∙ k .p .given .1 in
+    let m = word-more (a .s .now) (a .w .now) (l .loop .at) (l .loop .i) (k .p .given .0 .0) (t .loop-test .taken) e in
     (omega arith, l .loop .inv .1 ∙ rw add-one m)
 
 returns-2 : tie.Need-returns-2 Inv-loop μ-loop

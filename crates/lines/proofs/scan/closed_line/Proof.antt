@@ -28,29 +28,38 @@ enum-told c = search needs
 returns : tie.Need-returns Inv-loop μ-loop
 returns c =
     let l = c .before .before .before in
-    sym (l .loop .inv .1 ∙ closed-none (l .loop .left) (l .before .before .args .s .now) (l .loop .from) (sym (c .before .before .first-line-end .ensures) ∙ c .enum-told .given .1))
+    let e = sym (c .before .before .first-line-end .ensures) ∙ c .enum-told .given .1 in
+    sym (l .loop .inv .1 ∙ closed-none (l .loop .left) (l .before .before .args .s .now) (l .loop .from) e)
 
 enum-known-p : tie.Need-enum-known-p Inv-loop μ-loop
 enum-known-p c = search needs
 
+-- where a line's end was looked for, and the loop before that
+abbrev looked : tie.After-known-told Inv-loop μ-loop → tie.After-first-line-end Inv-loop μ-loop
+looked c = c .before .before .before
+
+abbrev at-loop : tie.After-known-told Inv-loop μ-loop → tie.At-loop Inv-loop μ-loop
+at-loop c = looked c .before
+
 -- the end that was found
 found : (c : tie.After-known-told Inv-loop μ-loop) →
-    let l = c .before .before .before .before in
+    let l = at-loop c in
     firstEnd (l .loop .from) (drop (l .loop .from) (l .before .before .args .s .now)) ≡ At (c .before .p .given .0 .0)
-found c = sym (c .before .before .before .first-line-end .ensures) ∙ c .before .p .given .1
+found c = sym (looked c .first-line-end .ensures) ∙ c .before .p .given .1
 
 returns-2 : tie.Need-returns-2 Inv-loop μ-loop
 returns-2 c =
-    let l = c .before .before .before .before .before in
-    sym (l .loop .inv .1 ∙ rw (c .if1 .taken) (closed-last (l .before .before .args .s .now) (l .loop .from) _ (found (c .before))))
+    let l = at-loop (c .before) in
+    let s = l .before .before .args .s .now in
+    sym (l .loop .inv .1 ∙ ap (λ n. closedLine n s (l .loop .from)) (c .if1 .taken) ∙ closed-last s (l .loop .from) _ (found (c .before)))
 
 sub-left : tie.Need-sub-left Inv-loop μ-loop
 sub-left c = omega arith
 
 within : (c : tie.Else1 Inv-loop μ-loop) →
-    let l = c .before .before .before .before .before in
+    let l = at-loop (c .before) in
     (l .loop .from ≤ c .before .before .p .given .0 .0) × (c .before .before .p .given .0 .0 < length (l .before .before .args .s .now))
-within c = let l = c .before .before .before .before .before in end-within (l .before .before .args .s .now) (l .loop .from) _ (found (c .before))
+within c = let l = at-loop (c .before) in end-within (l .before .before .args .s .now) (l .loop .from) _ (found (c .before))
 
 add-from : tie.Need-add-from Inv-loop μ-loop
 add-from c = omega (arith, within c)
@@ -60,7 +69,7 @@ loop-less c = omega (arith, within c)
 
 loop-again : tie.Need-loop-again Inv-loop μ-loop
 loop-again c =
-    let l = c .before .before .before .before .before in
+    let l = at-loop (c .before) in
     let s = l .before .before .args .s .now in
     let q : l .loop .left ≡ suc (l .loop .left - 1) = omega arith in
     let m = closed-more (l .loop .left - 1) s (l .loop .from) _ (found (c .before)) in

@@ -22,7 +22,9 @@ shared-slice-read-if1 c = omega arith
 
 returns : tie.Need-returns Inv-loop μ-loop
 returns c =
-    sym (c .before .before .before .loop .inv ∙ end-here (c .before .before .before .before .args .s .now) (c .before .before .before .loop .at) (c .before .before .loop-test .taken) (c .if1 .taken))
+    let t = c .before .before in
+    let l = t .before in
+    sym (l .loop .inv ∙ end-here (l .before .args .s .now) (l .loop .at) (t .loop-test .taken) (c .if1 .taken))
 
 add-at : tie.Need-add-at Inv-loop μ-loop
 add-at c = omega arith
@@ -32,8 +34,9 @@ loop-less c = omega arith
 
 loop-again : tie.Need-loop-again Inv-loop μ-loop
 loop-again c =
-    c .before .before .before .loop .inv
-    ∙ rw add-one (end-later (c .before .before .before .before .args .s .now) (c .before .before .before .loop .at) (c .before .before .loop-test .taken) (c .if1 .left))
+    let t = c .before .before in
+    let l = t .before in
+    l .loop .inv ∙ rw add-one (end-later (l .before .args .s .now) (l .loop .at) (t .loop-test .taken) (c .if1 .left))
 
 returns-2 : tie.Need-returns-2 Inv-loop μ-loop
 returns-2 c = sym (c .before .loop .inv ∙ end-none (c .before .before .args .s .now) (c .before .loop .at) (c .loop-test .left))

@@ -30,28 +30,37 @@ enum-told c = search needs
 returns : tie.Need-returns Inv-loop μ-loop
 returns c =
     let l = c .before .before .before in
-    let n = ends-none (l .before .before .args .s .now) (l .loop .from) (l .before .before .args .at) (sym (c .before .before .first-line-end .ensures) ∙ c .enum-told .given .1) in
+    let a = l .before .before .args in
+    let n = ends-none (a .s .now) (l .loop .from) (a .at) (sym (c .before .before .first-line-end .ensures) ∙ c .enum-told .given .1) in
     omega arith
 
 enum-known-p : tie.Need-enum-known-p Inv-loop μ-loop
 enum-known-p c = search needs
 
+-- where a line's end was looked for, and the loop before that
+abbrev looked : tie.After-known-told Inv-loop μ-loop → tie.After-first-line-end Inv-loop μ-loop
+looked c = c .before .before .before
+
+abbrev at-loop : tie.After-known-told Inv-loop μ-loop → tie.At-loop Inv-loop μ-loop
+at-loop c = looked c .before
+
 -- the end that was found
 found : (c : tie.After-known-told Inv-loop μ-loop) →
-    let l = c .before .before .before .before in
+    let l = at-loop c in
     firstEnd (l .loop .from) (drop (l .loop .from) (l .before .before .args .s .now)) ≡ At (c .before .p .given .0 .0)
-found c = sym (c .before .before .before .first-line-end .ensures) ∙ c .before .p .given .1
+found c = sym (looked c .first-line-end .ensures) ∙ c .before .p .given .1
 
 returns-2 : tie.Need-returns-2 Inv-loop μ-loop
 returns-2 c =
-    let l = c .before .before .before .before .before in
-    let n = ends-before (l .before .before .args .s .now) (l .loop .from) (l .before .before .args .at) (c .before .before .p .given .0 .0) (found (c .before)) (c .if1 .taken) in
+    let l = at-loop (c .before) in
+    let a = l .before .before .args in
+    let n = ends-before (a .s .now) (l .loop .from) (a .at) (c .before .before .p .given .0 .0) (found (c .before)) (c .if1 .taken) in
     omega arith
 
 within : (c : tie.Else1 Inv-loop μ-loop) →
-    let l = c .before .before .before .before .before in
+    let l = at-loop (c .before) in
     (l .loop .from ≤ c .before .before .p .given .0 .0) × (c .before .before .p .given .0 .0 < length (l .before .before .args .s .now))
-within c = let l = c .before .before .before .before .before in end-within (l .before .before .args .s .now) (l .loop .from) _ (found (c .before))
+within c = let l = at-loop (c .before) in end-within (l .before .before .args .s .now) (l .loop .from) _ (found (c .before))
 
 add-line : tie.Need-add-line Inv-loop μ-loop
 add-line c = omega (arith, within c)
@@ -64,8 +73,9 @@ loop-less c = omega (arith, within c)
 
 loop-again : tie.Need-loop-again Inv-loop μ-loop
 loop-again c =
-    let l = c .before .before .before .before .before in
-    let n = ends-past (l .before .before .args .s .now) (l .loop .from) (l .before .before .args .at) (c .before .before .p .given .0 .0) (found (c .before)) (c .if1 .left) in
+    let l = at-loop (c .before) in
+    let a = l .before .before .args in
+    let n = ends-past (a .s .now) (l .loop .from) (a .at) (c .before .before .p .given .0 .0) (found (c .before)) (c .if1 .left) in
     (omega (arith, within c), (omega (arith, within c), rw (add-one (c .before .before .p .given .0 .0)) (omega arith)))
 
 pub line-at-spec : {M : Type 1} → statement M

@@ -27,7 +27,9 @@ enum-known-asked c = search needs
 
 -- where the line stands
 within : (c : tie.After-known-told) →
-    let k = c .before in (k .asked .given .0 .0 ≤ k .asked .given .0 .1 .0) × (k .asked .given .0 .1 .0 < length (k .before .before .before .before .args .s .now))
+    let k = c .before in
+    let l = k .before .before in
+    (k .asked .given .0 .0 ≤ k .asked .given .0 .1 .0) × (k .asked .given .0 .1 .0 < length (l .before .before .args .s .now))
 within c =
     let k = c .before in
     let l = k .before .before in
