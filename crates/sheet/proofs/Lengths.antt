@@ -23,7 +23,7 @@ use Rattle.sheet.specs.Sections.{LineForm, linesText, sectionText}
 use Rattle.sheet.specs.Reading.{limit, items, wordOf, limitForm, itemForm, boundForm}
 use Rattle.sheet.specs.Printing.{upTo, boundAt, boundOnto, boundsUpTo, sideText, printing}
 use Rattle.sheet.proofs.Forms.{bare-of, fair-side}
-use Rattle.sheet.proofs.Filling.{upto-length, bounds-few}
+use Rattle.sheet.proofs.Making.{upto-length, bounds-few}
 
 -- ---- lines
 

@@ -1,6 +1,6 @@
 pub mod Sections
 pub mod Forms
-pub mod Filling
+pub mod Making
 pub mod Steps
 pub mod Crossings
 pub mod Lengths

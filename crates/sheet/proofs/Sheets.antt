@@ -43,9 +43,9 @@ use Rattle.sheet.specs.Reading.{crossFrom, crossOf, crossCheck, headOf, 
 use Rattle.sheet.specs.Printing.{upTo, boundAt, boundsUpTo, sideText, printing, Tidy, SheetOf}
 use Rattle.sheet.proofs.Sections.{no-refusal, went, section-before, SectionRead, section-read, Fitting, Back, section-back}
 use Rattle.sheet.proofs.Forms.{LimitFits, limit-laws, Bare, bare-same, bare-of, item-laws, BoundFits, bound-laws, fair-side}
-use Rattle.sheet.proofs.Filling.{upto-length, upto-cong, upto-inj, texts-cong, bounds-cong, bounds-skip, bounds-inj, bounds-few}
-use Rattle.sheet.proofs.Filling.{limited, Limited, limit-next, blanks, ItemsIn, items-next, items-fit}
-use Rattle.sheet.proofs.Filling.{Kept, kept-same, BoundsIn, bounds-next, bounds-fit}
+use Rattle.sheet.proofs.Making.{upto-length, upto-cong, upto-inj, texts-cong, bounds-cong, bounds-skip, bounds-inj, bounds-few}
+use Rattle.sheet.proofs.Making.{limited, Limited, limit-next, blanks, ItemsIn, items-next, items-fit}
+use Rattle.sheet.proofs.Making.{Kept, kept-same, BoundsIn, bounds-next, bounds-fit}
 use Rattle.sheet.proofs.Lengths.{printing-short}
 use Rattle.sheet.proofs.Crossings.{cross-all, all-cross}
 
