@@ -10,14 +10,7 @@ mod rivals;
 mod speed;
 mod twin;
 
-const USAGE: &str = "bench/run [quick] [compare | speed | reply] [--seed N] [--sheets N] [--steps N]
-  compare    our replies held to those of an independent planner, on 120,000 drawn sheets (--sheets)
-  speed      the speed table, 100 sheets a row (--sheets)
-  reply      our reply to the sheet of standard input
-  quick      fewer sheets
-  --seed     the seed of the draw (1)
-  --steps    a sheet that takes the twin more steps is left out and counted (compare 2,000,000; speed 1,000,000)
-  bench/run example builds and runs example.c";
+const USAGE: &str = "bench/run --help tells the words and options";
 
 struct Arguments {
     words: Vec<String>,

@@ -1,4 +1,4 @@
-//! The proved planner: the entries of `crates/embed`, as `charge.h` declares them.
+//! The proved planner: the entries of `crates/runcefo`, as `include/runcefo.h` declares them.
 
 extern "C" {
     fn charge_room() -> usize;

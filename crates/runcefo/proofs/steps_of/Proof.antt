@@ -1,8 +1,8 @@
--- `embed::steps_of` meets its contract.
+-- `runcefo::steps_of` meets its contract.
 use mathlib.Core.Path.{refl}
 use borrow.Author.Needs.{needs}
-use Rattle.embed.proofs.steps_of.Statement.{statement}
-use Rattle.embed.proofs.steps_of.Tie as tie
+use Rattle.runcefo.proofs.steps_of.Statement.{statement}
+use Rattle.runcefo.proofs.steps_of.Tie as tie
 
 enum-told : tie.Need-enum-told
 enum-told c = search needs

@@ -1,9 +1,9 @@
--- `embed::charge_plan` meets its contract: the text by value is handed over.
+-- `runcefo::charge_plan` meets its contract: the text by value is handed over.
 use mathlib.Core.Path.{ap, _∙_}
 use borrow.Author.Needs.{needs}
-use Rattle.embed.specs.Entries.{lengthOf}
-use Rattle.embed.proofs.charge_plan.Statement.{statement}
-use Rattle.embed.proofs.charge_plan.Tie as tie
+use Rattle.runcefo.specs.Entries.{lengthOf}
+use Rattle.runcefo.proofs.charge_plan.Statement.{statement}
+use Rattle.runcefo.proofs.charge_plan.Tie as tie
 
 reply-to-requires : tie.Need-reply-to-requires
 reply-to-requires c κs = search needs

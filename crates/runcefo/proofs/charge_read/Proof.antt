@@ -1,10 +1,10 @@
--- `embed::charge_read` meets its contract.
+-- `runcefo::charge_read` meets its contract.
 use mathlib.Core.Path.{ap, _∙_}
 use borrow.Author.Needs.{needs}
 use Rattle.sheet.specs.declared.Reading.{Reading}
-use Rattle.embed.specs.Entries.{toldNumber, toldLine}
-use Rattle.embed.proofs.charge_read.Statement.{statement}
-use Rattle.embed.proofs.charge_read.Tie as tie
+use Rattle.runcefo.specs.Entries.{toldNumber, toldLine}
+use Rattle.runcefo.proofs.charge_read.Statement.{statement}
+use Rattle.runcefo.proofs.charge_read.Tie as tie
 
 read-requires : tie.Need-read-requires
 read-requires c κs = search needs

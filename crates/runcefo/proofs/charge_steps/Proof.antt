@@ -1,4 +1,4 @@
--- `embed::charge_steps` meets its contract: an accepted sheet's problem is in range.
+-- `runcefo::charge_steps` meets its contract: an accepted sheet's problem is in range.
 use mathlib.Core.Path.{_≡_, ap, subst}
 use mathlib.Core.List.{List}
 use Prim.Native.Nat.{ℕ}
@@ -11,9 +11,9 @@ use Rattle.model.proofs.Records.{plain-in-range}
 use Rattle.sheet.specs.declared.Reading.{Reading}
 use Rattle.sheet.specs.Reading.{readSheet}
 use Rattle.sheet.proofs.Sheets.{accepted-sheet}
-use Rattle.embed.specs.Entries.{Steps}
-use Rattle.embed.proofs.charge_steps.Statement.{statement}
-use Rattle.embed.proofs.charge_steps.Tie as tie
+use Rattle.runcefo.specs.Entries.{Steps}
+use Rattle.runcefo.proofs.charge_steps.Statement.{statement}
+use Rattle.runcefo.proofs.charge_steps.Tie as tie
 
 in-range : (s : List ℕ) → readSheet s .verdict ≡ Accepted → InRange (plainOf (readSheet s .model))
 in-range s h = let m = readSheet s .model in plain-in-range m (accepted-sheet s m (ap (λ (v : Verdict). record { verdict = v; model = m }) h) .fair)

@@ -1,5 +1,5 @@
 // Entries for programs in C and Rust, on bytes and numbers: a sheet's verdict, its reply in a lent buffer, and how many steps its search
-// takes. bench/charge.h declares them. Paper 01, "The sheet" and "What `charge` prints". Nothing is asked of a caller but that each
+// takes. include/runcefo.h declares them. Paper 01, "The sheet" and "What `charge` prints". Nothing is asked of a caller but that each
 // pointer has as many bytes behind it as the length beside it says.
 use knapsack::Verdict;
 use model::plain_of;
@@ -15,7 +15,7 @@ ghost use Rattle.knapsack.specs.declared.Verdict.the-variants.{Accepted};
 ghost use Rattle.knapsack.specs.Ranges.{InRange};
 ghost use Rattle.model.specs.Records.{plainOf};
 ghost use Rattle.sheet.specs.Reading.{readSheet};
-ghost use Rattle.embed.specs.Entries.{toldNumber, toldLine, lengthOf, Plans, Steps};
+ghost use Rattle.runcefo.specs.Entries.{toldNumber, toldLine, lengthOf, Plans, Steps};
 
 // 01's number of a refusal, 0 where there is none.
 fn told_number(v: Verdict) -> u64

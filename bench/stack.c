@@ -1,0 +1,97 @@
+/* How many bytes of stack the entries take: each call runs on a painted stack of its own. Build and run: bench/run stack */
+#define _POSIX_C_SOURCE 200809L
+#include <pthread.h>
+#include <runcefo.h>
+#include <stdio.h>
+#include <stdlib.h>
+#include <string.h>
+
+enum { STACK = 1 << 22, PAINT = 0xa5 };
+
+/* A sheet, and which entry it is handed to. */
+struct call {
+    char entry;
+    const char *sheet;
+};
+
+static void *run(void *arg) {
+    const struct call *c = arg;
+    const uint8_t *s = (const uint8_t *)c->sheet;
+    static uint8_t out[CHARGE_ROOM];
+    uint64_t line;
+    switch (c->entry) {
+    case 'p':
+        charge_plan(s, strlen(c->sheet), out, sizeof out);
+        break;
+    case 'r':
+        charge_read(s, strlen(c->sheet), &line);
+        break;
+    case 's':
+        charge_steps(s, strlen(c->sheet));
+        break;
+    }
+    return NULL;
+}
+
+/* How much of a painted stack a thread has changed. */
+static size_t depth(struct call c) {
+    unsigned char *stack = aligned_alloc(4096, STACK);
+    pthread_attr_t attr;
+    pthread_t thread;
+    size_t i = 0;
+    if (stack == NULL) {
+        exit(1);
+    }
+    memset(stack, PAINT, STACK);
+    pthread_attr_init(&attr);
+    if (pthread_attr_setstack(&attr, stack, STACK) != 0 || pthread_create(&thread, &attr, run, &c) != 0) {
+        exit(1);
+    }
+    pthread_join(thread, NULL);
+    while (i < STACK && stack[i] == PAINT) {
+        i++;
+    }
+    free(stack);
+    return STACK - i;
+}
+
+/* Sixteen items with both bounds, every third one continuous, prices near weights. */
+static const char *crowd(char *text, int step) {
+    char *at = text;
+    int k;
+    at += sprintf(at, "limit 1\n9001\nitems 16\n");
+    for (k = 0; k < 16; k++) {
+        at += sprintf(at, "%c %d %d\n", k % 3 == 2 ? 'L' : 'W', 97 + step * k, 100 + step * k + k % 5);
+    }
+    at += sprintf(at, "lower 16\n");
+    for (k = 1; k <= 16; k++) {
+        at += sprintf(at, "%d 0\n", k);
+    }
+    at += sprintf(at, "upper 16\n");
+    for (k = 1; k <= 16; k++) {
+        at += sprintf(at, "%d 10\n", k);
+    }
+    return text;
+}
+
+int main(void) {
+    static const char *few[] = {
+        "limit 1\n20\nitems 2\nW 9 13\nL 3 2\nlower 2\n1 0\n2 0\nupper 2\n1 2\n2 5\n",     /* optimal */
+        "limit 1\n-15\nitems 2\nW -9 -13\nL -1 -2\nlower 2\n1 0\n2 0\nupper 2\n1 1\n2 5\n", /* infeasible */
+        "limit 1\n0\nitems 2\nW 2 3\nW -3 -4\nlower 2\n1 0\n2 0\nupper 0\n",                /* unbounded */
+        "limit 1\n0\nitems 17\n",                                                           /* refused */
+    };
+    char text[4096];
+    size_t most = 0, none = depth((struct call){'n', ""});
+    size_t i, n = sizeof few / sizeof few[0];
+    for (i = 0; i < n + 40; i++) {
+        const char *sheet = i < n ? few[i] : crowd(text, (int)(i - n));
+        const char *e;
+        for (e = "prs"; *e != '\0'; e++) {
+            size_t d = depth((struct call){*e, sheet}) - none;
+            most = d > most ? d : most;
+        }
+    }
+    printf("stack: %zu bytes at most, of the %d that runcefo.h allows\n", most, CHARGE_STACK);
+    return most > CHARGE_STACK;
+}
