@@ -75,11 +75,11 @@ reduced p q g z h = go (h .left) (h .right)
           ),
         )
 
-gcd-in : (turns a b : ℕ) → b ≤ turns → IsGcd a b (gcdIn turns a b)
+gcd-in : (rounds a b : ℕ) → b ≤ rounds → IsGcd a b (gcdIn rounds a b)
 unfolding gcdIn
 gcd-in zero a b h = let e : b ≡ 0 = omega arith in rw e (gcd-end a)
-gcd-in (suc turns) a zero h = gcd-end a
-gcd-in (suc turns) a (suc b) h = gcd-step a (suc b) _ (gcd-in turns (suc b) (a % suc b) (omega (arith, mod-lt a {m = suc b} (omega arith))))
+gcd-in (suc rounds) a zero h = gcd-end a
+gcd-in (suc rounds) a (suc b) h = gcd-step a (suc b) _ (gcd-in rounds (suc b) (a % suc b) (omega (arith, mod-lt a {m = suc b} (omega arith))))
 
 pub gcd-is : (a b : ℕ) → IsGcd a b (gcdOf a b)
 unfolding gcdOf

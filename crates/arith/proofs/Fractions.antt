@@ -44,7 +44,11 @@ over-· {D} {x} {n} c h = record { eq = assoc c (x .num) D ∙ ap (λ z. c *ℤ 
 
 pub over-+ : {D : ℕ} {x y : Frac} {m n : ℤ} → Over D x m → Over D y n → Over D (x +ᶠ y) (m +ℤ n)
 unfolding _+ᶠ_
-over-+ {D} {x} {y} {m} {n} h k = record { eq = left (x .num) (y .num) (x .den) (y .den) D ∙ ap₂ (λ z w. z *ℤ pos (y .den) +ℤ w *ℤ pos (x .den)) (h .eq) (k .eq) ∙ right m n (x .den) (y .den) }
+over-+ {D} {x} {y} {m} {n} h k =
+    record {
+      eq = left (x .num) (y .num) (x .den) (y .den) D ∙ ap₂ (λ z w. z *ℤ pos (y .den) +ℤ w *ℤ pos (x .den)) (h .eq) (k .eq)
+          ∙ right m n (x .den) (y .den);
+    }
   where
     left : (p r : ℤ) (q s D : ℕ) → (p *ℤ pos s +ℤ r *ℤ pos q) *ℤ pos D ≡ (p *ℤ pos D) *ℤ pos s +ℤ (r *ℤ pos D) *ℤ pos q
     left = split2 _ (λ a b c e q s D. simp zed (omega arith))
@@ -77,7 +81,8 @@ over-≤ {D} {x} {y} {m} {n} d h k = (
     right : (y .num *ℤ pos (x .den)) *ℤ pos D ≡ n *ℤ pos (x .den * y .den)
     right = swap (y .num) (x .den) D ∙ ap (λ z. z *ℤ pos (x .den)) (k .eq) ∙ join′ n (y .den) (x .den)
 
-pub over-total : (D n : ℕ) (x : ℕ → Frac) (N : ℕ → ℤ) → Each n (λ k. Over D (x k) (N k)) → (a : ℕ → ℤ) → Over D (total n (λ k. a k ·ᶠ x k)) (sum n (λ k. a k *ℤ N k))
+pub over-total : (D n : ℕ) (x : ℕ → Frac) (N : ℕ → ℤ) → Each n (λ k. Over D (x k) (N k)) → (a : ℕ → ℤ)
+    → Over D (total n (λ k. a k ·ᶠ x k)) (sum n (λ k. a k *ℤ N k))
 over-total D zero x N h a = record { eq = simp zed (omega arith) }
 over-total D (suc n) x N h a = over-+ (over-total D n x N (λ k l. h k (omega arith)) a) (over-· (a n) (h n (omega arith)))
 
@@ -113,26 +118,30 @@ common (suc n) x = more (common n x)
       D = c .D * x n .den;
       N = λ k. pick (ℕ-discrete k n) (x k .num *ℤ pos (c .D)) (c .N k *ℤ pos (x n .den));
       D≥1 = mul-le-mul (c .D≥1) (x n .den≥1);
-      reads = λ k l. pick-ind (λ z. Over (c .D * x n .den) (x k) z) (ℕ-discrete k n) _ _ (λ e. rw e (over-own (c .D) (x n))) (λ e. over-scale (x n .den) (c .reads k (omega arith)));
+      reads = λ k l. pick-ind (λ z. Over (c .D * x n .den) (x k) z) (ℕ-discrete k n) _ _ (λ e. rw e (over-own (c .D) (x n)))
+          (λ e. over-scale (x n .den) (c .reads k (omega arith)));
     }
 
 pub over-< : {D : ℕ} {x y : Frac} {m n : ℤ} → 1 ≤ D → Over D x m → Over D y n → m <ℤ n → x <ᶠ y
 unfolding _<ᶠ_ _≤ᶠ_
 over-< {D} {x} {y} {m} {n} d h k l = go (≤ℤ-or-< (y .num *ℤ pos (x .den)) (x .num *ℤ pos (y .den)))
   where
-    go : ((y .num *ℤ pos (x .den)) ≤ℤ (x .num *ℤ pos (y .den))) ⊎ ((x .num *ℤ pos (y .den)) <ℤ (y .num *ℤ pos (x .den))) → (x .num *ℤ pos (y .den)) <ℤ (y .num *ℤ pos (x .den))
+    go : ((y .num *ℤ pos (x .den)) ≤ℤ (x .num *ℤ pos (y .den))) ⊎ ((x .num *ℤ pos (y .den)) <ℤ (y .num *ℤ pos (x .den)))
+        → (x .num *ℤ pos (y .den)) <ℤ (y .num *ℤ pos (x .den))
     go (inl r) = clashℤ l (over-≤ d k h .0 r)
     go (inr r) = r
 
 pub over-≈ : {D : ℕ} {x y : Frac} {m n : ℤ} → Over D x m → Over D y n → 1 ≤ D → m ≡ n → x ≈ᶠ y
 unfolding _≈ᶠ_
-over-≈ {D} {x} {y} {m} {n} h k d e = times-≡-back D _ _ d (swap (x .num) (y .den) D ∙ ap (λ z. z *ℤ pos (y .den)) (h .eq ∙ ap (λ z. z *ℤ pos (x .den)) e) ∙ turn n (x .den) (y .den) ∙ ap (λ z. z *ℤ pos (x .den)) (sym (k .eq)) ∙ swap (y .num) D (x .den))
+over-≈ {D} {x} {y} {m} {n} h k d e =
+    times-≡-back D _ _ d (swap (x .num) (y .den) D ∙ ap (λ z. z *ℤ pos (y .den)) (h .eq ∙ ap (λ z. z *ℤ pos (x .den)) e) ∙ reorder n (x .den) (y .den)
+    ∙ ap (λ z. z *ℤ pos (x .den)) (sym (k .eq)) ∙ swap (y .num) D (x .den))
   where
     swap : (p : ℤ) (s D : ℕ) → (p *ℤ pos s) *ℤ pos D ≡ (p *ℤ pos D) *ℤ pos s
     swap = split _ (λ a b s D. simp zed (omega arith))
 
-    turn : (n : ℤ) (s t : ℕ) → (n *ℤ pos s) *ℤ pos t ≡ (n *ℤ pos t) *ℤ pos s
-    turn = split _ (λ a b s t. simp zed (omega arith))
+    reorder : (n : ℤ) (s t : ℕ) → (n *ℤ pos s) *ℤ pos t ≡ (n *ℤ pos t) *ℤ pos s
+    reorder = split _ (λ a b s t. simp zed (omega arith))
 
 -- ---- the order
 

@@ -4,7 +4,7 @@
 -- split, split2, split3, split4: to prove a law of integers, prove it of differences.
 -- zed: the ruleset that turns sums, products, signs, orders and equations of differences into those of naturals, so that
 --   `split3 _ (λ a b c e f g. simp zed (omega arith))` proves any linear law and any ring identity.
--- ≤ℤ-trans, +ℤ-mono, times-≤ …: the order's laws; natAbs-…: the absolute value.
+-- ≤ℤ-trans, +ℤ-mono, ≤ℤ-diff, diff-≤ℤ, times-≤ …: the order's laws; natAbs-…: the absolute value.
 use mathlib.Core.Path.{_≡_, refl, sym, ap, subst}
 use mathlib.Core.Bool.{Bool, true, false, cond, not}
 use mathlib.Core.Logic.{_↔_, _⊎_, inl, inr}
@@ -12,9 +12,9 @@ use native.Mathlib.Nat.{mul-le-mul-right, le-of-mul-le-mul-right}
 use Prim.Native.Nat.{ℕ, zero, suc, _+_, _*_, _-_, _≤_, _<_, min, max}
 use native.Mathlib.Omega.{arith}
 use native.Mathlib.Decide.{decLt}
-use lib.IntN.{ℤ, pos, negsuc, negℤ, natAbs, subℕ, _+ℤ_, _*ℤ_}
+use lib.IntN.{ℤ, pos, negsuc, negℤ, natAbs, subℕ, _+ℤ_, _-ℤ_, _*ℤ_}
 use lib.Signed.{_≤ℤ_, _<ℤ_, ltZ, leZ-yes, ltZ-yes, ltZ-no}
-use lib.Dec.{T, ltb, leb, ltb→lt, leb→le, le→leb, lt→ltb}
+use lib.Dec.{T, ltb→lt, leb→le, le→leb, lt→ltb}
 use borrow.Author.Tests.{lt-ltb, le-ltb}
 
 -- z is a minus b
@@ -209,6 +209,13 @@ pub +ℤ-mono : {x y z w : ℤ} → x ≤ℤ y → z ≤ℤ w → (x +ℤ z) ≤
     go : (x y z w : ℤ) → x ≤ℤ y → z ≤ℤ w → (x +ℤ z) ≤ℤ (y +ℤ w)
     go = split4 _ (λ a b c e f g h i. simp zed (omega arith))
 
+-- an order is the sign of a difference
+pub ≤ℤ-diff : (x y : ℤ) → y ≤ℤ x → pos 0 ≤ℤ (x -ℤ y)
+≤ℤ-diff = split2 _ (λ a b c e. simp zed (omega arith))
+
+pub diff-≤ℤ : (x y : ℤ) → pos 0 ≤ℤ (x -ℤ y) → y ≤ℤ x
+diff-≤ℤ = split2 _ (λ a b c e. simp zed (omega arith))
+
 -- one of the two holds
 pub ≤ℤ-or-< : (x y : ℤ) → (x ≤ℤ y) ⊎ (y <ℤ x)
 ≤ℤ-or-< = split2 _ (λ a b c e. go a b c e (decLt (c + b) (a + e)))
@@ -223,9 +230,6 @@ times-≤ n = split2 _ (λ a b c e. simp zed (λ h. omega (arith, mul-le-mul-rig
 
 pub times-≤-back : (n : ℕ) (x y : ℤ) → 1 ≤ n → (x *ℤ pos n) ≤ℤ (y *ℤ pos n) → x ≤ℤ y
 times-≤-back n = split2 _ (λ a b c e. simp zed (λ p h. le-of-mul-le-mul-right {k = n} (omega arith) p))
-
-pub times-≤-iff : (n : ℕ) (x y : ℤ) → 1 ≤ n → ((x *ℤ pos n) ≤ℤ (y *ℤ pos n)) ↔ (x ≤ℤ y)
-times-≤-iff n x y p = (times-≤-back n x y p, times-≤ n x y)
 
 pub ≤ℤ-antisym : {x y : ℤ} → x ≤ℤ y → y ≤ℤ x → x ≡ y
 ≤ℤ-antisym {x} {y} = go x y
@@ -242,20 +246,12 @@ pub *ℤ-nonneg : (x y : ℤ) → pos 0 ≤ℤ x → pos 0 ≤ℤ y → pos 0 �
 *ℤ-nonneg (pos m) (negsuc n) h k = absurd (k .le)
 *ℤ-nonneg (negsuc m) y h k = absurd (h .le)
 
--- ---- the absolute value: z is one of ±|z|
-pub sign : (z : ℤ) → (z ≡ pos (natAbs z)) ⊎ (z ≡ negℤ (pos (natAbs z)))
-sign (pos n) = inl refl
-sign (negsuc n) = inr refl
+-- ---- the absolute value
 
 pub natAbs-neg : (z : ℤ) → natAbs (negℤ z) ≡ natAbs z
 natAbs-neg (pos zero) = refl
 natAbs-neg (pos (suc n)) = refl
 natAbs-neg (negsuc n) = refl
-
--- |z| ≤ n, by both sides
-pub natAbs-≤ : (n : ℕ) (z : ℤ) → z ≤ℤ pos n → negℤ z ≤ℤ pos n → natAbs z ≤ n
-natAbs-≤ n (pos m) h k = leb→le m n (h .le)
-natAbs-≤ n (negsuc m) h k = leb→le (suc m) n (k .le)
 
 pub natAbs-times : (z : ℤ) (n : ℕ) → natAbs (z *ℤ pos n) ≡ natAbs z * n
 natAbs-times (pos m) n = refl

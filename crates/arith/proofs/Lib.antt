@@ -1,4 +1,5 @@
 pub mod Integers
+pub mod Steps
 pub mod Parts
 pub mod Quotients
 pub mod Words

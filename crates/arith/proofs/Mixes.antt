@@ -46,11 +46,15 @@ module _ (a b : Mixed) (p : Proper a) (q : Proper b) where
   -- by the three tests
   decide : (s t u r : Bool) → ltZ (a .whole) (b .whole) ≡ s → ltZ (b .whole) (a .whole) ≡ t → ltb (a .part * b .parts) (b .part * a .parts) ≡ u
       → cond s true (cond t false u) ≡ r → (r ≡ true → Below) × (r ≡ false → NotAbove)
-  decide true t u r es et eu e = (λ h. lower (a .part) (a .parts) (b .part) (b .parts) (p .low) (parts .1) (a .whole) (b .whole) (yes-lt es), λ h. absurd (impossible (sym h ∙ sym e)))
-  decide false true u r es et eu e = (λ h. absurd (impossible (e ∙ h)), λ h. weak _ _ (lower (b .part) (b .parts) (a .part) (a .parts) (q .low) (parts .0) (b .whole) (a .whole) (yes-lt et)))
+  decide true t u r es et eu e =
+      (λ h. lower (a .part) (a .parts) (b .part) (b .parts) (p .low) (parts .1) (a .whole) (b .whole) (yes-lt es), λ h. absurd (impossible (sym h ∙ sym e)))
+  decide false true u r es et eu e =
+      (λ h. absurd (impossible (e ∙ h)), λ h. weak _ _ (lower (b .part) (b .parts) (a .part) (a .parts) (q .low) (parts .0) (b .whole) (a .whole) (yes-lt et)))
   decide false false u r es et eu e =
-      let w : a .whole ≡ b .whole = ≤ℤ-antisym (no-lt et) (no-lt es) in
-      (λ h. rw w (level< (a .part) (a .parts) (b .part) (b .parts) (ltb-true _ _ (eu ∙ e ∙ h)) (b .whole)), λ h. rw w (level≤ (b .part) (b .parts) (a .part) (a .parts) (ltb-false _ _ (eu ∙ e ∙ h)) (b .whole)))
+      let w : a .whole ≡ b .whole = ≤ℤ-antisym (no-lt et) (no-lt es) in (
+        λ h. rw w (level< (a .part) (a .parts) (b .part) (b .parts) (ltb-true _ _ (eu ∙ e ∙ h)) (b .whole)),
+        λ h. rw w (level≤ (b .part) (b .parts) (a .part) (a .parts) (ltb-false _ _ (eu ∙ e ∙ h)) (b .whole)),
+      )
 
   pub less-true : lessMixed a b ≡ true → Below
   unfolding lessMixed

@@ -2,7 +2,7 @@
 --   zs             the ruleset: `omega (arith, zs, sum x y, diff x y, prod x y)` reads and proves orders and equations of
 --                  integers, and that they fit 64 bits; list one of sum, diff, neg, prod for each compound term
 --   Within n z     z is at most n from zero
--- plain-lt, plain-le: a test of two signed locals is the test of their numbers.
+-- plain-lt: a test of two signed locals is the test of their numbers.
 use mathlib.Core.Path.{_≡_, refl, sym, ap, ap₂, _∙_, subst}
 use Prim.Native.Nat.{_^_, max, ℕ, zero, suc, _+_, _*_, _-_, _≤_, _<_}
 use native.Mathlib.Omega.{arith}
@@ -15,7 +15,7 @@ use mir.Facts.{toZ-ofZ}
 use mathlib.Core.Bool.{Bool, true, false}
 use lib.IntN.{natAbs}
 use native.Mathlib.Nat.{mul-le-mul}
-use lib.Dec.{T, ltb, leb, ltb→lt, leb→le, lt→ltb}
+use lib.Dec.{T, ltb, ltb→lt, leb→le, lt→ltb}
 use Rattle.arith.specs.Within.{up, dn, Within}
 use Rattle.arith.proofs.Integers.{split, zed, Is, is-add, is-neg, is-mul, is-le, le-is}
 
@@ -97,9 +97,6 @@ from-bits h = rw (toZ-ofZ h)
 pub plain-lt : {x y : ℤ} {b : Bool} → SFits w64 x → SFits w64 y → ltZ (toZ w64 (ofZ w64 x)) (toZ w64 (ofZ w64 y)) ≡ b → ltZ x y ≡ b
 plain-lt {x} {y} p q e = sym (ap₂ ltZ (toZ-ofZ p) (toZ-ofZ q)) ∙ e
 
-pub plain-le : {x y : ℤ} {b : Bool} → SFits w64 x → SFits w64 y → leZ (toZ w64 (ofZ w64 x)) (toZ w64 (ofZ w64 y)) ≡ b → leZ x y ≡ b
-plain-le {x} {y} p q e = sym (ap₂ leZ (toZ-ofZ p) (toZ-ofZ q)) ∙ e
-
 -- what a test of two signed numbers says
 pub from-ltZ : (x y : ℤ) → ltZ x y ≡ true → up x + dn y < up y + dn x
 from-ltZ x y h = from-lt {x = x} {y = y} (ltZ-yes {a = x} {b = y} (rw h tt))
@@ -179,9 +176,5 @@ within-back {n} t h = toZ-ofZ (within-sfits (ltb→lt n (2 ^ 63) t) h)
 pub cast-in : {z : ℤ} → pos 0 ≤ℤ z → SFits w64 z → T (nonNeg z) × Fits w64 (natAbs z)
 cast-in {z = pos n} h f = (tt, record { fits = omega (arith, f .sfits) })
 cast-in {z = negsuc n} h f = absurd (h .le)
-
-pub abs-neg : {z : ℤ} → z <ℤ pos 0 → natAbs (pos 0 -ℤ z) ≡ natAbs z
-abs-neg {z = pos n} h = absurd (omega (arith, from-lt h))
-abs-neg {z = negsuc n} h = omega arith
 
 pub ruleset zs = (from-le, to-le, from-lt, to-lt, from-eq, to-eq, to-sfits, from-bits, from-ltZ, from-ltZ-no, from-leZ, from-leZ-no)

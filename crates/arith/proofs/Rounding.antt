@@ -61,12 +61,14 @@ pub floor-is : (n d : ℤ) → (d ≡ pos 0 → ⊥) → IsFloor n d (floorDiv n
 unfolding floorDiv
 floor-is n (pos zero) h = absurd (h refl)
 floor-is n (pos (suc m)) h = record { positive = λ p. by-pos n (suc m) (omega arith); negative = λ p. absurd (not-below m p) }
-floor-is n (negsuc m) h = record { positive = λ p. absurd (p .lt); negative = λ p. flip n (floorBy (negℤ n) (suc m)) (negsuc m) refl (by-pos (negℤ n) (suc m) (omega arith)) }
+floor-is n (negsuc m) h =
+    record { positive = λ p. absurd (p .lt); negative = λ p. flip n (floorBy (negℤ n) (suc m)) (negsuc m) refl (by-pos (negℤ n) (suc m) (omega arith)) }
   where
     flip : (n f d : ℤ) → d ≡ negsuc m → ((pos (suc m) *ℤ f) ≤ℤ negℤ n) × (negℤ n <ℤ (pos (suc m) *ℤ f +ℤ pos (suc m))) → (n ≤ℤ (d *ℤ f)) × ((d *ℤ f +ℤ d) <ℤ n)
     flip n f d e k = rw e (mirror n f k)
       where
-        mirror : (n f : ℤ) → ((pos (suc m) *ℤ f) ≤ℤ negℤ n) × (negℤ n <ℤ (pos (suc m) *ℤ f +ℤ pos (suc m))) → (n ≤ℤ (negsuc m *ℤ f)) × ((negsuc m *ℤ f +ℤ negsuc m) <ℤ n)
+        mirror : (n f : ℤ) → ((pos (suc m) *ℤ f) ≤ℤ negℤ n) × (negℤ n <ℤ (pos (suc m) *ℤ f +ℤ pos (suc m))) → (n ≤ℤ (negsuc m *ℤ f))
+            × ((negsuc m *ℤ f +ℤ negsuc m) <ℤ n)
         mirror = split2 _ (λ a b c e. simp zed (omega arith))
 
 -- two numbers between the same multiples are one
@@ -87,7 +89,8 @@ floor-unique n (pos (suc m)) f g z h k =
     ≤ℤ-antisym (meet (suc m) n f g (h .positive p .0) (k .positive p .1)) (meet (suc m) n g f (k .positive p .0) (h .positive p .1))
 floor-unique n (negsuc m) f g z h k =
     let p : negsuc m <ℤ pos 0 = ltZ-yes tt in
-    ≤ℤ-antisym (meet (suc m) (negℤ n) f g (up n f (h .negative p .0)) (dn n g (k .negative p .1))) (meet (suc m) (negℤ n) g f (up n g (k .negative p .0)) (dn n f (h .negative p .1)))
+    ≤ℤ-antisym (meet (suc m) (negℤ n) f g (up n f (h .negative p .0)) (dn n g (k .negative p .1)))
+    (meet (suc m) (negℤ n) g f (up n g (k .negative p .0)) (dn n f (h .negative p .1)))
   where
     up : (n f : ℤ) → n ≤ℤ (negsuc m *ℤ f) → (pos (suc m) *ℤ f) ≤ℤ negℤ n
     up = split2 _ (λ a b c e. simp zed (omega arith))

@@ -72,8 +72,13 @@ sum-bump (suc n) a f i r l = go (ℕ-discrete i n) (λ m. sum-bump n a f i r m)
     inner : (s x y r : ℤ) → (s +ℤ r) +ℤ x *ℤ y ≡ (s +ℤ x *ℤ y) +ℤ r
     inner = split4 _ (λ a b c e f g h i. simp zed (omega arith))
 
-    go : Dec (i ≡ n) → (i < n → sum n (λ k. a k *ℤ bump f i r k) ≡ sum n (λ k. a k *ℤ f k) +ℤ a i *ℤ r) → sum (suc n) (λ k. a k *ℤ bump f i r k) ≡ sum (suc n) (λ k. a k *ℤ f k) +ℤ a i *ℤ r
-    go (yes e) ih = rw (e, bump-same f n r, sum-cong n (λ k. a k *ℤ bump f n r k) (λ k. a k *ℤ f k) (λ k m. ap (λ z. a k *ℤ z) (bump-other f n r k (omega arith)))) (last (sum n (λ k. a k *ℤ f k)) (a n) (f n) r)
+    go : Dec (i ≡ n) → (i < n → sum n (λ k. a k *ℤ bump f i r k) ≡ sum n (λ k. a k *ℤ f k) +ℤ a i *ℤ r)
+        → sum (suc n) (λ k. a k *ℤ bump f i r k) ≡ sum (suc n) (λ k. a k *ℤ f k) +ℤ a i *ℤ r
+    go (yes e) ih = rw (
+      e,
+      bump-same f n r,
+      sum-cong n (λ k. a k *ℤ bump f n r k) (λ k. a k *ℤ f k) (λ k m. ap (λ z. a k *ℤ z) (bump-other f n r k (omega arith))),
+    ) (last (sum n (λ k. a k *ℤ f k)) (a n) (f n) r)
     go (no e) ih = rw (ih (omega arith), bump-other f i r n (omega arith)) (inner (sum n (λ k. a k *ℤ f k)) (a n) (f n) (a i *ℤ r))
 
 -- ---- bounds of a sum and of its parts
@@ -127,12 +132,14 @@ unfolding far
 far-cong zero X N M h = refl
 far-cong (suc n) X N M h = ap₂ _+_ (far-cong n X N M (λ k l. h k (omega arith))) (ap (λ z. natAbs (z -ℤ X n)) (h n (omega arith)))
 
-pub far-bump : (n : ℕ) (X N : ℕ → ℤ) (i : ℕ) (r : ℤ) (c : ℕ) → i < n → natAbs ((N i +ℤ r) -ℤ X i) + c ≤ natAbs (N i -ℤ X i) → far n X (bump N i r) + c ≤ far n X N
+pub far-bump : (n : ℕ) (X N : ℕ → ℤ) (i : ℕ) (r : ℤ) (c : ℕ) → i < n → natAbs ((N i +ℤ r) -ℤ X i) + c ≤ natAbs (N i -ℤ X i)
+    → far n X (bump N i r) + c ≤ far n X N
 unfolding far
 far-bump zero X N i r c l h = absurd (omega arith)
 far-bump (suc n) X N i r c l h = go (ℕ-discrete i n) (λ m. far-bump n X N i r c m h)
   where
-    go : Dec (i ≡ n) → (i < n → far n X (bump N i r) + c ≤ far n X N) → (far n X (bump N i r) + natAbs (bump N i r n -ℤ X n)) + c ≤ far n X N + natAbs (N n -ℤ X n)
+    go : Dec (i ≡ n) → (i < n → far n X (bump N i r) + c ≤ far n X N) → (far n X (bump N i r) + natAbs (bump N i r n -ℤ X n)) + c ≤ far n X N + natAbs
+        (N n -ℤ X n)
     go (yes e) ih = rw (← e, bump-same N i r, far-cong i X (bump N i r) N (λ k m. bump-other N i r k (omega arith))) (omega arith)
     go (no e) ih = rw (bump-other N i r n (omega arith)) (omega (arith, ih (omega arith)))
 

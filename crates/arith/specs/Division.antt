@@ -1,5 +1,6 @@
 -- Division of signed numbers, rounded down or up. Paper 01, "Dividing": an amount that just fits is rounded down for a limit from
 -- above and up for one from below, for either sign of both numbers.
+--   floorBy n d     n / d rounded down, for a divisor above 0
 --   floorDiv n d    n / d rounded down
 --   ceilDiv n d     n / d rounded up
 use Prim.Native.Nat.{ℕ, suc, _/_}

@@ -1,9 +1,9 @@
 -- Fractions with their own divisors.
---   num / den       den is at least 1
+--   Frac            num / den, where den is at least 1
 --   int n           n / 1
 --   frac p q        p / q, as a record holds it; a divisor 0 counts as 1
---   +ᶠ, ·ᶠ          sum, and multiple by an integer
---   ≤ᶠ, <ᶠ, ≈ᶠ      order and equality of values, cross-multiplied
+--   _+ᶠ_ _·ᶠ_       sum, and multiple by an integer
+--   _≤ᶠ_ _<ᶠ_ _≈ᶠ_  order and equality of values, cross-multiplied
 --   total n f       f 0 + … + f (n - 1)
 use mathlib.Core.Path.{_≡_}
 use Prim.Native.Nat.{ℕ, zero, suc, _*_, _≤_, max}

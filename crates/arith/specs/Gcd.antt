@@ -1,6 +1,8 @@
 -- Common divisors, and fractions in lowest terms.
 --   Divides d n     d divides n
+--   gcdIn t a b     Euclid's way in at most t rounds
 --   gcdOf a b       the greatest common divisor; gcd 0 0 is 0
+--   signed z n      n with the sign of z
 --   lowest p q      p / q in lowest terms: no common divisor above 1, zero is 0 / 1
 use mathlib.Core.Path.{_≡_}
 use Prim.Native.Nat.{ℕ, zero, suc, _*_, _/_, _%_}
@@ -10,16 +12,15 @@ use Rattle.arith.specs.declared.Fraction.{Fraction}
 abbrev pub Divides : ℕ → ℕ → Type 0
 Divides d n = (k : ℕ) × (n ≡ k * d)
 
--- Euclid's way, in at most the given number of turns; a remainder falls at each, so b turns are enough
+-- a remainder falls at each round, so b rounds are enough
 unfoldable pub gcdIn : ℕ → ℕ → ℕ → ℕ
 gcdIn zero a b = a
-gcdIn (suc turns) a zero = a
-gcdIn (suc turns) a (suc b) = gcdIn turns (suc b) (a % suc b)
+gcdIn (suc rounds) a zero = a
+gcdIn (suc rounds) a (suc b) = gcdIn rounds (suc b) (a % suc b)
 
 unfoldable pub gcdOf : ℕ → ℕ → ℕ
 gcdOf a b = gcdIn b a b
 
--- n with the sign of z
 unfoldable pub signed : ℤ → ℕ → ℤ
 signed (pos k) n = pos n
 signed (negsuc k) n = negℤ (pos n)

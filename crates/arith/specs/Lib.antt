@@ -1,5 +1,6 @@
 pub mod Sum
 pub mod Within
+pub mod Limits
 pub mod Fractions
 pub mod Division
 pub mod Gcd

@@ -1,6 +1,7 @@
 -- Sums of integers over the first n places of a function.
 --   sum n f         f 0 + … + f (n - 1)
 --   Each n P        P holds at each of the first n places
+--   pick d x y      one of two things, by a decision
 --   bump f k r      f with r added at place k
 use Prim.Native.Nat.{ℕ, zero, suc, _<_}
 use native.Mathlib.Decide.{ℕ-discrete}

@@ -25,7 +25,7 @@ use Rattle.arith.proofs.Parts.{lt-le}
 use Rattle.arith.proofs.Sums.{bump-same, bump-other}
 use Rattle.knapsack.specs.declared.Item.{Item}
 use Rattle.knapsack.specs.declared.Problem.{Problem}
-use Rattle.knapsack.specs.Records.{itemAt}
+use Rattle.knapsack.specs.Ranges.{itemAt, InRange}
 use Rattle.knapsack.specs.Meaning.{Instance, instanceOf, Point, Keeps, weights, prices, Optimal, CostPair, EqualPair}
 use Rattle.knapsack.proofs.Common.{Keepsᴰ, weighsᴰ, valueᴰ, Feasibleᴰ}
 use Rattle.knapsack.proofs.Bridge.{over-lower, over-upper, Reads, bridge-feasible, bridge-value}
@@ -54,7 +54,8 @@ module _ (s : Instance) (D : ℕ) (N : ℕ → ℤ) (i j : ℕ) (r t : ℤ) (h :
   N′ = without D N i r j t
 
   keeps-without : Each (s .count) (λ k. Keepsᴰ D (s .item k) (N k)) → Each (s .count) (λ k. Keepsᴰ D (s .item k) (N′ k))
-  keeps-without p = keeps-shift s D N i j (negℤ r) (negℤ t) (h .first-in) (h .second-in) (h .different) p (rw (away D (N i) r) at (h .first-within)) (rw (away D (N j) t) at (h .second-within))
+  keeps-without p = keeps-shift s D N i j (negℤ r) (negℤ t) (h .first-in) (h .second-in) (h .different) p (rw (away D (N i) r) at (h .first-within))
+      (rw (away D (N j) t) at (h .second-within))
 
   -- a weighted sum falls by what the steps weigh
   sum-without : (a : ℕ → ℤ) → sum (s .count) (λ k. a k *ℤ N′ k) ≡ sum (s .count) (λ k. a k *ℤ N k) -ℤ (a i *ℤ r +ℤ a j *ℤ t) *ℤ pos D
@@ -67,7 +68,8 @@ module _ (s : Instance) (D : ℕ) (N : ℕ → ℤ) (i j : ℕ) (r t : ℤ) (h :
   cost-discard c p = (
     record {
       keeps = keeps-without (p .keeps);
-      fits = rw (sum-without (weights s)) (lighter (weighsᴰ s N) (s .capacity *ℤ pos D) (s .item i .weight *ℤ r +ℤ s .item j .weight *ℤ t) (p .fits) (c .heavy));
+      fits = rw (sum-without (weights s)) (lighter (weighsᴰ s N) (s .capacity *ℤ pos D) (s .item i .weight *ℤ r +ℤ s .item j .weight *ℤ t) (p .fits)
+          (c .heavy));
     },
     rw (sum-without (prices s)) (more (valueᴰ s N) (s .item i .price *ℤ r +ℤ s .item j .price *ℤ t) (c .loss)),
   )
@@ -119,10 +121,11 @@ cost-not-optimal s x i j r t l m ne c ki kj =
       second-within = within-over (z .D) (x j) (z .N j) t (s .item j) (z .D≥1) (z .reads j m) kj;
     }) c (z .D≥1) x (z .reads)
 
--- an entry of the table discards
-pub tabled-not-optimal : (p : Problem) (i j : ℕ) (r t : ℤ) → tabled p i j ≡ Steps r t → (x : Point) → Keeps (itemAt p i) (x i +ᶠ int (negℤ r)) → Keeps (itemAt p j) (x j +ᶠ int (negℤ t)) → ¬ Optimal (instanceOf p) x
-tabled-not-optimal p i j r t e x ki kj =
-    let a = tabled-steps r t p i j e in
+-- End theorem: an entry of the table discards.
+pub tabled-not-optimal : (p : Problem) → InRange p → (i j : ℕ) (r t : ℤ) → tabled p i j ≡ Steps r t → (x : Point) →
+    Keeps (itemAt p i) (x i +ᶠ int (negℤ r)) → Keeps (itemAt p j) (x j +ᶠ int (negℤ t)) → ¬ Optimal (instanceOf p) x
+tabled-not-optimal p range i j r t e x ki kj =
+    let a = tabled-steps r t p range i j e in
     cost-not-optimal (instanceOf p) x i j r t (a .first-place) (a .second-place) (λ n. a .different (sym n)) (a .pair) ki kj
 
 -- ---- which of two points of equal value comes first
@@ -131,6 +134,7 @@ pub record ComesFirst (N M : ℕ → ℤ) (f : ℕ) : Type 0 where
   pub before : (k : ℕ) → k < f → N k ≡ M k
   pub less : N f <ℤ M f
 
+-- End theorem: a point without an equal-value pair's steps comes first, if the first step is above zero.
 pub equal-first : (D : ℕ) (N : ℕ → ℤ) (i j : ℕ) (r t : ℤ) → 1 ≤ D → i < j → pos 0 <ℤ r → ComesFirst (without D N i r j t) N i
 equal-first D N i j r t d l h = record {
   before = λ k m. later k (omega arith) ∙ bump-other N i (negℤ r *ℤ pos D) k (omega arith);
@@ -143,6 +147,7 @@ equal-first D N i j r t d l h = record {
     falls : (n r : ℤ) → pos 0 <ℤ r → (n +ℤ negℤ r *ℤ pos D) <ℤ n
     falls = split2 _ (λ a b c e. simp zed (λ l. omega (arith, mul-le-mul-left D l)))
 
+-- End theorem: no two points come before each other.
 pub first-once : (N M : ℕ → ℤ) (f g : ℕ) → ComesFirst N M f → ComesFirst M N g → ⊥
 first-once N M f g p q = go (decLt f g) (decLt g f)
   where

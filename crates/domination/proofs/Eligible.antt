@@ -63,7 +63,10 @@ not-wrong : (n k : ℕ) → 1 ≤ k → k ≤ n → wrongNumber n k ≡ false
 not-wrong n k h l = rw (ne-eqb k 0 (omega arith)) (le-ltb n k l)
 
 pub numbers-iff : (n i j : ℕ) → (wrongNumbers n i j ≡ false) ↔ Numbers n i j
-numbers-iff n i j = (go (wrongNumber n i) (wrongNumber n j) refl refl, λ h. rw (not-wrong n i (h .first-least) (h .first-most), not-wrong n j (h .second-least) (h .second-most)) (ne-eqb i j (h .different)))
+numbers-iff n i j = (
+  go (wrongNumber n i) (wrongNumber n j) refl refl,
+  λ h. rw (not-wrong n i (h .first-least) (h .first-most), not-wrong n j (h .second-least) (h .second-most)) (ne-eqb i j (h .different)),
+)
   where
     go : (s t : Bool) → wrongNumber n i ≡ s → wrongNumber n j ≡ t → cond s true (cond t true (eqb i j)) ≡ false → Numbers n i j
     go true t p q e = absurd (not-both true refl e)

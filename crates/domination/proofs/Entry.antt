@@ -1,5 +1,5 @@
 -- The entry's replies and the table's entries, in 01's words.
---   Answerable p i j     no refusal applies: the record is accepted, i and j are two items of it, and both are eligible
+--   Answerable m i j     no refusal applies: the record is accepted, i and j are two items of it, and both are eligible
 --   Applies p i j r s    what a search uses of an entry that holds steps: two items of the problem, and a cost pair
 -- refused-record, refused-numbers, refused-items, answered: which reply when; the four cases are all.
 -- least-pair-steps, least-pair-missing: an answer is 01's least pair exactly.
@@ -15,17 +15,18 @@ use Rattle.knapsack.specs.declared.Mark.the-variants.{Integer}
 use Rattle.knapsack.specs.declared.Item.{Item}
 use Rattle.knapsack.specs.declared.Problem.{Problem}
 use Rattle.knapsack.specs.declared.Refusal.{Refusal}
-use Rattle.knapsack.specs.declared.Verdict.{Verdict}
 use Rattle.knapsack.specs.declared.Verdict.the-variants.{Accepted, Refused as Rejected}
-use Rattle.knapsack.specs.Records.{itemAt, verdict, ItemInRange}
+use Rattle.knapsack.specs.Ranges.{itemAt, ItemInRange, InRange}
 use Rattle.knapsack.specs.Meaning.{CostPair, LeastPair, NoPair}
-use Rattle.knapsack.proofs.Items.{accepted}
+use Rattle.model.specs.Records.{plainOf, verdict}
+use Rattle.model.specs.Refusals.{pair-numbers, pair-items}
+use Rattle.model.specs.declared.Model.{Model}
 use Rattle.domination.specs.declared.Pair.{Pair}
 use Rattle.domination.specs.declared.Pair.the-variants.{Missing, Steps}
 use Rattle.domination.specs.declared.PairReply.{PairReply}
 use Rattle.domination.specs.declared.PairReply.the-variants.{Refused, Found}
 use Rattle.domination.specs.Eligible.{Eligible}
-use Rattle.domination.specs.Pairs.{pairOf, eligible, wrongNumbers, refuse, paired, numbered, after, leastPair, orMissing, tabled}
+use Rattle.domination.specs.Pairs.{pairOf, eligible, wrongNumbers, refusePair, paired, numbered, leastPair, orMissing, tabled}
 use Rattle.domination.proofs.Minimal.{pair-steps, pair-missing}
 use Rattle.domination.proofs.Sizes.{Small, pair-small}
 use Rattle.domination.proofs.Eligible.{Numbers, eligible-iff, numbers-iff}
@@ -39,48 +40,60 @@ succeeds : (t : Bool) → (t ≡ false → ⊥) → t ≡ true
 succeeds true h = refl
 succeeds false h = absurd (h refl)
 
-module _ (p : Problem) (i j : ℕ) where
+module _ (m : Model) (i j : ℕ) where
   abbrev first : Item
-  first = itemAt p (i - 1)
+  first = itemAt (plainOf m) (i - 1)
 
   abbrev second : Item
-  second = itemAt p (j - 1)
+  second = itemAt (plainOf m) (j - 1)
 
   pub record Answerable : Type 0 where
-    pub is-accepted : verdict p ≡ Accepted
-    pub numbers : Numbers (p .count) i j
+    pub is-accepted : verdict m ≡ Accepted
+    pub numbers : Numbers (m .count) i j
     pub first-eligible : Eligible first
     pub second-eligible : Eligible second
 
-  pub refused-record : (f : Refusal) → verdict p ≡ Rejected f → leastPair p i j ≡ Refused f
+  pub refused-record : (f : Refusal) → verdict m ≡ Rejected f → leastPair m i j ≡ Refused f
   unfolding leastPair
   refused-record f e = rw e
 
-  pub refused-numbers : verdict p ≡ Accepted → (Numbers (p .count) i j → ⊥) → leastPair p i j ≡ refuse 9
+  pub refused-numbers : verdict m ≡ Accepted → (Numbers (m .count) i j → ⊥) → leastPair m i j ≡ refusePair pair-numbers
   unfolding leastPair numbered
-  refused-numbers e n = rw (e, succeeds (wrongNumbers (p .count) i j) (λ w. n (numbers-iff (p .count) i j .0 w)))
+  refused-numbers e n = rw (e, succeeds (wrongNumbers (m .count) i j) (λ w. n (numbers-iff (m .count) i j .0 w)))
 
-  pub refused-items : verdict p ≡ Accepted → Numbers (p .count) i j → (Eligible first × Eligible second → ⊥) → leastPair p i j ≡ refuse 10
+  pub refused-items : verdict m ≡ Accepted → Numbers (m .count) i j → (Eligible first × Eligible second → ⊥) → leastPair m i j ≡ refusePair pair-items
   unfolding leastPair numbered paired
-  refused-items e n h = rw (e, numbers-iff (p .count) i j .1 n) (go (eligible first) (eligible second) refl refl)
+  refused-items e n h = rw (e, numbers-iff (m .count) i j .1 n) (go (eligible first) (eligible second) refl refl)
     where
-      go : (s t : Bool) → eligible first ≡ s → eligible second ≡ t → cond s (cond t (Found (pairOf first second)) (refuse 10)) (refuse 10) ≡ refuse 10
+      go : (s t : Bool) → eligible first ≡ s → eligible second ≡ t →
+          cond s (cond t (Found (pairOf first second)) (refusePair pair-items)) (refusePair pair-items) ≡ refusePair pair-items
       go true true a b = absurd (h (eligible-iff first .0 a, eligible-iff second .0 b))
       go true false a b = refl
       go false t a b = refl
 
-  pub answered : Answerable → leastPair p i j ≡ Found (pairOf first second)
+  pub answered : Answerable → leastPair m i j ≡ Found (pairOf first second)
   unfolding leastPair numbered paired
-  answered h = rw (h .is-accepted, numbers-iff (p .count) i j .1 (h .numbers), eligible-iff first .1 (h .first-eligible), eligible-iff second .1 (h .second-eligible))
+  answered h = rw (
+    h .is-accepted,
+    numbers-iff (m .count) i j .1 (h .numbers),
+    eligible-iff first .1 (h .first-eligible),
+    eligible-iff second .1 (h .second-eligible),
+  )
 
-  found : (q : Pair) → Answerable → (leastPair p i j ≡ Found q) ↔ (pairOf first second ≡ q)
+  found : (q : Pair) → Answerable → (leastPair m i j ≡ Found q) ↔ (pairOf first second ≡ q)
   found q h = let e = answered h in (λ k. cc, λ k. cc)
 
-  pub least-pair-steps : Answerable → (r s : ℤ) → (leastPair p i j ≡ Found (Steps r s)) ↔ LeastPair first second r s
-  least-pair-steps h r s = let a = found (Steps r s) h in let b = pair-steps first second (h .first-eligible) (h .second-eligible) r s in (λ k. b .0 (a .0 k), λ m. a .1 (b .1 m))
+  pub least-pair-steps : Answerable → (r s : ℤ) → (leastPair m i j ≡ Found (Steps r s)) ↔ LeastPair first second r s
+  least-pair-steps h r s =
+      let a = found (Steps r s) h in
+      let b = pair-steps first second (h .first-eligible) (h .second-eligible) r s in
+      (λ k. b .0 (a .0 k), λ l. a .1 (b .1 l))
 
-  pub least-pair-missing : Answerable → (leastPair p i j ≡ Found Missing) ↔ NoPair first second
-  least-pair-missing h = let a = found Missing h in let b = pair-missing first second (h .first-eligible) (h .second-eligible) in (λ k. b .0 (a .0 k), λ m. a .1 (b .1 m))
+  pub least-pair-missing : Answerable → (leastPair m i j ≡ Found Missing) ↔ NoPair first second
+  least-pair-missing h =
+      let a = found Missing h in
+      let b = pair-missing first second (h .first-eligible) (h .second-eligible) in
+      (λ k. b .0 (a .0 k), λ l. a .1 (b .1 l))
 
 -- ---- the table
 
@@ -95,36 +108,39 @@ pub record Applies (p : Problem) (i j : ℕ) (r s : ℤ) : Type 0 where
   pub second-small : Within 1000 s
 
 module _ (r s : ℤ) where
-  answer : (v : Verdict) (q : PairReply) → orMissing (after v q) ≡ Steps r s → (v ≡ Accepted) × (q ≡ Found (Steps r s))
-  answer Accepted (Found q) e = (refl, ap Found e)
-  answer Accepted (Refused f) e = absurd (let z : _≡_ {A = ℕ} 0 1 = cc in omega arith)
-  answer (Rejected f) q e = absurd (let z : _≡_ {A = ℕ} 0 1 = cc in omega arith)
+  answer : (q : PairReply) → orMissing q ≡ Steps r s → q ≡ Found (Steps r s)
+  answer (Found q) e = ap Found e
+  answer (Refused f) e = absurd (let z : _≡_ {A = ℕ} 0 1 = cc in omega arith)
 
   items : (x y : Item) → paired x y ≡ Found (Steps r s) → (Eligible x) × (Eligible y) × (pairOf x y ≡ Steps r s)
   unfolding paired
   items x y = go (eligible x) (eligible y) refl refl
     where
-      go : (a b : Bool) → eligible x ≡ a → eligible y ≡ b → cond a (cond b (Found (pairOf x y)) (refuse 10)) (refuse 10) ≡ Found (Steps r s) → (Eligible x) × (Eligible y) × (pairOf x y ≡ Steps r s)
+      go : (a b : Bool) → eligible x ≡ a → eligible y ≡ b →
+          cond a (cond b (Found (pairOf x y)) (refusePair pair-items)) (refusePair pair-items) ≡ Found (Steps r s) →
+          (Eligible x) × (Eligible y) × (pairOf x y ≡ Steps r s)
       go true true e f h = (eligible-iff x .0 e, eligible-iff y .0 f, cc)
       go true false e f h = absurd (let z : _≡_ {A = ℕ} 0 1 = cc in omega arith)
       go false b e f h = absurd (let z : _≡_ {A = ℕ} 0 1 = cc in omega arith)
 
-  numbers-of : (p : Problem) (i j : ℕ) → numbered p i j ≡ Found (Steps r s) → Numbers (p .count) i j × (paired (itemAt p (i - 1)) (itemAt p (j - 1)) ≡ Found (Steps r s))
+  numbers-of : (p : Problem) (i j : ℕ) → numbered p i j ≡ Found (Steps r s) →
+      Numbers (p .count) i j × (paired (itemAt p (i - 1)) (itemAt p (j - 1)) ≡ Found (Steps r s))
   unfolding numbered
   numbers-of p i j = go (wrongNumbers (p .count) i j) refl
     where
-      go : (a : Bool) → wrongNumbers (p .count) i j ≡ a → cond a (refuse 9) (paired (itemAt p (i - 1)) (itemAt p (j - 1))) ≡ Found (Steps r s) → Numbers (p .count) i j × (paired (itemAt p (i - 1)) (itemAt p (j - 1)) ≡ Found (Steps r s))
+      go : (a : Bool) → wrongNumbers (p .count) i j ≡ a → cond a (refusePair pair-numbers) (paired (itemAt p (i - 1)) (itemAt p (j - 1))) ≡ Found (Steps r s) →
+          Numbers (p .count) i j × (paired (itemAt p (i - 1)) (itemAt p (j - 1)) ≡ Found (Steps r s))
       go true e h = absurd (let z : _≡_ {A = ℕ} 0 1 = cc in omega arith)
       go false e h = (numbers-iff (p .count) i j .0 e, h)
 
-  pub tabled-steps : (p : Problem) (i j : ℕ) → tabled p i j ≡ Steps r s → Applies p i j r s
-  unfolding leastPair
-  tabled-steps p i j e =
-      let a = answer (verdict p) (numbered p (i + 1) (j + 1)) e in
-      let n = numbers-of p (i + 1) (j + 1) (a .1) in
-      go (accepted p (a .0) .items-in) (n .0) (items (itemAt p (i + 1 - 1)) (itemAt p (j + 1 - 1)) (n .1))
+  pub tabled-steps : (p : Problem) → InRange p → (i j : ℕ) → tabled p i j ≡ Steps r s → Applies p i j r s
+  tabled-steps p range i j e =
+      let n = numbers-of p (i + 1) (j + 1) (answer (numbered p (i + 1) (j + 1)) e) in
+      go (range .items-in) (n .0) (items (itemAt p (i + 1 - 1)) (itemAt p (j + 1 - 1)) (n .1))
     where
-      go : ((k : ℕ) → k < p .count → ItemInRange (itemAt p k)) → Numbers (p .count) (i + 1) (j + 1) → (Eligible (itemAt p (i + 1 - 1))) × (Eligible (itemAt p (j + 1 - 1))) × (pairOf (itemAt p (i + 1 - 1)) (itemAt p (j + 1 - 1)) ≡ Steps r s) → Applies p i j r s
+      go : ((k : ℕ) → k < p .count → ItemInRange (itemAt p k)) → Numbers (p .count) (i + 1) (j + 1) →
+          (Eligible (itemAt p (i + 1 - 1))) × (Eligible (itemAt p (j + 1 - 1))) × (pairOf (itemAt p (i + 1 - 1)) (itemAt p (j + 1 - 1)) ≡ Steps r s) →
+          Applies p i j r s
       go f n h =
           let u : i + 1 - 1 ≡ i = omega arith in
           let v : j + 1 - 1 ≡ j = omega arith in
@@ -132,7 +148,8 @@ module _ (r s : ℤ) where
           let lj : j < p .count = omega (arith, n .second-most) in
           let k = rw (u, v) at h in
           let m = pair-steps (itemAt p i) (itemAt p j) (k .0) (k .1) r s .0 (k .2) in
-          let z : Small (Steps r s) = subst Small (k .2) (pair-small (itemAt p i) (itemAt p j) (record { in-range = f i li; is-eligible = k .0 }) (record { in-range = f j lj; is-eligible = k .1 })) in
+          let z : Small (Steps r s) = subst Small (k .2) (pair-small (itemAt p i) (itemAt p j) (record { in-range = f i li; is-eligible = k .0 })
+          (record { in-range = f j lj; is-eligible = k .1 })) in
           record {
             first-place = li;
             second-place = lj;

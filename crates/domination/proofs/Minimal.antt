@@ -203,11 +203,14 @@ module _ (x y : Item) (ex : Eligible x) (ey : Eligible y) where
   }
 
   -- and back
-  unturned : (R S : ℤ) → FillOf x y R S → (pos 0 ≤ℤ (x .weight *ℤ turn (x .weight) R +ℤ y .weight *ℤ turn (y .weight) S)) × ((x .price *ℤ turn (x .weight) R +ℤ y .price *ℤ turn (y .weight) S) <ℤ pos 0)
+  unturned : (R S : ℤ) → FillOf x y R S →
+      (pos 0 ≤ℤ (x .weight *ℤ turn (x .weight) R +ℤ y .weight *ℤ turn (y .weight) S)) ×
+      ((x .price *ℤ turn (x .weight) R +ℤ y .price *ℤ turn (y .weight) S) <ℤ pos 0)
   unturned R S f =
       let r = turn (x .weight) R in
       let s = turn (y .weight) S in (
-        rw (sum-turned (x .weight) (x .weight) r (y .weight) (y .weight) s (weighs x ex) (weighs y ey), turn-turn (x .weight) R, turn-turn (y .weight) S) (f .heavy),
+        rw (sum-turned (x .weight) (x .weight) r (y .weight) (y .weight) s (weighs x ex) (weighs y ey), turn-turn (x .weight) R, turn-turn (y .weight) S)
+            (f .heavy),
         rw (sum-turned (x .weight) (x .price) r (y .weight) (y .price) s (signs x ex) (signs y ey), turn-turn (x .weight) R, turn-turn (y .weight) S) (f .loss),
       )
 
@@ -269,7 +272,8 @@ module _ (x y : Item) (ex : Eligible x) (ey : Eligible y) where
     unfolding oneWay
     one-way-outcome = go (roomFor (x .lower) (x .upper) (give x y)) (roomFor (y .lower) (y .upper) (take x y)) refl refl
       where
-        go : (p q : Bool) → roomFor (x .lower) (x .upper) (give x y) ≡ p → roomFor (y .lower) (y .upper) (take x y) ≡ q → Outcome x y (cond p (cond q (Steps first second) Missing) Missing)
+        go : (p q : Bool) → roomFor (x .lower) (x .upper) (give x y) ≡ p → roomFor (y .lower) (y .upper) (take x y) ≡ q →
+            Outcome x y (cond p (cond q (Steps first second) Missing) Missing)
         go true true e f = meets e f
         go true false e f = no-second-room f
         go false q e f = no-first-room e
@@ -325,10 +329,12 @@ same-size (negsuc m) (negsuc n) h e = ap negsuc (omega arith)
 
 module _ (x y : Item) (ex : Eligible x) (ey : Eligible y) where
   way-signs : (R S R′ S′ : ℤ) → WayOf x y R S → WayOf x y R′ S′ → SameSign R R′ × SameSign S S′
-  way-signs R S R′ S′ (forth r t v) (forth u q w) = (inl (above-zero r (trade-something x y ey r (suc t) v), above-zero u (trade-something x y ey u (suc q) w)), inr (ltZ-yes tt, ltZ-yes tt))
+  way-signs R S R′ S′ (forth r t v) (forth u q w) =
+      (inl (above-zero r (trade-something x y ey r (suc t) v), above-zero u (trade-something x y ey u (suc q) w)), inr (ltZ-yes tt, ltZ-yes tt))
   way-signs R S R′ S′ (forth r t v) (back u q w) = absurd (one-direction x y (trade-direction x y ey r (suc t) v) (trade-direction y x ex q (suc u) w))
   way-signs R S R′ S′ (back r t v) (forth u q w) = absurd (one-direction x y (trade-direction x y ey u (suc q) w) (trade-direction y x ex t (suc r) v))
-  way-signs R S R′ S′ (back r t v) (back u q w) = (inr (ltZ-yes tt, ltZ-yes tt), inl (above-zero t (trade-something y x ex t (suc r) v), above-zero q (trade-something y x ex q (suc u) w)))
+  way-signs R S R′ S′ (back r t v) (back u q w) =
+      (inr (ltZ-yes tt, ltZ-yes tt), inl (above-zero t (trade-something y x ex t (suc r) v), above-zero q (trade-something y x ex q (suc u) w)))
 
   pub same-signs : (r s r′ s′ : ℤ) → CostPair x y r s → CostPair x y r′ s′ → SameSign r r′ × SameSign s s′
   same-signs r s r′ s′ h k =

@@ -8,8 +8,9 @@ use Rattle.arith.specs.Gcd.{signed}
 use Rattle.knapsack.specs.declared.Bound.the-variants.{At}
 use Rattle.knapsack.specs.declared.Mark.the-variants.{Integer}
 use Rattle.knapsack.specs.declared.Item.{Item}
-use Rattle.knapsack.specs.declared.Problem.{Problem}
-use Rattle.knapsack.specs.Records.{blank, someItem, verdict}
+use Rattle.knapsack.specs.Ranges.{blank}
+use Rattle.model.specs.Records.{someItem, verdict}
+use Rattle.model.specs.declared.Model.{Model}
 use Rattle.knapsack.specs.Meaning.{LeastPair, NoPair}
 use Rattle.domination.specs.declared.Pair.the-variants.{Missing, Steps}
 use Rattle.domination.specs.declared.PairReply.the-variants.{Found}
@@ -23,7 +24,7 @@ abbrev pub item : ℕ → ℕ → ℕ → Item
 item a c u = record { mark = Integer; weight = pos a; price = pos c; lower = At (pos 0); upper = At (pos u) }
 
 -- row F, with this upper bound of the first item
-abbrev pub rowF : ℕ → Problem
+abbrev pub rowF : ℕ → Model
 rowF u = record { items = item 3 5 u ∷ item 4 6 10 ∷ replicate 14 blank; count = 2; capacity = pos 10 }
 
 pub row-L : leastPair (rowF 10) 1 2 ≡ Found (Steps (negsuc 3) (pos 3))
@@ -42,6 +43,7 @@ pair-M : pairOf (item 3 5 3) (item 4 6 10) ≡ Missing
 unfolding signed serving leastGive oneWay pairOf
 pair-M = refl
 
+-- End theorems: what the rows mean.
 pub row-L-least : LeastPair (item 3 5 10) (item 4 6 10) (negsuc 3) (pos 3)
 row-L-least = pair-steps (item 3 5 10) (item 4 6 10) (eligible-iff (item 3 5 10) .0 refl) (eligible-iff (item 4 6 10) .0 refl) (negsuc 3) (pos 3) .0 pair-L
 

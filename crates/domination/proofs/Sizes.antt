@@ -12,7 +12,7 @@ use Rattle.arith.specs.Gcd.{signed}
 use Rattle.arith.specs.Within.{Within}
 use Rattle.arith.proofs.Parts.{neg-within, within-neg}
 use Rattle.knapsack.specs.declared.Item.{Item}
-use Rattle.knapsack.specs.Records.{ItemInRange}
+use Rattle.knapsack.specs.Ranges.{ItemInRange}
 use Rattle.domination.specs.Trades.{Sizes}
 use Rattle.domination.specs.declared.Pair.{Pair}
 use Rattle.domination.specs.declared.Pair.the-variants.{Missing, Steps}

@@ -1,10 +1,21 @@
 -- Least pairs, computed. Paper 01, "Least pair"; the field's name is the minimal cost-domination pair.
+--   roomFor l u n        whether there is room for n steps between two bounds
+--   sizeOf x             weight and price without sign
 --   lessEfficient x y    x is worth less than y per unit of weight
---   give x y, take x y   the least steps of x and y without sign, x the less efficient
---   oneWay x y           those steps with their signs, if both items have room for them
+--   give x y, take x y   the least steps of x and y without sign, x the less efficient;  tradeOf x y: both
+--   steps x y r t        steps with their signs
+--   oneWay x y           those least steps with their signs, if both items have room for them
+--   swapped q            the pair of the items in the other order
 --   pairOf x y           the least pair of two eligible items, or Missing (01's none)
---   leastPair p i j      the reply for items i and j, from 1: a refusal of the record, 9, 10, or a pair
---   tabled p i j         the table's entry for places i and j, from 0: Missing where the reply is a refusal
+--   isInteger, oneSign, eligible   the tests of row 10
+--   Fit x, Traded x y    what the code asks of items
+--   wrongNumber n k, wrongNumbers n i j   the tests of row 9
+--   refusePair n         refusal n
+--   paired x y, numbered p i j   rows 10 and 9, then a pair
+--   after v q            the record's refusal, or q
+--   leastPair m i j      the reply for items i and j, from 1: a refusal of the record, 9, 10, or a pair
+--   orMissing q          the pair of a reply
+--   tabled p i j         the table's entry for places i and j, from 0, of a plain problem: Missing where 9 or 10 is due
 use mathlib.Core.Path.{_≡_}
 use mathlib.Core.Bool.{Bool, true, false, cond}
 use Prim.Native.Nat.{ℕ, _+_, _*_, _-_}
@@ -20,7 +31,10 @@ use Rattle.knapsack.specs.declared.Item.{Item}
 use Rattle.knapsack.specs.declared.Problem.{Problem}
 use Rattle.knapsack.specs.declared.Verdict.{Verdict}
 use Rattle.knapsack.specs.declared.Verdict.the-variants.{Accepted, Refused as Rejected}
-use Rattle.knapsack.specs.Records.{itemAt, verdict, ItemInRange}
+use Rattle.knapsack.specs.Ranges.{itemAt, ItemInRange}
+use Rattle.model.specs.Records.{plainOf, refusalOf, verdict}
+use Rattle.model.specs.Refusals as refusal
+use Rattle.model.specs.declared.Model.{Model}
 use Rattle.domination.specs.declared.Pair.{Pair}
 use Rattle.domination.specs.declared.Pair.the-variants.{Missing, Steps}
 use Rattle.domination.specs.declared.PairReply.{PairReply}
@@ -98,27 +112,27 @@ wrongNumber n k = cond (eqb k 0) true (ltb n k)
 abbrev pub wrongNumbers : ℕ → ℕ → ℕ → Bool
 wrongNumbers n i j = cond (wrongNumber n i) true (cond (wrongNumber n j) true (eqb i j))
 
-abbrev pub refuse : ℕ → PairReply
-refuse n = Refused (record { number = n; line = 0 })
+abbrev pub refusePair : ℕ → PairReply
+refusePair n = Refused (refusalOf n)
 
 -- row 10 of the refusals
 unfoldable pub paired : Item → Item → PairReply
-paired x y = cond (eligible x) (cond (eligible y) (Found (pairOf x y)) (refuse 10)) (refuse 10)
+paired x y = cond (eligible x) (cond (eligible y) (Found (pairOf x y)) (refusePair refusal.pair-items)) (refusePair refusal.pair-items)
 
 -- rows 9 and 10, on an accepted problem
 unfoldable pub numbered : Problem → ℕ → ℕ → PairReply
-numbered p i j = cond (wrongNumbers (p .count) i j) (refuse 9) (paired (itemAt p (i - 1)) (itemAt p (j - 1)))
+numbered p i j = cond (wrongNumbers (p .count) i j) (refusePair refusal.pair-numbers) (paired (itemAt p (i - 1)) (itemAt p (j - 1)))
 
 abbrev pub after : Verdict → PairReply → PairReply
 after Accepted q = q
 after (Rejected f) q = Refused f
 
-unfoldable pub leastPair : Problem → ℕ → ℕ → PairReply
-leastPair p i j = after (verdict p) (numbered p i j)
+unfoldable pub leastPair : Model → ℕ → ℕ → PairReply
+leastPair m i j = after (verdict m) (numbered (plainOf m) i j)
 
 abbrev pub orMissing : PairReply → Pair
 orMissing (Refused f) = Missing
 orMissing (Found q) = q
 
 abbrev pub tabled : Problem → ℕ → ℕ → Pair
-tabled p i j = orMissing (leastPair p (i + 1) (j + 1))
+tabled p i j = orMissing (numbered p (i + 1) (j + 1))

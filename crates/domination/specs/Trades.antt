@@ -1,8 +1,10 @@
 -- Trades of two items by weights and prices without sign: r units of one item, weight a and price c each, given for t units of
 -- another, weight b and price d each.
 --   Trade a b c d r t      what is given is no lighter than what is taken, and cheaper
+--   Sizes a b c d          magnitudes of the figures of two items that may be paired
 --   partner c d r          the least t that is dearer than r units given
 --   serves a b c d r       whether that t is light enough
+--   serving turns a b c d r   the first that serves from r on, in so many turns
 --   leastGive a b c d      the first r, counting up from 1, that serves; r = b does where any does
 use mathlib.Core.Bool.{Bool, cond}
 use Prim.Native.Nat.{ℕ, zero, suc, _+_, _*_, _-_, _/_, _≤_, _<_}

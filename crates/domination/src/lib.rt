@@ -5,14 +5,18 @@ use knapsack::Item;
 use knapsack::Problem;
 use knapsack::Refusal;
 use knapsack::Verdict;
-use knapsack::check_record;
+use model::Model;
+use model::check_model;
+use model::plain_of;
+use model::refusal_of;
+use model::refusals;
 use pairing::is_eligible;
 use pairing::pair_of;
 ghost use mathlib.Core.Path.{_≡_};
-ghost use Prim.Native.Nat.{ℕ, _+_, _*_, _/_, _%_, _<_};
+ghost use Prim.Native.Nat.{ℕ, _+_, _*_, _<_};
 ghost use lib.ListN.{getD, replicate};
-ghost use Rattle.knapsack.specs.Records.{ItemInRange, InRange};
-ghost use Rattle.domination.specs.Pairs.{wrongNumber, wrongNumbers, refuse, paired, numbered, leastPair, orMissing, tabled};
+ghost use Rattle.knapsack.specs.Ranges.{ItemInRange, InRange};
+ghost use Rattle.domination.specs.Pairs.{wrongNumber, wrongNumbers, refusePair, paired, numbered, leastPair, orMissing, tabled};
 
 mod pairing; // pairing.rt: the least pair of two items
 mod trade; // trade.rt: the least steps without sign
@@ -29,11 +33,10 @@ pub enum PairReply {
     Found(Pair),
 }
 
-// A refusal with line 0.
-fn refusal(n: u64) -> PairReply
-    ensures { λ r. ⌜ r ≡ refuse n ⌝ }
+fn refused(number: u64) -> PairReply
+    ensures { λ r. ⌜ r ≡ refusePair number ⌝ }
 {
-    PairReply::Refused(Refusal { number: n, line: 0 })
+    PairReply::Refused(refusal_of(number))
 }
 
 // Whether an item number is outside 1 to n.
@@ -70,7 +73,7 @@ fn pair_items(x: Item, y: Item) -> PairReply
             return PairReply::Found(q);
         }
     }
-    refusal(10)
+    refused(refusals::PAIR_ITEMS)
 }
 
 // The reply for two item numbers of an accepted problem.
@@ -80,7 +83,7 @@ fn pair_numbered(p: Problem, i: usize, j: usize) -> PairReply
 {
     let n = p.count;
     if are_wrong(n, i, j) {
-        return refusal(9);
+        return refused(refusals::PAIR_NUMBERS);
     }
     let x = p.items[i - 1];
     let y = p.items[j - 1];
@@ -88,24 +91,24 @@ fn pair_numbered(p: Problem, i: usize, j: usize) -> PairReply
 }
 
 // 01's least pair of the items i and j, numbered from 1.
-pub fn least_pair(p: Problem, i: usize, j: usize) -> PairReply
-    ensures { λ r. ⌜ r ≡ leastPair p i j ⌝ }
+pub fn least_pair(m: Model, i: usize, j: usize) -> PairReply
+    ensures { λ r. ⌜ r ≡ leastPair m i j ⌝ }
 {
-    let v = check_record(p);
+    let v = check_model(m);
     match v {
-        Verdict::Accepted => pair_numbered(p, i, j),
+        Verdict::Accepted => pair_numbered(plain_of(m), i, j),
         Verdict::Refused(f) => PairReply::Refused(f),
     }
 }
 
-// The table before it is filled, and of a problem that is refused.
+// The table before it is filled.
 fn no_pairs() -> [Pair; 256]
     ensures { λ r. ⌜ r ≡ replicate 256 Pair.Missing ⌝ }
 {
     [Pair::Missing; 256]
 }
 
-// A pair that the entry would refuse is none in the table.
+// A pair that is refused is none in the table.
 fn or_missing(q: PairReply) -> Pair
     ensures { λ r. ⌜ r ≡ orMissing q ⌝ }
 {
@@ -115,18 +118,20 @@ fn or_missing(q: PairReply) -> Pair
     }
 }
 
-// The table's entry for places i and j of an accepted problem.
+// The table's entry for places i and j.
 fn entry_at(p: Problem, i: usize, j: usize) -> Pair
     requires { ⌜ InRange p × ((i < 16) × (j < 16)) ⌝ }
-    ensures { λ r. ⌜ r ≡ orMissing (numbered p (i + 1) (j + 1)) ⌝ }
+    ensures { λ r. ⌜ r ≡ tabled p i j ⌝ }
 {
     let q = pair_numbered(p, i + 1, j + 1);
     or_missing(q)
 }
 
-fn fill_table(p: Problem) -> [Pair; 256]
+// The least pairs of all places i and j, from 0: entry 16 i + j. Filled once, before a search: it serves the solver and is no public
+// entry, so it takes the plain problem and asks for its ranges.
+pub fn pair_table(p: Problem) -> [Pair; 256]
     requires { ⌜ InRange p ⌝ }
-    ensures { λ r. ⌜ ((k : ℕ) → k < 256 → getD r k Pair.Missing ≡ orMissing (numbered p (k / 16 + 1) (k % 16 + 1))) ⌝ }
+    ensures { λ r. ⌜ ((i j : ℕ) → i < 16 → j < 16 → getD r (16 * i + j) Pair.Missing ≡ tabled p i j) ⌝ }
 {
     let mut t = no_pairs();
     let mut k: usize = 0;
@@ -135,15 +140,4 @@ fn fill_table(p: Problem) -> [Pair; 256]
         k += 1;
     }
     t
-}
-
-// The least pairs of all places i and j, from 0, of a problem: entry 16 i + j. Filled once, before a search.
-pub fn pair_table(p: Problem) -> [Pair; 256]
-    ensures { λ r. ⌜ ((i j : ℕ) → i < 16 → j < 16 → getD r (16 * i + j) Pair.Missing ≡ tabled p i j) ⌝ }
-{
-    let v = check_record(p);
-    match v {
-        Verdict::Accepted => fill_table(p),
-        Verdict::Refused(_) => no_pairs(),
-    }
 }

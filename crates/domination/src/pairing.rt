@@ -8,7 +8,7 @@ use knapsack::Item;
 use knapsack::Mark;
 ghost use mathlib.Core.Path.{_≡_};
 ghost use Prim.Native.Nat.{_≤_};
-ghost use Rattle.knapsack.specs.Records.{BoundInRange, ItemInRange};
+ghost use Rattle.knapsack.specs.Ranges.{BoundInRange, ItemInRange};
 ghost use Rattle.domination.specs.Pairs.{Fit, Traded, roomFor, steps, oneWay, swapped, pairOf, oneSign, eligible};
 
 // Whether n steps fit between two bounds.

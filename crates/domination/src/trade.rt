@@ -3,7 +3,7 @@ use arith::magnitude;
 use knapsack::Item;
 ghost use mathlib.Core.Path.{_≡_};
 ghost use Prim.Native.Nat.{_≤_};
-ghost use Rattle.knapsack.specs.Records.{ItemInRange};
+ghost use Rattle.knapsack.specs.Ranges.{ItemInRange};
 ghost use Rattle.domination.specs.Trades.{Sizes, partner, serves, leastGive};
 ghost use Rattle.domination.specs.Pairs.{Traded, sizeOf, lessEfficient, tradeOf};
 

@@ -5,8 +5,12 @@ use domination::Pair;
 use domination::PairReply;
 use domination::least_pair;
 use domination::pair_table;
-use knapsack::Problem;
+use knapsack::Verdict;
 use libc::STDIN_FILENO;
+use model::Model;
+use model::check_model;
+use model::plain_of;
+use trials::make::record_of;
 use trials::print::print;
 use trials::print::print_number;
 use trials::print::print_signed;
@@ -17,7 +21,7 @@ use trials::read::skip;
 ghost use Prim.Native.Nat.{_≤_, _<_};
 
 struct ProblemRead {
-    problem: Problem,
+    problem: Model,
     lines: usize,
     at: usize,
 }
@@ -30,11 +34,7 @@ fn read_problem(s: &[u8], from: usize) -> ProblemRead
     let capacity = read_number(s, count.at);
     let i = read_items(s, capacity.at, given.size);
     let list = i.list;
-    let p = Problem {
-        items: list,
-        count: count.size as usize,
-        capacity: capacity.value,
-    };
+    let p = record_of(capacity.value, count.size as usize, list);
     ProblemRead {
         problem: p,
         lines: places(given.size),
@@ -63,7 +63,7 @@ fn print_reply(q: PairReply) {
     }
 }
 
-fn print_replies(p: Problem, i: usize, lines: usize)
+fn print_replies(p: Model, i: usize, lines: usize)
     requires { ⌜ lines ≤ 16 ⌝ }
 {
     let mut j: usize = 0;
@@ -72,6 +72,15 @@ fn print_replies(p: Problem, i: usize, lines: usize)
         print_reply(q);
         print(b" ");
         j += 1;
+    }
+}
+
+// The table of a record; no pairs where it is refused.
+fn table_of(p: Model) -> [Pair; 256] {
+    let v = check_model(p);
+    match v {
+        Verdict::Accepted => pair_table(plain_of(p)),
+        Verdict::Refused(_) => [Pair::Missing; 256],
     }
 }
 
@@ -87,10 +96,10 @@ fn print_entries(t: [Pair; 256], i: usize, lines: usize)
     }
 }
 
-fn print_problem(p: Problem, lines: usize)
+fn print_problem(p: Model, lines: usize)
     requires { ⌜ lines ≤ 16 ⌝ }
 {
-    let t = pair_table(p);
+    let t = table_of(p);
     let mut i: usize = 0;
     while i < lines + 2 {
         print_replies(p, i, lines);

@@ -23,31 +23,32 @@ use Rattle.knapsack.specs.declared.Item.{Item}
 use Rattle.knapsack.specs.declared.Mark.{Mark}
 use Rattle.knapsack.specs.declared.Mark.the-variants.{Integer, Continuous}
 use Rattle.knapsack.specs.declared.Problem.{Problem}
-use Rattle.knapsack.specs.Records.{itemAt}
+use Rattle.knapsack.specs.Ranges.{itemAt}
 use Rattle.knapsack.specs.Meaning.{KeepsMark, KeepsLower, KeepsUpper, Keeps}
 use Rattle.feasibility.specs.declared.Candidate.{Candidate}
-use Rattle.feasibility.specs.declared.Side.the-variants.{Lower, Upper}
-use Rattle.feasibility.specs.Amounts.{amountAt, GoodAmount}
-use Rattle.feasibility.specs.Check.{breaksMark, breaksBound, breaks, orElse, numbered, firstBroken}
-use Rattle.knapsack.proofs.Items.{neither}
+use Rattle.model.specs.declared.Side.the-variants.{Lower, Upper}
+use Rattle.feasibility.specs.Amounts.{proposedAt, GoodAmount}
+use Rattle.feasibility.specs.Check.{breaksMark, breaksBound, breaks, earlierOf, numbered, firstBroken}
+use Rattle.model.proofs.Records.{neither}
 use Rattle.feasibility.proofs.Divisor.{not-above, one-more}
 
 -- ---- what is found
 
 pub data Found (n : ℕ) (p : Problem) (c : Candidate) : ℕ → Type 0 where
-  none : Each n (λ k. breaks (itemAt p k) (amountAt c k) ≡ false) → Found n p c 0
-  first : (k : ℕ) → k < n → breaks (itemAt p k) (amountAt c k) ≡ true → Each k (λ j. breaks (itemAt p j) (amountAt c j) ≡ false) → Found n p c (suc k)
+  none : Each n (λ k. breaks (itemAt p k) (proposedAt c k) ≡ false) → Found n p c 0
+  first : (k : ℕ) → k < n → breaks (itemAt p k) (proposedAt c k) ≡ true → Each k (λ j. breaks (itemAt p j) (proposedAt c j) ≡ false) → Found n p c (suc k)
 
 pub found : (n : ℕ) (p : Problem) (c : Candidate) → Found n p c (firstBroken n p c)
 unfolding firstBroken
 found zero p c = none (λ k l. absurd (omega arith))
 found (suc n) p c = go (firstBroken n p c) (found n p c)
   where
-    last : Each n (λ k. breaks (itemAt p k) (amountAt c k) ≡ false) → (b : Bool) → breaks (itemAt p n) (amountAt c n) ≡ b → Found (suc n) p c (cond b (suc n) 0)
+    last : Each n (λ k. breaks (itemAt p k) (proposedAt c k) ≡ false) → (b : Bool) → breaks (itemAt p n) (proposedAt c n) ≡ b →
+        Found (suc n) p c (cond b (suc n) 0)
     last h true e = first n (omega arith) e h
     last h false e = none (one-more n h e)
 
-    go : (m : ℕ) → Found n p c m → Found (suc n) p c (orElse m (numbered n (itemAt p n) (amountAt c n)))
+    go : (m : ℕ) → Found n p c m → Found (suc n) p c (earlierOf m (numbered n (itemAt p n) (proposedAt c n)))
     go m (none h) = last h _ refl
     go m (first k l e h) = first k (omega arith) e h
 
@@ -55,7 +56,8 @@ found (suc n) p c = go (firstBroken n p c) (found n p c)
 
 -- in lowest terms a whole number has the divisor 1
 whole : (x : Fraction) (n : ℤ) → GoodAmount x → x .p ≡ n *ℤ pos (x .q) → x .q ≤ 1
-whole x n g e = not-above (x .q) (subst (Divides (x .q)) (g .lowest) (gcd-is (natAbs (x .p)) (x .q) .most (x .q) (natAbs n, ap natAbs e ∙ natAbs-times n (x .q)) (divides-self (x .q))))
+whole x n g e = not-above (x .q) (subst (Divides (x .q)) (g .lowest)
+    (gcd-is (natAbs (x .p)) (x .q) .most (x .q) (natAbs n, ap natAbs e ∙ natAbs-times n (x .q)) (divides-self (x .q))))
 
 keeps-mark : (m : Mark) (x : Fraction) → GoodAmount x → (breaksMark m (x .q) ≡ false) ↔ KeepsMark m (frac (x .p) (x .q))
 keeps-mark Integer x g = (to, from)

@@ -1,7 +1,7 @@
 -- Laws of the common divisor.
+--   Divided n x d    d is a divisor over which each of the first n amounts is an integer
 -- good-iff: an amount is not bad exactly if it is good.
---   Serves n x d     d is a divisor over which each of the first n amounts is an integer
--- serves: the common divisor does, where it is not 0.
+-- divided: the common divisor is such, where it is not 0.
 -- divisor-iff: it is 0 exactly if row 8 refuses the amounts.
 use mathlib.Core.Path.{_≡_, refl, sym, ap, _∙_, subst}
 use mathlib.Core.Bool.{Bool, true, false}
@@ -16,7 +16,7 @@ use Rattle.arith.specs.Gcd.{Divides, gcdOf}
 use Rattle.arith.specs.Sum.{Each}
 use Rattle.arith.specs.declared.Fraction.{Fraction}
 use Rattle.arith.proofs.Divisors.{gcd-is, divisor-pos}
-use Rattle.knapsack.proofs.Items.{neither}
+use Rattle.model.proofs.Records.{neither}
 use Rattle.feasibility.specs.Amounts.{GoodAmount, GoodPoint, badAmount, joined, commonDivisor}
 
 good : (x : Fraction) → badAmount x ≡ false → GoodAmount x
@@ -44,6 +44,7 @@ not-bad : (x : Fraction) → GoodAmount x → badAmount x ≡ false
 unfolding badAmount
 not-bad x g = rw (ne-eqb (x .q) 0 (λ e. omega (arith, g .some)), le-ltb 1000 (x .q) (g .few), g .lowest) (le-ltb _ _ (g .near))
 
+-- End theorem: row 8's test of an amount is what row 8 asks.
 pub good-iff : (x : Fraction) → (badAmount x ≡ false) ↔ GoodAmount x
 good-iff x = (good x, not-bad x)
 
@@ -81,7 +82,7 @@ one-more {P} n h new k l = go (ℕ-discrete k n)
 
 -- ---- all amounts over one divisor
 
-pub record Serves (n : ℕ) (x : ℕ → Fraction) (d : ℕ) : Type 0 where
+pub record Divided (n : ℕ) (x : ℕ → Fraction) (d : ℕ) : Type 0 where
   pub some : 1 ≤ d
   pub few : d ≤ 1000
   pub fine : Each n (λ k. GoodAmount (x k))
@@ -90,10 +91,10 @@ pub record Serves (n : ℕ) (x : ℕ → Fraction) (d : ℕ) : Type 0 where
 divides-one : (q d : ℕ) → Divides q 1 → Divides q d
 divides-one q d (m, e) = (d * m, omega (arith, ap (λ t. d * t) e))
 
-serves-more : (n : ℕ) (x : ℕ → Fraction) (d : ℕ) → (d ≢ 0 → Serves n x d) → joined d (x n) ≢ 0 → Serves (suc n) x (joined d (x n))
-serves-more n x d ih h = go (joined d (x n)) h (joining d (x n) h .fine) (joining d (x n) h .joins)
+divided-more : (n : ℕ) (x : ℕ → Fraction) (d : ℕ) → (d ≢ 0 → Divided n x d) → joined d (x n) ≢ 0 → Divided (suc n) x (joined d (x n))
+divided-more n x d ih h = go (joined d (x n)) h (joining d (x n) h .fine) (joining d (x n) h .joins)
   where
-    go : (e : ℕ) → e ≢ 0 → GoodAmount (x n) → Joins d (x n) e → Serves (suc n) x e
+    go : (e : ℕ) → e ≢ 0 → GoodAmount (x n) → Joins d (x n) e → Divided (suc n) x e
     go e z g (whole q) = let s = ih z in record {
       some = s .some;
       few = s .few;
@@ -107,10 +108,10 @@ serves-more n x d ih h = go (joined d (x n)) h (joining d (x n) h .fine) (joinin
       divides = one-more n (λ k m. divides-one (x k .q) (x n .q) (subst (Divides (x k .q)) o (s .divides k m))) (1, omega arith);
     }
 
-pub serves : (n : ℕ) (x : ℕ → Fraction) → commonDivisor n x ≢ 0 → Serves n x (commonDivisor n x)
+pub divided : (n : ℕ) (x : ℕ → Fraction) → commonDivisor n x ≢ 0 → Divided n x (commonDivisor n x)
 unfolding commonDivisor
-serves zero x h = record { some = omega arith; few = omega arith; fine = λ k l. absurd (omega arith); divides = λ k l. absurd (omega arith) }
-serves (suc n) x h = serves-more n x (commonDivisor n x) (serves n x) h
+divided zero x h = record { some = omega arith; few = omega arith; fine = λ k l. absurd (omega arith); divides = λ k l. absurd (omega arith) }
+divided (suc n) x h = divided-more n x (commonDivisor n x) (divided n x) h
 
 -- ---- row 8
 
@@ -125,7 +126,7 @@ not-above q (suc m, e) = go q m e
 abbrev Single : ℕ → (ℕ → Fraction) → Type 0
 Single n x = (j k : ℕ) → j < n → k < n → 1 < x j .q → 1 < x k .q → j ≡ k
 
-single-more : (n : ℕ) (x : ℕ → Fraction) (d : ℕ) → (d ≢ 0 → Serves n x d) → (d ≢ 0 → Single n x) → joined d (x n) ≢ 0 → Single (suc n) x
+single-more : (n : ℕ) (x : ℕ → Fraction) (d : ℕ) → (d ≢ 0 → Divided n x d) → (d ≢ 0 → Single n x) → joined d (x n) ≢ 0 → Single (suc n) x
 single-more n x d ih jh h = go (joined d (x n)) h (joining d (x n) h .joins)
   where
     -- place n is whole, or all before it are
@@ -150,7 +151,7 @@ single-more n x d ih jh h = go (joined d (x n)) h (joining d (x n) h .joins)
 single : (n : ℕ) (x : ℕ → Fraction) → commonDivisor n x ≢ 0 → Single n x
 unfolding commonDivisor
 single zero x h = λ j k lj lk. absurd (omega arith)
-single (suc n) x h = single-more n x (commonDivisor n x) (serves n x) (single n x) h
+single (suc n) x h = single-more n x (commonDivisor n x) (divided n x) (single n x) h
 
 -- past whole amounts the divisor stays
 past-whole : (d : ℕ) (x : Fraction) → GoodAmount x → x .q ≡ 1 → joined d x ≡ d
@@ -164,12 +165,14 @@ to-part x g l = rw (not-bad x g, ne-eqb (x .q) 1 (λ e. omega arith))
 all-whole : (n : ℕ) (x : ℕ → Fraction) → Each n (λ k. GoodAmount (x k)) → Each n (λ k. x k .q ≡ 1) → commonDivisor n x ≡ 1
 unfolding commonDivisor
 all-whole zero x g w = refl
-all-whole (suc n) x g w = past-whole (commonDivisor n x) (x n) (g n (omega arith)) (w n (omega arith)) ∙ all-whole n x (λ k l. g k (omega arith)) (λ k l. w k (omega arith))
+all-whole (suc n) x g w = past-whole (commonDivisor n x) (x n) (g n (omega arith)) (w n (omega arith)) ∙
+    all-whole n x (λ k l. g k (omega arith)) (λ k l. w k (omega arith))
 
 divisor : (n : ℕ) (x : ℕ → Fraction) → GoodPoint n x → commonDivisor n x ≢ 0
 unfolding commonDivisor
 divisor zero x p e = omega arith
-divisor (suc n) x p e = go (ℕ-discrete (x n .q) 1) (divisor n x (record { good = λ k l. p .good k (omega arith); single = λ j k lj lk. p .single j k (omega arith) (omega arith) }))
+divisor (suc n) x p e = go (ℕ-discrete (x n .q) 1) (divisor n x
+    (record { good = λ k l. p .good k (omega arith); single = λ j k lj lk. p .single j k (omega arith) (omega arith) }))
   where
     g : GoodAmount (x n)
     g = p .good n (omega arith)
@@ -191,4 +194,4 @@ divisor (suc n) x p e = go (ℕ-discrete (x n .q) 1) (divisor n x (record { good
         omega arith
 
 pub divisor-iff : (n : ℕ) (x : ℕ → Fraction) → (commonDivisor n x ≢ 0) ↔ GoodPoint n x
-divisor-iff n x = (λ h. record { good = serves n x h .fine; single = single n x h }, divisor n x)
+divisor-iff n x = (λ h. record { good = divided n x h .fine; single = single n x h }, divisor n x)

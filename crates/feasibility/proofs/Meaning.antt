@@ -20,22 +20,44 @@ use Rattle.arith.proofs.Fractions.{Over, over-int, over-total, over-≤, over-<
 use Rattle.arith.proofs.Integers.{split, zed}
 use Rattle.arith.proofs.Parts.{impossible}
 use Rattle.arith.proofs.Words.{yes-lt, no-lt}
-use Rattle.knapsack.specs.declared.Problem.{Problem}
 use Rattle.knapsack.specs.declared.Refusal.{Refusal}
 use Rattle.knapsack.specs.declared.Verdict.{Verdict}
 use Rattle.knapsack.specs.declared.Verdict.the-variants as verdicts
-use Rattle.knapsack.specs.Meaning.{Keeps, Feasible, instanceOf}
-use Rattle.knapsack.specs.Records.{itemAt, verdict, InRange}
-use Rattle.knapsack.proofs.Items.{accepted, in-range}
+use Rattle.knapsack.specs.Meaning.{Keeps, Feasible}
+use Rattle.model.specs.Records.{itemAt, plainOf, verdict, Admissible}
+use Rattle.model.specs.Refusals.{amounts, amount}
+use Rattle.model.specs.declared.Model.{Model}
+use Rattle.model.proofs.Records.{accepted, admitted}
 use Rattle.feasibility.specs.declared.Candidate.{Candidate}
 use Rattle.feasibility.specs.declared.Figure.{Figure}
 use Rattle.feasibility.specs.declared.Figure.the-variants.{Weight, Price}
 use Rattle.feasibility.specs.declared.PointReply.{PointReply}
 use Rattle.feasibility.specs.declared.PointReply.the-variants as reply
-use Rattle.feasibility.specs.Amounts.{amountAt, GoodPoint, commonDivisor, numerator}
-use Rattle.feasibility.specs.Check.{breaks, firstBroken, figureOf, totalOf, afterItems, judged, refuse, amountCheck, afterRecord, pointCheck, pointOf, Proposed, RefusedAs, by-record, by-count, by-amounts, ToldWeight, ToldItem, Told}
+use Rattle.feasibility.specs.Amounts.{proposedAt, GoodPoint, commonDivisor, numerator}
+use Rattle.feasibility.specs.Check.{
+  breaks,
+  firstBroken,
+  figureOf,
+  totalOf,
+  afterItems,
+  judged,
+  refusePoint,
+  amountCheck,
+  afterRecord,
+  pointCheck,
+  asked,
+  proposedPoint,
+  Proposed,
+  RefusedAs,
+  by-record,
+  by-count,
+  by-amounts,
+  ToldWeight,
+  ToldItem,
+  Told,
+}
 use Rattle.feasibility.proofs.Breaking.{Found, none, first, found, keeps-iff}
-use Rattle.feasibility.proofs.Divisor.{Serves, serves, divisor-iff}
+use Rattle.feasibility.proofs.Divisor.{Divided, divided, divisor-iff}
 
 -- ---- amounts and values over the common divisor
 
@@ -55,33 +77,38 @@ over-lowest v d l =
 
 -- ---- yes or no
 
-module _ (p : Problem) (c : Candidate) (d : ℕ) (asked : Proposed p c) (s : Serves (p .count) (amountAt c) d) where
-  total-over : (f : Figure) → Over d (total (p .count) (λ k. figureOf f (itemAt p k) ·ᶠ pointOf c k)) (totalOf f d (p .count) p c)
-  total-over f = over-total d (p .count) (pointOf c) (λ k. numerator d (amountAt c k)) (λ k l. over-numerator d (amountAt c k) (s .fine k l .some) (s .divides k l)) (λ k. figureOf f (itemAt p k))
+module _ (m : Model) (c : Candidate) (d : ℕ) (asked : Proposed m c) (s : Divided (m .count) (proposedAt c) d) where
+  total-over : (f : Figure) → Over d (total (m .count) (λ k. figureOf f (itemAt m k) ·ᶠ proposedPoint c k)) (totalOf f d (m .count) (plainOf m) c)
+  total-over f = over-total d (m .count) (proposedPoint c) (λ k. numerator d (proposedAt c k))
+      (λ k l. over-numerator d (proposedAt c k) (s .fine k l .some) (s .divides k l)) (λ k. figureOf f (itemAt m k))
 
-  kept : (k : ℕ) → k < p .count → (breaks (itemAt p k) (amountAt c k) ≡ false) ↔ Keeps (itemAt p k) (pointOf c k)
-  kept k l = keeps-iff (itemAt p k) (amountAt c k) (s .fine k l)
+  kept : (k : ℕ) → k < m .count → (breaks (itemAt m k) (proposedAt c k) ≡ false) ↔ Keeps (itemAt m k) (proposedPoint c k)
+  kept k l = keeps-iff (itemAt m k) (proposedAt c k) (s .fine k l)
 
   -- where every item is kept the weight decides
-  by-weight : ((k : ℕ) → k < p .count → Keeps (itemAt p k) (pointOf c k)) → (b : Bool) → ltZ (p .capacity *ℤ pos d) (totalOf Weight d (p .count) p c) ≡ b → Told p c (cond b (reply.Violates 0) (reply.Feasible (lowest (totalOf Price d (p .count) p c) d)))
-  by-weight k true e = record { proposed = asked; keeps = k; over = over-< (s .some) (over-int d (p .capacity)) (total-over Weight) (yes-lt e) }
+  by-weight : ((k : ℕ) → k < m .count → Keeps (itemAt m k) (proposedPoint c k)) → (b : Bool) →
+      ltZ (m .capacity *ℤ pos d) (totalOf Weight d (m .count) (plainOf m) c) ≡ b →
+      Told m c (cond b (reply.Violates 0) (reply.Feasible (lowest (totalOf Price d (m .count) (plainOf m) c) d)))
+  by-weight k true e = record { proposed = asked; keeps = k; over = over-< (s .some) (over-int d (m .capacity)) (total-over Weight) (yes-lt e) }
   by-weight k false e =
-      let v = totalOf Price d (p .count) p c in
+      let v = totalOf Price d (m .count) (plainOf m) c in
       record {
         proposed = asked;
-        feasible = record { keeps = k; fits = over-≤ (s .some) (total-over Weight) (over-int d (p .capacity)) .1 (no-lt e) };
+        feasible = record { keeps = k; fits = over-≤ (s .some) (total-over Weight) (over-int d (m .capacity)) .1 (no-lt e) };
         exact = over-≈ (over-lowest v d (s .some)) (total-over Price) (s .some) refl;
         divisor = lowest-den v d (s .some);
         lowest = lowest-coprime v d (s .some);
       }
 
-  judged-told : Told p c (judged d p c)
+  judged-told : Told m c (judged d (plainOf m) c)
   unfolding judged
-  judged-told = go (firstBroken (p .count) p c) (found (p .count) p c)
+  judged-told = go (firstBroken (m .count) (plainOf m) c) (found (m .count) (plainOf m) c)
     where
-      go : (m : ℕ) → Found (p .count) p c m → Told p c (afterItems m (cond (ltZ (p .capacity *ℤ pos d) (totalOf Weight d (p .count) p c)) (reply.Violates 0) (reply.Feasible (lowest (totalOf Price d (p .count) p c) d))))
-      go m (none h) = by-weight (λ k l. kept k l .0 (h k l)) _ refl
-      go m (first k l e h) = record {
+      go : (n : ℕ) → Found (m .count) (plainOf m) c n →
+          Told m c (afterItems n (cond (ltZ (m .capacity *ℤ pos d) (totalOf Weight d (m .count) (plainOf m) c)) (reply.Violates 0)
+          (reply.Feasible (lowest (totalOf Price d (m .count) (plainOf m) c) d))))
+      go n (none h) = by-weight (λ k l. kept k l .0 (h k l)) _ refl
+      go n (first k l e h) = record {
         proposed = asked;
         item = l;
         broken = λ w. impossible (sym (kept k l .1 w) ∙ e);
@@ -90,33 +117,40 @@ module _ (p : Problem) (c : Candidate) (d : ℕ) (asked : Proposed p c) (s : Ser
 
 -- ---- the refusals before it
 
-amounts-told : (p : Problem) (c : Candidate) → InRange p → Told p c (amountCheck p c)
+amounts-told : (m : Model) (c : Candidate) → Admissible m → Told m c (amountCheck (plainOf m) c)
 unfolding amountCheck
-amounts-told p c r = go _ refl _ refl
+amounts-told m c r = go _ refl _ refl
   where
-    go : (b : Bool) → eqb (c .count) (p .count) ≡ b → (z : Bool) → eqb (commonDivisor (c .count) (amountAt c)) 0 ≡ z → Told p c (cond (not b) (refuse 7) (cond z (refuse 8) (judged (commonDivisor (c .count) (amountAt c)) p c)))
-    go false e z f = by-count r (eqb-false (c .count) (p .count) e)
+    go : (b : Bool) → eqb (c .count) (m .count) ≡ b → (z : Bool) → eqb (commonDivisor (c .count) (proposedAt c)) 0 ≡ z →
+        Told m c (cond (not b) (refusePoint amounts) (cond z (refusePoint amount) (judged (commonDivisor (c .count) (proposedAt c)) (plainOf m) c)))
+    go false e z f = by-count r (eqb-false (c .count) (m .count) e)
     go true e true f =
-        let n = eqb-true (c .count) (p .count) e in
-        by-amounts r n (λ g. divisor-iff (c .count) (amountAt c) .1 (rw n g) (eqb-true _ 0 f))
+        let n = eqb-true (c .count) (m .count) e in
+        by-amounts r n (λ g. divisor-iff (c .count) (proposedAt c) .1 (rw n g) (eqb-true _ 0 f))
     go true e false f =
-        let n = eqb-true (c .count) (p .count) e in
-        let h = eqb-false (commonDivisor (c .count) (amountAt c)) 0 f in
-        judged-told p c _ (record { problem = r; counted = n; amounts = subst (λ m. GoodPoint m (amountAt c)) n (divisor-iff (c .count) (amountAt c) .0 h) }) (subst (λ m. Serves m (amountAt c) (commonDivisor (c .count) (amountAt c))) n (serves (c .count) (amountAt c) h))
+        let n = eqb-true (c .count) (m .count) e in
+        let h = eqb-false (commonDivisor (c .count) (proposedAt c)) 0 f in
+        judged-told m c _ (record {
+          admissible = r;
+          counted = n;
+          amounts = subst (λ n. GoodPoint n (proposedAt c)) n
+              (divisor-iff (c .count) (proposedAt c) .0 h);
+        }) (subst (λ n. Divided n (proposedAt c) (commonDivisor (c .count) (proposedAt c))) n (divided (c .count)
+        (proposedAt c) h))
 
-pub told : (p : Problem) (c : Candidate) → Told p c (pointCheck p c)
+pub told : (m : Model) (c : Candidate) → Told m c (pointCheck m c)
 unfolding pointCheck
-told p c = go (verdict p) refl
+told m c = go (verdict m) refl
   where
-    go : (v : Verdict) → verdict p ≡ v → Told p c (afterRecord v (amountCheck p c))
-    go verdicts.Accepted e = amounts-told p c (accepted p e)
+    go : (v : Verdict) → verdict m ≡ v → Told m c (afterRecord v (amountCheck (plainOf m) c))
+    go verdicts.Accepted e = amounts-told m c (accepted m e)
     go (verdicts.Refused f) e = by-record f e
 
 -- ---- each reply exactly where it should be
 
 -- what is not refused is not refused
-no-refusal : {p : Problem} {c : Candidate} {f : Refusal} → Proposed p c → ¬ RefusedAs p c f
-no-refusal {p} a (by-record f e) = no-verdict (sym (in-range p (a .problem)) ∙ e)
+no-refusal : {m : Model} {c : Candidate} {f : Refusal} → Proposed m c → ¬ RefusedAs m c f
+no-refusal {m} a (by-record f e) = no-verdict (sym (admitted m (a .admissible)) ∙ e)
   where
     taken : Verdict → Type 0
     taken verdicts.Accepted = Unit {0}
@@ -132,48 +166,48 @@ over-not-fits : (x y : Frac) → x <ᶠ y → ¬ (y ≤ᶠ x)
 unfolding _<ᶠ_ _≤ᶠ_
 over-not-fits x y l h = clashℤ l h
 
-module _ (p : Problem) (c : Candidate) where
+module _ (m : Model) (c : Candidate) where
   -- what the reply says, once it is known
-  of-reply : {r : PointReply} → pointCheck p c ≡ r → Told p c r
-  of-reply e = subst (Told p c) e (told p c)
+  of-reply : {r : PointReply} → pointCheck m c ≡ r → Told m c r
+  of-reply e = subst (Told m c) e (told m c)
 
-  pub refused-iff : ((f : Refusal) × (pointCheck p c ≡ reply.Refused f)) ↔ (¬ Proposed p c)
-  refused-iff = (λ (f, e) a. no-refusal a (of-reply e), λ n. go n (pointCheck p c) refl)
+  pub refused-iff : ((f : Refusal) × (pointCheck m c ≡ reply.Refused f)) ↔ (¬ Proposed m c)
+  refused-iff = (λ (f, e) a. no-refusal a (of-reply e), λ n. go n (pointCheck m c) refl)
     where
-      go : ¬ Proposed p c → (r : PointReply) → pointCheck p c ≡ r → (f : Refusal) × (pointCheck p c ≡ reply.Refused f)
+      go : ¬ Proposed m c → (r : PointReply) → pointCheck m c ≡ r → (f : Refusal) × (pointCheck m c ≡ reply.Refused f)
       go n (reply.Refused f) e = (f, e)
       go n (reply.Feasible v) e = absurd (n (of-reply e .proposed))
       go n (reply.Violates zero) e = absurd (n (of-reply e .proposed))
       go n (reply.Violates (suc k)) e = absurd (n (of-reply e .proposed))
 
-  pub feasible-iff : Proposed p c → ((v : Fraction) × (pointCheck p c ≡ reply.Feasible v)) ↔ Feasible (instanceOf p) (pointOf c)
-  feasible-iff a = (λ (v, e). of-reply e .feasible, λ x. go x (pointCheck p c) refl)
+  pub feasible-iff : Proposed m c → ((v : Fraction) × (pointCheck m c ≡ reply.Feasible v)) ↔ Feasible (asked m) (proposedPoint c)
+  feasible-iff a = (λ (v, e). of-reply e .feasible, λ x. go x (pointCheck m c) refl)
     where
-      go : Feasible (instanceOf p) (pointOf c) → (r : PointReply) → pointCheck p c ≡ r → (v : Fraction) × (pointCheck p c ≡ reply.Feasible v)
+      go : Feasible (asked m) (proposedPoint c) → (r : PointReply) → pointCheck m c ≡ r → (v : Fraction) × (pointCheck m c ≡ reply.Feasible v)
       go x (reply.Refused f) e = absurd (no-refusal a (of-reply e))
       go x (reply.Feasible v) e = (v, e)
       go x (reply.Violates zero) e = absurd (over-not-fits _ _ (of-reply e .over) (x .fits))
       go x (reply.Violates (suc k)) e = let t = of-reply e in absurd (t .broken (x .keeps k (t .item)))
 
-  pub weight-iff : (pointCheck p c ≡ reply.Violates 0) ↔ ToldWeight p c
-  weight-iff = (λ e. of-reply e, λ w. go w (pointCheck p c) refl)
+  pub weight-iff : (pointCheck m c ≡ reply.Violates 0) ↔ ToldWeight m c
+  weight-iff = (λ e. of-reply e, λ w. go w (pointCheck m c) refl)
     where
-      go : ToldWeight p c → (r : PointReply) → pointCheck p c ≡ r → pointCheck p c ≡ reply.Violates 0
+      go : ToldWeight m c → (r : PointReply) → pointCheck m c ≡ r → pointCheck m c ≡ reply.Violates 0
       go w (reply.Refused f) e = absurd (no-refusal (w .proposed) (of-reply e))
       go w (reply.Feasible v) e = absurd (over-not-fits _ _ (w .over) (of-reply e .feasible .fits))
       go w (reply.Violates zero) e = e
       go w (reply.Violates (suc k)) e = let t = of-reply e in absurd (t .broken (w .keeps k (t .item)))
 
-  pub item-iff : (k : ℕ) → (pointCheck p c ≡ reply.Violates (suc k)) ↔ ToldItem p c k
-  item-iff k = (λ e. of-reply e, λ t. go t (pointCheck p c) refl)
+  pub item-iff : (k : ℕ) → (pointCheck m c ≡ reply.Violates (suc k)) ↔ ToldItem m c k
+  item-iff k = (λ e. of-reply e, λ t. go t (pointCheck m c) refl)
     where
       -- of two first items neither comes before the other
-      same : (j : ℕ) → ToldItem p c k → ToldItem p c j → Dec (j < k) → Dec (k < j) → j ≡ k
+      same : (j : ℕ) → ToldItem m c k → ToldItem m c j → Dec (j < k) → Dec (k < j) → j ≡ k
       same j t u (yes l) m = absurd (u .broken (t .before j l))
       same j t u (no l) (yes m) = absurd (t .broken (u .before k m))
       same j t u (no l) (no m) = omega arith
 
-      go : ToldItem p c k → (r : PointReply) → pointCheck p c ≡ r → pointCheck p c ≡ reply.Violates (suc k)
+      go : ToldItem m c k → (r : PointReply) → pointCheck m c ≡ r → pointCheck m c ≡ reply.Violates (suc k)
       go t (reply.Refused f) e = absurd (no-refusal (t .proposed) (of-reply e))
       go t (reply.Feasible v) e = absurd (t .broken (of-reply e .feasible .keeps k (t .item)))
       go t (reply.Violates zero) e = absurd (t .broken (of-reply e .keeps k (t .item)))

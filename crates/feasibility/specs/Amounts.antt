@@ -1,7 +1,8 @@
 -- The amounts of a proposed point: which are refused, and the rest over one common divisor. Paper 01, "Refused, by place", row 8.
---   amountAt c k        the amount at a place, from 0
---   GoodAmount x        what row 8 asks of an amount by itself;  badAmount x: whether it fails
+--   proposedAt c k      the amount at a place, from 0
+--   GoodAmount x        what row 8 asks of an amount by itself;  badAmount x: whether it fails, farther p q: by its size
 --   GoodPoint n x       what row 8 asks of the first n amounts
+--   joined d x          the divisor of the amounts so far and of one more
 --   commonDivisor n x   the one q above 1 of the first n amounts, or 1; 0 exactly if they are no GoodPoint (proofs/Divisor, divisor-iff)
 --   numerator d x       x is numerator d x / d
 use mathlib.Core.Path.{_≡_}
@@ -15,8 +16,8 @@ use Rattle.arith.specs.declared.Fraction.{Fraction}
 use Rattle.feasibility.specs.declared.Candidate.{Candidate}
 
 -- beyond the 16 places, where nothing looks, an amount that row 8 refuses
-abbrev pub amountAt : Candidate → ℕ → Fraction
-amountAt c k = getD (c .amounts) k (record { p = pos 0; q = 0 })
+abbrev pub proposedAt : Candidate → ℕ → Fraction
+proposedAt c k = getD (c .amounts) k (record { p = pos 0; q = 0 })
 
 -- ---- what row 8 asks
 

@@ -1,9 +1,21 @@
 -- The point check. Paper 01, "Point check" and rows 7 and 8 of "Refused, by place".
---   breaks i x            whether the amount x breaks the item's mark or a bound
+--   breaks i x            whether the amount x breaks the item's mark or a bound: breaksMark, breaksBound
+--   earlierOf m n         the number m, or n where m is 0
+--   numbered k i x        the number of the item at place k if it breaks, or 0
 --   firstBroken n p c     the first of the first n items, from 1, whose amount does; 0 where none does
+--   figureOf f i, term f d i x   an item's weight or price, and that times its amount over the divisor d
 --   totalOf f d n p c     the sum of weight or price times amount over the first n items, times the common divisor d
---   pointCheck p c        the reply: the record's refusals, then 7, then 8, line 0; then yes or no
---   Told p c r            what the reply r says of the point, by its case; proofs/Meaning, told: it is true of pointCheck p c
+--   afterItems k r        no with item k, or r where k is 0
+--   judged d p c          yes or no where nothing is refused
+--   refusePoint n         refusal n
+--   amountCheck p c       refusals 7 and 8, then yes or no
+--   afterRecord v r       the record's refusal, or r
+--   pointCheck m c        the reply: the record's refusals, then 7, then 8, line 0; then yes or no
+--   Checkable p c         what the code needs for yes or no
+--   asked m               the instance that a point is proposed for;  proposedPoint c: the point
+--   Proposed m c          nothing is refused
+--   RefusedAs, ToldValue, ToldWeight, ToldItem   what a refusal, a yes, a no with item 0 and a no with an item say
+--   Told m c r            what the reply r says of the point, by its case; proofs/Meaning (told): it is true of pointCheck m c
 use mathlib.Core.Path.{_≡_}
 use mathlib.Core.Bool.{Bool, true, false, cond, not}
 use mathlib.Core.Logic.{_≢_}
@@ -24,16 +36,19 @@ use Rattle.knapsack.specs.declared.Problem.{Problem}
 use Rattle.knapsack.specs.declared.Refusal.{Refusal}
 use Rattle.knapsack.specs.declared.Verdict.{Verdict}
 use Rattle.knapsack.specs.declared.Verdict.the-variants as verdicts
-use Rattle.knapsack.specs.Meaning.{Point, Keeps, Feasible, instanceOf, weighs, value}
-use Rattle.knapsack.specs.Records.{itemAt, verdict, InRange}
+use Rattle.knapsack.specs.Meaning.{Instance, Point, Keeps, Feasible, instanceOf, weighs, value}
+use Rattle.knapsack.specs.Ranges.{itemAt, InRange}
+use Rattle.model.specs.Records.{plainOf, refusalOf, verdict, Admissible}
+use Rattle.model.specs.Refusals as refusal
+use Rattle.model.specs.declared.Model.{Model}
 use Rattle.feasibility.specs.declared.Candidate.{Candidate}
 use Rattle.feasibility.specs.declared.Figure.{Figure}
 use Rattle.feasibility.specs.declared.Figure.the-variants.{Weight, Price}
 use Rattle.feasibility.specs.declared.PointReply.{PointReply}
 use Rattle.feasibility.specs.declared.PointReply.the-variants as reply
-use Rattle.feasibility.specs.declared.Side.{Side}
-use Rattle.feasibility.specs.declared.Side.the-variants.{Lower, Upper}
-use Rattle.feasibility.specs.Amounts.{amountAt, GoodAmount, GoodPoint, commonDivisor, numerator}
+use Rattle.model.specs.declared.Side.{Side}
+use Rattle.model.specs.declared.Side.the-variants.{Lower, Upper}
+use Rattle.feasibility.specs.Amounts.{proposedAt, GoodAmount, GoodPoint, commonDivisor, numerator}
 
 -- ---- yes or no
 
@@ -54,9 +69,9 @@ breaks i x =
     (breaksBound Upper (i .upper) (x .p) (x .q)))
 
 -- a number that is not 0 stays
-abbrev pub orElse : ℕ → ℕ → ℕ
-orElse zero n = n
-orElse (suc k) n = suc k
+abbrev pub earlierOf : ℕ → ℕ → ℕ
+earlierOf zero n = n
+earlierOf (suc k) n = suc k
 
 -- the number of the item at place k if it breaks, or 0
 abbrev pub numbered : ℕ → Item → Fraction → ℕ
@@ -64,7 +79,7 @@ numbered k i x = cond (breaks i x) (suc k) 0
 
 unfoldable pub firstBroken : ℕ → Problem → Candidate → ℕ
 firstBroken zero p c = 0
-firstBroken (suc n) p c = orElse (firstBroken n p c) (numbered n (itemAt p n) (amountAt c n))
+firstBroken (suc n) p c = earlierOf (firstBroken n p c) (numbered n (itemAt p n) (proposedAt c n))
 
 abbrev pub figureOf : Figure → Item → ℤ
 figureOf Weight i = i .weight
@@ -74,7 +89,7 @@ abbrev pub term : Figure → ℕ → Item → Fraction → ℤ
 term f d i x = figureOf f i *ℤ numerator d x
 
 abbrev pub totalOf : Figure → ℕ → ℕ → Problem → Candidate → ℤ
-totalOf f d n p c = sum n (λ k. term f d (itemAt p k) (amountAt c k))
+totalOf f d n p c = sum n (λ k. term f d (itemAt p k) (proposedAt c k))
 
 -- an item that breaks comes before the weight
 abbrev pub afterItems : ℕ → PointReply → PointReply
@@ -90,70 +105,71 @@ judged d p c =
 
 -- ---- the whole check
 
-abbrev pub refusal : ℕ → Refusal
-refusal n = record { number = n; line = 0 }
-
-abbrev pub refuse : ℕ → PointReply
-refuse n = reply.Refused (refusal n)
+abbrev pub refusePoint : ℕ → PointReply
+refusePoint n = reply.Refused (refusalOf n)
 
 unfoldable pub amountCheck : Problem → Candidate → PointReply
 amountCheck p c =
-    cond (not (eqb (c .count) (p .count))) (refuse 7)
-    (cond (eqb (commonDivisor (c .count) (amountAt c)) 0) (refuse 8)
-    (judged (commonDivisor (c .count) (amountAt c)) p c))
+    cond (not (eqb (c .count) (p .count))) (refusePoint refusal.amounts)
+    (cond (eqb (commonDivisor (c .count) (proposedAt c)) 0) (refusePoint refusal.amount)
+    (judged (commonDivisor (c .count) (proposedAt c)) p c))
 
 abbrev pub afterRecord : Verdict → PointReply → PointReply
 afterRecord verdicts.Accepted r = r
 afterRecord (verdicts.Refused f) r = reply.Refused f
 
-unfoldable pub pointCheck : Problem → Candidate → PointReply
-pointCheck p c = afterRecord (verdict p) (amountCheck p c)
+unfoldable pub pointCheck : Model → Candidate → PointReply
+pointCheck m c = afterRecord (verdict m) (amountCheck (plainOf m) c)
 
 -- what the code needs for yes or no
-pub record Ready (p : Problem) (c : Candidate) : Type 0 where
+pub record Checkable (p : Problem) (c : Candidate) : Type 0 where
   pub problem : InRange p
-  pub amounts : (k : ℕ) → k < p .count → GoodAmount (amountAt c k)
+  pub amounts : (k : ℕ) → k < p .count → GoodAmount (proposedAt c k)
 
 -- ---- what a reply means
 
-abbrev pub pointOf : Candidate → Point
-pointOf c k = frac (amountAt c k .p) (amountAt c k .q)
+-- what the point is proposed for
+abbrev pub asked : Model → Instance
+asked m = instanceOf (plainOf m)
+
+abbrev pub proposedPoint : Candidate → Point
+proposedPoint c k = frac (proposedAt c k .p) (proposedAt c k .q)
 
 -- a proposed point of which nothing is refused
-pub record Proposed (p : Problem) (c : Candidate) : Type 0 where
-  pub problem : InRange p
-  pub counted : c .count ≡ p .count
-  pub amounts : GoodPoint (p .count) (amountAt c)
+pub record Proposed (m : Model) (c : Candidate) : Type 0 where
+  pub admissible : Admissible m
+  pub counted : c .count ≡ m .count
+  pub amounts : GoodPoint (m .count) (proposedAt c)
 
 -- 01's numbers of the refusals, in their order, with line 0
-pub data RefusedAs (p : Problem) (c : Candidate) : Refusal → Type 0 where
-  by-record : (f : Refusal) → verdict p ≡ verdicts.Refused f → RefusedAs p c f
-  by-count : InRange p → c .count ≢ p .count → RefusedAs p c (refusal 7)
-  by-amounts : InRange p → c .count ≡ p .count → ¬ GoodPoint (p .count) (amountAt c) → RefusedAs p c (refusal 8)
+pub data RefusedAs (m : Model) (c : Candidate) : Refusal → Type 0 where
+  by-record : (f : Refusal) → verdict m ≡ verdicts.Refused f → RefusedAs m c f
+  by-count : Admissible m → c .count ≢ m .count → RefusedAs m c (refusalOf refusal.amounts)
+  by-amounts : Admissible m → c .count ≡ m .count → ¬ GoodPoint (m .count) (proposedAt c) → RefusedAs m c (refusalOf refusal.amount)
 
 -- 01's yes: feasible, and v is the value in lowest terms
-pub record ToldValue (p : Problem) (c : Candidate) (v : Fraction) : Type 0 where
-  pub proposed : Proposed p c
-  pub feasible : Feasible (instanceOf p) (pointOf c)
-  pub exact : frac (v .p) (v .q) ≈ᶠ value (instanceOf p) (pointOf c)
+pub record ToldValue (m : Model) (c : Candidate) (v : Fraction) : Type 0 where
+  pub proposed : Proposed m c
+  pub feasible : Feasible (asked m) (proposedPoint c)
+  pub exact : frac (v .p) (v .q) ≈ᶠ value (asked m) (proposedPoint c)
   pub divisor : 1 ≤ v .q
   pub lowest : gcdOf (natAbs (v .p)) (v .q) ≡ 1
 
 -- 01's no with item 0: every item keeps its mark and bounds, and only the weight is over
-pub record ToldWeight (p : Problem) (c : Candidate) : Type 0 where
-  pub proposed : Proposed p c
-  pub keeps : (k : ℕ) → k < p .count → Keeps (itemAt p k) (pointOf c k)
-  pub over : int (p .capacity) <ᶠ weighs (instanceOf p) (pointOf c)
+pub record ToldWeight (m : Model) (c : Candidate) : Type 0 where
+  pub proposed : Proposed m c
+  pub keeps : (k : ℕ) → k < asked m .count → Keeps (asked m .item k) (proposedPoint c k)
+  pub over : int (asked m .capacity) <ᶠ weighs (asked m) (proposedPoint c)
 
 -- 01's no with item k + 1: the first that does not keep its mark and bounds
-pub record ToldItem (p : Problem) (c : Candidate) (k : ℕ) : Type 0 where
-  pub proposed : Proposed p c
-  pub item : k < p .count
-  pub broken : ¬ Keeps (itemAt p k) (pointOf c k)
-  pub before : (j : ℕ) → j < k → Keeps (itemAt p j) (pointOf c j)
+pub record ToldItem (m : Model) (c : Candidate) (k : ℕ) : Type 0 where
+  pub proposed : Proposed m c
+  pub item : k < asked m .count
+  pub broken : ¬ Keeps (asked m .item k) (proposedPoint c k)
+  pub before : (j : ℕ) → j < k → Keeps (asked m .item j) (proposedPoint c j)
 
-abbrev pub Told : Problem → Candidate → PointReply → Type 0
-Told p c (reply.Refused f) = RefusedAs p c f
-Told p c (reply.Feasible v) = ToldValue p c v
-Told p c (reply.Violates zero) = ToldWeight p c
-Told p c (reply.Violates (suc k)) = ToldItem p c k
+abbrev pub Told : Model → Candidate → PointReply → Type 0
+Told m c (reply.Refused f) = RefusedAs m c f
+Told m c (reply.Feasible v) = ToldValue m c v
+Told m c (reply.Violates zero) = ToldWeight m c
+Told m c (reply.Violates (suc k)) = ToldItem m c k

@@ -11,13 +11,34 @@ use knapsack::Mark;
 use knapsack::Problem;
 use knapsack::Refusal;
 use knapsack::Verdict;
-use knapsack::check_record;
+use model::Model;
+use model::Side;
+use model::beyond;
+use model::check_model;
+use model::plain_of;
+use model::refusal_of;
+use model::refusals;
 ghost use mathlib.Core.Path.{_≡_};
 ghost use Prim.Native.Nat.{_*_, _≤_, _<_};
 ghost use lib.IntN.{pos, natAbs, _*ℤ_};
-ghost use Rattle.knapsack.specs.Records.{BoundInRange, ItemInRange, InRange};
-ghost use Rattle.feasibility.specs.Amounts.{amountAt, farther, badAmount, joined, commonDivisor, GoodAmount};
-ghost use Rattle.feasibility.specs.Check.{breaksMark, breaksBound, breaks, orElse, numbered, firstBroken, figureOf, term, totalOf, refuse, judged, amountCheck, pointCheck, Ready};
+ghost use Rattle.knapsack.specs.Ranges.{BoundInRange, ItemInRange, InRange};
+ghost use Rattle.feasibility.specs.Amounts.{proposedAt, farther, badAmount, joined, commonDivisor, GoodAmount};
+ghost use Rattle.feasibility.specs.Check.{
+  breaksMark,
+  breaksBound,
+  breaks,
+  earlierOf,
+  numbered,
+  firstBroken,
+  figureOf,
+  term,
+  totalOf,
+  refusePoint,
+  judged,
+  amountCheck,
+  pointCheck,
+  Checkable,
+};
 
 // 01's proposed point: an amount for each item, at the first count places.
 pub struct Candidate {
@@ -30,12 +51,6 @@ pub enum PointReply {
     Refused(Refusal),
     Feasible(Fraction),
     Violates(usize),
-}
-
-// Which bound of an item is tried.
-enum Side {
-    Lower,
-    Upper,
 }
 
 // Which figure of an item is summed.
@@ -58,11 +73,7 @@ fn is_farther(p: i64, q: u64) -> bool
     requires { ⌜ q ≤ 1000 ⌝ }
     ensures { λ r. ⌜ r ≡ farther p q ⌝ }
 {
-    let n = times(1000000000, q);
-    if p < 0 - n {
-        return true;
-    }
-    n < p
+    beyond(p, times(1000000000, q))
 }
 
 // Refusal 8 of an amount by itself. The size is tried before the common divisor, so that |p| is known to fit.
@@ -101,7 +112,7 @@ fn join(d: u64, x: Fraction) -> u64
 // The one divisor above 1, or 1; 0 where refusal 8 is due.
 fn common_divisor(c: Candidate) -> u64
     requires { ⌜ c .count ≤ 16 ⌝ }
-    ensures { λ r. ⌜ r ≡ commonDivisor (c .count) (amountAt c) ⌝ }
+    ensures { λ r. ⌜ r ≡ commonDivisor (c .count) (proposedAt c) ⌝ }
 {
     let n = c.count;
     let mut d: u64 = 1;
@@ -160,7 +171,7 @@ fn does_break(i: Item, x: Fraction) -> bool
 // The number of the first item that breaks: the one found so far if it is not 0, or that of the item at place k, or 0.
 fn earlier(found: usize, k: usize, i: Item, x: Fraction) -> usize
     requires { ⌜ (k < 16) × (ItemInRange i × GoodAmount x) ⌝ }
-    ensures { λ r. ⌜ r ≡ orElse found (numbered k i x) ⌝ }
+    ensures { λ r. ⌜ r ≡ earlierOf found (numbered k i x) ⌝ }
 {
     if found == 0 {
         if does_break(i, x) { k + 1 } else { found }
@@ -171,7 +182,7 @@ fn earlier(found: usize, k: usize, i: Item, x: Fraction) -> usize
 
 // The first item, from 1, that breaks its mark or a bound; 0 where none does.
 fn first_broken(p: Problem, c: Candidate) -> usize
-    requires { ⌜ Ready p c ⌝ }
+    requires { ⌜ Checkable p c ⌝ }
     ensures { λ r. ⌜ r ≡ firstBroken (p .count) p c ⌝ }
 {
     let n = p.count;
@@ -209,7 +220,7 @@ fn one_term(f: Figure, d: u64, i: Item, x: Fraction) -> i64
 
 // The sum of a figure times the amounts, over the divisor d.
 fn total(f: Figure, d: u64, p: Problem, c: Candidate) -> i64
-    requires { ⌜ (d ≤ 1000) × Ready p c ⌝ }
+    requires { ⌜ (d ≤ 1000) × Checkable p c ⌝ }
     ensures { λ r. ⌜ r ≡ totalOf f d (p .count) p c ⌝ }
 {
     let n = p.count;
@@ -226,7 +237,7 @@ fn total(f: Figure, d: u64, p: Problem, c: Candidate) -> i64
 
 // The reply where nothing is refused, d being the common divisor.
 fn judge(d: u64, p: Problem, c: Candidate) -> PointReply
-    requires { ⌜ ((1 ≤ d) × (d ≤ 1000)) × Ready p c ⌝ }
+    requires { ⌜ ((1 ≤ d) × (d ≤ 1000)) × Checkable p c ⌝ }
     ensures { λ r. ⌜ r ≡ judged d p c ⌝ }
 {
     let k = first_broken(p, c);
@@ -242,14 +253,10 @@ fn judge(d: u64, p: Problem, c: Candidate) -> PointReply
     PointReply::Feasible(reduce(v, d))
 }
 
-// A refusal has line 0: no sheet was read.
 fn refused(number: u64) -> PointReply
-    ensures { λ r. ⌜ r ≡ refuse number ⌝ }
+    ensures { λ r. ⌜ r ≡ refusePoint number ⌝ }
 {
-    PointReply::Refused(Refusal {
-        number: number,
-        line: 0,
-    })
+    PointReply::Refused(refusal_of(number))
 }
 
 // The reply to a point of an accepted problem: refusals 7 and 8, then yes or no.
@@ -258,22 +265,22 @@ fn check_amounts(p: Problem, c: Candidate) -> PointReply
     ensures { λ r. ⌜ r ≡ amountCheck p c ⌝ }
 {
     if c.count != p.count {
-        return refused(7);
+        return refused(refusals::AMOUNTS);
     }
     let d = common_divisor(c);
     if d == 0 {
-        return refused(8);
+        return refused(refusals::AMOUNT);
     }
     judge(d, p, c)
 }
 
 // 01's point check.
-pub fn check_point(p: Problem, c: Candidate) -> PointReply
-    ensures { λ r. ⌜ r ≡ pointCheck p c ⌝ }
+pub fn check_point(m: Model, c: Candidate) -> PointReply
+    ensures { λ r. ⌜ r ≡ pointCheck m c ⌝ }
 {
-    let v = check_record(p);
+    let v = check_model(m);
     match v {
-        Verdict::Accepted => check_amounts(p, c),
+        Verdict::Accepted => check_amounts(plain_of(m), c),
         Verdict::Refused(f) => PointReply::Refused(f),
     }
 }

@@ -5,8 +5,8 @@ use arith::Fraction;
 use feasibility::Candidate;
 use feasibility::PointReply;
 use feasibility::check_point;
-use knapsack::Problem;
 use libc::STDIN_FILENO;
+use trials::make::record_of;
 use trials::print::print;
 use trials::print::print_field;
 use trials::print::print_signed_field;
@@ -102,11 +102,7 @@ fn one_case(s: &[u8], from: usize) -> usize {
     let amounts_given = read_number(s, amount_count.at);
     let x = read_amounts(s, amounts_given.at, amounts_given.size);
     let list = i.list;
-    let p = Problem {
-        items: list,
-        count: count.size as usize,
-        capacity: capacity.value,
-    };
+    let p = record_of(capacity.value, count.size as usize, list);
     let point = x.list;
     let c = Candidate {
         amounts: point,

@@ -13,7 +13,7 @@ use Rattle.knapsack.proofs.Common.{weighsᴰ}
 use Rattle.knapsack.proofs.Dual.{score, AtBound, AtEnd, Certificate}
 use Rattle.knapsack.specs.Meaning.{Instance, weights, prices}
 use Rattle.knapsack.specs.declared.Item.{Item}
-use Rattle.arith.specs.Signs.{turned}
+use Rattle.arith.specs.Signs.{timesSign}
 
 -- the end where an item weighs most, and where it weighs least
 abbrev pub HeavyEnd : ℕ → Item → ℤ → Type 0
@@ -23,7 +23,8 @@ abbrev pub LightEnd : ℕ → Item → ℤ → Type 0
 LightEnd E i m = (pos 0 <ℤ i .weight → AtBound E (i .lower) m) × (i .weight <ℤ pos 0 → AtBound E (i .upper) m)
 
 -- the signs of a score
-score-up : (p q : ℕ) (a c : ℤ) → (pos p *ℤ pos (natAbs a)) ≤ℤ (pos q *ℤ turned a c) → (score p q a c <ℤ pos 0 → a <ℤ pos 0) × (pos 0 <ℤ score p q a c → pos 0 ≤ℤ a)
+score-up : (p q : ℕ) (a c : ℤ) → (pos p *ℤ pos (natAbs a)) ≤ℤ (pos q *ℤ timesSign a c) → (score p q a c <ℤ pos 0 → a <ℤ pos 0)
+    × (pos 0 <ℤ score p q a c → pos 0 ≤ℤ a)
 unfolding score
 score-up p q (pos n) c h = (λ k. absurd (no c h k), λ k. simp zed (omega arith))
   where
@@ -34,7 +35,8 @@ score-up p q (negsuc n) c h = (λ k. simp zed (omega arith), λ k. absurd (no c 
     no : (c : ℤ) → (pos p *ℤ pos (suc n)) ≤ℤ (pos q *ℤ negℤ c) → pos 0 <ℤ (pos q *ℤ c -ℤ pos p *ℤ negsuc n) → ⊥
     no = split _ (λ a b. simp zed (omega arith))
 
-score-down : (p q : ℕ) (a c : ℤ) → (pos q *ℤ turned a c) ≤ℤ (pos p *ℤ pos (natAbs a)) → (score p q a c <ℤ pos 0 → pos 0 ≤ℤ a) × (pos 0 <ℤ score p q a c → a <ℤ pos 0)
+score-down : (p q : ℕ) (a c : ℤ) → (pos q *ℤ timesSign a c) ≤ℤ (pos p *ℤ pos (natAbs a)) → (score p q a c <ℤ pos 0 → pos 0 ≤ℤ a)
+    × (pos 0 <ℤ score p q a c → a <ℤ pos 0)
 unfolding score
 score-down p q (pos n) c h = (λ k. simp zed (omega arith), λ k. absurd (no c h k))
   where
@@ -49,12 +51,16 @@ above : (a : ℤ) → pos 0 ≤ℤ a → a ≢ pos 0 → pos 0 <ℤ a
 above = split _ (λ a b. simp zed (omega arith))
 
 -- a ratio of at least p / q wants the heavy end
-pub heavy-end : (p q E : ℕ) (i : Item) (m : ℤ) → i .weight ≢ pos 0 → (pos p *ℤ pos (natAbs (i .weight))) ≤ℤ (pos q *ℤ turned (i .weight) (i .price)) → HeavyEnd E i m → AtEnd E (score p q (i .weight) (i .price)) i m
-heavy-end p q E i m nz h e = let s = score-up p q (i .weight) (i .price) h in record { good = λ k. e .0 (above (i .weight) (s .1 k) nz); bad = λ k. e .1 (s .0 k) }
+pub heavy-end : (p q E : ℕ) (i : Item) (m : ℤ) → i .weight ≢ pos 0 → (pos p *ℤ pos (natAbs (i .weight))) ≤ℤ (pos q *ℤ timesSign (i .weight) (i .price))
+    → HeavyEnd E i m → AtEnd E (score p q (i .weight) (i .price)) i m
+heavy-end p q E i m nz h e =
+    let s = score-up p q (i .weight) (i .price) h in record { good = λ k. e .0 (above (i .weight) (s .1 k) nz); bad = λ k. e .1 (s .0 k) }
 
 -- a ratio of at most p / q wants the light end
-pub light-end : (p q E : ℕ) (i : Item) (m : ℤ) → i .weight ≢ pos 0 → (pos q *ℤ turned (i .weight) (i .price)) ≤ℤ (pos p *ℤ pos (natAbs (i .weight))) → LightEnd E i m → AtEnd E (score p q (i .weight) (i .price)) i m
-light-end p q E i m nz h e = let s = score-down p q (i .weight) (i .price) h in record { good = λ k. e .1 (s .1 k); bad = λ k. e .0 (above (i .weight) (s .0 k) nz) }
+pub light-end : (p q E : ℕ) (i : Item) (m : ℤ) → i .weight ≢ pos 0 → (pos q *ℤ timesSign (i .weight) (i .price)) ≤ℤ (pos p *ℤ pos (natAbs (i .weight)))
+    → LightEnd E i m → AtEnd E (score p q (i .weight) (i .price)) i m
+light-end p q E i m nz h e =
+    let s = score-down p q (i .weight) (i .price) h in record { good = λ k. e .1 (s .1 k); bad = λ k. e .0 (above (i .weight) (s .0 k) nz) }
 
 -- ---- the item k of weight g * q and price g * p, g = 1 or -1, takes what the whole ends e leave
 
@@ -94,7 +100,8 @@ fill s k p q g e l q≥1 gg ew ec h = record { p = p; q = q; q≥1 = q≥1; ends
     at j m (yes r) = rw (r, own) (record { good = λ z. absurd (z .lt); bad = λ z. absurd (z .lt) })
     at j m (no r) = rw (bump-other (λ i. e i *ℤ pos q) k (g *ℤ (s .capacity -ℤ weighsᴰ s e)) j r) (h j m r)
 
-pub fill-price : (s : Instance) (k p q : ℕ) (g : ℤ) (e : ℕ → ℤ) (l : k < s .count) (q≥1 : 1 ≤ q) (gg : g *ℤ g ≡ pos 1) (ew : weights s k ≡ g *ℤ pos q) (ec : prices s k ≡ g *ℤ pos p)
+pub fill-price : (s : Instance) (k p q : ℕ) (g : ℤ) (e : ℕ → ℤ) (l : k < s .count) (q≥1 : 1 ≤ q) (gg : g *ℤ g ≡ pos 1) (ew : weights s k ≡ g *ℤ pos q)
+    (ec : prices s k ≡ g *ℤ pos p)
     (h : (j : ℕ) → j < s .count → j ≢ k → AtEnd q (score p q (weights s j) (prices s j)) (s .item j) (e j *ℤ pos q)) → fill s k p q g e l q≥1 gg ew ec h .p ≡ p
 unfolding fill
 fill-price s k p q g e l q≥1 gg ew ec h = refl

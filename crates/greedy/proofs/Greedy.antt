@@ -1,16 +1,17 @@
--- The relaxation of a box, item by item: every item at its light end, then those that are worth their weight to their heavy end, by falling ratio, until one does not fit.
+-- The relaxation of a box, item by item: every item at its light end, then those that are worth their weight to their heavy end, by falling ratio, until one
+-- does not fit.
 use mathlib.Core.Path.{_≡_, refl, sym, ap, ap₂, _∙_, subst}
 use mathlib.Core.Logic.{_≢_, _⊎_, inl, inr}
 use Prim.Native.Nat.{ℕ, zero, suc, _+_, _*_, _≤_, _<_}
 use native.Mathlib.Omega.{arith}
-use native.Mathlib.Nat.{mul-le-mul-left, mul-le-mul-right}
+use native.Mathlib.Nat.{mul-le-mul-left}
 use native.Mathlib.Decide.{decLt, ℕ-discrete}
 use lib.IntN.{ℤ, pos, negsuc, negℤ, natAbs, _+ℤ_, _-ℤ_, _*ℤ_}
 use lib.Signed.{_≤ℤ_, _<ℤ_}
 use Rattle.arith.proofs.Integers.{split, split2, split3, zed, ≤ℤ-trans, ≤ℤ-reflexive, ≤ℤ-or-<, times-≤}
 use Rattle.arith.proofs.Sums.{bump-same, bump-other, sum-bump, sum-cong}
 use Rattle.arith.specs.Sum.{Each, bump}
-use Rattle.arith.specs.Signs.{turned}
+use Rattle.arith.specs.Signs.{timesSign}
 use Rattle.greedy.specs.Fill.{unit}
 use Rattle.greedy.specs.Ordered.{Idle}
 use Rattle.greedy.proofs.Critical.{heavy-end, light-end, filled, fill, fill-price}
@@ -43,12 +44,13 @@ pub record HeavyAt (a l u x : ℤ) : Type 0 where
 -- a place in an order of falling price per weight
 pub record Ranked (s : Instance) (rank : ℕ → ℕ) : Type 0 where
   pub falls : (j k : ℕ) → j < s .count → k < s .count → rank j < rank k → weights s j ≢ pos 0 → weights s k ≢ pos 0
-      → (turned (weights s k) (prices s k) *ℤ pos (natAbs (weights s j))) ≤ℤ (turned (weights s j) (prices s j) *ℤ pos (natAbs (weights s k)))
+      → (timesSign (weights s k) (prices s k) *ℤ pos (natAbs (weights s j))) ≤ℤ (timesSign (weights s j) (prices s j) *ℤ pos (natAbs (weights s k)))
   pub distinct : (j k : ℕ) → j < s .count → k < s .count → rank j ≡ rank k → j ≡ k
 
 -- the items of the first t places are at their heavy end if they are worth their weight; the others at their light end; r is the room that is left
 pub record Inv (s : Instance) (lo hi : ℕ → ℤ) (rank : ℕ → ℕ) (t : ℕ) (e : ℕ → ℤ) (r : ℤ) : Type 0 where
-  pub heavy : (k : ℕ) → k < s .count → rank k < t → weights s k ≢ pos 0 → pos 0 <ℤ turned (weights s k) (prices s k) → HeavyAt (weights s k) (lo k) (hi k) (e k)
+  pub heavy : (k : ℕ) → k < s .count → rank k < t → weights s k ≢ pos 0 → pos 0 <ℤ timesSign (weights s k) (prices s k)
+      → HeavyAt (weights s k) (lo k) (hi k) (e k)
   pub light : (k : ℕ) → k < s .count → (t ≤ rank k) ⊎ Idle (weights s k) (prices s k) → LightAt (weights s k) (prices s k) (lo k) (hi k) (e k)
   pub level : weighsᴰ s e +ℤ r ≡ s .capacity
   pub room : pos 0 ≤ℤ r
@@ -82,20 +84,20 @@ sign-of a nz = go (≤ℤ-or-< (pos 0) a)
     go (inl h) = inl (up a nz h)
     go (inr h) = inr h
 
-pub turned-up : (a c : ℤ) → pos 0 <ℤ a → turned a c ≡ c
-turned-up (pos n) c h = refl
-turned-up (negsuc n) c h = absurd (h .lt)
+pub times-sign-up : (a c : ℤ) → pos 0 <ℤ a → timesSign a c ≡ c
+times-sign-up (pos n) c h = refl
+times-sign-up (negsuc n) c h = absurd (h .lt)
 
-pub turned-dn : (a c : ℤ) → a <ℤ pos 0 → turned a c ≡ negℤ c
-turned-dn (pos n) c h = absurd (no n h)
+pub times-sign-dn : (a c : ℤ) → a <ℤ pos 0 → timesSign a c ≡ negℤ c
+times-sign-dn (pos n) c h = absurd (no n h)
   where
     no : (n : ℕ) → pos n <ℤ pos 0 → ⊥
     no n = simp zed (omega arith)
-turned-dn (negsuc n) c h = refl
+times-sign-dn (negsuc n) c h = refl
 
-pub not-idle : (a c : ℤ) → a ≢ pos 0 → pos 0 <ℤ turned a c → Idle a c → ⊥
+pub not-idle : (a c : ℤ) → a ≢ pos 0 → pos 0 <ℤ timesSign a c → Idle a c → ⊥
 not-idle a c nz h (inl z) = nz z
-not-idle a c nz h (inr l) = clash (turned a c) h l
+not-idle a c nz h (inr l) = clash (timesSign a c) h l
   where
     clash : (x : ℤ) → pos 0 <ℤ x → x ≤ℤ pos 0 → ⊥
     clash = split _ (λ a b. simp zed (omega arith))
@@ -111,7 +113,7 @@ unit-abs (negsuc n) = go (negsuc n) refl
     go : (z : ℤ) → z ≡ negsuc n → z ≡ negsuc 0 *ℤ pos (suc n)
     go = split _ (λ a b. simp zed (omega arith))
 
-pub price-abs : (a c : ℤ) → pos 0 <ℤ turned a c → c ≡ unit a *ℤ pos (natAbs c)
+pub price-abs : (a c : ℤ) → pos 0 <ℤ timesSign a c → c ≡ unit a *ℤ pos (natAbs c)
 price-abs (pos n) c h = go c h
   where
     go : (c : ℤ) → pos 0 <ℤ c → c ≡ pos 1 *ℤ pos (natAbs c)
@@ -121,12 +123,12 @@ price-abs (negsuc n) c h = go c h
     go : (c : ℤ) → pos 0 <ℤ negℤ c → c ≡ negsuc 0 *ℤ pos (natAbs c)
     go = split _ (λ a b. simp zed (omega arith))
 
-pub turned-abs : (a c : ℤ) → pos 0 <ℤ turned a c → turned a c ≡ pos (natAbs c)
-turned-abs (pos n) c h = go c h
+pub times-sign-abs : (a c : ℤ) → pos 0 <ℤ timesSign a c → timesSign a c ≡ pos (natAbs c)
+times-sign-abs (pos n) c h = go c h
   where
     go : (c : ℤ) → pos 0 <ℤ c → c ≡ pos (natAbs c)
     go = split _ (λ a b. simp zed (omega arith))
-turned-abs (negsuc n) c h = go c h
+times-sign-abs (negsuc n) c h = go c h
   where
     go : (c : ℤ) → pos 0 <ℤ negℤ c → negℤ c ≡ pos (natAbs c)
     go = split _ (λ a b. simp zed (omega arith))
@@ -208,7 +210,8 @@ cert-cong s E M M′ h c = record {
   q = c .q;
   q≥1 = c .q≥1;
   ends = λ k l. subst (λ m. AtEnd E (score (c .p) (c .q) (weights s k) (prices s k)) (s .item k) m) (h k l) (c .ends k l);
-  tight = ap (λ z. pos (c .p) *ℤ z) (sum-cong (s .count) (λ k. weights s k *ℤ M′ k) (λ k. weights s k *ℤ M k) (λ k l. ap (λ z. weights s k *ℤ z) (sym (h k l)))) ∙ c .tight;
+  tight = ap (λ z. pos (c .p) *ℤ z) (sum-cong (s .count) (λ k. weights s k *ℤ M′ k) (λ k. weights s k *ℤ M k) (λ k l. ap (λ z. weights s k *ℤ z) (sym (h k l))))
+      ∙ c .tight;
 }
 
 -- e′ is e but for item k
@@ -216,7 +219,8 @@ abbrev pub Set : ℕ → (ℕ → ℤ) → ℕ → (ℕ → ℤ) → Type 0
 Set n e k e′ = (j : ℕ) → j < n → j ≢ k → e′ j ≡ e j
 
 weighs-set : (s : Instance) (e e′ : ℕ → ℤ) (k : ℕ) → k < s .count → Set (s .count) e k e′ → weighsᴰ s e′ ≡ weighsᴰ s e +ℤ weights s k *ℤ (e′ k -ℤ e k)
-weighs-set s e e′ k l h = sum-cong (s .count) (λ j. weights s j *ℤ e′ j) (λ j. weights s j *ℤ bump e k (e′ k -ℤ e k) j) (λ j m. ap (λ z. weights s j *ℤ z) (at j m (ℕ-discrete j k))) ∙ sum-bump (s .count) (weights s) e k (e′ k -ℤ e k) l
+weighs-set s e e′ k l h = sum-cong (s .count) (λ j. weights s j *ℤ e′ j) (λ j. weights s j *ℤ bump e k (e′ k -ℤ e k) j)
+    (λ j m. ap (λ z. weights s j *ℤ z) (at j m (ℕ-discrete j k))) ∙ sum-bump (s .count) (weights s) e k (e′ k -ℤ e k) l
   where
     diff : (x y : ℤ) → x ≡ y +ℤ (x -ℤ y)
     diff = split2 _ (λ a b c e. simp zed (omega arith))
@@ -237,30 +241,38 @@ pub part : (a c l u x r : ℤ) → a ≢ pos 0 → LightAt a c l u x → pos 0 �
 part (pos zero) c l u x r nz h k m = absurd (nz refl)
 part (pos (suc n)) c l u x r nz h k m = rw (h .heavy (simp zed (omega arith))) (go l u r k m)
   where
-    go : (l u r : ℤ) → pos 0 ≤ℤ r → r <ℤ (pos (suc n) *ℤ (u -ℤ l)) → ((l *ℤ pos (suc n)) ≤ℤ (l *ℤ pos (suc n) +ℤ pos 1 *ℤ r)) × ((l *ℤ pos (suc n) +ℤ pos 1 *ℤ r) ≤ℤ (u *ℤ pos (suc n)))
+    go : (l u r : ℤ) → pos 0 ≤ℤ r → r <ℤ (pos (suc n) *ℤ (u -ℤ l)) → ((l *ℤ pos (suc n)) ≤ℤ (l *ℤ pos (suc n) +ℤ pos 1 *ℤ r))
+        × ((l *ℤ pos (suc n) +ℤ pos 1 *ℤ r) ≤ℤ (u *ℤ pos (suc n)))
     go = split3 _ (λ a b c e f g. simp zed (omega arith))
 part (negsuc n) c l u x r nz h k m = rw (h .light (simp zed (omega arith))) (go l u r k m)
   where
-    go : (l u r : ℤ) → pos 0 ≤ℤ r → r <ℤ (pos (suc n) *ℤ (u -ℤ l)) → ((l *ℤ pos (suc n)) ≤ℤ (u *ℤ pos (suc n) +ℤ negsuc 0 *ℤ r)) × ((u *ℤ pos (suc n) +ℤ negsuc 0 *ℤ r) ≤ℤ (u *ℤ pos (suc n)))
+    go : (l u r : ℤ) → pos 0 ≤ℤ r → r <ℤ (pos (suc n) *ℤ (u -ℤ l)) → ((l *ℤ pos (suc n)) ≤ℤ (u *ℤ pos (suc n) +ℤ negsuc 0 *ℤ r))
+        × ((u *ℤ pos (suc n) +ℤ negsuc 0 *ℤ r) ≤ℤ (u *ℤ pos (suc n)))
     go = split3 _ (λ a b c e f g. simp zed (omega arith))
 
 module _ (s : Instance) (lo hi : ℕ → ℤ) (b : Boxed s lo hi) where
-  heavy-at : (p q k : ℕ) (x : ℤ) → k < s .count → weights s k ≢ pos 0 → (pos p *ℤ pos (natAbs (weights s k))) ≤ℤ (pos q *ℤ turned (weights s k) (prices s k)) → HeavyAt (weights s k) (lo k) (hi k) x
+  heavy-at : (p q k : ℕ) (x : ℤ) → k < s .count → weights s k ≢ pos 0 → (pos p *ℤ pos (natAbs (weights s k))) ≤ℤ (pos q *ℤ timesSign (weights s k) (prices s k))
+      → HeavyAt (weights s k) (lo k) (hi k) x
       → AtEnd q (score p q (weights s k) (prices s k)) (s .item k) (x *ℤ pos q)
-  heavy-at p q k x l nz h e = heavy-end p q q (s .item k) (x *ℤ pos q) nz h ((λ i. at-bound q (s .item k .upper) (hi k) x (b .upper k l) (e .heavy i)), (λ i. at-bound q (s .item k .lower) (lo k) x (b .lower k l) (e .light i)))
+  heavy-at p q k x l nz h e = heavy-end p q q (s .item k) (x *ℤ pos q) nz h
+      ((λ i. at-bound q (s .item k .upper) (hi k) x (b .upper k l) (e .heavy i)), (λ i. at-bound q (s .item k .lower) (lo k) x (b .lower k l) (e .light i)))
 
-  light-at : (p q k : ℕ) (x : ℤ) → k < s .count → weights s k ≢ pos 0 → (pos q *ℤ turned (weights s k) (prices s k)) ≤ℤ (pos p *ℤ pos (natAbs (weights s k))) → LightAt (weights s k) (prices s k) (lo k) (hi k) x
+  light-at : (p q k : ℕ) (x : ℤ) → k < s .count → weights s k ≢ pos 0 → (pos q *ℤ timesSign (weights s k) (prices s k)) ≤ℤ (pos p *ℤ pos (natAbs (weights s k)))
+      → LightAt (weights s k) (prices s k) (lo k) (hi k) x
       → AtEnd q (score p q (weights s k) (prices s k)) (s .item k) (x *ℤ pos q)
-  light-at p q k x l nz h e = light-end p q q (s .item k) (x *ℤ pos q) nz h ((λ i. at-bound q (s .item k .lower) (lo k) x (b .lower k l) (e .heavy i)), (λ i. at-bound q (s .item k .upper) (hi k) x (b .upper k l) (e .light i)))
+  light-at p q k x l nz h e = light-end p q q (s .item k) (x *ℤ pos q) nz h
+      ((λ i. at-bound q (s .item k .lower) (lo k) x (b .lower k l) (e .heavy i)), (λ i. at-bound q (s .item k .upper) (hi k) x (b .upper k l) (e .light i)))
 
-  flat-at : (p q k : ℕ) (x : ℤ) → k < s .count → weights s k ≡ pos 0 → LightAt (weights s k) (prices s k) (lo k) (hi k) x → AtEnd q (score p q (weights s k) (prices s k)) (s .item k) (x *ℤ pos q)
+  flat-at : (p q k : ℕ) (x : ℤ) → k < s .count → weights s k ≡ pos 0 → LightAt (weights s k) (prices s k) (lo k) (hi k) x
+      → AtEnd q (score p q (weights s k) (prices s k)) (s .item k) (x *ℤ pos q)
   flat-at p q k x l z e = record {
     good = λ h. at-bound q (s .item k .upper) (hi k) x (b .upper k l) (e .good z (flat-up p q (weights s k) (prices s k) z h));
     bad = λ h. at-bound q (s .item k .lower) (lo k) x (b .lower k l) (e .bad z (flat-dn p q (weights s k) (prices s k) z h));
   }
 
   inside : (q k : ℕ) (x : ℤ) → k < s .count → (lo k *ℤ pos q) ≤ℤ x → x ≤ℤ (hi k *ℤ pos q) → Within q (s .item k) x
-  inside q k x l hl hu = record { above = subst (λ o. KeepsLowerᴰ q o x) (sym (b .lower k l)) hl; below = subst (λ o. KeepsUpperᴰ q o x) (sym (b .upper k l)) hu }
+  inside q k x l hl hu =
+      record { above = subst (λ o. KeepsLowerᴰ q o x) (sym (b .lower k l)) hl; below = subst (λ o. KeepsUpperᴰ q o x) (sym (b .upper k l)) hu }
 
   -- ---- the beginning
 
@@ -270,8 +282,10 @@ module _ (s : Instance) (lo hi : ℕ → ℤ) (b : Boxed s lo hi) where
   pub too-heavy : (e : ℕ → ℤ) (r : ℤ) → AllLight e → weighsᴰ s e +ℤ r ≡ s .capacity → r <ℤ pos 0 → TooHeavy s 1 e
   too-heavy e r h lev neg = record {
     ends = λ k l. record {
-      good = λ g. subst (AtBound 1 (s .item k .upper)) (one (e k)) (at-bound 1 (s .item k .upper) (hi k) (e k) (b .upper k l) (h k l .light (flip (weights s k) g)));
-      bad = λ g. subst (AtBound 1 (s .item k .lower)) (one (e k)) (at-bound 1 (s .item k .lower) (lo k) (e k) (b .lower k l) (h k l .heavy (flip′ (weights s k) g)));
+      good = λ g. subst (AtBound 1 (s .item k .upper)) (one (e k)) (at-bound 1 (s .item k .upper) (hi k) (e k) (b .upper k l)
+          (h k l .light (flip (weights s k) g)));
+      bad = λ g. subst (AtBound 1 (s .item k .lower)) (one (e k)) (at-bound 1 (s .item k .lower) (lo k) (e k) (b .lower k l)
+          (h k l .heavy (flip′ (weights s k) g)));
     };
     over = over (weighsᴰ s e) r (s .capacity) lev neg;
   }
@@ -294,10 +308,17 @@ module _ (s : Instance) (lo hi : ℕ → ℤ) (b : Boxed s lo hi) where
   module _ (rank : ℕ → ℕ) (rk : Ranked s rank) where
     -- ---- the steps of the loop
 
-    pub skip : (t k : ℕ) (e : ℕ → ℤ) (r : ℤ) → k < s .count → rank k ≡ t → Idle (weights s k) (prices s k) → Inv s lo hi rank t e r → Inv s lo hi rank (t + 1) e r
-    skip t k e r l at idle i = record { heavy = λ j m o nz h. i .heavy j m (before j m o nz h (ℕ-discrete j k)) nz h; light = λ j m o. i .light j m (after j o); level = i .level; room = i .room }
+    pub skip : (t k : ℕ) (e : ℕ → ℤ) (r : ℤ) → k < s .count → rank k ≡ t → Idle (weights s k) (prices s k) → Inv s lo hi rank t e r
+        → Inv s lo hi rank (t + 1) e r
+    skip t k e r l at idle i =
+        record {
+          heavy = λ j m o nz h. i .heavy j m (before j m o nz h (ℕ-discrete j k)) nz h;
+          light = λ j m o. i .light j m (after j o);
+          level = i .level;
+          room = i .room;
+        }
       where
-        before : (j : ℕ) → j < s .count → rank j < t + 1 → weights s j ≢ pos 0 → pos 0 <ℤ turned (weights s j) (prices s j) → Dec (j ≡ k) → rank j < t
+        before : (j : ℕ) → j < s .count → rank j < t + 1 → weights s j ≢ pos 0 → pos 0 <ℤ timesSign (weights s j) (prices s j) → Dec (j ≡ k) → rank j < t
         before j m o nz h (yes q) = absurd (not-idle (weights s j) (prices s j) nz h (rw q idle))
         before j m o nz h (no q) = go (ℕ-discrete (rank j) (rank k))
           where
@@ -309,17 +330,20 @@ module _ (s : Instance) (lo hi : ℕ → ℤ) (b : Boxed s lo hi) where
         after j (inl o) = inl (omega arith)
         after j (inr d) = inr d
 
-    pub raise : (t k : ℕ) (e e′ : ℕ → ℤ) (r r′ : ℤ) → k < s .count → rank k ≡ t → weights s k ≢ pos 0 → pos 0 <ℤ turned (weights s k) (prices s k)
-        → Set (s .count) e k e′ → HeavyAt (weights s k) (lo k) (hi k) (e′ k) → r′ ≡ r -ℤ pos (natAbs (weights s k)) *ℤ (hi k -ℤ lo k) → pos 0 ≤ℤ r′ → Inv s lo hi rank t e r → Inv s lo hi rank (t + 1) e′ r′
+    pub raise : (t k : ℕ) (e e′ : ℕ → ℤ) (r r′ : ℤ) → k < s .count → rank k ≡ t → weights s k ≢ pos 0 → pos 0 <ℤ timesSign (weights s k) (prices s k)
+        → Set (s .count) e k e′ → HeavyAt (weights s k) (lo k) (hi k) (e′ k) → r′ ≡ r -ℤ pos (natAbs (weights s k)) *ℤ (hi k -ℤ lo k) → pos 0 ≤ℤ r′
+        → Inv s lo hi rank t e r → Inv s lo hi rank (t + 1) e′ r′
     raise t k e e′ r r′ l at nz worth same new less room i = record {
       heavy = λ j m o nz′ h. up j m o nz′ h (ℕ-discrete j k);
       light = λ j m o. dn j m o (ℕ-discrete j k);
-      level = close (weighsᴰ s e′) (weighsᴰ s e) (weights s k *ℤ (e′ k -ℤ e k)) (pos (natAbs (weights s k)) *ℤ (hi k -ℤ lo k)) r r′ (s .capacity) (weighs-set s e e′ k l same)
+      level = close (weighsᴰ s e′) (weighsᴰ s e) (weights s k *ℤ (e′ k -ℤ e k)) (pos (natAbs (weights s k)) *ℤ (hi k -ℤ lo k)) r r′ (s .capacity)
+          (weighs-set s e e′ k l same)
           (lift-weight (weights s k) (prices s k) (lo k) (hi k) (e k) (e′ k) nz (i .light k l (inl (omega arith))) new) less (i .level);
       room = room;
     }
       where
-        up : (j : ℕ) → j < s .count → rank j < t + 1 → weights s j ≢ pos 0 → pos 0 <ℤ turned (weights s j) (prices s j) → Dec (j ≡ k) → HeavyAt (weights s j) (lo j) (hi j) (e′ j)
+        up : (j : ℕ) → j < s .count → rank j < t + 1 → weights s j ≢ pos 0 → pos 0 <ℤ timesSign (weights s j) (prices s j) → Dec (j ≡ k)
+            → HeavyAt (weights s j) (lo j) (hi j) (e′ j)
         up j m o nz′ h (yes q) = rw q new
         up j m o nz′ h (no q) = rw (same j m q) (i .heavy j m (go (ℕ-discrete (rank j) (rank k))) nz′ h)
           where
@@ -349,14 +373,15 @@ module _ (s : Instance) (lo hi : ℕ → ℤ) (b : Boxed s lo hi) where
 
     data Stand (t : ℕ) (e : ℕ → ℤ) (k : ℕ) : Type 0 where
       flat : weights s k ≡ pos 0 → LightAt (weights s k) (prices s k) (lo k) (hi k) (e k) → Stand t e k
-      poor : weights s k ≢ pos 0 → turned (weights s k) (prices s k) ≤ℤ pos 0 → LightAt (weights s k) (prices s k) (lo k) (hi k) (e k) → Stand t e k
+      poor : weights s k ≢ pos 0 → timesSign (weights s k) (prices s k) ≤ℤ pos 0 → LightAt (weights s k) (prices s k) (lo k) (hi k) (e k) → Stand t e k
       later : weights s k ≢ pos 0 → t ≤ rank k → LightAt (weights s k) (prices s k) (lo k) (hi k) (e k) → Stand t e k
-      raised : weights s k ≢ pos 0 → rank k < t → pos 0 <ℤ turned (weights s k) (prices s k) → HeavyAt (weights s k) (lo k) (hi k) (e k) → Stand t e k
+      raised : weights s k ≢ pos 0 → rank k < t → pos 0 <ℤ timesSign (weights s k) (prices s k) → HeavyAt (weights s k) (lo k) (hi k) (e k) → Stand t e k
 
     stand : (t : ℕ) (e : ℕ → ℤ) (r : ℤ) (k : ℕ) → k < s .count → Inv s lo hi rank t e r → Stand t e k
-    stand t e r k l i = go (zero? (weights s k)) (≤ℤ-or-< (turned (weights s k) (prices s k)) (pos 0)) (decLt (rank k) t)
+    stand t e r k l i = go (zero? (weights s k)) (≤ℤ-or-< (timesSign (weights s k) (prices s k)) (pos 0)) (decLt (rank k) t)
       where
-        go : (weights s k ≡ pos 0) ⊎ (weights s k ≢ pos 0) → (turned (weights s k) (prices s k) ≤ℤ pos 0) ⊎ (pos 0 <ℤ turned (weights s k) (prices s k)) → Dec (rank k < t) → Stand t e k
+        go : (weights s k ≡ pos 0) ⊎ (weights s k ≢ pos 0) → (timesSign (weights s k) (prices s k) ≤ℤ pos 0) ⊎ (pos 0 <ℤ timesSign (weights s k) (prices s k))
+            → Dec (rank k < t) → Stand t e k
         go (inl z) w d = flat z (i .light k l (inr (inl z)))
         go (inr nz) (inl w) d = poor nz w (i .light k l (inr (inr w)))
         go (inr nz) (inr w) (yes o) = raised nz o w (i .heavy k l o nz w)
@@ -373,8 +398,16 @@ module _ (s : Instance) (lo hi : ℕ → ℤ) (b : Boxed s lo hi) where
 
     -- ---- the first exit: nothing more is worth its weight
 
-    pub finish : (t : ℕ) (e : ℕ → ℤ) (r : ℤ) → Inv s lo hi rank t e r → ((k : ℕ) → k < s .count → t ≤ rank k → Idle (weights s k) (prices s k)) → Certificate s 1 e
-    finish t e r i rest = cert-cong s 1 (λ k. e k *ℤ pos 1) e (λ k l. one (e k)) (record { p = 0; q = 1; q≥1 = omega arith; ends = λ k l. go k l (stand t e r k l i); tight = nought (weighsᴰ s (λ k. e k *ℤ pos 1)) (s .capacity *ℤ pos 1) })
+    pub finish : (t : ℕ) (e : ℕ → ℤ) (r : ℤ) → Inv s lo hi rank t e r → ((k : ℕ) → k < s .count → t ≤ rank k → Idle (weights s k) (prices s k))
+        → Certificate s 1 e
+    finish t e r i rest = cert-cong s 1 (λ k. e k *ℤ pos 1) e (λ k l. one (e k))
+        (record {
+          p = 0;
+          q = 1;
+          q≥1 = omega arith;
+          ends = λ k l. go k l (stand t e r k l i);
+          tight = nought (weighsᴰ s (λ k. e k *ℤ pos 1)) (s .capacity *ℤ pos 1);
+        })
       where
         one : (x : ℤ) → x *ℤ pos 1 ≡ x
         one = split _ (λ a b. simp zed (omega arith))
@@ -390,39 +423,19 @@ module _ (s : Instance) (lo hi : ℕ → ℤ) (b : Boxed s lo hi) where
 
         go : (k : ℕ) → k < s .count → Stand t e k → AtEnd 1 (score 0 1 (weights s k) (prices s k)) (s .item k) (e k *ℤ pos 1)
         go k l (flat z h) = flat-at 0 1 k (e k) l z h
-        go k l (poor nz w h) = light-at 0 1 k (e k) l nz (low (turned (weights s k) (prices s k)) (natAbs (weights s k)) w) h
-        go k l (raised nz o w h) = heavy-at 0 1 k (e k) l nz (high (turned (weights s k) (prices s k)) (natAbs (weights s k)) w) h
+        go k l (poor nz w h) = light-at 0 1 k (e k) l nz (low (timesSign (weights s k) (prices s k)) (natAbs (weights s k)) w) h
+        go k l (raised nz o w h) = heavy-at 0 1 k (e k) l nz (high (timesSign (weights s k) (prices s k)) (natAbs (weights s k)) w) h
         go k l (later nz o h) = idle (rest k l o)
           where
             idle : Idle (weights s k) (prices s k) → AtEnd 1 (score 0 1 (weights s k) (prices s k)) (s .item k) (e k *ℤ pos 1)
             idle (inl z) = absurd (nz z)
-            idle (inr w) = light-at 0 1 k (e k) l nz (low (turned (weights s k) (prices s k)) (natAbs (weights s k)) w) h
-
-    -- after the last place
-    pub finish-all : (e : ℕ → ℤ) (r : ℤ) → Inv s lo hi rank (s .count) e r → ((k : ℕ) → k < s .count → rank k < s .count) → Certificate s 1 e
-    finish-all e r i in-range = finish (s .count) e r i (λ k l o. absurd (omega (arith, in-range k l)))
-
-    -- at a place whose item is not worth its weight
-    pub finish-at : (t k : ℕ) (e : ℕ → ℤ) (r : ℤ) → k < s .count → rank k ≡ t → weights s k ≢ pos 0 → turned (weights s k) (prices s k) ≤ℤ pos 0 → Inv s lo hi rank t e r → Certificate s 1 e
-    finish-at t k e r l at nz low-price i = finish t e r i (λ j m o. go j m o (zero? (weights s j)) (ℕ-discrete (rank j) (rank k)))
-      where
-        clash : (x y : ℤ) (m n : ℕ) → x ≤ℤ pos 0 → (y *ℤ pos (suc m)) ≤ℤ (x *ℤ pos n) → pos 0 <ℤ y → ⊥
-        clash = split2 _ (λ a b c e m n. simp zed (λ h k l. omega (arith, mul-le-mul-right n h, mul-le-mul-right m l)))
-
-        low : (x y : ℤ) (m n : ℕ) → 1 ≤ m → x ≤ℤ pos 0 → (y *ℤ pos m) ≤ℤ (x *ℤ pos n) → (y ≤ℤ pos 0) ⊎ (pos 0 <ℤ y) → y ≤ℤ pos 0
-        low x y zero n o h k c = absurd (omega arith)
-        low x y (suc m) n o h k (inl c) = c
-        low x y (suc m) n o h k (inr c) = absurd (clash x y m n h k c)
-
-        go : (j : ℕ) → j < s .count → t ≤ rank j → (weights s j ≡ pos 0) ⊎ (weights s j ≢ pos 0) → Dec (rank j ≡ rank k) → Idle (weights s j) (prices s j)
-        go j m o (inl z) d = inl z
-        go j m o (inr nz′) (yes f) = inr (rw (rk .distinct j k m l f) low-price)
-        go j m o (inr nz′) (no f) = inr (low (turned (weights s k) (prices s k)) (turned (weights s j) (prices s j)) (natAbs (weights s k)) (natAbs (weights s j)) (abs≥1 (weights s k) nz) low-price (rk .falls k j l m (omega arith) nz nz′) (≤ℤ-or-< _ _))
+            idle (inr w) = light-at 0 1 k (e k) l nz (low (timesSign (weights s k) (prices s k)) (natAbs (weights s k)) w) h
 
     -- what the loop has is a feasible point
     pub inv-feasible : (t : ℕ) (e : ℕ → ℤ) (r : ℤ) → Inv s lo hi rank t e r → Feasibleᴰ s 1 e
     inv-feasible t e r i = record {
-      keeps = λ k l. let w = inside 1 k (e k) l (one-l (lo k) (e k) (between t e r k l i .0)) (one-u (e k) (hi k) (between t e r k l i .1)) in record { marked = mark (s .item k .mark) (e k); above = w .above; below = w .below };
+      keeps = λ k l. let w = inside 1 k (e k) l (one-l (lo k) (e k) (between t e r k l i .0)) (one-u (e k) (hi k) (between t e r k l i .1)) in
+          record { marked = mark (s .item k .mark) (e k); above = w .above; below = w .below };
       fits = fit (weighsᴰ s e) r (s .capacity) (i .level) (i .room);
     }
       where
@@ -445,8 +458,10 @@ module _ (s : Instance) (lo hi : ℕ → ℤ) (b : Boxed s lo hi) where
     -- ---- at the ratio of the item k of place t
 
     -- every other item stands at its end
-    pub standing : (t k : ℕ) (e : ℕ → ℤ) (r : ℤ) → k < s .count → rank k ≡ t → weights s k ≢ pos 0 → pos 0 <ℤ turned (weights s k) (prices s k) → Inv s lo hi rank t e r → (j : ℕ) → j < s .count → j ≢ k
-        → AtEnd (natAbs (weights s k)) (score (natAbs (prices s k)) (natAbs (weights s k)) (weights s j) (prices s j)) (s .item j) (e j *ℤ pos (natAbs (weights s k)))
+    pub standing : (t k : ℕ) (e : ℕ → ℤ) (r : ℤ) → k < s .count → rank k ≡ t → weights s k ≢ pos 0 → pos 0 <ℤ timesSign (weights s k) (prices s k)
+        → Inv s lo hi rank t e r → (j : ℕ) → j < s .count → j ≢ k
+        → AtEnd (natAbs (weights s k)) (score (natAbs (prices s k)) (natAbs (weights s k)) (weights s j) (prices s j)) (s .item j)
+        (e j *ℤ pos (natAbs (weights s k)))
     standing t k e r l at nz worth i j m ne = ends j m ne (stand t e r j m i)
       where
         q : ℕ
@@ -455,8 +470,8 @@ module _ (s : Instance) (lo hi : ℕ → ℤ) (b : Boxed s lo hi) where
         p : ℕ
         p = natAbs (prices s k)
 
-        tk : turned (weights s k) (prices s k) ≡ pos p
-        tk = turned-abs (weights s k) (prices s k) worth
+        tk : timesSign (weights s k) (prices s k) ≡ pos p
+        tk = times-sign-abs (weights s k) (prices s k) worth
 
         comm≤ : (m n : ℕ) (x y : ℤ) → (pos m *ℤ x) ≤ℤ (y *ℤ pos n) → (pos m *ℤ x) ≤ℤ (pos n *ℤ y)
         comm≤ m n = split2 _ (λ a b c e. simp zed (omega arith))
@@ -469,22 +484,29 @@ module _ (s : Instance) (lo hi : ℕ → ℤ) (b : Boxed s lo hi) where
 
         ends : (j : ℕ) → j < s .count → j ≢ k → Stand t e j → AtEnd q (score p q (weights s j) (prices s j)) (s .item j) (e j *ℤ pos q)
         ends j m ne (flat z h) = flat-at p q j (e j) m z h
-        ends j m ne (poor nz′ w h) = light-at p q j (e j) m nz′ (poorer p q (turned (weights s j) (prices s j)) (natAbs (weights s j)) w) h
-        ends j m ne (raised nz′ o w h) = heavy-at p q j (e j) m nz′ (comm≤ p q (pos (natAbs (weights s j))) (turned (weights s j) (prices s j)) (rw tk at (rk .falls j k m l (omega arith) nz′ nz))) h
+        ends j m ne (poor nz′ w h) = light-at p q j (e j) m nz′ (poorer p q (timesSign (weights s j) (prices s j)) (natAbs (weights s j)) w) h
+        ends j m ne (raised nz′ o w h) =
+            heavy-at p q j (e j) m nz′ (comm≤ p q (pos (natAbs (weights s j))) (timesSign (weights s j) (prices s j))
+            (rw tk at (rk .falls j k m l (omega arith) nz′ nz))) h
         ends j m ne (later nz′ o h) = go (ℕ-discrete (rank j) (rank k))
           where
             go : Dec (rank j ≡ rank k) → AtEnd q (score p q (weights s j) (prices s j)) (s .item j) (e j *ℤ pos q)
             go (yes f) = absurd (ne (rk .distinct j k m l f))
-            go (no f) = light-at p q j (e j) m nz′ (comm≥ p q (pos (natAbs (weights s j))) (turned (weights s j) (prices s j)) (rw tk at (rk .falls k j l m (omega arith) nz nz′))) h
+            go (no f) = light-at p q j (e j) m nz′ (comm≥ p q (pos (natAbs (weights s j))) (timesSign (weights s j) (prices s j))
+                (rw tk at (rk .falls k j l m (omega arith) nz nz′))) h
 
     -- ---- the second exit: the item k of place t does not fit, and takes the room that is left
 
-    pub critical : (t k : ℕ) (e M : ℕ → ℤ) (r : ℤ) → k < s .count → rank k ≡ t → weights s k ≢ pos 0 → pos 0 <ℤ turned (weights s k) (prices s k) → r <ℤ (pos (natAbs (weights s k)) *ℤ (hi k -ℤ lo k))
-        → Inv s lo hi rank t e r → ((j : ℕ) → j < s .count → j ≢ k → M j ≡ e j *ℤ pos (natAbs (weights s k))) → M k ≡ e k *ℤ pos (natAbs (weights s k)) +ℤ unit (weights s k) *ℤ r → Critical s (natAbs (weights s k)) M
+    pub critical : (t k : ℕ) (e M : ℕ → ℤ) (r : ℤ) → k < s .count → rank k ≡ t → weights s k ≢ pos 0 → pos 0 <ℤ timesSign (weights s k) (prices s k)
+        → r <ℤ (pos (natAbs (weights s k)) *ℤ (hi k -ℤ lo k))
+        → Inv s lo hi rank t e r → ((j : ℕ) → j < s .count → j ≢ k → M j ≡ e j *ℤ pos (natAbs (weights s k)))
+        → M k ≡ e k *ℤ pos (natAbs (weights s k)) +ℤ unit (weights s k) *ℤ r → Critical s (natAbs (weights s k)) M
     unfolding cert-cong
     critical t k e M r l at nz worth full i others own = record {
-      proof = cert-cong s q (filled s k q (unit (weights s k)) e) M (λ j m. is j m (ℕ-discrete j k)) (fill s k p q (unit (weights s k)) e l q≥1 (unit-sq (weights s k)) (unit-abs (weights s k)) (price-abs (weights s k) (prices s k) worth) at-ends);
-      p≥1 = rw (fill-price s k p q (unit (weights s k)) e l q≥1 (unit-sq (weights s k)) (unit-abs (weights s k)) (price-abs (weights s k) (prices s k) worth) at-ends) p≥1;
+      proof = cert-cong s q (filled s k q (unit (weights s k)) e) M (λ j m. is j m (ℕ-discrete j k))
+          (fill s k p q (unit (weights s k)) e l q≥1 (unit-sq (weights s k)) (unit-abs (weights s k)) (price-abs (weights s k) (prices s k) worth) at-ends);
+      p≥1 = rw (fill-price s k p q (unit (weights s k)) e l q≥1 (unit-sq (weights s k)) (unit-abs (weights s k)) (price-abs (weights s k) (prices s k) worth)
+          at-ends) p≥1;
       inside = λ j m. within-j j m (ℕ-discrete j k);
     }
       where
@@ -497,8 +519,8 @@ module _ (s : Instance) (lo hi : ℕ → ℤ) (b : Boxed s lo hi) where
         p : ℕ
         p = natAbs (prices s k)
 
-        tk : turned (weights s k) (prices s k) ≡ pos p
-        tk = turned-abs (weights s k) (prices s k) worth
+        tk : timesSign (weights s k) (prices s k) ≡ pos p
+        tk = times-sign-abs (weights s k) (prices s k) worth
 
         p≥1 : 1 ≤ p
         p≥1 = go (natAbs (prices s k)) (rw tk at worth)
@@ -510,12 +532,19 @@ module _ (s : Instance) (lo hi : ℕ → ℤ) (b : Boxed s lo hi) where
         left = split3 _ (λ a b c e f g. simp zed (omega arith))
 
         is : (j : ℕ) → j < s .count → Dec (j ≡ k) → filled s k q (unit (weights s k)) e j ≡ M j
-        is j m (yes f) = rw (f, bump-same (λ n. e n *ℤ pos q) k (unit (weights s k) *ℤ (s .capacity -ℤ weighsᴰ s e)), left (weighsᴰ s e) r (s .capacity) (i .level)) (sym own)
+        is j m (yes f) = rw (
+          f,
+          bump-same (λ n. e n *ℤ pos q) k (unit (weights s k) *ℤ (s .capacity -ℤ weighsᴰ s e)),
+          left (weighsᴰ s e) r (s .capacity) (i .level),
+        ) (sym own)
         is j m (no f) = bump-other (λ n. e n *ℤ pos q) k (unit (weights s k) *ℤ (s .capacity -ℤ weighsᴰ s e)) j f ∙ sym (others j m f)
 
         at-ends : (j : ℕ) → j < s .count → j ≢ k → AtEnd q (score p q (weights s j) (prices s j)) (s .item j) (e j *ℤ pos q)
         at-ends j m ne = standing t k e r l at nz worth i j m ne
 
         within-j : (j : ℕ) → j < s .count → Dec (j ≡ k) → Within q (s .item j) (M j)
-        within-j j m (yes f) = rw (f, own) (let g = part (weights s k) (prices s k) (lo k) (hi k) (e k) r nz (i .light k l (inl (omega arith))) (i .room) full in inside q k (e k *ℤ pos q +ℤ unit (weights s k) *ℤ r) l (g .0) (g .1))
-        within-j j m (no f) = rw (others j m f) (let g = between t e r j m i in inside q j (e j *ℤ pos q) m (times-≤ q (lo j) (e j) (g .0)) (times-≤ q (e j) (hi j) (g .1)))
+        within-j j m (yes f) =
+            rw (f, own) (let g = part (weights s k) (prices s k) (lo k) (hi k) (e k) r nz (i .light k l (inl (omega arith))) (i .room) full in inside q k
+            (e k *ℤ pos q +ℤ unit (weights s k) *ℤ r) l (g .0) (g .1))
+        within-j j m (no f) =
+            rw (others j m f) (let g = between t e r j m i in inside q j (e j *ℤ pos q) m (times-≤ q (lo j) (e j) (g .0)) (times-≤ q (e j) (hi j) (g .1)))

@@ -19,7 +19,7 @@ use borrow.Author.Tests.{lt-ltb, le-ltb, ltb-true, ltb-false, eq-eqb, ne-eqb, eq
 use Rattle.arith.specs.Division.{floorBy, floorDiv, ceilDiv}
 use Rattle.arith.specs.Sum.{sum, Each, bump}
 use Rattle.arith.specs.declared.Mixed.{Mixed}
-use Rattle.arith.proofs.Integers.{split, split2, split3, split4, zed, ≤ℤ-or-<, times-≤-back}
+use Rattle.arith.proofs.Integers.{split, split2, split3, split4, zed, ≤ℤ-or-<, times-≤-back, ≤ℤ-diff}
 use Rattle.arith.proofs.Sums.{bump-same, bump-other, sum-bump, sum-cong, sum-times}
 use Rattle.arith.proofs.Words.{yes-lt, no-lt, lt-yes, le-no}
 use Rattle.arith.proofs.Mixes.{over}
@@ -33,23 +33,31 @@ use Rattle.knapsack.proofs.Branch.{AtMost, leaf, empty}
 use Rattle.greedy.specs.declared.Columns.{Columns}
 use Rattle.greedy.specs.declared.Ends.{Ends}
 use Rattle.greedy.specs.declared.Fill.{Fill}
-use Rattle.arith.specs.Signs.{turned}
-use Rattle.greedy.specs.Fill.{at, weightOf, priceOf, itemOf, rankOf, lightOf, heavyOf, width, begun, raised, fillFrom, fill, sizeOf, rateOf, sharedBy, bound, fitted, start, unit, stand, solution}
+use Rattle.arith.specs.Signs.{timesSign}
+use Rattle.greedy.specs.Fill.{at, weightOf, priceOf, itemOf, rankOf, lightOf, heavyOf, width, begun, raised, fillFrom, fill, sizeOf, rateOf, sharedBy}
+use Rattle.greedy.specs.Fill.{bound, fitted, start, unit, stand, solution}
 use Rattle.greedy.specs.Ordered.{Idle, weightAt, Ordered}
-use Rattle.greedy.proofs.Greedy.{Boxed, LightAt, HeavyAt, Ranked, Inv, Critical, too-heavy, begin, raise, finish, inv-feasible, standing, critical, not-idle, abs≥1, turned-abs, light-in, unit-abs, price-abs}
+use Rattle.greedy.proofs.Greedy.{Boxed, LightAt, HeavyAt, Ranked, Inv, Critical, too-heavy, begin, raise, finish, inv-feasible, standing, critical}
+use Rattle.greedy.proofs.Greedy.{not-idle, abs≥1, times-sign-abs, light-in, unit-abs, price-abs}
 use Rattle.greedy.proofs.Critical.{own-score}
 use Rattle.greedy.proofs.Sides.{is-lightest, is-heaviest, lift-price}
 
 abbrev pub boxOf : Columns → Ends → (ℕ → Mark) → Instance
-boxOf c e marks = record { capacity = c .capacity; count = c .count; item = λ k. record { mark = marks k; weight = weightOf c k; price = priceOf c k; lower = At (at (e .lo) k); upper = At (at (e .hi) k) } }
+boxOf c e marks = record {
+  capacity = c .capacity;
+  count = c .count;
+  item = λ k. record { mark = marks k; weight = weightOf c k; price = priceOf c k; lower = At (at (e .lo) k); upper = At (at (e .hi) k) };
+}
 
 -- the ends of a box are in order
 abbrev pub InOrder : Columns → Ends → Type 0
 InOrder c e = (k : ℕ) → k < c .count → at (e .lo) k ≤ℤ at (e .hi) k
 
 -- a sum with one place changed
-sum-set : (n : ℕ) (a e e′ : ℕ → ℤ) (k : ℕ) → k < n → ((j : ℕ) → j < n → j ≢ k → e′ j ≡ e j) → sum n (λ j. a j *ℤ e′ j) ≡ sum n (λ j. a j *ℤ e j) +ℤ a k *ℤ (e′ k -ℤ e k)
-sum-set n a e e′ k l h = sum-cong n (λ j. a j *ℤ e′ j) (λ j. a j *ℤ bump e k (e′ k -ℤ e k) j) (λ j m. ap (λ z. a j *ℤ z) (at-j j m (ℕ-discrete j k))) ∙ sum-bump n a e k (e′ k -ℤ e k) l
+sum-set : (n : ℕ) (a e e′ : ℕ → ℤ) (k : ℕ) → k < n → ((j : ℕ) → j < n → j ≢ k → e′ j ≡ e j)
+    → sum n (λ j. a j *ℤ e′ j) ≡ sum n (λ j. a j *ℤ e j) +ℤ a k *ℤ (e′ k -ℤ e k)
+sum-set n a e e′ k l h = sum-cong n (λ j. a j *ℤ e′ j) (λ j. a j *ℤ bump e k (e′ k -ℤ e k) j) (λ j m. ap (λ z. a j *ℤ z) (at-j j m (ℕ-discrete j k)))
+    ∙ sum-bump n a e k (e′ k -ℤ e k) l
   where
     diff : (x y : ℤ) → x ≡ y +ℤ (x -ℤ y)
     diff = split2 _ (λ a b c e. simp zed (omega arith))
@@ -72,12 +80,14 @@ module _ (c : Columns) (e : Ends) (marks : ℕ → Mark) (o : Ordered c) (b : In
   boxed = record { lower = λ k l. refl; upper = λ k l. refl; order = λ k l. b k l }
 
   abbrev Before : ℕ → ℕ → Type 0
-  Before j k = (turned (weightOf c k) (priceOf c k) *ℤ pos (natAbs (weightOf c j))) ≤ℤ (turned (weightOf c j) (priceOf c j) *ℤ pos (natAbs (weightOf c k)))
+  Before j k = (timesSign (weightOf c k) (priceOf c k) *ℤ pos (natAbs (weightOf c j))) ≤ℤ
+      (timesSign (weightOf c j) (priceOf c j) *ℤ pos (natAbs (weightOf c k)))
 
   ranked : Ranked s (rankOf c)
   ranked = record {
     falls = λ j k l m h nj nk. subst (λ i. Before j i) (o .item-rank k m) (subst (λ i. Before i (itemOf c (rankOf c k))) (o .item-rank j l)
-        (o .falls (rankOf c j) (rankOf c k) h (o .rank-in k m) (λ z. nj (subst (λ i. weightOf c i ≡ pos 0) (o .item-rank j l) z)) (λ z. nk (subst (λ i. weightOf c i ≡ pos 0) (o .item-rank k m) z))));
+        (o .falls (rankOf c j) (rankOf c k) h (o .rank-in k m) (λ z. nj (subst (λ i. weightOf c i ≡ pos 0) (o .item-rank j l) z))
+        (λ z. nk (subst (λ i. weightOf c i ≡ pos 0) (o .item-rank k m) z))));
     distinct = λ j k l m h. sym (o .item-rank j l) ∙ ap (itemOf c) h ∙ o .item-rank k m;
   }
 
@@ -88,7 +98,7 @@ module _ (c : Columns) (e : Ends) (marks : ℕ → Mark) (o : Ordered c) (b : In
   live-busy : (k : ℕ) → k < c .count → rankOf c k < c .live → Idle (weightOf c k) (priceOf c k) → ⊥
   live-busy k l h i = not-idle (weightOf c k) (priceOf c k)
       (λ z. o .live-weight (rankOf c k) h (subst (λ j. weightOf c j ≡ pos 0) (sym (o .item-rank k l)) z))
-      (subst (λ j. pos 0 <ℤ turned (weightOf c j) (priceOf c j)) (o .item-rank k l) (o .live-rate (rankOf c k) h)) i
+      (subst (λ j. pos 0 <ℤ timesSign (weightOf c j) (priceOf c j)) (o .item-rank k l) (o .live-rate (rankOf c k) h)) i
 
   stand-light : (t k : ℕ) → t ≤ rankOf c k → stand c e t k ≡ lightOf c e k
   stand-light t k h = rw (le-ltb (rankOf c k) t h)
@@ -156,13 +166,16 @@ module _ (c : Columns) (e : Ends) (marks : ℕ → Mark) (o : Ordered c) (b : In
     to-heavy : HeavyAt (weightAt c u) (lo (itemOf c u)) (hi (itemOf c u)) (stand c e (u + 1) (itemOf c u))
     to-heavy = at-heavy (u + 1) (itemOf c u) (omega (arith, its-rank))
 
-    raise-inv : (r : ℤ) → pos 0 ≤ℤ (r -ℤ at (c .size) u *ℤ width c e u) → Inv s lo hi (rankOf c) u (stand c e u) r → Inv s lo hi (rankOf c) (u + 1) (stand c e (u + 1)) (r -ℤ at (c .size) u *ℤ width c e u)
-    raise-inv r h i = raise s lo hi boxed (rankOf c) ranked u (itemOf c u) (stand c e u) (stand c e (u + 1)) r (r -ℤ at (c .size) u *ℤ width c e u) k-in its-rank (o .live-weight u l) (o .live-rate u l) others to-heavy
+    raise-inv : (r : ℤ) → pos 0 ≤ℤ (r -ℤ at (c .size) u *ℤ width c e u) → Inv s lo hi (rankOf c) u (stand c e u) r
+        → Inv s lo hi (rankOf c) (u + 1) (stand c e (u + 1)) (r -ℤ at (c .size) u *ℤ width c e u)
+    raise-inv r h i = raise s lo hi boxed (rankOf c) ranked u (itemOf c u) (stand c e u) (stand c e (u + 1)) r (r -ℤ at (c .size) u *ℤ width c e u)
+        k-in its-rank (o .live-weight u l) (o .live-rate u l) others to-heavy
         (ap (λ z. r -ℤ z *ℤ width c e u) (o .sizes u l)) h i
 
     raise-worth : (w : ℤ) → valueᴰ s (stand c e u) ≡ w → valueᴰ s (stand c e (u + 1)) ≡ w +ℤ at (c .rate) u *ℤ width c e u
     raise-worth w h = sum-set (c .count) (priceOf c) (stand c e u) (stand c e (u + 1)) (itemOf c u) k-in others
-        ∙ ap₂ _+ℤ_ h (lift-price (weightAt c u) (priceOf c (itemOf c u)) (lo (itemOf c u)) (hi (itemOf c u)) (stand c e u (itemOf c u)) (stand c e (u + 1) (itemOf c u)) (o .live-weight u l) from-light to-heavy
+        ∙ ap₂ _+ℤ_ h (lift-price (weightAt c u) (priceOf c (itemOf c u)) (lo (itemOf c u)) (hi (itemOf c u)) (stand c e u (itemOf c u))
+        (stand c e (u + 1) (itemOf c u)) (o .live-weight u l) from-light to-heavy
         ∙ ap (λ z. z *ℤ width c e u) (sym (o .rates u l)))
 
   -- the filling ends after the live ranks, or at one that does not fit
@@ -173,19 +186,17 @@ module _ (c : Columns) (e : Ends) (marks : ℕ → Mark) (o : Ordered c) (b : In
   raise-good : (f : Fill) → f .at < c .live → (at (c .size) (f .at) *ℤ width c e (f .at)) ≤ℤ f .room → Good f → Good (raised c e f)
   raise-good f l h g = record {
     rank-in = omega arith;
-    inv = raise-inv (f .at) l (f .room) (left (f .room) (at (c .size) (f .at) *ℤ width c e (f .at)) h) (g .inv);
+    inv = raise-inv (f .at) l (f .room) (≤ℤ-diff (f .room) (at (c .size) (f .at) *ℤ width c e (f .at)) h) (g .inv);
     worth-is = raise-worth (f .at) l (f .worth) (g .worth-is);
   }
-    where
-      left : (r n : ℤ) → n ≤ℤ r → pos 0 ≤ℤ (r -ℤ n)
-      left = split2 _ (λ a b c e. simp zed (omega arith))
 
   stops : (n : ℕ) (f : Fill) → f .at + n ≡ c .live → Good f → Stopped (fillFrom c e n f)
   unfolding fillFrom
   stops zero f h g = record { good = g; why = inl (omega arith) }
   stops (suc n) f h g = go (ltZ (f .room) (at (c .size) (f .at) *ℤ width c e (f .at))) refl (λ g′. stops n (raised c e f) (omega arith) g′)
     where
-      go : (t : Bool) → ltZ (f .room) (at (c .size) (f .at) *ℤ width c e (f .at)) ≡ t → (Good (raised c e f) → Stopped (fillFrom c e n (raised c e f))) → Stopped (cond t f (fillFrom c e n (raised c e f)))
+      go : (t : Bool) → ltZ (f .room) (at (c .size) (f .at) *ℤ width c e (f .at)) ≡ t → (Good (raised c e f) → Stopped (fillFrom c e n (raised c e f)))
+          → Stopped (cond t f (fillFrom c e n (raised c e f)))
       go true q ih = record { good = g; why = inr (omega arith, yes-lt q) }
       go false q ih = ih (raise-good f (omega arith) (no-lt q) g)
 
@@ -227,7 +238,8 @@ module _ (c : Columns) (e : Ends) (marks : ℕ → Mark) (o : Ordered c) (b : In
   feasible-cong : (D : ℕ) (N M : ℕ → ℤ) → Each (c .count) (λ k. N k ≡ M k) → Feasibleᴰ s D N → Feasibleᴰ s D M
   feasible-cong D N M h p = record {
     keeps = λ k l. subst (λ z. Keepsᴰ D (s .item k) z) (h k l) (p .keeps k l);
-    fits = subst (λ z. z ≤ℤ (c .capacity *ℤ pos D)) (sum-cong (c .count) (λ k. weightOf c k *ℤ N k) (λ k. weightOf c k *ℤ M k) (λ k l. ap (λ z. weightOf c k *ℤ z) (h k l))) (p .fits);
+    fits = subst (λ z. z ≤ℤ (c .capacity *ℤ pos D)) (sum-cong (c .count) (λ k. weightOf c k *ℤ N k) (λ k. weightOf c k *ℤ M k)
+        (λ k l. ap (λ z. weightOf c k *ℤ z) (h k l))) (p .fits);
   }
 
   -- ---- the first end: all live ranks are raised
@@ -272,7 +284,8 @@ module _ (c : Columns) (e : Ends) (marks : ℕ → Mark) (o : Ordered c) (b : In
     parts-is = ap (λ (m : Mixed). m .parts) full
 
     others-stand : (j : ℕ) → j < c .count → j ≢ k → solution c e f j ≡ stand c e (f .at) j *ℤ pos q
-    others-stand j m ne = rw (parts-is, lt-ltb (f .at) (c .live) l, ne-eqb (rankOf c j) (f .at) (λ h. ne (sym (o .item-rank j m) ∙ ap (itemOf c) h))) (plus-0 (stand c e (f .at) j *ℤ pos q))
+    others-stand j m ne = rw (parts-is, lt-ltb (f .at) (c .live) l, ne-eqb (rankOf c j) (f .at) (λ h. ne (sym (o .item-rank j m) ∙ ap (itemOf c) h)))
+        (plus-0 (stand c e (f .at) j *ℤ pos q))
 
     own-stand : solution c e f k ≡ stand c e (f .at) k *ℤ pos q +ℤ unit (weightOf c k) *ℤ f .room
     own-stand = rw (parts-is, lt-ltb (f .at) (c .live) l, eq-eqb (rankOf c k) (f .at) (its-rank (f .at) l))
@@ -281,23 +294,33 @@ module _ (c : Columns) (e : Ends) (marks : ℕ → Mark) (o : Ordered c) (b : In
     need-is = ap (λ z. z *ℤ width c e (f .at)) (o .sizes (f .at) l)
 
     at-limit : Critical s q (solution c e f)
-    at-limit = critical s lo hi boxed (rankOf c) ranked (f .at) k (stand c e (f .at)) (solution c e f) (f .room) (k-in (f .at) l) (its-rank (f .at) l) nz (o .live-rate (f .at) l) (rw need-is at short) (g .inv) others-stand own-stand
+    at-limit = critical s lo hi boxed (rankOf c) ranked (f .at) k (stand c e (f .at)) (solution c e f) (f .room) (k-in (f .at) l) (its-rank (f .at) l) nz
+        (o .live-rate (f .at) l) (rw need-is at short) (g .inv) others-stand own-stand
 
     rate-is : at (c .rate) (f .at) ≡ pos (natAbs (priceOf c k))
-    rate-is = o .rates (f .at) l ∙ turned-abs (weightOf c k) (priceOf c k) (o .live-rate (f .at) l)
+    rate-is = o .rates (f .at) l ∙ times-sign-abs (weightOf c k) (priceOf c k) (o .live-rate (f .at) l)
 
     -- at the critical item's ratio every item stands at its end
-    at-ends : (j : ℕ) → j < c .count → Dec (j ≡ k) → AtEnd q (score (natAbs (priceOf c k)) q (weightOf c j) (priceOf c j)) (s .item j) (stand c e (f .at) j *ℤ pos q)
-    at-ends j m (yes h) = rw (h, own-score (natAbs (priceOf c k)) q (unit (weightOf c k)) (weightOf c k) (priceOf c k) (unit-abs (weightOf c k)) (price-abs (weightOf c k) (priceOf c k) (o .live-rate (f .at) l))) (record { good = λ z. absurd (z .lt); bad = λ z. absurd (z .lt) })
-    at-ends j m (no h) = standing s lo hi boxed (rankOf c) ranked (f .at) k (stand c e (f .at)) (f .room) (k-in (f .at) l) (its-rank (f .at) l) nz (o .live-rate (f .at) l) (g .inv) j m h
+    at-ends : (j : ℕ) → j < c .count → Dec (j ≡ k) → AtEnd q (score (natAbs (priceOf c k)) q (weightOf c j) (priceOf c j)) (s .item j)
+        (stand c e (f .at) j *ℤ pos q)
+    at-ends j m (yes h) =
+        rw (
+          h,
+          own-score (natAbs (priceOf c k)) q (unit (weightOf c k)) (weightOf c k) (priceOf c k) (unit-abs (weightOf c k))
+              (price-abs (weightOf c k) (priceOf c k) (o .live-rate (f .at) l)),
+        ) (record { good = λ z. absurd (z .lt); bad = λ z. absurd (z .lt) })
+    at-ends j m (no h) = standing s lo hi boxed (rankOf c) ranked (f .at) k (stand c e (f .at)) (f .room) (k-in (f .at) l) (its-rank (f .at) l) nz
+        (o .live-rate (f .at) l) (g .inv) j m h
 
     -- more weight than that of the whole amounts gains at most its price at the critical item
-    pub fill-slope : (D : ℕ) (N : ℕ → ℤ) → ((j : ℕ) → j < c .count → Keepsᴰ D (s .item j) (N j)) → (at (c .size) (f .at) *ℤ (valueᴰ s N -ℤ f .worth *ℤ pos D)) ≤ℤ (at (c .rate) (f .at) *ℤ (weighsᴰ s N -ℤ (c .capacity -ℤ f .room) *ℤ pos D))
+    pub fill-slope : (D : ℕ) (N : ℕ → ℤ) → ((j : ℕ) → j < c .count → Keepsᴰ D (s .item j) (N j))
+        → (at (c .size) (f .at) *ℤ (valueᴰ s N -ℤ f .worth *ℤ pos D)) ≤ℤ (at (c .rate) (f .at) *ℤ (weighsᴰ s N -ℤ (c .capacity -ℤ f .room) *ℤ pos D))
     fill-slope D N h = rw (o .sizes (f .at) l, rate-is)
         (close p q D q≥1 (valueᴰ s N) (weighsᴰ s N) (f .worth) (c .capacity -ℤ f .room)
         (subst₂ (λ v w. (pos q *ℤ (valueᴰ s N *ℤ pos q) -ℤ pos p *ℤ (weighsᴰ s N *ℤ pos q)) ≤ℤ (pos q *ℤ (v *ℤ pos D) -ℤ pos p *ℤ (w *ℤ pos D)))
         (sum-times (c .count) (priceOf c) (stand c e (f .at)) q ∙ ap (λ z. z *ℤ pos q) (g .worth-is))
-        (sum-times (c .count) (weightOf c) (stand c e (f .at)) q ∙ ap (λ z. z *ℤ pos q) (left (weighsᴰ s (stand c e (f .at))) (f .room) (c .capacity) (g .inv .level)))
+        (sum-times (c .count) (weightOf c) (stand c e (f .at)) q ∙ ap (λ z. z *ℤ pos q)
+        (left (weighsᴰ s (stand c e (f .at))) (f .room) (c .capacity) (g .inv .level)))
         (slope s p q q (λ j. stand c e (f .at) j *ℤ pos q) (λ j m. at-ends j m (ℕ-discrete j k)) D N (λ j m. within (h j m)))))
       where
         p : ℕ
@@ -306,28 +329,34 @@ module _ (c : Columns) (e : Ends) (marks : ℕ → Mark) (o : Ordered c) (b : In
         left : (w r b : ℤ) → w +ℤ r ≡ b → w ≡ b -ℤ r
         left = split3 _ (λ a b c e f g. simp zed (omega arith))
 
-        close : (p q D : ℕ) → 1 ≤ q → (v w x y : ℤ) → (pos q *ℤ (v *ℤ pos q) -ℤ pos p *ℤ (w *ℤ pos q)) ≤ℤ (pos q *ℤ ((x *ℤ pos q) *ℤ pos D) -ℤ pos p *ℤ ((y *ℤ pos q) *ℤ pos D)) → (pos q *ℤ (v -ℤ x *ℤ pos D)) ≤ℤ (pos p *ℤ (w -ℤ y *ℤ pos D))
-        close p q D q≥1 v w x y h = apart p q D v w x y (times-≤-back q (pos q *ℤ v -ℤ pos p *ℤ w) (pos q *ℤ (x *ℤ pos D) -ℤ pos p *ℤ (y *ℤ pos D)) q≥1 (subst₂ _≤ℤ_ (out p q v w) (out′ p q D x y) h))
+        close : (p q D : ℕ) → 1 ≤ q → (v w x y : ℤ) → (pos q *ℤ (v *ℤ pos q) -ℤ pos p *ℤ (w *ℤ pos q)) ≤ℤ
+            (pos q *ℤ ((x *ℤ pos q) *ℤ pos D) -ℤ pos p *ℤ ((y *ℤ pos q) *ℤ pos D)) → (pos q *ℤ (v -ℤ x *ℤ pos D)) ≤ℤ (pos p *ℤ (w -ℤ y *ℤ pos D))
+        close p q D q≥1 v w x y h =
+            apart p q D v w x y (times-≤-back q (pos q *ℤ v -ℤ pos p *ℤ w) (pos q *ℤ (x *ℤ pos D) -ℤ pos p *ℤ (y *ℤ pos D)) q≥1
+            (subst₂ _≤ℤ_ (out p q v w) (out′ p q D x y) h))
           where
             out : (p q : ℕ) (v w : ℤ) → pos q *ℤ (v *ℤ pos q) -ℤ pos p *ℤ (w *ℤ pos q) ≡ (pos q *ℤ v -ℤ pos p *ℤ w) *ℤ pos q
             out p q = split2 _ (λ a b c e. simp zed (omega arith))
 
-            out′ : (p q D : ℕ) (x y : ℤ) → pos q *ℤ ((x *ℤ pos q) *ℤ pos D) -ℤ pos p *ℤ ((y *ℤ pos q) *ℤ pos D) ≡ (pos q *ℤ (x *ℤ pos D) -ℤ pos p *ℤ (y *ℤ pos D)) *ℤ pos q
+            out′ : (p q D : ℕ) (x y : ℤ) → pos q *ℤ ((x *ℤ pos q) *ℤ pos D) -ℤ pos p *ℤ ((y *ℤ pos q) *ℤ pos D) ≡
+                (pos q *ℤ (x *ℤ pos D) -ℤ pos p *ℤ (y *ℤ pos D)) *ℤ pos q
             out′ p q D = split2 _ (λ a b c e. simp zed (omega arith))
 
-            apart : (p q D : ℕ) (v w x y : ℤ) → (pos q *ℤ v -ℤ pos p *ℤ w) ≤ℤ (pos q *ℤ (x *ℤ pos D) -ℤ pos p *ℤ (y *ℤ pos D)) → (pos q *ℤ (v -ℤ x *ℤ pos D)) ≤ℤ (pos p *ℤ (w -ℤ y *ℤ pos D))
+            apart : (p q D : ℕ) (v w x y : ℤ) → (pos q *ℤ v -ℤ pos p *ℤ w) ≤ℤ (pos q *ℤ (x *ℤ pos D) -ℤ pos p *ℤ (y *ℤ pos D))
+                → (pos q *ℤ (v -ℤ x *ℤ pos D)) ≤ℤ (pos p *ℤ (w -ℤ y *ℤ pos D))
             apart p q D = split4 _ (λ a b c e f g h i. simp zed (omega arith))
 
     -- what the solution is worth
-    value-is : valueᴰ s (solution c e f) ≡ f .worth *ℤ pos q +ℤ turned (weightOf c k) (priceOf c k) *ℤ f .room
+    value-is : valueᴰ s (solution c e f) ≡ f .worth *ℤ pos q +ℤ timesSign (weightOf c k) (priceOf c k) *ℤ f .room
     value-is = sum-set (c .count) (priceOf c) (λ j. stand c e (f .at) j *ℤ pos q) (solution c e f) k (k-in (f .at) l) others-stand
         ∙ ap₂ _+ℤ_ (sum-times (c .count) (priceOf c) (stand c e (f .at)) q ∙ ap (λ z. z *ℤ pos q) (g .worth-is))
-        (ap (λ z. priceOf c k *ℤ (z -ℤ stand c e (f .at) k *ℤ pos q)) own-stand ∙ cancel (priceOf c k) (stand c e (f .at) k *ℤ pos q) (unit (weightOf c k) *ℤ f .room) ∙ signed (weightOf c k) (priceOf c k) (f .room))
+        (ap (λ z. priceOf c k *ℤ (z -ℤ stand c e (f .at) k *ℤ pos q)) own-stand
+        ∙ cancel (priceOf c k) (stand c e (f .at) k *ℤ pos q) (unit (weightOf c k) *ℤ f .room) ∙ signed (weightOf c k) (priceOf c k) (f .room))
       where
         cancel : (p x y : ℤ) → p *ℤ ((x +ℤ y) -ℤ x) ≡ p *ℤ y
         cancel = split3 _ (λ a b c e f g. simp zed (omega arith))
 
-        signed : (a p r : ℤ) → p *ℤ (unit a *ℤ r) ≡ turned a p *ℤ r
+        signed : (a p r : ℤ) → p *ℤ (unit a *ℤ r) ≡ timesSign a p *ℤ r
         signed (pos n) p r = up p r
           where
             up : (p r : ℤ) → p *ℤ (pos 1 *ℤ r) ≡ p *ℤ r
@@ -337,7 +366,7 @@ module _ (c : Columns) (e : Ends) (marks : ℕ → Mark) (o : Ordered c) (b : In
             dn : (p r : ℤ) → p *ℤ (negsuc 0 *ℤ r) ≡ negℤ p *ℤ r
             dn = split2 _ (λ a b c e. simp zed (omega arith))
 
-    over-is : over (bound c f) ≡ f .worth *ℤ pos q +ℤ turned (weightOf c k) (priceOf c k) *ℤ f .room
+    over-is : over (bound c f) ≡ f .worth *ℤ pos q +ℤ timesSign (weightOf c k) (priceOf c k) *ℤ f .room
     over-is = rw full (quotient (f .worth) (rateOf c f * natAbs (f .room)) q ∙ ap (λ z. f .worth *ℤ pos q +ℤ z) product)
       where
         quotient : (w : ℤ) (x q : ℕ) → (w +ℤ pos (x / q)) *ℤ pos q +ℤ pos (x % q) ≡ w *ℤ pos q +ℤ pos x
@@ -354,8 +383,9 @@ module _ (c : Columns) (e : Ends) (marks : ℕ → Mark) (o : Ordered c) (b : In
         less : (x : ℤ) → pos 0 <ℤ x → pos 0 ≤ℤ x
         less = split _ (λ a b. simp zed (omega arith))
 
-        product : pos (rateOf c f * natAbs (f .room)) ≡ turned (weightOf c k) (priceOf c k) *ℤ f .room
-        product = ap (λ z. pos (natAbs z * natAbs (f .room))) (o .rates (f .at) l) ∙ nonneg-mul (turned (weightOf c k) (priceOf c k)) (f .room) (less _ (o .live-rate (f .at) l)) (g .inv .room)
+        product : pos (rateOf c f * natAbs (f .room)) ≡ timesSign (weightOf c k) (priceOf c k) *ℤ f .room
+        product = ap (λ z. pos (natAbs z * natAbs (f .room))) (o .rates (f .at) l)
+            ∙ nonneg-mul (timesSign (weightOf c k) (priceOf c k)) (f .room) (less _ (o .live-rate (f .at) l)) (g .inv .room)
 
   -- ---- what both ends give
 
@@ -373,8 +403,10 @@ module _ (c : Columns) (e : Ends) (marks : ℕ → Mark) (o : Ordered c) (b : In
   fill-bound f t = go (t .why)
     where
       go : (f .at ≡ c .live) ⊎ ((f .at < c .live) × (f .room <ℤ (at (c .size) (f .at) *ℤ width c e (f .at)))) → AtMost s (over (bound c f)) (bound c f .parts)
-      go (inl h) = leaf s (over (bound c f)) (bound c f .parts) 1 (stand c e (f .at)) (omega arith) (slack-certificate f (t .good) h) (equal-≤ _ _ _ _ (slack-over f (t .good) h) (ap (λ (m : Mixed). m .parts) (slack f (t .good) h)))
-      go (inr (h, j)) = leaf s (over (bound c f)) (bound c f .parts) (q f (t .good) h j) (solution c e f) (q≥1 f (t .good) h j) (at-limit f (t .good) h j .proof) (equal-≤ _ _ _ _ (value-is f (t .good) h j ∙ sym (over-is f (t .good) h j)) (parts-is f (t .good) h j))
+      go (inl h) = leaf s (over (bound c f)) (bound c f .parts) 1 (stand c e (f .at)) (omega arith) (slack-certificate f (t .good) h)
+          (equal-≤ _ _ _ _ (slack-over f (t .good) h) (ap (λ (m : Mixed). m .parts) (slack f (t .good) h)))
+      go (inr (h, j)) = leaf s (over (bound c f)) (bound c f .parts) (q f (t .good) h j) (solution c e f) (q≥1 f (t .good) h j)
+          (at-limit f (t .good) h j .proof) (equal-≤ _ _ _ _ (value-is f (t .good) h j ∙ sym (over-is f (t .good) h j)) (parts-is f (t .good) h j))
 
   -- every integer item is fixed
   abbrev pub Fixed : Type 0
@@ -384,7 +416,8 @@ module _ (c : Columns) (e : Ends) (marks : ℕ → Mark) (o : Ordered c) (b : In
   fill-value f t = go (t .why)
     where
       go : (f .at ≡ c .live) ⊎ ((f .at < c .live) × (f .room <ℤ (at (c .size) (f .at) *ℤ width c e (f .at)))) → valueᴰ s (solution c e f) ≡ over (bound c f)
-      go (inl h) = sum-cong (c .count) (λ j. priceOf c j *ℤ solution c e f j) (λ j. priceOf c j *ℤ stand c e (f .at) j) (λ j l. ap (λ z. priceOf c j *ℤ z) (sym (slack-solution f (t .good) h j))) ∙ slack-over f (t .good) h
+      go (inl h) = sum-cong (c .count) (λ j. priceOf c j *ℤ solution c e f j) (λ j. priceOf c j *ℤ stand c e (f .at) j)
+          (λ j l. ap (λ z. priceOf c j *ℤ z) (sym (slack-solution f (t .good) h j))) ∙ slack-over f (t .good) h
       go (inr (h, j)) = value-is f (t .good) h j ∙ sym (over-is f (t .good) h j)
 
   -- a whole multiple keeps every mark, and a critical item is continuous
@@ -400,10 +433,17 @@ module _ (c : Columns) (e : Ends) (marks : ℕ → Mark) (o : Ordered c) (b : In
   fill-point fixed f t = go (t .why)
     where
       go : (f .at ≡ c .live) ⊎ ((f .at < c .live) × (f .room <ℤ (at (c .size) (f .at) *ℤ width c e (f .at)))) → Feasibleᴰ s (bound c f .parts) (solution c e f)
-      go (inl h) = subst (λ n. Feasibleᴰ s n (solution c e f)) (sym (ap (λ (m : Mixed). m .parts) (slack f (t .good) h))) (feasible-cong 1 (stand c e (f .at)) (solution c e f) (λ j l. slack-solution f (t .good) h j) (inv-feasible s lo hi boxed (rankOf c) ranked (f .at) (stand c e (f .at)) (f .room) (t .good .inv)))
+      go (inl h) = subst (λ n. Feasibleᴰ s n (solution c e f)) (sym (ap (λ (m : Mixed). m .parts) (slack f (t .good) h)))
+          (feasible-cong 1 (stand c e (f .at)) (solution c e f) (λ j l. slack-solution f (t .good) h j)
+          (inv-feasible s lo hi boxed (rankOf c) ranked (f .at) (stand c e (f .at)) (f .room) (t .good .inv)))
       go (inr (h, j)) = subst (λ n. Feasibleᴰ s n (solution c e f)) (sym (parts-is f (t .good) h j)) (record {
-        keeps = λ i l. record { marked = marked i l (ℕ-discrete i (k f (t .good) h j)); above = at-limit f (t .good) h j .inside i l .above; below = at-limit f (t .good) h j .inside i l .below };
-        fits = level-fits (weighsᴰ s (solution c e f)) (c .capacity *ℤ pos (q f (t .good) h j)) (at-limit f (t .good) h j .proof .p) (at-limit f (t .good) h j .p≥1) (at-limit f (t .good) h j .proof .tight);
+        keeps = λ i l. record {
+          marked = marked i l (ℕ-discrete i (k f (t .good) h j));
+          above = at-limit f (t .good) h j .inside i l .above;
+          below = at-limit f (t .good) h j .inside i l .below;
+        };
+        fits = level-fits (weighsᴰ s (solution c e f)) (c .capacity *ℤ pos (q f (t .good) h j)) (at-limit f (t .good) h j .proof .p)
+            (at-limit f (t .good) h j .p≥1) (at-limit f (t .good) h j .proof .tight);
       })
         where
           level-fits : (w b : ℤ) (p : ℕ) → 1 ≤ p → pos p *ℤ w ≡ pos p *ℤ b → w ≤ℤ b
@@ -420,7 +460,8 @@ module _ (c : Columns) (e : Ends) (marks : ℕ → Mark) (o : Ordered c) (b : In
               none = split3 _ (λ a b c e f g. simp zed (omega arith))
 
           marked : (i : ℕ) → i < c .count → Dec (i ≡ k f (t .good) h j) → KeepsMarkᴰ (q f (t .good) h j) (marks i) (solution c e f i)
-          marked i l (yes x) = keep-loose (marks i) (q f (t .good) h j) (solution c e f i) (λ m. no-room (at (c .size) (f .at)) (lo i) (hi i) (f .room) (fixed i l m) (t .good .inv .room) (rw x j))
+          marked i l (yes x) = keep-loose (marks i) (q f (t .good) h j) (solution c e f i)
+              (λ m. no-room (at (c .size) (f .at)) (lo i) (hi i) (f .room) (fixed i l m) (t .good .inv .room) (rw x j))
           marked i l (no x) = keep-whole (marks i) (q f (t .good) h j) (stand c e (f .at) i) (solution c e f i) (others-stand f (t .good) h j i l x)
 
   -- ---- starts
@@ -483,7 +524,8 @@ module _ (c : Columns) (e : Ends) (marks : ℕ → Mark) (o : Ordered c) (b : In
       f = fill c e
 
       raised-in : f .at < c .live → rankOf c j ≡ f .at → Stopped f → Inside j (fitted (weightOf c j) (lo j) (hi j) (f .room))
-      raised-in h r t = subst (λ z. Inside j (fitted (weightOf c j) (lo j) (hi j) z)) (nonneg-abs (f .room) (t .good .inv .room)) (fitted-in (weightOf c j) (lo j) (hi j) (natAbs (f .room)) (b j l) (short (t .why)))
+      raised-in h r t = subst (λ z. Inside j (fitted (weightOf c j) (lo j) (hi j) z)) (nonneg-abs (f .room) (t .good .inv .room))
+          (fitted-in (weightOf c j) (lo j) (hi j) (natAbs (f .room)) (b j l) (short (t .why)))
         where
           its : itemOf c (f .at) ≡ j
           its = sym (ap (itemOf c) r) ∙ o .item-rank j l
@@ -495,22 +537,29 @@ module _ (c : Columns) (e : Ends) (marks : ℕ → Mark) (o : Ordered c) (b : In
           size-abs : pos (natAbs (weightOf c j)) ≡ at (c .size) (f .at)
           size-abs = ap (λ i. pos (natAbs (weightOf c i))) (sym its) ∙ sym (o .sizes (f .at) h)
 
-          short : (f .at ≡ c .live) ⊎ ((f .at < c .live) × (f .room <ℤ (at (c .size) (f .at) *ℤ width c e (f .at)))) → pos (natAbs (f .room)) <ℤ (pos (natAbs (weightOf c j)) *ℤ (hi j -ℤ lo j))
+          short : (f .at ≡ c .live) ⊎ ((f .at < c .live) × (f .room <ℤ (at (c .size) (f .at) *ℤ width c e (f .at))))
+              → pos (natAbs (f .room)) <ℤ (pos (natAbs (weightOf c j)) *ℤ (hi j -ℤ lo j))
           short (inl x) = absurd (omega arith)
-          short (inr (x, y)) = rw (nonneg-abs (f .room) (t .good .inv .room), size-abs) (subst (λ i. f .room <ℤ (at (c .size) (f .at) *ℤ (at (e .hi) i -ℤ at (e .lo) i))) its y)
+          short (inr (x, y)) = rw (nonneg-abs (f .room) (t .good .inv .room), size-abs)
+              (subst (λ i. f .room <ℤ (at (c .size) (f .at) *ℤ (at (e .hi) i -ℤ at (e .lo) i))) its y)
 
-      live? : rankOf c j ≡ f .at → Stopped f → (x : Bool) → ltb (f .at) (c .live) ≡ x → Inside j (cond x (fitted (weightOf c j) (lo j) (hi j) (f .room)) (lightOf c e j))
+      live? : rankOf c j ≡ f .at → Stopped f → (x : Bool) → ltb (f .at) (c .live) ≡ x
+          → Inside j (cond x (fitted (weightOf c j) (lo j) (hi j) (f .room)) (lightOf c e j))
       live? r t true h = raised-in (ltb-true (f .at) (c .live) h) r t
       live? r t false h = light-inside j l
 
-      own? : Stopped f → (x : Bool) → eqb (rankOf c j) (f .at) ≡ x → Inside j (cond x (cond (ltb (f .at) (c .live)) (fitted (weightOf c j) (lo j) (hi j) (f .room)) (lightOf c e j)) (lightOf c e j))
+      own? : Stopped f → (x : Bool) → eqb (rankOf c j) (f .at) ≡ x → Inside j
+          (cond x (cond (ltb (f .at) (c .live)) (fitted (weightOf c j) (lo j) (hi j) (f .room)) (lightOf c e j)) (lightOf c e j))
       own? t true h = live? (eqb-true (rankOf c j) (f .at) h) t (ltb (f .at) (c .live)) refl
       own? t false h = light-inside j l
 
-      before? : Stopped f → (x : Bool) → Inside j (cond x (heavyOf c e j) (cond (eqb (rankOf c j) (f .at)) (cond (ltb (f .at) (c .live)) (fitted (weightOf c j) (lo j) (hi j) (f .room)) (lightOf c e j)) (lightOf c e j)))
+      before? : Stopped f → (x : Bool) → Inside j (cond x (heavyOf c e j)
+          (cond (eqb (rankOf c j) (f .at)) (cond (ltb (f .at) (c .live)) (fitted (weightOf c j) (lo j) (hi j) (f .room)) (lightOf c e j)) (lightOf c e j)))
       before? t true = heavy-inside j l
       before? t false = own? t (eqb (rankOf c j) (f .at)) refl
 
-      empty? : (x : Bool) → ltZ (f .room) (pos 0) ≡ x → Inside j (cond x (lightOf c e j) (cond (ltb (rankOf c j) (f .at)) (heavyOf c e j) (cond (eqb (rankOf c j) (f .at)) (cond (ltb (f .at) (c .live)) (fitted (weightOf c j) (lo j) (hi j) (f .room)) (lightOf c e j)) (lightOf c e j))))
+      empty? : (x : Bool) → ltZ (f .room) (pos 0) ≡ x → Inside j (cond x (lightOf c e j)
+          (cond (ltb (rankOf c j) (f .at)) (heavyOf c e j) (cond (eqb (rankOf c j) (f .at))
+          (cond (ltb (f .at) (c .live)) (fitted (weightOf c j) (lo j) (hi j) (f .room)) (lightOf c e j)) (lightOf c e j))))
       empty? true h = light-inside j l
       empty? false h = before? (fill-stopped (no-lt h)) (ltb (rankOf c j) (f .at))

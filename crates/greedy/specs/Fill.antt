@@ -1,9 +1,27 @@
 -- The relaxation of a box by greedy filling: every item at its light end, then by falling price per weight to its heavy end, until
 -- one does not fit. Paper 01, "Relaxation"; document 000, chapter 3.
---   fill c e        where the filling stops: the rank, the room that is left, and what the whole amounts are worth
---   bound c e f     the value of the relaxation, where the room is not below 0
---   start c e f k   item k's amount in the relaxation, rounded towards its light end
---   solution c e f  the relaxation's point, over the divisor of its bound
+--   at, place               an entry of a list of amounts, and of places; 0 beyond its end
+--   weightOf, priceOf c k   the figures of item k
+--   itemOf c u, rankOf c k  the item of rank u, and the rank of item k
+--   lightest, heaviest      the end where an item of that weight and price weighs least, and most;  lightOf, heavyOf: of item k in a box
+--   width c e u             how far the item of rank u can be raised
+--   cornerWeight, cornerWorth  what the first n items weigh and are worth at their light ends
+--   withAmount f a c x      a filling with one item more, at the amount x
+--   begun c e               every item at its light end
+--   raisedBy, raised        a filling after its next rank is raised, by that rank's figures and by the columns
+--   raiseBy                 the same, or that it does not fit
+--   fillFrom c e n f        the filling from f on, n ranks at most
+--   fill c e                where the filling stops: the rank, the room that is left, and what the whole amounts are worth
+--   sizeOf, rateOf c f      weight and price, without the weight's sign, of the rank where the filling stops
+--   sharedBy f s p          the worth with the room at the price p for a weight of s
+--   bound c f               the value of the relaxation, where the room is not below 0
+--   fitted a l u r          the amount that just fits the room r, from the light end on
+--   roundedBy, start        an item's amount in the relaxation, rounded towards its light end, by its figures and by its number
+--   stand c e t k           item k's whole amount while the first t ranks are raised
+--   unit a                  1 or -1, by the sign of a
+--   takenBy, taken          what an item takes of the room: all if the filling stops at it, else nothing
+--   numerator c e f q k     item k's amount, times q
+--   solution c e f          the relaxation's point, over the divisor of its bound
 use mathlib.Core.Bool.{true, false, cond}
 use mathlib.Core.List.{List}
 use Prim.Native.Nat.{ℕ, zero, suc, _+_, _*_, _/_, _%_}
@@ -17,7 +35,7 @@ use Rattle.arith.specs.declared.Mixed.{Mixed}
 use Rattle.greedy.specs.declared.Columns.{Columns}
 use Rattle.greedy.specs.declared.Ends.{Ends}
 use Rattle.greedy.specs.declared.Fill.{Fill}
-use Rattle.greedy.specs.declared.Turn.{Turn}
+use Rattle.greedy.specs.declared.Raising.{Raising}
 
 -- ---- columns, by item and by rank
 
@@ -68,8 +86,8 @@ abbrev pub cornerWorth : Columns → Ends → ℕ → ℤ
 cornerWorth c e n = sum n (λ k. priceOf c k *ℤ lightOf c e k)
 
 -- one item more, at the amount x
-abbrev pub withItem : Fill → ℤ → ℤ → ℤ → Fill
-withItem f a c x = record { at = f .at; room = f .room -ℤ a *ℤ x; worth = f .worth +ℤ c *ℤ x }
+abbrev pub withAmount : Fill → ℤ → ℤ → ℤ → Fill
+withAmount f a c x = record { at = f .at; room = f .room -ℤ a *ℤ x; worth = f .worth +ℤ c *ℤ x }
 
 abbrev pub begun : Columns → Ends → Fill
 begun c e = record { at = 0; room = c .capacity -ℤ cornerWeight c e (c .count); worth = cornerWorth c e (c .count) }
@@ -78,8 +96,8 @@ begun c e = record { at = 0; room = c .capacity -ℤ cornerWeight c e (c .count)
 abbrev pub raisedBy : Fill → ℤ → ℤ → ℤ → Fill
 raisedBy f size rate wide = record { at = f .at + 1; room = f .room -ℤ size *ℤ wide; worth = f .worth +ℤ rate *ℤ wide }
 
-abbrev pub turnBy : Fill → ℤ → ℤ → ℤ → Turn
-turnBy f size rate wide = cond (ltZ (f .room) (size *ℤ wide)) (record { fits = false; fill = f }) (record { fits = true; fill = raisedBy f size rate wide })
+abbrev pub raiseBy : Fill → ℤ → ℤ → ℤ → Raising
+raiseBy f size rate wide = cond (ltZ (f .room) (size *ℤ wide)) (record { fits = false; fill = f }) (record { fits = true; fill = raisedBy f size rate wide })
 
 abbrev pub raised : Columns → Ends → Fill → Fill
 raised c e f = raisedBy f (at (c .size) (f .at)) (at (c .rate) (f .at)) (width c e (f .at))
@@ -130,9 +148,16 @@ abbrev pub unit : ℤ → ℤ
 unit (pos n) = pos 1
 unit (negsuc n) = negsuc 0
 
--- what the critical item takes of the room
+-- what the item of rank v takes of the room where the filling stops at rank u, n ranks being live
+abbrev pub takenBy : ℤ → ℤ → ℕ → ℕ → ℕ → ℤ
+takenBy a room v u n = cond (ltb u n) (cond (eqb v u) (unit a *ℤ room) (pos 0)) (pos 0)
+
 abbrev pub taken : Columns → Fill → ℕ → ℤ
-taken c f k = cond (ltb (f .at) (c .live)) (cond (eqb (rankOf c k) (f .at)) (unit (weightOf c k) *ℤ f .room) (pos 0)) (pos 0)
+taken c f k = takenBy (weightOf c k) (f .room) (rankOf c k) (f .at) (c .live)
+
+-- item k's amount times q: its whole amount, and what the critical item takes
+abbrev pub numerator : Columns → Ends → Fill → ℕ → ℕ → ℤ
+numerator c e f q k = stand c e (f .at) k *ℤ pos q +ℤ taken c f k
 
 abbrev pub solution : Columns → Ends → Fill → ℕ → ℤ
-solution c e f k = stand c e (f .at) k *ℤ pos (bound c f .parts) +ℤ taken c f k
+solution c e f k = numerator c e f (bound c f .parts) k

@@ -1,3 +1,4 @@
 pub mod Fill
 pub mod Sized
 pub mod Ordered
+pub mod Amounts

@@ -5,14 +5,19 @@ use arith::Mixed;
 use arith::ceil_div;
 use arith::floor_div;
 use arith::magnitude;
+pub use point::Amounted;
+pub use point::amounts;
 ghost use mathlib.Core.Path.{_≡_};
 ghost use Prim.Native.Nat.{_<_};
-ghost use Rattle.greedy.specs.Fill.{lightest, heaviest, fitted, begun, withItem, turnBy, fill, bound, sharedBy, start, roundedBy};
+ghost use Rattle.greedy.specs.Fill.{lightest, heaviest, fitted, begun, withAmount, raiseBy, fill, bound, sharedBy, start, roundedBy};
+ghost use Rattle.arith.specs.Limits.{farthest};
 ghost use Rattle.arith.specs.Within.{Within};
 ghost use Rattle.greedy.specs.Sized.{Sized, SizedFill, Raisable, Shareable, Fittable};
 
+mod point; // point.rt: the amounts of a filling
+
 // A problem by columns. By item: weight and price. By rank, in the order of falling price per weight: the item, its weight and
-// price without the sign of the weight. rank is order turned round; the first live ranks are worth their weight.
+// price without the sign of the weight. rank is order timesSign round; the first live ranks are worth their weight.
 pub struct Columns {
     pub weight: [i64; 16],
     pub price: [i64; 16],
@@ -69,16 +74,16 @@ pub fn begin(cols: Columns, ends: Ends) -> Fill
         let l = ends.lo[k];
         let u = ends.hi[k];
         let x = light_end(a, p, l, u);
-        f = with_item(f, a, p, x);
+        f = with_amount(f, a, p, x);
         k += 1;
     }
     f
 }
 
 // One item more, at the amount x.
-pub fn with_item(f: Fill, a: i64, c: i64, x: i64) -> Fill
-    requires { ⌜ Within 1000 a × (Within 10000 c × (Within 300000000 x × (Within 10000000000000 (f .room) × Within 100000000000000 (f .worth)))) ⌝ }
-    ensures { λ r. ⌜ r ≡ withItem f a c x ⌝ }
+pub fn with_amount(f: Fill, a: i64, c: i64, x: i64) -> Fill
+    requires { ⌜ Within 1000 a × (Within 10000 c × (Within farthest x × (Within 10000000000000 (f .room) × Within 100000000000000 (f .worth)))) ⌝ }
+    ensures { λ r. ⌜ r ≡ withAmount f a c x ⌝ }
 {
     Fill {
         at: f.at,
@@ -88,19 +93,19 @@ pub fn with_item(f: Fill, a: i64, c: i64, x: i64) -> Fill
 }
 
 // A filling after the next rank, or that the rank does not fit.
-pub struct Turn {
+pub struct Raising {
     pub fits: bool,
     pub fill: Fill,
 }
 
 // The item of the next rank, raised to its heavy end if it fits.
-pub fn raise(f: Fill, size: i64, rate: i64, width: i64) -> Turn
+pub fn raise(f: Fill, size: i64, rate: i64, width: i64) -> Raising
     requires { ⌜ Raisable f size rate width ⌝ }
-    ensures { λ r. ⌜ r ≡ turnBy f size rate width ⌝ }
+    ensures { λ r. ⌜ r ≡ raiseBy f size rate width ⌝ }
 {
     let need = size * width;
     if f.room < need {
-        return Turn {
+        return Raising {
             fits: false,
             fill: f,
         };
@@ -110,7 +115,7 @@ pub fn raise(f: Fill, size: i64, rate: i64, width: i64) -> Turn
         room: f.room - need,
         worth: f.worth + rate * width,
     };
-    Turn {
+    Raising {
         fits: true,
         fill: g,
     }

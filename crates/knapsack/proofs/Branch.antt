@@ -44,7 +44,8 @@ pub record TooHeavy (s : Instance) (E : ℕ) (M : ℕ → ℤ) : Type 0 where
 
 pub empty : (s : Instance) (E : ℕ) (M : ℕ → ℤ) → TooHeavy s E M → (D : ℕ) (N : ℕ → ℤ) → 1 ≤ D → ¬ Feasibleᴰ s D N
 empty s E M h D N d p = clash (weighsᴰ s N) (weighsᴰ s M) (s .capacity) (p .fits) (h .over)
-    (subst₂ _≤ℤ_ (sum-times (s .count) (weights s) M D) (sum-times (s .count) (weights s) N E) (sum-mono (s .count) _ _ (λ k l. turn (weights s k) _ _ (at-end D E _ (s .item k) (N k) (M k) (within (p .keeps k l)) (h .ends k l)))))
+    (subst₂ _≤ℤ_ (sum-times (s .count) (weights s) M D) (sum-times (s .count) (weights s) N E)
+    (sum-mono (s .count) _ _ (λ k l. turn (weights s k) _ _ (at-end D E _ (s .item k) (N k) (M k) (within (p .keeps k l)) (h .ends k l)))))
   where
     turn : (a x y : ℤ) → (negℤ a *ℤ x) ≤ℤ (negℤ a *ℤ y) → (a *ℤ y) ≤ℤ (a *ℤ x)
     turn = split3 _ (λ a b c e f g. simp zed (omega arith))
@@ -71,7 +72,8 @@ narrow s k l u = record {
   };
 }
 
-pub into : (s : Instance) (k : ℕ) (l u : Bound) (D : ℕ) (N : ℕ → ℤ) → Feasibleᴰ s D N → KeepsLowerᴰ D l (N k) → KeepsUpperᴰ D u (N k) → Feasibleᴰ (narrow s k l u) D N
+pub into : (s : Instance) (k : ℕ) (l u : Bound) (D : ℕ) (N : ℕ → ℤ) → Feasibleᴰ s D N → KeepsLowerᴰ D l (N k) → KeepsUpperᴰ D u (N k) →
+    Feasibleᴰ (narrow s k l u) D N
 into s k l u D N p hl hu = record {
   keeps = λ j m. record {
     marked = p .keeps j m .marked;
@@ -82,9 +84,17 @@ into s k l u D N p hl hu = record {
 }
 
 -- the new bounds imply the old
-pub out : (s : Instance) (k : ℕ) (l u : Bound) (D : ℕ) (N : ℕ → ℤ) → (KeepsLowerᴰ D l (N k) → KeepsLowerᴰ D (s .item k .lower) (N k)) → (KeepsUpperᴰ D u (N k) → KeepsUpperᴰ D (s .item k .upper) (N k))
+pub out : (s : Instance) (k : ℕ) (l u : Bound) (D : ℕ) (N : ℕ → ℤ) → (KeepsLowerᴰ D l (N k) → KeepsLowerᴰ D (s .item k .lower) (N k)) →
+    (KeepsUpperᴰ D u (N k) → KeepsUpperᴰ D (s .item k .upper) (N k))
     → Feasibleᴰ (narrow s k l u) D N → Feasibleᴰ s D N
-out s k l u D N fl fu p = record { keeps = λ j m. record { marked = p .keeps j m .marked; above = lo j (ℕ-discrete j k) (p .keeps j m .above); below = up j (ℕ-discrete j k) (p .keeps j m .below) }; fits = p .fits }
+out s k l u D N fl fu p = record {
+  keeps = λ j m. record {
+    marked = p .keeps j m .marked;
+    above = lo j (ℕ-discrete j k) (p .keeps j m .above);
+    below = up j (ℕ-discrete j k) (p .keeps j m .below);
+  };
+  fits = p .fits;
+}
   where
     lo : (j : ℕ) (d : Dec (j ≡ k)) → KeepsLowerᴰ D (pick d l (s .item j .lower)) (N j) → KeepsLowerᴰ D (s .item j .lower) (N j)
     lo j (yes e) h = rw e (fl (rw e at h))
@@ -102,7 +112,8 @@ halve s k f m w D N p = go (subst (λ mk. KeepsMarkᴰ D mk (N k)) w (p .keeps k
     up : (n f : ℤ) → f <ℤ n → ((f +ℤ pos 1) *ℤ pos D) ≤ℤ (n *ℤ pos D)
     up = split2 _ (λ a b c e. simp zed (λ h. omega (arith, mul-le-mul-right D h)))
 
-    at : (n : ℤ) → N k ≡ n *ℤ pos D → (n ≤ℤ f) ⊎ (f <ℤ n) → Feasibleᴰ (narrow s k (s .item k .lower) (At f)) D N ⊎ Feasibleᴰ (narrow s k (At (f +ℤ pos 1)) (s .item k .upper)) D N
+    at : (n : ℤ) → N k ≡ n *ℤ pos D → (n ≤ℤ f) ⊎ (f <ℤ n) →
+        Feasibleᴰ (narrow s k (s .item k .lower) (At f)) D N ⊎ Feasibleᴰ (narrow s k (At (f +ℤ pos 1)) (s .item k .upper)) D N
     at n e (inl h) = inl (into s k (s .item k .lower) (At f) D N p (p .keeps k m .above) (rw e (times-≤ D n f h)))
     at n e (inr h) = inr (into s k (At (f +ℤ pos 1)) (s .item k .upper) D N p (rw e (up n f h)) (p .keeps k m .below))
 
@@ -115,16 +126,26 @@ branch s W E k f m w lo hi D N d p = ⊎-elim (lo D N d) (hi D N d) (halve s k f
 
 -- the bounds l and u for all items
 abbrev pub boxed : Instance → (ℕ → Bound) → (ℕ → Bound) → Instance
-boxed s l u = record { capacity = s .capacity; count = s .count; item = λ j. record { mark = s .item j .mark; weight = s .item j .weight; price = s .item j .price; lower = l j; upper = u j } }
+boxed s l u = record {
+  capacity = s .capacity;
+  count = s .count;
+  item = λ j. record { mark = s .item j .mark; weight = s .item j .weight; price = s .item j .price; lower = l j; upper = u j };
+}
 
-pub into-box : (s : Instance) (l u : ℕ → Bound) (D : ℕ) (N : ℕ → ℤ) → Feasibleᴰ s D N → Each (s .count) (λ k. KeepsLowerᴰ D (l k) (N k) × KeepsUpperᴰ D (u k) (N k)) → Feasibleᴰ (boxed s l u) D N
+pub into-box : (s : Instance) (l u : ℕ → Bound) (D : ℕ) (N : ℕ → ℤ) → Feasibleᴰ s D N →
+    Each (s .count) (λ k. KeepsLowerᴰ D (l k) (N k) × KeepsUpperᴰ D (u k) (N k)) → Feasibleᴰ (boxed s l u) D N
 into-box s l u D N p h = record { keeps = λ k m. record { marked = p .keeps k m .marked; above = h k m .0; below = h k m .1 }; fits = p .fits }
 
 -- ---- the same point over D * E
 
+-- End theorem: a feasible point stays feasible over a multiple of its divisor.
 pub feasible-scale : (s : Instance) (D E : ℕ) (N : ℕ → ℤ) → Feasibleᴰ s D N → Feasibleᴰ s (D * E) (λ k. N k *ℤ pos E)
 feasible-scale s D E N p = record {
-  keeps = λ k l. record { marked = mark (s .item k .mark) (N k) (p .keeps k l .marked); above = scale-lower (s .item k .lower) (N k) (p .keeps k l .above); below = scale-upper (s .item k .upper) (N k) (p .keeps k l .below) };
+  keeps = λ k l. record {
+    marked = mark (s .item k .mark) (N k) (p .keeps k l .marked);
+    above = scale-lower (s .item k .lower) (N k) (p .keeps k l .above);
+    below = scale-upper (s .item k .upper) (N k) (p .keeps k l .below);
+  };
   fits = rw (sum-times (s .count) (weights s) N E) (up (weighsᴰ s N) (s .capacity) (p .fits));
 }
   where
@@ -151,7 +172,8 @@ feasible-scale s D E N p = record {
 
 -- ---- climbing: each feasible point is worth at most W / F, or a feasible point is worth at least 1 more
 pub at-most-climb : (s : Instance) (W U : ℤ) (F G : ℕ) → 1 ≤ F → 1 ≤ G → AtMost s U G
-    → ((D : ℕ) (N : ℕ → ℤ) → 1 ≤ D → Feasibleᴰ s D N → ((valueᴰ s N *ℤ pos F) ≤ℤ (W *ℤ pos D)) ⊎ ((N′ : ℕ → ℤ) × Feasibleᴰ s D N′ × ((valueᴰ s N +ℤ pos D) ≤ℤ valueᴰ s N′)))
+    → ((D : ℕ) (N : ℕ → ℤ) → 1 ≤ D → Feasibleᴰ s D N → ((valueᴰ s N *ℤ pos F) ≤ℤ (W *ℤ pos D)) ⊎
+    ((N′ : ℕ → ℤ) × Feasibleᴰ s D N′ × ((valueᴰ s N +ℤ pos D) ≤ℤ valueᴰ s N′)))
     → AtMost s W F
 at-most-climb s W U F G f g bound step D N d p = times-≤-back G _ _ g (subst₂ _≤ℤ_ (sym (join (valueᴰ s N))) refl
     (climb (Feasibleᴰ s D) (λ N. valueᴰ s N *ℤ pos (F * G)) ((W *ℤ pos D) *ℤ pos G) ((U *ℤ pos D) *ℤ pos F)
@@ -170,6 +192,7 @@ at-most-climb s W U F G f g bound step D N d p = times-≤-back G _ _ g (subst�
     more = split2 _ (λ a b c e. simp zed (λ h. omega (arith, mul-le-mul-left (F * G) h, mul-le-mul d (mul-le-mul f g))))
 
     each : (N : ℕ → ℤ) → ((valueᴰ s N *ℤ pos F) ≤ℤ (W *ℤ pos D)) ⊎ ((N′ : ℕ → ℤ) × Feasibleᴰ s D N′ × ((valueᴰ s N +ℤ pos D) ≤ℤ valueᴰ s N′))
-        → ((valueᴰ s N *ℤ pos (F * G)) ≤ℤ ((W *ℤ pos D) *ℤ pos G)) ⊎ ((N′ : ℕ → ℤ) × Feasibleᴰ s D N′ × (((valueᴰ s N *ℤ pos (F * G)) +ℤ pos 1) ≤ℤ (valueᴰ s N′ *ℤ pos (F * G))))
+        → ((valueᴰ s N *ℤ pos (F * G)) ≤ℤ ((W *ℤ pos D) *ℤ pos G)) ⊎ ((N′ : ℕ → ℤ) × Feasibleᴰ s D N′ ×
+        (((valueᴰ s N *ℤ pos (F * G)) +ℤ pos 1) ≤ℤ (valueᴰ s N′ *ℤ pos (F * G))))
     each N (inl h) = inl (settled (valueᴰ s N) W h)
     each N (inr (N′, p′, h)) = inr (N′, p′, more (valueᴰ s N) (valueᴰ s N′) h)

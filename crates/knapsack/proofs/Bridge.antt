@@ -41,18 +41,33 @@ abbrev pub Reads : Instance → ℕ → Point → (ℕ → ℤ) → Type 0
 Reads s D x N = (k : ℕ) → k < s .count → Over D (x k) (N k)
 
 pub bridge-feasible : (s : Instance) (D : ℕ) (x : Point) (N : ℕ → ℤ) → 1 ≤ D → Reads s D x N → Feasible s x ↔ Feasibleᴰ s D N
-bridge-feasible s D x N d h = (λ p. record { keeps = λ k l. to k l (p .keeps k l); fits = fits-iff .0 (p .fits) }, λ p. record { keeps = λ k l. from k l (p .keeps k l); fits = fits-iff .1 (p .fits) })
+bridge-feasible s D x N d h = (
+  λ p. record { keeps = λ k l. to k l (p .keeps k l); fits = fits-iff .0 (p .fits) },
+  λ p. record {
+    keeps = λ k l. from k l (p .keeps k l);
+    fits = fits-iff .1 (p .fits);
+  },
+)
   where
     fits-iff : (weighs s x ≤ᶠ int (s .capacity)) ↔ (weighsᴰ s N ≤ℤ (s .capacity *ℤ pos D))
     fits-iff = over-≤ d (over-total D (s .count) x N h (λ k. s .item k .weight)) (over-int D (s .capacity))
 
     to : (k : ℕ) → k < s .count → Keeps (s .item k) (x k) → Keepsᴰ D (s .item k) (N k)
-    to k l p = record { marked = over-mark d (h k l) (s .item k .mark) .0 (p .marked); above = over-lower d (h k l) (s .item k .lower) .0 (p .above); below = over-upper d (h k l) (s .item k .upper) .0 (p .below) }
+    to k l p = record {
+      marked = over-mark d (h k l) (s .item k .mark) .0 (p .marked);
+      above = over-lower d (h k l) (s .item k .lower) .0 (p .above);
+      below = over-upper d (h k l) (s .item k .upper) .0 (p .below);
+    }
 
     from : (k : ℕ) → k < s .count → Keepsᴰ D (s .item k) (N k) → Keeps (s .item k) (x k)
-    from k l p = record { marked = over-mark d (h k l) (s .item k .mark) .1 (p .marked); above = over-lower d (h k l) (s .item k .lower) .1 (p .above); below = over-upper d (h k l) (s .item k .upper) .1 (p .below) }
+    from k l p = record {
+      marked = over-mark d (h k l) (s .item k .mark) .1 (p .marked);
+      above = over-lower d (h k l) (s .item k .lower) .1 (p .above);
+      below = over-upper d (h k l) (s .item k .upper) .1 (p .below);
+    }
 
-pub bridge-value : (s : Instance) (D : ℕ) (x y : Point) (N M : ℕ → ℤ) → 1 ≤ D → Reads s D x N → Reads s D y M → (value s x ≤ᶠ value s y) ↔ (valueᴰ s N ≤ℤ valueᴰ s M)
+pub bridge-value : (s : Instance) (D : ℕ) (x y : Point) (N M : ℕ → ℤ) → 1 ≤ D → Reads s D x N → Reads s D y M →
+    (value s x ≤ᶠ value s y) ↔ (valueᴰ s N ≤ℤ valueᴰ s M)
 bridge-value s D x y N M d h k = over-≤ d (over-total D (s .count) x N h (λ j. s .item j .price)) (over-total D (s .count) y M k (λ j. s .item j .price))
 
 -- ---- optimal, over integers: no feasible numerators over any D are worth more

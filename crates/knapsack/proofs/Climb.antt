@@ -75,12 +75,15 @@ module _ {A : Type 0} (P : A → Type 0) (v : A → ℤ) (rank : A → ℕ) (K :
       keep = split3 _ (λ a b c e f g. simp zed (omega arith))
 
   pub climb-ties : (x : A) → P x → v x ≤ℤ best
-  climb-ties x p = let d = descend P (λ y. v y ≤ℤ best) (λ y z. v y ≤ℤ v z) (λ y. ≤ℤ-refl (v y)) (λ y z w. ≤ℤ-trans) left (λ y q. go y q (step y q)) x p in ≤ℤ-trans (d .3) (d .2)
+  climb-ties x p =
+      let d = descend P (λ y. v y ≤ℤ best) (λ y z. v y ≤ℤ v z) (λ y. ≤ℤ-refl (v y)) (λ y z w. ≤ℤ-trans) left (λ y q. go y q (step y q)) x p in
+      ≤ℤ-trans (d .3) (d .2)
     where
       weak : (x y : ℤ) → (x +ℤ pos 1) ≤ℤ y → x ≤ℤ y
       weak = split2 _ (λ a b c e. simp zed (omega arith))
 
-      go : (x : A) → P x → (v x ≤ℤ best) ⊎ ((y : A) × P y × (((v x +ℤ pos 1) ≤ℤ v y) ⊎ ((v x ≤ℤ v y) × (rank y < rank x)))) → (v x ≤ℤ best) ⊎ ((y : A) × P y × (v x ≤ℤ v y) × (left y < left x))
+      go : (x : A) → P x → (v x ≤ℤ best) ⊎ ((y : A) × P y × (((v x +ℤ pos 1) ≤ℤ v y) ⊎ ((v x ≤ℤ v y) × (rank y < rank x)))) →
+          (v x ≤ℤ best) ⊎ ((y : A) × P y × (v x ≤ℤ v y) × (left y < left x))
       go x p (inl h) = inl h
       go x p (inr (y, q, inl h)) = inr (y, q, weak (v x) (v y) h, lower x y (bounded x p .0) (bounded y q .0) (bounded y q .1) (inl h))
       go x p (inr (y, q, inr (h, k))) = inr (y, q, h, lower x y (bounded x p .0) (bounded y q .0) (bounded y q .1) (inr (h, k)))

@@ -20,7 +20,8 @@ score p q a c = pos q *ℤ c -ℤ pos p *ℤ a
 
 pub sum-score : (n p q : ℕ) (a c N : ℕ → ℤ) → sum n (λ j. score p q (a j) (c j) *ℤ N j) ≡ pos q *ℤ sum n (λ j. c j *ℤ N j) -ℤ pos p *ℤ sum n (λ j. a j *ℤ N j)
 unfolding score
-sum-score n p q a c N = sum-cong n _ _ (λ j l. apart (a j) (c j) (N j) p q) ∙ sum-lin n (pos q) (negℤ (pos p)) (λ j. c j *ℤ N j) (λ j. a j *ℤ N j) ∙ join (sum n (λ j. c j *ℤ N j)) (sum n (λ j. a j *ℤ N j)) p q
+sum-score n p q a c N = sum-cong n _ _ (λ j l. apart (a j) (c j) (N j) p q) ∙ sum-lin n (pos q) (negℤ (pos p)) (λ j. c j *ℤ N j) (λ j. a j *ℤ N j) ∙
+    join (sum n (λ j. c j *ℤ N j)) (sum n (λ j. a j *ℤ N j)) p q
   where
     apart : (a c x : ℤ) (p q : ℕ) → (pos q *ℤ c -ℤ pos p *ℤ a) *ℤ x ≡ pos q *ℤ (c *ℤ x) +ℤ negℤ (pos p) *ℤ (a *ℤ x)
     apart = split3 _ (λ a b c e f g p q. simp zed (omega arith))
@@ -43,7 +44,8 @@ pub optimal : (n p q : ℕ) (a c N M : ℕ → ℤ) (B : ℤ) → 1 ≤ q
     → sum n (λ j. a j *ℤ N j) ≤ℤ B
     → pos p *ℤ sum n (λ j. a j *ℤ M j) ≡ pos p *ℤ B
     → sum n (λ j. c j *ℤ N j) ≤ℤ sum n (λ j. c j *ℤ M j)
-optimal n p q a c N M B pos-q h fits tight = done q pos-q (sum n (λ j. c j *ℤ N j)) (sum n (λ j. c j *ℤ M j)) (pos p *ℤ sum n (λ j. a j *ℤ M j)) (rw (← tight, sum-score n p q a c M) at (weak-duality n p q a c N M B h fits))
+optimal n p q a c N M B pos-q h fits tight = done q pos-q (sum n (λ j. c j *ℤ N j)) (sum n (λ j. c j *ℤ M j)) (pos p *ℤ sum n (λ j. a j *ℤ M j))
+    (rw (← tight, sum-score n p q a c M) at (weak-duality n p q a c N M B h fits))
   where
     done : (q : ℕ) → 1 ≤ q → (C C′ A : ℤ) → (pos q *ℤ C) ≤ℤ (A +ℤ (pos q *ℤ C′ -ℤ A)) → C ≤ℤ C′
     done q pos-q = split3 _ (λ a b c e f g. simp zed (λ l. le-of-mul-le-mul-left {k = q} (omega arith) pos-q))
@@ -77,7 +79,8 @@ at-end D E ρ i n m k e = go ρ (i .lower) (i .upper) (e .good) (e .bad) (k .abo
     dn : (r D E : ℕ) (n u : ℤ) → (u *ℤ pos D) ≤ℤ n → (negsuc r *ℤ (n *ℤ pos E)) ≤ℤ (negsuc r *ℤ ((u *ℤ pos E) *ℤ pos D))
     dn r D E = split2 _ (λ a b c e. simp zed (λ l. omega (arith, mul-le-mul-left (suc r * E) l)))
 
-    go : (ρ : ℤ) (lo up : Bound) → (pos 0 <ℤ ρ → AtBound E up m) → (ρ <ℤ pos 0 → AtBound E lo m) → KeepsLowerᴰ D lo n → KeepsUpperᴰ D up n → (ρ *ℤ (n *ℤ pos E)) ≤ℤ (ρ *ℤ (m *ℤ pos D))
+    go : (ρ : ℤ) (lo up : Bound) → (pos 0 <ℤ ρ → AtBound E up m) → (ρ <ℤ pos 0 → AtBound E lo m) → KeepsLowerᴰ D lo n → KeepsUpperᴰ D up n →
+        (ρ *ℤ (n *ℤ pos E)) ≤ℤ (ρ *ℤ (m *ℤ pos D))
     go (pos zero) lo hi g b kl ku = simp zero-*ℤ (≤ℤ-reflexive refl)
     go (pos (suc r)) lo Absent g b kl ku = absurd (g (simp zed (omega arith)))
     go (pos (suc r)) lo (At u) g b kl ku = let at : m ≡ u *ℤ pos E = g (simp zed (omega arith)) in rw at (up (suc r) D E n u ku)
@@ -92,9 +95,11 @@ pub record Certificate (s : Instance) (E : ℕ) (M : ℕ → ℤ) : Type 0 where
   pub tight : pos p *ℤ weighsᴰ s M ≡ pos p *ℤ (s .capacity *ℤ pos E)
 
 -- where every item of M / E stands at its end, more weight than M's gains at most its price
-pub slope : (s : Instance) (p q E : ℕ) (M : ℕ → ℤ) → ((k : ℕ) → k < s .count → AtEnd E (score p q (s .item k .weight) (s .item k .price)) (s .item k) (M k)) → (D : ℕ) (N : ℕ → ℤ) → ((k : ℕ) → k < s .count → Within D (s .item k) (N k))
+pub slope : (s : Instance) (p q E : ℕ) (M : ℕ → ℤ) → ((k : ℕ) → k < s .count → AtEnd E (score p q (s .item k .weight) (s .item k .price)) (s .item k) (M k)) →
+    (D : ℕ) (N : ℕ → ℤ) → ((k : ℕ) → k < s .count → Within D (s .item k) (N k))
     → (pos q *ℤ (valueᴰ s N *ℤ pos E) -ℤ pos p *ℤ (weighsᴰ s N *ℤ pos E)) ≤ℤ (pos q *ℤ (valueᴰ s M *ℤ pos D) -ℤ pos p *ℤ (weighsᴰ s M *ℤ pos D))
-slope s p q E M ends D N inside = subst₂ _≤ℤ_ (scored N E) (scored M D) (sum-mono (s .count) _ _ (λ k l. at-end D E _ (s .item k) (N k) (M k) (inside k l) (ends k l)))
+slope s p q E M ends D N inside =
+    subst₂ _≤ℤ_ (scored N E) (scored M D) (sum-mono (s .count) _ _ (λ k l. at-end D E _ (s .item k) (N k) (M k) (inside k l) (ends k l)))
   where
     weights : ℕ → ℤ
     weights k = s .item k .weight
@@ -102,11 +107,14 @@ slope s p q E M ends D N inside = subst₂ _≤ℤ_ (scored N E) (scored M D) (s
     prices : ℕ → ℤ
     prices k = s .item k .price
 
-    scored : (X : ℕ → ℤ) (F : ℕ) → sum (s .count) (λ k. score p q (weights k) (prices k) *ℤ (X k *ℤ pos F)) ≡ pos q *ℤ (valueᴰ s X *ℤ pos F) -ℤ pos p *ℤ (weighsᴰ s X *ℤ pos F)
-    scored X F = sum-score (s .count) p q weights prices (λ k. X k *ℤ pos F) ∙ ap₂ (λ x y. pos q *ℤ x -ℤ pos p *ℤ y) (sum-times (s .count) prices X F) (sum-times (s .count) weights X F)
+    scored : (X : ℕ → ℤ) (F : ℕ) →
+        sum (s .count) (λ k. score p q (weights k) (prices k) *ℤ (X k *ℤ pos F)) ≡ pos q *ℤ (valueᴰ s X *ℤ pos F) -ℤ pos p *ℤ (weighsᴰ s X *ℤ pos F)
+    scored X F = sum-score (s .count) p q weights prices (λ k. X k *ℤ pos F) ∙ ap₂ (λ x y. pos q *ℤ x -ℤ pos p *ℤ y) (sum-times (s .count) prices X F)
+        (sum-times (s .count) weights X F)
 
 -- no feasible point is worth more than M / E, be M feasible or not
-pub certified : (s : Instance) (E : ℕ) (M : ℕ → ℤ) → 1 ≤ E → Certificate s E M → (D : ℕ) (N : ℕ → ℤ) → 1 ≤ D → Feasibleᴰ s D N → (valueᴰ s N *ℤ pos E) ≤ℤ (valueᴰ s M *ℤ pos D)
+pub certified : (s : Instance) (E : ℕ) (M : ℕ → ℤ) → 1 ≤ E → Certificate s E M → (D : ℕ) (N : ℕ → ℤ) → 1 ≤ D → Feasibleᴰ s D N →
+    (valueᴰ s N *ℤ pos E) ≤ℤ (valueᴰ s M *ℤ pos D)
 certified s E M e c D N d p = subst₂ _≤ℤ_ (sum-times (s .count) prices N E) (sum-times (s .count) prices M D)
     (optimal (s .count) (c .p) (c .q) weights prices (λ k. N k *ℤ pos E) (λ k. M k *ℤ pos D) ((s .capacity *ℤ pos D) *ℤ pos E) (c .q≥1)
     (λ k l. at-end D E _ (s .item k) (N k) (M k) (within (p .keeps k l)) (c .ends k l))

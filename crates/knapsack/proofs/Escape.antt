@@ -28,6 +28,7 @@ pub record Escape (s : Instance) : Type 0 where
   pub others : (k : ℕ) → k ≢ i → k ≢ j → d k ≡ pos 0
   pub ray : Ray s d
 
+-- End theorem: from every feasible point an escape is what an unbounded answer shows.
 pub escape : (s : Instance) (x : Point) (c : Escape s) → Feasible s x → Unbounded s x (c .d)
 escape s x c p = ray-unbounded s x (c .d) (c .i) (c .j) (c .i-in) (c .j-in) (c .i-moves) (c .j-moves) (c .others) (c .ray) p
 
@@ -88,7 +89,8 @@ escape-one s k w l f light gain = record {
     r = turn w (pos 1)
 
     free : Each (s .count) (λ m. FreeBy (s .item m) (bump rest k r m))
-    free = each-bump (λ m. FreeBy (s .item m)) rest k r (s .count) (λ m o. free-rest (s .item m)) (subst (FreeBy (s .item k)) (zero-plus r) (free-by w (s .item k) 1 f))
+    free = each-bump (λ m. FreeBy (s .item m)) rest k r (s .count) (λ m o. free-rest (s .item m))
+        (subst (FreeBy (s .item k)) (zero-plus r) (free-by w (s .item k) 1 f))
 
     moves : (w : Way) → pos 0 +ℤ turn w (pos 1) ≢ pos 0
     moves fore = simp zed (omega arith)
@@ -100,7 +102,8 @@ escape-one s k w l f light gain = record {
     one< : (x : ℤ) → pos 0 <ℤ x → pos 0 <ℤ (x *ℤ pos 1)
     one< = split _ (λ a b. simp zed (omega arith))
 
-escape-two : (s : Instance) (i j : ℕ) (v w : Way) → i < s .count → j < s .count → Free v (s .item i) → Free w (s .item j) → pos 0 <ℤ turn v (weights s i) → turn w (weights s j) <ℤ pos 0
+escape-two : (s : Instance) (i j : ℕ) (v w : Way) → i < s .count → j < s .count → Free v (s .item i) → Free w (s .item j) → pos 0 <ℤ turn v (weights s i) →
+    turn w (weights s j) <ℤ pos 0
     → pos 0 <ℤ (turn v (prices s i) *ℤ negℤ (turn w (weights s j)) +ℤ turn w (prices s j) *ℤ turn v (weights s i)) → Escape s
 unfolding rest
 escape-two s i j v w li lj fi fj heavy light gain = record {
@@ -153,7 +156,8 @@ escape-two s i j v w li lj fi fj heavy light gain = record {
 
     free : Each (s .count) (λ m. FreeBy (s .item m) (bump (bump rest i r) j t m))
     free = each-bump (λ m. FreeBy (s .item m)) (bump rest i r) j t (s .count)
-        (each-bump (λ m. FreeBy (s .item m)) rest i r (s .count) (λ m o. free-rest (s .item m)) (subst (FreeBy (s .item i)) (zero-plus r) (free-by v (s .item i) (natAbs (weights s j)) fi)))
+        (each-bump (λ m. FreeBy (s .item m)) rest i r (s .count) (λ m o. free-rest (s .item m))
+        (subst (FreeBy (s .item i)) (zero-plus r) (free-by v (s .item i) (natAbs (weights s j)) fi)))
         (rw (bump-other rest i r j ne) (subst (FreeBy (s .item j)) (zero-plus t) (free-by w (s .item j) (natAbs (weights s i)) fj)))
 
     effect : (a : ℕ → ℤ) → a i *ℤ r +ℤ a j *ℤ t ≡ turn v (a i) *ℤ negℤ (turn w (weights s j)) +ℤ turn w (a j) *ℤ turn v (weights s i)
@@ -203,9 +207,12 @@ free? fore i = none? (i .upper)
 free? aft i = none? (i .lower)
 
 pub rays : (s : Instance) → NoRay s ⊎ Escape s
-rays s = go (all-below (s .count) (λ k. (w : Way) → One k w) (λ k l. all-ways (One k) (λ w. one k w l (free? w (s .item k)) (≤ℤ-or-< (turn w (weights s k)) (pos 0)) (≤ℤ-or-< (turn w (prices s k)) (pos 0)))))
-    (all-below (s .count) (λ i. Each (s .count) (λ j. (v w : Way) → Two i j v w)) (λ i l. all-below (s .count) (λ j. (v w : Way) → Two i j v w) (λ j m. all-ways (λ v. (w : Way) → Two i j v w) (λ v. all-ways (Two i j v) (λ w.
-    two i j v w l m (free? v (s .item i)) (free? w (s .item j)) (≤ℤ-or-< (turn v (weights s i)) (pos 0)) (≤ℤ-or-< (pos 0) (turn w (weights s j))) (≤ℤ-or-< (turn v (prices s i) *ℤ negℤ (turn w (weights s j)) +ℤ turn w (prices s j) *ℤ turn v (weights s i)) (pos 0)))))))
+rays s = go (all-below (s .count) (λ k. (w : Way) → One k w)
+    (λ k l. all-ways (One k) (λ w. one k w l (free? w (s .item k)) (≤ℤ-or-< (turn w (weights s k)) (pos 0)) (≤ℤ-or-< (turn w (prices s k)) (pos 0)))))
+    (all-below (s .count) (λ i. Each (s .count) (λ j. (v w : Way) → Two i j v w))
+    (λ i l. all-below (s .count) (λ j. (v w : Way) → Two i j v w) (λ j m. all-ways (λ v. (w : Way) → Two i j v w) (λ v. all-ways (Two i j v) (λ w.
+    two i j v w l m (free? v (s .item i)) (free? w (s .item j)) (≤ℤ-or-< (turn v (weights s i)) (pos 0)) (≤ℤ-or-< (pos 0) (turn w (weights s j)))
+    (≤ℤ-or-< (turn v (prices s i) *ℤ negℤ (turn w (weights s j)) +ℤ turn w (prices s j) *ℤ turn v (weights s i)) (pos 0)))))))
   where
     One : ℕ → Way → Type 0
     One k w = Free w (s .item k) → turn w (weights s k) ≤ℤ pos 0 → turn w (prices s k) ≤ℤ pos 0
@@ -217,7 +224,8 @@ rays s = go (all-below (s .count) (λ k. (w : Way) → One k w) (λ k l. all-way
     clash : (x y : ℤ) → x <ℤ y → y ≤ℤ x → ⊥
     clash = split2 _ (λ a b c e. simp zed (omega arith))
 
-    one : (k : ℕ) (w : Way) → k < s .count → Free w (s .item k) ⊎ (¬ Free w (s .item k)) → (turn w (weights s k) ≤ℤ pos 0) ⊎ (pos 0 <ℤ turn w (weights s k)) → (turn w (prices s k) ≤ℤ pos 0) ⊎ (pos 0 <ℤ turn w (prices s k)) → One k w ⊎ Escape s
+    one : (k : ℕ) (w : Way) → k < s .count → Free w (s .item k) ⊎ (¬ Free w (s .item k)) → (turn w (weights s k) ≤ℤ pos 0) ⊎ (pos 0 <ℤ turn w (weights s k)) →
+        (turn w (prices s k) ≤ℤ pos 0) ⊎ (pos 0 <ℤ turn w (prices s k)) → One k w ⊎ Escape s
     one k w l (inr f) a c = inl (λ h. absurd (f h))
     one k w l (inl f) (inr a) c = inl (λ h m. absurd (clash _ _ a m))
     one k w l (inl f) (inl a) (inl c) = inl (λ h m. c)
@@ -225,7 +233,8 @@ rays s = go (all-below (s .count) (λ k. (w : Way) → One k w) (λ k l. all-way
 
     two : (i j : ℕ) (v w : Way) → i < s .count → j < s .count → Free v (s .item i) ⊎ (¬ Free v (s .item i)) → Free w (s .item j) ⊎ (¬ Free w (s .item j))
         → (turn v (weights s i) ≤ℤ pos 0) ⊎ (pos 0 <ℤ turn v (weights s i)) → (pos 0 ≤ℤ turn w (weights s j)) ⊎ (turn w (weights s j) <ℤ pos 0)
-        → ((turn v (prices s i) *ℤ negℤ (turn w (weights s j)) +ℤ turn w (prices s j) *ℤ turn v (weights s i)) ≤ℤ pos 0) ⊎ (pos 0 <ℤ (turn v (prices s i) *ℤ negℤ (turn w (weights s j)) +ℤ turn w (prices s j) *ℤ turn v (weights s i)))
+        → ((turn v (prices s i) *ℤ negℤ (turn w (weights s j)) +ℤ turn w (prices s j) *ℤ turn v (weights s i)) ≤ℤ pos 0) ⊎
+        (pos 0 <ℤ (turn v (prices s i) *ℤ negℤ (turn w (weights s j)) +ℤ turn w (prices s j) *ℤ turn v (weights s i)))
         → Two i j v w ⊎ Escape s
     two i j v w l m (inr f) g a c d = inl (λ h. absurd (f h))
     two i j v w l m (inl f) (inr g) a c d = inl (λ h k. absurd (g k))
@@ -234,7 +243,8 @@ rays s = go (all-below (s .count) (λ k. (w : Way) → One k w) (λ k l. all-way
     two i j v w l m (inl f) (inl g) (inr a) (inr c) (inl d) = inl (λ h k o p q. d)
     two i j v w l m (inl f) (inl g) (inr a) (inr c) (inr d) = inr (escape-two s i j v w l m f g a c d)
 
-    go : Each (s .count) (λ k. (w : Way) → One k w) ⊎ Escape s → Each (s .count) (λ i. Each (s .count) (λ j. (v w : Way) → Two i j v w)) ⊎ Escape s → NoRay s ⊎ Escape s
+    go : Each (s .count) (λ k. (w : Way) → One k w) ⊎ Escape s → Each (s .count) (λ i. Each (s .count) (λ j. (v w : Way) → Two i j v w)) ⊎ Escape s →
+        NoRay s ⊎ Escape s
     go (inl f) (inl g) = inl (record { one = λ k l w. f k l w; two = λ i j l m v w. g i l j m v w })
     go (inl f) (inr e) = inr e
     go (inr e) g = inr e

@@ -1,4 +1,3 @@
-pub mod Items
 pub mod Common
 pub mod Bridge
 pub mod Dual

@@ -31,19 +31,25 @@ keeps-step D i n r k w = record { marked = mark-step D (i .mark) n r (k .marked)
 abbrev pub shift : ℕ → (ℕ → ℤ) → ℕ → ℤ → ℕ → ℤ → ℕ → ℤ
 shift D N i r j t = bump (bump N i (r *ℤ pos D)) j (t *ℤ pos D)
 
-pub sum-shift : (n D : ℕ) (a N : ℕ → ℤ) (i j : ℕ) (r t : ℤ) → i < n → j < n → sum n (λ k. a k *ℤ shift D N i r j t k) ≡ sum n (λ k. a k *ℤ N k) +ℤ (a i *ℤ r +ℤ a j *ℤ t) *ℤ pos D
-sum-shift n D a N i j r t l m = sum-bump n a (bump N i (r *ℤ pos D)) j (t *ℤ pos D) m ∙ ap (λ z. z +ℤ a j *ℤ (t *ℤ pos D)) (sum-bump n a N i (r *ℤ pos D) l) ∙ join (sum n (λ k. a k *ℤ N k)) (a i) (a j) r t
+pub sum-shift : (n D : ℕ) (a N : ℕ → ℤ) (i j : ℕ) (r t : ℤ) → i < n → j < n →
+    sum n (λ k. a k *ℤ shift D N i r j t k) ≡ sum n (λ k. a k *ℤ N k) +ℤ (a i *ℤ r +ℤ a j *ℤ t) *ℤ pos D
+sum-shift n D a N i j r t l m = sum-bump n a (bump N i (r *ℤ pos D)) j (t *ℤ pos D) m ∙ ap (λ z. z +ℤ a j *ℤ (t *ℤ pos D)) (sum-bump n a N i (r *ℤ pos D) l) ∙
+    join (sum n (λ k. a k *ℤ N k)) (a i) (a j) r t
   where
     join : (s x y r t : ℤ) → (s +ℤ x *ℤ (r *ℤ pos D)) +ℤ y *ℤ (t *ℤ pos D) ≡ s +ℤ (x *ℤ r +ℤ y *ℤ t) *ℤ pos D
     join = split _ (λ h i. split4 _ (λ a b c e f g k l. simp zed (omega arith)))
 
 -- what holds at each place, and of the two new numbers, holds after the steps
-pub each-shift : (P : ℕ → ℤ → Type 0) (n D : ℕ) (N : ℕ → ℤ) (i j : ℕ) (r t : ℤ) → j ≢ i → Each n (λ k. P k (N k)) → P i (N i +ℤ r *ℤ pos D) → P j (N j +ℤ t *ℤ pos D) → Each n (λ k. P k (shift D N i r j t k))
-each-shift P n D N i j r t ne h pi pj = each-bump P (bump N i (r *ℤ pos D)) j (t *ℤ pos D) n (each-bump P N i (r *ℤ pos D) n h pi) (rw (bump-other N i (r *ℤ pos D) j ne) pj)
+pub each-shift : (P : ℕ → ℤ → Type 0) (n D : ℕ) (N : ℕ → ℤ) (i j : ℕ) (r t : ℤ) → j ≢ i → Each n (λ k. P k (N k)) → P i (N i +ℤ r *ℤ pos D) →
+    P j (N j +ℤ t *ℤ pos D) → Each n (λ k. P k (shift D N i r j t k))
+each-shift P n D N i j r t ne h pi pj =
+    each-bump P (bump N i (r *ℤ pos D)) j (t *ℤ pos D) n (each-bump P N i (r *ℤ pos D) n h pi) (rw (bump-other N i (r *ℤ pos D) j ne) pj)
 
-pub keeps-shift : (s : Instance) (D : ℕ) (N : ℕ → ℤ) (i j : ℕ) (r t : ℤ) → i < s .count → j < s .count → j ≢ i → Each (s .count) (λ k. Keepsᴰ D (s .item k) (N k))
+pub keeps-shift : (s : Instance) (D : ℕ) (N : ℕ → ℤ) (i j : ℕ) (r t : ℤ) → i < s .count → j < s .count → j ≢ i →
+    Each (s .count) (λ k. Keepsᴰ D (s .item k) (N k))
     → Within D (s .item i) (N i +ℤ r *ℤ pos D) → Within D (s .item j) (N j +ℤ t *ℤ pos D) → Each (s .count) (λ k. Keepsᴰ D (s .item k) (shift D N i r j t k))
-keeps-shift s D N i j r t l m ne h wi wj = each-shift (λ k. Keepsᴰ D (s .item k)) (s .count) D N i j r t ne h (keeps-step D (s .item i) (N i) r (h i l) wi) (keeps-step D (s .item j) (N j) t (h j m) wj)
+keeps-shift s D N i j r t l m ne h wi wj = each-shift (λ k. Keepsᴰ D (s .item k)) (s .count) D N i j r t ne h (keeps-step D (s .item i) (N i) r (h i l) wi)
+    (keeps-step D (s .item j) (N j) t (h j m) wj)
 
 -- steps r, t on i and j that weigh nothing or less and bring something: the new point is feasible and worth at least D / D = 1 more
 pub pair-gain : (s : Instance) (D : ℕ) (N : ℕ → ℤ) (i j : ℕ) (r t : ℤ) → i < s .count → j < s .count → j ≢ i → Feasibleᴰ s D N
@@ -53,7 +59,8 @@ pub pair-gain : (s : Instance) (D : ℕ) (N : ℕ → ℤ) (i j : ℕ) (r t : �
 pair-gain s D N i j r t l m ne p light gain wi wj = (
   record {
     keeps = keeps-shift s D N i j r t l m ne (p .keeps) wi wj;
-    fits = rw (sum-shift (s .count) D (λ k. s .item k .weight) N i j r t l m) (lighter (weighsᴰ s N) (s .capacity *ℤ pos D) (s .item i .weight *ℤ r +ℤ s .item j .weight *ℤ t) (p .fits) light);
+    fits = rw (sum-shift (s .count) D (λ k. s .item k .weight) N i j r t l m)
+        (lighter (weighsᴰ s N) (s .capacity *ℤ pos D) (s .item i .weight *ℤ r +ℤ s .item j .weight *ℤ t) (p .fits) light);
   },
   rw (sum-shift (s .count) D (λ k. s .item k .price) N i j r t l m) (more (valueᴰ s N) (s .item i .price *ℤ r +ℤ s .item j .price *ℤ t) gain),
 )
@@ -70,7 +77,8 @@ pub pair-discard : (s : Instance) (D : ℕ) (N : ℕ → ℤ) (i j : ℕ) (r t :
     → Within D (s .item i) (N i -ℤ r *ℤ pos D) → Within D (s .item j) (N j -ℤ t *ℤ pos D)
     → (N′ : ℕ → ℤ) × Feasibleᴰ s D N′ × ((valueᴰ s N +ℤ pos D) ≤ℤ valueᴰ s N′)
 pair-discard s D N i j r t l m ne p heavy loss wi wj =
-    let g = pair-gain s D N i j (negℤ r) (negℤ t) l m ne p (flip (s .item i .weight) (s .item j .weight) r t heavy) (flip′ (s .item i .price) (s .item j .price) r t loss) (rw (away (N i) r) at wi) (rw (away (N j) t) at wj) in
+    let g = pair-gain s D N i j (negℤ r) (negℤ t) l m ne p (flip (s .item i .weight) (s .item j .weight) r t heavy)
+    (flip′ (s .item i .price) (s .item j .price) r t loss) (rw (away (N i) r) at wi) (rw (away (N j) t) at wj) in
     (shift D N i (negℤ r) j (negℤ t), g .0, g .1)
   where
     flip : (x y r t : ℤ) → pos 0 ≤ℤ (x *ℤ r +ℤ y *ℤ t) → (x *ℤ negℤ r +ℤ y *ℤ negℤ t) ≤ℤ pos 0

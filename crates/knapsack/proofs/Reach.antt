@@ -3,7 +3,7 @@
 --   Reaches A B C s R   R k is a reach for item k of such a problem
 --   shutAt R s          s with item k's absent bounds at ±R k
 -- reach-at-most-at, reach-empty-at, reach-optimal-at: what holds of shutAt R s holds of s.
--- Ranges, shut, reach-at-most, reach-empty, reach-optimal: the same at the limits of the format, where 300,000,000 is a reach.
+-- Ranges, shut, out-of-shut: an instance at the limits of the format, where 300,000,000 is a reach.
 use mathlib.Core.Path.{_≡_, refl, sym, ap, ap₂, _∙_, subst}
 use mathlib.Core.Logic.{_≢_, _⊎_, inl, inr}
 use Prim.Native.Nat.{ℕ, zero, suc, _+_, _*_, _-_, _≤_, _<_}
@@ -14,6 +14,7 @@ use lib.IntN.{ℤ, pos, negsuc, negℤ, natAbs, _+ℤ_, _-ℤ_, _*ℤ_}
 use lib.Signed.{_≤ℤ_, _<ℤ_, ≤ℤ-refl}
 use Rattle.arith.proofs.Integers.{split, split2, split3, split4, zed, ≤ℤ-trans, ≤ℤ-reflexive, ≤ℤ-or-<, times-≤, natAbs-mul}
 use Rattle.arith.proofs.Sums.{bump-other, each-bump, sum-bump, sum-cong, sum-scale, part-of-sum, far, far-bump, find}
+use Rattle.arith.specs.Limits.{farthest}
 use Rattle.arith.specs.Sum.{sum, Each, bump}
 use Rattle.knapsack.proofs.Branch.{AtMost, boxed, into-box}
 use Rattle.knapsack.proofs.Climb.{descend}
@@ -576,61 +577,14 @@ pub record Ranges (s : Instance) : Type 0 where
   pub uppers : (k : ℕ) → k < s .count → Around (s .item k .upper)
   pub limited : natAbs (s .capacity) ≤ 100000000
 
-abbrev pub farthest : ℕ → ℕ
-farthest k = 300000000
-
-format-ranges : (s : Instance) → Ranges s → RangesAt 1000 (λ k. 10000) 100000000 s
-format-ranges s g = record { light = λ k l o. g .light k l; lowers = g .lowers; uppers = g .uppers; limited = g .limited }
-
-format-reaches : (s : Instance) → Ranges s → Reaches 1000 (λ k. 10000) 100000000 s farthest
-format-reaches s g = record {
-  lead = λ k. 11000;
-  near = λ k l. omega arith;
-  back-far = λ k l o. omega arith;
-  total = tally (s .count);
-  total-is = tally-is (s .count);
-  enough = λ k l h. omega (arith, mul-le-mul-right 300000000 h, tally-small (s .count) (g .few) (λ k l. g .light k l));
-  far = λ k l. omega arith;
-}
-  where
-    tally : ℕ → ℕ
-    tally zero = 0
-    tally (suc n) = tally n + natAbs (weights s n) * 11000
-
-    tally-is : (n : ℕ) → pos (tally n) ≡ sum n (λ k. pos (natAbs (weights s k) * 11000))
-    tally-is zero = refl
-    tally-is (suc n) = more (tally n) (natAbs (weights s n) * 11000) ∙ ap (λ z. z +ℤ pos (natAbs (weights s n) * 11000)) (tally-is n)
-      where
-        more : (a b : ℕ) → pos (a + b) ≡ pos a +ℤ pos b
-        more a b = simp zed (omega arith)
-
-    tally-small : (n : ℕ) → n ≤ 16 → ((k : ℕ) → k < n → natAbs (weights s k) ≤ 1000) → tally n ≤ 176000000
-    tally-small n h w = omega (arith, go n w)
-      where
-        go : (n : ℕ) → ((k : ℕ) → k < n → natAbs (weights s k) ≤ 1000) → tally n ≤ n * 11000000
-        go zero w = omega arith
-        go (suc n) w = omega (arith, go n (λ k l. w k (omega arith)), mul-le-mul-right 11000 (w n (omega arith)))
-
 abbrev pub lowers : Instance → ℕ → Bound
-lowers s k = lowersAt farthest s k
+lowers s k = lowersAt (λ k. farthest) s k
 
 abbrev pub uppers : Instance → ℕ → Bound
-uppers s k = uppersAt farthest s k
+uppers s k = uppersAt (λ k. farthest) s k
 
 abbrev pub shut : Instance → Instance
-shut s = shutAt farthest s
-
-pub into-shut : (s : Instance) (D : ℕ) (N : ℕ → ℤ) → Feasibleᴰ s D N → Each (s .count) (λ k. natAbs (N k) ≤ 300000000 * D) → Feasibleᴰ (shut s) D N
-into-shut s D N p h = into-shut-at farthest s D N p h
+shut s = shutAt (λ k. farthest) s
 
 pub out-of-shut : (s : Instance) (D : ℕ) (N : ℕ → ℤ) → Feasibleᴰ (shut s) D N → Feasibleᴰ s D N
-out-of-shut s D N p = out-of-shut-at farthest s D N p
-
-pub reach-at-most : (s : Instance) → Ranges s → NoRay s → (W : ℤ) (E : ℕ) → AtMost (shut s) W E → AtMost s W E
-reach-at-most s g nr W E a = reach-at-most-at s (format-ranges s g) (format-reaches s g) nr W E a
-
-pub reach-empty : (s : Instance) → Ranges s → NoRay s → ((D : ℕ) (N : ℕ → ℤ) → 1 ≤ D → ¬ Feasibleᴰ (shut s) D N) → (D : ℕ) (N : ℕ → ℤ) → 1 ≤ D → ¬ Feasibleᴰ s D N
-reach-empty s g nr h = reach-empty-at s (format-ranges s g) (format-reaches s g) nr h
-
-pub reach-optimal : (s : Instance) → Ranges s → NoRay s → (E : ℕ) (M : ℕ → ℤ) → Optimalᴰ (shut s) E M → Optimalᴰ s E M
-reach-optimal s g nr E M b = reach-optimal-at s (format-ranges s g) (format-reaches s g) nr E M b
+out-of-shut s D N p = out-of-shut-at (λ k. farthest) s D N p

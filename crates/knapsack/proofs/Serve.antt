@@ -11,7 +11,22 @@ use Rattle.arith.proofs.Fractions.{total-cong}
 use Rattle.arith.specs.Fractions.{Frac, frac, _·ᶠ_, _≤ᶠ_, _<ᶠ_, _≈ᶠ_, total}
 use Rattle.arith.specs.Gcd.{Divides}
 use Rattle.arith.specs.declared.Fraction.{Fraction}
-use Rattle.knapsack.specs.Meaning.{Instance, Point, weights, prices, value, Feasible, Optimal, Infeasible, Unbounded, stepped, Shown, pointOf, AnswersAs, Answers}
+use Rattle.knapsack.specs.Meaning.{
+  Instance,
+  Point,
+  weights,
+  prices,
+  value,
+  Feasible,
+  Optimal,
+  Infeasible,
+  Unbounded,
+  stepped,
+  Shown,
+  pointOf,
+  AnswersAs,
+  Answers,
+}
 use Rattle.knapsack.specs.declared.Answer.{Answer}
 use Rattle.knapsack.specs.declared.Kind.{Kind}
 use Rattle.knapsack.specs.declared.Kind.the-variants as kind
@@ -43,7 +58,8 @@ module _ (s t : Instance) (f : Serves s t) where
   serve-optimal : (x : Point) → Optimal t x → Optimal s x
   serve-optimal x o = record {
     feasible = f .within x (o .feasible);
-    highest = λ y h. let e = f .exchange y h in e .as-good (value s x) (subst (λ z. value t (e .point) ≤ᶠ z) (same-value x) (o .highest (e .point) (e .feasible)));
+    highest = λ y h. let e = f .exchange y h in e .as-good (value s x)
+        (subst (λ z. value t (e .point) ≤ᶠ z) (same-value x) (o .highest (e .point) (e .feasible)));
   }
 
   serve-infeasible : Infeasible t → Infeasible s

@@ -56,7 +56,14 @@ A-best : Best A (at (int (pos 2)) (frac (pos 2) 3)) (frac (pos 82) 3)
 unfolding score _+ᶠ_ _·ᶠ_ _≈ᶠ_
 A-best = (
   by-certificate A 3 (at (int (pos 2)) (frac (pos 2) 3)) (over (pos 6) (pos 2)) (omega arith) (two _ (record { eq = refl }) (record { eq = refl }))
-      (record { keeps = two _ (record { marked = (pos 2, refl); above = leZ-yes tt; below = leZ-yes tt }) (record { marked = tt; above = leZ-yes tt; below = leZ-yes tt }); fits = leZ-yes tt })
+      (record {
+        keeps = two _ (record { marked = (pos 2, refl); above = leZ-yes tt; below = leZ-yes tt }) (record {
+          marked = tt;
+          above = leZ-yes tt;
+          below = leZ-yes tt;
+        });
+        fits = leZ-yes tt;
+      })
       (record { p = 2; q = 3; q≥1 = omega arith; ends = two _ (record { good = λ h. refl; bad = λ h. absurd (h .lt) }) flat; tight = refl }),
   refl,
 )
@@ -65,7 +72,14 @@ B-best : Best B (at (int (pos 2)) (int (pos 2))) (int (pos 28))
 unfolding score _+ᶠ_ _·ᶠ_ _≈ᶠ_
 B-best = (
   by-certificate B 1 (at (int (pos 2)) (int (pos 2))) (over (pos 2) (pos 2)) (omega arith) (two _ (record { eq = refl }) (record { eq = refl }))
-      (record { keeps = two _ (record { marked = (pos 2, refl); above = leZ-yes tt; below = leZ-yes tt }) (record { marked = tt; above = leZ-yes tt; below = leZ-yes tt }); fits = leZ-yes tt })
+      (record {
+        keeps = two _ (record { marked = (pos 2, refl); above = leZ-yes tt; below = leZ-yes tt }) (record {
+          marked = tt;
+          above = leZ-yes tt;
+          below = leZ-yes tt;
+        });
+        fits = leZ-yes tt;
+      })
       (record { p = 1; q = 1; q≥1 = omega arith; ends = two _ (record { good = λ h. refl; bad = λ h. absurd (h .lt) }) flat; tight = refl }),
   refl,
 )
@@ -73,17 +87,33 @@ B-best = (
 -- C: at most 2 of the first item, or at least 3
 C-low : AtMost (narrow C 0 (At (pos 0)) (At (pos 2))) (negsuc 29) 1
 unfolding score ℕ-discrete
-C-low = leaf _ (negsuc 29) 1 1 (over (pos 2) (pos 2)) (omega arith) (record { p = 2; q = 1; q≥1 = omega arith; ends = two _ (record { good = λ h. refl; bad = λ h. absurd (h .lt) }) flat; tight = refl }) (leZ-yes tt)
+C-low = leaf _ (negsuc 29) 1 1 (over (pos 2) (pos 2)) (omega arith) (record {
+  p = 2;
+  q = 1;
+  q≥1 = omega arith;
+  ends = two _ (record { good = λ h. refl; bad = λ h. absurd (h .lt) }) flat;
+  tight = refl;
+}) (leZ-yes tt)
 
 C-high : AtMost (narrow C 0 (At (pos 3)) (At (pos 3))) (negsuc 29) 1
 unfolding score ℕ-discrete
-C-high = leaf _ (negsuc 29) 1 1 (over (pos 3) (pos 0)) (omega arith) (record { p = 0; q = 1; q≥1 = omega arith; ends = two _ (record { good = λ h. absurd (h .lt); bad = λ h. refl }) (record { good = λ h. absurd (h .lt); bad = λ h. refl }); tight = refl }) (leZ-yes tt)
+C-high = leaf _ (negsuc 29) 1 1 (over (pos 3) (pos 0)) (omega arith) (record {
+  p = 0;
+  q = 1;
+  q≥1 = omega arith;
+  ends = two _ (record { good = λ h. absurd (h .lt); bad = λ h. refl }) (record { good = λ h. absurd (h .lt); bad = λ h. refl });
+  tight = refl;
+}) (leZ-yes tt)
 
 C-best : Best C (at (int (pos 2)) (int (pos 2))) (int (negsuc 29))
 unfolding ℕ-discrete _+ᶠ_ _·ᶠ_ _≈ᶠ_
 C-best = (
   bridge-optimal C 1 (at (int (pos 2)) (int (pos 2))) (over (pos 2) (pos 2)) (omega arith) (two _ (record { eq = refl }) (record { eq = refl }))
-      (at-most-optimal C 1 (over (pos 2) (pos 2)) (record { keeps = two _ (record { marked = (pos 2, refl); above = leZ-yes tt; below = leZ-yes tt }) (record { marked = tt; above = leZ-yes tt; below = leZ-yes tt }); fits = leZ-yes tt })
+      (at-most-optimal C 1 (over (pos 2) (pos 2)) (record {
+        keeps = two _ (record { marked = (pos 2, refl); above = leZ-yes tt; below = leZ-yes tt })
+            (record { marked = tt; above = leZ-yes tt; below = leZ-yes tt });
+        fits = leZ-yes tt;
+      })
       (branch C (negsuc 29) 1 0 (pos 2) (omega arith) refl C-low C-high)),
   refl,
 )
@@ -92,7 +122,14 @@ D-best : Best D (at (int (pos 1)) (int (pos 5))) (int (negsuc 22))
 unfolding score _+ᶠ_ _·ᶠ_ _≈ᶠ_
 D-best = (
   by-certificate D 1 (at (int (pos 1)) (int (pos 5))) (over (pos 1) (pos 5)) (omega arith) (two _ (record { eq = refl }) (record { eq = refl }))
-      (record { keeps = two _ (record { marked = (pos 1, refl); above = leZ-yes tt; below = leZ-yes tt }) (record { marked = tt; above = leZ-yes tt; below = leZ-yes tt }); fits = leZ-yes tt })
+      (record {
+        keeps = two _ (record { marked = (pos 1, refl); above = leZ-yes tt; below = leZ-yes tt }) (record {
+          marked = tt;
+          above = leZ-yes tt;
+          below = leZ-yes tt;
+        });
+        fits = leZ-yes tt;
+      })
       (record { p = 2; q = 1; q≥1 = omega arith; ends = two _ (record { good = λ h. refl; bad = λ h. absurd (h .lt) }) flat; tight = refl }),
   refl,
 )
@@ -119,17 +156,33 @@ F₂-empty = leaf-empty F₂ (pos 16) 1 (empty F₂ 1 (over (pos 4) (pos 0)) (re
 
 F₁-low : AtMost (narrow F₁ 1 (At (pos 0)) (At (pos 0))) (pos 16) 1
 unfolding score ℕ-discrete
-F₁-low = leaf _ (pos 16) 1 1 (over (pos 3) (pos 0)) (omega arith) (record { p = 0; q = 1; q≥1 = omega arith; ends = two _ (record { good = λ h. refl; bad = λ h. absurd (h .lt) }) (record { good = λ h. refl; bad = λ h. absurd (h .lt) }); tight = refl }) (leZ-yes tt)
+F₁-low = leaf _ (pos 16) 1 1 (over (pos 3) (pos 0)) (omega arith) (record {
+  p = 0;
+  q = 1;
+  q≥1 = omega arith;
+  ends = two _ (record { good = λ h. refl; bad = λ h. absurd (h .lt) }) (record { good = λ h. refl; bad = λ h. absurd (h .lt) });
+  tight = refl;
+}) (leZ-yes tt)
 
 F₁-high : AtMost (narrow F₁ 1 (At (pos 1)) (At (pos 10))) (pos 16) 1
 unfolding score ℕ-discrete
-F₁-high = leaf _ (pos 16) 1 1 (over (pos 2) (pos 1)) (omega arith) (record { p = 5; q = 3; q≥1 = omega arith; ends = two _ flat (record { good = λ h. absurd (h .lt); bad = λ h. refl }); tight = refl }) (leZ-yes tt)
+F₁-high = leaf _ (pos 16) 1 1 (over (pos 2) (pos 1)) (omega arith) (record {
+  p = 5;
+  q = 3;
+  q≥1 = omega arith;
+  ends = two _ flat (record { good = λ h. absurd (h .lt); bad = λ h. refl });
+  tight = refl;
+}) (leZ-yes tt)
 
 F-best : Best F (at (int (pos 2)) (int (pos 1))) (int (pos 16))
 unfolding ℕ-discrete _+ᶠ_ _·ᶠ_ _≈ᶠ_
 F-best = (
   bridge-optimal F 1 (at (int (pos 2)) (int (pos 1))) (over (pos 2) (pos 1)) (omega arith) (two _ (record { eq = refl }) (record { eq = refl }))
-      (at-most-optimal F 1 (over (pos 2) (pos 1)) (record { keeps = two _ (record { marked = (pos 2, refl); above = leZ-yes tt; below = leZ-yes tt }) (record { marked = (pos 1, refl); above = leZ-yes tt; below = leZ-yes tt }); fits = leZ-yes tt })
+      (at-most-optimal F 1 (over (pos 2) (pos 1)) (record {
+        keeps = two _ (record { marked = (pos 2, refl); above = leZ-yes tt; below = leZ-yes tt })
+            (record { marked = (pos 1, refl); above = leZ-yes tt; below = leZ-yes tt });
+        fits = leZ-yes tt;
+      })
       (branch F (pos 16) 1 0 (pos 3) (omega arith) refl (branch F₁ (pos 16) 1 1 (pos 0) (omega arith) refl F₁-low F₁-high) F₂-empty)),
   refl,
 )
@@ -138,7 +191,10 @@ F-relaxed : Best (relaxed F) (at (frac (pos 10) 3) (int (pos 0))) (frac (pos 50)
 unfolding score _+ᶠ_ _·ᶠ_ _≈ᶠ_
 F-relaxed = (
   by-certificate (relaxed F) 3 (at (frac (pos 10) 3) (int (pos 0))) (over (pos 10) (pos 0)) (omega arith) (two _ (record { eq = refl }) (record { eq = refl }))
-      (record { keeps = two _ (record { marked = tt; above = leZ-yes tt; below = leZ-yes tt }) (record { marked = tt; above = leZ-yes tt; below = leZ-yes tt }); fits = leZ-yes tt })
+      (record {
+        keeps = two _ (record { marked = tt; above = leZ-yes tt; below = leZ-yes tt }) (record { marked = tt; above = leZ-yes tt; below = leZ-yes tt });
+        fits = leZ-yes tt;
+      })
       (record { p = 5; q = 3; q≥1 = omega arith; ends = two _ flat (record { good = λ h. absurd (h .lt); bad = λ h. refl }); tight = refl }),
   refl,
 )
@@ -147,7 +203,10 @@ G-unbounded : Unbounded G (at (int (pos 0)) (int (pos 0))) (by (pos 3) (pos 2))
 G-unbounded = ray-unbounded G (at (int (pos 0)) (int (pos 0))) (by (pos 3) (pos 2)) 0 1 (omega arith) (omega arith) three twice rest
     (record { up = two _ (λ h. refl) (λ h. refl); down = two _ (λ h. absurd (h .lt)) (λ h. absurd (h .lt)); light = leZ-yes tt; gain = ltZ-yes tt })
     (bridge-feasible G 1 (at (int (pos 0)) (int (pos 0))) (over (pos 0) (pos 0)) (omega arith) (two _ (record { eq = refl }) (record { eq = refl })) .1
-    (record { keeps = two _ (record { marked = (pos 0, refl); above = leZ-yes tt; below = tt }) (record { marked = (pos 0, refl); above = leZ-yes tt; below = tt }); fits = leZ-yes tt }))
+    (record {
+      keeps = two _ (record { marked = (pos 0, refl); above = leZ-yes tt; below = tt }) (record { marked = (pos 0, refl); above = leZ-yes tt; below = tt });
+      fits = leZ-yes tt;
+    }))
   where
     three : pos 3 ≢ pos 0
     three = simp zed (omega arith)
@@ -164,7 +223,10 @@ H-best : Best H (at (int (pos 0)) (int (pos 0))) (int (pos 0))
 unfolding score _+ᶠ_ _·ᶠ_ _≈ᶠ_
 H-best = (
   by-certificate H 1 (at (int (pos 0)) (int (pos 0))) (over (pos 0) (pos 0)) (omega arith) (two _ (record { eq = refl }) (record { eq = refl }))
-      (record { keeps = two _ (record { marked = (pos 0, refl); above = leZ-yes tt; below = tt }) (record { marked = (pos 0, refl); above = leZ-yes tt; below = tt }); fits = leZ-yes tt })
+      (record {
+        keeps = two _ (record { marked = (pos 0, refl); above = leZ-yes tt; below = tt }) (record { marked = (pos 0, refl); above = leZ-yes tt; below = tt });
+        fits = leZ-yes tt;
+      })
       (record { p = 3; q = 2; q≥1 = omega arith; ends = two _ flat (record { good = λ h. absurd (h .lt); bad = λ h. refl }); tight = refl }),
   refl,
 )
@@ -174,7 +236,14 @@ I-best : (n : ℕ) → Best I (at (int (pos n)) (int (pos n))) (int (pos 0))
 unfolding score _+ᶠ_ _·ᶠ_ _≈ᶠ_
 I-best n = (
   by-certificate I 1 (at (int (pos n)) (int (pos n))) (over (pos n) (pos n)) (omega arith) (two _ (record { eq = refl }) (record { eq = refl }))
-      (record { keeps = two _ (record { marked = (pos n, one-more (pos n)); above = least n; below = tt }) (record { marked = (pos n, one-more (pos n)); above = least n; below = tt }); fits = even (pos n) })
+      (record {
+        keeps = two _ (record { marked = (pos n, one-more (pos n)); above = least n; below = tt }) (record {
+          marked = (pos n, one-more (pos n));
+          above = least n;
+          below = tt;
+        });
+        fits = even (pos n);
+      })
       (record { p = 3; q = 2; q≥1 = omega arith; ends = two _ flat flat; tight = tight (pos n) }),
   worth (pos n),
 )
@@ -197,17 +266,27 @@ I-best n = (
 -- J: at most -3, or at least -2
 J-low : AtMost (narrow J 0 Absent (At (negsuc 2))) (negsuc 2) 1
 unfolding score ℕ-discrete
-J-low = leaf _ (negsuc 2) 1 1 (over (negsuc 2) (pos 0)) (omega arith) (record { p = 0; q = 1; q≥1 = omega arith; ends = one _ (record { good = λ h. refl; bad = λ h. absurd (h .lt) }); tight = refl }) (leZ-yes tt)
+J-low = leaf _ (negsuc 2) 1 1 (over (negsuc 2) (pos 0)) (omega arith) (record {
+  p = 0;
+  q = 1;
+  q≥1 = omega arith;
+  ends = one _ (record { good = λ h. refl; bad = λ h. absurd (h .lt) });
+  tight = refl;
+}) (leZ-yes tt)
 
 J-high : AtMost (narrow J 0 (At (negsuc 1)) Absent) (negsuc 2) 1
 unfolding ℕ-discrete
-J-high = leaf-empty _ (negsuc 2) 1 (empty _ 1 (over (negsuc 1) (pos 0)) (record { ends = one _ (record { good = λ h. absurd (h .lt); bad = λ h. refl }); over = ltZ-yes tt }))
+J-high = leaf-empty _ (negsuc 2) 1 (empty _ 1 (over (negsuc 1) (pos 0))
+    (record { ends = one _ (record { good = λ h. absurd (h .lt); bad = λ h. refl }); over = ltZ-yes tt }))
 
 J-best : Best J (at (int (negsuc 2)) (int (pos 0))) (int (negsuc 2))
 unfolding ℕ-discrete _+ᶠ_ _·ᶠ_ _≈ᶠ_
 J-best = (
   bridge-optimal J 1 (at (int (negsuc 2)) (int (pos 0))) (over (negsuc 2) (pos 0)) (omega arith) (one _ (record { eq = refl }))
-      (at-most-optimal J 1 (over (negsuc 2) (pos 0)) (record { keeps = one _ (record { marked = (negsuc 2, refl); above = tt; below = tt }); fits = leZ-yes tt })
+      (at-most-optimal J 1 (over (negsuc 2) (pos 0)) (record {
+        keeps = one _ (record { marked = (negsuc 2, refl); above = tt; below = tt });
+        fits = leZ-yes tt;
+      })
       (branch J (negsuc 2) 1 0 (negsuc 2) (omega arith) refl J-low J-high)),
   refl,
 )

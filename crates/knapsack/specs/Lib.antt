@@ -1,4 +1,4 @@
-pub mod Records
+pub mod Ranges
 pub mod Meaning
 pub mod Table
 pub mod Items

@@ -1,15 +1,22 @@
--- What the answers mean: paper 01, "The problem". A reader has to believe this file and Records, and nothing behind them.
---   Instance          a problem as mathematics: capacity (01: limit), count, and an item for each place
+-- What the answers mean: paper 01, "The problem". A reader has to believe this file and Ranges, and nothing behind them.
+--   Instance          a problem as mathematics: capacity (01: limit), count, and an item for each place;  instanceOf p: of a problem
 --   Point             an amount for each item, a fraction of any size with any divisor
+--   KeepsMark, KeepsLower, KeepsUpper, Keeps   an amount keeps its item's mark, its bounds, all three
+--   weights s, prices s   the items' figures
+--   weighs s x        what x weighs;  value s x: what it is worth
 --   Feasible s x      x keeps marks, bounds and the capacity (01: permitted)
---   value s x         what x is worth
 --   Optimal s x       feasible, and no feasible point is worth more (01: best)
 --   Infeasible s      no point is feasible
+--   stepped x d t     x with the steps d taken t times
 --   Unbounded s x d   steps d on one or two items that keep x feasible and raise its value every time (01: whole steps)
 --   relaxed s         every item continuous
+--   nought            zero as an answer shows it
 --   Shown, ShownSteps the limits on the amounts and steps of an answer
---   Answers s a       the answer a is true of s;  Planned p a: of a record, refusals included
---   CostPair, LeastPair, EqualPair   steps on two integer items that a search may take away (01: least pair, equal-value pair)
+--   amountAt, pointOf, stepsOf   the amounts of an answer, its point, its steps
+--   ShownOptimal, ShownUnbounded, bare   an answer with a best point, with a ray, with no point
+--   Answers s a       the answer a is true of s;  AnswersAs: by its kind
+--   StepFits, TwoSteps   steps on two items that are no longer than from bound to bound
+--   CostPair, LeastPair, NoPair, EqualPair   steps on two integer items that a search may take away (01: least pair, none, equal-value pair)
 use mathlib.Core.Path.{_≡_}
 use mathlib.Core.Logic.{_≢_}
 use Prim.Native.Nat.{ℕ, suc, _*_, _≤_, _<_}
@@ -25,12 +32,10 @@ use Rattle.knapsack.specs.declared.Mark.{Mark}
 use Rattle.knapsack.specs.declared.Mark.the-variants.{Integer, Continuous}
 use Rattle.knapsack.specs.declared.Item.{Item}
 use Rattle.knapsack.specs.declared.Problem.{Problem}
-use Rattle.knapsack.specs.declared.Verdict.{Verdict}
-use Rattle.knapsack.specs.declared.Verdict.the-variants.{Accepted, Refused}
 use Rattle.knapsack.specs.declared.Kind.{Kind}
 use Rattle.knapsack.specs.declared.Kind.the-variants as kind
 use Rattle.knapsack.specs.declared.Answer.{Answer}
-use Rattle.knapsack.specs.Records.{itemAt, verdict}
+use Rattle.knapsack.specs.Ranges.{itemAt}
 
 -- ---- instances and points
 
@@ -107,7 +112,11 @@ pub record Unbounded (s : Instance) (x : Point) (d : ℕ → ℤ) : Type 0 where
   pub rises : (t : ℕ) → value s (stepped x d t) <ᶠ value s (stepped x d (suc t))
 
 abbrev pub relaxed : Instance → Instance
-relaxed s = record { capacity = s .capacity; count = s .count; item = λ k. record { mark = Continuous; weight = s .item k .weight; price = s .item k .price; lower = s .item k .lower; upper = s .item k .upper } }
+relaxed s = record {
+  capacity = s .capacity;
+  count = s .count;
+  item = λ k. record { mark = Continuous; weight = s .item k .weight; price = s .item k .price; lower = s .item k .lower; upper = s .item k .upper };
+}
 
 -- ---- what an answer shows
 
@@ -164,17 +173,6 @@ AnswersAs s a (kind.Refused f) = ⊥
 
 abbrev pub Answers : Instance → Answer → Type 0
 Answers s a = AnswersAs s a (a .kind)
-
-abbrev pub RepliesAs : Instance → Answer → Verdict → Type 0
-RepliesAs s a Accepted = Answers s a
-RepliesAs s a (Refused f) = a ≡ bare (kind.Refused f)
-
--- what the planner owes for a record, and the relaxation
-abbrev pub Planned : Problem → Answer → Type 0
-Planned p a = RepliesAs (instanceOf p) a (verdict p)
-
-abbrev pub Relaxed : Problem → Answer → Type 0
-Relaxed p a = RepliesAs (relaxed (instanceOf p)) a (verdict p)
 
 -- ---- pairs of steps that a search may take away
 

@@ -2,6 +2,11 @@
 --   item m a c l u    an item by mark, weight, price and bounds
 --   sheet b items     an instance by capacity and items
 --   at x y            the point with the amounts x and y (from the second item on)
+--   by r t            steps on the first two items
+--   W a c n, L a c n  an item from 0 to n with that mark
+--   A, B, C, D, E, F, G, H, I, J, K, M   the sheets of the rows
+--   Best s x v        x is optimal, and worth v
+--   StarredTable      the starred rows
 use mathlib.Core.List.{List, [], _∷_}
 use Prim.Native.Nat.{ℕ, zero, suc}
 use lib.IntN.{ℤ, pos, negsuc}
@@ -12,7 +17,7 @@ use Rattle.knapsack.specs.declared.Bound.the-variants.{Absent, At}
 use Rattle.knapsack.specs.declared.Mark.{Mark}
 use Rattle.knapsack.specs.declared.Mark.the-variants.{Integer, Continuous}
 use Rattle.knapsack.specs.declared.Item.{Item}
-use Rattle.knapsack.specs.Records.{blank}
+use Rattle.knapsack.specs.Ranges.{blank}
 use Rattle.knapsack.specs.Meaning.{Instance, Point, value, Optimal, Infeasible, Unbounded, relaxed, LeastPair, NoPair}
 
 abbrev pub item : Mark → ℤ → ℤ → Bound → Bound → Item

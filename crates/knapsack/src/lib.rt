@@ -1,12 +1,10 @@
-// The mixed integer knapsack problem of paper 01: its types, what its answers mean (specs/), and which records are problems at all.
-// The theorems about the meaning that every crate above cites are in proofs/.
+// The mixed integer knapsack problem of paper 01 as the solver knows it: its types, and what its answers mean (specs/).
+// The theorems about the meaning that every crate above cites are in proofs/. What is handed over is crate model's.
 use arith::Fraction;
 ghost use mathlib.Core.Path.{_≡_};
-ghost use Prim.Native.Nat.{_≤_, _<_};
-ghost use lib.IntN.{pos, natAbs};
-ghost use lib.Signed.{_≤ℤ_};
+ghost use Prim.Native.Nat.{_<_};
 ghost use Rattle.knapsack.specs.Items.{isAbsent, isOpen, withItem};
-ghost use Rattle.knapsack.specs.Records.{blank, emptyProblem, itemAt, outside, badBound, badFigure, crossed, failing, someItem, refuse, verdict};
+ghost use Rattle.knapsack.specs.Ranges.{blank};
 
 // A bound of an item (01: an item that is not listed has no such bound).
 pub enum Bound {
@@ -28,7 +26,7 @@ pub struct Item {
     pub upper: Bound,
 }
 
-// A problem: the items are the first count places, and the capacity is 01's limit b.
+// A plain problem: the items are the first count places, and the capacity is 01's limit b.
 pub struct Problem {
     pub items: [Item; 16],
     pub count: usize,
@@ -74,137 +72,6 @@ pub fn blank_item() -> Item
         lower: Bound::Absent,
         upper: Bound::Absent,
     }
-}
-
-// The record of a refusal.
-pub fn empty_problem() -> Problem
-    ensures { λ r. ⌜ r ≡ emptyProblem ⌝ }
-{
-    let item = blank_item();
-    Problem {
-        items: [item; 16],
-        count: 0,
-        capacity: 0,
-    }
-}
-
-// What an item of a record is tried for.
-pub enum Trial {
-    Figures,
-    Crossing,
-}
-
-// Whether x is farther than n from zero.
-pub fn beyond(x: i64, n: i64) -> bool
-    requires { ⌜ (pos 0 ≤ℤ n) × (n ≤ℤ pos 1000000000) ⌝ }
-    ensures { λ r. ⌜ r ≡ outside (natAbs n) x ⌝ }
-{
-    if x < 0 - n {
-        return true;
-    }
-    n < x
-}
-
-pub fn bad_bound(b: Bound) -> bool
-    ensures { λ r. ⌜ r ≡ badBound b ⌝ }
-{
-    match b {
-        Bound::Absent => false,
-        Bound::At(v) => beyond(v, 10000),
-    }
-}
-
-pub fn bad_figure(i: Item) -> bool
-    ensures { λ r. ⌜ r ≡ badFigure i ⌝ }
-{
-    let w = i.weight;
-    if beyond(w, 1000) {
-        return true;
-    }
-    let c = i.price;
-    if beyond(c, 10000) {
-        return true;
-    }
-    let l = i.lower;
-    if bad_bound(l) {
-        return true;
-    }
-    let u = i.upper;
-    bad_bound(u)
-}
-
-pub fn crossed_bounds(l: Bound, u: Bound) -> bool
-    ensures { λ r. ⌜ r ≡ crossed l u ⌝ }
-{
-    let Bound::At(a) = l else {
-        return false;
-    };
-    let Bound::At(b) = u else {
-        return false;
-    };
-    b < a
-}
-
-pub fn fails(i: Item, t: Trial) -> bool
-    ensures { λ r. ⌜ r ≡ failing t i ⌝ }
-{
-    match t {
-        Trial::Figures => bad_figure(i),
-        Trial::Crossing => {
-            let l = i.lower;
-            let u = i.upper;
-            crossed_bounds(l, u)
-        }
-    }
-}
-
-pub fn some_fails(p: Problem, t: Trial) -> bool
-    requires { ⌜ p .count ≤ 16 ⌝ }
-    ensures { λ r. ⌜ r ≡ someItem (p .count) (itemAt p) (failing t) ⌝ }
-{
-    let n = p.count;
-    let mut k: usize = 0;
-    while k < n {
-        let i = p.items[k];
-        if fails(i, t) {
-            return true;
-        }
-        k += 1;
-    }
-    false
-}
-
-// A record's refusal: 3 (count), then 4 (capacity, then each item's figures), then 6 (a lower bound above its upper), line 0.
-pub fn check_record(p: Problem) -> Verdict
-    ensures { λ r. ⌜ r ≡ verdict p ⌝ }
-{
-    let n = p.count;
-    if n == 0 {
-        return refused(3);
-    }
-    if 16 < n {
-        return refused(3);
-    }
-    let b = p.capacity;
-    if beyond(b, 100000000) {
-        return refused(4);
-    }
-    if some_fails(p, Trial::Figures) {
-        return refused(4);
-    }
-    if some_fails(p, Trial::Crossing) {
-        return refused(6);
-    }
-    Verdict::Accepted
-}
-
-pub fn refused(number: u64) -> Verdict
-    ensures { λ r. ⌜ r ≡ refuse number ⌝ }
-{
-    Verdict::Refused(Refusal {
-        number: number,
-        line: 0,
-    })
 }
 
 // ---- items

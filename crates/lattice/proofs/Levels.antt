@@ -31,7 +31,8 @@ use Rattle.arith.proofs.Words.{yes-lt, no-lt}
 use Rattle.lattice.specs.declared.Change.{Change}
 use Rattle.lattice.specs.declared.Lattice.{Lattice}
 use Rattle.lattice.specs.Lattice.{On, Tame, unknown, beyond, latticeAt}
-use Rattle.lattice.specs.Building.{restOf, tamed, Upright, uprightBy, Reduces, reducedBy, Joined, ended, euclid, firstChange, joinedBy, commonGap, Guess, widenedBy, noChanges, closedBy, aboveSlant, holdsBy, Items, heldFrom, Known, checkedBy, guessOf, latticeOf, Latticed}
+use Rattle.lattice.specs.Building.{restOf, tamed, Upright, uprightBy, Reduces, reducedBy, Joined, ended, euclid, firstChange, joinedBy, commonGap, Guess}
+use Rattle.lattice.specs.Building.{widenedBy, noChanges, closedBy, aboveSlant, holdsBy, Items, heldFrom, Known, checkedBy, guessOf, latticeOf, Latticed}
 use Rattle.lattice.proofs.Ranges.{nonzero, rest-within}
 
 -- ---- what a division leaves
@@ -75,14 +76,16 @@ module _ (l : Lattice) (t : Tame l) (p : pos 0 <ℤ l .stride) where
       together : (c x y : ℤ) → c -ℤ x ≡ y → c ≡ x +ℤ y
       together = split3 _ (λ a b c e f g. simp zed (omega arith))
 
-      go : (u : Bool) → ltZ (pos 0) (restOf a (l .stride)) ≡ u → (v : Bool) → ltZ (pos 0) (restOf (aboveSlant l a c) (l .gap)) ≡ v → cond u false (not v) ≡ true → On l a c
+      go : (u : Bool) → ltZ (pos 0) (restOf a (l .stride)) ≡ u → (v : Bool) → ltZ (pos 0) (restOf (aboveSlant l a c) (l .gap)) ≡ v → cond u false (not v) ≡ true
+          → On l a c
       go true e v f h = absurd (impossible h)
       go false e true f h = absurd (impossible h)
       go false e false f h = record {
         strides = floorDiv a (l .stride);
         gaps = floorDiv (aboveSlant l a c) (l .gap);
         weight-is = rest-none a (l .stride) p e;
-        worth-is = together c (l .slant *ℤ floorDiv a (l .stride)) (l .gap *ℤ floorDiv (aboveSlant l a c) (l .gap)) (rest-none (aboveSlant l a c) (l .gap) (t .gap≥1) f);
+        worth-is = together c (l .slant *ℤ floorDiv a (l .stride)) (l .gap *ℤ floorDiv (aboveSlant l a c) (l .gap))
+            (rest-none (aboveSlant l a c) (l .gap) (t .gap≥1) f);
       }
 
   -- so are all items that are looked at
@@ -91,7 +94,8 @@ module _ (l : Lattice) (t : Tame l) (p : pos 0 <ℤ l .stride) where
   held-true w c zero d h j g k = absurd (omega arith)
   held-true w c (suc n) d h j g k = go (holdsBy l (w d) (c d)) refl h (λ h′ g′. held-true w c n (suc d) h′ j g′ (omega arith)) (ℕ-discrete j d)
     where
-      go : (b : Bool) → holdsBy l (w d) (c d) ≡ b → cond b (heldFrom l w c (suc d) n) false ≡ true → (heldFrom l w c (suc d) n ≡ true → suc d ≤ j → On l (w j) (c j)) → Dec (j ≡ d) → On l (w j) (c j)
+      go : (b : Bool) → holdsBy l (w d) (c d) ≡ b → cond b (heldFrom l w c (suc d) n) false ≡ true
+          → (heldFrom l w c (suc d) n ≡ true → suc d ≤ j → On l (w j) (c j)) → Dec (j ≡ d) → On l (w j) (c j)
       go false e h ih q = absurd (impossible h)
       go true e h ih (yes q) = rw q (holds-on (w d) (c d) e)
       go true e h ih (no q) = ih h (omega arith)
@@ -138,7 +142,12 @@ small : (m k : ℕ) → k ≤ m → Within m (pos k)
 small m k h = record { above = h; below = omega arith }
 
 pub unknown-tame : Tame unknown
-unknown-tame = record { stride-in = small 1000 0 (omega arith); slant-in = small 100000000 0 (omega arith); gap-in = small 100000000 1 (omega arith); gap≥1 = ltZ-yes tt }
+unknown-tame = record {
+  stride-in = small 1000 0 (omega arith);
+  slant-in = small 100000000 0 (omega arith);
+  gap-in = small 100000000 1 (omega arith);
+  gap≥1 = ltZ-yes tt;
+}
 
 pub unknown-known : (w c : ℕ → ℤ) (n d : ℕ) → Known w c n d unknown
 unknown-known w c n d = record { tame = unknown-tame; on = λ h. absurd (h refl) }
@@ -148,7 +157,8 @@ unknown-known w c n d = record { tame = unknown-tame; on = λ h. absurd (h refl)
 pub tamed-within : (z g : ℤ) → Within 200000000000 z → Within 100000000 g → Within 100000000 (tamed z g)
 tamed-within z g a b = go (ltZ (pos 0) g) refl (ltZ (pos 100000000) z) refl (ltZ z (negsuc 99999999)) refl
   where
-    go : (s : Bool) → ltZ (pos 0) g ≡ s → (t : Bool) → ltZ (pos 100000000) z ≡ t → (u : Bool) → ltZ z (negsuc 99999999) ≡ u → Within 100000000 (cond s (restOf z g) (cond t (pos 0) (cond u (pos 0) z)))
+    go : (s : Bool) → ltZ (pos 0) g ≡ s → (t : Bool) → ltZ (pos 100000000) z ≡ t → (u : Bool) → ltZ z (negsuc 99999999) ≡ u
+        → Within 100000000 (cond s (restOf z g) (cond t (pos 0) (cond u (pos 0) z)))
     go true e t f u h = rest-within z g (yes-lt e) a b
     go false e true f u h = small 100000000 0 (omega arith)
     go false e false f true h = small 100000000 0 (omega arith)
@@ -161,7 +171,11 @@ upright-is a c h k = go (ltZ a (pos 0)) refl
     turned x l = omega (arith, zs, neg x)
 
     go : (b : Bool) → ltZ a (pos 0) ≡ b → Upright (cond b (record { weight = pos 0 -ℤ a; worth = pos 0 -ℤ c }) (record { weight = a; worth = c }))
-    go true e = rw (zero-less a, zero-less c) (record { weight-in = within-neg a h; weight≥0 = turned a (yes-lt e); worth-in = within-more (omega arith) (within-neg c k) })
+    go true e = rw (zero-less a, zero-less c) (record {
+      weight-in = within-neg a h;
+      weight≥0 = turned a (yes-lt e);
+      worth-in = within-more (omega arith) (within-neg c k);
+    })
     go false e = record { weight-in = h; weight≥0 = no-lt e; worth-in = within-more (omega arith) k }
 
 module _ (u v : Change) (g : ℤ) (r : Reduces u v g) where
@@ -187,9 +201,12 @@ ended-joined x y a b = record { stride-in = a .weight-in; stride≥0 = a .weight
 euclid-joined : (n : ℕ) (g : ℤ) (x y : Change) → Within 100000000 g → Upright x → Upright y → Joined (euclid n g x y)
 unfolding euclid
 euclid-joined zero g x y h a b = ended-joined x y a b
-euclid-joined (suc n) g x y h a b = go (ltZ (pos 0) (y .weight)) refl (λ p. euclid-joined n g y (reducedBy x y g) h b (reduced-upright x y g (record { first = a; second = b; weight≥1 = p; gap-in = h })))
+euclid-joined (suc n) g x y h a b =
+    go (ltZ (pos 0) (y .weight)) refl (λ p. euclid-joined n g y (reducedBy x y g) h b
+    (reduced-upright x y g (record { first = a; second = b; weight≥1 = p; gap-in = h })))
   where
-    go : (t : Bool) → ltZ (pos 0) (y .weight) ≡ t → (pos 0 <ℤ y .weight → Joined (euclid n g y (reducedBy x y g))) → Joined (cond t (euclid n g y (reducedBy x y g)) (ended x y))
+    go : (t : Bool) → ltZ (pos 0) (y .weight) ≡ t → (pos 0 <ℤ y .weight → Joined (euclid n g y (reducedBy x y g)))
+        → Joined (cond t (euclid n g y (reducedBy x y g)) (ended x y))
     go true e ih = ih (yes-lt e)
     go false e ih = ended-joined x y a b
 
@@ -212,7 +229,11 @@ module _ (g : ℤ) (r : Lattice) (x y : Change) where
 
       go : (n : ℕ) → natAbs (y .weight) ≤ n → r ≡ euclid n g x y → Reaches g r y (reducedBy x y g)
       go zero l i = absurd (some (y .weight) (yes-lt e) l)
-      go (suc n) l i = record { steps = n; enough = fewer _ (y .weight) (yes-lt e) (rest-low (x .weight) (y .weight) (yes-lt e)) (rest-high (x .weight) (y .weight) (yes-lt e)) n l; is = i ∙ ap (λ t. cond t (euclid n g y (reducedBy x y g)) (ended x y)) e }
+      go (suc n) l i = record {
+        steps = n;
+        enough = fewer _ (y .weight) (yes-lt e) (rest-low (x .weight) (y .weight) (yes-lt e)) (rest-high (x .weight) (y .weight) (yes-lt e)) n l;
+        is = i ∙ ap (λ t. cond t (euclid n g y (reducedBy x y g)) (ended x y)) e;
+      }
 
   pub reaches-end : ltZ (pos 0) (y .weight) ≡ false → Reaches g r x y → r ≡ ended x y
   unfolding euclid
@@ -238,19 +259,38 @@ module _ (l : Lattice) (a c : ℤ) (g : Guess l) (h : Within 1000 a) (k : Within
   pub widened-guess : Guess (widenedBy l a c)
   unfolding widenedBy
   widened-guess = record {
-    joined = record { stride-in = joining .stride-in; stride≥0 = joining .stride≥0; slant-in = tamed-within _ _ (within-more (omega arith) (joining .slant-in)) gap-within; gap-in = gap-within };
+    joined = record {
+      stride-in = joining .stride-in;
+      stride≥0 = joining .stride≥0;
+      slant-in = tamed-within _ _ (within-more (omega arith) (joining .slant-in)) gap-within;
+      gap-in = gap-within;
+    };
     gap≥0 = omega (arith, zs);
   }
 
 none-guess : Guess noChanges
-none-guess = record { joined = record { stride-in = small 1000 0 (omega arith); stride≥0 = omega (arith, zs); slant-in = small 100000000 0 (omega arith); gap-in = small 100000000 0 (omega arith) }; gap≥0 = omega (arith, zs) }
+none-guess = record {
+  joined =
+      record {
+        stride-in = small 1000 0 (omega arith);
+        stride≥0 = omega (arith, zs);
+        slant-in = small 100000000 0 (omega arith);
+        gap-in = small 100000000 0 (omega arith);
+      };
+  gap≥0 = omega (arith, zs);
+}
 
 pub closed-tame : (l : Lattice) → Guess l → Tame (closedBy l)
 closed-tame l h = go (ltZ (pos 0) (l .gap)) refl
   where
     go : (b : Bool) → ltZ (pos 0) (l .gap) ≡ b → Tame (cond b l (record { stride = l .stride; slant = l .slant; gap = pos 100000000 }))
     go true e = record { stride-in = h .joined .stride-in; slant-in = h .joined .slant-in; gap-in = h .joined .gap-in; gap≥1 = yes-lt e }
-    go false e = record { stride-in = h .joined .stride-in; slant-in = h .joined .slant-in; gap-in = small 100000000 100000000 (omega arith); gap≥1 = ltZ-yes tt }
+    go false e = record {
+      stride-in = h .joined .stride-in;
+      slant-in = h .joined .slant-in;
+      gap-in = small 100000000 100000000 (omega arith);
+      gap≥1 = ltZ-yes tt;
+    }
 
 -- ---- all levels
 
@@ -258,7 +298,8 @@ module _ (w c : ℕ → ℤ) (n : ℕ) where
   checked-known : (d : ℕ) (l : Lattice) → Guess l → Known w c n d (checkedBy w c n d l)
   checked-known d l g = go (ltZ (pos 0) (closedBy l .stride)) refl (heldFrom (closedBy l) w c d (n - d)) refl
     where
-      go : (s : Bool) → ltZ (pos 0) (closedBy l .stride) ≡ s → (t : Bool) → heldFrom (closedBy l) w c d (n - d) ≡ t → Known w c n d (cond s (cond t (closedBy l) unknown) unknown)
+      go : (s : Bool) → ltZ (pos 0) (closedBy l .stride) ≡ s → (t : Bool) → heldFrom (closedBy l) w c d (n - d) ≡ t
+          → Known w c n d (cond s (cond t (closedBy l) unknown) unknown)
       go false e t f = unknown-known w c n d
       go true e false f = unknown-known w c n d
       go true e true f = record { tame = closed-tame l g; on = λ h j a b. held-on (closedBy l) (closed-tame l g) (yes-lt e) w c n d (sym f) refl j a b }
@@ -287,7 +328,12 @@ module _ (w c : ℕ → ℤ) (n : ℕ) where
 
   pub built-none : Built n noChanges (replicate 16 unknown)
   unfolding guessOf latticeOf
-  built-none = record { most = omega arith; long = refl; guess = sym (ap (guessOf w c n) (none n)); known = λ e g h. unknown-at 16 e h ∙ sym (ap (λ b. cond b (checkedBy w c n e (guessOf w c n (n - e))) unknown) (le-ltb e n g)) }
+  built-none = record {
+    most = omega arith;
+    long = refl;
+    guess = sym (ap (guessOf w c n) (none n));
+    known = λ e g h. unknown-at 16 e h ∙ sym (ap (λ b. cond b (checkedBy w c n e (guessOf w c n (n - e))) unknown) (le-ltb e n g));
+  }
     where
       none : (n : ℕ) → n - n ≡ 0
       none n = omega arith
@@ -306,8 +352,10 @@ module _ (w c : ℕ → ℤ) (n : ℕ) where
   unfolding latticeOf
   lattice-below d h = sym (ap (λ b. cond b (checkedBy w c n d (guessOf w c n (n - d))) unknown) (lt-ltb d n h))
 
-  pub built-more : (d : ℕ) (l l′ : Lattice) (r : List Lattice) → n ≤ 16 → 0 < d → l′ ≡ widenedBy l (w (d - 1)) (c (d - 1)) → Built d l r → Built (d - 1) l′ (set r (d - 1) (checkedBy w c n (d - 1) l′))
-  built-more d l l′ r few z g b = record { most = omega (arith, b .most); long = length-set r (d - 1) _ ∙ b .long; guess = now; known = λ e f h. entry e f h (ℕ-discrete e (d - 1)) }
+  pub built-more : (d : ℕ) (l l′ : Lattice) (r : List Lattice) → n ≤ 16 → 0 < d → l′ ≡ widenedBy l (w (d - 1)) (c (d - 1)) → Built d l r
+      → Built (d - 1) l′ (set r (d - 1) (checkedBy w c n (d - 1) l′))
+  built-more d l l′ r few z g b =
+      record { most = omega (arith, b .most); long = length-set r (d - 1) _ ∙ b .long; guess = now; known = λ e f h. entry e f h (ℕ-discrete e (d - 1)) }
     where
       now : l′ ≡ guessOf w c n (n - (d - 1))
       now = g ∙ ap (λ x. widenedBy x (w (d - 1)) (c (d - 1))) (b .guess) ∙ sym (next-guess d z (b .most))

@@ -24,7 +24,8 @@ module _ (l : Lattice) where
     strides = o .strides +ℤ o′ .strides;
     gaps = o .gaps +ℤ o′ .gaps;
     weight-is = ap₂ _+ℤ_ (o .weight-is) (o′ .weight-is) ∙ join (l .stride) (o .strides) (o′ .strides);
-    worth-is = ap₂ _+ℤ_ (o .worth-is) (o′ .worth-is) ∙ deal (l .slant *ℤ o .strides) (l .gap *ℤ o .gaps) (l .slant *ℤ o′ .strides) (l .gap *ℤ o′ .gaps) ∙ ap₂ _+ℤ_ (join (l .slant) (o .strides) (o′ .strides)) (join (l .gap) (o .gaps) (o′ .gaps));
+    worth-is = ap₂ _+ℤ_ (o .worth-is) (o′ .worth-is) ∙ deal (l .slant *ℤ o .strides) (l .gap *ℤ o .gaps) (l .slant *ℤ o′ .strides) (l .gap *ℤ o′ .gaps)
+        ∙ ap₂ _+ℤ_ (join (l .slant) (o .strides) (o′ .strides)) (join (l .gap) (o .gaps) (o′ .gaps));
   }
     where
       join : (x y z : ℤ) → x *ℤ y +ℤ x *ℤ z ≡ x *ℤ (y +ℤ z)
@@ -38,7 +39,8 @@ module _ (l : Lattice) where
     strides = o .strides *ℤ z;
     gaps = o .gaps *ℤ z;
     weight-is = ap₂ _*ℤ_ (o .weight-is) refl ∙ out (l .stride) (o .strides) z;
-    worth-is = ap₂ _*ℤ_ (o .worth-is) refl ∙ spread (l .slant *ℤ o .strides) (l .gap *ℤ o .gaps) z ∙ ap₂ _+ℤ_ (out (l .slant) (o .strides) z) (out (l .gap) (o .gaps) z);
+    worth-is = ap₂ _*ℤ_ (o .worth-is) refl ∙ spread (l .slant *ℤ o .strides) (l .gap *ℤ o .gaps) z
+        ∙ ap₂ _+ℤ_ (out (l .slant) (o .strides) z) (out (l .gap) (o .gaps) z);
   }
     where
       out : (x y z : ℤ) → (x *ℤ y) *ℤ z ≡ x *ℤ (y *ℤ z)
@@ -62,7 +64,13 @@ module _ (l : Lattice) where
   sum-lies (suc n) D f g h =
       let u = sum-lies n D f g (λ k m. h k (omega arith)) in
       let v = h n (omega arith) in
-      record { weight = u .weight +ℤ v .weight; worth = u .worth +ℤ v .worth; on = on-add (u .on) (v .on); weight-is = ap₂ _+ℤ_ (u .weight-is) (v .weight-is) ∙ join (u .weight) (v .weight); worth-is = ap₂ _+ℤ_ (u .worth-is) (v .worth-is) ∙ join (u .worth) (v .worth) }
+      record {
+        weight = u .weight +ℤ v .weight;
+        worth = u .worth +ℤ v .worth;
+        on = on-add (u .on) (v .on);
+        weight-is = ap₂ _+ℤ_ (u .weight-is) (v .weight-is) ∙ join (u .weight) (v .weight);
+        worth-is = ap₂ _+ℤ_ (u .worth-is) (v .worth-is) ∙ join (u .worth) (v .worth);
+      }
     where
       join : (x y : ℤ) → x *ℤ pos D +ℤ y *ℤ pos D ≡ (x +ℤ y) *ℤ pos D
       join = split2 _ (λ a b c e. simp zed (omega arith))

@@ -6,6 +6,7 @@ use Prim.Native.Nat.{ℕ, _+_}
 use native.Mathlib.Omega.{arith}
 use lib.IntN.{ℤ, pos, _-ℤ_, _*ℤ_}
 use lib.Signed.{_<ℤ_}
+use Rattle.arith.specs.Limits.{mostRoom}
 use Rattle.arith.specs.Within.{Within}
 use Rattle.arith.specs.Division.{floorDiv}
 use Rattle.arith.proofs.Integers.{split, zed}
@@ -22,7 +23,8 @@ module _ {m k : ℕ} (n d : ℤ) (p : pos 0 <ℤ d) (a : Within m n) (b : Within
   multiple-within =
       let f = floor-is n d (nonzero d p) .positive p in
       let x = d *ℤ floorDiv n d in
-      to-within (omega (arith, zs, f .0, f .1, a .above, a .below, b .above, b .below, sum x d)) (omega (arith, zs, f .0, f .1, a .above, a .below, b .above, b .below, sum x d))
+      to-within (omega (arith, zs, f .0, f .1, a .above, a .below, b .above, b .below, sum x d))
+      (omega (arith, zs, f .0, f .1, a .above, a .below, b .above, b .below, sum x d))
 
   pub rest-within : Within k (n -ℤ d *ℤ floorDiv n d)
   rest-within =
@@ -34,7 +36,7 @@ module _ (l : Lattice) (room : ℤ) (h : Starts l room) where
   abbrev S : ℤ
   S = floorDiv room (l .stride)
 
-  pub strides-within : Within 20000000000000 S
+  pub strides-within : Within mostRoom S
   strides-within = floor-within room (l .stride) (h .room-in)
 
   pub first-weight : Within 20000000001000 (firstRung l room .weight)

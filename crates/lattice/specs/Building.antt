@@ -1,19 +1,29 @@
 -- How the lattices of the levels of a search are made: guessed, then checked.
---   restOf n m        what is left of n after whole multiples of m
+--   restOf n m        what is left of n after whole multiples of m;  Rests n m: what that asks
 --   Upright u, Joined l, Guess l
 --                     ranges of the guess: of a change, of a lattice with a gap of either sign, of a lattice
 --   tamed z g         the worth z up to gaps g
+--   uprightBy a c     the change (a, c) or its opposite, whichever weighs 0 or more
+--   reducedBy u v g   one step of Euclid's algorithm;  Reduces u v g: what that asks
+--   ended x y         what Euclid's algorithm ends with, as a lattice
 --   euclid n g x y    n steps of Euclid's algorithm on the weights of two changes, their worths carried along
+--   firstChange l     one stride
+--   joinedBy l v      the stride and the slant that l has together with the change v
+--   commonGap g h     the greatest common divisor of two gaps;  withGap l g: l with that gap
 --   widenedBy l a c   a lattice that has the change (a, c) beside those of l
+--   noChanges         the lattice of no changes
 --   closedBy l        a gap for none
 --   aboveSlant l a c  what is left of the worth c after the slants of the strides in a
---   holdsBy l a c     the change (a, c) is found on the lattice l
+--   holdsBy l a c     the change (a, c) is found on the lattice l;  Holds l a c: what that asks
+--   entry l k         an entry of a list; 0 beyond its end
 --   heldFrom l w c d n
 --                     so are the n items from d on, of weights w and prices c
 --   Items w c n       weights and prices of n items are in range
 --   Known w c n d l   l is unknown, or a lattice of the items from d on
+--   checkedBy w c n d l
+--                     the guess l, if the items from d on are found on it, or unknown
 --   guessOf w c n k   the guess for the last k of n items
---   latticeOf w c n d the guess for the items from d on if they are found on it, or unknown
+--   latticeOf w c n d the guess for the items from d on, checked
 --   Latticed w c n r  r has these, and knows nothing beyond n
 use mathlib.Core.Path.{_≡_}
 use mathlib.Core.Bool.{Bool, true, false, cond, not}

@@ -1,9 +1,20 @@
 -- The changes of weight and worth that integer items make, and when none of them is better than an incumbent.
---   On l a c        the change of weight a and worth c is on the lattice l
---   Tame l          the lattice's figures are in their ranges
---   judged l f b r  whether at r's change of weight a worth on the lattice is above b, the slope f allowing
---   barrenBy l f room b
---                   no change within the room is found above b: the descent along the lattice from the room on ended
+--   On l a c             the change of weight a and worth c is on the lattice l
+--   Tame l               the lattice's figures are in their ranges
+--   unknown, beyond      the lattice of which nothing is known, and what stands beyond a list of lattices
+--   latticeAt r d        the lattice at d in a list
+--   Steep f              the slope's figures are in their ranges
+--   heightOf f w         the most that a change of weight w is worth
+--   highestOf l base h   the highest worth on the lattice, from base on, that is at most h
+--   judged l f b r       whether at r's change of weight a worth on the lattice is above b, the slope f allowing
+--   lower l r            one stride less
+--   firstRung l room     the greatest change of weight that the room allows
+--   verdict y b          barren, not barren, or b: what a rung says
+--   barrenFrom n l f b r the descent over n rungs from r on
+--   tries                how many rungs a descent looks at
+--   barrenBy l f room b  no change within the room is found above b: the descent along the lattice from the room on ended
+--   Falls, Snaps, Judges, Descends, Starts
+--                        what the parts of the descent ask of their figures
 use mathlib.Core.Path.{_≡_}
 use mathlib.Core.Bool.{Bool, true, false, cond}
 use mathlib.Core.List.{List}
@@ -11,6 +22,7 @@ use Prim.Native.Nat.{ℕ, zero, suc, _≤_, _<_}
 use lib.IntN.{ℤ, pos, _+ℤ_, _-ℤ_, _*ℤ_}
 use lib.ListN.{getD}
 use lib.Signed.{ltZ, _≤ℤ_, _<ℤ_}
+use Rattle.arith.specs.Limits.{mostRoom, mostWorth}
 use Rattle.arith.specs.Within.{Within}
 use Rattle.arith.specs.Division.{floorDiv}
 use Rattle.lattice.specs.declared.Lattice.{Lattice}
@@ -43,7 +55,7 @@ abbrev pub latticeAt : List Lattice → ℕ → Lattice
 latticeAt r d = getD r d beyond
 
 pub record Steep (f : Slope) : Type 0 where
-  pub worth-in : Within 200000000000000 (f .worth)
+  pub worth-in : Within mostWorth (f .worth)
   pub rate-in : Within 10000 (f .rate)
   pub rate≥0 : pos 0 ≤ℤ f .rate
   pub size-in : Within 1000 (f .size)
@@ -85,8 +97,12 @@ unfoldable pub barrenFrom : ℕ → Lattice → Slope → ℤ → Change → Boo
 barrenFrom zero l f b r = false
 barrenFrom (suc n) l f b r = verdict (judged l f b r) (barrenFrom n l f b (lower l r))
 
+-- how many rungs a descent looks at
+abbrev pub tries : ℕ
+tries = 100
+
 unfoldable pub barrenBy : Lattice → Slope → ℤ → ℤ → Bool
-barrenBy l f room b = cond (ltZ (pos 0) (l .stride)) (barrenFrom 100 l f b (firstRung l room)) false
+barrenBy l f room b = cond (ltZ (pos 0) (l .stride)) (barrenFrom tries l f b (firstRung l room)) false
 
 -- ---- what the parts of the descent ask
 
@@ -113,4 +129,4 @@ pub record Descends (l : Lattice) (r : Change) : Type 0 where
 pub record Starts (l : Lattice) (room : ℤ) : Type 0 where
   pub tame : Tame l
   pub stride≥1 : pos 0 <ℤ l .stride
-  pub room-in : Within 20000000000000 room
+  pub room-in : Within mostRoom room

@@ -12,7 +12,8 @@ ghost use lib.ListN.{replicate};
 ghost use lib.Signed.{_<ℤ_};
 ghost use Rattle.arith.specs.Within.{Within};
 ghost use Rattle.lattice.specs.Lattice.{Tame, unknown};
-ghost use Rattle.lattice.specs.Building.{Rests, restOf, tamed, Upright, uprightBy, Reduces, reducedBy, Guess, firstChange, joinedBy, commonGap, widenedBy, noChanges, closedBy, Holds, holdsBy, entry, Items, heldFrom, checkedBy, Latticed};
+ghost use Rattle.lattice.specs.Building.{Rests, restOf, tamed, Upright, uprightBy, Reduces, reducedBy, Guess, firstChange, joinedBy, commonGap};
+ghost use Rattle.lattice.specs.Building.{widenedBy, noChanges, closedBy, Holds, holdsBy, entry, Items, heldFrom, checkedBy, Latticed};
 
 // The farthest from 0 that a slant or a gap may be.
 const FAR: i64 = 100000000;

@@ -4,10 +4,14 @@ use arith::floor_div;
 pub use building::lattices;
 pub use building::unknown_lattices;
 ghost use mathlib.Core.Path.{_≡_};
+ghost use Rattle.arith.specs.Limits.{mostRoom};
 ghost use Rattle.arith.specs.Within.{Within};
 ghost use Rattle.lattice.specs.Lattice.{Tame, Steep, Judges, Snaps, Falls, Starts, heightOf, highestOf, judged, lower, firstRung, Descends, barrenBy};
 
 mod building; // building.rt: the lattices of the levels of a search
+
+// How many changes of weight a descent looks at: more would cost more than they save.
+const TRIES: usize = 100;
 
 // The changes of weight and worth that are whole multiples of (stride, slant) and (0, gap), added up. Stride 0: nothing is known.
 pub struct Lattice {
@@ -97,15 +101,14 @@ fn first_rung(l: Lattice, room: i64) -> Change
     }
 }
 
-// Whether nothing on the lattice within the room and the slope is above b. At most a hundred changes of weight are looked at: more
-// would cost more than they save.
+// Whether nothing on the lattice within the room and the slope is above b. At most so many changes of weight are looked at.
 pub fn barren(l: Lattice, f: Slope, room: i64, b: i64) -> bool
-    requires { ⌜ Tame l × (Steep f × Within 20000000000000 room) ⌝ }
+    requires { ⌜ Tame l × (Steep f × Within mostRoom room) ⌝ }
     ensures { λ y. ⌜ y ≡ barrenBy l f room b ⌝ }
 {
     if 0 < l.stride {
         let mut r = first_rung(l, room);
-        let mut n: usize = 100;
+        let mut n: usize = TRIES;
         while 0 < n {
             n -= 1;
             let y = judge(l, f, r, b);

@@ -1,10 +1,10 @@
--- Laws of places, words and line ends (specs/Text.antt).
+-- Laws of places, words and line ends (specs/Places.antt).
 -- after-hit, after-miss, after-end: what stands at a place decides afterByte.
 -- word-more, word-not, word-done: afterWord, a byte of the word at a time.
 -- end-here, end-later, end-none: firstEnd, a byte of the text at a time; end-within: where it stands.
 -- end-first, end-nowhere: what firstEnd means.
 -- ends-before, ends-past, ends-none: how many bytes 10 there are before a place, by the first one.
--- closed-last, closed-more, closed-none: closedLine, a line at a time; closed-within: where it stands.
+-- closed-last, closed-more, closed-none: closedLine, a line at a time; closed-within, asked-within: where it stands.
 use mathlib.Core.Path.{_≡_, refl, sym, _∙_}
 use mathlib.Core.Bool.{Bool, true, false, cond}
 use mathlib.Core.List.{List, [], _∷_}
@@ -15,10 +15,13 @@ use borrow.Author.Tests.{eq-eqb, ne-eqb}
 use lib.Dec.{eqb, ltb}
 use lib.ListN.{length-drop, length, take, drop, getD, List·getD-eq-default, drop-of-length-le}
 use lib.Seq.{drop-cons, drop-drop}
-use Rattle.lines.specs.declared.text.Place.{Place}
-use Rattle.lines.specs.declared.text.Place.the-variants.{Nothing, At}
-use Rattle.lines.specs.Text.{afterByte, afterWord, firstEnd, ends, closedLine, askedLine}
-use Rattle.lines.specs.declared.text.Span.the-variants.{Nothing as NoLine, Line}
+use Rattle.lines.specs.declared.scan.Place.{Place}
+use Rattle.lines.specs.declared.scan.Place.the-variants.{Nothing, At}
+use Rattle.lines.specs.Places.{afterByte, afterWord, firstEnd, ends, closedLine, tooLong, closedOr, askedLine}
+use Rattle.lines.specs.declared.scan.Span.{Span}
+use Rattle.lines.specs.declared.scan.Span.the-variants.{Nothing as NoLine, Line}
+use Rattle.lines.specs.declared.scan.Asked.the-variants.{Refused as NotAsked, Line as AskedLine}
+use Rattle.knapsack.specs.declared.Refusal.{Refusal}
 
 -- at a place of the text every default gives its byte
 pub default : (s : List ℕ) (i d e : ℕ) → i < length s → getD s i d ≡ getD s i e
@@ -80,7 +83,7 @@ end-of at (b ∷ l) e h = go (eqb b 10) (end-of (suc at) l e) h
 pub end-within : (s : List ℕ) (at e : ℕ) → firstEnd at (drop at s) ≡ At e → (at ≤ e) × (e < length s)
 end-within s at e h = let p = end-of at (drop at s) e h in let q : length (drop at s) ≡ length s - at = length-drop at s in omega arith
 
--- ---- what firstEnd means: the place of a byte 10 with none before it, and nothing where there is none
+-- ---- End theorems: what firstEnd means, the place of a byte 10 with none before it, and nothing where there is none
 
 pub end-first : (s : List ℕ) (at e : ℕ) → at ≤ e → e < length s → getD s e 0 ≡ 10 → ((k : ℕ) → at ≤ k → k < e → getD s k 0 ≡ 10 → ⊥) →
     firstEnd at (drop at s) ≡ At e
@@ -206,10 +209,17 @@ closed-within n s at a e h = split n at h
     split zero at h = first at (firstEnd at (drop at s)) refl h
     split (suc n) at h = later n at (firstEnd at (drop at s)) refl (split n) h
 
-pub asked-within : (s : List ℕ) (n a e : ℕ) → askedLine s n ≡ Line a e → (a ≤ e) × (e < length s)
-asked-within s n a e h = go (ltb 4096 (length s)) (eqb n 0) h
+pub asked-within : (s : List ℕ) (n a e : ℕ) → askedLine s n ≡ AskedLine a e → (a ≤ e) × (e < length s)
+asked-within s n a e h = go (ltb 4096 (length s)) (eqb n 0) (closedLine (n - 1) s 0) refl h
   where
-    go : (t u : Bool) → cond t NoLine (cond u NoLine (closedLine (n - 1) s 0)) ≡ Line a e → (a ≤ e) × (e < length s)
-    go true u h = absurd (let z : _≡_ {A = ℕ} 0 1 = cc in omega arith)
-    go false true h = absurd (let z : _≡_ {A = ℕ} 0 1 = cc in omega arith)
-    go false false h = closed-within (n - 1) s 0 a e h
+    none : {r : Refusal} → NotAsked r ≡ AskedLine a e → (a ≤ e) × (e < length s)
+    none h = absurd (let z : _≡_ {A = ℕ} 0 1 = cc in omega arith)
+
+    go : (t u : Bool) (x : Span) → closedLine (n - 1) s 0 ≡ x → cond t tooLong (cond u tooLong (closedOr n x)) ≡ AskedLine a e → (a ≤ e) × (e < length s)
+    go true u x q h = none h
+    go false true x q h = none h
+    go false false NoLine q h = none h
+    go false false (Line b f) q h =
+        let u : b ≡ a = cc in
+        let v : f ≡ e = cc in
+        closed-within (n - 1) s 0 a e (q ∙ rw (u, v))

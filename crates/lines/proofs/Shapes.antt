@@ -1,7 +1,8 @@
 -- What a line that was read is made of (specs/Lines.antt): each law takes a reading apart.
 -- place-some, field-some: a result that is not the fault's came by a place, by a number.
--- field-parts, pair-parts, heading-parts, item-parts, …: the parts of a field and of a line of each kind.
--- field-range: the number of a field that is in lies in the range; count-range, bound-range: so does a count, an item number, a bound.
+-- field-parts, numbers-parts, heading-parts, item-parts: the parts of a field and of a line of each kind.
+-- field-range, heading-range, numbers-range: the number of a field that is in lies in its range.
+-- count-parts, bound-parts: so do a count and an item number, which rises.
 use mathlib.Core.Path.{_≡_, refl, sym, ap, _∙_}
 use mathlib.Core.Bool.{Bool, true, false, cond}
 use mathlib.Core.List.{List}
@@ -11,15 +12,15 @@ use borrow.Author.Tests.{leb-false}
 use lib.Dec.{leb, leb→le}
 use lib.IntN.{ℤ, pos, negsuc, natAbs}
 use lib.Signed.{_≤ℤ_}
-use Rattle.lines.specs.declared.text.Place.{Place}
-use Rattle.lines.specs.declared.text.Place.the-variants.{Nothing, At}
+use Rattle.lines.specs.declared.scan.Place.{Place}
+use Rattle.lines.specs.declared.scan.Place.the-variants.{Nothing, At}
 use Rattle.lines.specs.declared.number.Range.{Range}
-use Rattle.lines.specs.declared.number.Figure.{Figure}
-use Rattle.lines.specs.declared.number.Figure.the-variants.{In, Out}
+use Rattle.lines.specs.declared.number.Ranged.{Ranged}
+use Rattle.lines.specs.declared.number.Ranged.the-variants.{In, Out}
 use Rattle.lines.specs.declared.number.Field.{Field}
 use Rattle.lines.specs.declared.number.Field.the-variants.{Malformed, Number}
-use Rattle.lines.specs.declared.Pair.{Pair}
-use Rattle.lines.specs.declared.Pair.the-variants.{Malformed as NoPair, Numbers}
+use Rattle.lines.specs.declared.TwoNumbers.{TwoNumbers}
+use Rattle.lines.specs.declared.TwoNumbers.the-variants.{Malformed as NoNumbers, Both}
 use Rattle.lines.specs.declared.Count.the-variants.{Fault as CountFault, Lines}
 use Rattle.knapsack.specs.declared.Bound.the-variants.{Absent}
 use Rattle.knapsack.specs.declared.Mark.{Mark}
@@ -28,77 +29,77 @@ use Rattle.lines.specs.declared.Marked.{Marked}
 use Rattle.lines.specs.declared.Marked.the-variants.{Malformed as NoMark, Mark as MarkOf}
 use Rattle.lines.specs.declared.ItemRead.the-variants.{Fault as ItemFault, Read as ItemIs}
 use Rattle.lines.specs.declared.BoundRead.the-variants.{Fault as BoundFault, Read as BoundIs}
-use Rattle.lines.specs.Text.{afterByte, afterWord, onPlace}
-use Rattle.lines.specs.Numbers.{Numeral, none, numeral, numberAt, figure, inRange, closedBy, fieldAt}
-use Rattle.lines.specs.Lines.{onField, headingLine, pairLine, markAt, weights, withNumbers, marked, itemLine, itemOf, itemRead, countOf}
+use Rattle.lines.specs.Places.{afterByte, afterWord, onPlace}
+use Rattle.lines.specs.Numbers.{Numeral, none, numeral, numberAt, fromTo, ranged, inRange, closedBy, fieldAt}
+use Rattle.lines.specs.Lines.{onField, headingLine, numbersLine, markAt, weights, withNumbers, marked, itemLine, itemOf, itemRead, countOf}
 use Rattle.lines.specs.Lines.{countAt, numbered, boundOf, boundRead, prices}
-use Rattle.lines.proofs.Numerals.{figure-in}
+use Rattle.lines.proofs.Numerals.{ranged-in}
 
 pub place-some : {A : Type 0} (p : Place) (a : A) (f : ℕ → A) (r : A) → (a ≡ r → ⊥) → onPlace p a f ≡ r → (n : ℕ) × (p ≡ At n) × (f n ≡ r)
 place-some Nothing a f r ne h = absurd (ne h)
 place-some (At n) a f r ne h = (n, refl, h)
 
-pub field-some : {A : Type 0} (x : Field) (a : A) (f : Figure → ℕ → A) (r : A) → (a ≡ r → ⊥) → onField x a f ≡ r →
-    (g : Figure) × (n : ℕ) × (x ≡ Number g n) × (f g n ≡ r)
+pub field-some : {A : Type 0} (x : Field) (a : A) (f : Ranged → ℕ → A) (r : A) → (a ≡ r → ⊥) → onField x a f ≡ r →
+    (g : Ranged) × (n : ℕ) × (x ≡ Number g n) × (f g n ≡ r)
 field-some Malformed a f r ne h = absurd (ne h)
 field-some (Number g n) a f r ne h = (g, n, refl, h)
 
-no-field : {f : Figure} {n : ℕ} → Malformed ≡ Number f n → ⊥
+no-field : {f : Ranged} {n : ℕ} → Malformed ≡ Number f n → ⊥
 no-field h = let z : _≡_ {A = ℕ} 0 1 = cc in omega arith
 
-no-pair : {f g : Figure} {n : ℕ} → NoPair ≡ Numbers f g n → ⊥
-no-pair h = let z : _≡_ {A = ℕ} 0 1 = cc in omega arith
+no-numbers : {f g : Ranged} {n : ℕ} → NoNumbers ≡ Both f g n → ⊥
+no-numbers h = let z : _≡_ {A = ℕ} 0 1 = cc in omega arith
 
 -- ---- a number that a byte closes
 
-pub record FieldParts (b : ℕ) (r : Range) (s : List ℕ) (at : ℕ) (f : Figure) (end : ℕ) : Type 0 where
+pub record FieldParts (b : ℕ) (r : Range) (s : List ℕ) (at : ℕ) (f : Ranged) (end : ℕ) : Type 0 where
   pub value : ℤ
   pub close : ℕ
   pub number : numberAt s at ≡ numeral value close
-  pub figured : figure r value ≡ f
+  pub figured : ranged r value ≡ f
   pub closed : afterByte s close b ≡ At end
 
-pub field-parts : (b : ℕ) (r : Range) (s : List ℕ) (at : ℕ) (f : Figure) (end : ℕ) → fieldAt b r s at ≡ Number f end → FieldParts b r s at f end
+pub field-parts : (b : ℕ) (r : Range) (s : List ℕ) (at : ℕ) (f : Ranged) (end : ℕ) → fieldAt b r s at ≡ Number f end → FieldParts b r s at f end
 unfolding fieldAt
 field-parts b r s at f end h = go (numberAt s at) refl h
   where
     go : (x : Numeral) → numberAt s at ≡ x → closedBy b s (inRange r x) ≡ Number f end → FieldParts b r s at f end
     go none e h = absurd (no-field h)
     go (numeral z n) e h =
-        let p = place-some (afterByte s n b) Malformed (λ m. Number (figure r z) m) (Number f end) no-field h in
+        let p = place-some (afterByte s n b) Malformed (λ m. Number (ranged r z) m) (Number f end) no-field h in
         let q = p .2 in
         let u : p .0 ≡ end = cc in
         record { value = z; close = n; number = e; figured = cc; closed = p .1 ∙ ap At u }
 
 pub field-range : (b : ℕ) (r : Range) (s : List ℕ) (at : ℕ) (z : ℤ) (end : ℕ) → fieldAt b r s at ≡ Number (In z) end → (r .lo ≤ℤ z) × (z ≤ℤ r .hi)
-field-range b r s at z end h = let p = field-parts b r s at (In z) end h in figure-in r (p .value) z (p .figured) .1
+field-range b r s at z end h = let p = field-parts b r s at (In z) end h in ranged-in r (p .value) z (p .figured) .1
 
 -- ---- lines
 
-pub record PairParts (r q : Range) (s : List ℕ) (at : ℕ) (x y : Figure) (end : ℕ) : Type 0 where
+pub record NumbersParts (r q : Range) (s : List ℕ) (at : ℕ) (x y : Ranged) (end : ℕ) : Type 0 where
   pub next : ℕ
   pub first : fieldAt 32 r s at ≡ Number x next
   pub second : fieldAt 10 q s next ≡ Number y end
 
-pub pair-parts : (r q : Range) (s : List ℕ) (at : ℕ) (x y : Figure) (end : ℕ) → pairLine r q s at ≡ Numbers x y end → PairParts r q s at x y end
-unfolding pairLine
-pair-parts r q s at x y end h =
-    let a = field-some (fieldAt 32 r s at) NoPair (λ x n. onField (fieldAt 10 q s n) NoPair (λ y m. Numbers x y m)) (Numbers x y end) no-pair h in
-    let b = field-some (fieldAt 10 q s (a .1)) NoPair (λ y m. Numbers (a .0) y m) (Numbers x y end) no-pair (a .3) in
+pub numbers-parts : (r q : Range) (s : List ℕ) (at : ℕ) (x y : Ranged) (end : ℕ) → numbersLine r q s at ≡ Both x y end → NumbersParts r q s at x y end
+unfolding numbersLine
+numbers-parts r q s at x y end h =
+    let a = field-some (fieldAt 32 r s at) NoNumbers (λ x n. onField (fieldAt 10 q s n) NoNumbers (λ y m. Both x y m)) (Both x y end) no-numbers h in
+    let b = field-some (fieldAt 10 q s (a .1)) NoNumbers (λ y m. Both (a .0) y m) (Both x y end) no-numbers (a .3) in
     let e = b .3 in
     let f : a .0 ≡ x = cc in
     let g : b .0 ≡ y = cc in
     let k : b .1 ≡ end = cc in
     record { next = a .1; first = rw f at (a .2); second = rw (g, k) at (b .2) }
 
-pub record HeadingParts (w : List ℕ) (r : Range) (s : List ℕ) (at : ℕ) (f : Figure) (end : ℕ) : Type 0 where
+pub record HeadingParts (w : List ℕ) (r : Range) (s : List ℕ) (at : ℕ) (f : Ranged) (end : ℕ) : Type 0 where
   pub blank : ℕ
   pub next : ℕ
   pub word : afterWord s at w ≡ At blank
   pub space : afterByte s blank 32 ≡ At next
   pub count : fieldAt 10 r s next ≡ Number f end
 
-pub heading-parts : (w : List ℕ) (r : Range) (s : List ℕ) (at : ℕ) (f : Figure) (end : ℕ) → headingLine w r s at ≡ Number f end →
+pub heading-parts : (w : List ℕ) (r : Range) (s : List ℕ) (at : ℕ) (f : Ranged) (end : ℕ) → headingLine w r s at ≡ Number f end →
     HeadingParts w r s at f end
 unfolding headingLine
 heading-parts w r s at f end h =
@@ -110,14 +111,14 @@ pub heading-range : (w : List ℕ) (r : Range) (s : List ℕ) (at : ℕ) (z : �
     (r .lo ≤ℤ z) × (z ≤ℤ r .hi)
 heading-range w r s at z end h = let p = heading-parts w r s at (In z) end h in field-range 10 r s (p .next) z end (p .count)
 
-pub pair-range : (r q : Range) (s : List ℕ) (at : ℕ) (z : ℤ) (y : Figure) (end : ℕ) → pairLine r q s at ≡ Numbers (In z) y end →
+pub numbers-range : (r q : Range) (s : List ℕ) (at : ℕ) (z : ℤ) (y : Ranged) (end : ℕ) → numbersLine r q s at ≡ Both (In z) y end →
     (r .lo ≤ℤ z) × (z ≤ℤ r .hi)
-pair-range r q s at z y end h = let p = pair-parts r q s at (In z) y end h in field-range 32 r s at z (p .next) (p .first)
+numbers-range r q s at z y end h = let p = numbers-parts r q s at (In z) y end h in field-range 32 r s at z (p .next) (p .first)
 
 pub record ItemParts (s : List ℕ) (at : ℕ) (i : Item) (end : ℕ) : Type 0 where
   pub next : ℕ
   pub mark : markAt s at ≡ MarkOf (i .mark) next
-  pub numbers : pairLine weights prices s next ≡ Numbers (In (i .weight)) (In (i .price)) end
+  pub numbers : numbersLine weights prices s next ≡ Both (In (i .weight)) (In (i .price)) end
   pub lower : i .lower ≡ Absent
   pub upper : i .upper ≡ Absent
 
@@ -128,15 +129,15 @@ item-parts s at i end h = go (markAt s at) refl h
     fault : {n : ℕ} → ItemFault n ≡ ItemIs i end → ItemParts s at i end
     fault h = absurd (let z : _≡_ {A = ℕ} 0 1 = cc in omega arith)
 
-    parts : (m : Mark) (n : ℕ) → markAt s at ≡ MarkOf m n → (x : Pair) → pairLine weights prices s n ≡ x → itemOf (withNumbers m x) ≡ ItemIs i end →
+    parts : (m : Mark) (n : ℕ) → markAt s at ≡ MarkOf m n → (x : TwoNumbers) → numbersLine weights prices s n ≡ x → itemOf (withNumbers m x) ≡ ItemIs i end →
         ItemParts s at i end
-    parts m n e NoPair f h = fault h
-    parts m n e (Numbers Out c k) f h = fault h
-    parts m n e (Numbers (In a) Out k) f h = fault h
-    parts m n e (Numbers (In a) (In c) k) f h =
+    parts m n e NoNumbers f h = fault h
+    parts m n e (Both Out c k) f h = fault h
+    parts m n e (Both (In a) Out k) f h = fault h
+    parts m n e (Both (In a) (In c) k) f h =
         let j : record { mark = m; weight = a; price = c; lower = Absent; upper = Absent } ≡ i = cc in
         let u : k ≡ end = cc in
-        let v = ap (λ (x : Item). Numbers (In (x .weight)) (In (x .price)) k) j ∙ ap (Numbers (In (i .weight)) (In (i .price))) u in
+        let v = ap (λ (x : Item). Both (In (x .weight)) (In (x .price)) k) j ∙ ap (Both (In (i .weight)) (In (i .price))) u in
         record {
           next = n;
           mark = e ∙ ap (λ (x : Item). MarkOf (x .mark) n) j;
@@ -147,7 +148,7 @@ item-parts s at i end h = go (markAt s at) refl h
 
     go : (x : Marked) → markAt s at ≡ x → itemOf (marked s x) ≡ ItemIs i end → ItemParts s at i end
     go NoMark e h = fault h
-    go (MarkOf m n) e h = parts m n e (pairLine weights prices s n) refl h
+    go (MarkOf m n) e h = parts m n e (numbersLine weights prices s n) refl h
 
 -- ---- counts and item numbers
 
@@ -155,33 +156,30 @@ between : (a b : ℕ) (z : ℤ) → pos a ≤ℤ z → z ≤ℤ pos b → (z ≡
 between a b (pos n) h k = (refl, (leb→le a n (h .le), leb→le n b (k .le)))
 between a b (negsuc n) h k = absurd (h .le)
 
-abbrev pub from-to : ℕ → ℕ → Range
-from-to a b = record { lo = pos a; hi = pos b }
-
 pub record CountParts (w : List ℕ) (a b : ℕ) (s : List ℕ) (at m end : ℕ) : Type 0 where
-  pub heading : headingLine w (from-to a b) s at ≡ Number (In (pos m)) end
+  pub heading : headingLine w (fromTo a b) s at ≡ Number (In (pos m)) end
   pub least : a ≤ m
   pub most : m ≤ b
 
-pub count-parts : (w : List ℕ) (a b : ℕ) (s : List ℕ) (at m end : ℕ) → countAt w (from-to a b) s at ≡ Lines m end → CountParts w a b s at m end
+pub count-parts : (w : List ℕ) (a b : ℕ) (s : List ℕ) (at m end : ℕ) → countAt w (fromTo a b) s at ≡ Lines m end → CountParts w a b s at m end
 unfolding countAt
-count-parts w a b s at m end h = go (headingLine w (from-to a b) s at) refl h
+count-parts w a b s at m end h = go (headingLine w (fromTo a b) s at) refl h
   where
     fault : {n : ℕ} → CountFault n ≡ Lines m end → CountParts w a b s at m end
     fault h = absurd (let z : _≡_ {A = ℕ} 0 1 = cc in omega arith)
 
-    go : (x : Field) → headingLine w (from-to a b) s at ≡ x → countOf x ≡ Lines m end → CountParts w a b s at m end
+    go : (x : Field) → headingLine w (fromTo a b) s at ≡ x → countOf x ≡ Lines m end → CountParts w a b s at m end
     go Malformed e h = fault h
     go (Number Out n) e h = fault h
     go (Number (In z) n) e h =
         let u : natAbs z ≡ m = cc in
         let v : n ≡ end = cc in
-        let q = heading-range w (from-to a b) s at z n e in
+        let q = heading-range w (fromTo a b) s at z n e in
         let k = between a b z (q .0) (q .1) in
         record { heading = e ∙ rw (k .0, u, v); least = omega arith; most = omega arith }
 
 pub record BoundParts (count before : ℕ) (s : List ℕ) (at k : ℕ) (v : ℤ) (end : ℕ) : Type 0 where
-  pub pair : pairLine (from-to 1 count) prices s at ≡ Numbers (In (pos k)) (In v) end
+  pub pair : numbersLine (fromTo 1 count) prices s at ≡ Both (In (pos k)) (In v) end
   pub least : 1 ≤ k
   pub most : k ≤ count
   pub rises : before < k
@@ -189,12 +187,12 @@ pub record BoundParts (count before : ℕ) (s : List ℕ) (at k : ℕ) (v : ℤ)
 pub bound-parts : (count before : ℕ) (s : List ℕ) (at k : ℕ) (v : ℤ) (end : ℕ) → boundRead count before s at ≡ BoundIs k v end →
     BoundParts count before s at k v end
 unfolding boundRead
-bound-parts count before s at k v end h = go (pairLine (from-to 1 count) prices s at) refl h
+bound-parts count before s at k v end h = go (numbersLine (fromTo 1 count) prices s at) refl h
   where
     fault : {n : ℕ} → BoundFault n ≡ BoundIs k v end → BoundParts count before s at k v end
     fault h = absurd (let z : _≡_ {A = ℕ} 0 1 = cc in omega arith)
 
-    last : (z : ℤ) (y : Figure) (n : ℕ) → pairLine (from-to 1 count) prices s at ≡ Numbers (In z) y n → (t : Bool) → leb (natAbs z) before ≡ t →
+    last : (z : ℤ) (y : Ranged) (n : ℕ) → numbersLine (fromTo 1 count) prices s at ≡ Both (In z) y n → (t : Bool) → leb (natAbs z) before ≡ t →
         cond t (BoundFault 5) (boundOf (natAbs z) y n) ≡ BoundIs k v end → BoundParts count before s at k v end
     last z y n e true f h = fault h
     last z Out n e false f h = fault h
@@ -202,11 +200,11 @@ bound-parts count before s at k v end h = go (pairLine (from-to 1 count) prices 
         let u : natAbs z ≡ k = cc in
         let w : x ≡ v = cc in
         let m : n ≡ end = cc in
-        let q = pair-range (from-to 1 count) prices s at z (In x) n e in
+        let q = numbers-range (fromTo 1 count) prices s at z (In x) n e in
         let o = between 1 count z (q .0) (q .1) in
         record { pair = e ∙ rw (o .0, u, w, m); least = omega arith; most = omega arith; rises = rw u at (leb-false (natAbs z) before f) }
 
-    go : (x : Pair) → pairLine (from-to 1 count) prices s at ≡ x → numbered before x ≡ BoundIs k v end → BoundParts count before s at k v end
-    go NoPair e h = fault h
-    go (Numbers Out y n) e h = fault h
-    go (Numbers (In z) y n) e h = last z y n e (leb (natAbs z) before) refl h
+    go : (x : TwoNumbers) → numbersLine (fromTo 1 count) prices s at ≡ x → numbered before x ≡ BoundIs k v end → BoundParts count before s at k v end
+    go NoNumbers e h = fault h
+    go (Both Out y n) e h = fault h
+    go (Both (In z) y n) e h = last z y n e (leb (natAbs z) before) refl h

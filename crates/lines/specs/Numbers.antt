@@ -1,23 +1,34 @@
 -- Numbers as a sheet writes them. Paper 01, "The sheet": `0`, or an optional minus, a digit 1 to 9 and further digits, of any length.
---   digitCount l        how many digits l begins with
---   valueAfter v l      the number written by the digits of v and then those that l begins with
+--   isDigit b           b is a digit; isLeading b: a digit 1 to 9
+--   digitRun l          the digits that l begins with; what they write is readAfter 0 of them (crate text)
+--   RunFrom s at r      r is the run at a place: its value, which stops at 1,000,000,000, and the place behind it
+--   Numeral             what stands in a number's place: none, or numeral z n with the place n behind it
+--   signedOf m n        n, or its opposite where there is a minus
+--   unsignedAt m s at   the number behind its sign
 --   numberAt s at       the number at a place, and the place behind it
---   figure r z          z, if it lies in the range
+--   fromTo a b          the range of the numbers from a to b
+--   ranged r z          z, if it lies in the range
+--   inRange r x         a numeral as a field of the range
+--   closedBy b s x      the field, if the byte b closes it
 --   fieldAt b r s at    a number that the byte b closes
+--   Narrow r            a range that the code's saturated value lies beyond
+use mathlib.Core.Path.{_≡_}
 use mathlib.Core.Bool.{Bool, true, false, cond}
 use mathlib.Core.List.{List, [], _∷_}
-use Prim.Native.Nat.{ℕ, suc, _+_, _*_, _-_}
+use Prim.Native.Nat.{ℕ, _+_, min}
 use lib.Dec.{ltb}
 use lib.IntN.{ℤ, pos, negℤ}
-use lib.ListN.{drop}
+use lib.ListN.{length, drop}
 use lib.Signed.{ltZ}
 use Rattle.arith.specs.Within.{Within}
+use Rattle.text.specs.Decimal.{readAfter}
+use Rattle.lines.specs.declared.number.Run.{Run}
 use Rattle.lines.specs.declared.number.Range.{Range}
-use Rattle.lines.specs.declared.number.Figure.{Figure}
-use Rattle.lines.specs.declared.number.Figure.the-variants.{In, Out}
+use Rattle.lines.specs.declared.number.Ranged.{Ranged}
+use Rattle.lines.specs.declared.number.Ranged.the-variants.{In, Out}
 use Rattle.lines.specs.declared.number.Field.{Field}
 use Rattle.lines.specs.declared.number.Field.the-variants.{Malformed, Number}
-use Rattle.lines.specs.Text.{byteAt, afterByte, onPlace}
+use Rattle.lines.specs.Places.{byteAt, afterByte, onPlace}
 
 abbrev pub isDigit : ℕ → Bool
 isDigit b = cond (ltb b 48) false (ltb b 58)
@@ -26,13 +37,14 @@ isDigit b = cond (ltb b 48) false (ltb b 58)
 abbrev pub isLeading : ℕ → Bool
 isLeading b = cond (ltb b 49) false (ltb b 58)
 
-unfoldable pub digitCount : List ℕ → ℕ
-digitCount [] = 0
-digitCount (b ∷ l) = cond (isDigit b) (suc (digitCount l)) 0
+unfoldable pub digitRun : List ℕ → List ℕ
+digitRun [] = []
+digitRun (b ∷ l) = cond (isDigit b) (b ∷ digitRun l) []
 
-unfoldable pub valueAfter : ℕ → List ℕ → ℕ
-valueAfter v [] = v
-valueAfter v (b ∷ l) = cond (isDigit b) (valueAfter (10 * v + (b - 48)) l) v
+-- the run of digits at a place, as the code reads it
+pub record RunFrom (s : List ℕ) (from : ℕ) (r : Run) : Type 0 where
+  pub capped : r .value ≡ min (readAfter 0 (digitRun (drop from s))) 1000000000
+  pub behind : r .next ≡ from + length (digitRun (drop from s))
 
 -- what stands in a number's place
 pub data Numeral : Type 0 where
@@ -47,7 +59,7 @@ signedOf false n = pos n
 abbrev pub unsignedAt : Bool → List ℕ → ℕ → Numeral
 unsignedAt negative s at =
     cond (isLeading (byteAt s at))
-    (numeral (signedOf negative (valueAfter 0 (drop at s))) (at + digitCount (drop at s)))
+    (numeral (signedOf negative (readAfter 0 (digitRun (drop at s)))) (at + length (digitRun (drop at s))))
     none
 
 abbrev pub numberAt : List ℕ → ℕ → Numeral
@@ -56,12 +68,15 @@ numberAt s at =
     (onPlace (afterByte s at 45) (unsignedAt false s at) (λ n. unsignedAt true s n))
     (λ n. numeral (pos 0) n)
 
-abbrev pub figure : Range → ℤ → Figure
-figure r z = cond (ltZ z (r .lo)) Out (cond (ltZ (r .hi) z) Out (In z))
+abbrev pub fromTo : ℕ → ℕ → Range
+fromTo a b = record { lo = pos a; hi = pos b }
+
+abbrev pub ranged : Range → ℤ → Ranged
+ranged r z = cond (ltZ z (r .lo)) Out (cond (ltZ (r .hi) z) Out (In z))
 
 abbrev pub inRange : Range → Numeral → Field
 inRange r none = Malformed
-inRange r (numeral z n) = Number (figure r z) n
+inRange r (numeral z n) = Number (ranged r z) n
 
 abbrev pub closedBy : ℕ → List ℕ → Field → Field
 closedBy b s Malformed = Malformed

@@ -1,12 +1,12 @@
 // The lines of a sheet (paper 01, "The sheet", "Refused, by place"): places and numbers in the sheet's bytes, the form of a line, and
 // then what its values must be. A line's answer is an enum: its values and the place behind it, or the number of its refusal.
-pub mod text; // places, words, line ends; the part that holds a line
+pub mod scan; // places, words, line ends; the part that holds a line
 pub mod number; // numbers of any length
 
 use crate::number::Field;
-use crate::number::Figure;
 use crate::number::Range;
-use crate::text::Place;
+use crate::number::Ranged;
+use crate::scan::Place;
 use knapsack::Bound;
 use knapsack::Item;
 use knapsack::Mark;
@@ -14,14 +14,14 @@ ghost use mathlib.Core.Path.{_≡_};
 ghost use Prim.Native.Nat.{_≤_};
 ghost use lib.IntN.{pos};
 ghost use lib.Signed.{_≤ℤ_};
-ghost use Rattle.lines.specs.Numbers.{Narrow};
-ghost use Rattle.lines.specs.Lines.{headingLine, pairLine, markAt, itemLine, prices, countAt, itemOf, itemRead, boundOf, boundRead};
+ghost use Rattle.lines.specs.Numbers.{Narrow, fromTo};
+ghost use Rattle.lines.specs.Lines.{headingLine, numbersLine, markAt, itemLine, prices, countAt, itemOf, itemRead, boundOf, boundRead};
 ghost use Rattle.lines.specs.declared.ItemLine.{ItemLine};
 
 // The form of a line: its fields and the place behind it.
-pub enum Pair {
+pub enum TwoNumbers {
     Malformed,
-    Numbers(Figure, Figure, usize),
+    Both(Ranged, Ranged, usize),
 }
 
 pub enum Marked {
@@ -31,7 +31,7 @@ pub enum Marked {
 
 pub enum ItemLine {
     Malformed,
-    Item(Mark, Figure, Figure, usize),
+    Item(Mark, Ranged, Ranged, usize),
 }
 
 // What a line gives: the number of its refusal, or its values and the place behind it.
@@ -55,11 +55,11 @@ fn heading_line(s: &[u8], at: usize, word: &[u8], range: Range) -> Field
     requires { ⌜ Narrow range ⌝ }
     ensures { λ r. ⌜ r ≡ headingLine (now (word .entry)) range (now (s .entry)) at ⌝ }
 {
-    let w = crate::text::after_word(s, at, word);
+    let w = crate::scan::after_word(s, at, word);
     match w {
         Place::Nothing => Field::Malformed,
         Place::At(b) => {
-            let p = crate::text::after_byte(s, b, b' ');
+            let p = crate::scan::after_byte(s, b, b' ');
             match p {
                 Place::Nothing => Field::Malformed,
                 Place::At(next) => crate::number::closed_number(s, next, range, b'\n'),
@@ -69,18 +69,18 @@ fn heading_line(s: &[u8], at: usize, word: &[u8], range: Range) -> Field
 }
 
 // Number, blank, number, end.
-fn pair_line(s: &[u8], at: usize, first: Range, second: Range) -> Pair
+fn numbers_line(s: &[u8], at: usize, first: Range, second: Range) -> TwoNumbers
     requires { ⌜ Narrow first × Narrow second ⌝ }
-    ensures { λ r. ⌜ r ≡ pairLine first second (now (s .entry)) at ⌝ }
+    ensures { λ r. ⌜ r ≡ numbersLine first second (now (s .entry)) at ⌝ }
 {
     let f = crate::number::closed_number(s, at, first, b' ');
     match f {
-        Field::Malformed => Pair::Malformed,
+        Field::Malformed => TwoNumbers::Malformed,
         Field::Number(x, next) => {
             let g = crate::number::closed_number(s, next, second, b'\n');
             match g {
-                Field::Malformed => Pair::Malformed,
-                Field::Number(y, end) => Pair::Numbers(x, y, end),
+                Field::Malformed => TwoNumbers::Malformed,
+                Field::Number(y, end) => TwoNumbers::Both(x, y, end),
             }
         }
     }
@@ -90,11 +90,11 @@ fn pair_line(s: &[u8], at: usize, first: Range, second: Range) -> Pair
 fn mark_field(s: &[u8], at: usize) -> Marked
     ensures { λ r. ⌜ r ≡ markAt (now (s .entry)) at ⌝ }
 {
-    let w = crate::text::after_word(s, at, b"W ");
+    let w = crate::scan::after_word(s, at, b"W ");
     match w {
         Place::At(next) => Marked::Mark(Mark::Integer, next),
         Place::Nothing => {
-            let l = crate::text::after_word(s, at, b"L ");
+            let l = crate::scan::after_word(s, at, b"L ");
             match l {
                 Place::At(next) => Marked::Mark(Mark::Continuous, next),
                 Place::Nothing => Marked::Malformed,
@@ -119,10 +119,10 @@ fn item_form(s: &[u8], at: usize) -> ItemLine
                 lo: -10_000,
                 hi: 10_000,
             };
-            let p = pair_line(s, next, weights, prices);
+            let p = numbers_line(s, next, weights, prices);
             match p {
-                Pair::Malformed => ItemLine::Malformed,
-                Pair::Numbers(a, c, end) => ItemLine::Item(mark, a, c, end),
+                TwoNumbers::Malformed => ItemLine::Malformed,
+                TwoNumbers::Both(a, c, end) => ItemLine::Item(mark, a, c, end),
             }
         }
     }
@@ -135,23 +135,23 @@ pub fn heading(s: &[u8], at: usize, word: &[u8], range: Range) -> Count
 {
     let f = heading_line(s, at, word, range);
     match f {
-        Field::Malformed => Count::Fault(2),
+        Field::Malformed => Count::Fault(model::refusals::FORM),
         Field::Number(g, next) => match g {
-            Figure::Out => Count::Fault(3),
-            Figure::In(n) => Count::Lines(n as usize, next),
+            Ranged::Out => Count::Fault(model::refusals::COUNT),
+            Ranged::In(n) => Count::Lines(n as usize, next),
         },
     }
 }
 
 // The weight is tried before the price.
-fn item_of(mark: Mark, weight: Figure, price: Figure, next: usize) -> ItemRead
+fn item_of(mark: Mark, weight: Ranged, price: Ranged, next: usize) -> ItemRead
     ensures { λ r. ⌜ r ≡ itemOf (ItemLine.Item mark weight price next) ⌝ }
 {
     match weight {
-        Figure::Out => ItemRead::Fault(4),
-        Figure::In(a) => match price {
-            Figure::Out => ItemRead::Fault(4),
-            Figure::In(c) => {
+        Ranged::Out => ItemRead::Fault(model::refusals::FIGURE),
+        Ranged::In(a) => match price {
+            Ranged::Out => ItemRead::Fault(model::refusals::FIGURE),
+            Ranged::In(c) => {
                 let item = Item {
                     mark,
                     weight: a,
@@ -171,24 +171,24 @@ pub fn item_at(s: &[u8], at: usize) -> ItemRead
 {
     let l = item_form(s, at);
     match l {
-        ItemLine::Malformed => ItemRead::Fault(2),
+        ItemLine::Malformed => ItemRead::Fault(model::refusals::FORM),
         ItemLine::Item(mark, a, c, next) => item_of(mark, a, c, next),
     }
 }
 
-fn bound_of(k: usize, v: Figure, next: usize) -> BoundRead
+fn bound_of(k: usize, v: Ranged, next: usize) -> BoundRead
     ensures { λ r. ⌜ r ≡ boundOf k v next ⌝ }
 {
     match v {
-        Figure::Out => BoundRead::Fault(4),
-        Figure::In(z) => BoundRead::Read(k, z, next),
+        Ranged::Out => BoundRead::Fault(model::refusals::FIGURE),
+        Ranged::In(z) => BoundRead::Read(k, z, next),
     }
 }
 
 // Item number and bound.
-fn bound_line(s: &[u8], at: usize, count: usize) -> Pair
+fn bound_line(s: &[u8], at: usize, count: usize) -> TwoNumbers
     requires { ⌜ count ≤ 16 ⌝ }
-    ensures { λ r. ⌜ r ≡ pairLine (record { lo = pos 1; hi = pos count }) prices (now (s .entry)) at ⌝ }
+    ensures { λ r. ⌜ r ≡ numbersLine (fromTo 1 count) prices (now (s .entry)) at ⌝ }
 {
     let numbers = Range {
         lo: 1,
@@ -198,7 +198,7 @@ fn bound_line(s: &[u8], at: usize, count: usize) -> Pair
         lo: -10_000,
         hi: 10_000,
     };
-    pair_line(s, at, numbers, bounds)
+    numbers_line(s, at, numbers, bounds)
 }
 
 // An item number and its bound: 2 for the line's form, 5 for the number, 4 for the bound.
@@ -208,13 +208,13 @@ pub fn bound_at(s: &[u8], at: usize, count: usize, before: usize) -> BoundRead
 {
     let l = bound_line(s, at, count);
     match l {
-        Pair::Malformed => BoundRead::Fault(2),
-        Pair::Numbers(f, v, next) => match f {
-            Figure::Out => BoundRead::Fault(5),
-            Figure::In(z) => {
+        TwoNumbers::Malformed => BoundRead::Fault(model::refusals::FORM),
+        TwoNumbers::Both(f, v, next) => match f {
+            Ranged::Out => BoundRead::Fault(model::refusals::ITEM_NUMBER),
+            Ranged::In(z) => {
                 let k = z as usize;
                 if k <= before {
-                    return BoundRead::Fault(5);
+                    return BoundRead::Fault(model::refusals::ITEM_NUMBER);
                 }
                 bound_of(k, v, next)
             }

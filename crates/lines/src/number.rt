@@ -1,10 +1,9 @@
 // Numbers as a sheet writes them: `0`, or an optional minus, a digit 1 to 9 and further digits, of any length.
-use crate::text::Place;
+use crate::scan::Place;
 ghost use mathlib.Core.Path.{_≡_};
 ghost use Prim.Native.Nat.{_+_, _*_, _-_, _≤_, min};
-ghost use lib.ListN.{drop};
-ghost use Rattle.lines.specs.Text.{byteAt};
-ghost use Rattle.lines.specs.Numbers.{Narrow, isLeading, digitCount, valueAfter, signedOf, unsignedAt, numberAt, figure, inRange, fieldAt};
+ghost use Rattle.lines.specs.Places.{byteAt};
+ghost use Rattle.lines.specs.Numbers.{Narrow, isLeading, RunFrom, signedOf, unsignedAt, numberAt, ranged, inRange, fieldAt};
 
 // Where the value of a run of digits stops: beyond every range that a sheet knows (Narrow), so that no digit is lost that counts.
 const BEYOND: u64 = 1_000_000_000;
@@ -16,7 +15,7 @@ pub struct Range {
 }
 
 // A number, if it lies in the range that was asked for.
-pub enum Figure {
+pub enum Ranged {
     In(i64),
     Out,
 }
@@ -24,11 +23,11 @@ pub enum Figure {
 // What stands in a number's place, and the place behind it.
 pub enum Field {
     Malformed,
-    Number(Figure, usize),
+    Number(Ranged, usize),
 }
 
 // A run of digits: what it writes, BEYOND where that is more, and the place behind it.
-pub struct Digits {
+pub struct Run {
     pub value: u64,
     pub next: usize,
 }
@@ -43,38 +42,38 @@ fn push(value: u64, digit: u8) -> u64
 }
 
 // The digits from a place on, as far as they go.
-fn digits_from(s: &[u8], from: usize) -> Digits
-    ensures { λ r. ⌜ (r .value ≡ min (valueAfter 0 (drop from (now (s .entry)))) 1000000000) × (r .next ≡ from + digitCount (drop from (now (s .entry)))) ⌝ }
+fn digits_from(s: &[u8], from: usize) -> Run
+    ensures { λ r. ⌜ RunFrom (now (s .entry)) from r ⌝ }
 {
     let mut value: u64 = 0;
     let mut at = from;
     while at < s.len() {
         let b = s[at];
         if b < 48 {
-            return Digits { value, next: at };
+            return Run { value, next: at };
         }
         if 57 < b {
-            return Digits { value, next: at };
+            return Run { value, next: at };
         }
         value = push(value, b);
         at += 1;
     }
-    Digits { value, next: at }
+    Run { value, next: at }
 }
 
 // A number by its range.
-fn ranged(z: i64, range: Range) -> Figure
-    ensures { λ r. ⌜ r ≡ figure range z ⌝ }
+fn by_range(z: i64, range: Range) -> Ranged
+    ensures { λ r. ⌜ r ≡ ranged range z ⌝ }
 {
     let lo = range.lo;
     let hi = range.hi;
     if z < lo {
-        return Figure::Out;
+        return Ranged::Out;
     }
     if hi < z {
-        return Figure::Out;
+        return Ranged::Out;
     }
-    Figure::In(z)
+    Ranged::In(z)
 }
 
 fn signed(negative: bool, n: u64) -> i64
@@ -109,7 +108,7 @@ fn unsigned(s: &[u8], at: usize, negative: bool, range: Range) -> Field
     if leads(s, at) {
         let d = digits_from(s, at);
         let z = signed(negative, d.value);
-        let f = ranged(z, range);
+        let f = by_range(z, range);
         Field::Number(f, d.next)
     } else {
         Field::Malformed
@@ -121,14 +120,14 @@ fn number(s: &[u8], at: usize, range: Range) -> Field
     requires { ⌜ Narrow range ⌝ }
     ensures { λ r. ⌜ r ≡ inRange range (numberAt (now (s .entry)) at) ⌝ }
 {
-    let zero = crate::text::after_byte(s, at, b'0');
+    let zero = crate::scan::after_byte(s, at, b'0');
     match zero {
         Place::At(next) => {
-            let f = ranged(0, range);
+            let f = by_range(0, range);
             Field::Number(f, next)
         }
         Place::Nothing => {
-            let minus = crate::text::after_byte(s, at, b'-');
+            let minus = crate::scan::after_byte(s, at, b'-');
             match minus {
                 Place::At(next) => unsigned(s, next, true, range),
                 Place::Nothing => unsigned(s, at, false, range),
@@ -146,7 +145,7 @@ pub fn closed_number(s: &[u8], at: usize, range: Range, close: u8) -> Field
     match f {
         Field::Malformed => Field::Malformed,
         Field::Number(g, next) => {
-            let p = crate::text::after_byte(s, next, close);
+            let p = crate::scan::after_byte(s, next, close);
             match p {
                 Place::Nothing => Field::Malformed,
                 Place::At(n) => Field::Number(g, n),

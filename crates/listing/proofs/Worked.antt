@@ -1,4 +1,4 @@
--- The print that paper 01 works out, under "What `charge` prints": sheet A's answer, byte by byte.
+-- End theorem: the print that paper 01 works out, under "What `charge` prints": sheet A's answer, byte by byte.
 use mathlib.Core.Path.{_≡_, refl}
 use mathlib.Core.List.{List, [], _∷_}
 use Prim.Native.Nat.{ℕ}
@@ -6,7 +6,7 @@ use lib.IntN.{pos}
 use lib.ListN.{replicate}
 use Rattle.knapsack.specs.declared.Answer.{Answer}
 use Rattle.knapsack.specs.declared.Kind.the-variants.{Optimal}
-use Rattle.listing.specs.Decimal.{digitsIn, digits, decimal, integer}
+use Rattle.text.specs.Decimal.{digitsIn, digits, decimal}
 use Rattle.listing.specs.Printing.{itemLines, printed}
 
 abbrev pub answer : Answer
@@ -26,5 +26,5 @@ text =
     ∷ 50 ∷ 32 ∷ 50 ∷ 32 ∷ 51 ∷ 10 ∷ []
 
 pub printed-worked : printed 2 answer ≡ text
-unfolding printed itemLines integer decimal digits digitsIn
+unfolding printed itemLines decimal digits digitsIn
 printed-worked = refl

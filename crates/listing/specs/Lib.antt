@@ -1,4 +1,1 @@
-pub mod Decimal
-pub mod Buffer
 pub mod Printing
-pub mod Listing

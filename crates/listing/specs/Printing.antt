@@ -1,7 +1,5 @@
 -- The text of an answer. Paper 01, "What `charge` prints".
---   refused … unbounded  the words that begin it
---   field f b            a field and the byte behind it
---   line f fs            a line: its fields with one blank between them, closed by the byte 10
+--   refused, infeasible, best, unbounded    the words that begin it
 --   refusedLine f        `refused N L`
 --   bestLine v           `best P Q`
 --   itemLine s k x r     `k p q` of the item at place k, from 0; behind it the step r, where steps are shown
@@ -11,6 +9,7 @@
 --   listed n             how many items of n are listed: an answer has 16 places
 --   printedAs k n a      the text of an answer of kind k about n items
 --   printed n a          the text of an answer about n items
+--   unlessRefused k f x  f of the refusal where k is one, else x
 use mathlib.Core.Bool.{Bool, true, false, cond}
 use mathlib.Core.List.{List, [], _∷_, _++_}
 use Prim.Native.Nat.{ℕ, zero, suc, min}
@@ -21,7 +20,8 @@ use Rattle.knapsack.specs.declared.Answer.{Answer}
 use Rattle.knapsack.specs.declared.Refusal.{Refusal}
 use Rattle.knapsack.specs.declared.Kind.{Kind}
 use Rattle.knapsack.specs.declared.Kind.the-variants.{Optimal, Infeasible, Unbounded, Refused}
-use Rattle.listing.specs.Decimal.{decimal, integer}
+use Rattle.text.specs.Decimal.{decimal, integer}
+use Rattle.text.specs.Layout.{line}
 
 -- ---- the words
 abbrev pub refused : List ℕ
@@ -37,13 +37,6 @@ abbrev pub unbounded : List ℕ
 unbounded = 117 ∷ 110 ∷ 98 ∷ 111 ∷ 117 ∷ 110 ∷ 100 ∷ 101 ∷ 100 ∷ []
 
 -- ---- lines
-abbrev pub field : List ℕ → ℕ → List ℕ
-field f b = f ++ (b ∷ [])
-
-abbrev pub line : List ℕ → List (List ℕ) → List ℕ
-line f [] = field f 10
-line f (g ∷ gs) = field f 32 ++ line g gs
-
 abbrev pub refusedLine : Refusal → List ℕ
 refusedLine f = line refused (decimal (f .number) ∷ decimal (f .line) ∷ [])
 
@@ -74,3 +67,9 @@ printedAs (Refused f) n a = refusedLine f
 
 unfoldable pub printed : ℕ → Answer → List ℕ
 printed n a = printedAs (a .kind) n a
+
+abbrev pub unlessRefused : {A : Type 0} → Kind → (Refusal → A) → A → A
+unlessRefused Optimal f x = x
+unlessRefused Infeasible f x = x
+unlessRefused Unbounded f x = x
+unlessRefused (Refused r) f x = f r

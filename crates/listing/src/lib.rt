@@ -1,35 +1,20 @@
 // The text of an answer, as the program `charge` prints it. Paper 01: "Text", "What `charge` prints", and refusal 11.
 // It comes by value (text_of), or at the start of a lent buffer (list_answer, list_reply), of which no byte changes where it is too short.
-mod put;
-
 use arith::Fraction;
 use knapsack::Answer;
 use knapsack::Kind;
 use knapsack::Refusal;
-use put::put_integer;
-use put::put_natural;
-use put::put_word;
+use text::Listed;
+use text::Text;
+use text::hand_over;
+use text::put_integer;
+use text::put_natural;
+use text::put_word;
 ghost use mathlib.Core.Path.{_≡_};
 ghost use Prim.Native.Nat.{_+_, _*_, _≤_, _<_};
 ghost use lib.ListN.{length};
-ghost use Rattle.listing.specs.Buffer.{Put};
-ghost use Rattle.listing.specs.Printing.{refusedLine, bestLine, itemLine, itemLines, listed, printed};
-ghost use Rattle.listing.specs.Listing.{Shows, told, filled, unlessRefused, noted};
-
-// Room for the longest text: a heading of at most 50 bytes, and 16 lines of at most 86.
-pub const ROOM: usize = 1440;
-
-// A text by value: the first len bytes.
-pub struct Text {
-    pub bytes: [u8; ROOM],
-    pub len: usize,
-}
-
-// What a caller that lent a buffer is told: how long the text is that stands there, or why there is none.
-pub enum Listed {
-    Written(usize),
-    Refused(Refusal),
-}
+ghost use Rattle.text.specs.Buffer.{Put, Shows, told, filled, noted};
+ghost use Rattle.listing.specs.Printing.{refusedLine, bestLine, itemLine, itemLines, listed, printed, unlessRefused};
 
 // The line of the item at a place: `k p q`, and behind it the step where steps are shown.
 fn put_item(out: &mut [u8], at: usize, steps: bool, k: usize, x: Fraction, s: i64) -> usize
@@ -114,38 +99,16 @@ fn put_answer(out: &mut [u8], a: Answer, n: usize) -> usize
     }
 }
 
-// The bytes before there is a text.
-fn space() -> [u8; ROOM]
-    ensures { λ r. ⌜ length r ≡ 1440 ⌝ }
-{
-    [0; ROOM]
-}
-
 // The text of an answer about n items.
 pub fn text_of(a: Answer, n: usize) -> Text
     ensures { λ r. ⌜ Shows (printed n a) r ⌝ }
 {
-    let mut bytes = space();
+    let mut bytes = text::space();
     let len = put_answer(&mut bytes, a, n);
     Text {
         bytes: bytes,
         len: len,
     }
-}
-
-// A text at the start of a lent buffer; the bytes behind it stay. Refusal 11, and no byte changes, where the buffer is shorter.
-pub fn hand_over(text: &[u8], out: &mut [u8]) -> Listed
-    ensures { λ r. ⌜ r ≡ told (now (text .entry)) (now (out .entry)) ⌝ }
-    ensures { λ r. ⌜ now (out .exit) ≡ filled (now (text .entry)) (now (out .entry)) ⌝ }
-{
-    if out.len() < text.len() {
-        return Listed::Refused(Refusal {
-            number: 11,
-            line: 0,
-        });
-    }
-    put_word(out, 0, text);
-    Listed::Written(text.len())
 }
 
 // The text of an answer about n items, also of a refusal, in a lent buffer.

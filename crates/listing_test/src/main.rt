@@ -3,7 +3,7 @@ use arith::Fraction;
 use knapsack::Answer;
 use knapsack::Kind;
 use knapsack::Refusal;
-use listing::Listed;
+use text::Listed;
 use trials::print::print;
 use trials::print::print_field;
 ghost use mathlib.Core.Path.{_≡_};

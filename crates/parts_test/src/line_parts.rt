@@ -1,7 +1,7 @@
 // The part that holds a line, on drawn bytes: letters and bytes 10, at most 12 of them, and every line number up to two too many.
 use knapsack::Verdict;
-use lines::text::check_line;
-use lines::text::line_part;
+use lines::scan::check_line;
+use lines::scan::line_part;
 use trials::count::one_more;
 use trials::count::print_count;
 use trials::draw::below;

@@ -5,8 +5,8 @@ use domination::least_pair;
 use knapsack::Bound;
 use knapsack::Item;
 use knapsack::Mark;
-use knapsack::Problem;
 use knapsack::blank_item;
+use model::Model;
 use trials::count::one_more;
 use trials::count::print_count;
 use trials::draw::Spans;
@@ -134,7 +134,7 @@ fn is_item(i: usize, n: usize) -> bool {
     0 < i && i <= n
 }
 
-fn item_numbered(p: Problem, i: usize) -> Item {
+fn item_numbered(p: Model, i: usize) -> Item {
     if i == 0 {
         return blank_item();
     }
@@ -162,7 +162,7 @@ fn refusal_of(x: Item, y: Item, n: usize, i: usize, j: usize) -> u64 {
     if may_pair(x) && may_pair(y) { 0 } else { 10 }
 }
 
-fn agrees(r: PairReply, p: Problem, n: usize, i: usize, j: usize) -> bool {
+fn agrees(r: PairReply, p: Model, n: usize, i: usize, j: usize) -> bool {
     let x = item_numbered(p, i);
     let y = item_numbered(p, j);
     let number = refusal_of(x, y, n, i, j);
@@ -202,7 +202,7 @@ fn tallied(t: Tally, kind: u64, right: bool) -> Tally {
     }
 }
 
-fn print_wrong(p: Problem, i: usize, j: usize) {
+fn print_wrong(p: Model, i: usize, j: usize) {
     print(b"disagreement: ");
     print_problem(p);
     print_count(b"; items ", i as u64);
@@ -210,7 +210,7 @@ fn print_wrong(p: Problem, i: usize, j: usize) {
     print(b"\n");
 }
 
-fn tried(t: Tally, p: Problem, n: usize, i: usize, j: usize) -> Tally
+fn tried(t: Tally, p: Model, n: usize, i: usize, j: usize) -> Tally
     requires { ⌜ n ≤ 15 ⌝ }
 {
     let r = least_pair(p, i, j);
@@ -222,7 +222,7 @@ fn tried(t: Tally, p: Problem, n: usize, i: usize, j: usize) -> Tally
 }
 
 // Item numbers 0 to n + 1, as the second and as the first.
-fn with_seconds(start: Tally, p: Problem, n: usize, i: usize) -> Tally
+fn with_seconds(start: Tally, p: Model, n: usize, i: usize) -> Tally
     requires { ⌜ n ≤ 15 ⌝ }
 {
     let mut t = start;
@@ -234,7 +234,7 @@ fn with_seconds(start: Tally, p: Problem, n: usize, i: usize) -> Tally
     t
 }
 
-fn with_problem(start: Tally, p: Problem, n: usize) -> Tally
+fn with_problem(start: Tally, p: Model, n: usize) -> Tally
     requires { ⌜ n ≤ 15 ⌝ }
 {
     let mut t = start;

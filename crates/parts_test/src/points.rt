@@ -6,7 +6,8 @@ use feasibility::check_point;
 use knapsack::Bound;
 use knapsack::Item;
 use knapsack::Mark;
-use knapsack::Problem;
+use model::Model;
+use model::beyond;
 use trials::count::one_more;
 use trials::count::print_count;
 use trials::draw::Spans;
@@ -21,11 +22,7 @@ use trials::print::print_number;
 use trials::print::print_problem;
 use trials::print::print_signed;
 use trials::print::size_of;
-ghost use mathlib.Core.Path.{_≡_};
 ghost use Prim.Native.Nat.{_≤_};
-ghost use lib.IntN.{pos, natAbs};
-ghost use lib.Signed.{_≤ℤ_};
-ghost use Rattle.knapsack.specs.Records.{outside};
 
 // ---- what is drawn
 
@@ -189,33 +186,22 @@ struct Sums {
     value: i64,
 }
 
-// Whether x is farther than n from zero.
-fn is_farther(x: i64, n: i64) -> bool
-    requires { ⌜ (pos 0 ≤ℤ n) × (n ≤ℤ pos 1000000000000000000) ⌝ }
-    ensures { λ r. ⌜ r ≡ outside (natAbs n) x ⌝ }
-{
-    if x < 0 - n {
-        return true;
-    }
-    n < x
-}
-
 // a · b of a figure and a number of any amount, and a + b; what is farther off is handed on.
 fn product(a: i64, b: i64) -> i64 {
-    if is_farther(a, 10000) {
+    if beyond(a, 10000) {
         return a;
     }
-    if is_farther(b, 100000000000000) {
+    if beyond(b, 100000000000000) {
         return b;
     }
     a * b
 }
 
 fn total(a: i64, b: i64) -> i64 {
-    if is_farther(a, 1000000000000000000) {
+    if beyond(a, 1000000000000000000) {
         return a;
     }
-    if is_farther(b, 1000000000000000000) {
+    if beyond(b, 1000000000000000000) {
         return b;
     }
     a + b
@@ -279,7 +265,7 @@ fn with_item(s: Sums, k: usize, i: Item, x: Fraction, divisor: u64) -> Sums {
     }
 }
 
-fn sums_of(p: Problem, c: Candidate, n: usize, divisor: u64) -> Sums
+fn sums_of(p: Model, c: Candidate, n: usize, divisor: u64) -> Sums
     requires { ⌜ n ≤ 15 ⌝ }
 {
     let items = p.items;
@@ -323,12 +309,12 @@ fn is_value(v: Fraction, value: i64, divisor: u64) -> bool {
     product(as_signed(divisor), v.p) == product(as_signed(v.q), value)
 }
 
-fn is_over(p: Problem, s: Sums, divisor: u64) -> bool {
+fn is_over(p: Model, s: Sums, divisor: u64) -> bool {
     times(p.capacity, as_signed(divisor)) < s.weight
 }
 
 // The reply to a point that is not refused.
-fn is_told(r: PointReply, p: Problem, s: Sums, divisor: u64) -> bool {
+fn is_told(r: PointReply, p: Model, s: Sums, divisor: u64) -> bool {
     let over = is_over(p, s, divisor);
     match r {
         PointReply::Refused(_) => false,
@@ -351,7 +337,7 @@ fn is_refused(r: PointReply, number: u64) -> bool {
     }
 }
 
-fn agrees(r: PointReply, p: Problem, c: Candidate, n: usize) -> bool
+fn agrees(r: PointReply, p: Model, c: Candidate, n: usize) -> bool
     requires { ⌜ n ≤ 15 ⌝ }
 {
     let h = shape_of(c, n);
@@ -403,7 +389,7 @@ fn print_amount(x: Fraction) {
     print_number(x.q);
 }
 
-fn print_wrong(p: Problem, c: Candidate, n: usize)
+fn print_wrong(p: Model, c: Candidate, n: usize)
     requires { ⌜ n ≤ 15 ⌝ }
 {
     print(b"disagreement: ");
@@ -419,7 +405,7 @@ fn print_wrong(p: Problem, c: Candidate, n: usize)
     print(b"\n");
 }
 
-fn tried(t: Tally, p: Problem, c: Candidate, n: usize) -> Tally
+fn tried(t: Tally, p: Model, c: Candidate, n: usize) -> Tally
     requires { ⌜ n ≤ 15 ⌝ }
 {
     let r = check_point(p, c);

@@ -18,7 +18,7 @@ use lib.Dec.{T}
 use Rattle.arith.proofs.Integers.{split, split2, split3, split4, zed, ≤ℤ-or-<, ≤ℤ-antisym}
 use Rattle.arith.specs.Sum.{Each, pick}
 use Rattle.arith.proofs.Sums.{pick-ind}
-use Rattle.places.specs.Moves.{turn, nextValue, nextSegment, orElse, carry, carrySegment}
+use Rattle.places.specs.Moves.{belowStart, nextValue, nextSegment, orElse, carry, carrySegment}
 
 -- ---- one level: the amounts lo .. hi are visited s, s + 1, .., hi, s - 1, s - 2, .., lo
 
@@ -73,9 +73,9 @@ le-refl′ = split _ (λ a b. simp zed (omega arith))
 less-no : (x y : ℤ) → x <ℤ y → y ≤ℤ x → ⊥
 less-no = split2 _ (λ a b c e. simp zed (omega arith))
 
-turn-reach : (lo s y : ℤ) → lo ≤ℤ y → y <ℤ s → Reach s y (turn lo s)
-unfolding turn
-turn-reach lo s y h k = test lo s (Reach s y) _ _ (λ l. down-or s y s (le-refl′ s) k) (λ l. clash lo s y h k l)
+below-start-reach : (lo s y : ℤ) → lo ≤ℤ y → y <ℤ s → Reach s y (belowStart lo s)
+unfolding belowStart
+below-start-reach lo s y h k = test lo s (Reach s y) _ _ (λ l. down-or s y s (le-refl′ s) k) (λ l. clash lo s y h k l)
   where
     clash : (lo s y : ℤ) → lo ≤ℤ y → y <ℤ s → s ≤ℤ lo → ⊥
     clash = split3 _ (λ a b c e f g. simp zed (omega arith))
@@ -98,7 +98,7 @@ next-reach lo hi s x y (yl, yh) (inl (h, inl k)) = test x s (Reach s y) _ _ (λ 
     up (inl l) = inl (same y x k l)
     up (inr l) = inr (inl (over s x h, inl l))
 next-reach lo hi s x y (yl, yh) (inl (h, inr k)) = test x s (Reach s y) _ _ (λ l. absurd (less-no x s l h))
-    (λ _. test x hi (Reach s y) _ _ (λ l. inr (inl (over s x h, inr k))) (λ l. turn-reach lo s y yl k))
+    (λ _. test x hi (Reach s y) _ _ (λ l. inr (inl (over s x h, inr k))) (λ l. below-start-reach lo s y yl k))
   where
     over : (s x : ℤ) → s ≤ℤ x → s ≤ℤ (x +ℤ pos 1)
     over = split2 _ (λ a b c e. simp zed (omega arith))
@@ -111,9 +111,9 @@ next-reach lo hi s x y (yl, yh) (inr (h, k)) = test x s (Reach s y) _ _
     clash : (lo x y : ℤ) → lo ≤ℤ y → y <ℤ x → x ≤ℤ lo → ⊥
     clash = split3 _ (λ a b c e f g. simp zed (omega arith))
 
-turn-good : (lo hi s x : ℤ) → In lo hi s → s ≤ℤ x → Good lo hi s x (turn lo s)
-unfolding turn
-turn-good lo hi s x (sl, sh) h = test lo s (Good lo hi s x) _ _ (λ l. (inside lo hi s sh l, inl (h, inr (under s)))) (λ l. tt)
+below-start-good : (lo hi s x : ℤ) → In lo hi s → s ≤ℤ x → Good lo hi s x (belowStart lo s)
+unfolding belowStart
+below-start-good lo hi s x (sl, sh) h = test lo s (Good lo hi s x) _ _ (λ l. (inside lo hi s sh l, inl (h, inr (under s)))) (λ l. tt)
   where
     inside : (lo hi s : ℤ) → s ≤ℤ hi → lo <ℤ s → In lo hi (s -ℤ pos 1)
     inside = split3 _ (λ a b c e f g. simp zed (omega arith))
@@ -125,7 +125,7 @@ pub next-good : (lo hi s x : ℤ) → In lo hi s → In lo hi x → Good lo hi s
 unfolding nextValue
 next-good lo hi s x si (xl, xh) = test x s (Good lo hi s x) _ _
     (λ h. test lo x (Good lo hi s x) _ _ (λ l. (down lo hi x xh l, inr (h, under x))) (λ l. tt))
-    (λ h. test x hi (Good lo hi s x) _ _ (λ l. (up lo hi x xl l, inl (h, inl (over x)))) (λ l. turn-good lo hi s x si h))
+    (λ h. test x hi (Good lo hi s x) _ _ (λ l. (up lo hi x xl l, inl (h, inl (over x)))) (λ l. below-start-good lo hi s x si h))
   where
     down : (lo hi x : ℤ) → x ≤ℤ hi → lo <ℤ x → In lo hi (x -ℤ pos 1)
     down = split3 _ (λ a b c e f g. simp zed (omega arith))
@@ -141,7 +141,7 @@ next-good lo hi s x si (xl, xh) = test x s (Good lo hi s x) _ _
 
 pub segment-good : (lo hi s x : ℤ) → In lo hi s → Good lo hi s x (nextSegment lo s x)
 unfolding nextSegment
-segment-good lo hi s x si = test x s (Good lo hi s x) _ _ (λ h. tt) (λ h. turn-good lo hi s x si h)
+segment-good lo hi s x si = test x s (Good lo hi s x) _ _ (λ h. tt) (λ h. below-start-good lo hi s x si h)
 
 -- the amounts that are left: fewer than there are, and fewer later
 pub left-most : (lo hi s x : ℤ) → In lo hi s → In lo hi x → left lo hi s x ≤ natAbs (hi -ℤ lo)
@@ -289,11 +289,11 @@ abbrev pub Box : Order → ℕ → Place → Type 0
 Box t n y = Each n (λ k. In (t .lo k) (t .hi k) (y k))
 
 -- y leaves P at a level below n, for a later amount
-abbrev pub Turns : Order → ℕ → Place → Place → Type 0
-Turns t n P y = (d : ℕ) × (d < n) × Agree d P y × Later (t .start P d) (P d) (y d)
+abbrev pub Parted : Order → ℕ → Place → Place → Type 0
+Parted t n P y = (d : ℕ) × (d < n) × Agree d P y × Later (t .start P d) (P d) (y d)
 
 abbrev pub AtOrAfter : Order → Place → Place → Type 0
-AtOrAfter t P y = Agree (t .m) P y ⊎ Turns t (t .m) P y
+AtOrAfter t P y = Agree (t .m) P y ⊎ Parted t (t .m) P y
 
 -- the run from P on that goes to the end of P's segment at level d
 abbrev pub Run : Order → ℕ → Place → Place → Type 0
@@ -326,7 +326,7 @@ pub record Moved (t : Order) (P : Place) (j : ℕ) (v : ℤ) (P′ : Place) : Ty
 -- ---- a place whose levels from n on are starts comes before all that share its first n amounts
 
 module _ (t : Order) where
-  looking : (n : ℕ) (P y : Place) → Agree n P y → ((k : ℕ) → n ≤ k → k < t .m → P k ≡ t .start P k) → (i : ℕ) → i ≤ t .m → Agree i P y ⊎ Turns t i P y
+  looking : (n : ℕ) (P y : Place) → Agree n P y → ((k : ℕ) → n ≤ k → k < t .m → P k ≡ t .start P k) → (i : ℕ) → i ≤ t .m → Agree i P y ⊎ Parted t i P y
   looking n P y a s zero l = inl (λ k o. absurd (omega arith))
   looking n P y a s (suc i) l = go (looking n P y a s i (omega arith))
     where
@@ -337,7 +337,7 @@ module _ (t : Order) where
           at (yes q) = rw q e
           at (no q) = b k (omega arith)
 
-      here : Agree i P y → (P i ≡ y i) ⊎ Later (t .start P i) (P i) (y i) → Agree (suc i) P y ⊎ Turns t (suc i) P y
+      here : Agree i P y → (P i ≡ y i) ⊎ Later (t .start P i) (P i) (y i) → Agree (suc i) P y ⊎ Parted t (suc i) P y
       here b (inl e) = inl (more b e)
       here b (inr e) = inr (i, omega arith, b, e)
 
@@ -345,7 +345,7 @@ module _ (t : Order) where
       pick-level (yes o) = inl (a i o)
       pick-level (no o) = subst (λ z. (z ≡ y i) ⊎ Later (t .start P i) z (y i)) (sym (s i (omega arith) l)) (first-or-later (t .start P i) (y i))
 
-      go : Agree i P y ⊎ Turns t i P y → Agree (suc i) P y ⊎ Turns t (suc i) P y
+      go : Agree i P y ⊎ Parted t i P y → Agree (suc i) P y ⊎ Parted t (suc i) P y
       go (inl b) = here b (pick-level (decLt i n))
       go (inr (d, o, b, e)) = inr (d, omega arith, b, e)
 
@@ -365,7 +365,7 @@ Kept t P y (some r) = (P′ : Place) → Moved t P (r .0) (r .1) P′ → AtOrAf
 
 module _ {t : Order} (law : Laws t) (P y : Place) (box : Box t (t .m) y) where
   -- y leaves P above the level that moved
-  kept-above : (j : ℕ) (v : ℤ) → j ≤ t .m → Turns t j P y → (P′ : Place) → Moved t P j v P′ → AtOrAfter t P′ y
+  kept-above : (j : ℕ) (v : ℤ) → j ≤ t .m → Parted t j P y → (P′ : Place) → Moved t P j v P′ → AtOrAfter t P′ y
   kept-above j v l (d, o, a, e) P′ q = inr (
     d,
     omega arith,
@@ -392,19 +392,20 @@ module _ {t : Order} (law : Laws t) (P y : Place) (box : Box t (t .m) y) where
   or-else-here none j r l a e = absurd e
   or-else-here (some v) j r l a e = kept-here j v l a e
 
-  or-else-above : (o : Option ℤ) (j : ℕ) (r : Option (ℕ × ℤ)) → j < t .m → Turns t j P y → Kept t P y r → Kept t P y (orElse o j r)
+  or-else-above : (o : Option ℤ) (j : ℕ) (r : Option (ℕ × ℤ)) → j < t .m → Parted t j P y → Kept t P y r → Kept t P y (orElse o j r)
   or-else-above none j r l a k = k
   or-else-above (some v) j r l a k = kept-above j v (omega arith) a
 
-  pub carry-keeps : (n : ℕ) → n ≤ t .m → Turns t n P y → Kept t P y (pastPrefix t n P)
+  pub carry-keeps : (n : ℕ) → n ≤ t .m → Parted t n P y → Kept t P y (pastPrefix t n P)
   unfolding carry
   carry-keeps zero l (d, o, a, e) = omega arith
   carry-keeps (suc j) l (d, o, a, e) = go (ℕ-discrete d j) (λ w. carry-keeps j (omega arith) w)
     where
-      go : Dec (d ≡ j) → (Turns t j P y → Kept t P y (pastPrefix t j P)) → Kept t P y (pastPrefix t (suc j) P)
+      go : Dec (d ≡ j) → (Parted t j P y → Kept t P y (pastPrefix t j P)) → Kept t P y (pastPrefix t (suc j) P)
       go (yes q) ih = or-else-here (nextValue (t .lo j) (t .hi j) (t .start P j) (P j)) j (pastPrefix t j P) (omega arith) (rw q at a)
           (next-reach (t .lo j) (t .hi j) (t .start P j) (P j) (y j) (box j (omega arith)) (rw q at e))
-      go (no q) ih = or-else-above (nextValue (t .lo j) (t .hi j) (t .start P j) (P j)) j (pastPrefix t j P) (omega arith) (d, omega arith, a, e) (ih (d, omega arith, a, e))
+      go (no q) ih = or-else-above (nextValue (t .lo j) (t .hi j) (t .start P j) (P j)) j (pastPrefix t j P) (omega arith) (d, omega arith, a, e)
+          (ih (d, omega arith, a, e))
 
   -- y is in the prefix that is set aside, or is kept
   pub prefix-or-kept : (n : ℕ) → n ≤ t .m → AtOrAfter t P y → Agree n P y ⊎ Kept t P y (pastPrefix t n P)
@@ -418,7 +419,7 @@ module _ {t : Order} (law : Laws t) (P y : Place) (box : Box t (t .m) y) where
   segment-reach : (d : ℕ) → d < t .m → t .start P d ≤ℤ P d → y d <ℤ t .start P d → Reach (t .start P d) (y d) (nextSegment (t .lo d) (t .start P d) (P d))
   unfolding nextSegment
   segment-reach d l h k = test (P d) (t .start P d) (Reach (t .start P d) (y d)) _ _ (λ n. absurd (less-no (P d) (t .start P d) n h))
-      (λ n. turn-reach (t .lo d) (t .start P d) (y d) (box d l .0) k)
+      (λ n. below-start-reach (t .lo d) (t .start P d) (y d) (box d l .0) k)
 
   pub run-or-kept : (d : ℕ) → d < t .m → AtOrAfter t P y → Run t d P y ⊎ Kept t P y (pastRun t d P)
   unfolding carrySegment
@@ -431,7 +432,8 @@ module _ {t : Order} (law : Laws t) (P y : Place) (box : Box t (t .m) y) where
       at b (inr (h, k)) = inl (b, inr (h, less-le (y d) (P d) k))
 
       go : Dec (c < d) → Dec (c ≡ d) → Run t d P y ⊎ Kept t P y (pastRun t d P)
-      go (yes q) w = inr (or-else-above (nextSegment (t .lo d) (t .start P d) (P d)) d (pastPrefix t d P) l (c, q, a, e) (carry-keeps d (omega arith) (c, q, a, e)))
+      go (yes q) w = inr (or-else-above (nextSegment (t .lo d) (t .start P d) (P d)) d (pastPrefix t d P) l (c, q, a, e)
+          (carry-keeps d (omega arith) (c, q, a, e)))
       go (no q) (yes w) = at (rw w at a) (rw w at e)
       go (no q) (no w) = inl ((λ k n. a k (omega arith)), segment-same (t .start P d) (P d) (y d) (a d (omega arith)))
 
@@ -456,7 +458,8 @@ module _ {t : Order} (law : Laws t) (P : Place) (box : Box t (t .m) P) where
   start-in : (d : ℕ) → d < t .m → In (t .lo d) (t .hi d) (t .start P d)
   start-in d l = law .inside P d l (λ k o. box k (omega arith))
 
-  or-else-sound : (o : Option ℤ) (j : ℕ) (r : Option (ℕ × ℤ)) → Good (t .lo j) (t .hi j) (t .start P j) (P j) o → Sound t j P r → Sound t (suc j) P (orElse o j r)
+  or-else-sound : (o : Option ℤ) (j : ℕ) (r : Option (ℕ × ℤ)) → Good (t .lo j) (t .hi j) (t .start P j) (P j) o → Sound t j P r
+      → Sound t (suc j) P (orElse o j r)
   or-else-sound none j none g h = tt
   or-else-sound none j (some r) g h = (omega arith, h .1, h .2)
   or-else-sound (some v) j r g h = (omega arith, g .0, g .1)
@@ -469,7 +472,8 @@ module _ {t : Order} (law : Laws t) (P : Place) (box : Box t (t .m) P) where
 
   pub run-sound : (d : ℕ) → d < t .m → Sound t (suc d) P (pastRun t d P)
   unfolding carrySegment
-  run-sound d l = or-else-sound (nextSegment (t .lo d) (t .start P d) (P d)) d (pastPrefix t d P) (segment-good (t .lo d) (t .hi d) (t .start P d) (P d) (start-in d l)) (carry-sound d (omega arith))
+  run-sound d l = or-else-sound (nextSegment (t .lo d) (t .start P d) (P d)) d (pastPrefix t d P)
+      (segment-good (t .lo d) (t .hi d) (t .start P d) (P d) (start-in d l)) (carry-sound d (omega arith))
 
   module _ (j : ℕ) (v : ℤ) (j-in : j < t .m) (v-in : In (t .lo j) (t .hi j) v) (P′ : Place) (q : Moved t P j v P′) where
     -- the new place is in the box
@@ -498,7 +502,12 @@ module _ {t : Order} (law : Laws t) (P : Place) (box : Box t (t .m) P) where
 
     falls-deeper : (n : ℕ) → j < n → n < t .m → rank t n P′ < rank t n P → rank t (suc n) P′ < rank t (suc n) P
     unfolding rank
-    falls-deeper n o l h = omega (arith, mul-le-mul-right (width t n) h, left-most (t .lo n) (t .hi n) (t .start P′ n) (P′ n) (law .inside P′ n l (moved-box n (omega arith))) (moved-box (suc n) l n (omega arith)))
+    falls-deeper n o l h =
+        omega (
+          arith,
+          mul-le-mul-right (width t n) h,
+          left-most (t .lo n) (t .hi n) (t .start P′ n) (P′ n) (law .inside P′ n l (moved-box n (omega arith))) (moved-box (suc n) l n (omega arith)),
+        )
 
     falling : Later (t .start P j) (P j) v → (n : ℕ) → j < n → n ≤ t .m → rank t n P′ < rank t n P
     falling e zero o l = absurd (omega arith)
@@ -512,11 +521,14 @@ module _ {t : Order} (law : Laws t) (P : Place) (box : Box t (t .m) P) where
     falls e = falling e (t .m) j-in (omega arith)
 
 -- what a step's move gives, whatever place has it: the place is in the box, and the measure falls
-pub move-falls : {t : Order} (law : Laws t) (P : Place) → Box t (t .m) P → (n : ℕ) → n ≤ t .m → (r : ℕ × ℤ) → Sound t n P (some r) → (P′ : Place) → Moved t P (r .0) (r .1) P′ → Box t (t .m) P′ × (μ t P′ < μ t P)
-move-falls {t} law P box n l r h P′ q = (moved-box law P box (r .0) (r .1) (omega arith) (h .1) P′ q (t .m) (omega arith), falls law P box (r .0) (r .1) (omega arith) (h .1) P′ q (h .2))
+pub move-falls : {t : Order} (law : Laws t) (P : Place) → Box t (t .m) P → (n : ℕ) → n ≤ t .m → (r : ℕ × ℤ) → Sound t n P (some r) → (P′ : Place)
+    → Moved t P (r .0) (r .1) P′ → Box t (t .m) P′ × (μ t P′ < μ t P)
+move-falls {t} law P box n l r h P′ q =
+    (moved-box law P box (r .0) (r .1) (omega arith) (h .1) P′ q (t .m) (omega arith), falls law P box (r .0) (r .1) (omega arith) (h .1) P′ q (h .2))
 
--- the new place, and all at or after it, is after the old
-pub after-moved : {t : Order} (law : Laws t) (P : Place) (n : ℕ) → n ≤ t .m → (r : ℕ × ℤ) → Sound t n P (some r) → (P′ y : Place) → Moved t P (r .0) (r .1) P′ → AtOrAfter t P′ y → Turns t (t .m) P y
+-- End theorem: a move goes forward. The new place, and all at or after it, come after the old one.
+pub after-moved : {t : Order} (law : Laws t) (P : Place) (n : ℕ) → n ≤ t .m → (r : ℕ × ℤ) → Sound t n P (some r) → (P′ y : Place) → Moved t P (r .0) (r .1) P′
+    → AtOrAfter t P′ y → Parted t (t .m) P y
 after-moved {t} law P n l (j, v) (jn, vi, e) P′ y q w = go w
   where
     s-same : (d : ℕ) → d ≤ j → t .start P′ d ≡ t .start P d
@@ -525,29 +537,28 @@ after-moved {t} law P n l (j, v) (jn, vi, e) P′ y q w = go w
     agree : (d : ℕ) → d ≤ j → Agree d P′ y → Agree d P y
     agree d o a k p = q .above k (omega arith) ∙ a k p
 
-    here : Agree j P′ y → v ≡ y j → Turns t (t .m) P y
+    here : Agree j P′ y → v ≡ y j → Parted t (t .m) P y
     here a x = (j, omega arith, agree j (omega arith) a, subst (Later (t .start P j) (P j)) x e)
 
-    go : AtOrAfter t P′ y → Turns t (t .m) P y
+    go : AtOrAfter t P′ y → Parted t (t .m) P y
     go (inl a) = here (λ k o. a k (omega arith)) (sym (q .here) ∙ a j (omega arith))
     go (inr (d, o, a, f)) = at (decLt d j) (ℕ-discrete d j)
       where
-        at : Dec (d < j) → Dec (d ≡ j) → Turns t (t .m) P y
+        at : Dec (d < j) → Dec (d ≡ j) → Parted t (t .m) P y
         at (yes x) z = (d, o, agree d (omega arith) a, subst₂ (λ s x. Later s x (y d)) (s-same d (omega arith)) (sym (q .above d x)) f)
         at (no x) (yes z) = (
           j,
           omega arith,
           agree j (omega arith) (rw z at a),
-          later-trans (t .start P j) (P j) v (y j) e
-              (subst₂ (λ s x. Later s x (y j)) (s-same j (omega arith)) (q .here) (rw z at f)),
+          later-trans (t .start P j) (P j) v (y j) e (subst₂ (λ s x. Later s x (y j)) (s-same j (omega arith)) (q .here) (rw z at f)),
         )
         at (no x) (no z) = here (λ k p. a k (omega arith)) (sym (q .here) ∙ a j (omega arith))
 
--- ---- of two places one comes first: `Turns t m B P` says that B is an earlier place than P
+-- ---- of two places one comes first: `Parted t m B P` says that B is an earlier place than P
 
 module _ {t : Order} (law : Laws t) where
-  -- an earlier place is not to come
-  pub earlier-not : (B P : Place) → Turns t (t .m) B P → ¬ AtOrAfter t P B
+  -- End theorem: an earlier place is not to come.
+  pub earlier-not : (B P : Place) → Parted t (t .m) B P → ¬ AtOrAfter t P B
   earlier-not B P (d, o, a, e) (inl b) = later-not (t .start B d) (B d) (P d) e (inl (sym (b d o)))
   earlier-not B P (d, o, a, e) (inr (c, p, b, f)) = go (decLt c d) (decLt d c)
     where
@@ -559,11 +570,12 @@ module _ {t : Order} (law : Laws t) where
       go (no q) (yes w) = later-not (t .start B d) (B d) (P d) e (inl (sym (b d w)))
       go (no q) (no w) = later-not (t .start B d) (B d) (P d) e (inr (here (omega arith)))
 
-  comparing : (P y : Place) (i : ℕ) → i ≤ t .m → Agree i P y ⊎ (Turns t i P y ⊎ Turns t i y P)
+  comparing : (P y : Place) (i : ℕ) → i ≤ t .m → Agree i P y ⊎ (Parted t i P y ⊎ Parted t i y P)
   comparing P y zero l = inl (λ k o. absurd (omega arith))
   comparing P y (suc i) l = go (comparing P y i (omega arith))
     where
-      here : Agree i P y → (P i ≡ y i) ⊎ (Later (t .start P i) (P i) (y i) ⊎ Later (t .start P i) (y i) (P i)) → Agree (suc i) P y ⊎ (Turns t (suc i) P y ⊎ Turns t (suc i) y P)
+      here : Agree i P y → (P i ≡ y i) ⊎ (Later (t .start P i) (P i) (y i) ⊎ Later (t .start P i) (y i) (P i)) → Agree (suc i) P y
+          ⊎ (Parted t (suc i) P y ⊎ Parted t (suc i) y P)
       here b (inl e) = inl (λ k o. at k o (ℕ-discrete k i))
         where
           at : (k : ℕ) → k < suc i → Dec (k ≡ i) → P k ≡ y k
@@ -572,15 +584,16 @@ module _ {t : Order} (law : Laws t) where
       here b (inr (inl e)) = inr (inl (i, omega arith, b, e))
       here b (inr (inr e)) = inr (inr (i, omega arith, (λ k o. sym (b k o)), rw (law .by-prefix P y i b) at e))
 
-      go : Agree i P y ⊎ (Turns t i P y ⊎ Turns t i y P) → Agree (suc i) P y ⊎ (Turns t (suc i) P y ⊎ Turns t (suc i) y P)
+      go : Agree i P y ⊎ (Parted t i P y ⊎ Parted t i y P) → Agree (suc i) P y ⊎ (Parted t (suc i) P y ⊎ Parted t (suc i) y P)
       go (inl b) = here b (later-total (t .start P i) (P i) (y i))
       go (inr (inl (d, o, b, e))) = inr (inl (d, omega arith, b, e))
       go (inr (inr (d, o, b, e))) = inr (inr (d, omega arith, b, e))
 
-  pub compare-places : (P y : Place) → AtOrAfter t P y ⊎ Turns t (t .m) y P
+  -- End theorem: of two places the one is at or after the other, or before it.
+  pub compare-places : (P y : Place) → AtOrAfter t P y ⊎ Parted t (t .m) y P
   compare-places P y = go (comparing P y (t .m) (omega arith))
     where
-      go : Agree (t .m) P y ⊎ (Turns t (t .m) P y ⊎ Turns t (t .m) y P) → AtOrAfter t P y ⊎ Turns t (t .m) y P
+      go : Agree (t .m) P y ⊎ (Parted t (t .m) P y ⊎ Parted t (t .m) y P) → AtOrAfter t P y ⊎ Parted t (t .m) y P
       go (inl a) = inl (inl a)
       go (inr (inl a)) = inl (inr a)
       go (inr (inr a)) = inr a
@@ -668,15 +681,13 @@ module _ {t : Order} (law : Laws t) (S : Place → Type 0) where
 
   -- a prefix of n levels is set aside (a domination pair)
   pub skip-prefix : (P : Place) (n : ℕ) → n ≤ t .m → ((y : Place) → Box t (t .m) y → Agree n P y → S y) → Covers t S P → Leaves t S P (pastPrefix t n P)
-  skip-prefix P n l s c = leaves P (pastPrefix t n P) (λ y b. ⊎-elim (λ w. inl w) (λ w. ⊎-elim (λ a. inl (s y b a)) (λ k. inr k) (prefix-or-kept law P y b n l w)) (c y b))
-
-  -- the place P itself is tried
-  pub try-leaf : (P : Place) → ((y : Place) → Box t (t .m) y → Agree (t .m) P y → S y) → Covers t S P → Leaves t S P (pastPrefix t (t .m) P)
-  try-leaf P s c = skip-prefix P (t .m) (omega arith) s c
+  skip-prefix P n l s c =
+      leaves P (pastPrefix t n P) (λ y b. ⊎-elim (λ w. inl w) (λ w. ⊎-elim (λ a. inl (s y b a)) (λ k. inr k) (prefix-or-kept law P y b n l w)) (c y b))
 
   -- a run is set aside (a bound on its hull)
   pub skip-run : (P : Place) (d : ℕ) → d < t .m → ((y : Place) → Box t (t .m) y → Run t d P y → S y) → Covers t S P → Leaves t S P (pastRun t d P)
-  skip-run P d l s c = leaves P (pastRun t d P) (λ y b. ⊎-elim (λ w. inl w) (λ w. ⊎-elim (λ a. inl (s y b a)) (λ k. inr k) (run-or-kept law P y b d l w)) (c y b))
+  skip-run P d l s c = leaves P (pastRun t d P) (λ y b. ⊎-elim (λ w. inl w) (λ w. ⊎-elim (λ a. inl (s y b a)) (λ k. inr k) (run-or-kept law P y b d l w))
+      (c y b))
 
 -- the incumbent got better: what was settled stays so
 pub covers-mono : (t : Order) (S S′ : Place → Type 0) (P : Place) → ((y : Place) → S y → S′ y) → Covers t S P → Covers t S′ P

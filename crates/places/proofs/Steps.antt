@@ -3,7 +3,7 @@
 -- moved-at, moved-done: an answer read back.
 --   Settles t w P S   all that the verdict w covers is settled
 --   Goes t S P r      a step's end, or that the invariant holds at the new place and the measure fell
-use mathlib.Core.Path.{_≡_, refl, ap}
+use mathlib.Core.Path.{_≡_, refl}
 use mathlib.Core.Option.{Option, none, some}
 use Prim.Native.Nat.{ℕ, zero, suc, _-_, _≤_, _<_}
 use native.Mathlib.Numerals.{sub-one}
@@ -15,13 +15,15 @@ use Rattle.places.specs.declared.Moved.the-variants.{Done, At}
 use Rattle.places.specs.declared.Settled.{Settled}
 use Rattle.places.specs.declared.Settled.the-variants.{Run, Prefix}
 use Rattle.places.specs.Moves.{nextValue, nextSegment, orElse, carry, carrySegment, nextOf, movedOf, SettledIn, pastOf}
-use Rattle.places.proofs.Places.{Place, Order, Laws, Box, Agree, Moved, Covers, All, Leaves, Sound, carry-cong, segment-cong, pastPrefix, pastRun, μ, skip-prefix, skip-run, carry-sound, run-sound, move-falls}
+use Rattle.places.proofs.Places.{Place, Order, Laws, Box, Agree, Moved, Covers, All, Leaves, Sound, carry-cong, segment-cong, pastPrefix, pastRun, μ}
+use Rattle.places.proofs.Places.{skip-prefix, skip-run, carry-sound, run-sound, move-falls}
 use Rattle.places.proofs.Places.{Run as RunOf}
 
 -- ---- how the walk up the levels goes, as the loop has it
 
 -- level j - 1 has a next amount v
-pub carry-here : (lo hi s x : ℕ → ℤ) (j : ℕ) (v : ℤ) → 0 < j → Amount v ≡ nextOf (nextValue (lo (j - 1)) (hi (j - 1)) (s (j - 1)) (x (j - 1))) → At (j - 1) v ≡ movedOf (carry lo hi s x j)
+pub carry-here : (lo hi s x : ℕ → ℤ) (j : ℕ) (v : ℤ) → 0 < j → Amount v ≡ nextOf (nextValue (lo (j - 1)) (hi (j - 1)) (s (j - 1)) (x (j - 1)))
+    → At (j - 1) v ≡ movedOf (carry lo hi s x j)
 unfolding carry
 carry-here lo hi s x zero v l e = absurd (omega arith)
 carry-here lo hi s x (suc i) v l e = rw (sub-one (suc i)) (go (nextValue (lo i) (hi i) (s i) (x i)) (rw (sub-one (suc i)) at e))
@@ -31,7 +33,8 @@ carry-here lo hi s x (suc i) v l e = rw (sub-one (suc i)) (go (nextValue (lo i) 
     go (some u) h = cc
 
 -- level j - 1 has none
-pub carry-on : (lo hi s x : ℕ → ℤ) (j : ℕ) → 0 < j → Nothing ≡ nextOf (nextValue (lo (j - 1)) (hi (j - 1)) (s (j - 1)) (x (j - 1))) → carry lo hi s x j ≡ carry lo hi s x (j - 1)
+pub carry-on : (lo hi s x : ℕ → ℤ) (j : ℕ) → 0 < j → Nothing ≡ nextOf (nextValue (lo (j - 1)) (hi (j - 1)) (s (j - 1)) (x (j - 1)))
+    → carry lo hi s x j ≡ carry lo hi s x (j - 1)
 unfolding carry
 carry-on lo hi s x zero l e = absurd (omega arith)
 carry-on lo hi s x (suc i) l e = rw (sub-one (suc i)) (go (nextValue (lo i) (hi i) (s i) (x i)) (rw (sub-one (suc i)) at e))
@@ -52,7 +55,8 @@ segment-here lo hi s x d v e = go (nextSegment (lo d) (s d) (x d)) e
     go none h = let z : _≡_ {A = ℕ} 0 1 = cc in absurd (omega arith)
     go (some u) h = cc
 
-pub segment-on : (lo hi s x : ℕ → ℤ) (d : ℕ) → Nothing ≡ nextOf (nextSegment (lo d) (s d) (x d)) → movedOf (carry lo hi s x d) ≡ movedOf (carrySegment lo hi s x d)
+pub segment-on : (lo hi s x : ℕ → ℤ) (d : ℕ) → Nothing ≡ nextOf (nextSegment (lo d) (s d) (x d))
+    → movedOf (carry lo hi s x d) ≡ movedOf (carrySegment lo hi s x d)
 unfolding carrySegment
 segment-on lo hi s x d e = go (nextSegment (lo d) (s d) (x d)) e
   where
@@ -69,37 +73,11 @@ pub moved-done : (o : Option (ℕ × ℤ)) → Done ≡ movedOf o → o ≡ none
 moved-done none h = refl
 moved-done (some r) h = let z : _≡_ {A = ℕ} 0 1 = cc in absurd (omega arith)
 
-abbrev levelOf : Option (ℕ × ℤ) → ℕ
-levelOf none = 0
-levelOf (some r) = r .0
-
--- the level that moves is one of those asked about
-pub carry-below : (lo hi s x : ℕ → ℤ) (n j : ℕ) (v : ℤ) → carry lo hi s x n ≡ some (j, v) → j < n
-unfolding carry
-carry-below lo hi s x zero j v h = let z : _≡_ {A = ℕ} 0 1 = cc in absurd (omega arith)
-carry-below lo hi s x (suc i) j v h = go (nextValue (lo i) (hi i) (s i) (x i)) h (λ k. carry-below lo hi s x i j v k)
-  where
-    go : (o : Option ℤ) → orElse o i (carry lo hi s x i) ≡ some (j, v) → (carry lo hi s x i ≡ some (j, v) → j < i) → j < suc i
-    go none e ih = omega (arith, ih e)
-    go (some u) e ih = let q : i ≡ j = ap levelOf e in omega arith
-
-pub segment-below : (lo hi s x : ℕ → ℤ) (d j : ℕ) (v : ℤ) → carrySegment lo hi s x d ≡ some (j, v) → j < suc d
-unfolding carrySegment
-segment-below lo hi s x d j v h = go (nextSegment (lo d) (s d) (x d)) h
-  where
-    go : (o : Option ℤ) → orElse o d (carry lo hi s x d) ≡ some (j, v) → j < suc d
-    go none e = omega (arith, carry-below lo hi s x d j v e)
-    go (some u) e = let q : d ≡ j = ap levelOf e in omega arith
-
 -- ---- the moves look at the levels of the verdict alone
 
 pub past-cong : (w : Settled) (m : ℕ) (lo hi s s′ x : ℕ → ℤ) → SettledIn m w → Each m (λ k. s k ≡ s′ k) → pastOf w lo hi s x ≡ pastOf w lo hi s′ x
 past-cong (Run d) m lo hi s s′ x l h = segment-cong lo hi s s′ x x d (λ k o. (h k (omega arith), refl))
 past-cong (Prefix n) m lo hi s s′ x l h = carry-cong lo hi s s′ x x n (λ k o. (h k (omega arith), refl))
-
-pub past-below : (w : Settled) (m : ℕ) (lo hi s x : ℕ → ℤ) (j : ℕ) (v : ℤ) → SettledIn m w → pastOf w lo hi s x ≡ some (j, v) → j < m
-past-below (Run d) m lo hi s x j v l h = omega (arith, segment-below lo hi s x d j v h)
-past-below (Prefix n) m lo hi s x j v l h = omega (arith, carry-below lo hi s x n j v h)
 
 -- ---- what a step does to the search's invariant
 

@@ -1,8 +1,13 @@
 -- Moves between places: at each level the amounts lo .. hi are visited s, s + 1, .., hi, s - 1, s - 2, .., lo, from a start s.
+--   at l k                 an entry of a list; 0 beyond its end
+--   belowStart lo s        the first amount of the run down
 --   nextValue lo hi s x    the amount after x at a level
 --   nextSegment lo s x     the first amount after the run of x (up from the start, or down from below it)
+--   orElse o j r           the amount o at level j, or r where there is none
 --   carry lo hi s x n      the deepest level below n that has a next amount, and that amount: past every place with x's first n amounts
 --   carrySegment … d       the same past what is left of the run at level d
+--   nextOf, movedOf        these as the enums of the code
+--   SettledIn m w          what a look has settled is within m levels
 --   pastOf w …             past what a look has settled: a run, or a prefix
 use mathlib.Core.Bool.{cond}
 use mathlib.Core.List.{List}
@@ -22,16 +27,16 @@ abbrev pub at : List ℤ → ℕ → ℤ
 at xs k = getD xs k (pos 0)
 
 -- the first of the run down
-unfoldable pub turn : (lo s : ℤ) → Option ℤ
-turn lo s = cond (ltZ lo s) (some (s -ℤ pos 1)) none
+unfoldable pub belowStart : (lo s : ℤ) → Option ℤ
+belowStart lo s = cond (ltZ lo s) (some (s -ℤ pos 1)) none
 
 -- the amount after x
 unfoldable pub nextValue : (lo hi s x : ℤ) → Option ℤ
-nextValue lo hi s x = cond (ltZ x s) (cond (ltZ lo x) (some (x -ℤ pos 1)) none) (cond (ltZ x hi) (some (x +ℤ pos 1)) (turn lo s))
+nextValue lo hi s x = cond (ltZ x s) (cond (ltZ lo x) (some (x -ℤ pos 1)) none) (cond (ltZ x hi) (some (x +ℤ pos 1)) (belowStart lo s))
 
 -- the first amount after the run of x
 unfoldable pub nextSegment : (lo s x : ℤ) → Option ℤ
-nextSegment lo s x = cond (ltZ x s) none (turn lo s)
+nextSegment lo s x = cond (ltZ x s) none (belowStart lo s)
 
 abbrev pub orElse : Option ℤ → ℕ → Option (ℕ × ℤ) → Option (ℕ × ℤ)
 orElse none j r = r

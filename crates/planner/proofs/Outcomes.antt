@@ -13,24 +13,24 @@ use lib.Dec.{ltb, eqb}
 use lib.IntN.{ℤ, pos, natAbs, _+ℤ_, _-ℤ_, _*ℤ_}
 use lib.Signed.{_≤ℤ_, _<ℤ_, ltZ}
 use borrow.Author.Tests.{lt-ltb, le-ltb, ltb-true, eqb-true}
+use Rattle.arith.specs.Limits.{farthest}
 use Rattle.arith.specs.Within.{Within}
 use Rattle.arith.specs.Gcd.{Divides, lowest}
 use Rattle.arith.specs.declared.Fraction.{Fraction}
 use Rattle.arith.specs.declared.Mixed.{Mixed}
 use Rattle.arith.proofs.Divisors.{lowest-den, lowest-coprime}
 use Rattle.arith.proofs.Fractions.{over-total, over-≈}
-use Rattle.arith.proofs.Integers.{split, split2, zed}
+use Rattle.arith.proofs.Integers.{split, split2, zed, diff-≤ℤ}
 use Rattle.arith.proofs.Mixes.{over}
 use Rattle.arith.proofs.Parts.{within-mul, within-abs, abs-within, lt-le}
 use Rattle.arith.proofs.Sums.{sum-cong}
 use Rattle.arith.proofs.Words.{lt-yes, le-no}
-use Rattle.amounts.specs.Amounts.{numerator}
+use Rattle.greedy.specs.Fill.{numerator, at, weightOf, priceOf, itemOf, rankOf, lightest, lightOf, cornerWeight, begun, bound, unit, stand, solution}
 use Rattle.greedy.specs.declared.Columns.{Columns}
 use Rattle.greedy.specs.declared.Ends.{Ends}
 use Rattle.greedy.specs.declared.Fill.{Fill}
-use Rattle.greedy.specs.Fill.{at, weightOf, priceOf, itemOf, rankOf, lightest, lightOf, cornerWeight, begun, bound, unit, stand, solution}
 use Rattle.greedy.specs.Ordered.{Ordered}
-use Rattle.knapsack.specs.Records.{itemAt, InRange}
+use Rattle.knapsack.specs.Ranges.{itemAt, InRange}
 use Rattle.knapsack.specs.Meaning.{Instance, instanceOf, amountAt, pointOf, weights, prices, Infeasible, Shown, bare, Answers}
 use Rattle.knapsack.specs.declared.Answer.{Answer}
 use Rattle.knapsack.specs.declared.Item.{Item}
@@ -46,9 +46,9 @@ use Rattle.rays.specs.declared.RayReply.{RayReply}
 use Rattle.rays.specs.Rays.{RayFound}
 use Rattle.rays.proofs.Corner.{LightCorner, ranges-of, corner-feasible, corner-infeasible, corner-shown, corner-unbounded}
 use Rattle.search.specs.declared.Incumbent.{Incumbent}
-use Rattle.search.specs.declared.Setting.{Setting}
-use Rattle.search.specs.Ready.{Searched}
-use Rattle.search.proofs.Boxes.{between}
+use Rattle.setting.specs.declared.Setting.{Setting}
+use Rattle.search.specs.Searched.{Searched}
+use Rattle.setting.proofs.Boxes.{between}
 use Rattle.planner.specs.Outcomes.{unfilled, Cornered, boxAt, fillAt, valueAt, Best}
 use Rattle.planner.proofs.Terms.{over-lowest, lowest-one, lowest-whole, lowest-divides, lowest-small}
 
@@ -70,13 +70,16 @@ light-flat a c l u h = rw h (go (ltZ (pos 0) c))
 -- ---- amounts of a filling
 
 -- an amount is whole, unless its item is the critical one
-whole-or-critical : (c : Columns) (e : Ends) (f : Fill) (q k : ℕ) → (numerator c e f q k ≡ stand c e (f .at) k *ℤ pos q) ⊎ ((rankOf c k ≡ f .at) × (f .at < c .live))
+whole-or-critical : (c : Columns) (e : Ends) (f : Fill) (q k : ℕ) → (numerator c e f q k ≡ stand c e (f .at) k *ℤ pos q)
+    ⊎ ((rankOf c k ≡ f .at) × (f .at < c .live))
 whole-or-critical c e f q k = go (ltb (f .at) (c .live)) (eqb (rankOf c k) (f .at)) refl refl
   where
     none : (x : ℤ) → x +ℤ pos 0 ≡ x
     none = split _ (λ a b. simp zed (omega arith))
 
-    go : (b t : Bool) → ltb (f .at) (c .live) ≡ b → eqb (rankOf c k) (f .at) ≡ t → (stand c e (f .at) k *ℤ pos q +ℤ cond b (cond t (unit (weightOf c k) *ℤ f .room) (pos 0)) (pos 0) ≡ stand c e (f .at) k *ℤ pos q) ⊎ ((rankOf c k ≡ f .at) × (f .at < c .live))
+    go : (b t : Bool) → ltb (f .at) (c .live) ≡ b → eqb (rankOf c k) (f .at) ≡ t
+        → (stand c e (f .at) k *ℤ pos q +ℤ cond b (cond t (unit (weightOf c k) *ℤ f .room) (pos 0)) (pos 0) ≡ stand c e (f .at) k *ℤ pos q)
+        ⊎ ((rankOf c k ≡ f .at) × (f .at < c .live))
     go false t x y = inl (none (stand c e (f .at) k *ℤ pos q))
     go true false x y = inl (none (stand c e (f .at) k *ℤ pos q))
     go true true x y = inr (eqb-true (rankOf c k) (f .at) y, ltb-true (f .at) (c .live) x)
@@ -84,9 +87,10 @@ whole-or-critical c e f q k = go (ltb (f .at) (c .live)) (eqb (rankOf c k) (f .a
 -- the divisor of a filling that ends at a live rank is that item's weight
 parts-critical : (c : Columns) (f : Fill) → Ordered c → (k : ℕ) → k < c .count → rankOf c k ≡ f .at → f .at < c .live → bound c f .parts ≡ natAbs (weightOf c k)
 unfolding bound
-parts-critical c f o k l r h = rw (lt-ltb (f .at) (c .live) h, o .sizes (f .at) h) (ap (λ (j : ℕ). natAbs (weightOf c j)) (ap (itemOf c) (sym r) ∙ o .item-rank k l))
+parts-critical c f o k l r h =
+    rw (lt-ltb (f .at) (c .live) h, o .sizes (f .at) h) (ap (λ (j : ℕ). natAbs (weightOf c j)) (ap (itemOf c) (sym r) ∙ o .item-rank k l))
 
-near-zero : (l u n : ℤ) (q : ℕ) → Within 300000000 l → Within 300000000 u → (l *ℤ pos q) ≤ℤ n → n ≤ℤ (u *ℤ pos q) → natAbs n ≤ 300000000 * q
+near-zero : (l u n : ℤ) (q : ℕ) → Within farthest l → Within farthest u → (l *ℤ pos q) ≤ℤ n → n ≤ℤ (u *ℤ pos q) → natAbs n ≤ farthest * q
 near-zero l u n q hl hu low high = within-abs n (between (l *ℤ pos q) (u *ℤ pos q) n (within-mul hl own) (within-mul hu own) low high)
   where
     own : Within q (pos q)
@@ -124,7 +128,8 @@ module _ (p : Problem) (range : InRange p) (s : Setting) (q : Prepared p s) wher
   }
 
   corner-weighs : cornerWeight (s .cols) (s .ends) (s .cols .count) ≡ weighsᴰ I light
-  corner-weighs = ap (cornerWeight (s .cols) (s .ends)) (q .count) ∙ sum-cong (p .count) (λ k. weightOf c k *ℤ light k) (λ k. weights I k *ℤ light k) (λ k l. ap (λ z. z *ℤ light k) (q .weights k l))
+  corner-weighs = ap (cornerWeight (s .cols) (s .ends)) (q .count) ∙ sum-cong (p .count) (λ k. weightOf c k *ℤ light k) (λ k. weights I k *ℤ light k)
+      (λ k l. ap (λ z. z *ℤ light k) (q .weights k l))
 
   room-is : begun (s .cols) (s .ends) .room ≡ p .capacity -ℤ weighsᴰ I light
   room-is = ap₂ _-ℤ_ (q .capacity) corner-weighs
@@ -136,10 +141,7 @@ module _ (p : Problem) (range : InRange p) (s : Setting) (q : Prepared p s) wher
       less = split2 _ (λ a b c e. simp zed (omega arith))
 
   corner-fits : pos 0 ≤ℤ begun (s .cols) (s .ends) .room → weighsᴰ I light ≤ℤ p .capacity
-  corner-fits h = more (p .capacity) (weighsᴰ I light) (rw room-is at h)
-    where
-      more : (b w : ℤ) → pos 0 ≤ℤ (b -ℤ w) → w ≤ℤ b
-      more = split2 _ (λ a b c e. simp zed (omega arith))
+  corner-fits h = diff-≤ℤ (p .capacity) (weighsᴰ I light) (rw room-is at h)
 
   pub corner-feasible-at : pos 0 ≤ℤ begun (s .cols) (s .ends) .room → Feasibleᴰ I 1 light
   corner-feasible-at h = corner-feasible I (ranges-of p range) lo hi light corner (corner-fits h)
@@ -166,10 +168,12 @@ module _ (p : Problem) (range : InRange p) (s : Setting) (q : Prepared p s) wher
   corner-reads : (d : List ℤ) (a : Answer) → Cornered s d a → Reads I 1 (pointOf a) light
   corner-reads d a h k l = rw (corner-amount d a h k l) (record { eq = refl })
 
-  pub unbounded-corner : (r : RayReply) (a : Answer) → pos 0 ≤ℤ begun (s .cols) (s .ends) .room → RayFound p r → r .found ≡ true → Cornered s (r .steps) a → Answers I a
+  pub unbounded-corner : (r : RayReply) (a : Answer) → pos 0 ≤ℤ begun (s .cols) (s .ends) .room → RayFound p r → r .found ≡ true → Cornered s (r .steps) a
+      → Answers I a
   unbounded-corner r a fits found y h = rw (h .kind-is) (record {
     unbounded = rw (h .steps-are) (corner-unbounded p r lo hi light (pointOf a) range found y corner (corner-reads (r .steps) a h) (corner-fits fits));
-    shown = corner-shown I (ranges-of p range) lo hi light corner (amountAt a) (corner-amount (r .steps) a h) (λ k l. h .point-is .beyond k (omega (arith, q .count)));
+    shown = corner-shown I (ranges-of p range) lo hi light corner (amountAt a) (corner-amount (r .steps) a h)
+        (λ k l. h .point-is .beyond k (omega (arith, q .count)));
     steps = rw (h .steps-are) (found .small);
     endless = h .value-is;
   })
@@ -219,8 +223,9 @@ module _ (p : Problem) (range : InRange p) (s : Setting) (q : PreparedAt (spanOf
     best-value : valueᴰ J N ≡ over (valueAt s (b .place))
     best-value = sym (box-is-shut p s q D N .1) ∙ g .value-is y (λ k. itemAt p k .mark) (q .marked) ∙ ap over (g .parts-are y)
 
-    amount-small : (k : ℕ) → k < p .count → natAbs (N k) ≤ 300000000 * D
-    amount-small k l = near-zero (at (s .ends .lo) k) (at (s .ends .hi) k) (N k) D (q .ready .sized .ends .lo-in k) (q .ready .sized .ends .hi-in k) (best-box .feasible .keeps k (in-near k l) .above) (best-box .feasible .keeps k (in-near k l) .below)
+    amount-small : (k : ℕ) → k < p .count → natAbs (N k) ≤ farthest * D
+    amount-small k l = near-zero (at (s .ends .lo) k) (at (s .ends .hi) k) (N k) D (q .ready .sized .ends .lo-in k) (q .ready .sized .ends .hi-in k)
+        (best-box .feasible .keeps k (in-near k l) .above) (best-box .feasible .keeps k (in-near k l) .below)
 
     module _ (a : Answer) (h : Best s (b .place) a) where
       shows : (k : ℕ) → k < p .count → amountAt a k ≡ lowest (N k) D
@@ -241,8 +246,11 @@ module _ (p : Problem) (range : InRange p) (s : Setting) (q : PreparedAt (spanOf
         small = λ k l. rw (shows k l) (lowest-small (N k) D D≥1 (amount-small k l));
         divisor = λ k l. rw (shows k l) (lowest-den (N k) D D≥1);
         lowest = λ k l. rw (shows k l) (lowest-coprime (N k) D D≥1);
-        single = λ j k l m nj nk. sym (q .ready .ordered .item-rank j (in-near j l)) ∙ ap (itemOf d) (critical j l nj .0 ∙ sym (critical k m nk .0)) ∙ q .ready .ordered .item-rank k (in-near k m);
-        divides = λ k l n. subst₂ Divides (ap (λ (z : Fraction). z .q) (sym (shows k l))) (parts-critical (s .cols) f (q .ready .ordered) k (in-near k l) (critical k l n .0) (critical k l n .1) ∙ ap natAbs (q .weights k l)) (lowest-divides (N k) D D≥1);
+        single = λ j k l m nj nk. sym (q .ready .ordered .item-rank j (in-near j l)) ∙ ap (itemOf d) (critical j l nj .0 ∙ sym (critical k m nk .0))
+            ∙ q .ready .ordered .item-rank k (in-near k m);
+        divides = λ k l n. subst₂ Divides (ap (λ (z : Fraction). z .q) (sym (shows k l)))
+            (parts-critical (s .cols) f (q .ready .ordered) k (in-near k l) (critical k l n .0) (critical k l n .1) ∙ ap natAbs (q .weights k l))
+            (lowest-divides (N k) D D≥1);
         beyond = λ k l. h .point-is .beyond k (omega (arith, q .count));
       }
 
@@ -250,7 +258,8 @@ module _ (p : Problem) (range : InRange p) (s : Setting) (q : PreparedAt (spanOf
       optimal-found r ray n = rw (h .kind-is) (record {
         optimal = bridge-optimal J D (pointOf a) N D≥1 reads (near-optimal p range (ray .none n) D N (box-optimal p s q D N best-box));
         shown = shown;
-        exact = rw (h .value-is) (over-≈ (over-lowest (over (valueAt s (b .place))) D D≥1) (over-total D (p .count) (pointOf a) N reads (prices J)) D≥1 (sym best-value));
+        exact = rw (h .value-is) (over-≈ (over-lowest (over (valueAt s (b .place))) D D≥1) (over-total D (p .count) (pointOf a) N reads (prices J)) D≥1
+            (sym best-value));
         divisor = rw (h .value-is) (lowest-den (over (valueAt s (b .place))) D D≥1);
         lowest = rw (h .value-is) (lowest-coprime (over (valueAt s (b .place))) D D≥1);
         still = h .steps-are;

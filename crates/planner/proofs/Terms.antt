@@ -9,6 +9,7 @@ use native.Mathlib.Omega.{arith}
 use native.Mathlib.Decide.{decLt}
 use native.Mathlib.Nat.{mul-le-mul-right, mul-div-cancel, mul-comm}
 use lib.IntN.{ℤ, pos, natAbs, _*ℤ_}
+use Rattle.arith.specs.Limits.{farthest}
 use Rattle.arith.specs.Fractions.{frac}
 use Rattle.arith.specs.Gcd.{Divides, gcdOf, lowest}
 use Rattle.arith.specs.declared.Fraction.{Fraction}
@@ -27,7 +28,8 @@ numerator-whole n q h = times-≡-back q _ _ h (lowest-value (n *ℤ pos q) q h 
     swap = split _ (λ a b q d. simp zed (omega arith))
 
 pub lowest-whole : (n : ℤ) (q : ℕ) → 1 ≤ q → lowest (n *ℤ pos q) q .q ≡ 1
-lowest-whole n q h = gcd-unique (natAbs (lowest (n *ℤ pos q) q .p)) (lowest (n *ℤ pos q) q .q) _ 1 own (subst (IsGcd _ _) (lowest-coprime (n *ℤ pos q) q h) (gcd-is _ _))
+lowest-whole n q h = gcd-unique (natAbs (lowest (n *ℤ pos q) q .p)) (lowest (n *ℤ pos q) q .q) _ 1 own
+    (subst (IsGcd _ _) (lowest-coprime (n *ℤ pos q) q h) (gcd-is _ _))
   where
     own : IsGcd (natAbs (lowest (n *ℤ pos q) q .p)) (lowest (n *ℤ pos q) q .q) (lowest (n *ℤ pos q) q .q)
     own = record {
@@ -52,12 +54,13 @@ lowest-divides n q h = go (gcdOf (natAbs n) q) (gcd-is (natAbs n) q .right)
     go : (g : ℕ) → Divides g q → Divides (q / g) q
     go g (k, e) = (g, e ∙ ap (λ (t : ℕ). t * g) (sym (ap (λ (t : ℕ). t / g) e ∙ mul-div-cancel k (divisor-pos g q (k, e) h))) ∙ mul-comm (q / g) g)
 
-pub lowest-small : (n : ℤ) (q : ℕ) → 1 ≤ q → natAbs n ≤ 300000000 * q → natAbs (lowest n q .p) ≤ 1000000000 * lowest n q .q
-lowest-small n q h small = go (natAbs (lowest n q .p)) (natAbs n) (lowest n q .q) (sym (natAbs-mul (lowest n q .p) (pos q)) ∙ ap natAbs (lowest-value n q h) ∙ natAbs-mul n (pos (lowest n q .q))) small
+pub lowest-small : (n : ℤ) (q : ℕ) → 1 ≤ q → natAbs n ≤ farthest * q → natAbs (lowest n q .p) ≤ 1000000000 * lowest n q .q
+lowest-small n q h small = go (natAbs (lowest n q .p)) (natAbs n) (lowest n q .q)
+    (sym (natAbs-mul (lowest n q .p) (pos q)) ∙ ap natAbs (lowest-value n q h) ∙ natAbs-mul n (pos (lowest n q .q))) small
   where
-    go : (a b d : ℕ) → a * q ≡ b * d → b ≤ 300000000 * q → a ≤ 1000000000 * d
-    go a b d e l = near (decLt (300000000 * d) a)
+    go : (a b d : ℕ) → a * q ≡ b * d → b ≤ farthest * q → a ≤ 1000000000 * d
+    go a b d e l = near (decLt (farthest * d) a)
       where
-        near : Dec (300000000 * d < a) → a ≤ 1000000000 * d
+        near : Dec (farthest * d < a) → a ≤ 1000000000 * d
         near (no k) = omega arith
         near (yes k) = absurd (omega (arith, mul-le-mul-right q k, mul-le-mul-right d l))

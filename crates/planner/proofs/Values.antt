@@ -19,7 +19,7 @@ use Rattle.greedy.specs.declared.Fill.{Fill}
 use Rattle.greedy.specs.Fill.{at, begun, sizeOf, rateOf, sharedBy, bound}
 use Rattle.greedy.specs.Sized.{Sized, SizedFill}
 use Rattle.greedy.proofs.Sizes.{corner-weight-within}
-use Rattle.search.proofs.Bounds.{bound-proper, bound-within}
+use Rattle.greedy.proofs.Bounds.{bound-proper, bound-within}
 use Rattle.planner.specs.Outcomes.{Joinable}
 
 pub joined-within : (v : Mixed) → Joinable v → Within 500000000000001000 (over v)
@@ -46,12 +46,19 @@ module _ (c : Columns) (f : Fill) (z : SizedFill c f) where
           go : (w k : ℤ) → (w +ℤ k) *ℤ pos s ≡ w *ℤ pos s +ℤ k *ℤ pos s
           go = split2 _ (λ a b c e. simp zed (omega arith))
 
-      go : (b : Bool) → Within 500000000000000000 (cond b (sharedBy f (sizeOf c f) (rateOf c f)) (record { whole = f .worth; part = 0; parts = 1 }) .whole *ℤ pos (cond b (sharedBy f (sizeOf c f) (rateOf c f)) (record { whole = f .worth; part = 0; parts = 1 }) .parts))
-      go true = rw (spread (f .worth) (pos ((rateOf c f * natAbs (f .room)) / sizeOf c f)) (sizeOf c f)) (within-more (omega arith) (within-add (within-mul (z .worth-in) size) (whole (rateOf c f * natAbs (f .room)) (sizeOf c f) product)))
+      go : (b : Bool) → Within 500000000000000000 (cond b (sharedBy f (sizeOf c f) (rateOf c f)) (record { whole = f .worth; part = 0; parts = 1 })
+          .whole *ℤ pos (cond b (sharedBy f (sizeOf c f) (rateOf c f)) (record { whole = f .worth; part = 0; parts = 1 }) .parts))
+      go true = rw (spread (f .worth) (pos ((rateOf c f * natAbs (f .room)) / sizeOf c f)) (sizeOf c f))
+          (within-more (omega arith) (within-add (within-mul (z .worth-in) size) (whole (rateOf c f * natAbs (f .room)) (sizeOf c f) product)))
       go false = within-more (omega arith) (within-mul (z .worth-in) (abs-within {n = 1} (pos 1) (omega arith)))
 
   pub bound-joins : Joinable (bound c f)
-  bound-joins = record { whole-in = bound-within c f z; product-in = product-within; part-in = omega (arith, bound-proper c f z .low, bound-proper c f z .few); parts-in = bound-proper c f z .few }
+  bound-joins = record {
+    whole-in = bound-within c f z;
+    product-in = product-within;
+    part-in = omega (arith, bound-proper c f z .low, bound-proper c f z .few);
+    parts-in = bound-proper c f z .few;
+  }
 
 pub begun-within : (c : Columns) (e : Ends) → Sized c e → Within 5000000000000 (begun c e .room)
 begun-within c e z = within-more (omega arith) (within-sub (z .columns .capacity-in) (corner-weight-within c e z (c .count) (z .columns .few)))

@@ -1,10 +1,14 @@
--- The answers that a search and a ray are turned into.
+-- The answers that a search and a ray are made into.
 --   Joinable v        the value v fits one number of parts
+--   unfilled          no rank is raised
 --   Cornered s d a    a shows the light ends of the box and the steps d, and no value
---   Walked p n        n steps were taken by the search of p
---   Counts p a n      n steps were taken for the answer a
---   Decides p r       r is the answer of p, with the steps of its search;  Solves p r: with those of the presolved problem
+--   boxAt, fillAt, valueAt s x
+--                     the box of the place x, its filling, and its value
 --   Best s x a        a shows the relaxation of the place x and its value in lowest terms, and no steps
+--   Walked p n        n steps were taken by the search of p
+--   CountsAs k p n, Counts p a n
+--                     n steps were taken for an answer of that kind, for the answer a
+--   Decides p r       r is the answer of p, with the steps of its search;  Solves p r: with those of the presolved problem
 use mathlib.Core.Path.{_≡_}
 use mathlib.Core.List.{List}
 use Prim.Native.Nat.{ℕ, _≤_}
@@ -14,7 +18,7 @@ use Rattle.arith.specs.Within.{Within}
 use Rattle.arith.specs.Gcd.{lowest}
 use Rattle.arith.specs.declared.Mixed.{Mixed}
 use Rattle.arith.proofs.Mixes.{over}
-use Rattle.amounts.specs.Amounts.{Amounts}
+use Rattle.greedy.specs.Amounts.{Amounts}
 use Rattle.greedy.specs.declared.Ends.{Ends}
 use Rattle.greedy.specs.declared.Fill.{Fill}
 use Rattle.greedy.specs.Fill.{at, fill, bound}
@@ -23,15 +27,15 @@ use Rattle.knapsack.specs.declared.Answer.{Answer}
 use Rattle.knapsack.specs.declared.Kind.{Kind}
 use Rattle.knapsack.specs.declared.Kind.the-variants as kind
 use Rattle.knapsack.specs.declared.Problem.{Problem}
-use Rattle.pairing.specs.Tables.{PairsOf}
+use Rattle.prepare.specs.Pairs.{PairsOf}
 use Rattle.prepare.specs.Narrowing.{spanOf}
 use Rattle.prepare.specs.Prepared.{PreparedAt}
 use Rattle.presolve.specs.Presolve.{presolved}
-use Rattle.search.specs.declared.Pairs.{Pairs}
-use Rattle.search.specs.declared.Setting.{Setting}
+use Rattle.setting.specs.declared.Pairs.{Pairs}
+use Rattle.setting.specs.declared.Setting.{Setting}
 use Rattle.search.specs.declared.State.{State}
-use Rattle.search.specs.Search.{fixedBy}
-use Rattle.search.specs.Steps.{Took}
+use Rattle.setting.specs.Box.{fixedBy}
+use Rattle.search.specs.Steps.{EndsAfter}
 use Rattle.planner.specs.declared.Solved.{Solved}
 
 pub record Joinable (v : Mixed) : Type 0 where
@@ -74,7 +78,7 @@ pub record Walked (p : Problem) (n : ℕ) : Type 0 where
   pub pairs : Pairs
   pub pairs-are : PairsOf p pairs
   pub end : State
-  pub took : Took setting pairs end
+  pub ended : EndsAfter setting pairs end
   pub steps-are : n ≡ end .steps
 
 -- an optimum is searched for; no other answer is

@@ -1,10 +1,10 @@
 // The planner: from a record to its answer. Paper 01, "The problem" and what it owes for each record: optimal, infeasible and
 // unbounded are said exactly when they are true, and a record out of range is refused.
-use amounts::amounts;
 use arith::Fraction;
 use arith::Mixed;
 use arith::reduce;
 use greedy::Fill;
+use greedy::amounts;
 use greedy::begin;
 use greedy::bound_of;
 use greedy::fill_up;
@@ -12,23 +12,27 @@ use knapsack::Answer;
 use knapsack::Kind;
 use knapsack::Problem;
 use knapsack::Verdict;
-use knapsack::check_record;
-use pairing::pairs_of;
+use model::Model;
+use model::check_model;
+use model::plain_of;
 use prepare::narrowed;
+use prepare::pairs_of;
 use prepare::prepare;
 use prepare::reach_of;
 use presolve::presolve;
 use rays::find_ray;
-use search::Setting;
-use search::fixed;
 use search::run;
+use setting::Setting;
+use setting::fixed;
 ghost use mathlib.Core.Path.{_≡_};
 ghost use Rattle.arith.proofs.Mixes.{over};
 ghost use Rattle.greedy.specs.Fill.{at};
 ghost use Rattle.greedy.specs.Sized.{Sized};
-ghost use Rattle.knapsack.specs.Records.{InRange};
-ghost use Rattle.knapsack.specs.Meaning.{bare, Planned};
-ghost use Rattle.search.specs.Ready.{ReadySetting, Inside};
+ghost use Rattle.knapsack.specs.Ranges.{InRange};
+ghost use Rattle.knapsack.specs.Meaning.{bare};
+ghost use Rattle.model.specs.Promises.{Planned};
+ghost use Rattle.setting.specs.Ready.{ReadySetting};
+ghost use Rattle.setting.specs.Box.{Inside};
 ghost use Rattle.planner.specs.Outcomes.{Joinable, Cornered, Best, Decides, Solves};
 
 // A value as one number of parts.
@@ -93,7 +97,7 @@ fn optimal(s: Setting, x: [i64; 16]) -> Answer
     }
 }
 
-// An answer, and how many steps its search took.
+// An answer, and how many steps its search ended.
 pub struct Solved {
     pub answer: Answer,
     pub steps: u64,
@@ -145,13 +149,13 @@ pub fn solve(p: Problem) -> Solved
 }
 
 // The planner's reply to any record.
-pub fn plan(p: Problem) -> Answer
-    ensures { λ r. ⌜ Planned p r ⌝ }
+pub fn plan(m: Model) -> Answer
+    ensures { λ r. ⌜ Planned m r ⌝ }
 {
-    let v = check_record(p);
+    let v = check_model(m);
     match v {
         Verdict::Accepted => {
-            let r = solve(p);
+            let r = solve(plain_of(m));
             r.answer
         }
         Verdict::Refused(f) => no_point(Kind::Refused(f)),

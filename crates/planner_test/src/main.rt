@@ -5,7 +5,7 @@ mod rows; // paper 01's rows
 mod texts; // the text entry
 
 use knapsack::Answer;
-use knapsack::Problem;
+use model::Model;
 use planner::plan;
 use trials::draw::Spans;
 use trials::draw::drawn_problem;
@@ -22,7 +22,7 @@ ghost use Prim.Native.Nat.{_≤_};
 
 const REACH: i64 = 20;
 
-fn print_wrong(p: Problem, a: Answer) {
+fn print_wrong(p: Model, a: Answer) {
     print(b"disagreement: ");
     print_problem(p);
     print(b": ");
@@ -31,7 +31,7 @@ fn print_wrong(p: Problem, a: Answer) {
 }
 
 // One problem more. Where bounds are absent, the best points of some are beyond the reach.
-fn tried(t: Tally, p: Problem, n: usize, open: bool) -> Tally
+fn tried(t: Tally, p: Model, n: usize, open: bool) -> Tally
     requires { ⌜ n ≤ 15 ⌝ }
 {
     let a = plan(p);

@@ -2,8 +2,8 @@
 use domination::Pair;
 use domination::PairReply;
 use domination::least_pair;
-use knapsack::Problem;
 use listing::text_of;
+use model::Model;
 use planner::plan;
 use replies::reply_to;
 use trials::make::free;
@@ -22,7 +22,7 @@ fn print_name(name: u8) {
 }
 
 // The reply to a record, as `charge` prints it.
-fn show(name: u8, p: Problem) {
+fn show(name: u8, p: Model) {
     print_name(name);
     let a = plan(p);
     let t = text_of(a, p.count);
@@ -50,7 +50,7 @@ fn print_pair(q: Pair) {
     }
 }
 
-fn show_pair(name: u8, p: Problem) {
+fn show_pair(name: u8, p: Model) {
     print_name(name);
     let q = least_pair(p, 1, 2);
     match q {
@@ -63,15 +63,15 @@ fn show_pair(name: u8, p: Problem) {
     print(b"\n");
 }
 
-pub fn sheet_a() -> Problem {
+pub fn sheet_a() -> Model {
     two(20, held(9, 13, 0, 2), loose(held(3, 2, 0, 5)))
 }
 
-pub fn sheet_e() -> Problem {
+pub fn sheet_e() -> Model {
     two(-15, held(-9, -13, 0, 1), loose(held(-1, -2, 0, 5)))
 }
 
-pub fn sheet_g() -> Problem {
+pub fn sheet_g() -> Model {
     two(0, from_zero(2, 3), from_zero(-3, -4))
 }
 

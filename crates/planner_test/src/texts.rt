@@ -2,9 +2,9 @@
 use crate::rows::sheet_a;
 use crate::rows::sheet_e;
 use crate::rows::sheet_g;
-use knapsack::Problem;
-use listing::Listed;
+use model::Model;
 use replies::list;
+use text::Listed;
 use trials::make::held;
 use trials::make::one;
 use trials::print::print;
@@ -35,14 +35,14 @@ fn print_told(l: Listed) {
     print(b"\n");
 }
 
-fn listed(p: Problem, out: &mut [u8], size: usize) -> Listed
+fn listed(p: Model, out: &mut [u8], size: usize) -> Listed
     requires { ⌜ size ≤ length (now out) ⌝ }
 {
     list(p, &mut out[..size])
 }
 
 // The first bytes of the buffer are lent.
-fn show_text(p: Problem, size: usize)
+fn show_text(p: Model, size: usize)
     requires { ⌜ size ≤ 40 ⌝ }
 {
     let mut buffer = hashes();

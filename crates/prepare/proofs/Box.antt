@@ -13,13 +13,13 @@ use Rattle.greedy.proofs.Relaxed.{boxOf}
 use Rattle.knapsack.proofs.Common.{Keepsᴰ, valueᴰ, Feasibleᴰ, Optimalᴰ}
 use Rattle.knapsack.proofs.Reach.{closed, shutAt}
 use Rattle.knapsack.specs.Meaning.{Instance, instanceOf, weights, prices}
-use Rattle.knapsack.specs.Records.{itemAt}
+use Rattle.knapsack.specs.Ranges.{itemAt}
 use Rattle.knapsack.specs.declared.Bound.the-variants.{Absent, At}
 use Rattle.knapsack.specs.declared.Bound.{Bound}
 use Rattle.knapsack.specs.declared.Item.{Item}
 use Rattle.knapsack.specs.declared.Problem.{Problem}
-use Rattle.search.specs.declared.Setting.{Setting}
-use Rattle.tables.specs.Figures.{endOr}
+use Rattle.setting.specs.declared.Setting.{Setting}
+use Rattle.prepare.specs.Figures.{endOr}
 use Rattle.prepare.specs.Prepared.{PreparedAt}
 
 -- two instances that agree
@@ -29,13 +29,14 @@ pub record Same (s t : Instance) : Type 0 where
   pub items : Each (s .count) (λ k. s .item k ≡ t .item k)
 
 same-sum : (a : Item → ℤ) (s t : Instance) → Same s t → (N : ℕ → ℤ) → sum (s .count) (λ k. a (s .item k) *ℤ N k) ≡ sum (t .count) (λ k. a (t .item k) *ℤ N k)
-same-sum a s t e N = sum-cong (s .count) (λ k. a (s .item k) *ℤ N k) (λ k. a (t .item k) *ℤ N k) (λ k h. ap (λ i. a i *ℤ N k) (e .items k h)) ∙ ap (λ n. sum n (λ k. a (t .item k) *ℤ N k)) (e .count)
+same-sum a s t e N = sum-cong (s .count) (λ k. a (s .item k) *ℤ N k) (λ k. a (t .item k) *ℤ N k) (λ k h. ap (λ i. a i *ℤ N k) (e .items k h))
+    ∙ ap (λ n. sum n (λ k. a (t .item k) *ℤ N k)) (e .count)
 
 pub same-value : (s t : Instance) → Same s t → (N : ℕ → ℤ) → valueᴰ s N ≡ valueᴰ t N
 same-value = same-sum (λ i. i .price)
 
-pub same-turned : (s t : Instance) → Same s t → Same t s
-same-turned s t e = record { capacity = sym (e .capacity); count = sym (e .count); items = λ k h. sym (e .items k (omega (arith, e .count))) }
+pub same-sym : (s t : Instance) → Same s t → Same t s
+same-sym s t e = record { capacity = sym (e .capacity); count = sym (e .count); items = λ k h. sym (e .items k (omega (arith, e .count))) }
 
 pub same-feasible : (s t : Instance) → Same s t → (D : ℕ) (N : ℕ → ℤ) → Feasibleᴰ s D N → Feasibleᴰ t D N
 same-feasible s t e D N p = record {
@@ -46,7 +47,8 @@ same-feasible s t e D N p = record {
 pub same-optimal : (s t : Instance) → Same s t → (E : ℕ) (M : ℕ → ℤ) → Optimalᴰ s E M → Optimalᴰ t E M
 same-optimal s t e E M o = record {
   feasible = same-feasible s t e E M (o .feasible);
-  highest = λ D N d p. subst₂ (λ x y. (x *ℤ pos E) ≤ℤ (y *ℤ pos D)) (same-value s t e N) (same-value s t e M) (o .highest D N d (same-feasible t s (same-turned s t e) D N p));
+  highest = λ D N d p. subst₂ (λ x y. (x *ℤ pos E) ≤ℤ (y *ℤ pos D)) (same-value s t e N) (same-value s t e M)
+      (o .highest D N d (same-feasible t s (same-sym s t e) D N p));
 }
 
 -- ---- the box
@@ -63,11 +65,21 @@ module _ {r : ℕ → ℕ} (p : Problem) (s : Setting) (q : PreparedAt r p s) wh
   box-same = record { capacity = q .capacity; count = q .count; items = λ k h. item k (omega (arith, q .count)) }
     where
       item : (k : ℕ) → k < p .count → box .item k ≡ shutAt r (instanceOf p) .item k
-      item k h = rw (q .weights k h, q .prices k h, q .lows k h, q .highs k h, closed-is (itemAt p k .lower) (negℤ (pos (r k))), closed-is (itemAt p k .upper) (pos (r k)))
+      item k h = rw (
+        q .weights k h,
+        q .prices k h,
+        q .lows k h,
+        q .highs k h,
+        closed-is (itemAt p k .lower) (negℤ (pos (r k))),
+        closed-is (itemAt p k .upper) (pos (r k)),
+      )
 
   pub box-is-shut : (D : ℕ) (N : ℕ → ℤ) → (Feasibleᴰ box D N ↔ Feasibleᴰ (shutAt r (instanceOf p)) D N) × (valueᴰ box N ≡ valueᴰ (shutAt r (instanceOf p)) N)
   box-is-shut D N = (
-    (same-feasible box (shutAt r (instanceOf p)) box-same D N, same-feasible (shutAt r (instanceOf p)) box (same-turned box (shutAt r (instanceOf p)) box-same) D N),
+    (
+      same-feasible box (shutAt r (instanceOf p)) box-same D N,
+      same-feasible (shutAt r (instanceOf p)) box (same-sym box (shutAt r (instanceOf p)) box-same) D N,
+    ),
     same-value box (shutAt r (instanceOf p)) box-same N,
   )
 

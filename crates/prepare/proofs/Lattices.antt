@@ -15,7 +15,7 @@ use Rattle.arith.proofs.Integers.{≤ℤ-antisym}
 use Rattle.arith.proofs.Parts.{impossible}
 use Rattle.arith.proofs.Words.{no-lt}
 use Rattle.greedy.specs.Fill.{place}
-use Rattle.knapsack.specs.Records.{itemAt, InOrder}
+use Rattle.knapsack.specs.Ranges.{itemAt, BoundsInOrder}
 use Rattle.knapsack.specs.declared.Bound.the-variants.{Absent, At}
 use Rattle.knapsack.specs.declared.Bound.{Bound}
 use Rattle.knapsack.specs.declared.Item.{Item}
@@ -24,10 +24,10 @@ use Rattle.lattice.proofs.Levels.{unknown-tame, lattice-known}
 use Rattle.lattice.specs.Building.{entry, Items, Known, latticeOf}
 use Rattle.lattice.specs.Lattice.{On, Tame, unknown, latticeAt}
 use Rattle.lattice.specs.declared.Lattice.{Lattice}
-use Rattle.tables.proofs.Ranges.{zero-within, weight-within, price-within}
-use Rattle.tables.specs.Figures.{lowEnd, highEnd, endOr, isInteger, meet, fixed, passes}
-use Rattle.tables.specs.Tables.{Tabled, Listing, listed, Leading}
-use Rattle.tables.specs.declared.Test.the-variants.{Fixed}
+use Rattle.prepare.proofs.Ranges.{zero-within, weight-within, price-within}
+use Rattle.prepare.specs.Figures.{lowEnd, highEnd, endOr, isInteger, meet, fixed, passes}
+use Rattle.prepare.specs.Tables.{Tabled, Listing, listed, Leading}
+use Rattle.prepare.specs.declared.tables.Test.the-variants.{Fixed}
 use Rattle.prepare.specs.Prepared.{column, latticeBy, Latticing}
 
 -- ---- items with one amount
@@ -36,12 +36,12 @@ not-not : (b : Bool) → not b ≡ true → b ≡ false
 not-not true h = absurd (impossible h)
 not-not false h = refl
 
-meet-ends : (l u : Bound) (a b : ℤ) → meet l u ≡ true → InOrder l u → endOr l a ≡ endOr u b
+meet-ends : (l u : Bound) (a b : ℤ) → meet l u ≡ true → BoundsInOrder l u → endOr l a ≡ endOr u b
 meet-ends Absent u a b h o = absurd (impossible h)
 meet-ends (At l) Absent a b h o = absurd (impossible h)
 meet-ends (At l) (At u) a b h o = ≤ℤ-antisym o (no-lt (not-not (ltZ l u) h))
 
-pub fixed-ends : (i : Item) → InOrder (i .lower) (i .upper) → fixed i ≡ true → isInteger (i .mark) ≡ false → lowEnd i ≡ highEnd i
+pub fixed-ends : (i : Item) → BoundsInOrder (i .lower) (i .upper) → fixed i ≡ true → isInteger (i .mark) ≡ false → lowEnd i ≡ highEnd i
 fixed-ends i o h e = meet-ends (i .lower) (i .upper) _ _ (rw e at h) o
 
 -- ---- the lattices are true of the levels
@@ -96,7 +96,11 @@ module _ (p : Problem) (l : List ℕ) (n : ℕ) (h : Listing p l n) where
       }
 
   pub lattices-true : (r : List Lattice) → Latticing p l n r → LatticesTrue p l n r
-  lattices-true r g = record { tame = λ d m. at-level d m .tame; fixed-all = λ d m. at-level d m .fixed-all; on = λ d m. at-level d (omega (arith, h .few)) .on }
+  lattices-true r g = record {
+    tame = λ d m. at-level d m .tame;
+    fixed-all = λ d m. at-level d m .fixed-all;
+    on = λ d m. at-level d (omega (arith, h .few)) .on;
+  }
     where
       at-level : (d : ℕ) → d < 16 → TrueOf d (latticeAt r d)
       at-level d m = subst (TrueOf d) (sym (g .are d m)) (true-of (g .first) (g .leads) d)
@@ -107,7 +111,8 @@ module _ (p : Problem) (l : List ℕ) (n : ℕ) (h : Listing p l n) where
 pub tabled-column : (n : ℕ) (f : ℕ → ℤ) (t : List ℤ) → Tabled n f t → entry t ≡ column n f
 tabled-column n f t h = λ i u. h u i
 
-pub leading-places : (p : Problem) (few : p .count ≤ 16) (items : List ℕ) (a : (k : ℕ) → k < 16 → place items k ≡ k) (lead : ℕ) → Leading (p .count) (λ u. passes Fixed (listed p items u)) lead → Leading (p .count) (λ u. fixed (itemAt p u)) lead
+pub leading-places : (p : Problem) (few : p .count ≤ 16) (items : List ℕ) (a : (k : ℕ) → k < 16 → place items k ≡ k) (lead : ℕ)
+    → Leading (p .count) (λ u. passes Fixed (listed p items u)) lead → Leading (p .count) (λ u. fixed (itemAt p u)) lead
 leading-places p few items a lead h = record {
   most = h .most;
   pass = λ u m. sym (ap (λ k. fixed (itemAt p k)) (a u (omega (arith, h .most)))) ∙ h .pass u m;

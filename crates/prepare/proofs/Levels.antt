@@ -15,7 +15,7 @@ use Rattle.greedy.specs.Fill.{at, place}
 use Rattle.greedy.specs.Sized.{SizedColumns}
 use Rattle.greedy.specs.declared.Columns.{Columns}
 use Rattle.greedy.specs.declared.Fill.{Fill}
-use Rattle.knapsack.specs.Records.{itemAt}
+use Rattle.knapsack.specs.Ranges.{itemAt}
 use Rattle.knapsack.specs.declared.Item.{Item}
 use Rattle.knapsack.specs.declared.Mark.the-variants.{Integer, Continuous}
 use Rattle.knapsack.specs.declared.Mark.{Mark}
@@ -24,12 +24,12 @@ use Rattle.ordering.proofs.Insertion.{sorted-order}
 use Rattle.ordering.proofs.Order as keyed
 use Rattle.ordering.proofs.Permutations.{onto}
 use Rattle.ordering.specs.Ranking.{Sorted}
-use Rattle.tables.proofs.Ranges.{zero-within}
-use Rattle.tables.specs.Figures.{isInteger, passes, keyItem, branchingPrice, keyOf, SmallKey}
-use Rattle.tables.specs.Tables.{listed, Leading}
-use Rattle.tables.specs.declared.Key.the-variants.{Branching}
-use Rattle.tables.specs.declared.Key.{Key}
-use Rattle.tables.specs.declared.Test.the-variants.{Level}
+use Rattle.prepare.proofs.Ranges.{zero-within}
+use Rattle.prepare.specs.Figures.{isInteger, passes, keyItem, branchingPrice, keyOf, SmallKey}
+use Rattle.prepare.specs.Tables.{listed, Leading}
+use Rattle.prepare.specs.declared.tables.Key.the-variants.{Branching}
+use Rattle.prepare.specs.declared.tables.Key.{Key}
+use Rattle.prepare.specs.declared.tables.Test.the-variants.{Level}
 use Rattle.prepare.specs.Prepared.{byPrice, criticalKey}
 
 -- ---- the key that is chosen
@@ -43,7 +43,8 @@ critical-key c f P a b = go (ltZ (f .room) (pos 0)) (ltb (f .at) (c .live))
     go false false = a
 
 pub critical-small : (c : Columns) (f : Fill) → SizedColumns c → SmallKey (criticalKey c f)
-critical-small c f z = critical-key c f SmallKey (record { price = zero-within; weight = record { above = omega arith; below = omega arith } }) (record { price = z .rates-in (f .at); weight = z .sizes-in (f .at) })
+critical-small c f z = critical-key c f SmallKey (record { price = zero-within; weight = record { above = omega arith; below = omega arith } })
+    (record { price = z .rates-in (f .at); weight = z .sizes-in (f .at) })
 
 -- a key weighs 1 if the item is integer, else 0
 abbrev pub Tells : Key → Type 0
@@ -74,7 +75,8 @@ one-or-none false h = refl
 
 -- ---- levels
 
-module _ (p : Problem) (by : Key) (t : Tells by) (l : List ℕ) (m : ℕ) (s : Sorted (λ k. keyOf by (itemAt p k)) (p .count) l) (h : Leading (p .count) (λ u. passes Level (listed p l u)) m) where
+module _ (p : Problem) (by : Key) (t : Tells by) (l : List ℕ) (m : ℕ) (s : Sorted (λ k. keyOf by (itemAt p k)) (p .count) l)
+    (h : Leading (p .count) (λ u. passes Level (listed p l u)) m) where
   order : keyed.Ordered (λ k. keyOf by (itemAt p k)) (p .count) (λ u. place l u)
   order = sorted-order (λ k. keyOf by (itemAt p k)) (p .count) l s
 

@@ -1,8 +1,12 @@
+pub mod Ranges
+pub mod Keys
+pub mod Tabling
 pub mod Lists
 pub mod Order
 pub mod Levels
 pub mod Lattices
-pub mod Softness
+pub mod StridesTrue
 pub mod Ready
 pub mod Box
 pub mod Nearer
+pub mod Spreading

@@ -14,15 +14,15 @@ use lib.ListN.{length, set}
 use lib.Seq.{getD-set-same, getD-set-other}
 use Rattle.arith.specs.Within.{Within}
 use Rattle.greedy.specs.Fill.{at, place}
-use Rattle.knapsack.specs.Records.{itemAt, InRange}
+use Rattle.knapsack.specs.Ranges.{itemAt, InRange}
 use Rattle.knapsack.specs.declared.Item.{Item}
 use Rattle.knapsack.specs.declared.Problem.{Problem}
 use Rattle.ordering.proofs.Insertion.{sorted-low, sorted-order}
 use Rattle.ordering.specs.Ranking.{Sorted}
-use Rattle.tables.proofs.Ranges.{zero-within}
-use Rattle.tables.specs.Figures.{figureOf}
-use Rattle.tables.specs.Tables.{Tabled, Listing, listed, Permuted}
-use Rattle.tables.specs.declared.Figure.{Figure}
+use Rattle.prepare.proofs.Ranges.{zero-within}
+use Rattle.prepare.specs.Figures.{figureOf}
+use Rattle.prepare.specs.Tables.{Tabled, Listing, listed, Permuted}
+use Rattle.prepare.specs.declared.tables.Figure.{Figure}
 
 module _ (n : ℕ) (f : ℕ → ℤ) (l : List ℤ) (t : Tabled n f l) where
   pub tabled-below : (u : ℕ) → u < n → at l u ≡ f u
@@ -50,7 +50,8 @@ module _ (p : Problem) (r : InRange p) where
     places-listing = record { accepted = r; few = r .few-items; below = λ u h. omega (arith, a u (omega (arith, r .few-items))) }
 
     pub tabled-places : (f : Figure) (t : List ℤ) → Tabled (p .count) (λ u. figureOf f (listed p l u)) t → Tabled (p .count) (λ k. figureOf f (itemAt p k)) t
-    tabled-places f t h = tabled-cong (p .count) (λ u. figureOf f (listed p l u)) t h (λ k. figureOf f (itemAt p k)) (λ u m. ap (λ k. figureOf f (itemAt p k)) (a u (omega (arith, r .few-items))))
+    tabled-places f t h = tabled-cong (p .count) (λ u. figureOf f (listed p l u)) t h (λ k. figureOf f (itemAt p k))
+        (λ u m. ap (λ k. figureOf f (itemAt p k)) (a u (omega (arith, r .few-items))))
 
   -- an order of the items
   module _ (f : ℕ → Item) (l : List ℕ) (s : Sorted f (p .count) l) where
@@ -65,7 +66,8 @@ shorter-listing p l m n h s = record { accepted = s .accepted; few = omega (arit
 
 -- ---- one place more of a list that is being made
 
-pub one-more : (to : List ℤ) (k : ℕ) (x : ℤ) (f : ℕ → ℤ) → k < length to → x ≡ f k → ((j : ℕ) → j < k → at to j ≡ f j) → (j : ℕ) → j < k + 1 → at (set to k x) j ≡ f j
+pub one-more : (to : List ℤ) (k : ℕ) (x : ℤ) (f : ℕ → ℤ) → k < length to → x ≡ f k → ((j : ℕ) → j < k → at to j ≡ f j) → (j : ℕ) → j < k + 1
+    → at (set to k x) j ≡ f j
 one-more to k x f l e h j m = go (ℕ-discrete j k)
   where
     go : Dec (j ≡ k) → at (set to k x) j ≡ f j

@@ -14,6 +14,7 @@ use lib.Dec.{ltb}
 use lib.IntN.{ℤ, pos, negℤ, natAbs, _+ℤ_}
 use lib.ListN.{length, List·getD-eq-default}
 use lib.Signed.{_≤ℤ_, _<ℤ_, ≤ℤ-refl, ltZ}
+use Rattle.arith.specs.Limits.{farthest}
 use Rattle.arith.specs.Sum.{sum}
 use Rattle.arith.specs.Within.{Within}
 use Rattle.arith.proofs.Integers.{split, split2, zed, ≤ℤ-trans, ≤ℤ-antisym}
@@ -23,17 +24,18 @@ use Rattle.knapsack.proofs.Common.{Feasibleᴰ, Optimalᴰ}
 use Rattle.knapsack.proofs.Reach.{NoRay, AroundAt, Open, RangesAt, Reaches, shutAt, reach-empty-at, reach-optimal-at}
 use Rattle.knapsack.specs.Meaning.{Instance, instanceOf}
 use Rattle.knapsack.specs.Items.{isAbsent, isOpen}
-use Rattle.knapsack.specs.Records.{itemAt, BoundInRange, ItemInRange, InRange}
+use Rattle.knapsack.specs.Ranges.{itemAt, BoundInRange, ItemInRange, InRange}
 use Rattle.knapsack.specs.declared.Bound.the-variants.{Absent, At}
 use Rattle.knapsack.specs.declared.Bound.{Bound}
 use Rattle.knapsack.specs.declared.Item.{Item}
 use Rattle.knapsack.specs.declared.Problem.{Problem}
 use Rattle.greedy.specs.Fill.{at, weightOf}
-use Rattle.search.specs.Ready.{Mild}
-use Rattle.search.specs.Search.{levelAt}
-use Rattle.search.specs.declared.Setting.{Setting}
-use Rattle.tables.specs.Figures.{endOr}
-use Rattle.prepare.specs.Narrowing.{larger, boundSize, openWeight, grownBy, mostOf, ownBound, leadBy, burdenOf, reachOf, spanBy, spanOf, clampTo, Narrowed, Small}
+use Rattle.setting.specs.Ready.{RateBounded}
+use Rattle.setting.specs.Box.{levelAt}
+use Rattle.setting.specs.declared.Setting.{Setting}
+use Rattle.prepare.specs.Figures.{endOr}
+use Rattle.prepare.specs.Narrowing.{larger, boundSize, openWeight, grownBy, mostOf, ownBound, leadBy, burdenOf, reachOf, spanBy, spanOf, clampTo}
+use Rattle.prepare.specs.Narrowing.{Narrowed, Small}
 use Rattle.prepare.specs.declared.Reach.{Reach}
 use Rattle.prepare.specs.Prepared.{PreparedAt, Prepared}
 
@@ -82,18 +84,25 @@ module _ (p : Problem) (r : InRange p) where
   most-small (suc n) h =
       let m = most-small n (omega arith) in
       let i = r .items-in n h in (
-        larger-most (mostOf p n .weight) (openWeight (itemAt p n)) 1000 (m .0) (open-small (natAbs (itemAt p n .weight)) 1000 (isOpen (itemAt p n)) (i .weight-in)),
-        larger-most (larger (mostOf p n .bound) (boundSize (itemAt p n .lower))) (boundSize (itemAt p n .upper)) 10000 (larger-most (mostOf p n .bound) (boundSize (itemAt p n .lower)) 10000 (m .1) (bound-small (itemAt p n .lower) (i .lower-in))) (bound-small (itemAt p n .upper) (i .upper-in)),
+        larger-most (mostOf p n .weight) (openWeight (itemAt p n)) 1000 (m .0)
+            (open-small (natAbs (itemAt p n .weight)) 1000 (isOpen (itemAt p n)) (i .weight-in)),
+        larger-most (larger (mostOf p n .bound) (boundSize (itemAt p n .lower))) (boundSize (itemAt p n .upper)) 10000
+            (larger-most (mostOf p n .bound) (boundSize (itemAt p n .lower)) 10000 (m .1) (bound-small (itemAt p n .lower) (i .lower-in)))
+            (bound-small (itemAt p n .upper) (i .upper-in)),
       )
 
   pub burden-small : (a n : ℕ) → a ≤ 1000 → n ≤ p .count → burdenOf p a n ≤ n * 11000000
   unfolding burdenOf
   burden-small a zero h l = omega arith
-  burden-small a (suc n) h l = omega (arith, burden-small a n h (omega arith), mul-le-mul (r .items-in n l .weight-in) (lead-small a (itemAt p n) h (r .items-in n l)))
+  burden-small a (suc n) h l =
+      omega (arith, burden-small a n h (omega arith), mul-le-mul (r .items-in n l .weight-in) (lead-small a (itemAt p n) h (r .items-in n l)))
 
   pub reach-small : Small (reachOf p)
   unfolding reachOf
-  reach-small = record { weight-in = omega (arith, r .few-items, r .capacity-in, a≤, burden-small A (p .count) a≤ (omega arith)); amount-in = omega (arith, a≤, b≤) }
+  reach-small = record {
+    weight-in = omega (arith, r .few-items, r .capacity-in, a≤, burden-small A (p .count) a≤ (omega arith));
+    amount-in = omega (arith, a≤, b≤);
+  }
     where
       A : ℕ
       A = mostOf p (p .count) .weight
@@ -107,7 +116,7 @@ module _ (p : Problem) (r : InRange p) where
       b≤ : B ≤ 10000
       b≤ = most-small (p .count) (omega arith) .1
 
-pub span-small : (r : Reach) → Small r → (a : ℤ) → spanBy r a ≤ 300000000
+pub span-small : (r : Reach) → Small r → (a : ℤ) → spanBy r a ≤ farthest
 span-small r z a = omega (arith, z .weight-in, z .amount-in, div-le-self (r .weight) (larger 1 (natAbs a)))
 
 -- each of the first n items is covered
@@ -124,7 +133,8 @@ most-covers p (suc n) k h = go (ℕ-discrete k n) (most-covers p n k)
     M : ℕ
     M = larger (mostOf p n .bound) (boundSize (itemAt p n .lower))
 
-    go : Dec (k ≡ n) → (k < n → Covers p (mostOf p n .weight) (mostOf p n .bound) k) → Covers p (grownBy (mostOf p n) (itemAt p n) .weight) (grownBy (mostOf p n) (itemAt p n) .bound) k
+    go : Dec (k ≡ n) → (k < n → Covers p (mostOf p n .weight) (mostOf p n .bound) k)
+        → Covers p (grownBy (mostOf p n) (itemAt p n) .weight) (grownBy (mostOf p n) (itemAt p n) .bound) k
     go (yes q) ih = rw q (record {
       weight = larger-right (mostOf p n .weight) (openWeight (itemAt p n));
       lower = omega (arith, larger-right (mostOf p n .bound) (boundSize (itemAt p n .lower)), larger-left M (boundSize (itemAt p n .upper)));
@@ -183,7 +193,8 @@ module _ (p : Problem) (range : InRange p) where
   burden-is : (a n : ℕ) → pos (burdenOf p a n) ≡ sum n (λ k. pos (natAbs (itemAt p k .weight) * leadBy a (itemAt p k)))
   unfolding burdenOf
   burden-is a zero = refl
-  burden-is a (suc n) = more (burdenOf p a n) (natAbs (itemAt p n .weight) * leadBy a (itemAt p n)) ∙ ap (λ z. z +ℤ pos (natAbs (itemAt p n .weight) * leadBy a (itemAt p n))) (burden-is a n)
+  burden-is a (suc n) = more (burdenOf p a n) (natAbs (itemAt p n .weight) * leadBy a (itemAt p n))
+      ∙ ap (λ z. z +ℤ pos (natAbs (itemAt p n .weight) * leadBy a (itemAt p n))) (burden-is a n)
     where
       more : (a b : ℕ) → pos (a + b) ≡ pos a +ℤ pos b
       more a b = simp zed (omega arith)
@@ -199,12 +210,17 @@ module _ (p : Problem) (range : InRange p) where
     back-far = λ k l o. rw (is-open k o) (omega arith);
     total = T;
     total-is = burden-is A (p .count);
-    enough = λ k l h. rw (larger-one (natAbs (itemAt p k .weight)) h) (covers (mostOf p (p .count) .bound + A) (natAbs (p .capacity) + T + A) (natAbs (itemAt p k .weight)) h);
+    enough = λ k l h. rw (larger-one (natAbs (itemAt p k .weight)) h) (covers (mostOf p (p .count) .bound + A) (natAbs (p .capacity) + T + A)
+        (natAbs (itemAt p k .weight)) h);
     far = λ k l. omega (arith, lead≤ k l);
   }
     where
       lead≤ : (k : ℕ) → k < p .count → leadBy A (itemAt p k) ≤ mostOf p (p .count) .bound + A
-      lead≤ k l = let c = most-covers p (p .count) k l in omega (arith, larger-most (boundSize (itemAt p k .lower)) (boundSize (itemAt p k .upper)) (mostOf p (p .count) .bound) (c .lower) (c .upper), open-small A A (isOpen (itemAt p k)) (omega arith))
+      lead≤ k l = let c = most-covers p (p .count) k l in omega (
+        arith,
+        larger-most (boundSize (itemAt p k .lower)) (boundSize (itemAt p k .upper)) (mostOf p (p .count) .bound) (c .lower) (c .upper),
+        open-small A A (isOpen (itemAt p k)) (omega arith),
+      )
 
   -- what holds of the problem closed at its spans holds of the problem
   pub near-optimal : NoRay I → (E : ℕ) (M : ℕ → ℤ) → Optimalᴰ (shutAt (spanOf p) I) E M → Optimalᴰ I E M
@@ -279,15 +295,15 @@ clamp-mono r x y h = go (ltZ x (negℤ (pos r))) refl (ltZ (pos r) x) refl (ltZ 
     go false e false f false g false k = h
 
 -- an absent bound was closed beyond the span, and a bound is within it
-low-end : (r : ℕ) → r ≤ 300000000 → (b : Bound) → boundSize b ≤ r → clampTo r (endOr b (negℤ (pos 300000000))) ≡ endOr b (negℤ (pos r))
-low-end r l Absent h = clamp-low r (negℤ (pos 300000000)) (far 300000000 r l)
+low-end : (r : ℕ) → r ≤ farthest → (b : Bound) → boundSize b ≤ r → clampTo r (endOr b (negℤ (pos farthest))) ≡ endOr b (negℤ (pos r))
+low-end r l Absent h = clamp-low r (negℤ (pos farthest)) (far farthest r l)
   where
     far : (m r : ℕ) → r ≤ m → negℤ (pos m) ≤ℤ negℤ (pos r)
     far m r h = simp zed (omega arith)
 low-end r l (At v) h = clamp-same r v h
 
-high-end : (r : ℕ) → r ≤ 300000000 → (b : Bound) → boundSize b ≤ r → clampTo r (endOr b (pos 300000000)) ≡ endOr b (pos r)
-high-end r l Absent h = clamp-high r (pos 300000000) (far 300000000 r l)
+high-end : (r : ℕ) → r ≤ farthest → (b : Bound) → boundSize b ≤ r → clampTo r (endOr b (pos farthest)) ≡ endOr b (pos r)
+high-end r l Absent h = clamp-high r (pos farthest) (far farthest r l)
   where
     far : (m r : ℕ) → r ≤ m → pos r ≤ℤ pos m
     far m r h = simp zed (omega arith)
@@ -298,7 +314,7 @@ module _ (p : Problem) (range : InRange p) (s t : Setting) (q : Prepared p s) (n
   abbrev S : ℕ → ℕ
   S k = spanBy (reachOf p) (weightOf (s .cols) k)
 
-  small : (a : ℤ) → spanBy (reachOf p) a ≤ 300000000
+  small : (a : ℤ) → spanBy (reachOf p) a ≤ farthest
   small = span-small (reachOf p) (reach-small p range)
 
   bounds≤ : (k : ℕ) → mostOf p (p .count) .bound ≤ spanOf p k
@@ -308,10 +324,10 @@ module _ (p : Problem) (range : InRange p) (s t : Setting) (q : Prepared p s) (n
   item<16 : (k : ℕ) → k < p .count → k < 16
   item<16 k h = omega (arith, range .few-items)
 
-  ends-in : (xs : List ℤ) → length xs ≡ 16 → (f : ℕ → ℤ) → ((k : ℕ) → k < 16 → at xs k ≡ clampTo (S k) (f k)) → (k : ℕ) → Within 300000000 (at xs k)
+  ends-in : (xs : List ℤ) → length xs ≡ 16 → (f : ℕ → ℤ) → ((k : ℕ) → k < 16 → at xs k ≡ clampTo (S k) (f k)) → (k : ℕ) → Within farthest (at xs k)
   ends-in xs l f h k = go (decLt k 16)
     where
-      go : Dec (k < 16) → Within 300000000 (at xs k)
+      go : Dec (k < 16) → Within farthest (at xs k)
       go (yes m) = rw (h k m) (clamp-within (S k) (f k) (small (weightOf (s .cols) k)))
       go (no m) = rw (List·getD-eq-default xs (pos 0) {n = k} (omega (arith, l))) (record { above = omega arith; below = omega arith })
 
@@ -320,23 +336,35 @@ module _ (p : Problem) (range : InRange p) (s t : Setting) (q : Prepared p s) (n
   ends-at xs f k x h e g = e ∙ ap₂ (λ (a y : ℤ). clampTo (spanBy (reachOf p) a) y) (q .weights k h) g
 
   pub narrowed-prepared : PreparedAt (spanOf p) p t
-  narrowed-prepared = made t (n .cols) (n .level) (n .levels) (n .lattice) (n .soft) (n .lo) (n .hi) (n .low) (n .high) (n .lengths)
+  narrowed-prepared = made t (n .cols) (n .level) (n .levels) (n .lattice) (n .strides) (n .lo) (n .hi) (n .low) (n .high) (n .lengths)
     where
-      made : (t : Setting) → t .cols ≡ s .cols → t .level ≡ s .level → t .levels ≡ s .levels → t .lattice ≡ s .lattice → t .soft ≡ s .soft
-          → ((k : ℕ) → k < 16 → at (t .ends .lo) k ≡ clampTo (S k) (at (s .ends .lo) k)) → ((k : ℕ) → k < 16 → at (t .ends .hi) k ≡ clampTo (S k) (at (s .ends .hi) k))
-          → ((d : ℕ) → d < s .levels → at (t .low) d ≡ at (t .ends .lo) (levelAt s d)) → ((d : ℕ) → d < s .levels → at (t .high) d ≡ at (t .ends .hi) (levelAt s d))
+      made : (t : Setting) → t .cols ≡ s .cols → t .level ≡ s .level → t .levels ≡ s .levels → t .lattice ≡ s .lattice → t .strides ≡ s .strides
+          → ((k : ℕ) → k < 16 → at (t .ends .lo) k ≡ clampTo (S k) (at (s .ends .lo) k))
+          → ((k : ℕ) → k < 16 → at (t .ends .hi) k ≡ clampTo (S k) (at (s .ends .hi) k))
+          → ((d : ℕ) → d < s .levels → at (t .low) d ≡ at (t .ends .lo) (levelAt s d))
+          → ((d : ℕ) → d < s .levels → at (t .high) d ≡ at (t .ends .hi) (levelAt s d))
           → (length (t .ends .lo) ≡ 16) × (length (t .ends .hi) ≡ 16) → PreparedAt (spanOf p) p t
       made t ec el en ea ez lo hi low high long = record {
         count = rw ec (q .count);
         capacity = rw ec (q .capacity);
         weights = rw ec (q .weights);
         prices = rw ec (q .prices);
-        lows = λ k h. ends-at (t .ends .lo) (at (s .ends .lo)) k _ h (lo k (item<16 k h)) (q .lows k h) ∙ low-end (spanOf p k) (small (itemAt p k .weight)) (itemAt p k .lower) (omega (arith, most-covers p (p .count) k h .lower, bounds≤ k));
-        highs = λ k h. ends-at (t .ends .hi) (at (s .ends .hi)) k _ h (hi k (item<16 k h)) (q .highs k h) ∙ high-end (spanOf p k) (small (itemAt p k .weight)) (itemAt p k .upper) (omega (arith, most-covers p (p .count) k h .upper, bounds≤ k));
+        lows = λ k h. ends-at (t .ends .lo) (at (s .ends .lo)) k _ h (lo k (item<16 k h)) (q .lows k h)
+            ∙ low-end (spanOf p k) (small (itemAt p k .weight)) (itemAt p k .lower) (omega (arith, most-covers p (p .count) k h .lower, bounds≤ k));
+        highs = λ k h. ends-at (t .ends .hi) (at (s .ends .hi)) k _ h (hi k (item<16 k h)) (q .highs k h)
+            ∙ high-end (spanOf p k) (small (itemAt p k .weight)) (itemAt p k .upper) (omega (arith, most-covers p (p .count) k h .upper, bounds≤ k));
         ready = record {
-          sized = record { columns = rw ec (q .ready .sized .columns); ends = record { lo-in = ends-in (t .ends .lo) (long .0) (λ k. at (s .ends .lo) k) lo; hi-in = ends-in (t .ends .hi) (long .1) (λ k. at (s .ends .hi) k) hi } };
+          sized = record {
+            columns = rw ec (q .ready .sized .columns);
+            ends =
+                record {
+                  lo-in = ends-in (t .ends .lo) (long .0) (λ k. at (s .ends .lo) k) lo;
+                  hi-in = ends-in (t .ends .hi) (long .1) (λ k. at (s .ends .hi) k) hi;
+                };
+          };
           ordered = rw ec (q .ready .ordered);
-          in-order = λ k h. let m : k < s .cols .count = rw ec at h in let f : k < 16 = omega (arith, q .count, range .few-items) in rw (lo k f, hi k f) (clamp-mono (S k) (at (s .ends .lo) k) (at (s .ends .hi) k) (q .ready .in-order k m));
+          in-order = λ k h. let m : k < s .cols .count = rw ec at h in let f : k < 16 = omega (arith, q .count, range .few-items) in
+              rw (lo k f, hi k f) (clamp-mono (S k) (at (s .ends .lo) k) (at (s .ends .hi) k) (q .ready .in-order k m));
           few = rw en (q .ready .few);
           level-in = rw (ec, el, en) (q .ready .level-in);
           distinct = rw (el, en) (q .ready .distinct);
@@ -347,15 +375,16 @@ module _ (p : Problem) (range : InRange p) (s t : Setting) (q : Prepared p s) (n
               let m : d < s .levels = rw en at h in
               let c = q .ready .changes d m (rw ea at nz) in
               record {
-                fixed = λ k l f. let x : k < s .cols .count = rw ec at l in let y : k < 16 = omega (arith, q .count, range .few-items) in lo k y ∙ ap (clampTo (S k)) (c .fixed k x (rw (el, en) at f)) ∙ sym (hi k y);
+                fixed = λ k l f. let x : k < s .cols .count = rw ec at l in let y : k < 16 = omega (arith, q .count, range .few-items) in
+                    lo k y ∙ ap (clampTo (S k)) (c .fixed k x (rw (el, en) at f)) ∙ sym (hi k y);
                 on = rw (ec, el, en, ea) (c .on);
               };
-          moderate = rw ez (q .ready .moderate);
-          softened = λ nz.
-              let z = q .ready .softened (rw ez at nz) in
+          strides-in = rw ez (q .ready .strides-in);
+          strides-hold = λ nz.
+              let z = q .ready .strides-hold (rw ez at nz) in
               record {
-                strides = rw (ec, el, en, ez) (z .strides);
-                mild = λ k h f. kept k (rw ec at h) (z .mild k (rw ec at h) (rw (el, en) at f));
+                multiples = rw (ec, el, en, ez) (z .multiples);
+                rate-bounded = λ k h f. kept k (rw ec at h) (z .rate-bounded k (rw ec at h) (rw (el, en) at f));
               };
         };
         marked = record { integer = rw (el, en) (q .marked .integer); level = rw (ec, el, en) (q .marked .level) };
@@ -366,10 +395,11 @@ module _ (p : Problem) (range : InRange p) (s t : Setting) (q : Prepared p s) (n
           sorted = rw (ec, el) (q .arranged .sorted);
           leads = rw (el, en) (q .arranged .leads);
           latticing = rw (el, en, ea) (q .arranged .latticing);
-          softens = rw (ec, ez) (q .arranged .softens);
+          strides-of = rw (ec, ez) (q .arranged .strides-of);
         };
       }
         where
-          kept : (k : ℕ) → k < s .cols .count → (at (s .ends .lo) k ≡ at (s .ends .hi) k) ⊎ Mild (s .cols) (s .soft) k → (at (t .ends .lo) k ≡ at (t .ends .hi) k) ⊎ Mild (t .cols) (t .soft) k
+          kept : (k : ℕ) → k < s .cols .count → (at (s .ends .lo) k ≡ at (s .ends .hi) k) ⊎ RateBounded (s .cols) (s .strides) k
+              → (at (t .ends .lo) k ≡ at (t .ends .hi) k) ⊎ RateBounded (t .cols) (t .strides) k
           kept k h (inl e) = let y : k < 16 = omega (arith, q .count, range .few-items) in inl (lo k y ∙ ap (clampTo (S k)) e ∙ sym (hi k y))
           kept k h (inr e) = inr (rw (ec, ez) e)

@@ -15,12 +15,12 @@ use Rattle.arith.proofs.Integers.{split, split2, zed}
 use Rattle.arith.proofs.Parts.{abs-within, impossible}
 use Rattle.arith.proofs.Words.{yes-lt, no-lt}
 use Rattle.greedy.proofs.Greedy.{zero?, abs≥1}
-use Rattle.arith.specs.Signs.{turned}
+use Rattle.arith.specs.Signs.{timesSign}
 use Rattle.greedy.specs.Fill.{at, place, weightOf, priceOf, itemOf, rankOf}
 use Rattle.greedy.specs.Ordered.{Idle, weightAt, rateAt, Ordered}
 use Rattle.greedy.specs.Sized.{SizedColumns}
 use Rattle.greedy.specs.declared.Columns.{Columns}
-use Rattle.knapsack.specs.Records.{itemAt, ItemInRange, InRange}
+use Rattle.knapsack.specs.Ranges.{itemAt, ItemInRange, InRange}
 use Rattle.knapsack.specs.declared.Bound.the-variants.{Absent, At}
 use Rattle.knapsack.specs.declared.Bound.{Bound}
 use Rattle.knapsack.specs.declared.Item.{Item}
@@ -29,12 +29,12 @@ use Rattle.ordering.proofs.Insertion.{sorted-order}
 use Rattle.ordering.proofs.Order as keyed
 use Rattle.ordering.proofs.Order.{AtLeast}
 use Rattle.ordering.proofs.Permutations.{onto}
-use Rattle.arith.proofs.Signs.{within-turned}
-use Rattle.tables.proofs.Ranges.{size-within, weight-within, price-within}
-use Rattle.tables.specs.Figures.{figureOf, live, lightBound, headStart, fillingKey, keyOf}
-use Rattle.tables.specs.Tables.{listed}
-use Rattle.tables.specs.declared.Figure.the-variants.{Weight, Price, Size, Rate}
-use Rattle.tables.specs.declared.Key.the-variants.{Filling}
+use Rattle.arith.proofs.Signs.{within-times-sign}
+use Rattle.prepare.proofs.Ranges.{size-within, weight-within, price-within}
+use Rattle.prepare.specs.Figures.{figureOf, live, lightBound, headStart, fillingKey, keyOf}
+use Rattle.prepare.specs.Tables.{listed}
+use Rattle.prepare.specs.declared.tables.Figure.the-variants.{Weight, Price, Size, Rate}
+use Rattle.prepare.specs.declared.tables.Key.the-variants.{Filling}
 use Rattle.prepare.specs.Prepared.{Columned}
 use Rattle.prepare.proofs.Lists.{tabled-below, tabled-within}
 
@@ -45,18 +45,22 @@ head-start-is Absent a = (natAbs a, refl, omega arith)
 head-start-is (At v) a = (0, refl, omega arith)
 
 -- 2,000,000 times a difference that is not 0 is more than the ties
-untied : (m n b c : ℕ) → b * n ≤ 1000000 → (x y : ℤ) → ((pos 2000000 *ℤ y +ℤ pos c) *ℤ pos m) ≤ℤ ((pos 2000000 *ℤ x +ℤ pos b) *ℤ pos n) → (y *ℤ pos m) ≤ℤ (x *ℤ pos n)
+untied : (m n b c : ℕ) → b * n ≤ 1000000 → (x y : ℤ) → ((pos 2000000 *ℤ y +ℤ pos c) *ℤ pos m) ≤ℤ ((pos 2000000 *ℤ x +ℤ pos b) *ℤ pos n)
+    → (y *ℤ pos m) ≤ℤ (x *ℤ pos n)
 untied m n b c h = split2 _ (λ s t u v. simp zed (λ k. omega arith))
 
 -- the price per weight of j is not above that of i
 abbrev Falls : Item → Item → Type 0
-Falls i j = (turned (j .weight) (j .price) *ℤ pos (natAbs (i .weight))) ≤ℤ (turned (i .weight) (i .price) *ℤ pos (natAbs (j .weight)))
+Falls i j = (timesSign (j .weight) (j .price) *ℤ pos (natAbs (i .weight))) ≤ℤ (timesSign (i .weight) (i .price) *ℤ pos (natAbs (j .weight)))
 
 pub key-falls : (i j : Item) → ItemInRange i → ItemInRange j → AtLeast (fillingKey i) (fillingKey j) → Falls i j
 key-falls i j r s h = go (head-start-is (lightBound i) (i .weight)) (head-start-is (lightBound j) (j .weight))
   where
-    go : (t : ℕ) × (headStart (lightBound i) (i .weight) ≡ pos t) × (t ≤ natAbs (i .weight)) → (t : ℕ) × (headStart (lightBound j) (j .weight) ≡ pos t) × (t ≤ natAbs (j .weight)) → Falls i j
-    go (b, e, l) (c, f, m) = let q : b ≤ 1000 = omega (arith, r .weight-in) in untied (natAbs (i .weight)) (natAbs (j .weight)) b c (mul-le-mul q (s .weight-in)) (turned (i .weight) (i .price)) (turned (j .weight) (j .price)) (rw (e, f) at h)
+    go : (t : ℕ) × (headStart (lightBound i) (i .weight) ≡ pos t) × (t ≤ natAbs (i .weight)) → (t : ℕ) × (headStart (lightBound j) (j .weight) ≡ pos t)
+        × (t ≤ natAbs (j .weight)) → Falls i j
+    go (b, e, l) (c, f, m) = let q : b ≤ 1000 = omega (arith, r .weight-in) in
+        untied (natAbs (i .weight)) (natAbs (j .weight)) b c (mul-le-mul q (s .weight-in)) (timesSign (i .weight) (i .price)) (timesSign (j .weight) (j .price))
+        (rw (e, f) at h)
 
 size-zero : (a : ℤ) → pos (natAbs a) ≡ pos 0 → a ≡ pos 0
 size-zero = split _ (λ a b. simp zed (omega arith))
@@ -66,22 +70,23 @@ zero-size a e = ap (λ z. pos (natAbs z)) e
 
 -- ---- worth its weight, or idle
 
-live-true : (a c : ℤ) → live a c ≡ true → (a ≢ pos 0) × (pos 0 <ℤ turned a c)
+live-true : (a c : ℤ) → live a c ≡ true → (a ≢ pos 0) × (pos 0 <ℤ timesSign a c)
 live-true a c = go (eqb (natAbs a) 0) refl
   where
-    go : (b : Bool) → eqb (natAbs a) 0 ≡ b → cond b false (ltZ (pos 0) (turned a c)) ≡ true → (a ≢ pos 0) × (pos 0 <ℤ turned a c)
+    go : (b : Bool) → eqb (natAbs a) 0 ≡ b → cond b false (ltZ (pos 0) (timesSign a c)) ≡ true → (a ≢ pos 0) × (pos 0 <ℤ timesSign a c)
     go true e h = absurd (impossible h)
     go false e h = ((λ z. eqb-false (natAbs a) 0 e (ap natAbs z)), yes-lt h)
 
 live-false : (a c : ℤ) → live a c ≡ false → Idle a c
 live-false a c = go (eqb (natAbs a) 0) refl
   where
-    go : (b : Bool) → eqb (natAbs a) 0 ≡ b → cond b false (ltZ (pos 0) (turned a c)) ≡ false → Idle a c
+    go : (b : Bool) → eqb (natAbs a) 0 ≡ b → cond b false (ltZ (pos 0) (timesSign a c)) ≡ false → Idle a c
     go true e h = inl (size-zero a (ap pos (eqb-true (natAbs a) 0 e)))
     go false e h = inr (no-lt h)
 
 -- behind an idle item all are idle
-idle-after : (i j : Item) → (i .weight ≡ pos 0 → j .weight ≡ pos 0) → (i .weight ≢ pos 0 → j .weight ≢ pos 0 → Falls i j) → Idle (i .weight) (i .price) → Idle (j .weight) (j .price)
+idle-after : (i j : Item) → (i .weight ≡ pos 0 → j .weight ≡ pos 0) → (i .weight ≢ pos 0 → j .weight ≢ pos 0 → Falls i j) → Idle (i .weight) (i .price)
+    → Idle (j .weight) (j .price)
 idle-after i j last falls (inl z) = inl (last z)
 idle-after i j last falls (inr h) = go (zero? (i .weight)) (zero? (j .weight))
   where
@@ -91,7 +96,8 @@ idle-after i j last falls (inr h) = go (zero? (i .weight)) (zero? (j .weight))
     go : (i .weight ≡ pos 0) ⊎ (i .weight ≢ pos 0) → (j .weight ≡ pos 0) ⊎ (j .weight ≢ pos 0) → Idle (j .weight) (j .price)
     go (inl z) w = inl (last z)
     go (inr z) (inl w) = inl w
-    go (inr z) (inr w) = inr (not-above (natAbs (i .weight)) (natAbs (j .weight)) (abs≥1 (i .weight) z) (turned (i .weight) (i .price)) (turned (j .weight) (j .price)) h (falls z w))
+    go (inr z) (inr w) = inr (not-above (natAbs (i .weight)) (natAbs (j .weight)) (abs≥1 (i .weight) z) (timesSign (i .weight) (i .price))
+        (timesSign (j .weight) (j .price)) h (falls z w))
 
 -- ---- the columns
 
@@ -118,11 +124,12 @@ module _ (p : Problem) (c : Columns) (r : InRange p) (k : Columned p c) where
   price-at : (u : ℕ) → u < p .count → priceOf c (itemOf c u) ≡ it u .price
   price-at u h = price-is (itemOf c u) (o .place u h)
 
-  rate-at : (u : ℕ) → u < p .count → rateAt c u ≡ turned (it u .weight) (it u .price)
-  rate-at u h = ap₂ turned (weight-at u h) (price-at u h)
+  rate-at : (u : ℕ) → u < p .count → rateAt c u ≡ timesSign (it u .weight) (it u .price)
+  rate-at u h = ap₂ timesSign (weight-at u h) (price-at u h)
 
   it-falls : (u v : ℕ) → u < v → v < p .count → it u .weight ≢ pos 0 → it v .weight ≢ pos 0 → Falls (it u) (it v)
-  it-falls u v h l nu nv = key-falls (it u) (it v) (it-in u (omega arith)) (it-in v l) (o .falls u v h l (λ z. nu (size-zero (it u .weight) z)) (λ z. nv (size-zero (it v .weight) z)))
+  it-falls u v h l nu nv = key-falls (it u) (it v) (it-in u (omega arith)) (it-in v l)
+      (o .falls u v h l (λ z. nu (size-zero (it u .weight) z)) (λ z. nv (size-zero (it v .weight) z)))
 
   it-last : (u v : ℕ) → u < v → v < p .count → it u .weight ≡ pos 0 → it v .weight ≡ pos 0
   it-last u v h l z = size-zero (it v .weight) (o .last u v h l (zero-size (it u .weight) z))
@@ -134,7 +141,7 @@ module _ (p : Problem) (c : Columns) (r : InRange p) (k : Columned p c) where
       go : (u : ℕ) × (u < p .count) × (place (c .order) u ≡ j) → (rankOf c j < p .count) × (itemOf c (rankOf c j) ≡ j)
       go (u, h, e) = (subst (λ x. rankOf c x < p .count) e (omega (arith, k .rank u h)), subst (λ x. itemOf c (rankOf c x) ≡ x) e (ap (itemOf c) (k .rank u h)))
 
-  live-is : (u : ℕ) → u < c .live → (it u .weight ≢ pos 0) × (pos 0 <ℤ turned (it u .weight) (it u .price))
+  live-is : (u : ℕ) → u < c .live → (it u .weight ≢ pos 0) × (pos 0 <ℤ timesSign (it u .weight) (it u .price))
   live-is u h = live-true (it u .weight) (it u .price) (k .live .pass u h)
 
   it-idle : (u : ℕ) → c .live ≤ u → u < p .count → Idle (it u .weight) (it u .price)
@@ -150,7 +157,7 @@ module _ (p : Problem) (c : Columns) (r : InRange p) (k : Columned p c) where
   size-is : (u : ℕ) → u < p .count → at (c .size) u ≡ pos (natAbs (it u .weight))
   size-is = tabled-below (p .count) (λ u. figureOf Size (it u)) (c .size) (k .sizes)
 
-  rate-is : (u : ℕ) → u < p .count → at (c .rate) u ≡ turned (it u .weight) (it u .price)
+  rate-is : (u : ℕ) → u < p .count → at (c .rate) u ≡ timesSign (it u .weight) (it u .price)
   rate-is = tabled-below (p .count) (λ u. figureOf Rate (it u)) (c .rate) (k .rates)
 
   pub columns-ordered : Ordered c
@@ -173,10 +180,13 @@ module _ (p : Problem) (c : Columns) (r : InRange p) (k : Columned p c) where
   columns-sized = record {
     few = omega (arith, k .count, r .few-items);
     live-few = omega (arith, k .live .most, r .few-items);
-    weights-in = tabled-within (p .count) (λ j. figureOf Weight (itemAt p j)) (c .weight) (k .weights) 1000 (λ u h. weight-within (itemAt p u) (r .items-in u h));
+    weights-in = tabled-within (p .count) (λ j. figureOf Weight (itemAt p j)) (c .weight) (k .weights) 1000
+        (λ u h. weight-within (itemAt p u) (r .items-in u h));
     prices-in = tabled-within (p .count) (λ j. figureOf Price (itemAt p j)) (c .price) (k .prices) 10000 (λ u h. price-within (itemAt p u) (r .items-in u h));
-    sizes-in = tabled-within (p .count) (λ u. figureOf Size (it u)) (c .size) (k .sizes) 1000 (λ u h. size-within (it u .weight) (weight-within (it u) (it-in u h)));
-    rates-in = tabled-within (p .count) (λ u. figureOf Rate (it u)) (c .rate) (k .rates) 10000 (λ u h. within-turned (it u .weight) (it u .price) (price-within (it u) (it-in u h)));
+    sizes-in = tabled-within (p .count) (λ u. figureOf Size (it u)) (c .size) (k .sizes) 1000
+        (λ u h. size-within (it u .weight) (weight-within (it u) (it-in u h)));
+    rates-in = tabled-within (p .count) (λ u. figureOf Rate (it u)) (c .rate) (k .rates) 10000
+        (λ u h. within-times-sign (it u .weight) (it u .price) (price-within (it u) (it-in u h)));
     items-in = k .order .below;
     live-sizes = λ u h. rw (size-is u (omega (arith, k .live .most))) (abs≥1 (it u .weight) (live-is u h .0));
     capacity-in = rw (k .capacity) (abs-within (p .capacity) (r .capacity-in));

@@ -4,45 +4,46 @@ use mathlib.Core.Bool.{Bool, true, false}
 use mathlib.Core.Logic.{_≢_, _⊎_, inl, inr}
 use Prim.Native.Nat.{ℕ, _≤_, _<_}
 use native.Mathlib.Omega.{arith}
-use lib.IntN.{ℤ, pos, negsuc, natAbs}
+use lib.IntN.{ℤ, pos, negℤ, natAbs}
 use lib.Signed.{_≤ℤ_}
+use Rattle.arith.specs.Limits.{farthest}
 use Rattle.arith.proofs.Integers.{split, zed}
 use Rattle.arith.proofs.Parts.{zs}
 use Rattle.greedy.specs.Fill.{at, fill}
 use Rattle.greedy.specs.Sized.{SizedEnds}
 use Rattle.greedy.specs.declared.Ends.{Ends}
-use Rattle.knapsack.specs.Records.{itemAt, BoundInRange, InOrder, InRange}
+use Rattle.knapsack.specs.Ranges.{itemAt, BoundInRange, BoundsInOrder, InRange}
 use Rattle.knapsack.specs.declared.Bound.the-variants.{Absent, At}
 use Rattle.knapsack.specs.declared.Bound.{Bound}
 use Rattle.knapsack.specs.declared.Problem.{Problem}
 use Rattle.ordering.specs.Ranking.{Sorted}
 use Rattle.lattice.specs.Lattice.{latticeAt}
-use Rattle.search.specs.Ready.{Changes, Marked, Mild, Softened}
-use Rattle.search.specs.Search.{levelAt}
-use Rattle.search.specs.declared.Setting.{Setting}
-use Rattle.tables.proofs.Ranges.{low-within, high-within}
-use Rattle.tables.specs.Figures.{endOr, lowEnd, highEnd, figureOf, isInteger, fixed, passes, keyOf}
-use Rattle.tables.specs.Tables.{Tabled, listed, Leading}
-use Rattle.tables.specs.declared.Figure.the-variants.{Low, High}
-use Rattle.tables.specs.declared.Key.{Key}
-use Rattle.tables.specs.declared.Test.the-variants.{Level}
+use Rattle.setting.specs.Ready.{Changes, Marked, RateBounded, StridesHold}
+use Rattle.setting.specs.Box.{levelAt}
+use Rattle.setting.specs.declared.Setting.{Setting}
+use Rattle.prepare.proofs.Ranges.{low-within, high-within}
+use Rattle.prepare.specs.Figures.{endOr, lowEnd, highEnd, figureOf, isInteger, fixed, passes, keyOf}
+use Rattle.prepare.specs.Tables.{Tabled, listed, Leading}
+use Rattle.prepare.specs.declared.tables.Figure.the-variants.{Low, High}
+use Rattle.prepare.specs.declared.tables.Key.{Key}
+use Rattle.prepare.specs.declared.tables.Test.the-variants.{Level}
 use Rattle.prepare.specs.Prepared.{Columned, Boxed, criticalKey, Latticing, Prepared}
-use Rattle.prepare.specs.Softening.{Softens}
+use Rattle.prepare.specs.Strides.{StrideBoundOf}
 use Rattle.prepare.proofs.Lattices.{fixed-ends, LatticesTrue, lattices-true}
 use Rattle.prepare.proofs.Levels.{Tells, critical-tells, level-in, level-once, level-integer, level-of, is-integer}
 use Rattle.prepare.proofs.Lists.{tabled-below, tabled-within}
-use Rattle.prepare.proofs.Softness.{SoftTrue, soft-true}
+use Rattle.prepare.proofs.StridesTrue.{StridesTrue, strides-true}
 use Rattle.prepare.proofs.Order.{weight-is, price-is, columns-ordered, columns-sized}
 
 -- ---- the box
 
-above-reach : (v : ℤ) → natAbs v ≤ 10000 → negsuc 299999999 ≤ℤ v
+above-reach : (v : ℤ) → natAbs v ≤ 10000 → negℤ (pos farthest) ≤ℤ v
 above-reach = split _ (λ a b. simp zed (omega arith))
 
-below-reach : (v : ℤ) → natAbs v ≤ 10000 → v ≤ℤ pos 300000000
+below-reach : (v : ℤ) → natAbs v ≤ 10000 → v ≤ℤ pos farthest
 below-reach = split _ (λ a b. simp zed (omega arith))
 
-ends-in-order : (l u : Bound) → BoundInRange l → BoundInRange u → InOrder l u → endOr l (negsuc 299999999) ≤ℤ endOr u (pos 300000000)
+ends-in-order : (l u : Bound) → BoundInRange l → BoundInRange u → BoundsInOrder l u → endOr l (negℤ (pos farthest)) ≤ℤ endOr u (pos farthest)
 ends-in-order Absent Absent h g o = omega (arith, zs)
 ends-in-order Absent (At u) h g o = above-reach u g
 ends-in-order (At l) Absent h g o = below-reach l h
@@ -57,12 +58,13 @@ module _ (p : Problem) (r : InRange p) (e : Ends) (b : Boxed p e) where
 
   pub box-sized : SizedEnds e
   box-sized = record {
-    lo-in = tabled-within (p .count) (λ k. figureOf Low (itemAt p k)) (e .lo) (b .lows) 300000000 (λ k h. low-within (itemAt p k) (r .items-in k h));
-    hi-in = tabled-within (p .count) (λ k. figureOf High (itemAt p k)) (e .hi) (b .highs) 300000000 (λ k h. high-within (itemAt p k) (r .items-in k h));
+    lo-in = tabled-within (p .count) (λ k. figureOf Low (itemAt p k)) (e .lo) (b .lows) farthest (λ k h. low-within (itemAt p k) (r .items-in k h));
+    hi-in = tabled-within (p .count) (λ k. figureOf High (itemAt p k)) (e .hi) (b .highs) farthest (λ k h. high-within (itemAt p k) (r .items-in k h));
   }
 
   box-in-order : (k : ℕ) → k < p .count → at (e .lo) k ≤ℤ at (e .hi) k
-  box-in-order k h = let i = r .items-in k h in rw (low-is k h, high-is k h) (ends-in-order (itemAt p k .lower) (itemAt p k .upper) (i .lower-in) (i .upper-in) (i .in-order))
+  box-in-order k h = let i =
+      r .items-in k h in rw (low-is k h, high-is k h) (ends-in-order (itemAt p k .lower) (itemAt p k .upper) (i .lower-in) (i .upper-in) (i .in-order))
 
 -- ---- the setting
 
@@ -76,7 +78,7 @@ pub record Made (p : Problem) (by : Key) (s : Setting) : Type 0 where
   pub lows : Tabled (s .levels) (λ u. figureOf Low (listed p (s .level) u)) (s .low)
   pub highs : Tabled (s .levels) (λ u. figureOf High (listed p (s .level) u)) (s .high)
   pub latticing : Latticing p (s .level) (s .levels) (s .lattice)
-  pub softens : Softens p (s .cols) (s .soft)
+  pub strides-of : StrideBoundOf p (s .cols) (s .strides)
 
 module _ (p : Problem) (r : InRange p) (by : Key) (s : Setting) (m : Made p by s) where
   tells : Tells by
@@ -95,10 +97,12 @@ module _ (p : Problem) (r : InRange p) (by : Key) (s : Setting) (m : Made p by s
   }
 
   low-at : (d : ℕ) → d < s .levels → at (s .low) d ≡ at (s .ends .lo) (levelAt s d)
-  low-at d h = tabled-below (s .levels) (λ u. figureOf Low (listed p (s .level) u)) (s .low) (m .lows) d h ∙ sym (low-is p r (s .ends) (m .boxed) (levelAt s d) (inside d h))
+  low-at d h = tabled-below (s .levels) (λ u. figureOf Low (listed p (s .level) u)) (s .low) (m .lows) d h
+      ∙ sym (low-is p r (s .ends) (m .boxed) (levelAt s d) (inside d h))
 
   high-at : (d : ℕ) → d < s .levels → at (s .high) d ≡ at (s .ends .hi) (levelAt s d)
-  high-at d h = tabled-below (s .levels) (λ u. figureOf High (listed p (s .level) u)) (s .high) (m .highs) d h ∙ sym (high-is p r (s .ends) (m .boxed) (levelAt s d) (inside d h))
+  high-at d h = tabled-below (s .levels) (λ u. figureOf High (listed p (s .level) u)) (s .high) (m .highs) d h
+      ∙ sym (high-is p r (s .ends) (m .boxed) (levelAt s d) (inside d h))
 
   -- an item of no level is not integer
   no-level : (k : ℕ) → k < p .count → ((j : ℕ) → j < s .levels → levelAt s j ≢ k) → isInteger (itemAt p k .mark) ≡ false
@@ -114,26 +118,31 @@ module _ (p : Problem) (r : InRange p) (by : Key) (s : Setting) (m : Made p by s
   latticed : LatticesTrue p (s .level) (s .levels) (s .lattice)
   latticed = lattices-true p (s .level) (s .levels) (record { accepted = r; few = few; below = inside }) (s .lattice) (m .latticing)
 
-  soft : SoftTrue p (s .cols) (s .soft)
-  soft = soft-true p r (s .cols) (m .columned) (s .soft) (m .softens)
+  hold : StridesTrue p (s .cols) (s .strides)
+  hold = strides-true p r (s .cols) (m .columned) (s .strides) (m .strides-of)
 
   changes : (d : ℕ) → d < s .levels → latticeAt (s .lattice) d .stride ≢ pos 0 → Changes s d
   changes d l nz = record {
     fixed = λ k h n. let j : k < p .count = omega (arith, m .columned .count) in
-        low-is p r (s .ends) (m .boxed) k j ∙ fixed-ends (itemAt p k) (r .items-in k j .in-order) (latticed .fixed-all d (omega (arith, few)) nz k j) (no-level k j n) ∙ sym (high-is p r (s .ends) (m .boxed) k j);
-    on = λ j a b. rw (weight-is p (s .cols) r (m .columned) (levelAt s j) (inside j b), price-is p (s .cols) r (m .columned) (levelAt s j) (inside j b)) (latticed .on d l nz j a b);
+        low-is p r (s .ends) (m .boxed) k j ∙ fixed-ends (itemAt p k) (r .items-in k j .in-order) (latticed .fixed-all d (omega (arith, few)) nz k j)
+        (no-level k j n) ∙ sym (high-is p r (s .ends) (m .boxed) k j);
+    on = λ j a b. rw (weight-is p (s .cols) r (m .columned) (levelAt s j) (inside j b), price-is p (s .cols) r (m .columned) (levelAt s j) (inside j b))
+        (latticed .on d l nz j a b);
   }
 
-  -- continuous items are fixed or mild
-  softened : s .soft .stride ≢ pos 0 → Softened s
-  softened nz = record {
-    strides = λ j h. let q = soft .strides nz (levelAt s j) (inside j h) (marked .integer j h) in (q .0, weight-is p (s .cols) r (m .columned) (levelAt s j) (inside j h) ∙ q .1);
-    mild = λ k h n. let j : k < p .count = omega (arith, m .columned .count) in go k j n (fixed (itemAt p k)) refl;
+  -- continuous items are fixed or of bounded rate
+  strides-hold : s .strides .stride ≢ pos 0 → StridesHold s
+  strides-hold nz = record {
+    multiples = λ j h. let q =
+        hold .multiples nz (levelAt s j) (inside j h) (marked .integer j h) in (q .0, weight-is p (s .cols) r (m .columned) (levelAt s j) (inside j h) ∙ q .1);
+    rate-bounded = λ k h n. let j : k < p .count = omega (arith, m .columned .count) in go k j n (fixed (itemAt p k)) refl;
   }
     where
-      go : (k : ℕ) → k < p .count → ((j : ℕ) → j < s .levels → levelAt s j ≢ k) → (b : Bool) → fixed (itemAt p k) ≡ b → (at (s .ends .lo) k ≡ at (s .ends .hi) k) ⊎ Mild (s .cols) (s .soft) k
-      go k j n true e = inl (low-is p r (s .ends) (m .boxed) k j ∙ fixed-ends (itemAt p k) (r .items-in k j .in-order) e (no-level k j n) ∙ sym (high-is p r (s .ends) (m .boxed) k j))
-      go k j n false e = inr (soft .mild nz k j e)
+      go : (k : ℕ) → k < p .count → ((j : ℕ) → j < s .levels → levelAt s j ≢ k) → (b : Bool) → fixed (itemAt p k) ≡ b
+          → (at (s .ends .lo) k ≡ at (s .ends .hi) k) ⊎ RateBounded (s .cols) (s .strides) k
+      go k j n true e = inl (low-is p r (s .ends) (m .boxed) k j ∙ fixed-ends (itemAt p k) (r .items-in k j .in-order) e (no-level k j n) ∙ sym
+          (high-is p r (s .ends) (m .boxed) k j))
+      go k j n false e = inr (hold .rate-bounded nz k j e)
 
   pub prepared : Prepared p s
   prepared = record {
@@ -154,8 +163,8 @@ module _ (p : Problem) (r : InRange p) (by : Key) (s : Setting) (m : Made p by s
       high-is = high-at;
       tame = latticed .tame;
       changes = changes;
-      moderate = soft .moderate;
-      softened = softened;
+      strides-in = hold .in-range;
+      strides-hold = strides-hold;
     };
     marked = marked;
     arranged = record {
@@ -165,6 +174,6 @@ module _ (p : Problem) (r : InRange p) (by : Key) (s : Setting) (m : Made p by s
       sorted = subst (λ b. Sorted (λ k. keyOf b (itemAt p k)) (p .count) (s .level)) (m .by-is) (m .sorted);
       leads = m .leading;
       latticing = m .latticing;
-      softens = m .softens;
+      strides-of = m .strides-of;
     };
   }

@@ -1,3 +1,6 @@
+pub mod Figures
+pub mod Tables
 pub mod Prepared
 pub mod Narrowing
-pub mod Softening
+pub mod Strides
+pub mod Pairs

@@ -1,11 +1,19 @@
 -- How far a search of a problem without a ray has to go, and a setting that goes no farther.
+--   larger a b        the larger of two numbers
+--   boundSize b       a bound without sign, 0 where it is absent
+--   openWeight i      the weight of an item that lacks a bound, without sign, else 0
+--   grownBy m i       the greatest figures so far, with those of one item more
 --   mostOf p n        the greatest weight of an item that lacks a bound, and the greatest bound, of the first n items, without sign
---   burdenOf p a n    what the first n items weigh as far as they lead: to their bounds, and a farther if one is absent
---   reachOf p         how far the items of p lead: in weight, and in amount
---   spanOf p k        how far item k has to go, which is enough (knapsack, proofs/Reach)
+--   ownBound i, leadBy a i
+--                     how far an item's bounds lead, and how far the item leads: a farther if one is absent
+--   burdenOf p a n    what the first n items weigh as far as they lead
+--   reachBy, reachOf p  how far the items of p lead: in weight, and in amount
+--   spanBy r a, spanOf p k
+--                     how far an item of weight a, and item k, has to go, which is enough (knapsack, proofs/Reach)
 --   clampBy l u x     x, or the nearest of l and u
 --   clampTo r x       x, or the nearest of -r and r
 --   Narrowed s r t    t is s with every item's ends clamped to its span
+--   Small r           no span by the reach r is beyond what stands for an absent bound
 use mathlib.Core.Path.{_≡_}
 use mathlib.Core.Bool.{cond}
 use Prim.Native.Nat.{ℕ, zero, suc, _+_, _*_, _/_, _≤_, _<_}
@@ -15,13 +23,13 @@ use lib.ListN.{length}
 use lib.Signed.{ltZ}
 use Rattle.greedy.specs.Fill.{at, weightOf}
 use Rattle.knapsack.specs.Items.{isOpen}
-use Rattle.knapsack.specs.Records.{itemAt}
+use Rattle.knapsack.specs.Ranges.{itemAt}
 use Rattle.knapsack.specs.declared.Bound.the-variants.{Absent, At}
 use Rattle.knapsack.specs.declared.Bound.{Bound}
 use Rattle.knapsack.specs.declared.Item.{Item}
 use Rattle.knapsack.specs.declared.Problem.{Problem}
-use Rattle.search.specs.declared.Setting.{Setting}
-use Rattle.search.specs.Search.{levelAt}
+use Rattle.setting.specs.declared.Setting.{Setting}
+use Rattle.setting.specs.Box.{levelAt}
 use Rattle.prepare.specs.declared.Most.{Most}
 use Rattle.prepare.specs.declared.Reach.{Reach}
 
@@ -78,7 +86,7 @@ pub record Narrowed (s : Setting) (r : Reach) (t : Setting) : Type 0 where
   pub level : t .level ≡ s .level
   pub levels : t .levels ≡ s .levels
   pub lattice : t .lattice ≡ s .lattice
-  pub soft : t .soft ≡ s .soft
+  pub strides : t .strides ≡ s .strides
   pub lo : (k : ℕ) → k < 16 → at (t .ends .lo) k ≡ clampTo (spanBy r (weightOf (s .cols) k)) (at (s .ends .lo) k)
   pub hi : (k : ℕ) → k < 16 → at (t .ends .hi) k ≡ clampTo (spanBy r (weightOf (s .cols) k)) (at (s .ends .hi) k)
   pub low : (d : ℕ) → d < s .levels → at (t .low) d ≡ at (t .ends .lo) (levelAt s d)

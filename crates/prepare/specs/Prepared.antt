@@ -1,13 +1,16 @@
 -- What a search is given of an accepted problem.
 --   Columned p c     the columns c of the problem p: its figures by item and by rank, 0 beyond the count, and the order of filling
---   Boxed p e        its ends: an absent bound is 300,000,000 away (knapsack, proofs/Reach)
+--   Boxed p e        its ends: an absent bound is the farthest amount away (knapsack, proofs/Reach)
+--   byPrice          the order for branching where no item is critical
 --   criticalKey c f  how the items are ordered for branching where the filling f stops: by their reduced prices at the critical
 --                    item's price per weight; by price alone where there is none
+--   column n f       what a table of n entries holds
+--   latticeBy p l n first d  the lattice of the items from level d on, or nothing where only the first items are fixed
 --   Latticing p l n r  r holds the lattices of the levels l: of what the items from a level on change; nothing is known where a
 --                    continuous item is free
 --   Arranged p s     columns, levels, lattices and strides of s are those of p, with the levels in the order of branching
 --   PreparedAt r p s the setting s is that of p, and in order; item k's absent bounds are r k away
---   Prepared p s     the same at 300,000,000
+--   Prepared p s     the same at the farthest amount
 use mathlib.Core.Path.{_≡_}
 use mathlib.Core.Bool.{cond}
 use mathlib.Core.List.{List}
@@ -15,25 +18,26 @@ use Prim.Native.Nat.{ℕ, _<_}
 use lib.Dec.{ltb}
 use lib.IntN.{ℤ, pos, negℤ}
 use lib.Signed.{ltZ}
+use Rattle.arith.specs.Limits.{farthest}
 use Rattle.greedy.specs.Fill.{at, weightOf, priceOf, fill}
 use Rattle.greedy.specs.declared.Columns.{Columns}
 use Rattle.greedy.specs.declared.Ends.{Ends}
 use Rattle.greedy.specs.declared.Fill.{Fill}
-use Rattle.knapsack.specs.Records.{itemAt}
+use Rattle.knapsack.specs.Ranges.{itemAt}
 use Rattle.knapsack.specs.declared.Problem.{Problem}
 use Rattle.lattice.specs.Building.{latticeOf}
 use Rattle.lattice.specs.Lattice.{unknown, latticeAt}
 use Rattle.lattice.specs.declared.Lattice.{Lattice}
 use Rattle.ordering.specs.Ranking.{Sorted}
-use Rattle.search.specs.Ready.{ReadySetting, Marked}
-use Rattle.search.specs.declared.Setting.{Setting}
-use Rattle.tables.specs.Figures.{endOr, figureOf, fixed, passes, keyOf}
-use Rattle.tables.specs.Tables.{Tabled, listed, Leading, Inverted}
-use Rattle.tables.specs.declared.Figure.the-variants.{Weight, Price, Low, High, Size, Rate}
-use Rattle.tables.specs.declared.Key.the-variants.{Filling, Branching}
-use Rattle.tables.specs.declared.Key.{Key}
-use Rattle.tables.specs.declared.Test.the-variants.{Live, Level}
-use Rattle.prepare.specs.Softening.{Softens}
+use Rattle.setting.specs.Ready.{ReadySetting, Marked}
+use Rattle.setting.specs.declared.Setting.{Setting}
+use Rattle.prepare.specs.Figures.{endOr, figureOf, fixed, passes, keyOf}
+use Rattle.prepare.specs.Tables.{Tabled, listed, Leading, Inverted}
+use Rattle.prepare.specs.declared.tables.Figure.the-variants.{Weight, Price, Low, High, Size, Rate}
+use Rattle.prepare.specs.declared.tables.Key.the-variants.{Filling, Branching}
+use Rattle.prepare.specs.declared.tables.Key.{Key}
+use Rattle.prepare.specs.declared.tables.Test.the-variants.{Live, Level}
+use Rattle.prepare.specs.Strides.{StrideBoundOf}
 
 pub record Columned (p : Problem) (c : Columns) : Type 0 where
   pub count : c .count ≡ p .count
@@ -76,7 +80,7 @@ pub record Arranged (p : Problem) (s : Setting) : Type 0 where
   pub sorted : Sorted (λ k. keyOf (criticalKey (s .cols) (fill (s .cols) box)) (itemAt p k)) (p .count) (s .level)
   pub leads : Leading (p .count) (λ u. passes Level (listed p (s .level) u)) (s .levels)
   pub latticing : Latticing p (s .level) (s .levels) (s .lattice)
-  pub softens : Softens p (s .cols) (s .soft)
+  pub strides-of : StrideBoundOf p (s .cols) (s .strides)
 
 pub record PreparedAt (r : ℕ → ℕ) (p : Problem) (s : Setting) : Type 0 where
   pub count : s .cols .count ≡ p .count
@@ -91,4 +95,4 @@ pub record PreparedAt (r : ℕ → ℕ) (p : Problem) (s : Setting) : Type 0 whe
 
 -- at the reach that is enough for every problem
 abbrev pub Prepared : Problem → Setting → Type 0
-Prepared p s = PreparedAt (λ k. 300000000) p s
+Prepared p s = PreparedAt (λ k. farthest) p s

@@ -10,8 +10,9 @@ use lattice::lattices;
 use lattice::unknown_lattices;
 pub use narrowing::narrowed;
 pub use narrowing::reach_of;
-use search::Setting;
-use softening::soft_of;
+pub use pairs::pairs_of;
+use setting::Setting;
+use stride::stride_bound;
 use tables::Figure;
 use tables::Key;
 use tables::Test;
@@ -24,12 +25,14 @@ ghost use mathlib.Core.Path.{_≡_};
 ghost use Prim.Native.Nat.{_<_};
 ghost use Rattle.greedy.specs.Fill.{fill};
 ghost use Rattle.greedy.specs.Sized.{Sized};
-ghost use Rattle.knapsack.specs.Records.{InRange};
+ghost use Rattle.knapsack.specs.Ranges.{InRange};
 ghost use Rattle.prepare.specs.Prepared.{Columned, Boxed, criticalKey, Latticing, Prepared};
-ghost use Rattle.tables.specs.Tables.{Listing};
+ghost use Rattle.prepare.specs.Tables.{Listing};
 
 mod narrowing; // narrowing.rt: the nearer box of a search
-mod softening; // softening.rt: what continuous items can add
+mod pairs; // pairs.rt: the table of domination pairs
+mod stride; // stride.rt: what continuous items can add
+mod tables; // tables.rt: arrays by item, by rank and by level, and the two orders
 
 // Of some items, without sign: the greatest weight of one that lacks a bound, and the greatest bound.
 pub struct Most {
@@ -127,7 +130,7 @@ pub fn prepare(p: Problem) -> Setting
     let low = table(p, level, levels, Figure::Low);
     let high = table(p, level, levels, Figure::High);
     let lattice = lattices_of(p, level, levels);
-    let soft = soft_of(p, cols);
+    let strides = stride_bound(p, cols);
     Setting {
         cols: cols,
         ends: ends,
@@ -136,6 +139,6 @@ pub fn prepare(p: Problem) -> Setting
         high: high,
         lattice: lattice,
         levels: levels,
-        soft: soft,
+        strides: strides,
     }
 }

@@ -8,15 +8,17 @@ use knapsack::Bound;
 use knapsack::Item;
 use knapsack::Problem;
 use knapsack::is_open;
-use search::Setting;
+use setting::Setting;
 ghost use mathlib.Core.Path.{_≡_};
 ghost use Prim.Native.Nat.{ℕ, _*_, _≤_, _<_};
 ghost use lib.IntN.{natAbs};
+ghost use Rattle.arith.specs.Limits.{farthest};
 ghost use Rattle.arith.specs.Within.{Within};
 ghost use Rattle.greedy.specs.Fill.{at, place};
-ghost use Rattle.knapsack.specs.Records.{ItemInRange, BoundInRange, InRange};
-ghost use Rattle.search.specs.Ready.{ReadySetting};
-ghost use Rattle.prepare.specs.Narrowing.{larger, boundSize, openWeight, grownBy, mostOf, leadBy, burdenOf, reachOf, spanBy, clampBy, clampTo, Narrowed, Small};
+ghost use Rattle.knapsack.specs.Ranges.{ItemInRange, BoundInRange, InRange};
+ghost use Rattle.setting.specs.Ready.{ReadySetting};
+ghost use Rattle.prepare.specs.Narrowing.{larger, boundSize, openWeight, grownBy, mostOf, leadBy, burdenOf, reachOf, spanBy, clampBy, clampTo, Narrowed};
+ghost use Rattle.prepare.specs.Narrowing.{Small};
 
 fn larger_of(a: u64, b: u64) -> u64
     ensures { λ r. ⌜ r ≡ larger a b ⌝ }
@@ -134,7 +136,7 @@ pub fn reach_of(p: Problem) -> Reach
 // How far an item of weight a has to go.
 fn span_of(r: Reach, a: i64) -> u64
     requires { ⌜ Small r × Within 1000 a ⌝ }
-    ensures { λ n. ⌜ (n ≡ spanBy r a) × (n ≤ 300000000) ⌝ }
+    ensures { λ n. ⌜ (n ≡ spanBy r a) × (n ≤ farthest) ⌝ }
 {
     let d = larger_of(1, magnitude(a));
     r.amount + r.weight / d + 1
@@ -209,7 +211,7 @@ pub fn narrowed(s: Setting, r: Reach) -> Setting
     let low = by_level(lo, level, n);
     let high = by_level(hi, level, n);
     let lattice = s.lattice;
-    let soft = s.soft;
+    let strides = s.strides;
     Setting {
         cols: cols,
         ends: Ends { lo: lo, hi: hi },
@@ -218,6 +220,6 @@ pub fn narrowed(s: Setting, r: Reach) -> Setting
         high: high,
         lattice: lattice,
         levels: n,
-        soft: soft,
+        strides: strides,
     }
 }

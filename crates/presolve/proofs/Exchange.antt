@@ -9,7 +9,7 @@ use Prim.Native.Nat.{ℕ, _<_}
 use native.Mathlib.Omega.{arith}
 use lib.IntN.{*ℤ-comm, ℤ, pos, negℤ, _+ℤ_, _-ℤ_, _*ℤ_}
 use lib.Signed.{_≤ℤ_, ltZ}
-use Rattle.arith.proofs.Integers.{split, split2, split3, split4, zed, *ℤ-nonneg, times-≤}
+use Rattle.arith.proofs.Integers.{split, split2, split3, split4, zed, *ℤ-nonneg, times-≤, ≤ℤ-diff}
 use Rattle.arith.proofs.Parts.{lt-le}
 use Rattle.arith.proofs.Sums.{bump-same, bump-other, each-bump, sum-bump}
 use Rattle.arith.proofs.Words.{yes-lt, no-lt}
@@ -17,7 +17,7 @@ use Rattle.arith.specs.Sum.{sum, bump}
 use Rattle.knapsack.proofs.Common.{KeepsMarkᴰ, KeepsLowerᴰ, KeepsUpperᴰ, Keepsᴰ, Feasibleᴰ}
 use Rattle.knapsack.proofs.Moves.{mark-step}
 use Rattle.knapsack.specs.Meaning.{Instance, weights}
-use Rattle.knapsack.specs.Records.{InOrder}
+use Rattle.knapsack.specs.Ranges.{BoundsInOrder}
 use Rattle.knapsack.specs.declared.Bound.{Bound}
 use Rattle.knapsack.specs.declared.Bound.the-variants.{Absent, At}
 use Rattle.knapsack.specs.declared.Mark.{Mark}
@@ -74,10 +74,7 @@ module _ (D : ℕ) where
       less = split2 _ (λ a b c e. simp zed (omega arith))
 
   none-below : (b : Bound) (n v : ℤ) → b ≡ At v → KeepsLowerᴰ D b n → pos 0 ≤ℤ (n -ℤ v *ℤ pos D)
-  none-below b n v e p = more n (v *ℤ pos D) (subst (λ b. KeepsLowerᴰ D b n) e p)
-    where
-      more : (n w : ℤ) → w ≤ℤ n → pos 0 ≤ℤ (n -ℤ w)
-      more = split2 _ (λ a b c e. simp zed (omega arith))
+  none-below b n v e p = ≤ℤ-diff n (v *ℤ pos D) (subst (λ b. KeepsLowerᴰ D b n) e p)
 
   mark-stays : (s t : Mark) (k n m v : ℤ) → (s ≡ Integer → t ≡ Integer) → KeepsMarkᴰ D s k → KeepsMarkᴰ D t n → KeepsMarkᴰ D s (k +ℤ m *ℤ (n -ℤ v *ℤ pos D))
   mark-stays Continuous t k n m v h p q = tt
@@ -90,7 +87,8 @@ module _ (D : ℕ) where
       go (w, e) = subst (λ z. KeepsMarkᴰ D Integer (k +ℤ z)) (whole m w v ∙ ap (λ z. m *ℤ (z -ℤ v *ℤ pos D)) (sym e)) (mark-step D Integer k (m *ℤ (w -ℤ v)) p)
 
   -- with what y gives up, x keeps its mark and bounds
-  pub keeps-more : (m v : ℤ) (x y : Item) (k n : ℤ) → Multiple m x y → RestsBeside m x y v → Keepsᴰ D x k → Keepsᴰ D y n → Keepsᴰ D x (k +ℤ m *ℤ (n -ℤ v *ℤ pos D))
+  pub keeps-more : (m v : ℤ) (x y : Item) (k n : ℤ) → Multiple m x y → RestsBeside m x y v → Keepsᴰ D x k → Keepsᴰ D y n
+      → Keepsᴰ D x (k +ℤ m *ℤ (n -ℤ v *ℤ pos D))
   keeps-more m v x y k n f g p q = record {
     marked = mark-stays (x .mark) (y .mark) k n m v (f .marks) (p .marked) (q .marked);
     above = lower-stays (x .lower) k r (low (ltZ m (pos 0)) refl (g .lowered) (g .raised)) (p .above);
@@ -103,13 +101,15 @@ module _ (D : ℕ) where
       r : ℤ
       r = m *ℤ t
 
-      low : (b : Bool) → ltZ m (pos 0) ≡ b → (y .upper ≡ At v) ⊎ (stopLowered m x ≡ Absent) → (y .lower ≡ At v) ⊎ (stopRaised m x ≡ Absent) → (pos 0 ≤ℤ r) ⊎ (x .lower ≡ Absent)
+      low : (b : Bool) → ltZ m (pos 0) ≡ b → (y .upper ≡ At v) ⊎ (stopLowered m x ≡ Absent) → (y .lower ≡ At v) ⊎ (stopRaised m x ≡ Absent) → (pos 0 ≤ℤ r)
+          ⊎ (x .lower ≡ Absent)
       low true e (inl u) l = inl (fall-fall m t (lt-le (yes-lt e)) (none-above (y .upper) n v u (q .below)))
       low true e (inr u) l = inr (rw e at u)
       low false e u (inl l) = inl (*ℤ-nonneg m t (no-lt e) (none-below (y .lower) n v l (q .above)))
       low false e u (inr l) = inr (rw e at l)
 
-      high : (b : Bool) → ltZ m (pos 0) ≡ b → (y .upper ≡ At v) ⊎ (stopLowered m x ≡ Absent) → (y .lower ≡ At v) ⊎ (stopRaised m x ≡ Absent) → (r ≤ℤ pos 0) ⊎ (x .upper ≡ Absent)
+      high : (b : Bool) → ltZ m (pos 0) ≡ b → (y .upper ≡ At v) ⊎ (stopLowered m x ≡ Absent) → (y .lower ≡ At v) ⊎ (stopRaised m x ≡ Absent) → (r ≤ℤ pos 0)
+          ⊎ (x .upper ≡ Absent)
       high true e u (inl l) = inl (fall-rise m t (lt-le (yes-lt e)) (none-below (y .lower) n v l (q .above)))
       high true e u (inr l) = inr (rw e at l)
       high false e (inl u) l = inl (rise-fall m t (no-lt e) (none-above (y .upper) n v u (q .below)))
@@ -123,11 +123,11 @@ module _ (D : ℕ) where
       mark Integer = (v, refl)
       mark Continuous = tt
 
-      low : (l : Bound) → InOrder l (At v) → KeepsLowerᴰ D l (v *ℤ pos D)
+      low : (l : Bound) → BoundsInOrder l (At v) → KeepsLowerᴰ D l (v *ℤ pos D)
       low Absent h = tt
       low (At l) h = times-≤ D l v h
 
-      high : (u : Bound) → InOrder (At v) u → KeepsUpperᴰ D u (v *ℤ pos D)
+      high : (u : Bound) → BoundsInOrder (At v) u → KeepsUpperᴰ D u (v *ℤ pos D)
       high Absent h = tt
       high (At u) h = times-≤ D v u h
 
@@ -141,7 +141,8 @@ module _ (D : ℕ) (N : ℕ → ℤ) (i j : ℕ) (m v : ℤ) (ne : j ≢ i) wher
   back = split2 _ (λ a b c e. simp zed (omega arith))
 
   pub exchanged-rests : exchanged D N i j m v j ≡ v *ℤ pos D
-  exchanged-rests = bump-same (bump N i (m *ℤ (N j -ℤ v *ℤ pos D))) j (v *ℤ pos D -ℤ N j) ∙ ap (λ z. z +ℤ (v *ℤ pos D -ℤ N j)) (bump-other N i (m *ℤ (N j -ℤ v *ℤ pos D)) j ne) ∙ back (N j) (v *ℤ pos D)
+  exchanged-rests = bump-same (bump N i (m *ℤ (N j -ℤ v *ℤ pos D))) j (v *ℤ pos D -ℤ N j)
+      ∙ ap (λ z. z +ℤ (v *ℤ pos D -ℤ N j)) (bump-other N i (m *ℤ (N j -ℤ v *ℤ pos D)) j ne) ∙ back (N j) (v *ℤ pos D)
 
   -- what item i gains item j gives up
   pub exchanged-sum : (n : ℕ) (a : ℕ → ℤ) → i < n → j < n → m *ℤ a i ≡ a j → sum n (λ k. a k *ℤ exchanged D N i j m v k) ≡ sum n (λ k. a k *ℤ N k)
@@ -154,11 +155,13 @@ module _ (D : ℕ) (N : ℕ → ℤ) (i j : ℕ) (m v : ℤ) (ne : j ≢ i) wher
       cancel : (x m n w s : ℤ) → (s +ℤ x *ℤ (m *ℤ (n -ℤ w))) +ℤ (m *ℤ x) *ℤ (w -ℤ n) ≡ s
       cancel = split _ (λ a b. split4 _ (λ c e f g h i k l. simp zed (omega arith)))
 
-pub exchanged-feasible : (s : Instance) (i j : ℕ) (m v : ℤ) → i < s .count → j < s .count → j ≢ i → Multiple m (s .item i) (s .item j) → RestsBeside m (s .item i) (s .item j) v
+pub exchanged-feasible : (s : Instance) (i j : ℕ) (m v : ℤ) → i < s .count → j < s .count → j ≢ i → Multiple m (s .item i) (s .item j)
+    → RestsBeside m (s .item i) (s .item j) v
     → (D : ℕ) (N : ℕ → ℤ) → Feasibleᴰ s D N → Feasibleᴰ s D (exchanged D N i j m v)
 exchanged-feasible s i j m v l h ne f g D N p = record {
   keeps = each-bump (λ k. Keepsᴰ D (s .item k)) (bump N i r) j (v *ℤ pos D -ℤ N j) (s .count)
-      (each-bump (λ k. Keepsᴰ D (s .item k)) N i r (s .count) (p .keeps) (keeps-more D m v (s .item i) (s .item j) (N i) (N j) f g (p .keeps i l) (p .keeps j h)))
+      (each-bump (λ k. Keepsᴰ D (s .item k)) N i r (s .count) (p .keeps) (keeps-more D m v (s .item i) (s .item j) (N i) (N j) f g (p .keeps i l)
+      (p .keeps j h)))
       (subst (Keepsᴰ D (s .item j)) (sym rests) (keeps-rest D _ _ (s .item j) v g));
   fits = subst (λ z. z ≤ℤ (s .capacity *ℤ pos D)) (sym (exchanged-sum D N i j m v ne (s .count) (weights s) l h (f .weights))) (p .fits);
 }

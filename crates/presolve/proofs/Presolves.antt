@@ -21,7 +21,7 @@ use Rattle.arith.proofs.Sums.{sum-cong}
 use Rattle.arith.specs.Sum.{sum}
 use Rattle.knapsack.proofs.Common.{KeepsLowerᴰ, KeepsUpperᴰ, Keepsᴰ, valueᴰ, Feasibleᴰ}
 use Rattle.knapsack.specs.Meaning.{instanceOf, prices}
-use Rattle.knapsack.specs.Records.{blank, itemAt, InOrder, ItemInRange, InRange}
+use Rattle.knapsack.specs.Ranges.{blank, itemAt, BoundsInOrder, ItemInRange, InRange}
 use Rattle.knapsack.specs.declared.Bound.{Bound}
 use Rattle.knapsack.specs.declared.Bound.the-variants.{Absent, At}
 use Rattle.knapsack.specs.declared.Item.{Item}
@@ -39,7 +39,8 @@ pub record Presolves (p q : Problem) : Type 0 where
   pub price : (k : ℕ) → k < p .count → itemAt q k .price ≡ itemAt p k .price
   pub in-range : InRange q
   pub within : (D : ℕ) (N : ℕ → ℤ) → Feasibleᴰ (instanceOf q) D N → Feasibleᴰ (instanceOf p) D N
-  pub no-loss : (D : ℕ) (N : ℕ → ℤ) → 1 ≤ D → Feasibleᴰ (instanceOf p) D N → (M : ℕ → ℤ) × (Feasibleᴰ (instanceOf q) D M × (valueᴰ (instanceOf q) M ≡ valueᴰ (instanceOf p) N))
+  pub no-loss : (D : ℕ) (N : ℕ → ℤ) → 1 ≤ D → Feasibleᴰ (instanceOf p) D N → (M : ℕ → ℤ)
+      × (Feasibleᴰ (instanceOf q) D M × (valueᴰ (instanceOf q) M ≡ valueᴰ (instanceOf p) N))
 
 pub presolves-refl : (p : Problem) → InRange p → Presolves p p
 presolves-refl p r = record {
@@ -74,11 +75,11 @@ presolves-trans p q r f g = record {
 unfixed : (D : ℕ) (y : Item) (a b : Bound) (v n : ℤ) → Rests a b (y .lower) (y .upper) v → Keepsᴰ D (fixedAt v y) n → Keepsᴰ D y n
 unfixed D y a b v n g p = record { marked = p .marked; above = low (y .lower) (g .over); below = high (y .upper) (g .under) }
   where
-    low : (l : Bound) → InOrder l (At v) → KeepsLowerᴰ D l n
+    low : (l : Bound) → BoundsInOrder l (At v) → KeepsLowerᴰ D l n
     low Absent h = tt
     low (At l) h = ≤ℤ-trans (times-≤ D l v h) (p .above)
 
-    high : (u : Bound) → InOrder (At v) u → KeepsUpperᴰ D u n
+    high : (u : Bound) → BoundsInOrder (At v) u → KeepsUpperᴰ D u n
     high Absent h = tt
     high (At u) h = ≤ℤ-trans (p .below) (times-≤ D v u h)
 
@@ -108,7 +109,8 @@ module _ (p : Problem) (i j : ℕ) (m v : ℤ) (i-in : i < p .count) (j-in : j <
   as-before : (figure : Item → ℤ) → figure (fixedAt v y) ≡ figure y → (k : ℕ) → figure (itemAt q k) ≡ figure (itemAt p k)
   as-before figure e k = each (λ x. figure x ≡ figure (itemAt p k)) k (λ h. rw h e) (λ h. refl)
 
-  sums : (figure : Item → ℤ) → figure (fixedAt v y) ≡ figure y → (N : ℕ → ℤ) → sum (p .count) (λ k. figure (itemAt q k) *ℤ N k) ≡ sum (p .count) (λ k. figure (itemAt p k) *ℤ N k)
+  sums : (figure : Item → ℤ) → figure (fixedAt v y) ≡ figure y → (N : ℕ → ℤ)
+      → sum (p .count) (λ k. figure (itemAt q k) *ℤ N k) ≡ sum (p .count) (λ k. figure (itemAt p k) *ℤ N k)
   sums figure e N = sum-cong (p .count) (λ k. figure (itemAt q k) *ℤ N k) (λ k. figure (itemAt p k) *ℤ N k) (λ k h. ap (λ z. z *ℤ N k) (as-before figure e k))
 
   wider : (D : ℕ) (N : ℕ → ℤ) → Feasibleᴰ (instanceOf q) D N → Feasibleᴰ (instanceOf p) D N
@@ -156,7 +158,8 @@ set-beyond (y ∷ l) (suc j) x h = ap (λ m. y ∷ m) (set-beyond l j x (omega a
 
 -- storing what is there changes nothing
 as-it-was : (p : Problem) (j : ℕ) → InRange p → Presolves p (withItem p j (itemAt p j))
-as-it-was p j r = subst (λ l. Presolves p (record { items = l; count = p .count; capacity = p .capacity })) (sym (set-getD (p .items) j blank)) (presolves-refl p r)
+as-it-was p j r = subst (λ l. Presolves p (record { items = l; count = p .count; capacity = p .capacity })) (sym (set-getD (p .items) j blank))
+    (presolves-refl p r)
 
 beside-presolves : (p : Problem) (i j : ℕ) → InRange p → i < p .count → j < p .count → j ≢ i → Presolves p (withItem p j (beside (itemAt p i) (itemAt p j)))
 unfolding beside
@@ -168,11 +171,14 @@ beside-presolves p i j r i-in j-in ne = go (parallel x y) refl (restOf (factor x
     y : Item
     y = itemAt p j
 
-    go : (t : Bool) → parallel x y ≡ t → (b : Bound) → restOf (factor x y) x y ≡ b → Dec (j < length (p .items)) → Presolves p (withItem p j (cond t (fixedTo b y) y))
+    go : (t : Bool) → parallel x y ≡ t → (b : Bound) → restOf (factor x y) x y ≡ b → Dec (j < length (p .items))
+        → Presolves p (withItem p j (cond t (fixedTo b y) y))
     go false e b h d = as-it-was p j r
     go true e Absent h d = as-it-was p j r
-    go true e (At v) h (yes d) = fixed-item p i j (factor x y) v i-in j-in ne (multiple-true (factor x y) x y e) (rests (factor x y) x y v (r .items-in j j-in) h) d r
-    go true e (At v) h (no d) = subst (λ l. Presolves p (record { items = l; count = p .count; capacity = p .capacity })) (sym (set-beyond (p .items) j (fixedAt v y) (omega arith))) (presolves-refl p r)
+    go true e (At v) h (yes d) =
+        fixed-item p i j (factor x y) v i-in j-in ne (multiple-true (factor x y) x y e) (rests (factor x y) x y v (r .items-in j j-in) h) d r
+    go true e (At v) h (no d) = subst (λ l. Presolves p (record { items = l; count = p .count; capacity = p .capacity }))
+        (sym (set-beyond (p .items) j (fixedAt v y) (omega arith))) (presolves-refl p r)
 
 tried-presolves : (p : Problem) (i j : ℕ) → InRange p → i < p .count → j < p .count → Presolves p (tried p i j)
 unfolding tried
@@ -188,7 +194,8 @@ fixed-by-presolves p i zero r i-in h = presolves-refl p r
 fixed-by-presolves p i (suc n) r i-in h = go (fixed-by-presolves p i n r i-in (omega arith))
   where
     go : Presolves p (fixedBy p i n) → Presolves p (tried (fixedBy p i n) i n)
-    go f = presolves-trans p (fixedBy p i n) (tried (fixedBy p i n) i n) f (tried-presolves (fixedBy p i n) i n (f .in-range) (omega (arith, f .count)) (omega (arith, f .count)))
+    go f = presolves-trans p (fixedBy p i n) (tried (fixedBy p i n) i n) f
+        (tried-presolves (fixedBy p i n) i n (f .in-range) (omega (arith, f .count)) (omega (arith, f .count)))
 
 pub around-presolves : (p : Problem) (i : ℕ) → InRange p → i < p .count → Presolves p (fixedAround p i)
 unfolding fixedAround

@@ -18,7 +18,7 @@ use borrow.Author.Tests.{eq-eqb, ne-eqb}
 use Rattle.arith.proofs.Integers.{≤ℤ-antisym, ≤ℤ-reflexive}
 use Rattle.arith.proofs.Parts.{impossible}
 use Rattle.arith.proofs.Words.{yes-lt, no-lt, le-no, same-bits}
-use Rattle.knapsack.specs.Records.{BoundInRange, InOrder, ItemInRange}
+use Rattle.knapsack.specs.Ranges.{BoundInRange, BoundsInOrder, ItemInRange}
 use Rattle.knapsack.specs.declared.Bound.{Bound}
 use Rattle.knapsack.specs.declared.Bound.the-variants.{Absent, At}
 use Rattle.knapsack.specs.declared.Mark.{Mark}
@@ -75,12 +75,16 @@ pub multiple-true : (m : ℤ) (x y : Item) → multiple m x y ≡ true → Multi
 multiple-true m x y h =
     let w = both (same (m *ℤ x .weight) (y .weight)) _ h in
     let c = both (same (m *ℤ x .price) (y .price)) _ (w .1) in
-    record { weights = same-true (m *ℤ x .weight) (y .weight) (w .0); prices = same-true (m *ℤ x .price) (y .price) (c .0); marks = suits-true (x .mark) (y .mark) (c .1) }
+    record {
+      weights = same-true (m *ℤ x .weight) (y .weight) (w .0);
+      prices = same-true (m *ℤ x .price) (y .price) (c .0);
+      marks = suits-true (x .mark) (y .mark) (c .1);
+    }
 
 -- lowered or raised to v, it is at v at once or the other meets no bound
 pub record Rests (a b l u : Bound) (v : ℤ) : Type 0 where
-  pub over : InOrder l (At v)
-  pub under : InOrder (At v) u
+  pub over : BoundsInOrder l (At v)
+  pub under : BoundsInOrder (At v) u
   pub lowered : (u ≡ At v) ⊎ (a ≡ Absent)
   pub raised : (l ≡ At v) ⊎ (b ≡ Absent)
   pub small : natAbs v ≤ 10000
@@ -95,17 +99,18 @@ not-at : {v : ℤ} → Absent ≡ At v → ⊥
 not-at h = let z : _≡_ {A = ℕ} 0 1 = cc in omega arith
 
 -- at the lower bound
-at-lower : (b u : Bound) (l : ℤ) → BoundInRange (At l) → InOrder (At l) u → Rests Absent b (At l) u l
+at-lower : (b u : Bound) (l : ℤ) → BoundInRange (At l) → BoundsInOrder (At l) u → Rests Absent b (At l) u l
 at-lower b u l s o = record { over = ≤ℤ-refl l; under = o; lowered = inr refl; raised = inl refl; small = s }
 
 -- at the upper bound
-at-upper : (a l : Bound) (u : ℤ) → BoundInRange (At u) → InOrder l (At u) → Rests a Absent l (At u) u
+at-upper : (a l : Bound) (u : ℤ) → BoundInRange (At u) → BoundsInOrder l (At u) → Rests a Absent l (At u) u
 at-upper a l u s o = record { over = o; under = ≤ℤ-refl u; lowered = inl refl; raised = inr refl; small = s }
 
-rests-by : (a b l u : Bound) (v : ℤ) → BoundInRange l → BoundInRange u → InOrder l u → restBy a b l u ≡ At v → Rests a b l u v
+rests-by : (a b l u : Bound) (v : ℤ) → BoundInRange l → BoundInRange u → BoundsInOrder l u → restBy a b l u ≡ At v → Rests a b l u v
 rests-by Absent b (At l) u v sl su o h = rw (← at-injective h) (at-lower b u l sl o)
 rests-by Absent Absent Absent (At u) v sl su o h = rw (← at-injective h) (at-upper Absent Absent u su tt)
-rests-by Absent Absent Absent Absent v sl su o h = rw (← at-injective h) (record { over = tt; under = tt; lowered = inr refl; raised = inr refl; small = omega arith })
+rests-by Absent Absent Absent Absent v sl su o h =
+    rw (← at-injective h) (record { over = tt; under = tt; lowered = inr refl; raised = inr refl; small = omega arith })
 rests-by Absent (At w) Absent u v sl su o h = absurd (not-at h)
 rests-by (At w) Absent l (At u) v sl su o h = rw (← at-injective h) (at-upper (At w) l u su o)
 rests-by (At w) Absent l Absent v sl su o h = absurd (not-at h)

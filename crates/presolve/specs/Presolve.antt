@@ -24,7 +24,7 @@ use lib.IntN.{ℤ, pos, _*ℤ_}
 use lib.Signed.{ltZ}
 use Rattle.arith.specs.Division.{floorDiv}
 use Rattle.knapsack.specs.Items.{isOpen, withItem}
-use Rattle.knapsack.specs.Records.{itemAt}
+use Rattle.knapsack.specs.Ranges.{itemAt}
 use Rattle.knapsack.specs.declared.Bound.{Bound}
 use Rattle.knapsack.specs.declared.Bound.the-variants.{Absent, At}
 use Rattle.knapsack.specs.declared.Mark.{Mark}

@@ -1,6 +1,6 @@
 // Presolve: items that are multiples of one another, parallel columns, are fixed where another item can take over what they give up,
-// so that a search does not go along rows of points of equal value. Nothing is lost: proofs/Exchange, presolved-presolves.
-// An answer of the presolved problem answers the problem: proofs/Answers, answers-presolved.
+// so that a search does not go along rows of points of equal value. Nothing is lost: proofs/Presolves (presolved-presolves).
+// An answer of the presolved problem answers the problem: proofs/Answers (answers-presolved).
 use arith::floor_div;
 use knapsack::Bound;
 use knapsack::Item;
@@ -12,8 +12,9 @@ ghost use mathlib.Core.Path.{_≡_};
 ghost use Prim.Native.Nat.{_<_};
 ghost use lib.IntN.{pos, _*ℤ_};
 ghost use Rattle.arith.specs.Within.{Within};
-ghost use Rattle.knapsack.specs.Records.{itemAt, ItemInRange, InRange};
-ghost use Rattle.presolve.specs.Presolve.{same, takesOver, suits, multiple, stopLowered, stopRaised, openTo, orElse, restOf, fixedTo, beside, tried, fixedBy, presolved};
+ghost use Rattle.knapsack.specs.Ranges.{itemAt, ItemInRange, InRange};
+ghost use Rattle.presolve.specs.Presolve.{same, takesOver, suits, multiple, stopLowered, stopRaised, openTo, orElse, restOf, fixedTo, beside, tried};
+ghost use Rattle.presolve.specs.Presolve.{fixedBy, presolved};
 
 fn equal(a: i64, b: i64) -> bool
     ensures { λ r. ⌜ r ≡ same a b ⌝ }
@@ -128,7 +129,7 @@ fn fixed_to(b: Bound, y: Item) -> Item
     }
 }
 
-// y, fixed if x can take over from it: proofs/Presolves, beside-presolves.
+// y, fixed if x can take over from it: proofs/Presolves (beside-presolves).
 fn fix_beside(x: Item, y: Item) -> Item
     requires { ⌜ (x .weight ≡ pos 0 → ⊥) × (ItemInRange x × ItemInRange y) ⌝ }
     ensures { λ r. ⌜ r ≡ beside x y ⌝ }

@@ -1,11 +1,10 @@
--- The light corner: every item at the closed end where it weighs least. Absent bounds are closed at ±300,000,000 (knapsack, Reach).
+-- The light corner: every item at the closed end where it weighs least. Absent bounds are closed at the farthest amounts (knapsack, proofs/Reach).
 --   LightCorner s lo hi e    e is a light corner of s, whose closed ends are lo and hi
--- ranges-of, ends-ordered: what a record in range says of the ends.
--- ranges-relaxed, no-ray-relaxed, corner-relaxed: all of it holds of the relaxed instance.
+-- ranges-of: what a problem in range says of its figures.
 -- corner-small, corner-shut, corner-feasible: a corner that fits is feasible, in the box too, and near.
 -- corner-infeasible: if it does not fit, every end that matters was a bound, and nothing is feasible.
 -- corner-point, corner-shown, corner-unbounded: a point that shows a corner that fits, and the steps of a ray from it.
-use mathlib.Core.Path.{_≡_, refl, sym, ap, _∙_, subst₂}
+use mathlib.Core.Path.{_≡_, refl, sym, ap, _∙_}
 use mathlib.Core.Bool.{true}
 use mathlib.Core.Logic.{_⊎_, inl, inr}
 use Prim.Native.Nat.{ℕ, zero, suc, _*_, _≤_, _<_}
@@ -13,6 +12,7 @@ use native.Mathlib.Omega.{arith}
 use native.Mathlib.Nat.{mul-le-mul, mul-le-mul-right}
 use lib.IntN.{ℤ, pos, negsuc, negℤ, natAbs, _+ℤ_, _*ℤ_}
 use lib.Signed.{_≤ℤ_, _<ℤ_, ≤ℤ-refl, ltZ-yes}
+use Rattle.arith.specs.Limits.{farthest}
 use Rattle.arith.proofs.Integers.{split, split3, zed, ≤ℤ-trans, natAbs-mul}
 use Rattle.arith.proofs.Sums.{sum-scale, even-part-of-sum}
 use Rattle.arith.specs.Gcd.{gcdOf, gcdIn}
@@ -23,13 +23,13 @@ use Rattle.knapsack.specs.declared.Bound.the-variants.{Absent, At}
 use Rattle.knapsack.specs.declared.Mark.{Mark}
 use Rattle.knapsack.specs.declared.Mark.the-variants.{Integer, Continuous}
 use Rattle.knapsack.specs.declared.Problem.{Problem}
-use Rattle.knapsack.specs.Records.{itemAt, BoundInRange, InOrder, InRange}
-use Rattle.knapsack.specs.Meaning.{Instance, Point, instanceOf, relaxed, weights, Feasible, Infeasible, Unbounded, nought, Shown}
+use Rattle.knapsack.specs.Ranges.{itemAt, BoundInRange, InRange}
+use Rattle.knapsack.specs.Meaning.{Instance, Point, instanceOf, weights, Feasible, Infeasible, Unbounded, nought, Shown}
 use Rattle.knapsack.proofs.Branch.{empty}
 use Rattle.knapsack.proofs.Bridge.{Reads, bridge-feasible, bridge-infeasible}
 use Rattle.knapsack.proofs.Common.{KeepsMarkᴰ, weighsᴰ, Feasibleᴰ}
 use Rattle.knapsack.proofs.Dual.{AtBound}
-use Rattle.knapsack.proofs.Reach.{Way, fore, aft, turn, turn-mul, Free, NoRay, Around, Ranges, closed, lowers, uppers, shut, out-of-shut}
+use Rattle.knapsack.proofs.Reach.{Way, fore, aft, turn, turn-mul, Around, Ranges, closed, lowers, uppers, shut, out-of-shut}
 use Rattle.rays.specs.declared.RayReply.{RayReply}
 use Rattle.rays.specs.Directions.{stop}
 use Rattle.rays.specs.Rays.{stepsAt, RayFound}
@@ -49,17 +49,6 @@ ranges-of p r = record {
   limited = r .capacity-in;
 }
 
--- marks play no part
-pub ranges-relaxed : (s : Instance) → Ranges s → Ranges (relaxed s)
-ranges-relaxed s g = record { few = g .few; light = g .light; lowers = g .lowers; uppers = g .uppers; limited = g .limited }
-
-pub no-ray-relaxed : (s : Instance) → NoRay s → NoRay (relaxed s)
-no-ray-relaxed s n = record { one = λ k l w f. n .one k l w (free w k f); two = λ i j l m v w f h. n .two i j l m v w (free v i f) (free w j h) }
-  where
-    free : (w : Way) (k : ℕ) → Free w (relaxed s .item k) → Free w (s .item k)
-    free fore k h = h
-    free aft k h = h
-
 -- ---- closed ends
 
 whole : (n : ℤ) → n ≡ n *ℤ pos 1
@@ -74,21 +63,9 @@ end-of : (b : Bound) (d z : ℤ) → closed b d ≡ At z → (b ≡ At z) ⊎ ((
 end-of Absent d z h = inr (refl, at-inj h)
 end-of (At b) d z h = inl h
 
-end-small : (b : Bound) (d z : ℤ) → Around b → natAbs d ≤ 300000000 → closed b d ≡ At z → natAbs z ≤ 300000000
+end-small : (b : Bound) (d z : ℤ) → Around b → natAbs d ≤ farthest → closed b d ≡ At z → natAbs z ≤ farthest
 end-small Absent d z r n h = rw (at-inj h) at n
 end-small (At b) d z r n h = let k : natAbs z ≤ 10000 = rw (at-inj h) at r in omega arith
-
-pub ends-ordered : (p : Problem) → InRange p → (k : ℕ) → k < p .count → (l u : ℤ) → lowers (instanceOf p) k ≡ At l → uppers (instanceOf p) k ≡ At u → l ≤ℤ u
-ends-ordered p r k m l u hl hu = go (itemAt p k .lower) (itemAt p k .upper) (r .items-in k m .lower-in) (r .items-in k m .upper-in) (r .items-in k m .in-order) hl hu
-  where
-    far : (a : ℤ) → natAbs a ≤ 10000 → (negℤ (pos 300000000) ≤ℤ a) × (a ≤ℤ pos 300000000)
-    far = split _ (λ a b. simp zed (λ h. (omega arith, omega arith)))
-
-    go : (b c : Bound) → BoundInRange b → BoundInRange c → InOrder b c → closed b (negℤ (pos 300000000)) ≡ At l → closed c (pos 300000000) ≡ At u → l ≤ℤ u
-    go Absent Absent rb rc o hb hc = subst₂ _≤ℤ_ (at-inj hb) (at-inj hc) (simp zed (omega arith))
-    go Absent (At c) rb rc o hb hc = subst₂ _≤ℤ_ (at-inj hb) (at-inj hc) (far c rc .0)
-    go (At b) Absent rb rc o hb hc = subst₂ _≤ℤ_ (at-inj hb) (at-inj hc) (far b rb .1)
-    go (At b) (At c) rb rc o hb hc = subst₂ _≤ℤ_ (at-inj hb) (at-inj hc) o
 
 -- the way that makes an item lighter, if it weighs something
 lighter : (a : ℤ) → ((w : Way) × (turn w a <ℤ pos 0)) ⊎ (a ≡ pos 0)
@@ -100,10 +77,10 @@ heavier : (a : ℤ) → turn aft a <ℤ pos 0 → pos 0 <ℤ a
 heavier = split _ (λ a b. simp zed (omega arith))
 
 -- an item that goes 300,000,000 out the way that makes it lighter
-far-term : (a : ℤ) (w : Way) (z : ℤ) → turn w a <ℤ pos 0 → turn w (pos 300000000) ≡ z → (a *ℤ z) ≤ℤ negℤ (pos 300000000)
-far-term a w z h e = rw (← e, turn-mul w a (pos 300000000)) (go (turn w a) h)
+far-term : (a : ℤ) (w : Way) (z : ℤ) → turn w a <ℤ pos 0 → turn w (pos farthest) ≡ z → (a *ℤ z) ≤ℤ negℤ (pos farthest)
+far-term a w z h e = rw (← e, turn-mul w a (pos farthest)) (go (turn w a) h)
   where
-    go : (x : ℤ) → x <ℤ pos 0 → (x *ℤ pos 300000000) ≤ℤ negℤ (pos 300000000)
+    go : (x : ℤ) → x <ℤ pos 0 → (x *ℤ pos farthest) ≤ℤ negℤ (pos farthest)
     go = split _ (λ a b. simp zed (omega arith))
 
 -- ---- the corner
@@ -127,10 +104,10 @@ module _ (s : Instance) (g : Ranges s) (lo hi e : ℕ → ℤ) (c : LightCorner 
       go (inr h) = c .flat k l h
 
   -- |e k| is at most 300,000,000
-  pub corner-small : (k : ℕ) → k < s .count → natAbs (e k) ≤ 300000000
+  pub corner-small : (k : ℕ) → k < s .count → natAbs (e k) ≤ farthest
   corner-small k l = go (at-end k l)
     where
-      go : (e k ≡ lo k) ⊎ (e k ≡ hi k) → natAbs (e k) ≤ 300000000
+      go : (e k ≡ lo k) ⊎ (e k ≡ hi k) → natAbs (e k) ≤ farthest
       go (inl h) = rw h (end-small (s .item k .lower) _ (lo k) (g .lowers k l) (omega arith) (c .lows k l))
       go (inr h) = rw h (end-small (s .item k .upper) _ (hi k) (g .uppers k l) (omega arith) (c .highs k l))
 
@@ -163,7 +140,7 @@ module _ (s : Instance) (g : Ranges s) (lo hi e : ℕ → ℤ) (c : LightCorner 
   -- ---- a corner that does not fit
 
   -- the end in the way that makes the item lighter
-  light-end : (k : ℕ) → k < s .count → (w : Way) → turn w (weights s k) <ℤ pos 0 → closed (stop w (s .item k)) (turn w (pos 300000000)) ≡ At (e k)
+  light-end : (k : ℕ) → k < s .count → (w : Way) → turn w (weights s k) <ℤ pos 0 → closed (stop w (s .item k)) (turn w (pos farthest)) ≡ At (e k)
   light-end k l fore h = c .highs k l ∙ ap At (sym (c .light k l h))
   light-end k l aft h = c .lows k l ∙ ap At (sym (c .heavy k l (heavier (weights s k) h)))
 
@@ -173,13 +150,14 @@ module _ (s : Instance) (g : Ranges s) (lo hi e : ℕ → ℤ) (c : LightCorner 
 
   -- no item weighs more than 10,000,000 there
   near-term : (k : ℕ) → k < s .count → (w : Way) → turn w (weights s k) <ℤ pos 0 → (weights s k *ℤ e k) ≤ℤ pos 10000000
-  near-term k l w h = go (end-of (stop w (s .item k)) (turn w (pos 300000000)) (e k) (light-end k l w h))
+  near-term k l w h = go (end-of (stop w (s .item k)) (turn w (pos farthest)) (e k) (light-end k l w h))
     where
       size : (y : ℤ) → natAbs y ≤ 10000000 → y ≤ℤ pos 10000000
       size = split _ (λ a b. simp zed (omega arith))
 
-      go : (stop w (s .item k) ≡ At (e k)) ⊎ ((stop w (s .item k) ≡ Absent) × (turn w (pos 300000000) ≡ e k)) → (weights s k *ℤ e k) ≤ℤ pos 10000000
-      go (inl b) = let n : natAbs (e k) ≤ 10000 = rw b at (light-stop k l w) in size (weights s k *ℤ e k) (omega (arith, natAbs-mul (weights s k) (e k), mul-le-mul (g .light k l) n))
+      go : (stop w (s .item k) ≡ At (e k)) ⊎ ((stop w (s .item k) ≡ Absent) × (turn w (pos farthest) ≡ e k)) → (weights s k *ℤ e k) ≤ℤ pos 10000000
+      go (inl b) = let n : natAbs (e k) ≤ 10000 =
+          rw b at (light-stop k l w) in size (weights s k *ℤ e k) (omega (arith, natAbs-mul (weights s k) (e k), mul-le-mul (g .light k l) n))
       go (inr (b, d)) = ≤ℤ-trans (far-term (weights s k) w (e k) h d) (simp zed (omega arith))
 
   no-heavy-term : Each (s .count) (λ k. (weights s k *ℤ e k) ≤ℤ pos 10000000)
@@ -193,21 +171,23 @@ module _ (s : Instance) (g : Ranges s) (lo hi e : ℕ → ℤ) (c : LightCorner 
       go (inr h) = rw h (nothing (e k))
 
   -- with one item 300,000,000 out, everything weighs less than any capacity
-  too-light : (k : ℕ) → k < s .count → (weights s k *ℤ e k) ≤ℤ negℤ (pos 300000000) → s .capacity <ℤ weighsᴰ s e → ⊥
-  too-light k l far over = clash (weights s k *ℤ e k) (weighsᴰ s e) (s .capacity) (s .count * 10000000) (omega (arith, mul-le-mul-right 10000000 (g .few))) far over (g .limited)
-      (rw (sum-scale (s .count) (negsuc 0) (λ j. weights s j *ℤ e j)) at (even-part-of-sum (s .count) (λ j. negsuc 0 *ℤ (weights s j *ℤ e j)) 10000000 (λ j m. flip (weights s j *ℤ e j) (no-heavy-term j m)) k l))
+  too-light : (k : ℕ) → k < s .count → (weights s k *ℤ e k) ≤ℤ negℤ (pos farthest) → s .capacity <ℤ weighsᴰ s e → ⊥
+  too-light k l far over =
+      clash (weights s k *ℤ e k) (weighsᴰ s e) (s .capacity) (s .count * 10000000) (omega (arith, mul-le-mul-right 10000000 (g .few))) far over (g .limited)
+      (rw (sum-scale (s .count) (negsuc 0) (λ j. weights s j *ℤ e j)) at (even-part-of-sum (s .count) (λ j. negsuc 0 *ℤ (weights s j *ℤ e j)) 10000000
+      (λ j m. flip (weights s j *ℤ e j) (no-heavy-term j m)) k l))
     where
       flip : (y : ℤ) → y ≤ℤ pos 10000000 → negℤ (pos 10000000) ≤ℤ (negsuc 0 *ℤ y)
       flip = split _ (λ a b. simp zed (omega arith))
 
-      clash : (y w b : ℤ) (m : ℕ) → m ≤ 160000000 → y ≤ℤ negℤ (pos 300000000) → b <ℤ w → natAbs b ≤ 100000000 → (negsuc 0 *ℤ y) ≤ℤ (negsuc 0 *ℤ w +ℤ pos m) → ⊥
+      clash : (y w b : ℤ) (m : ℕ) → m ≤ 160000000 → y ≤ℤ negℤ (pos farthest) → b <ℤ w → natAbs b ≤ 100000000 → (negsuc 0 *ℤ y) ≤ℤ (negsuc 0 *ℤ w +ℤ pos m) → ⊥
       clash = split3 _ (λ a b c e f g m. simp zed (omega arith))
 
   -- so the end of an item that weighs something is a bound of it
   present : s .capacity <ℤ weighsᴰ s e → (k : ℕ) → k < s .count → (w : Way) → turn w (weights s k) <ℤ pos 0 → AtBound 1 (stop w (s .item k)) (e k)
-  present over k l w h = go (end-of (stop w (s .item k)) (turn w (pos 300000000)) (e k) (light-end k l w h))
+  present over k l w h = go (end-of (stop w (s .item k)) (turn w (pos farthest)) (e k) (light-end k l w h))
     where
-      go : (stop w (s .item k) ≡ At (e k)) ⊎ ((stop w (s .item k) ≡ Absent) × (turn w (pos 300000000) ≡ e k)) → AtBound 1 (stop w (s .item k)) (e k)
+      go : (stop w (s .item k) ≡ At (e k)) ⊎ ((stop w (s .item k) ≡ Absent) × (turn w (pos farthest) ≡ e k)) → AtBound 1 (stop w (s .item k)) (e k)
       go (inl b) = rw b (whole (e k))
       go (inr (b, d)) = absurd (too-light k l (far-term (weights s k) w (e k) h d) over)
 
@@ -236,9 +216,7 @@ module _ (s : Instance) (g : Ranges s) (lo hi e : ℕ → ℤ) (c : LightCorner 
     beyond = g;
   }
 
-pub corner-relaxed : (s : Instance) (lo hi e : ℕ → ℤ) → LightCorner s lo hi e → LightCorner (relaxed s) lo hi e
-corner-relaxed s lo hi e c = record { lows = c .lows; highs = c .highs; ordered = c .ordered; heavy = c .heavy; light = c .light; flat = c .flat }
-
-pub corner-unbounded : (p : Problem) (r : RayReply) (lo hi e : ℕ → ℤ) (x : Point) → InRange p → RayFound p r → r .found ≡ true → LightCorner (instanceOf p) lo hi e → Reads (instanceOf p) 1 x e
+pub corner-unbounded : (p : Problem) (r : RayReply) (lo hi e : ℕ → ℤ) (x : Point) → InRange p → RayFound p r → r .found ≡ true
+    → LightCorner (instanceOf p) lo hi e → Reads (instanceOf p) 1 x e
     → weighsᴰ (instanceOf p) e ≤ℤ p .capacity → Unbounded (instanceOf p) x (stepsAt r)
 corner-unbounded p r lo hi e x range found y c reads fits = found .escapes y x (corner-point (instanceOf p) (ranges-of p range) lo hi e c x reads fits)

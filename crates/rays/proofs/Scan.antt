@@ -21,14 +21,15 @@ use Rattle.knapsack.specs.declared.Bound.{Bound}
 use Rattle.knapsack.specs.declared.Bound.the-variants.{Absent, At}
 use Rattle.knapsack.specs.declared.Problem.{Problem}
 use Rattle.knapsack.specs.declared.Item.{Item}
-use Rattle.knapsack.specs.Records.{itemAt, ItemInRange, InRange}
+use Rattle.knapsack.specs.Ranges.{itemAt, ItemInRange, InRange}
 use Rattle.knapsack.specs.Meaning.{instanceOf}
 use Rattle.knapsack.proofs.Reach.{Way, fore, aft, turn, Free, NoRay}
 use Rattle.rays.specs.declared.Direction.{Direction}
 use Rattle.rays.specs.declared.Ray.{Ray}
 use Rattle.rays.specs.declared.Ray.the-variants.{None, Single, Pair}
 use Rattle.knapsack.specs.Items.{isAbsent}
-use Rattle.rays.specs.Directions.{wayOf, stop, along, directionOf, DirectionInRange, gains, gain, pays, isRay, orElse, first, firstOf, partnerAt, rayAs, rayFrom, rayOf, Directs}
+use Rattle.rays.specs.Directions.{wayOf, stop, along, directionOf, DirectionInRange, gains, gain, pays, isRay, orElse, first, firstOf, partnerAt, rayAs}
+use Rattle.rays.specs.Directions.{rayFrom, rayOf, Directs}
 
 -- ---- directions
 
@@ -150,12 +151,15 @@ tested-from : (p : Problem) (u : ℕ) → u < 2 * p .count → Tested p (rayFrom
 unfolding rayFrom
 tested-from p u l = go (gains (directionOf p u)) (ltZ (pos 0) (directionOf p u .weight)) refl refl
   where
-    with-one : gains (directionOf p u) ≡ true → pos 0 <ℤ directionOf p u .weight → (w : ℕ) → w < 2 * p .count → (a : Bool) → pays (directionOf p u) (directionOf p w) ≡ a → Tested p (cond a (Pair u w) None)
+    with-one : gains (directionOf p u) ≡ true → pos 0 <ℤ directionOf p u .weight → (w : ℕ) → w < 2 * p .count → (a : Bool)
+        → pays (directionOf p u) (directionOf p w) ≡ a → Tested p (cond a (Pair u w) None)
     with-one g h w m true e = record { u-in = l; w-in = m; gaining = g; heavy = h; paying = e }
     with-one g h w m false e = tt
 
-    go : (a b : Bool) → gains (directionOf p u) ≡ a → ltZ (pos 0) (directionOf p u .weight) ≡ b → Tested p (cond a (cond b (firstOf p (partnerAt p u (directionOf p u))) (Single u)) None)
-    go true true g h = first-each (Tested p) (2 * p .count) (partnerAt p u (directionOf p u)) tt (λ w m. with-one g (yes-lt h) w m (pays (directionOf p u) (directionOf p w)) refl)
+    go : (a b : Bool) → gains (directionOf p u) ≡ a → ltZ (pos 0) (directionOf p u .weight) ≡ b
+        → Tested p (cond a (cond b (firstOf p (partnerAt p u (directionOf p u))) (Single u)) None)
+    go true true g h = first-each (Tested p) (2 * p .count) (partnerAt p u (directionOf p u)) tt
+        (λ w m. with-one g (yes-lt h) w m (pays (directionOf p u) (directionOf p w)) refl)
     go true false g h = record { u-in = l; gaining = g; light = no-lt h }
     go false b g h = tt
 
@@ -182,7 +186,8 @@ pub pays-says : (d e : Direction) → pays d e ≡ true → (e .free ≡ true) �
 unfolding pays
 pays-says d e h = go (e .free) (ltZ (e .weight) (pos 0)) refl refl h
   where
-    go : (a b : Bool) → e .free ≡ a → ltZ (e .weight) (pos 0) ≡ b → cond a (cond b (ltZ (pos 0) (gain d e)) false) false ≡ true → (e .free ≡ true) × (e .weight <ℤ pos 0) × (pos 0 <ℤ gain d e)
+    go : (a b : Bool) → e .free ≡ a → ltZ (e .weight) (pos 0) ≡ b → cond a (cond b (ltZ (pos 0) (gain d e)) false) false ≡ true → (e .free ≡ true)
+        × (e .weight <ℤ pos 0) × (pos 0 <ℤ gain d e)
     go true true f l k = (f, yes-lt l, yes-lt k)
     go true false f l k = absurd (impossible k)
     go false b f l k = absurd (impossible k)
@@ -221,7 +226,8 @@ unfolding rayOf rayFrom
 no-ray p h = record {
   one = λ k l w f. no-gain p (number w k) (along w (itemAt p k)) (from w k l) (free-yes w (itemAt p k) f);
   two = λ i j l m v w f g heavy worth light.
-      let e = first-none (2 * p .count) _ (no-partner p (number v i) (along v (itemAt p i)) (from v i l) (free-yes v (itemAt p i) f) heavy worth) (number w j) (number-in w j (p .count) m) in
+      let e = first-none (2 * p .count) _ (no-partner p (number v i) (along v (itemAt p i)) (from v i l) (free-yes v (itemAt p i) f) heavy worth) (number w j)
+      (number-in w j (p .count) m) in
       no-pay (number v i) (number w j) (along v (itemAt p i)) (along w (itemAt p j)) (rw (numbered p w j) at e) (free-yes w (itemAt p j) g) light;
 }
   where

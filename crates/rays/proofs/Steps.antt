@@ -22,7 +22,7 @@ use Rattle.arith.specs.Sum.{sum, bump}
 use Rattle.knapsack.specs.declared.Bound.the-variants.{Absent}
 use Rattle.knapsack.specs.declared.Problem.{Problem}
 use Rattle.knapsack.specs.declared.Item.{Item}
-use Rattle.knapsack.specs.Records.{itemAt, InRange}
+use Rattle.knapsack.specs.Ranges.{itemAt, InRange}
 use Rattle.knapsack.specs.Meaning.{Point, instanceOf, relaxed, Feasible, Unbounded}
 use Rattle.knapsack.proofs.Rays.{ray-unbounded}
 use Rattle.knapsack.proofs.Reach.{Way, fore, aft, turn, turn-mul, Free}
@@ -110,8 +110,11 @@ module _ (p : Problem) (r : InRange p) (l : List ℤ) (size : length l ≡ 16) (
       go (yes e) = rw (e, move-here) (step-along (wayOf u) (itemAt p (u / 2)) n (free-then (wayOf u) (itemAt p (u / 2)) (g .free)) (g .forward) (g .small))
       go (no e) = rw (move-other k e) (h k)
 
-  move-sum : (a : ℕ → ℤ) → getD l (u / 2) (pos 0) ≡ pos 0 → sum (p .count) (λ k. a k *ℤ getD (move l u n) k (pos 0)) ≡ sum (p .count) (λ k. a k *ℤ getD l k (pos 0)) +ℤ turn (wayOf u) (a (u / 2)) *ℤ n
-  move-sum a rests = sum-cong (p .count) _ _ (λ k o. ap (λ z. a k *ℤ z) (as-bump k (ℕ-discrete k (u / 2)))) ∙ sum-bump (p .count) a old (u / 2) (turn (wayOf u) n) (item-in p u (g .number-in)) ∙ ap (λ z. sum (p .count) (λ k. a k *ℤ old k) +ℤ z) (turn-mul (wayOf u) (a (u / 2)) n)
+  move-sum : (a : ℕ → ℤ) → getD l (u / 2) (pos 0) ≡ pos 0 → sum (p .count) (λ k. a k *ℤ getD (move l u n) k (pos 0)) ≡ sum (p .count)
+      (λ k. a k *ℤ getD l k (pos 0)) +ℤ turn (wayOf u) (a (u / 2)) *ℤ n
+  move-sum a rests = sum-cong (p .count) _ _ (λ k o. ap (λ z. a k *ℤ z) (as-bump k (ℕ-discrete k (u / 2))))
+      ∙ sum-bump (p .count) a old (u / 2) (turn (wayOf u) n) (item-in p u (g .number-in))
+      ∙ ap (λ z. sum (p .count) (λ k. a k *ℤ old k) +ℤ z) (turn-mul (wayOf u) (a (u / 2)) n)
     where
       old : ℕ → ℤ
       old k = getD l k (pos 0)
@@ -120,8 +123,10 @@ module _ (p : Problem) (r : InRange p) (l : List ℤ) (size : length l ≡ 16) (
       as-bump k (yes e) = rw (e, move-here, bump-same old (u / 2) (turn (wayOf u) n), rests) (zero-plus (turn (wayOf u) n))
       as-bump k (no e) = move-other k e ∙ sym (bump-other old (u / 2) (turn (wayOf u) n) k e)
 
-first-sum : (p : Problem) → InRange p → (u : ℕ) (n : ℤ) → Goes p u n → (a : ℕ → ℤ) → sum (p .count) (λ k. a k *ℤ getD (move still u n) k (pos 0)) ≡ turn (wayOf u) (a (u / 2)) *ℤ n
-first-sum p r u n g a = move-sum p r still still-length u n g a (zeros 16 (u / 2)) ∙ ap (λ z. z +ℤ turn (wayOf u) (a (u / 2)) *ℤ n) (still-sum (p .count) a) ∙ sym (zero-plus (turn (wayOf u) (a (u / 2)) *ℤ n))
+first-sum : (p : Problem) → InRange p → (u : ℕ) (n : ℤ) → Goes p u n → (a : ℕ → ℤ)
+    → sum (p .count) (λ k. a k *ℤ getD (move still u n) k (pos 0)) ≡ turn (wayOf u) (a (u / 2)) *ℤ n
+first-sum p r u n g a = move-sum p r still still-length u n g a (zeros 16 (u / 2)) ∙ ap (λ z. z +ℤ turn (wayOf u) (a (u / 2)) *ℤ n) (still-sum (p .count) a)
+    ∙ sym (zero-plus (turn (wayOf u) (a (u / 2)) *ℤ n))
 
 -- ---- rays
 
@@ -148,7 +153,8 @@ module _ (p : Problem) (l : List ℤ) (e : Escapes p l) where
   unbounded-relaxed x = ray-unbounded (relaxed (instanceOf p)) x (λ k. getD l k (pos 0)) (e .i) (e .j) (e .i-in) (e .j-in) (e .i-moves) (e .j-moves) (e .others)
       (record { up = λ k m. e .steps k .up; down = λ k m. e .steps k .down; light = e .light; gain = e .gaining })
 
-one-escapes : (p : Problem) → InRange p → (u : ℕ) (n : ℤ) → (directionOf p u .weight *ℤ n) ≤ℤ pos 0 → pos 0 <ℤ (directionOf p u .price *ℤ n) → Goes p u n → Escapes p (move still u n)
+one-escapes : (p : Problem) → InRange p → (u : ℕ) (n : ℤ) → (directionOf p u .weight *ℤ n) ≤ℤ pos 0 → pos 0 <ℤ (directionOf p u .price *ℤ n) → Goes p u n
+    → Escapes p (move still u n)
 unfolding directionOf
 one-escapes p r u n light gaining g = record {
   i = u / 2;
@@ -187,7 +193,8 @@ two-escapes p r u w n m light gaining ne g h = record {
     size = move-length p r still still-length u n g
 
     sums : (a : ℕ → ℤ) → sum (p .count) (λ k. a k *ℤ getD (move l w m) k (pos 0)) ≡ turn (wayOf u) (a (u / 2)) *ℤ n +ℤ turn (wayOf w) (a (w / 2)) *ℤ m
-    sums a = move-sum p r l size w m h a (move-other p r still still-length u n g (w / 2) ne ∙ zeros 16 (w / 2)) ∙ ap (λ z. z +ℤ turn (wayOf w) (a (w / 2)) *ℤ m) (first-sum p r u n g a)
+    sums a = move-sum p r l size w m h a (move-other p r still still-length u n g (w / 2) ne ∙ zeros 16 (w / 2))
+        ∙ ap (λ z. z +ℤ turn (wayOf w) (a (w / 2)) *ℤ m) (first-sum p r u n g a)
 
 -- ---- what the scan found
 
@@ -211,7 +218,8 @@ itself fore aft = split2 _ (λ a b c e. simp zed (omega arith))
 itself aft fore = split2 _ (λ a b c e. simp zed (omega arith))
 itself aft aft = split2 _ (λ a b c e. simp zed (omega arith))
 
-apart : (p : Problem) (u w : ℕ) → pos 0 <ℤ directionOf p u .weight → directionOf p w .weight <ℤ pos 0 → pos 0 <ℤ gain (directionOf p u) (directionOf p w) → w / 2 ≢ u / 2
+apart : (p : Problem) (u w : ℕ) → pos 0 <ℤ directionOf p u .weight → directionOf p w .weight <ℤ pos 0 → pos 0 <ℤ gain (directionOf p u) (directionOf p w)
+    → w / 2 ≢ u / 2
 unfolding directionOf
 apart p u w heavy light worth e = itself (wayOf u) (wayOf w) (itemAt p (u / 2) .weight) (itemAt p (u / 2) .price) heavy (rw e at light) (rw e at worth)
 
@@ -223,7 +231,12 @@ together-escapes p r u w t =
     let g = gains-says d (t .gaining) in
     let q = pays-says d e (t .paying) in
     two-escapes p r _ _ _ _ (level (d .weight) (e .weight)) (q .2) (apart p u w (t .heavy) (q .1) (q .2))
-    (record { number-in = t .u-in; free = g .0; forward = flip (e .weight) (q .1); small = rw (natAbs-neg (e .weight)) (direction-in p w r (t .w-in) .weight-in) })
+    (record {
+      number-in = t .u-in;
+      free = g .0;
+      forward = flip (e .weight) (q .1);
+      small = rw (natAbs-neg (e .weight)) (direction-in p w r (t .w-in) .weight-in);
+    })
     (record { number-in = t .w-in; free = q .0; forward = t .heavy; small = direction-in p u r (t .u-in) .weight-in })
   where
     level : (x y : ℤ) → (x *ℤ negℤ y +ℤ y *ℤ x) ≤ℤ pos 0

@@ -25,7 +25,7 @@ use Rattle.knapsack.specs.declared.Bound.{Bound}
 use Rattle.knapsack.specs.declared.Item.{Item}
 use Rattle.knapsack.specs.declared.Problem.{Problem}
 use Rattle.knapsack.specs.Items.{isAbsent}
-use Rattle.knapsack.specs.Records.{itemAt}
+use Rattle.knapsack.specs.Ranges.{itemAt}
 use Rattle.knapsack.proofs.Reach.{Way, fore, aft, turn}
 use Rattle.rays.specs.declared.Direction.{Direction}
 use Rattle.rays.specs.declared.Ray.{Ray}

@@ -8,9 +8,10 @@ use knapsack::is_absent;
 ghost use mathlib.Core.Path.{_≡_};
 ghost use Prim.Native.Nat.{_*_, _<_};
 ghost use Rattle.arith.specs.Within.{Within};
-ghost use Rattle.knapsack.specs.Records.{InRange};
+ghost use Rattle.knapsack.specs.Ranges.{InRange};
 ghost use Rattle.knapsack.proofs.Reach.{turn};
-ghost use Rattle.rays.specs.Directions.{wayOf, stop, directionOf, DirectionInRange, gains, gain, pays, isRay, firstOf, partnerAt, rayFrom, rayOf, Directs, still, move, stepsBy};
+ghost use Rattle.rays.specs.Directions.{wayOf, stop, directionOf, DirectionInRange, gains, gain, pays, isRay, firstOf, partnerAt, rayFrom, rayOf};
+ghost use Rattle.rays.specs.Directions.{Directs, still, move, stepsBy};
 ghost use Rattle.rays.specs.Rays.{RayFound};
 
 // An item's amount going one way: whether no bound stops it, and what a unit weighs and is worth.

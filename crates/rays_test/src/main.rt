@@ -2,8 +2,8 @@
 // that the scan finds, or `none`. An item is (weight, price, lower, upper); marks play no part.
 use knapsack::Bound;
 use knapsack::Item;
-use knapsack::Problem;
 use knapsack::Verdict;
+use model::Model;
 use rays::RayReply;
 use trials::draw::below;
 use trials::draw::figure;
@@ -43,18 +43,18 @@ fn print_reply(r: RayReply, n: usize)
     }
 }
 
-fn print_ray(p: Problem) {
-    let v = knapsack::check_record(p);
+fn print_ray(p: Model) {
+    let v = model::check_model(p);
     match v {
         Verdict::Accepted => {
-            let r = rays::find_ray(p);
+            let r = rays::find_ray(model::plain_of(p));
             print_reply(r, p.count);
         }
         Verdict::Refused(_) => print(b" refused"),
     }
 }
 
-fn show(name: u8, p: Problem) {
+fn show(name: u8, p: Model) {
     let label = [name];
     print(&label);
     print_ray(p);

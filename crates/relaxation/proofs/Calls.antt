@@ -18,8 +18,10 @@ use denote.Steps.{peeks, heard}
 use denote.Triple.Statement.{Contract, Triple}
 use denote.Triple.Call.{calls-at}
 
-module _ {M : Type 1} {𝓤 : URA M} {H : Heap 𝓤} {A : Atoms 𝓤} {K : Type 0} {W : Given 𝓤 H A} {Γ : List (Item 𝓤)} {C : Calls 𝓤 H} {Λ : Loops 𝓤 H} {E : Env 𝓤 H} {f : Name} {xs : List Operand} {d : Place} {q : Post 𝓤 H} where
-  pub asks : K → FmC 𝓤 H (W .laws) C → {rest : Body} (c : Contract 𝓤) → Triple 𝓤 (C f) c → (x : c .Ghost) → ent 𝓤 (emp 𝓤) (c .pre x) → Opds K W (raw (c .pre x) ∷ Γ) E xs (c .args x)
+module _ {M : Type 1} {𝓤 : URA M} {H : Heap 𝓤} {A : Atoms 𝓤} {K : Type 0} {W : Given 𝓤 H A} {Γ : List (Item 𝓤)} {C : Calls 𝓤 H} {Λ : Loops 𝓤 H} {E : Env 𝓤 H}
+    {f : Name} {xs : List Operand} {d : Place} {q : Post 𝓤 H} where
+  pub asks : K → FmC 𝓤 H (W .laws) C → {rest : Body} (c : Contract 𝓤) → Triple 𝓤 (C f) c → (x : c .Ghost) → ent 𝓤 (emp 𝓤) (c .pre x) →
+      Opds K W (raw (c .pre x) ∷ Γ) E xs (c .args x)
       → (R : RattleType) (Told : R .Denot → SProp 𝓤) (φ : R .Denot → Type 0)
       → ((w : Val) → ent 𝓤 (c .post x w) (mean 𝓤 H A (later (some (λ (r : R .Denot). (‵ ftrue ⊛ ‵ (R .own r (w ∷ []))) ⊛ raw (Told r))))))
       → ((r : R .Denot) → ent 𝓤 (Told r) (fact 𝓤 (φ r)))

@@ -9,14 +9,16 @@ use Rattle.knapsack.specs.declared.Answer.{Answer}
 use Rattle.knapsack.specs.declared.Item.{Item}
 use Rattle.knapsack.specs.declared.Verdict.{Verdict}
 use Rattle.knapsack.specs.declared.Verdict.the-variants.{Accepted, Refused}
-use Rattle.knapsack.specs.Records.{blank, verdict}
+use Rattle.knapsack.specs.Ranges.{blank}
+use Rattle.model.specs.Records.{verdict}
 use Rattle.ordering.specs.Order.{order, orderedItems}
-use Rattle.ordering.proofs.Order.{Ranks, in-order, ranks, items-length, items-at}
+use Rattle.ordering.proofs.Order.{in-order, items-length, items-at}
+use Rattle.ordering.proofs.Permutations.{Inverse, inverse}
 use Rattle.relaxation.specs.Demands.{SameItems}
-use Rattle.relaxation.specs.Lent.{problemOf, ifAccepted, after, Relaxes}
+use Rattle.relaxation.specs.Lent.{modelOf, ifAccepted, after, Relaxes}
 
 ordered-same : (l : List Item) → SameItems l (orderedItems (λ k. getD l k blank) (length l))
-ordered-same l = go (ranks items (length l) place (in-order items (length l)))
+ordered-same l = go (inverse (length l) place (in-order items (length l) .place) (in-order items (length l) .once))
   where
     items : ℕ → Item
     items k = getD l k blank
@@ -24,7 +26,7 @@ ordered-same l = go (ranks items (length l) place (in-order items (length l)))
     place : ℕ → ℕ
     place u = getD (order items (length l)) u 0
 
-    go : (rank : ℕ → ℕ) × Ranks items (length l) place rank → SameItems l (orderedItems items (length l))
+    go : (rank : ℕ → ℕ) × Inverse (length l) place rank → SameItems l (orderedItems items (length l))
     go (rank, r) = record {
       length-is = items-length items (length l);
       from = place;
@@ -38,7 +40,7 @@ ordered-same l = go (ranks items (length l) place (in-order items (length l)))
 
 after-same : (b : ℤ) (l : List Item) → SameItems l (after b l)
 unfolding after
-after-same b l = go (verdict (problemOf b l))
+after-same b l = go (verdict (modelOf b l))
   where
     go : (v : Verdict) → SameItems l (ifAccepted v (orderedItems (λ k. getD l k blank) (length l)) l)
     go Accepted = ordered-same l

@@ -1,5 +1,5 @@
--- Laws for the walk over a lent list l: what is loaded into the problem, and what is stored back.
--- load-none, load-more, load-all: the problem while the list is copied. stored, settled-length, after-length: the list while the items
+-- Laws for the walk over a lent list l: what is loaded into the record, and what is stored back.
+-- load-none, load-more, load-all: the record while the list is copied. stored, settled-length, after-length: the list while the items
 -- are stored back. settled-accepted, settled-refused: the problem that the core hands back.
 use mathlib.Core.List.{List, [], _∷_, _++_, append-nil}
 use mathlib.Core.Path.{_≡_, refl, ap}
@@ -13,13 +13,15 @@ use Rattle.knapsack.specs.declared.Problem.{Problem}
 use Rattle.knapsack.specs.declared.Refusal.{Refusal}
 use Rattle.knapsack.specs.declared.Verdict.{Verdict}
 use Rattle.knapsack.specs.declared.Verdict.the-variants.{Accepted, Refused}
-use Rattle.knapsack.specs.Records.{blank, itemAt, verdict}
+use Rattle.knapsack.specs.Ranges.{blank, itemAt}
+use Rattle.model.specs.declared.Model.{Model}
+use Rattle.model.specs.Records.{plainOf, verdict}
+use Rattle.model.specs.Setters.{withItem}
+use Rattle.model.proofs.Records.{plain-in-range}
 use Rattle.ordering.specs.Order.{orderedItems}
 use Rattle.ordering.specs.Ranking.{arranged}
-use Rattle.ordering.proofs.Accepted.{accepted-ranged}
 use Rattle.ordering.proofs.Order.{items-length, items-cong}
-use Rattle.knapsack.specs.Items.{withItem}
-use Rattle.relaxation.specs.Lent.{usable, filled, loaded, problemOf, ifAccepted, after, settled}
+use Rattle.relaxation.specs.Lent.{usable, filled, loaded, modelOf, ifAccepted, after, settled}
 
 -- ---- what is loaded
 
@@ -42,10 +44,11 @@ pub load-none : filled 16 [] ≡ replicate 16 blank
 unfolding filled
 load-none = refl
 
-pub load-more : (b : ℤ) (l : List Item) (i : ℕ) → i < usable (length l) → withItem (loaded b (length l) (take i l)) i (getD l i blank) ≡ loaded b (length l) (take (suc i) l)
+pub load-more : (b : ℤ) (l : List Item) (i : ℕ) → i < usable (length l) →
+    withItem (loaded b (length l) (take i l)) i (getD l i blank) ≡ loaded b (length l) (take (suc i) l)
 load-more b l i h = rw (fill-more 16 i l (omega arith) (omega arith))
 
-pub load-all : (b : ℤ) (l : List Item) → loaded b (length l) (take (usable (length l)) l) ≡ problemOf b l
+pub load-all : (b : ℤ) (l : List Item) → loaded b (length l) (take (usable (length l)) l) ≡ modelOf b l
 load-all b l = rw (fill-all 16 (usable (length l)) l (omega arith))
 
 -- ---- what is stored back
@@ -71,47 +74,56 @@ filled-take zero (suc k) l h g = absurd (omega arith)
 filled-take (suc n) (suc k) [] h g = absurd (omega arith)
 filled-take (suc n) (suc k) (x ∷ l) h g = ap (λ m. x ∷ m) (filled-take n k l (omega arith) (omega arith))
 
-pub settled-accepted : (p : Problem) → verdict p ≡ Accepted → settled p ≡ arranged p
+pub settled-accepted : (m : Model) → verdict m ≡ Accepted → settled m ≡ arranged (plainOf m)
 unfolding settled
-settled-accepted p e = rw e
+settled-accepted m e = rw e
 
-pub settled-refused : (p : Problem) (f : Refusal) → verdict p ≡ Refused f → settled p ≡ p
+pub settled-refused : (m : Model) (f : Refusal) → verdict m ≡ Refused f → settled m ≡ plainOf m
 unfolding settled
-settled-refused p f e = rw e
+settled-refused m f e = rw e
 
 module _ (b : ℤ) (l : List Item) where
+  abbrev m : Model
+  m = modelOf b l
+
   abbrev p : Problem
-  p = problemOf b l
+  p = plainOf m
 
   abbrev n : ℕ
   n = usable (length l)
 
-  accepted-few : verdict p ≡ Accepted → length l ≤ 16
-  accepted-few e = accepted-ranged p e .few
+  accepted-few : verdict m ≡ Accepted → length l ≤ 16
+  accepted-few e = plain-in-range m e .few-items
 
-  pub settled-length : length (settled p .items) ≡ 16
+  pub settled-length : length (settled m .items) ≡ 16
   unfolding settled arranged
-  settled-length = go (verdict p) refl
+  settled-length = go (verdict m) refl
     where
-      go : (v : Verdict) → verdict p ≡ v → length (ifAccepted v (arranged p) p .items) ≡ 16
+      go : (v : Verdict) → verdict m ≡ v → length (ifAccepted v (arranged p) p .items) ≡ 16
       go Accepted e = simp (length-append, length-drop, items-length, filled-length) (omega (arith, accepted-few e))
       go (Refused f) e = filled-length 16 l
 
-  pub stored : take n (settled p .items) ++ drop n l ≡ after b l
+  pub stored : take n (settled m .items) ++ drop n l ≡ after b l
   unfolding settled arranged after
-  stored = go (verdict p) refl
+  stored = go (verdict m) refl
     where
-      go : (v : Verdict) → verdict p ≡ v → take n (ifAccepted v (arranged p) p .items) ++ drop n l ≡ ifAccepted v (orderedItems (λ k. getD l k blank) (length l)) l
+      go : (v : Verdict) → verdict m ≡ v →
+          take n (ifAccepted v (arranged p) p .items) ++ drop n l ≡ ifAccepted v (orderedItems (λ k. getD l k blank) (length l)) l
       go Accepted e =
           let few = accepted-few e in
           let all : n ≡ length l = omega arith in
-          rw (all, take-at (orderedItems (itemAt p) (length l)) (drop (length l) (filled 16 l)) (length l) (items-length (itemAt p) (length l)), drop-length l, append-nil)
+          rw (
+            all,
+            take-at (orderedItems (itemAt p) (length l)) (drop (length l) (filled 16 l)) (length l) (items-length (itemAt p) (length l)),
+            drop-length l,
+            append-nil,
+          )
           (items-cong (itemAt p) (λ k. getD l k blank) (length l) (λ k h. filled-at 16 k l (omega arith)))
       go (Refused f) e = rw (filled-take 16 n l (omega arith) (omega arith)) (take-append-drop n l)
 
   pub after-length : length (after b l) ≡ length l
   unfolding after
-  after-length = go (verdict p)
+  after-length = go (verdict m)
     where
       go : (v : Verdict) → length (ifAccepted v (orderedItems (λ k. getD l k blank) (length l)) l) ≡ length l
       go Accepted = items-length (λ k. getD l k blank) (length l)

@@ -11,7 +11,7 @@ use Rattle.knapsack.specs.declared.Answer.{Answer}
 use Rattle.knapsack.specs.declared.Item.{Item}
 use Rattle.knapsack.specs.declared.Problem.{Problem}
 use Rattle.knapsack.specs.Meaning.{instanceOf, relaxed, Answers}
-use Rattle.knapsack.specs.Records.{blank, itemAt, ItemInRange, InRange}
+use Rattle.knapsack.specs.Ranges.{blank, itemAt, ItemInRange, InRange}
 use Rattle.knapsack.specs.Items.{withItem}
 use Rattle.relaxation.specs.Lent.{loose, Loosened}
 use Rattle.relaxation.proofs.Same.{same-answers}
@@ -39,4 +39,8 @@ module _ (p q : Problem) (e : Loosened p (p .count) q) where
   }
 
   pub loosened-answers : (a : Answer) → Answers (instanceOf q) a → Answers (relaxed (instanceOf p)) a
-  loosened-answers = same-answers (instanceOf q) (relaxed (instanceOf p)) (record { capacity = e .capacity; count = e .count; items = λ k h. e .items k (omega (arith, e .count)) })
+  loosened-answers = same-answers (instanceOf q) (relaxed (instanceOf p)) (record {
+    capacity = e .capacity;
+    count = e .count;
+    items = λ k h. e .items k (omega (arith, e .count));
+  })

@@ -9,7 +9,7 @@ use Rattle.knapsack.proofs.Serve.{Serves, serve-answers}
 use Rattle.knapsack.specs.declared.Answer.{Answer}
 use Rattle.knapsack.specs.declared.Item.{Item}
 use Rattle.knapsack.specs.Meaning.{Instance, Point, Keeps, value, Feasible, Answers}
-use Rattle.prepare.proofs.Box.{Same, same-turned}
+use Rattle.prepare.proofs.Box.{Same, same-sym}
 
 module _ (s t : Instance) (e : Same s t) where
   in-s : (k : ℕ) → k < t .count → k < s .count
@@ -35,7 +35,7 @@ same-serves s t e = record {
   weight = λ k h. ap (λ (i : Item). i .weight) (e .items k (in-s s t e k h));
   price = λ k h. ap (λ (i : Item). i .price) (e .items k (in-s s t e k h));
   within = same-feasible s t e;
-  exchange = λ y h. record { point = y; feasible = same-feasible t s (same-turned s t e) y h; as-good = λ z l. subst (λ v. v ≤ᶠ z) (same-value s t e y) l };
+  exchange = λ y h. record { point = y; feasible = same-feasible t s (same-sym s t e) y h; as-good = λ z l. subst (λ v. v ≤ᶠ z) (same-value s t e y) l };
 }
 
 pub same-answers : (s t : Instance) → Same s t → (a : Answer) → Answers s a → Answers t a

@@ -6,7 +6,7 @@ use mathlib.Core.Path.{_≡_}
 use Prim.Native.Nat.{ℕ, _<_}
 use lib.ListN.{length, getD}
 use Rattle.knapsack.specs.declared.Item.{Item}
-use Rattle.knapsack.specs.Records.{blank}
+use Rattle.knapsack.specs.Ranges.{blank}
 
 -- what stands at place u of m stood at place from u of l, and to leads back
 pub record SameItems (l m : List Item) : Type 0 where

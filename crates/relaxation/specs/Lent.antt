@@ -1,14 +1,14 @@
 -- The relaxation's entry over a lent list. Paper 01, "Relaxation": items are numbered by their places at entry, and on every accepted
 -- problem the list holds the same items afterwards, in order.
 --   filled n l          the first n items of l, and blank items where l ends
---   loaded b n l        a problem of n items of which those of l are loaded
---   problemOf b l       the problem of a capacity and a list: the list's length is the count
+--   loaded b n l        a record of n items of which those of l are loaded
+--   modelOf b l         the record of a capacity and a list: the list's length is the count
 --   ifAccepted v x y    x if the verdict is that the record is accepted, else y
 --   after b l           the list afterwards
---   settled p           the problem with its items in order if it is accepted, else as it came
+--   settled m           the plain problem with its items in order if the record is accepted, else as it came
 --   loose x             the item, continuous
 --   Loosened p k q      q is p with its first k items continuous
---   Settles p o         what the core gives
+--   Settles m o         what the core gives
 --   Relaxes b l m r     what the entry does: the list l becomes m, and r answers
 --   usable n            how many items of a list of n are looked at
 use mathlib.Core.List.{List, [], _∷_}
@@ -22,8 +22,10 @@ use Rattle.knapsack.specs.declared.Mark.the-variants.{Continuous}
 use Rattle.knapsack.specs.declared.Problem.{Problem}
 use Rattle.knapsack.specs.declared.Verdict.{Verdict}
 use Rattle.knapsack.specs.declared.Verdict.the-variants.{Accepted, Refused}
-use Rattle.knapsack.specs.Meaning.{Relaxed}
-use Rattle.knapsack.specs.Records.{blank, itemAt, verdict}
+use Rattle.knapsack.specs.Ranges.{blank, itemAt}
+use Rattle.model.specs.declared.Model.{Model}
+use Rattle.model.specs.Promises.{Relaxed}
+use Rattle.model.specs.Records.{plainOf, verdict}
 use Rattle.ordering.specs.Order.{orderedItems}
 use Rattle.ordering.specs.Ranking.{arranged}
 use Rattle.relaxation.specs.declared.Outcome.{Outcome}
@@ -33,21 +35,21 @@ filled zero l = []
 filled (suc n) [] = blank ∷ filled n []
 filled (suc n) (x ∷ l) = x ∷ filled n l
 
-abbrev pub loaded : ℤ → ℕ → List Item → Problem
+abbrev pub loaded : ℤ → ℕ → List Item → Model
 loaded b n l = record { items = filled 16 l; count = n; capacity = b }
 
-abbrev pub problemOf : ℤ → List Item → Problem
-problemOf b l = loaded b (length l) l
+abbrev pub modelOf : ℤ → List Item → Model
+modelOf b l = loaded b (length l) l
 
 abbrev pub ifAccepted : {A : Type 0} → Verdict → A → A → A
 ifAccepted Accepted x y = x
 ifAccepted (Refused f) x y = y
 
 unfoldable pub after : ℤ → List Item → List Item
-after b l = ifAccepted (verdict (problemOf b l)) (orderedItems (λ k. getD l k blank) (length l)) l
+after b l = ifAccepted (verdict (modelOf b l)) (orderedItems (λ k. getD l k blank) (length l)) l
 
-unfoldable pub settled : Problem → Problem
-settled p = ifAccepted (verdict p) (arranged p) p
+unfoldable pub settled : Model → Problem
+settled m = ifAccepted (verdict m) (arranged (plainOf m)) (plainOf m)
 
 abbrev pub loose : Item → Item
 loose x = record { mark = Continuous; weight = x .weight; price = x .price; lower = x .lower; upper = x .upper }
@@ -57,13 +59,13 @@ pub record Loosened (p : Problem) (k : ℕ) (q : Problem) : Type 0 where
   pub capacity : q .capacity ≡ p .capacity
   pub items : (j : ℕ) → j < k → itemAt q j ≡ loose (itemAt p j)
 
-pub record Settles (p : Problem) (o : Outcome) : Type 0 where
-  pub reply : Relaxed p (o .answer)
-  pub problem : o .problem ≡ settled p
+pub record Settles (m : Model) (o : Outcome) : Type 0 where
+  pub reply : Relaxed m (o .answer)
+  pub problem : o .problem ≡ settled m
 
 pub record Relaxes (b : ℤ) (l m : List Item) (r : Answer) : Type 0 where
   pub list : m ≡ after b l
-  pub reply : Relaxed (problemOf b l) r
+  pub reply : Relaxed (modelOf b l) r
 
 abbrev pub usable : ℕ → ℕ
 usable n = min n 16

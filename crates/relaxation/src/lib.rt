@@ -1,5 +1,5 @@
 // The relaxation's public entry (paper 01, "Relaxation"): a capacity and a lent list of items, which is left in order.
-// One thin function, proved by hand, over a core that is covered: the list is copied into a problem, the core answers it and puts its
+// One thin function, proved by hand, over a core that is covered: the list is copied into a record, the core answers it and puts its
 // items in order, and the items are stored back.
 use knapsack::Answer;
 use knapsack::Item;
@@ -7,7 +7,11 @@ use knapsack::Kind;
 use knapsack::Mark;
 use knapsack::Problem;
 use knapsack::Verdict;
-use knapsack::check_record;
+use knapsack::with_item;
+use model::Model;
+use model::check_model;
+use model::plain_of;
+use model::setters;
 use ordering::arrange;
 use planner::no_point;
 use planner::solve;
@@ -15,8 +19,7 @@ ghost use mathlib.Core.Path.{_≡_};
 ghost use Prim.Native.Nat.{_≤_, _<_};
 ghost use mathlib.Core.List.{[]};
 ghost use Rattle.knapsack.specs.Meaning.{instanceOf, relaxed, Answers};
-ghost use Rattle.knapsack.specs.Records.{itemAt, InRange};
-ghost use Rattle.knapsack.specs.Items.{withItem};
+ghost use Rattle.knapsack.specs.Ranges.{itemAt, InRange};
 ghost use Rattle.relaxation.specs.Lent.{usable, loaded, loose, Loosened, Settles, Relaxes};
 
 // What the core gives: the answer, and the problem whose items are stored back.
@@ -32,27 +35,12 @@ fn usable_of(n: usize) -> usize
     if n < 16 { n } else { 16 }
 }
 
-// A problem with no items loaded yet.
-fn opened(capacity: i64, count: usize) -> Problem
+// A record with no items loaded yet.
+fn opened(capacity: i64, count: usize) -> Model
     ensures { λ r. ⌜ r ≡ loaded capacity count [] ⌝ }
 {
-    let p = knapsack::empty_problem();
-    let items = p.items;
-    Problem {
-        items: items,
-        count: count,
-        capacity: capacity,
-    }
-}
-
-// The problem with an item stored.
-fn with(p: Problem, i: usize, x: Item) -> Problem
-    requires { ⌜ i < 16 ⌝ }
-    ensures { λ r. ⌜ r ≡ withItem p i x ⌝ }
-{
-    let mut q = p;
-    q.items[i] = x;
-    q
+    let m = setters::with_capacity(setters::empty_model(), capacity);
+    setters::with_count(m, count)
 }
 
 // The item that is stored back at a place.
@@ -95,7 +83,7 @@ fn loosen(p: Problem) -> Problem
     let mut k: usize = 0;
     while k < n {
         let x = loose_item(p.items[k]);
-        q = with(q, k, x);
+        q = with_item(q, k, x);
         k += 1;
     }
     q
@@ -112,10 +100,11 @@ fn relaxed_answer(p: Problem) -> Answer
 }
 
 // The core: the record check, then the relaxation, and the items in order.
-fn core(p: Problem) -> Outcome
-    ensures { λ r. ⌜ Settles p r ⌝ }
+fn core(m: Model) -> Outcome
+    ensures { λ r. ⌜ Settles m r ⌝ }
 {
-    let v = check_record(p);
+    let p = plain_of(m);
+    let v = check_model(m);
     match v {
         Verdict::Accepted => {
             let a = relaxed_answer(p);
@@ -141,13 +130,13 @@ pub fn relax_with(capacity: i64, items: &mut [Item]) -> Answer
 {
     let len = items.len();
     let n = usable_of(len);
-    let mut p = opened(capacity, len);
+    let mut m = opened(capacity, len);
     let mut i: usize = 0;
     while i < n {
-        p = with(p, i, items[i]);
+        m = setters::with_item(m, i, items[i]);
         i += 1;
     }
-    let o = core(p);
+    let o = core(m);
     i = 0;
     while i < n {
         items[i] = nth(o, i);

@@ -1,8 +1,8 @@
 // Sheets made by hand or drawn, and their records.
 use crate::lending::Sheet;
 use knapsack::Item;
-use knapsack::Problem;
 use knapsack::blank_item;
+use model::Model;
 use trials::draw::Spans;
 use trials::draw::drawn_capacity;
 use trials::draw::drawn_item;
@@ -101,7 +101,7 @@ pub fn drawn_sheet(state: u64, count: usize, z: Spans) -> DrawnSheet
 // ---- records
 
 // The sheet as a record; it has the first 16 items.
-pub fn record_of(s: Sheet) -> Problem {
+pub fn record_of(s: Sheet) -> Model {
     let list = s.items;
     let blank = blank_item();
     let mut items = [blank; 16];
@@ -111,15 +111,11 @@ pub fn record_of(s: Sheet) -> Problem {
         items[k] = x;
         k += 1;
     }
-    Problem {
-        items: items,
-        count: s.count,
-        capacity: s.capacity,
-    }
+    trials::make::record_of(s.capacity, s.count, items)
 }
 
 // The record with its items continuous.
-pub fn loosened(p: Problem) -> Problem {
+pub fn loosened(p: Model) -> Model {
     let mut q = p;
     let mut k: usize = 0;
     while k < 16 {

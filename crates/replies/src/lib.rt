@@ -2,16 +2,16 @@
 // and the text among the parts that stand in public.
 use knapsack::Answer;
 use knapsack::Kind;
-use knapsack::Problem;
 use knapsack::Verdict;
-use listing::Listed;
-use listing::Text;
 use listing::list_reply;
 use listing::text_of;
+use model::Model;
 use planner::no_point;
 use planner::plan;
 use sheet::Reading;
 use sheet::read;
+use text::Listed;
+use text::Text;
 ghost use Rattle.replies.specs.Replies.{Answered, Replies, Lists};
 
 // The answer of what was read.
@@ -19,9 +19,9 @@ fn answered(r: Reading) -> Answer
     ensures { λ a. ⌜ Answered r a ⌝ }
 {
     let v = r.verdict;
-    let p = r.problem;
+    let m = r.model;
     match v {
-        Verdict::Accepted => plan(p),
+        Verdict::Accepted => plan(m),
         Verdict::Refused(f) => no_point(Kind::Refused(f)),
     }
 }
@@ -32,15 +32,15 @@ pub fn reply_to(sheet: &[u8]) -> Text
 {
     let r = read(sheet);
     let a = answered(r);
-    let p = r.problem;
-    text_of(a, p.count)
+    let m = r.model;
+    text_of(a, m.count)
 }
 
 // The text of a record's reply in a lent buffer: its refusal, or refusal 11 if the buffer is too short, and no byte changes; else
 // the text at the start of the buffer, and the bytes behind it stay.
-pub fn list(p: Problem, out: &mut [u8]) -> Listed
-    ensures { λ r. ⌜ Lists p (now (out .entry)) (now (out .exit)) r ⌝ }
+pub fn list(m: Model, out: &mut [u8]) -> Listed
+    ensures { λ r. ⌜ Lists m (now (out .entry)) (now (out .exit)) r ⌝ }
 {
-    let a = plan(p);
-    list_reply(a, p.count, out)
+    let a = plan(m);
+    list_reply(a, m.count, out)
 }

@@ -2,22 +2,24 @@
 // takes. include/runcefo.h declares them. Paper 01, "The sheet" and "What `charge` prints". Nothing is asked of a caller but that each
 // pointer has as many bytes behind it as the length beside it says.
 use knapsack::Verdict;
-use listing::Listed;
-use listing::ROOM;
-use listing::hand_over;
+use model::plain_of;
 use planner::solve;
 use replies::reply_to;
 use sheet::Reading;
 use sheet::read;
+use text::Listed;
+use text::ROOM;
+use text::hand_over;
 ghost use mathlib.Core.Path.{_≡_};
 ghost use Rattle.knapsack.specs.declared.Verdict.the-variants.{Accepted};
-ghost use Rattle.knapsack.specs.Records.{InRange};
+ghost use Rattle.knapsack.specs.Ranges.{InRange};
+ghost use Rattle.model.specs.Records.{plainOf};
 ghost use Rattle.sheet.specs.Reading.{readSheet};
-ghost use Rattle.runcefo.specs.Entries.{numberOf, lineOf, lengthOf, Plans, Steps};
+ghost use Rattle.runcefo.specs.Entries.{toldNumber, toldLine, lengthOf, Plans, Steps};
 
 // 01's number of a refusal, 0 where there is none.
-fn number_of(v: Verdict) -> u64
-    ensures { λ r. ⌜ r ≡ numberOf v ⌝ }
+fn told_number(v: Verdict) -> u64
+    ensures { λ r. ⌜ r ≡ toldNumber v ⌝ }
 {
     match v {
         Verdict::Accepted => 0,
@@ -26,8 +28,8 @@ fn number_of(v: Verdict) -> u64
 }
 
 // The line of a refusal, 0 where there is none.
-fn line_of(v: Verdict) -> u64
-    ensures { λ r. ⌜ r ≡ lineOf v ⌝ }
+fn told_line(v: Verdict) -> u64
+    ensures { λ r. ⌜ r ≡ toldLine v ⌝ }
 {
     match v {
         Verdict::Accepted => 0,
@@ -47,14 +49,14 @@ fn length_of(w: Listed) -> usize
 
 // The steps of the search for what was read.
 fn steps_of(r: Reading) -> u64
-    requires { ⌜ (r .verdict ≡ Accepted → InRange (r .problem)) ⌝ }
+    requires { ⌜ (r .verdict ≡ Accepted → InRange (plainOf (r .model))) ⌝ }
     ensures { λ n. ⌜ Steps r n ⌝ }
 {
     let v = r.verdict;
-    let p = r.problem;
+    let m = r.model;
     match v {
         Verdict::Accepted => {
-            let q = solve(p);
+            let q = solve(plain_of(m));
             q.steps
         }
         Verdict::Refused(_) => 0,
@@ -72,13 +74,13 @@ pub extern "C" fn charge_room() -> usize
 // A sheet's verdict: 0, or the number of its refusal; line gets the refusal's line, or 0.
 #[no_mangle]
 pub extern "C" fn charge_read(sheet: &[u8], line: &mut u64) -> u64
-    ensures { λ r. ⌜ r ≡ numberOf (readSheet (now (sheet .entry)) .verdict) ⌝ }
-    ensures { λ r. ⌜ now (line .exit) ≡ lineOf (readSheet (now (sheet .entry)) .verdict) ⌝ }
+    ensures { λ r. ⌜ r ≡ toldNumber (readSheet (now (sheet .entry)) .verdict) ⌝ }
+    ensures { λ r. ⌜ now (line .exit) ≡ toldLine (readSheet (now (sheet .entry)) .verdict) ⌝ }
 {
     let r = read(sheet);
     let v = r.verdict;
-    *line = line_of(v);
-    number_of(v)
+    *line = told_line(v);
+    told_number(v)
 }
 
 // What `charge` prints for a sheet, at the start of a lent buffer, and its length. 0, and no byte changes, where the buffer is shorter

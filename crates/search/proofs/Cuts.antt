@@ -4,7 +4,9 @@
 --   AtMostBest b D N  N / D is worth no more than the incumbent
 --   Bettered D N      some feasible point is worth at least 1 more
 --   Settled b y       every feasible point at y is the one or the other
--- cut-settles, pair-settles, tried-settles: the three cuts of a look.
+-- no-better: a value that is not above the incumbent's settles what is worth no more.
+-- in-fixed, in-run: a point is in the box of each prefix and run that it shares. bounded: it is worth no more than the run's relaxation.
+-- point-lies, sparse-most: what it changes is on the lattice; so where that has nothing better, nor has the run.
 use mathlib.Core.Path.{_≡_, refl, sym, ap, _∙_, subst, subst₂}
 use mathlib.Core.Bool.{Bool, true, false, cond}
 use mathlib.Core.Logic.{_≢_, _⊎_, inl, inr}
@@ -39,13 +41,14 @@ use Rattle.lattice.specs.Lattice.{On, latticeAt, barrenBy}
 use Rattle.lattice.proofs.Members.{on-zero, on-scale, Lies, sum-lies}
 use Rattle.lattice.proofs.Descent.{barren-true, known}
 use Rattle.places.proofs.Places.{Agree, Run}
-use Rattle.search.specs.declared.Setting.{Setting}
+use Rattle.setting.specs.declared.Setting.{Setting}
 use Rattle.search.specs.declared.Incumbent.{Incumbent}
-use Rattle.search.specs.Search.{levelAt, spanned, fixedIn, fixedBy, startBy, runEnds, slopeOf, sparseBy}
-use Rattle.search.specs.Ready.{ReadySetting, Marked}
-use Rattle.search.specs.Steps.{Long}
-use Rattle.search.proofs.Boxes.{at-same, at-other, orderOf, item<16, fixed-long, fixed-level, fixed-other}
-use Rattle.search.proofs.Bounds.{steep}
+use Rattle.setting.specs.Box.{levelAt, spanned, fixedIn, fixedBy, Long}
+use Rattle.search.specs.Search.{startBy, runEnds, slopeOf, sparseBy}
+use Rattle.setting.specs.Ready.{ReadySetting, Marked}
+use Rattle.setting.proofs.Boxes.{at-same, at-other, item<16, fixed-long, fixed-level, fixed-other}
+use Rattle.search.proofs.Starts.{orderOf}
+use Rattle.search.proofs.Slopes.{steep}
 
 -- ---- points of a box
 
@@ -56,10 +59,12 @@ pub in-box : (c : Columns) (e : Ends) (marks : ℕ → Mark) (D : ℕ) (N : ℕ 
 in-box c e marks D N p k l = (p .keeps k l .above, p .keeps k l .below)
 
 -- marks and weight do not look at the ends
-pub rebox : (c : Columns) (e e′ : Ends) (marks : ℕ → Mark) (D : ℕ) (N : ℕ → ℤ) → InBox c e′ D N → Feasibleᴰ (boxOf c e marks) D N → Feasibleᴰ (boxOf c e′ marks) D N
+pub rebox : (c : Columns) (e e′ : Ends) (marks : ℕ → Mark) (D : ℕ) (N : ℕ → ℤ) → InBox c e′ D N → Feasibleᴰ (boxOf c e marks) D N
+    → Feasibleᴰ (boxOf c e′ marks) D N
 rebox c e e′ marks D N h p = record { keeps = λ k l. record { marked = p .keeps k l .marked; above = h k l .0; below = h k l .1 }; fits = p .fits }
 
-in-span : (c : Columns) (e : Ends) (i : ℕ) (l u : ℤ) (D : ℕ) (N : ℕ → ℤ) → Long e → i < 16 → InBox c e D N → (l *ℤ pos D) ≤ℤ N i → N i ≤ℤ (u *ℤ pos D) → InBox c (spanned e i l u) D N
+in-span : (c : Columns) (e : Ends) (i : ℕ) (l u : ℤ) (D : ℕ) (N : ℕ → ℤ) → Long e → i < 16 → InBox c e D N → (l *ℤ pos D) ≤ℤ N i → N i ≤ℤ (u *ℤ pos D)
+    → InBox c (spanned e i l u) D N
 in-span c e i l u D N g n h a b k m = go (ℕ-discrete k i)
   where
     go : Dec (k ≡ i) → ((at (spanned e i l u .lo) k *ℤ pos D) ≤ℤ N k) × (N k ≤ℤ (at (spanned e i l u .hi) k *ℤ pos D))
@@ -81,7 +86,14 @@ cond-same false x = refl
 
 -- an item with equal ends stands there
 stand-fixed : (c : Columns) (e : Ends) (t k : ℕ) → at (e .lo) k ≡ at (e .hi) k → stand c e t k ≡ at (e .lo) k
-stand-fixed c e t k h = rw (← h, cond-same (ltZ (pos 0) (priceOf c k)) (at (e .lo) k), cond-same (ltZ (weightOf c k) (pos 0)) (at (e .lo) k), cond-same (ltZ (pos 0) (weightOf c k)) (at (e .lo) k), cond-same (ltb (rankOf c k) t) (at (e .lo) k))
+stand-fixed c e t k h =
+    rw (
+      ← h,
+      cond-same (ltZ (pos 0) (priceOf c k)) (at (e .lo) k),
+      cond-same (ltZ (weightOf c k) (pos 0)) (at (e .lo) k),
+      cond-same (ltZ (pos 0) (weightOf c k)) (at (e .lo) k),
+      cond-same (ltb (rankOf c k) t) (at (e .lo) k),
+    )
 
 -- ---- settled places
 
@@ -102,8 +114,10 @@ module _ (s : Setting) (marks : ℕ → Mark) where
   Settled b y = (D : ℕ) (N : ℕ → ℤ) → 1 ≤ D → Feasibleᴰ box D N → AtPlace D N y → AtMostBest b D N ⊎ Bettered D N
 
   -- what is no better than a value that is not above the incumbent's
-  pub no-better : (b : Incumbent) (v : Mixed) (D : ℕ) (N : ℕ → ℤ) → b .found ≡ true → Proper (b .value) → Proper v → lessMixed (b .value) v ≡ false → (valueᴰ box N *ℤ pos (v .parts)) ≤ℤ (over v *ℤ pos D) → AtMostBest b D N
-  no-better b v D N f p q h a = (f, mid D (v .parts) (b .value .parts) (omega (arith, q .low)) (valueᴰ box N) (over v) (over (b .value)) a (less-false (b .value) v p q h))
+  pub no-better : (b : Incumbent) (v : Mixed) (D : ℕ) (N : ℕ → ℤ) → b .found ≡ true → Proper (b .value) → Proper v → lessMixed (b .value) v ≡ false
+      → (valueᴰ box N *ℤ pos (v .parts)) ≤ℤ (over v *ℤ pos D) → AtMostBest b D N
+  no-better b v D N f p q h a =
+      (f, mid D (v .parts) (b .value .parts) (omega (arith, q .low)) (valueᴰ box N) (over v) (over (b .value)) a (less-false (b .value) v p q h))
 
 module _ (s : Setting) (r : ReadySetting s) (long : Long (s .ends)) (marks : ℕ → Mark) (m : Marked s marks) where
   module _ (D : ℕ) (N : ℕ → ℤ) (d≥1 : 1 ≤ D) (p : Feasibleᴰ (box s marks) D N) (y : ℕ → ℤ) (a : AtPlace s marks D N y) where
@@ -113,7 +127,8 @@ module _ (s : Setting) (r : ReadySetting s) (long : Long (s .ends)) (marks : ℕ
     in-fixed P zero l h = in-box (s .cols) (s .ends) marks D N p
     in-fixed P (suc d) l h =
         let e : N (levelAt s d) ≡ P d *ℤ pos D = a d l ∙ ap (λ z. z *ℤ pos D) (sym (h d (omega arith))) in
-        in-span (s .cols) (fixedBy s P d) (levelAt s d) (P d) (P d) D N (fixed-long s r long P d) (item<16 s r long d l) (in-fixed P d (omega arith) (λ k n. h k (omega arith))) (≤ℤ-reflexive (sym e)) (≤ℤ-reflexive e)
+        in-span (s .cols) (fixedBy s P d) (levelAt s d) (P d) (P d) D N (fixed-long s r long P d) (item<16 s r long d l)
+        (in-fixed P d (omega arith) (λ k n. h k (omega arith))) (≤ℤ-reflexive (sym e)) (≤ℤ-reflexive e)
 
     own-low : (d : ℕ) → d < s .levels → (at (s .low) d *ℤ pos D) ≤ℤ N (levelAt s d)
     own-low d l = subst (λ z. (z *ℤ pos D) ≤ℤ N (levelAt s d)) (sym (r .low-is d l)) (p .keeps (levelAt s d) (r .level-in d l) .above)
@@ -156,7 +171,8 @@ module _ (s : Setting) (r : ReadySetting s) (long : Long (s .ends)) (marks : ℕ
       pub in-e : Feasibleᴰ (boxOf (s .cols) e marks) D N
       in-e = rebox (s .cols) (s .ends) e marks D N (in-run P d l run) p
 
-      pub bounded : Stopped (s .cols) e marks (r .ordered) ordered f → (valueᴰ (box s marks) N *ℤ pos (bound (s .cols) f .parts)) ≤ℤ (over (bound (s .cols) f) *ℤ pos D)
+      pub bounded : Stopped (s .cols) e marks (r .ordered) ordered f → (valueᴰ (box s marks) N *ℤ pos (bound (s .cols) f .parts)) ≤ℤ
+          (over (bound (s .cols) f) *ℤ pos D)
       bounded t = fill-bound (s .cols) e marks (r .ordered) ordered f t D N d≥1 in-e
 
       -- the ends of an item that is not level d's: as in the prefix's box
@@ -171,7 +187,8 @@ module _ (s : Setting) (r : ReadySetting s) (long : Long (s .ends)) (marks : ℕ
           at-lo = ≤ℤ-antisym (subst (λ z. N k ≤ℤ (z *ℤ pos D)) (sym h) (in-e .keeps k n .below)) (in-e .keeps k n .above)
 
       -- so does one of no level that is fixed in the box
-      pub box-stands : (t k : ℕ) → k < s .cols .count → marks k ≡ Continuous → (((j : ℕ) → j < s .levels → levelAt s j ≢ k) → at (s .ends .lo) k ≡ at (s .ends .hi) k) → N k ≡ stand (s .cols) e t k *ℤ pos D
+      pub box-stands : (t k : ℕ) → k < s .cols .count → marks k ≡ Continuous
+          → (((j : ℕ) → j < s .levels → levelAt s j ≢ k) → at (s .ends .lo) k ≡ at (s .ends .hi) k) → N k ≡ stand (s .cols) e t k *ℤ pos D
       box-stands t k n q g =
           let free : (j : ℕ) → j < s .levels → levelAt s j ≢ k = λ j o x. unlike (sym (m .integer j o) ∙ ap marks x ∙ q) in
           let h = other-ends k (λ x. free d l (sym x)) in
@@ -182,14 +199,22 @@ module _ (s : Setting) (r : ReadySetting s) (long : Long (s .ends)) (marks : ℕ
           unlike x = let z : _≡_ {A = ℕ} 0 1 = cc in omega arith
 
       -- where the levels' items are on a lattice L, and continuous ones stand
-      module _ (L : Lattice) (on : (j : ℕ) → d ≤ j → j < s .levels → On L (weightOf (s .cols) (levelAt s j)) (priceOf (s .cols) (levelAt s j))) (still : (k : ℕ) → k < s .cols .count → marks k ≡ Continuous → N k ≡ stand (s .cols) e (f .at) k *ℤ pos D) where
+      module _ (L : Lattice) (on : (j : ℕ) → d ≤ j → j < s .levels → On L (weightOf (s .cols) (levelAt s j)) (priceOf (s .cols) (levelAt s j)))
+          (still : (k : ℕ) → k < s .cols .count → marks k ≡ Continuous → N k ≡ stand (s .cols) e (f .at) k *ℤ pos D) where
         -- what item k changes, against the whole amounts
         abbrev Term : ℕ → Type 0
-        Term k = Lies L D (weightOf (s .cols) k *ℤ (N k -ℤ stand (s .cols) e (f .at) k *ℤ pos D)) (priceOf (s .cols) k *ℤ (N k -ℤ stand (s .cols) e (f .at) k *ℤ pos D))
+        Term k = Lies L D (weightOf (s .cols) k *ℤ (N k -ℤ stand (s .cols) e (f .at) k *ℤ pos D))
+            (priceOf (s .cols) k *ℤ (N k -ℤ stand (s .cols) e (f .at) k *ℤ pos D))
 
         -- an item that stands changes nothing
         still-term : (k : ℕ) → N k ≡ stand (s .cols) e (f .at) k *ℤ pos D → Term k
-        still-term k h = record { weight = pos 0; worth = pos 0; on = on-zero L; weight-is = none (weightOf (s .cols) k); worth-is = none (priceOf (s .cols) k) }
+        still-term k h = record {
+          weight = pos 0;
+          worth = pos 0;
+          on = on-zero L;
+          weight-is = none (weightOf (s .cols) k);
+          worth-is = none (priceOf (s .cols) k);
+        }
           where
             zero-term : (c x : ℤ) → c *ℤ (x *ℤ pos D -ℤ x *ℤ pos D) ≡ pos 0 *ℤ pos D
             zero-term = split2 _ (λ a b c e. simp zed (omega arith))
@@ -209,12 +234,19 @@ module _ (s : Setting) (r : ReadySetting s) (long : Long (s .ends)) (marks : ℕ
             apart q = omega arith
         level-term j n (no o) =
             let z = y j -ℤ stand (s .cols) e (f .at) (levelAt s j) in
-            record { weight = weightOf (s .cols) (levelAt s j) *ℤ z; worth = priceOf (s .cols) (levelAt s j) *ℤ z; on = on-scale L (on j (omega arith) n) z; weight-is = scaled (weightOf (s .cols) (levelAt s j)); worth-is = scaled (priceOf (s .cols) (levelAt s j)) }
+            record {
+              weight = weightOf (s .cols) (levelAt s j) *ℤ z;
+              worth = priceOf (s .cols) (levelAt s j) *ℤ z;
+              on = on-scale L (on j (omega arith) n) z;
+              weight-is = scaled (weightOf (s .cols) (levelAt s j));
+              worth-is = scaled (priceOf (s .cols) (levelAt s j));
+            }
           where
             join : (c x z : ℤ) → c *ℤ (x *ℤ pos D -ℤ z *ℤ pos D) ≡ (c *ℤ (x -ℤ z)) *ℤ pos D
             join = split3 _ (λ a b c e f g. simp zed (omega arith))
 
-            scaled : (c : ℤ) → c *ℤ (N (levelAt s j) -ℤ stand (s .cols) e (f .at) (levelAt s j) *ℤ pos D) ≡ (c *ℤ (y j -ℤ stand (s .cols) e (f .at) (levelAt s j))) *ℤ pos D
+            scaled : (c : ℤ) → c *ℤ (N (levelAt s j) -ℤ stand (s .cols) e (f .at) (levelAt s j) *ℤ pos D) ≡
+                (c *ℤ (y j -ℤ stand (s .cols) e (f .at) (levelAt s j))) *ℤ pos D
             scaled c = ap (λ x. c *ℤ (x -ℤ stand (s .cols) e (f .at) (levelAt s j) *ℤ pos D)) (a j n) ∙ join c (y j) (stand (s .cols) e (f .at) (levelAt s j))
 
         term : (k : ℕ) → k < s .cols .count → Term k
@@ -225,33 +257,43 @@ module _ (s : Setting) (r : ReadySetting s) (long : Long (s .ends)) (marks : ℕ
             go Continuous q = still-term k (still k n q)
 
         -- what the point changes is on the lattice
-        pub point-lies : Stopped (s .cols) e marks (r .ordered) ordered f → Lies L D (weighsᴰ (box s marks) N -ℤ (s .cols .capacity -ℤ f .room) *ℤ pos D) (valueᴰ (box s marks) N -ℤ f .worth *ℤ pos D)
+        pub point-lies : Stopped (s .cols) e marks (r .ordered) ordered f
+            → Lies L D (weighsᴰ (box s marks) N -ℤ (s .cols .capacity -ℤ f .room) *ℤ pos D) (valueᴰ (box s marks) N -ℤ f .worth *ℤ pos D)
         point-lies t =
-            let q = sum-lies L (s .cols .count) D (λ k. weightOf (s .cols) k *ℤ (N k -ℤ stand (s .cols) e (f .at) k *ℤ pos D)) (λ k. priceOf (s .cols) k *ℤ (N k -ℤ stand (s .cols) e (f .at) k *ℤ pos D)) (λ k n. term k n) in
-            subst₂ (Lies L D) (differ (weightOf (s .cols)) (s .cols .capacity -ℤ f .room) (left _ (f .room) (s .cols .capacity) (t .good .inv .level))) (differ (priceOf (s .cols)) (f .worth) (t .good .worth-is)) q
+            let q = sum-lies L (s .cols .count) D (λ k. weightOf (s .cols) k *ℤ (N k -ℤ stand (s .cols) e (f .at) k *ℤ pos D))
+            (λ k. priceOf (s .cols) k *ℤ (N k -ℤ stand (s .cols) e (f .at) k *ℤ pos D)) (λ k n. term k n) in
+            subst₂ (Lies L D) (differ (weightOf (s .cols)) (s .cols .capacity -ℤ f .room) (left _ (f .room) (s .cols .capacity) (t .good .inv .level)))
+            (differ (priceOf (s .cols)) (f .worth) (t .good .worth-is)) q
           where
             left : (w r b : ℤ) → w +ℤ r ≡ b → w ≡ b -ℤ r
             left = split3 _ (λ a b c e f g. simp zed (omega arith))
 
-            differ : (c : ℕ → ℤ) (w : ℤ) → sum (s .cols .count) (λ k. c k *ℤ stand (s .cols) e (f .at) k) ≡ w → sum (s .cols .count) (λ k. c k *ℤ (N k -ℤ stand (s .cols) e (f .at) k *ℤ pos D)) ≡ sum (s .cols .count) (λ k. c k *ℤ N k) -ℤ w *ℤ pos D
-            differ c w h = sum-diff (s .cols .count) c N (λ k. stand (s .cols) e (f .at) k *ℤ pos D) ∙ ap (λ x. sum (s .cols .count) (λ k. c k *ℤ N k) -ℤ x) (sum-times (s .cols .count) c (stand (s .cols) e (f .at)) D ∙ ap (λ x. x *ℤ pos D) h)
+            differ : (c : ℕ → ℤ) (w : ℤ) → sum (s .cols .count) (λ k. c k *ℤ stand (s .cols) e (f .at) k) ≡ w
+                → sum (s .cols .count) (λ k. c k *ℤ (N k -ℤ stand (s .cols) e (f .at) k *ℤ pos D)) ≡ sum (s .cols .count) (λ k. c k *ℤ N k) -ℤ w *ℤ pos D
+            differ c w h = sum-diff (s .cols .count) c N (λ k. stand (s .cols) e (f .at) k *ℤ pos D)
+                ∙ ap (λ x. sum (s .cols .count) (λ k. c k *ℤ N k) -ℤ x) (sum-times (s .cols .count) c (stand (s .cols) e (f .at)) D ∙ ap (λ x. x *ℤ pos D) h)
 
       abbrev L : Lattice
       L = latticeAt (s .lattice) d
 
       -- nothing in a sparse run is worth more than b
-      pub sparse-most : Stopped (s .cols) e marks (r .ordered) ordered f → SizedFill (s .cols) f → (b : ℤ) → sparseBy (s .cols) L f b ≡ true → valueᴰ (box s marks) N ≤ℤ (b *ℤ pos D)
+      pub sparse-most : Stopped (s .cols) e marks (r .ordered) ordered f → SizedFill (s .cols) f → (b : ℤ) → sparseBy (s .cols) L f b ≡ true
+          → valueᴰ (box s marks) N ≤ℤ (b *ℤ pos D)
       unfolding sparseBy
       sparse-most t z b h = go (ltb (f .at) (s .cols .live)) refl h (t .why)
         where
-          ended : f .at < s .cols .live → f .room <ℤ (at (s .cols .size) (f .at) *ℤ width (s .cols) e (f .at)) → barrenBy L (slopeOf (s .cols) f) (f .room) b ≡ true → valueᴰ (box s marks) N ≤ℤ (b *ℤ pos D)
+          ended : f .at < s .cols .live → f .room <ℤ (at (s .cols .size) (f .at) *ℤ width (s .cols) e (f .at))
+              → barrenBy L (slopeOf (s .cols) f) (f .room) b ≡ true → valueᴰ (box s marks) N ≤ℤ (b *ℤ pos D)
           ended k short h =
               let g = r .changes d l (known L (slopeOf (s .cols) f) (f .room) b h) in
               let q = point-lies L (g .on) (λ k n z. box-stands (f .at) k n z (g .fixed k n)) t in
               let rise = fill-slope (s .cols) e marks (r .ordered) ordered f (t .good) k short D N (in-e .keeps) in
-              let slope = cancel D d≥1 (at (s .cols .size) (f .at)) (at (s .cols .rate) (f .at)) (q .worth) (q .weight) (subst₂ (λ v w. (at (s .cols .size) (f .at) *ℤ v) ≤ℤ (at (s .cols .rate) (f .at) *ℤ w)) (q .worth-is) (q .weight-is) rise) in
+              let slope = cancel D d≥1 (at (s .cols .size) (f .at)) (at (s .cols .rate) (f .at)) (q .worth) (q .weight)
+              (subst₂ (λ v w. (at (s .cols .size) (f .at) *ℤ v) ≤ℤ (at (s .cols .rate) (f .at) *ℤ w)) (q .worth-is) (q .weight-is) rise) in
               let room = fits D d≥1 (q .weight) (weighsᴰ (box s marks) N) (s .cols .capacity) (f .room) (q .weight-is) (p .fits) in
-              up (valueᴰ (box s marks) N) (f .worth) (q .worth) b (q .worth-is) (barren-true L (f .room) (r .tame d (omega (arith, r .few))) (slopeOf (s .cols) f) (steep (s .cols) f (r .ordered) z k) b h (q .weight) (q .worth) (q .on) room slope)
+              up (valueᴰ (box s marks) N) (f .worth) (q .worth) b (q .worth-is)
+              (barren-true L (f .room) (r .tame d (omega (arith, r .few))) (slopeOf (s .cols) f) (steep (s .cols) f (r .ordered) z k) b h (q .weight)
+              (q .worth) (q .on) room slope)
             where
               cancel : (D : ℕ) → 1 ≤ D → (x y v w : ℤ) → (x *ℤ (v *ℤ pos D)) ≤ℤ (y *ℤ (w *ℤ pos D)) → (x *ℤ v) ≤ℤ (y *ℤ w)
               cancel D d≥1 x y v w h = times-≤-back D (x *ℤ v) (y *ℤ w) d≥1 (subst₂ _≤ℤ_ (out x v) (out y w) h)
@@ -271,7 +313,8 @@ module _ (s : Setting) (r : ReadySetting s) (long : Long (s .ends)) (marks : ℕ
                   total : (v w c : ℤ) → v -ℤ w *ℤ pos D ≡ c *ℤ pos D → v ≡ (w +ℤ c) *ℤ pos D
                   total = split3 _ (λ a b c e f g. simp zed (omega arith))
 
-          go : (v : Bool) → ltb (f .at) (s .cols .live) ≡ v → cond v (barrenBy L (slopeOf (s .cols) f) (f .room) b) false ≡ true → (f .at ≡ s .cols .live) ⊎ ((f .at < s .cols .live) × (f .room <ℤ (at (s .cols .size) (f .at) *ℤ width (s .cols) e (f .at)))) → valueᴰ (box s marks) N ≤ℤ (b *ℤ pos D)
+          go : (v : Bool) → ltb (f .at) (s .cols .live) ≡ v → cond v (barrenBy L (slopeOf (s .cols) f) (f .room) b) false ≡ true → (f .at ≡ s .cols .live)
+              ⊎ ((f .at < s .cols .live) × (f .room <ℤ (at (s .cols .size) (f .at) *ℤ width (s .cols) e (f .at)))) → valueᴰ (box s marks) N ≤ℤ (b *ℤ pos D)
           go false q h w = absurd (impossible h)
           go true q h (inl w) = absurd (omega (arith, ltb-true (f .at) (s .cols .live) q))
           go true q h (inr (k, short)) = ended k short h

@@ -13,12 +13,14 @@ use lib.Signed.{_≤ℤ_}
 use Rattle.greedy.specs.declared.Ends.{Ends}
 use Rattle.greedy.specs.Fill.{at, fill, start}
 use Rattle.greedy.specs.Sized.{Sized}
-use Rattle.search.specs.declared.Setting.{Setting}
+use Rattle.setting.specs.declared.Setting.{Setting}
 use Rattle.search.specs.declared.Path.{Path}
-use Rattle.search.specs.Search.{levelAt, spanned, fixedIn, fixedBy, startBy}
-use Rattle.search.specs.Ready.{ReadySetting, InsideTo}
-use Rattle.search.specs.Steps.{Long, LongPath, Dived, Turnable, Turned}
-use Rattle.search.proofs.Boxes.{at-same, at-other, fixed-cong, start-cong, start-in, fixed-sized}
+use Rattle.setting.specs.Box.{levelAt, spanned, fixedIn, fixedBy, InsideTo, Long}
+use Rattle.search.specs.Search.{startBy}
+use Rattle.setting.specs.Ready.{ReadySetting}
+use Rattle.search.specs.Steps.{LongPath, Dived, MoveInRange, MovedTo}
+use Rattle.setting.proofs.Boxes.{at-same, at-other, fixed-cong, fixed-sized}
+use Rattle.search.proofs.Starts.{start-cong, start-in}
 
 pub record Diving (s : Setting) (j : ℕ) (p q : Path) (e : Ends) (k : ℕ) : Type 0 where
   pub past : j ≤ k
@@ -30,8 +32,19 @@ pub record Diving (s : Setting) (j : ℕ) (p q : Path) (e : Ends) (k : ℕ) : Ty
   pub filled : (i : ℕ) → j ≤ i → i < k → (at (q .place) i ≡ startBy s (at (q .place)) i) × (at (q .starts) i ≡ at (q .place) i)
   pub beyond : (i : ℕ) → k ≤ i → (at (q .place) i ≡ at (p .place) i) × (at (q .starts) i ≡ at (p .starts) i)
 
-pub diving-first : (s : Setting) (j : ℕ) (p : Path) (e : Ends) → j ≤ s .levels → LongPath p → e ≡ fixedBy s (at (p .place)) j → InsideTo s j (at (p .place)) → Diving s j p p e j
-diving-first s j p e l g h n = record { past = omega arith; top = l; long = g; ends-are = h; inside = n; kept = λ i m. (refl, refl); filled = λ i m n. absurd (omega arith); beyond = λ i m. (refl, refl) }
+pub diving-first : (s : Setting) (j : ℕ) (p : Path) (e : Ends) → j ≤ s .levels → LongPath p → e ≡ fixedBy s (at (p .place)) j → InsideTo s j (at (p .place))
+    → Diving s j p p e j
+diving-first s j p e l g h n =
+    record {
+      past = omega arith;
+      top = l;
+      long = g;
+      ends-are = h;
+      inside = n;
+      kept = λ i m. (refl, refl);
+      filled = λ i m n. absurd (omega arith);
+      beyond = λ i m. (refl, refl);
+    }
 
 -- the start of level k in the box e
 abbrev pub startIn : Setting → Ends → ℕ → ℤ
@@ -45,7 +58,8 @@ module _ (s : Setting) (r : ReadySetting s) (long : Long (s .ends)) (j : ℕ) (p
   pub diving-sized : (q : Path) (e : Ends) (k : ℕ) → Diving s j p q e k → Sized (s .cols) e
   diving-sized q e k d = record { columns = r .sized .columns; ends = rw (d .ends-are) (fixed-sized s r long (at (q .place)) k (d .top) (d .inside)) }
 
-  pub diving-step : (q : Path) (e : Ends) (k : ℕ) → k < s .levels → Diving s j p q e k → Diving s j p (begunAt q k (startIn s e k)) (spanned e (levelAt s k) (startIn s e k) (startIn s e k)) (k + 1)
+  pub diving-step : (q : Path) (e : Ends) (k : ℕ) → k < s .levels → Diving s j p q e k
+      → Diving s j p (begunAt q k (startIn s e k)) (spanned e (levelAt s k) (startIn s e k) (startIn s e k)) (k + 1)
   unfolding startBy fixedIn
   diving-step q e k l d = record {
     past = omega (arith, d .past);
@@ -102,7 +116,8 @@ module _ (s : Setting) (r : ReadySetting s) (long : Long (s .ends)) (j : ℕ) (p
           (other-place i z ∙ h .0 ∙ start-cong s (at x) (at y) i (above i (omega arith)), other-starts i z ∙ h .1 ∙ sym (other-place i z))
 
   pub diving-done : (q : Path) (e : Ends) (k : ℕ) → s .levels ≤ k → Diving s j p q e k → Dived s j p q
-  diving-done q e k l d = record { kept = d .kept; filled = λ i m n. d .filled i m (omega arith); beyond = λ i m. d .beyond i (omega (arith, d .top)); long = d .long }
+  diving-done q e k l d =
+      record { kept = d .kept; filled = λ i m n. d .filled i m (omega arith); beyond = λ i m. d .beyond i (omega (arith, d .top)); long = d .long }
 
 -- no level is left
 pub dived-none : (s : Setting) (k : ℕ) (p : Path) → s .levels ≤ k → LongPath p → Dived s k p p
@@ -110,19 +125,19 @@ dived-none s k p l g = record { kept = λ i m. (refl, refl); filled = λ i m n. 
 
 -- ---- turning at a level
 
-module _ (s : Setting) (t : Path) (j : ℕ) (v : ℤ) (h : Turnable s t j v) (long : LongPath t) where
+module _ (s : Setting) (t : Path) (j : ℕ) (v : ℤ) (h : MoveInRange s t j v) (long : LongPath t) where
   j-in : j < length (t .place)
   j-in = omega (arith, long .place-long, h .ready .few, h .level-in)
 
-  pub turn-inside : InsideTo s (j + 1) (at (set (t .place) j v))
-  turn-inside d l = go (ℕ-discrete d j)
+  pub moved-inside : InsideTo s (j + 1) (at (set (t .place) j v))
+  moved-inside d l = go (ℕ-discrete d j)
     where
       go : Dec (d ≡ j) → (at (s .low) d ≤ℤ at (set (t .place) j v) d) × (at (set (t .place) j v) d ≤ℤ at (s .high) d)
       go (yes q) = rw (q, at-same (t .place) j v j-in) (h .low, h .high)
       go (no q) = rw (at-other (t .place) j v d q) (h .started .inside d (omega (arith, h .level-in)))
 
-  pub turned-by : (r : Path) → Dived s (j + 1) (record { place = set (t .place) j v; starts = t .starts }) r → Turned s t j v r
-  turned-by r d = record {
+  pub moved-by : (r : Path) → Dived s (j + 1) (record { place = set (t .place) j v; starts = t .starts }) r → MovedTo s t j v r
+  moved-by r d = record {
     above = λ i l. d .kept i (omega arith) .0 ∙ at-other (t .place) j v i (omega arith);
     here = d .kept j (omega arith) .0 ∙ at-same (t .place) j v j-in;
     deeper = λ i l m. d .filled i (omega arith) m .0;
@@ -132,5 +147,6 @@ module _ (s : Setting) (t : Path) (j : ℕ) (v : ℤ) (h : Turnable s t j v) (lo
   }
     where
       go : (i : ℕ) → i < s .levels → Dec (i < j + 1) → at (r .starts) i ≡ startBy s (at (r .place)) i
-      go i l (yes q) = d .kept i q .1 ∙ h .started .starts i l ∙ start-cong s (at (t .place)) (at (r .place)) i (λ k o. sym (d .kept k (omega arith) .0 ∙ at-other (t .place) j v k (omega arith)))
+      go i l (yes q) = d .kept i q .1 ∙ h .started .starts i l ∙ start-cong s (at (t .place)) (at (r .place)) i
+          (λ k o. sym (d .kept k (omega arith) .0 ∙ at-other (t .place) j v k (omega arith)))
       go i l (no q) = let f = d .filled i (omega arith) l in f .1 ∙ f .0

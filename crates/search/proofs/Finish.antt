@@ -1,7 +1,10 @@
 -- At the end every place is settled: the incumbent is optimal, or nothing is feasible.
 --   GoodBest s b     the incumbent stands for a place of the box, and its value is that place's
 --   Covered s b q    every place is settled or still to come; at the end, all are settled
--- tried-good, settles-verdict, step-covers: a step keeps this; searched: what it comes to.
+--   Going s q        both, and the path is the place's;  Fresh s p q: the levels above the one to look from settle nothing
+-- tried-good, looked-good: a look keeps the one; settles-verdict, keeps-settled: what it settles, and that this stays.
+-- going-first, going-on, fresh-on: it holds at first and after a step; going-less: which leaves fewer places.
+-- settled-point, none-feasible, found-feasible, found-value, found-optimal: what the end says; searched: all of it.
 use mathlib.Core.Path.{_≡_, refl, sym, ap, _∙_, subst, subst₂}
 use mathlib.Core.Bool.{Bool, true, false, cond}
 use mathlib.Core.List.{List}
@@ -33,21 +36,23 @@ use Rattle.places.specs.declared.Settled.the-variants.{Run, Prefix}
 use Rattle.places.specs.Moves.{SettledIn, pastOf}
 use Rattle.places.proofs.Places.{Place, Box, Agree, Moved, Covers, All, μ, covers-mono, covers-first, starts-box}
 use Rattle.places.proofs.Steps.{Settles, Goes, step-goes}
-use Rattle.search.specs.declared.Setting.{Setting}
-use Rattle.search.specs.declared.Pairs.{Pairs}
+use Rattle.setting.specs.declared.Setting.{Setting}
+use Rattle.setting.specs.declared.Pairs.{Pairs}
 use Rattle.search.specs.declared.Incumbent.{Incumbent}
 use Rattle.search.specs.declared.Path.{Path}
 use Rattle.search.specs.declared.State.{State}
-use Rattle.search.specs.declared.Trial.{Trial}
-use Rattle.search.specs.Search.{levelAt, fixedBy, startBy, runEnds, cutBy, betters, triedBy}
-use Rattle.search.specs.Ready.{ReadySetting, ReadyPairs, Ready, Inside, Marked, chosen, Searched}
-use Rattle.search.specs.Steps.{Long, Started, ProperBest, Judges, Passed, kept, LookedAs, Dived, nobody, Turned, freshBy, WentOn, Stepped}
-use Rattle.search.proofs.Boxes.{orderOf, order-laws, fixed-order, fixed-level, fixed-other}
-use Rattle.search.proofs.Bounds.{bound-proper}
-use Rattle.search.proofs.Runs.{fixed-judged}
-use Rattle.search.proofs.Turns.{looked-in, looked-passed, looked-kept, past-started, move-in, passed-on}
-use Rattle.search.proofs.Cuts.{box, AtPlace, AtMostBest, Bettered, InBox, rebox}
-use Rattle.search.proofs.Cuts.{Settled as SettledAt}
+use Rattle.search.specs.declared.Comparison.{Comparison}
+use Rattle.setting.specs.Box.{levelAt, fixedBy, Inside, Long}
+use Rattle.search.specs.Search.{startBy, runEnds, cutBy, betters, triedBy}
+use Rattle.setting.specs.Ready.{ReadySetting, ReadyPairs, Ready, Marked}
+use Rattle.search.specs.Searched.{chosen, Searched}
+use Rattle.search.specs.Steps.{Started, ProperBest, BoxInRange, Passed, kept, LookedAs, Dived, nobody, MovedTo, freshBy, WentOn, Stepped}
+use Rattle.search.proofs.Starts.{orderOf, order-laws}
+use Rattle.setting.proofs.Boxes.{fixed-order, fixed-level, fixed-other}
+use Rattle.greedy.proofs.Bounds.{bound-proper}
+use Rattle.search.proofs.Runs.{fixed-in-range}
+use Rattle.search.proofs.Moving.{looked-in, looked-passed, looked-kept, past-started, move-in, passed-on}
+use Rattle.search.proofs.Cuts.{box, AtPlace, AtMostBest, Bettered, InBox, rebox, Settled as SettledAt}
 use Rattle.search.proofs.Settle.{cut-settles, pair-settles, tried-settles, tried-keeps}
 
 -- the box of a place, all levels fixed, and its filling
@@ -71,26 +76,32 @@ module _ (s : Setting) (r : ReadySetting s) (long : Long (s .ends)) where
       f : Fill
       f = fill (s .cols) e
 
-      j : Judges (s .cols) e b
-      j = fixed-judged s r long (at x) inside (s .levels) b (omega arith) (g .proper)
+      j : BoxInRange (s .cols) e b
+      j = fixed-in-range s r long (at x) inside (s .levels) b (omega arith) (g .proper)
 
       new : ltZ (f .room) (pos 0) ≡ false → GoodBest s (record { found = true; place = x; value = bound (s .cols) f })
-      new q = record { proper = λ z. bound-proper (s .cols) f (fill-sized (s .cols) e (j .sized)); inside = λ z. inside; roomy = λ z. no-lt q; value-is = λ z. refl }
+      new q = record {
+        proper = λ z. bound-proper (s .cols) f (fill-sized (s .cols) e (j .sized));
+        inside = λ z. inside;
+        roomy = λ z. no-lt q;
+        value-is = λ z. refl;
+      }
 
       better? : ltZ (f .room) (pos 0) ≡ false → (t : Bool) → GoodBest s (cond t (record { found = true; place = x; value = bound (s .cols) f }) b)
       better? q true = new q
       better? q false = g
 
-      empty? : (t : Bool) → ltZ (f .room) (pos 0) ≡ t → GoodBest s (cond t b (cond (betters (bound (s .cols) f) b) (record { found = true; place = x; value = bound (s .cols) f }) b))
+      empty? : (t : Bool) → ltZ (f .room) (pos 0) ≡ t → GoodBest s (cond t b
+          (cond (betters (bound (s .cols) f) b) (record { found = true; place = x; value = bound (s .cols) f }) b))
       empty? true q = g
       empty? false q = better? q (betters (bound (s .cols) f) b)
 
   -- ---- a verdict settles what it covers
 
-  kept-best : {r′ : Trial} {b : Incumbent} → r′ ≡ kept b → r′ .best ≡ b
-  kept-best e = ap (λ (r : Trial). r .best) e
+  kept-best : {r′ : Comparison} {b : Incumbent} → r′ ≡ kept b → r′ .best ≡ b
+  kept-best e = ap (λ (r : Comparison). r .best) e
 
-  module _ (ps : Pairs) (rp : ReadyPairs (s .cols) ps) (t : Path) (started : Started s t) (b : Incumbent) (r′ : Trial) (g : GoodBest s b) where
+  module _ (ps : Pairs) (rp : ReadyPairs (s .cols) ps) (t : Path) (started : Started s t) (b : Incumbent) (r′ : Comparison) (g : GoodBest s b) where
     abbrev b′ : Incumbent
     b′ = r′ .best
 
@@ -102,18 +113,26 @@ module _ (s : Setting) (r : ReadySetting s) (long : Long (s .ends)) where
     module _ (marks : ℕ → Mark) (m : Marked s marks) where
       pub keeps-settled : (w : Settled) → LookedAs s ps t b r′ w → (y : Place) → SettledAt s marks b y → SettledAt s marks b′ y
       keeps-settled (Run d) (e, c) y h = rw (kept-best e) h
-      keeps-settled (Prefix n) (inl k) y h = rw (k .tries .best-is) (tried-keeps s r long marks m (at (t .place)) (started .inside) (t .place) b (g .proper) y h)
+      keeps-settled (Prefix n) (inl k) y h =
+          rw (k .tries .best-is) (tried-keeps s r long marks m (at (t .place)) (started .inside) (t .place) b (g .proper) y h)
       keeps-settled (Prefix n) (inr (e, c)) y h = rw (kept-best e) h
 
       pub settles-verdict : (w : Settled) → LookedAs s ps t b r′ w → Settles (orderOf s) w (at (t .place)) (SettledAt s marks b′)
-      settles-verdict (Run d) (e, c) = λ y bx run. rw (kept-best e) (cut-settles s r long marks m (at (t .place)) (started .inside) d b (c .level-in) (g .proper) (subst (λ v. cutBy (s .cols) (s .soft) (latticeAt (s .lattice) d) (runEnds s (at (t .place)) v d) b ≡ true) (started .starts d (c .level-in)) (c .cut)) y run)
-      settles-verdict (Prefix n) (inl h) = λ y bx a. rw (h .tries .best-is) (tried-settles s r long marks m (at (t .place)) (started .inside) (t .place) b (g .proper) y (subst (λ k. Agree k (at (t .place)) y) (h .all) a))
-      settles-verdict (Prefix n) (inr (e, c)) = λ y bx a. rw (kept-best e) (pair-settles s r long marks m (at (t .place)) (started .inside) ps rp (c .level) b (c .level-in) (c .paired) y (subst (λ k. Agree k (at (t .place)) y) (c .last) a))
+      settles-verdict (Run d) (e, c) =
+          λ y bx run. rw (kept-best e) (cut-settles s r long marks m (at (t .place)) (started .inside) d b (c .level-in) (g .proper)
+          (subst (λ v. cutBy (s .cols) (s .strides) (latticeAt (s .lattice) d) (runEnds s (at (t .place)) v d) b ≡ true) (started .starts d (c .level-in))
+          (c .cut)) y run)
+      settles-verdict (Prefix n) (inl h) = λ y bx a. rw (h .tries .best-is)
+          (tried-settles s r long marks m (at (t .place)) (started .inside) (t .place) b (g .proper) y (subst (λ k. Agree k (at (t .place)) y) (h .all) a))
+      settles-verdict (Prefix n) (inr (e, c)) = λ y bx a. rw (kept-best e)
+          (pair-settles s r long marks m (at (t .place)) (started .inside) ps rp (c .level) b (c .level-in) (c .paired) y
+          (subst (λ k. Agree k (at (t .place)) y) (c .last) a))
 
 -- ---- the invariant
 
 abbrev pub Covered : Setting → (ℕ → Mark) → State → Type 0
-Covered s marks q = (q .done ≡ false → Covers (orderOf s) (SettledAt s marks (q .best)) (at (q .path .place))) × (q .done ≡ true → All (orderOf s) (SettledAt s marks (q .best)))
+Covered s marks q = (q .done ≡ false → Covers (orderOf s) (SettledAt s marks (q .best)) (at (q .path .place)))
+    × (q .done ≡ true → All (orderOf s) (SettledAt s marks (q .best)))
 
 pub record Going (s : Setting) (q : State) : Type 0 where
   pub started : Started s (q .path)
@@ -126,7 +145,13 @@ pub record Fresh (s : Setting) (p : Pairs) (q : State) : Type 0 where
   pub passed : Passed s p (q .path) (q .best) (q .from)
 
 pub fresh-top : (s : Setting) (p : Pairs) (q : State) → q .from ≡ 0 → Fresh s p q
-fresh-top s p q e = record { from-in = omega (arith, e); passed = record { uncut = λ i l. absurd (omega (arith, e)); unpaired = λ i l. absurd (omega (arith, e)) } }
+fresh-top s p q e = record {
+  from-in = omega (arith, e);
+  passed = record {
+    uncut = λ i l. absurd (omega (arith, e));
+    unpaired = λ i l. absurd (omega (arith, e));
+  };
+}
 
 -- what is left of a search
 unfoldable pub left : Setting → State → ℕ
@@ -137,7 +162,7 @@ module _ (s : Setting) (ps : Pairs) (ready : Ready s ps) (q r : State) (g : Goin
   t = q .path
 
   -- the incumbent after the step
-  abbrev after : Trial
+  abbrev after : Comparison
   after = record { best = r .best; better = st .better }
 
   long : Long (s .ends)
@@ -155,17 +180,20 @@ module _ (s : Setting) (ps : Pairs) (ready : Ready s ps) (q r : State) (g : Goin
   went : WentOn s q (st .better) lead r
   went = subst (λ o. WentOn s q (st .better) o r) (past-started s t (st .verdict) (g .started) in-levels) (st .went)
 
-  goes : (S : Place → Type 0) → Settles (orderOf s) (st .verdict) (at (t .place)) S → Covers (orderOf s) S (at (t .place)) → Goes (orderOf s) S (at (t .place)) lead (at (r .path .place))
+  goes : (S : Place → Type 0) → Settles (orderOf s) (st .verdict) (at (t .place)) S → Covers (orderOf s) S (at (t .place))
+      → Goes (orderOf s) S (at (t .place)) lead (at (r .path .place))
   goes S h c = step-goes (order-laws s (ready .setting) long) S (at (t .place)) (g .started .inside) (at (r .path .place)) (st .verdict) in-levels h c
 
-  moved : (j : ℕ) (v : ℤ) → Turned s t j v (r .path) → Moved (orderOf s) (at (t .place)) j v (at (r .path .place))
+  moved : (j : ℕ) (v : ℤ) → MovedTo s t j v (r .path) → Moved (orderOf s) (at (t .place)) j v (at (r .path .place))
   moved j v h = record { above = λ k o. sym (h .above k o); here = h .here; deeper = λ k o l. h .deeper k o l }
 
   settles : (marks : ℕ → Mark) → Marked s marks → Settles (orderOf s) (st .verdict) (at (t .place)) (SettledAt s marks (r .best))
   settles marks m = settles-verdict s (ready .setting) long ps (ready .true-pairs) t (g .started) (q .best) after (g .good) marks m (st .verdict) (st .looked)
 
   covers : (marks : ℕ → Mark) → Marked s marks → Covers (orderOf s) (SettledAt s marks (r .best)) (at (t .place))
-  covers marks m = covers-mono (orderOf s) (SettledAt s marks (q .best)) (SettledAt s marks (r .best)) (at (t .place)) (λ y. keeps-settled s (ready .setting) long ps (ready .true-pairs) t (g .started) (q .best) after (g .good) marks m (st .verdict) (st .looked) y) (g .covered marks m .0 on)
+  covers marks m = covers-mono (orderOf s) (SettledAt s marks (q .best)) (SettledAt s marks (r .best)) (at (t .place))
+      (λ y. keeps-settled s (ready .setting) long ps (ready .true-pairs) t (g .started) (q .best) after (g .good) marks m (st .verdict) (st .looked) y)
+      (g .covered marks m .0 on)
 
   no-end : true ≡ false → ⊥
   no-end h = impossible (sym h)
@@ -177,7 +205,8 @@ module _ (s : Setting) (ps : Pairs) (ready : Ready s ps) (q r : State) (g : Goin
   pub going-on : Going s r
   going-on = go lead went (λ S h c. goes S h c)
     where
-      go : (o : Option (ℕ × ℤ)) → WentOn s q (st .better) o r → ((S : Place → Type 0) → Settles (orderOf s) (st .verdict) (at (t .place)) S → Covers (orderOf s) S (at (t .place)) → Goes (orderOf s) S (at (t .place)) o (at (r .path .place))) → Going s r
+      go : (o : Option (ℕ × ℤ)) → WentOn s q (st .better) o r → ((S : Place → Type 0) → Settles (orderOf s) (st .verdict) (at (t .place)) S → Covers (orderOf s)
+          S (at (t .place)) → Goes (orderOf s) S (at (t .place)) o (at (r .path .place))) → Going s r
       go none (d, (same, top)) gs = record {
         started = rw same (g .started);
         good = good′;
@@ -186,26 +215,31 @@ module _ (s : Setting) (ps : Pairs) (ready : Ready s ps) (q r : State) (g : Goin
       go (some (j, v)) (d, (turned, from)) gs = record {
         started = record { long = long; inside = gs (λ y. Unit {0}) (all (st .verdict)) (λ y bx. inl tt) (moved j v turned) .1; starts = turned .starts };
         good = good′;
-        covered = λ marks m. ((λ f. gs (SettledAt s marks (r .best)) (settles marks m) (covers marks m) (moved j v turned) .0), (λ f. absurd (no-end (sym f ∙ d))));
+        covered = λ marks m. (
+          (λ f. gs (SettledAt s marks (r .best)) (settles marks m) (covers marks m) (moved j v turned) .0),
+          (λ f. absurd (no-end (sym f ∙ d))),
+        );
       }
 
   pub going-less : left s r < left s q
   unfolding left
   going-less = rw on (go lead went (goes (λ y. Unit {0}) (all (st .verdict)) (λ y bx. inl tt)))
     where
-      go : (o : Option (ℕ × ℤ)) → WentOn s q (st .better) o r → Goes (orderOf s) (λ y. Unit {0}) (at (t .place)) o (at (r .path .place)) → cond (r .done) 0 (suc (μ (orderOf s) (at (r .path .place)))) < suc (μ (orderOf s) (at (t .place)))
+      go : (o : Option (ℕ × ℤ)) → WentOn s q (st .better) o r → Goes (orderOf s) (λ y. Unit {0}) (at (t .place)) o (at (r .path .place))
+          → cond (r .done) 0 (suc (μ (orderOf s) (at (r .path .place)))) < suc (μ (orderOf s) (at (t .place)))
       go none (d, (same, top)) gs = rw d (omega arith)
       go (some (j, v)) (d, (turned, from)) gs = rw d (omega (arith, gs (moved j v turned) .2))
 
   pub fresh-on : Fresh s ps r
   fresh-on = go lead went refl
     where
-      kept-above : (j : ℕ) (v : ℤ) → Turned s t j v (r .path) → lead ≡ some (j, v) → (f : Bool) → st .better ≡ f → r .from ≡ freshBy f j → Fresh s ps r
+      kept-above : (j : ℕ) (v : ℤ) → MovedTo s t j v (r .path) → lead ≡ some (j, v) → (f : Bool) → st .better ≡ f → r .from ≡ freshBy f j → Fresh s ps r
       kept-above j v h e true b from = fresh-top s ps r from
       kept-above j v h e false b from =
           let m = move-in s (ready .setting) long (at (t .place)) (g .started .inside) (st .verdict) in-levels j v e in
           let same = looked-kept s ps t (q .best) after (st .verdict) (st .looked) b in
-          let p = passed-on s ps t (r .path) (q .best) j v (g .started) (m .level-in) h (looked-passed s ps t (q .best) after (st .verdict) (st .looked) j (m .below)) in
+          let p = passed-on s ps t (r .path) (q .best) j v (g .started) (m .level-in) h
+          (looked-passed s ps t (q .best) after (st .verdict) (st .looked) j (m .below)) in
           record { from-in = omega (arith, from, m .level-in); passed = rw (from, same) p }
 
       go : (o : Option (ℕ × ℤ)) → WentOn s q (st .better) o r → lead ≡ o → Fresh s ps r
@@ -238,8 +272,10 @@ module _ (s : Setting) (r : ReadySetting s) (long : Long (s .ends)) (marks : ℕ
 
     in-place : Box (orderOf s) (s .levels) y
     in-place d l = (
-      times-≤-back D (at (s .low) d) (y d) d≥1 (subst₂ (λ u x. (u *ℤ pos D) ≤ℤ x) (sym (r .low-is d l)) (at-place d l) (p .keeps (levelAt s d) (r .level-in d l) .above)),
-      times-≤-back D (y d) (at (s .high) d) d≥1 (subst₂ (λ u x. x ≤ℤ (u *ℤ pos D)) (sym (r .high-is d l)) (at-place d l) (p .keeps (levelAt s d) (r .level-in d l) .below)),
+      times-≤-back D (at (s .low) d) (y d) d≥1 (subst₂ (λ u x. (u *ℤ pos D) ≤ℤ x) (sym (r .low-is d l)) (at-place d l)
+          (p .keeps (levelAt s d) (r .level-in d l) .above)),
+      times-≤-back D (y d) (at (s .high) d) d≥1 (subst₂ (λ u x. x ≤ℤ (u *ℤ pos D)) (sym (r .high-is d l)) (at-place d l)
+          (p .keeps (levelAt s d) (r .level-in d l) .below)),
     )
 
     pub settled-point : (b : Incumbent) → All (orderOf s) (SettledAt s marks b) → AtMostBest s marks b D N ⊎ Bettered s marks D N
@@ -251,15 +287,22 @@ module _ (s : Setting) (r : ReadySetting s) (long : Long (s .ends)) (marks : ℕ
     where
       go : (pos 0 ≤ℤ fill (s .cols) (s .ends) .room) ⊎ (fill (s .cols) (s .ends) .room <ℤ pos 0) → (U : ℤ) × ((G : ℕ) × (1 ≤ G) × AtMost (box s marks) U G)
       go (inl h) =
-          let st = fill-stopped (s .cols) (s .ends) marks (r .ordered) (r .in-order) h in
-          (over (bound (s .cols) (fill (s .cols) (s .ends))), (bound (s .cols) (fill (s .cols) (s .ends)) .parts, parts≥1 (s .cols) (s .ends) marks (r .ordered) (r .in-order) (fill (s .cols) (s .ends)) st, fill-bound (s .cols) (s .ends) marks (r .ordered) (r .in-order) (fill (s .cols) (s .ends)) st))
+          let st = fill-stopped (s .cols) (s .ends) marks (r .ordered) (r .in-order) h in (
+            over (bound (s .cols) (fill (s .cols) (s .ends))),
+            (
+              bound (s .cols) (fill (s .cols) (s .ends)) .parts,
+              parts≥1 (s .cols) (s .ends) marks (r .ordered) (r .in-order) (fill (s .cols) (s .ends)) st,
+              fill-bound (s .cols) (s .ends) marks (r .ordered) (r .in-order) (fill (s .cols) (s .ends)) st,
+            ),
+          )
       go (inr h) = absurd (fill-empty (s .cols) (s .ends) marks (r .ordered) (r .in-order) h D N d≥1 p)
 
   module _ (b : Incumbent) (g : GoodBest s b) (all : All (orderOf s) (SettledAt s marks b)) where
     pub none-feasible : b .found ≡ false → (D : ℕ) (N : ℕ → ℤ) → 1 ≤ D → ¬ Feasibleᴰ (box s marks) D N
     none-feasible f D N d≥1 p =
         let u = bounded D N d≥1 p in
-        under (valueᴰ (box s marks) N) (at-most-climb (box s marks) (valueᴰ (box s marks) N -ℤ pos 1) (u .0) D (u .1 .0) d≥1 (u .1 .1) (u .1 .2) (λ D′ N′ d′ p′. inr (step D′ N′ (settled-point D′ N′ d′ p′ b all))) D N d≥1 p)
+        under (valueᴰ (box s marks) N) (at-most-climb (box s marks) (valueᴰ (box s marks) N -ℤ pos 1) (u .0) D (u .1 .0) d≥1 (u .1 .1) (u .1 .2)
+        (λ D′ N′ d′ p′. inr (step D′ N′ (settled-point D′ N′ d′ p′ b all))) D N d≥1 p)
       where
         step : (D′ : ℕ) (N′ : ℕ → ℤ) → AtMostBest s marks b D′ N′ ⊎ Bettered s marks D′ N′ → Bettered s marks D′ N′
         step D′ N′ (inl (q, h)) = absurd (impossible (sym f ∙ q))
@@ -297,8 +340,10 @@ module _ (s : Setting) (r : ReadySetting s) (long : Long (s .ends)) (marks : ℕ
               let v = m .level k l q in
               let h = fixed-level s r long (at (b .place)) (s .levels) (v .0) (omega arith) (v .1) in
               let i = g .inside f (v .0) (v .1) in
-              let lo : at (s .ends .lo) k ≤ℤ at (e .lo) k = subst (λ j. at (s .ends .lo) j ≤ℤ at (e .lo) j) (v .2) (subst₂ _≤ℤ_ (r .low-is (v .0) (v .1)) (sym (h .0)) (i .0)) in
-              let hi : at (e .hi) k ≤ℤ at (s .ends .hi) k = subst (λ j. at (e .hi) j ≤ℤ at (s .ends .hi) j) (v .2) (subst₂ _≤ℤ_ (sym (h .1)) (r .high-is (v .0) (v .1)) (i .1)) in
+              let lo : at (s .ends .lo) k ≤ℤ at (e .lo) k =
+              subst (λ j. at (s .ends .lo) j ≤ℤ at (e .lo) j) (v .2) (subst₂ _≤ℤ_ (r .low-is (v .0) (v .1)) (sym (h .0)) (i .0)) in
+              let hi : at (e .hi) k ≤ℤ at (s .ends .hi) k =
+              subst (λ j. at (e .hi) j ≤ℤ at (s .ends .hi) j) (v .2) (subst₂ _≤ℤ_ (sym (h .1)) (r .high-is (v .0) (v .1)) (i .1)) in
               (≤ℤ-trans (times-≤ D _ _ lo) (p .keeps k l .above), ≤ℤ-trans (p .keeps k l .below) (times-≤ D _ _ hi))
           go Continuous q =
               let h = fixed-other s r long (at (b .place)) (s .levels) k (λ j n x. unlike (sym (m .integer j n) ∙ ap marks x ∙ q)) in
@@ -313,7 +358,8 @@ module _ (s : Setting) (r : ReadySetting s) (long : Long (s .ends)) (marks : ℕ
       pub found-feasible : Feasibleᴰ (box s marks) (b .value .parts) (chosen s b)
       found-feasible =
           let p = fill-point (s .cols) e marks (r .ordered) ordered fixed fl stopped in
-          subst (λ n. Feasibleᴰ (box s marks) n (chosen s b)) (sym value-parts) (rebox (s .cols) e (s .ends) marks (bound (s .cols) fl .parts) (chosen s b) (wider-box (bound (s .cols) fl .parts) (chosen s b) p) p)
+          subst (λ n. Feasibleᴰ (box s marks) n (chosen s b)) (sym value-parts)
+          (rebox (s .cols) e (s .ends) marks (bound (s .cols) fl .parts) (chosen s b) (wider-box (bound (s .cols) fl .parts) (chosen s b) p) p)
 
       pub found-value : valueᴰ (box s marks) (chosen s b) ≡ over (b .value)
       found-value = fill-value (s .cols) e marks (r .ordered) ordered fl stopped ∙ ap over (sym (g .value-is f))
@@ -322,10 +368,12 @@ module _ (s : Setting) (r : ReadySetting s) (long : Long (s .ends)) (marks : ℕ
       found-optimal = record {
         feasible = found-feasible;
         highest = λ D N d≥1 p. let u = bounded D N d≥1 p in subst (λ w. (valueᴰ (box s marks) N *ℤ pos (b .value .parts)) ≤ℤ (w *ℤ pos D)) (sym found-value)
-            (at-most-climb (box s marks) (over (b .value)) (u .0) (b .value .parts) (u .1 .0) (omega (arith, g .proper f .low)) (u .1 .1) (u .1 .2) (λ D′ N′ d′ p′. step D′ N′ (settled-point D′ N′ d′ p′ b all)) D N d≥1 p);
+            (at-most-climb (box s marks) (over (b .value)) (u .0) (b .value .parts) (u .1 .0) (omega (arith, g .proper f .low)) (u .1 .1) (u .1 .2)
+            (λ D′ N′ d′ p′. step D′ N′ (settled-point D′ N′ d′ p′ b all)) D N d≥1 p);
       }
         where
-          step : (D′ : ℕ) (N′ : ℕ → ℤ) → AtMostBest s marks b D′ N′ ⊎ Bettered s marks D′ N′ → ((valueᴰ (box s marks) N′ *ℤ pos (b .value .parts)) ≤ℤ (over (b .value) *ℤ pos D′)) ⊎ Bettered s marks D′ N′
+          step : (D′ : ℕ) (N′ : ℕ → ℤ) → AtMostBest s marks b D′ N′ ⊎ Bettered s marks D′ N′
+              → ((valueᴰ (box s marks) N′ *ℤ pos (b .value .parts)) ≤ℤ (over (b .value) *ℤ pos D′)) ⊎ Bettered s marks D′ N′
           step D′ N′ (inl (q, h)) = inl h
           step D′ N′ (inr h) = inr h
 
@@ -342,10 +390,16 @@ searched s r q g d = record {
 
 -- ---- the beginning
 
-pub going-first : (s : Setting) → ReadySetting s → Long (s .ends) → (p r : Path) (n : ℕ) → Dived s 0 p r → Going s (record { path = r; best = nobody; steps = n; from = 0; done = false })
+pub going-first : (s : Setting) → ReadySetting s → Long (s .ends) → (p r : Path) (n : ℕ) → Dived s 0 p r
+    → Going s (record { path = r; best = nobody; steps = n; from = 0; done = false })
 going-first s ready long p r n d = record {
   started = record { long = long; inside = inside; starts = λ i l. let h = d .filled i (omega arith) l in h .1 ∙ h .0 };
-  good = record { proper = λ h. absurd (impossible h); inside = λ h. absurd (impossible h); roomy = λ h. absurd (impossible h); value-is = λ h. absurd (impossible h) };
+  good = record {
+    proper = λ h. absurd (impossible h);
+    inside = λ h. absurd (impossible h);
+    roomy = λ h. absurd (impossible h);
+    value-is = λ h. absurd (impossible h);
+  };
   covered = λ marks m. ((λ f. covers-first (order-laws s ready long) (SettledAt s marks nobody) (at (r .place)) starts), (λ f. absurd (impossible f)));
 }
   where

@@ -1,10 +1,10 @@
-pub mod Boxes
+pub mod Starts
 pub mod Dives
-pub mod Bounds
+pub mod Slopes
 pub mod Runs
 pub mod Cuts
 pub mod Mixing
 pub mod Settle
-pub mod Turns
+pub mod Moving
 pub mod Finish
 pub mod Once

@@ -1,6 +1,6 @@
 -- A search has one end: what a look settles, a step and the states that follow from the first are determined.
 -- looked-once, step-once, after-once: there is one verdict, one next state, one state after so many steps.
--- took-once: and so one state in which the search ends, with one number of steps.
+-- ends-once: and so one state in which the search ends, with one number of steps.
 use mathlib.Core.Path.{_≡_, refl, sym, ap, ap₂, _∙_, subst, subst₂}
 use mathlib.Core.Bool.{Bool, true, false}
 use mathlib.Core.List.{List, [], _∷_}
@@ -19,14 +19,14 @@ use Rattle.places.specs.declared.Settled.{Settled}
 use Rattle.places.specs.declared.Settled.the-variants.{Run, Prefix}
 use Rattle.places.specs.Moves.{pastOf}
 use Rattle.search.specs.declared.Incumbent.{Incumbent}
-use Rattle.search.specs.declared.Pairs.{Pairs}
+use Rattle.setting.specs.declared.Pairs.{Pairs}
 use Rattle.search.specs.declared.Path.{Path}
-use Rattle.search.specs.declared.Setting.{Setting}
+use Rattle.setting.specs.declared.Setting.{Setting}
 use Rattle.search.specs.declared.State.{State}
-use Rattle.search.specs.declared.Trial.{Trial}
+use Rattle.search.specs.declared.Comparison.{Comparison}
 use Rattle.search.specs.Search.{startBy}
-use Rattle.search.specs.Steps.{LongPath, Dived, cutAt, Cut, Discarded, Tries, LookedAs, Turned, WentOn, Stepped, origin, Begun, After, Took}
-use Rattle.search.proofs.Boxes.{start-cong}
+use Rattle.search.specs.Steps.{LongPath, Dived, cutAt, Cut, Discarded, Tries, LookedAs, MovedTo, WentOn, Stepped, origin, Begun, After, EndsAfter}
+use Rattle.search.proofs.Starts.{start-cong}
 
 -- ---- lists with the same entries are equal
 
@@ -37,7 +37,8 @@ list-once (a ∷ x) [] l h = absurd (omega (arith, l))
 list-once (a ∷ x) (b ∷ y) l h = ap₂ (λ (a : ℤ) (x : List ℤ). a ∷ x) (h 0) (list-once x y (omega (arith, l)) (λ i. h (suc i)))
 
 path-once : (p q : Path) → LongPath p → LongPath q → ((i : ℕ) → at (p .place) i ≡ at (q .place) i) → ((i : ℕ) → at (p .starts) i ≡ at (q .starts) i) → p ≡ q
-path-once p q l m h k = ap₂ (λ (x y : List ℤ). record { place = x; starts = y }) (list-once (p .place) (q .place) (l .place-long ∙ sym (m .place-long)) h) (list-once (p .starts) (q .starts) (l .starts-long ∙ sym (m .starts-long)) k)
+path-once p q l m h k = ap₂ (λ (x y : List ℤ). record { place = x; starts = y }) (list-once (p .place) (q .place) (l .place-long ∙ sym (m .place-long)) h)
+    (list-once (p .starts) (q .starts) (l .starts-long ∙ sym (m .starts-long)) k)
 
 -- ---- a path is determined by its first amounts
 
@@ -68,22 +69,24 @@ dived-once : (s : Setting) (j : ℕ) (p r r′ : Path) → Dived s j p r → Div
 dived-once s j p r r′ d d′ = path-once r r′ (d .long) (d′ .long) places (λ i. starts i (decLt i j) (decLt i (s .levels)))
   where
     places : (i : ℕ) → at (r .place) i ≡ at (r′ .place) i
-    places = agree s (at (r .place)) (at (r′ .place)) j (λ i l. d .kept i l .0 ∙ sym (d′ .kept i l .0)) (λ i l m. d .filled i l m .0) (λ i l m. d′ .filled i l m .0) (λ i l. d .beyond i l .0 ∙ sym (d′ .beyond i l .0))
+    places = agree s (at (r .place)) (at (r′ .place)) j (λ i l. d .kept i l .0 ∙ sym (d′ .kept i l .0)) (λ i l m. d .filled i l m .0)
+        (λ i l m. d′ .filled i l m .0) (λ i l. d .beyond i l .0 ∙ sym (d′ .beyond i l .0))
 
     starts : (i : ℕ) → Dec (i < j) → Dec (i < s .levels) → at (r .starts) i ≡ at (r′ .starts) i
     starts i (yes l) m = d .kept i l .1 ∙ sym (d′ .kept i l .1)
     starts i (no l) (yes m) = d .filled i (omega arith) m .1 ∙ places i ∙ sym (d′ .filled i (omega arith) m .1)
     starts i (no l) (no m) = d .beyond i (omega arith) .1 ∙ sym (d′ .beyond i (omega arith) .1)
 
-turned-once : (s : Setting) (t : Path) (j : ℕ) (v : ℤ) (r r′ : Path) → Turned s t j v r → Turned s t j v r′ → r ≡ r′
-turned-once s t j v r r′ d d′ = path-once r r′ (d .long) (d′ .long) places (λ i. starts i (decLt i (s .levels)))
+moved-once : (s : Setting) (t : Path) (j : ℕ) (v : ℤ) (r r′ : Path) → MovedTo s t j v r → MovedTo s t j v r′ → r ≡ r′
+moved-once s t j v r r′ d d′ = path-once r r′ (d .long) (d′ .long) places (λ i. starts i (decLt i (s .levels)))
   where
     above : (i : ℕ) → i < suc j → Dec (i ≡ j) → at (r .place) i ≡ at (r′ .place) i
     above i l (yes e) = rw e (d .here ∙ sym (d′ .here))
     above i l (no e) = d .above i (omega (arith, e)) ∙ sym (d′ .above i (omega (arith, e)))
 
     places : (i : ℕ) → at (r .place) i ≡ at (r′ .place) i
-    places = agree s (at (r .place)) (at (r′ .place)) (suc j) (λ i l. above i l (ℕ-discrete i j)) (λ i l m. d .deeper i (omega arith) m) (λ i l m. d′ .deeper i (omega arith) m) (λ i l. d .beyond i l .0 ∙ sym (d′ .beyond i l .0))
+    places = agree s (at (r .place)) (at (r′ .place)) (suc j) (λ i l. above i l (ℕ-discrete i j)) (λ i l m. d .deeper i (omega arith) m)
+        (λ i l m. d′ .deeper i (omega arith) m) (λ i l. d .beyond i l .0 ∙ sym (d′ .beyond i l .0))
 
     starts : (i : ℕ) → Dec (i < s .levels) → at (r .starts) i ≡ at (r′ .starts) i
     starts i (yes m) = d .starts i m ∙ start-cong s (at (r .place)) (at (r′ .place)) i (λ k l. places k) ∙ sym (d′ .starts i m)
@@ -133,10 +136,11 @@ module _ (s : Setting) (p : Pairs) (t : Path) (b : Incumbent) where
       go (same e) = h .last ∙ ap suc e ∙ sym (h′ .last)
       go (after l) = absurd (h .passed .unpaired (h′ .level) l (h′ .paired))
 
-  tries-once : (c : Columns) (e : Ends) (x : List ℤ) (r r′ : Trial) → Tries c e x b r → Tries c e x b r′ → r ≡ r′
-  tries-once c e x r r′ h k = ap₂ (λ (i : Incumbent) (f : Bool). record { best = i; better = f }) (h .best-is ∙ sym (k .best-is)) (h .better-is ∙ sym (k .better-is))
+  tries-once : (c : Columns) (e : Ends) (x : List ℤ) (r r′ : Comparison) → Tries c e x b r → Tries c e x b r′ → r ≡ r′
+  tries-once c e x r r′ h k =
+      ap₂ (λ (i : Incumbent) (f : Bool). record { best = i; better = f }) (h .best-is ∙ sym (k .best-is)) (h .better-is ∙ sym (k .better-is))
 
-  pub looked-once : (c c′ : Trial) (w w′ : Settled) → LookedAs s p t b c w → LookedAs s p t b c′ w′ → (w ≡ w′) × (c ≡ c′)
+  pub looked-once : (c c′ : Comparison) (w w′ : Settled) → LookedAs s p t b c w → LookedAs s p t b c′ w′ → (w ≡ w′) × (c ≡ c′)
   looked-once c c′ (Run d) (Run d′) (e, h) (e′, h′) = (ap Run (cut-once d d′ h h′), e ∙ sym e′)
   looked-once c c′ (Run d) (Prefix n) (e, h) (inl k) = absurd (clash d (h .cut) (k .passed .uncut d (h .level-in)))
   looked-once c c′ (Run d) (Prefix n) (e, h) (inr (e′, k)) = absurd (not-both d n h k)
@@ -150,27 +154,31 @@ module _ (s : Setting) (p : Pairs) (t : Path) (b : Incumbent) where
 -- ---- steps
 
 module _ (s : Setting) (p : Pairs) where
-  went-once : (q r r′ : State) (f : Bool) (o : Option (ℕ × ℤ)) → WentOn s q f o r → WentOn s q f o r′ → (r .path ≡ r′ .path) × ((r .from ≡ r′ .from) × (r .done ≡ r′ .done))
+  went-once : (q r r′ : State) (f : Bool) (o : Option (ℕ × ℤ)) → WentOn s q f o r → WentOn s q f o r′ → (r .path ≡ r′ .path)
+      × ((r .from ≡ r′ .from) × (r .done ≡ r′ .done))
   went-once q r r′ f none (d, (e, l)) (d′, (e′, l′)) = (e ∙ sym e′, (l ∙ sym l′, d ∙ sym d′))
-  went-once q r r′ f (some m) (d, (h, l)) (d′, (h′, l′)) = (turned-once s (q .path) (m .0) (m .1) (r .path) (r′ .path) h h′, (l ∙ sym l′, d ∙ sym d′))
+  went-once q r r′ f (some m) (d, (h, l)) (d′, (h′, l′)) = (moved-once s (q .path) (m .0) (m .1) (r .path) (r′ .path) h h′, (l ∙ sym l′, d ∙ sym d′))
 
   state-once : (r r′ : State) → r .path ≡ r′ .path → r .best ≡ r′ .best → r .steps ≡ r′ .steps → r .from ≡ r′ .from → r .done ≡ r′ .done → r ≡ r′
   state-once r r′ a b c d e = λ i. record { path = a i; best = b i; steps = c i; from = d i; done = e i }
 
   pub step-once : (q r r′ : State) → Stepped s p q r → Stepped s p q r′ → r ≡ r′
-  step-once q r r′ h k = state-once r r′ (w .0) (ap (λ (x : Trial). x .best) (l .1)) (h .counted ∙ sym (k .counted)) (w .1 .0) (w .1 .1)
+  step-once q r r′ h k = state-once r r′ (w .0) (ap (λ (x : Comparison). x .best) (l .1)) (h .counted ∙ sym (k .counted)) (w .1 .0) (w .1 .1)
     where
-      l : (h .verdict ≡ k .verdict) × (_≡_ {A = Trial} (record { best = r .best; better = h .better }) (record { best = r′ .best; better = k .better }))
-      l = looked-once s p (q .path) (q .best) (record { best = r .best; better = h .better }) (record { best = r′ .best; better = k .better }) (h .verdict) (k .verdict) (h .looked) (k .looked)
+      l : (h .verdict ≡ k .verdict) × (_≡_ {A = Comparison} (record { best = r .best; better = h .better }) (record { best = r′ .best; better = k .better }))
+      l = looked-once s p (q .path) (q .best) (record { best = r .best; better = h .better }) (record { best = r′ .best; better = k .better }) (h .verdict)
+          (k .verdict) (h .looked) (k .looked)
 
       lead : Settled → Option (ℕ × ℤ)
       lead w = pastOf w (at (s .low)) (at (s .high)) (at (q .path .starts)) (at (q .path .place))
 
       w : (r .path ≡ r′ .path) × ((r .from ≡ r′ .from) × (r .done ≡ r′ .done))
-      w = went-once q r r′ (k .better) (lead (k .verdict)) (subst₂ (λ f v. WentOn s q f (lead v) r) (ap (λ (x : Trial). x .better) (l .1)) (l .0) (h .went)) (k .went)
+      w = went-once q r r′ (k .better) (lead (k .verdict)) (subst₂ (λ f v. WentOn s q f (lead v) r) (ap (λ (x : Comparison). x .better) (l .1)) (l .0)
+          (h .went)) (k .went)
 
   begun-once : (q q′ : State) → Begun s q → Begun s q′ → q ≡ q′
-  begun-once q q′ h k = state-once q q′ (dived-once s 0 origin (q .path) (q′ .path) (h .first) (k .first)) (h .nothing ∙ sym (k .nothing)) (h .no-steps ∙ sym (k .no-steps)) (h .top ∙ sym (k .top)) (h .going ∙ sym (k .going))
+  begun-once q q′ h k = state-once q q′ (dived-once s 0 origin (q .path) (q′ .path) (h .first) (k .first)) (h .nothing ∙ sym (k .nothing))
+      (h .no-steps ∙ sym (k .no-steps)) (h .top ∙ sym (k .top)) (h .going ∙ sym (k .going))
 
   pub after-once : (n : ℕ) (q q′ : State) → After s p n q → After s p n q′ → q ≡ q′
   unfolding After
@@ -192,8 +200,9 @@ module _ (s : Setting) (p : Pairs) where
       let q = earlier m n l r′ k in
       impossible (sym (q .1 .1) ∙ ap (λ (x : State). x .done) (after-once n (q .0) r (q .1 .0) h) ∙ e)
 
-  pub took-once : (r r′ : State) → Took s p r → Took s p r′ → r ≡ r′
-  took-once r r′ h k = go (order (h .count) (k .count))
+  -- End theorem: a search has one end, and one number of steps.
+  pub ends-once : (r r′ : State) → EndsAfter s p r → EndsAfter s p r′ → r ≡ r′
+  ends-once r r′ h k = go (order (h .count) (k .count))
     where
       go : Order (h .count) (k .count) → r ≡ r′
       go (before l) = absurd (not-after (h .count) (k .count) l r r′ (h .after) (h .over) (k .after))

@@ -31,15 +31,17 @@ use Rattle.greedy.proofs.Sizes.{fill-sized}
 use Rattle.lattice.specs.Lattice.{latticeAt}
 use Rattle.lattice.proofs.Ranges.{nonzero}
 use Rattle.places.proofs.Places.{Agree, Run}
-use Rattle.search.specs.declared.Setting.{Setting}
-use Rattle.search.specs.declared.Pairs.{Pairs}
+use Rattle.setting.specs.declared.Setting.{Setting}
+use Rattle.setting.specs.declared.Pairs.{Pairs}
 use Rattle.search.specs.declared.Incumbent.{Incumbent}
-use Rattle.search.specs.Search.{levelAt, fixedBy, startBy, runEnds, sparseBy, strideFill, mixedBound, mixedBy, blendBy, cutBy, betters, triedBy, pairIndex, Applies}
-use Rattle.search.specs.Ready.{ReadySetting, ReadyPairs, TruePair, Inside, Marked}
-use Rattle.search.specs.Steps.{Long, ProperBest, Judges}
-use Rattle.search.proofs.Boxes.{orderOf, item<16}
-use Rattle.search.proofs.Bounds.{above-zero, shared-proper, bound-proper}
-use Rattle.search.proofs.Runs.{fixed-judged, run-judged}
+use Rattle.setting.specs.Box.{levelAt, fixedBy, Inside, Long}
+use Rattle.search.specs.Search.{startBy, runEnds, sparseBy, strideFill, mixedBound, mixedBy, mixedAt, cutBy, betters, triedBy, Applies}
+use Rattle.setting.specs.Ready.{pairIndex, ReadySetting, ReadyPairs, TruePair, Marked}
+use Rattle.search.specs.Steps.{ProperBest, BoxInRange}
+use Rattle.search.proofs.Starts.{orderOf}
+use Rattle.setting.proofs.Boxes.{item<16}
+use Rattle.greedy.proofs.Bounds.{above-zero, shared-proper, bound-proper}
+use Rattle.search.proofs.Runs.{fixed-in-range, run-in-range}
 use Rattle.search.proofs.Cuts.{box, AtMostBest, Bettered, Settled, no-better, rebox, in-fixed, in-run, bounded, sparse-most}
 use Rattle.search.proofs.Mixing.{mixed-most}
 
@@ -52,8 +54,10 @@ whole-most : (n k D : ℕ) (v w : ℤ) → v ≤ℤ (w *ℤ pos D) → (v *ℤ p
 whole-most n k D = split2 _ (λ a b c e. simp zed (λ h. omega (arith, mul-le-mul-right n h)))
 
 module _ (s : Setting) (r : ReadySetting s) (long : Long (s .ends)) (marks : ℕ → Mark) (m : Marked s marks) (P : ℕ → ℤ) (inside : Inside s P) where
-  pub cut-settles : (d : ℕ) (b : Incumbent) → d < s .levels → ProperBest b → cutBy (s .cols) (s .soft) (latticeAt (s .lattice) d) (runEnds s P (startBy s P d) d) b ≡ true → (y : ℕ → ℤ) → Run (orderOf s) d P y → Settled s marks b y
-  unfolding cutBy blendBy
+  pub cut-settles : (d : ℕ) (b : Incumbent) → d < s .levels → ProperBest b
+      → cutBy (s .cols) (s .strides) (latticeAt (s .lattice) d) (runEnds s P (startBy s P d) d) b ≡ true → (y : ℕ → ℤ) → Run (orderOf s) d P y
+      → Settled s marks b y
+  unfolding cutBy mixedAt
   cut-settles d b l proper h y run D N d≥1 p a = empty? (ltZ (f .room) (pos 0)) refl (subst (λ t. t ≡ true) refl h)
     where
       e : Ends
@@ -62,8 +66,8 @@ module _ (s : Setting) (r : ReadySetting s) (long : Long (s .ends)) (marks : ℕ
       f : Fill
       f = fill (s .cols) e
 
-      j : Judges (s .cols) e b
-      j = run-judged s r long P inside (startBy s P d) d b l proper
+      j : BoxInRange (s .cols) e b
+      j = run-in-range s r long P inside (startBy s P d) d b l proper
 
       in-e : Feasibleᴰ (boxOf (s .cols) e marks) D N
       in-e = rebox (s .cols) (s .ends) e marks D N (in-run s r long marks m D N d≥1 p y a P d l run) p
@@ -75,8 +79,9 @@ module _ (s : Setting) (r : ReadySetting s) (long : Long (s .ends)) (marks : ℕ
       v-proper = bound-proper (s .cols) f (fill-sized (s .cols) e (j .sized))
 
       -- what is told by strides
-      blended : Stopped (s .cols) e marks (r .ordered) (j .in-order) f → pos 0 ≤ℤ f .room → b .found ≡ true → blendBy (s .cols) (s .soft) f (b .value) ≡ true → AtMostBest s marks b D N
-      blended st room q k = live? (ltb (f .at) (s .cols .live)) refl k (st .why)
+      mixed-is : Stopped (s .cols) e marks (r .ordered) (j .in-order) f → pos 0 ≤ℤ f .room → b .found ≡ true
+          → mixedAt (s .cols) (s .strides) f (b .value) ≡ true → AtMostBest s marks b D N
+      mixed-is st room q k = live? (ltb (f .at) (s .cols .live)) refl k (st .why)
         where
           size : ℤ
           size = at (s .cols .size) (f .at)
@@ -85,47 +90,67 @@ module _ (s : Setting) (r : ReadySetting s) (long : Long (s .ends)) (marks : ℕ
           rate = at (s .cols .rate) (f .at)
 
           bound₁ : Mixed
-          bound₁ = mixedBound (s .soft) f size rate
+          bound₁ = mixedBound (s .strides) f size rate
 
           z : SizedFill (s .cols) f
           z = fill-sized (s .cols) e (j .sized)
 
-          told : f .at < s .cols .live → f .room <ℤ (size *ℤ width (s .cols) e (f .at)) → pos 0 <ℤ s .soft .stride → f .at ≤ s .soft .rank → (s .soft .rate *ℤ size) ≤ℤ (rate *ℤ s .soft .size) → lessMixed (b .value) bound₁ ≡ false → AtMostBest s marks b D N
-          told i short g late test h = no-better s marks b bound₁ D N q (proper q) (shared-proper (strideFill (s .soft) f size rate) (natAbs (s .soft .size)) (natAbs (s .soft .rate)) (above-zero (s .soft .size) (r .moderate .size≥1)) (within-abs (s .soft .size) (r .moderate .size-in))) h
-              (mixed-most s r long marks m (r .softened (nonzero (s .soft .stride) g)) D N d≥1 p y a P d l run (j .in-order) late st i short z room g test)
+          told : f .at < s .cols .live → f .room <ℤ (size *ℤ width (s .cols) e (f .at)) → pos 0 <ℤ s .strides .stride → f .at ≤ s .strides .rank
+              → (s .strides .rate *ℤ size) ≤ℤ (rate *ℤ s .strides .size) → lessMixed (b .value) bound₁ ≡ false → AtMostBest s marks b D N
+          told i short g late test h = no-better s marks b bound₁ D N q (proper q)
+              (shared-proper (strideFill (s .strides) f size rate) (natAbs (s .strides .size)) (natAbs (s .strides .rate))
+              (above-zero (s .strides .size) (r .strides-in .size≥1)) (within-abs (s .strides .size) (r .strides-in .size-in))) h
+              (mixed-most s r long marks m (r .strides-hold (nonzero (s .strides .stride) g)) D N d≥1 p y a P d l run (j .in-order)
+              late st i short z room g test)
 
-          test? : f .at < s .cols .live → f .room <ℤ (size *ℤ width (s .cols) e (f .at)) → (g late less t : Bool) → ltZ (pos 0) (s .soft .stride) ≡ g → ltb (s .soft .rank) (f .at) ≡ late → ltZ (rate *ℤ s .soft .size) (s .soft .rate *ℤ size) ≡ less → lessMixed (b .value) bound₁ ≡ t
+          test? : f .at < s .cols .live → f .room <ℤ (size *ℤ width (s .cols) e (f .at)) → (g late less t : Bool) → ltZ (pos 0) (s .strides .stride) ≡ g
+              → ltb (s .strides .rank) (f .at) ≡ late → ltZ (rate *ℤ s .strides .size) (s .strides .rate *ℤ size) ≡ less → lessMixed (b .value) bound₁ ≡ t
               → cond g (cond late false (cond less false (not t))) false ≡ true → AtMostBest s marks b D N
-          test? i short true false false false x y w v h = told i short (yes-lt x) (omega (arith, ltb-false (s .soft .rank) (f .at) y)) (no-lt w) v
+          test? i short true false false false x y w v h = told i short (yes-lt x) (omega (arith, ltb-false (s .strides .rank) (f .at) y)) (no-lt w) v
           test? i short true false false true x y w v h = absurd (impossible h)
           test? i short true false true t x y w v h = absurd (impossible h)
           test? i short true true less t x y w v h = absurd (impossible h)
           test? i short false late less t x y w v h = absurd (impossible h)
 
-          live? : (v : Bool) → ltb (f .at) (s .cols .live) ≡ v → cond v (mixedBy (s .soft) f size rate (b .value)) false ≡ true → (f .at ≡ s .cols .live) ⊎ ((f .at < s .cols .live) × (f .room <ℤ (size *ℤ width (s .cols) e (f .at)))) → AtMostBest s marks b D N
+          live? : (v : Bool) → ltb (f .at) (s .cols .live) ≡ v → cond v (mixedBy (s .strides) f size rate (b .value)) false ≡ true → (f .at ≡ s .cols .live)
+              ⊎ ((f .at < s .cols .live) × (f .room <ℤ (size *ℤ width (s .cols) e (f .at)))) → AtMostBest s marks b D N
           live? false x h w = absurd (impossible h)
           live? true x h (inl w) = absurd (omega (arith, ltb-true (f .at) (s .cols .live) x))
-          live? true x h (inr (i, short)) = test? i short (ltZ (pos 0) (s .soft .stride)) (ltb (s .soft .rank) (f .at)) (ltZ (rate *ℤ s .soft .size) (s .soft .rate *ℤ size)) (lessMixed (b .value) bound₁) refl refl refl refl h
+          live? true x h (inr (i, short)) = test? i short (ltZ (pos 0) (s .strides .stride)) (ltb (s .strides .rank) (f .at))
+              (ltZ (rate *ℤ s .strides .size) (s .strides .rate *ℤ size)) (lessMixed (b .value) bound₁) refl refl refl refl h
 
       -- where the run is sparse, and where it is not
-      sparse? : Stopped (s .cols) e marks (r .ordered) (j .in-order) f → pos 0 ≤ℤ f .room → b .found ≡ true → (t : Bool) → sparseBy (s .cols) (latticeAt (s .lattice) d) f (b .value .whole) ≡ t → cond t true (blendBy (s .cols) (s .soft) f (b .value)) ≡ true → AtMostBest s marks b D N
-      sparse? st room q true x k = (q, whole-most (b .value .parts) (b .value .part) D (valueᴰ (box s marks) N) (b .value .whole) (sparse-most s r long marks m D N d≥1 p y a P d l run (j .in-order) st (fill-sized (s .cols) e (j .sized)) (b .value .whole) x))
-      sparse? st room q false x k = blended st room q k
+      sparse? : Stopped (s .cols) e marks (r .ordered) (j .in-order) f → pos 0 ≤ℤ f .room → b .found ≡ true → (t : Bool)
+          → sparseBy (s .cols) (latticeAt (s .lattice) d) f (b .value .whole) ≡ t → cond t true (mixedAt (s .cols) (s .strides) f (b .value)) ≡ true
+          → AtMostBest s marks b D N
+      sparse? st room q true x k = (
+        q,
+        whole-most (b .value .parts) (b .value .part) D (valueᴰ (box s marks) N) (b .value .whole)
+            (sparse-most s r long marks m D N d≥1 p y a P d l run (j .in-order) st (fill-sized (s .cols) e (j .sized)) (b .value .whole) x),
+      )
+      sparse? st room q false x k = mixed-is st room q k
 
       -- where the bound is no better, and where it is
-      better? : Stopped (s .cols) e marks (r .ordered) (j .in-order) f → pos 0 ≤ℤ f .room → b .found ≡ true → (t : Bool) → lessMixed (b .value) v ≡ t → cond t (cond (sparseBy (s .cols) (latticeAt (s .lattice) d) f (b .value .whole)) true (blendBy (s .cols) (s .soft) f (b .value))) true ≡ true → AtMostBest s marks b D N ⊎ Bettered s marks D N
+      better? : Stopped (s .cols) e marks (r .ordered) (j .in-order) f → pos 0 ≤ℤ f .room → b .found ≡ true → (t : Bool) → lessMixed (b .value) v ≡ t
+          → cond t (cond (sparseBy (s .cols) (latticeAt (s .lattice) d) f (b .value .whole)) true (mixedAt (s .cols) (s .strides) f (b .value))) true ≡ true
+          → AtMostBest s marks b D N ⊎ Bettered s marks D N
       better? st room q false z k = inl (no-better s marks b v D N q (proper q) v-proper z (bounded s r long marks m D N d≥1 p y a P d l run (j .in-order) st))
       better? st room q true z k = inl (sparse? st room q (sparseBy (s .cols) (latticeAt (s .lattice) d) f (b .value .whole)) refl k)
 
-      compared : Stopped (s .cols) e marks (r .ordered) (j .in-order) f → pos 0 ≤ℤ f .room → (t : Bool) → b .found ≡ t → cond t (cond (lessMixed (b .value) v) (cond (sparseBy (s .cols) (latticeAt (s .lattice) d) f (b .value .whole)) true (blendBy (s .cols) (s .soft) f (b .value))) true) false ≡ true → AtMostBest s marks b D N ⊎ Bettered s marks D N
+      compared : Stopped (s .cols) e marks (r .ordered) (j .in-order) f → pos 0 ≤ℤ f .room → (t : Bool) → b .found ≡ t
+          → cond t (cond (lessMixed (b .value) v) (cond (sparseBy (s .cols) (latticeAt (s .lattice) d) f (b .value .whole)) true
+          (mixedAt (s .cols) (s .strides) f (b .value))) true) false ≡ true → AtMostBest s marks b D N ⊎ Bettered s marks D N
       compared st room false q k = absurd (impossible k)
       compared st room true q k = better? st room q (lessMixed (b .value) v) refl k
 
-      empty? : (t : Bool) → ltZ (f .room) (pos 0) ≡ t → cond (ltZ (f .room) (pos 0)) true (cond (b .found) (cond (lessMixed (b .value) v) (cond (sparseBy (s .cols) (latticeAt (s .lattice) d) f (b .value .whole)) true (blendBy (s .cols) (s .soft) f (b .value))) true) false) ≡ true → AtMostBest s marks b D N ⊎ Bettered s marks D N
+      empty? : (t : Bool) → ltZ (f .room) (pos 0) ≡ t → cond (ltZ (f .room) (pos 0)) true
+          (cond (b .found) (cond (lessMixed (b .value) v) (cond (sparseBy (s .cols) (latticeAt (s .lattice) d) f (b .value .whole)) true
+          (mixedAt (s .cols) (s .strides) f (b .value))) true) false) ≡ true → AtMostBest s marks b D N ⊎ Bettered s marks D N
       empty? true q k = absurd (fill-empty (s .cols) e marks (r .ordered) (j .in-order) (yes-lt q) D N d≥1 in-e)
       empty? false q k = compared (fill-stopped (s .cols) e marks (r .ordered) (j .in-order) (no-lt q)) (no-lt q) (b .found) refl (rw q at k)
 
-  pub pair-settles : (ps : Pairs) → ReadyPairs (s .cols) ps → (d : ℕ) (b : Incumbent) → d < s .levels → Applies s ps P d → (y : ℕ → ℤ) → Agree (suc d) P y → Settled s marks b y
+  pub pair-settles : (ps : Pairs) → ReadyPairs (s .cols) ps → (d : ℕ) (b : Incumbent) → d < s .levels → Applies s ps P d → (y : ℕ → ℤ) → Agree (suc d) P y
+      → Settled s marks b y
   pair-settles ps rp d b l q y h D N d≥1 p a =
       inr (pair-discard (box s marks) D N i k rr tt′ (r .level-in d l) (r .level-in (q .above) above-in) ne p (true-pair .heavy) (true-pair .loss)
       (record { above = low d l (q .here .own .low); below = high d l (q .here .own .high) })
@@ -171,10 +196,12 @@ module _ (s : Setting) (r : ReadySetting s) (long : Long (s .ends)) (marks : ℕ
       high j n z = subst₂ (λ u x. (x -ℤ rr *ℤ pos D) ≤ℤ (u *ℤ pos D)) (r .high-is d l) (sym (own d l (omega arith))) (more (P d) rr (at (s .high) d) z)
 
       low′ : at (s .low) (q .above) ≤ℤ (P (q .above) -ℤ tt′) → (at (s .ends .lo) k *ℤ pos D) ≤ℤ (N k -ℤ tt′ *ℤ pos D)
-      low′ z = subst₂ (λ u x. (u *ℤ pos D) ≤ℤ (x -ℤ tt′ *ℤ pos D)) (r .low-is (q .above) above-in) (sym (own (q .above) above-in (omega (arith, q .is-above)))) (less (P (q .above)) tt′ (at (s .low) (q .above)) z)
+      low′ z = subst₂ (λ u x. (u *ℤ pos D) ≤ℤ (x -ℤ tt′ *ℤ pos D)) (r .low-is (q .above) above-in) (sym (own (q .above) above-in (omega (arith, q .is-above))))
+          (less (P (q .above)) tt′ (at (s .low) (q .above)) z)
 
       high′ : (P (q .above) -ℤ tt′) ≤ℤ at (s .high) (q .above) → (N k -ℤ tt′ *ℤ pos D) ≤ℤ (at (s .ends .hi) k *ℤ pos D)
-      high′ z = subst₂ (λ u x. (x -ℤ tt′ *ℤ pos D) ≤ℤ (u *ℤ pos D)) (r .high-is (q .above) above-in) (sym (own (q .above) above-in (omega (arith, q .is-above)))) (more (P (q .above)) tt′ (at (s .high) (q .above)) z)
+      high′ z = subst₂ (λ u x. (x -ℤ tt′ *ℤ pos D) ≤ℤ (u *ℤ pos D)) (r .high-is (q .above) above-in)
+          (sym (own (q .above) above-in (omega (arith, q .is-above)))) (more (P (q .above)) tt′ (at (s .high) (q .above)) z)
 
   -- ---- the place itself
 
@@ -185,8 +212,8 @@ module _ (s : Setting) (r : ReadySetting s) (long : Long (s .ends)) (marks : ℕ
     abbrev f : Fill
     f = fill (s .cols) e
 
-    j : Judges (s .cols) e b
-    j = fixed-judged s r long P inside (s .levels) b (omega arith) proper
+    j : BoxInRange (s .cols) e b
+    j = fixed-in-range s r long P inside (s .levels) b (omega arith) proper
 
     abbrev v : Mixed
     v = bound (s .cols) f
@@ -211,7 +238,8 @@ module _ (s : Setting) (r : ReadySetting s) (long : Long (s .ends)) (marks : ℕ
         better? st true q true z = inl (refl, most st)
         better? st true q false z = inl (no-better s marks b v D N q (proper q) v-proper z (most st))
 
-        empty? : (t : Bool) → ltZ (f .room) (pos 0) ≡ t → AtMostBest s marks (cond t b (cond (betters v b) (record { found = true; place = x; value = v }) b)) D N ⊎ Bettered s marks D N
+        empty? : (t : Bool) → ltZ (f .room) (pos 0) ≡ t → AtMostBest s marks (cond t b (cond (betters v b) (record { found = true; place = x; value = v }) b))
+            D N ⊎ Bettered s marks D N
         empty? true q = absurd (fill-empty (s .cols) e marks (r .ordered) (j .in-order) (yes-lt q) D N d≥1 in-e)
         empty? false q = better? (fill-stopped (s .cols) e marks (r .ordered) (j .in-order) (no-lt q)) (b .found) refl (lessMixed (b .value) v) refl
 
@@ -219,9 +247,15 @@ module _ (s : Setting) (r : ReadySetting s) (long : Long (s .ends)) (marks : ℕ
     unfolding triedBy
     tried-keeps y h D N d≥1 p a = keep (h D N d≥1 p a)
       where
-        kept : AtMostBest s marks b D N → (t : Bool) → (u : Bool) → lessMixed (b .value) v ≡ u → AtMostBest s marks (cond t b (cond (cond (b .found) u true) (record { found = true; place = x; value = v }) b)) D N
+        kept : AtMostBest s marks b D N → (t : Bool) → (u : Bool) → lessMixed (b .value) v ≡ u
+            → AtMostBest s marks (cond t b (cond (cond (b .found) u true) (record { found = true; place = x; value = v }) b)) D N
         kept k true u z = k
-        kept (q, k) false true z = rw q (refl, passed-on D (b .value .parts) (v .parts) (omega (arith, proper q .low)) (valueᴰ (box s marks) N) (over (b .value)) (over v) k (less-true (b .value) v (proper q) v-proper z))
+        kept (q, k) false true z =
+            rw q (
+              refl,
+              passed-on D (b .value .parts) (v .parts) (omega (arith, proper q .low)) (valueᴰ (box s marks) N) (over (b .value)) (over v) k
+                  (less-true (b .value) v (proper q) v-proper z),
+            )
         kept (q, k) false false z = rw q (refl, k)
 
         keep : AtMostBest s marks b D N ⊎ Bettered s marks D N → AtMostBest s marks (triedBy (s .cols) e x b) D N ⊎ Bettered s marks D N

@@ -1,3 +1,3 @@
 pub mod Search
-pub mod Ready
+pub mod Searched
 pub mod Steps

@@ -1,23 +1,29 @@
 -- The search over places: what each part of a step computes.
---   spanned e k l u     the box e with the ends l and u for item k
---   fixedBy s P d       the search's box with the first d levels fixed at P;  fixedIn: by the box and the levels
 --   startBy s P d       where level d starts below P's first d amounts: its item's amount in the relaxation, rounded to the light end
---   runBox, runEnds     the box of P's run at level d, which starts at v: what is left of its segment there, and all below
 --   bySide x v a b      a below v, b from v on
+--   runBox, runEnds     the box of P's run at level d, which starts at v: what is left of its segment there, and all below
+--   slopeOf c f         the critical item's price for its weight, from the whole amounts' worth on
 --   sparseBy c l f b    no value above b is found on the lattice l, within the room and the slope of the filling f
---   mixedBy m f …       integer items that take whole strides of the room, and continuous ones that take the rest, make no value above b
+--   strideFill, mixedBound  integer items take whole strides of the room, continuous ones the rest: as a filling, and its value
+--   mixedBy m f …       that makes no value above b;  mixedAt c m f b: where the filling f stops
+--   hopelessBy m l f …  a filling promises no value above b, or none is found on the lattice or by strides
 --   cutBy c m l e best  the box e holds nothing, or nothing better than the incumbent
+--   betters v best      the value v is better than the incumbent's
 --   betterBy c e best   the relaxation of e, a place with all levels fixed, is better than the incumbent
 --   triedBy c e x best  the better of the two, where the levels are fixed at x
---   Applies s p x d     a domination pair of level d's item and one above can be taken away from x within the box
+--   Stays x r l u       x less r lies within l and u
+--   Removable …         a pair's steps can be taken away from two amounts within their ends
+--   AppliesAt s p x d j the domination pair of the items of levels d and j can be taken away from x within the box
+--   Applies s p x d     so it is with some level j above d
+--   Reflects P b        the test b says whether P holds
+--   FirstPaired s p x r r is the first level that a pair discards, or the number of levels
 use mathlib.Core.Path.{_≡_}
 use mathlib.Core.Bool.{Bool, true, false, not, cond}
 use mathlib.Core.List.{List}
 use mathlib.Core.Logic.{_≢_}
-use Prim.Native.Nat.{ℕ, zero, suc, _+_, _*_, _≤_, _<_}
+use Prim.Native.Nat.{ℕ, _+_, _*_, _≤_, _<_}
 use lib.Dec.{ltb}
 use lib.IntN.{ℤ, pos, natAbs, _+ℤ_, _-ℤ_, _*ℤ_}
-use lib.ListN.{set}
 use lib.Signed.{ltZ, _≤ℤ_}
 use Rattle.arith.specs.Division.{floorDiv, ceilDiv}
 use Rattle.arith.specs.Mixed.{lessMixed}
@@ -29,24 +35,12 @@ use Rattle.greedy.specs.Fill.{at, place, fill, sharedBy, bound, start}
 use Rattle.lattice.specs.declared.Lattice.{Lattice}
 use Rattle.lattice.specs.declared.Slope.{Slope}
 use Rattle.lattice.specs.Lattice.{barrenBy}
-use Rattle.search.specs.declared.Setting.{Setting}
-use Rattle.search.specs.declared.Soft.{Soft}
-use Rattle.search.specs.declared.Pairs.{Pairs}
+use Rattle.setting.specs.declared.Setting.{Setting}
+use Rattle.setting.specs.declared.StrideBound.{StrideBound}
+use Rattle.setting.specs.declared.Pairs.{Pairs}
+use Rattle.setting.specs.Box.{levelAt, spanned, fixedBy}
+use Rattle.setting.specs.Ready.{pairIndex}
 use Rattle.search.specs.declared.Incumbent.{Incumbent}
-
-abbrev pub levelAt : Setting → ℕ → ℕ
-levelAt s d = place (s .level) d
-
-abbrev pub spanned : Ends → ℕ → ℤ → ℤ → Ends
-spanned e k l u = record { lo = set (e .lo) k l; hi = set (e .hi) k u }
-
--- the box e with the items of the first d levels l fixed at P
-unfoldable pub fixedIn : Ends → List ℕ → (ℕ → ℤ) → ℕ → Ends
-fixedIn e l P zero = e
-fixedIn e l P (suc d) = spanned (fixedIn e l P d) (place l d) (P d) (P d)
-
-abbrev pub fixedBy : Setting → (ℕ → ℤ) → ℕ → Ends
-fixedBy s P d = fixedIn (s .ends) (s .level) P d
 
 unfoldable pub startBy : Setting → (ℕ → ℤ) → ℕ → ℤ
 startBy s P d = start (s .cols) (fixedBy s P d) (fill (s .cols) (fixedBy s P d)) (levelAt s d)
@@ -69,33 +63,39 @@ unfoldable pub sparseBy : Columns → Lattice → Fill → ℤ → Bool
 sparseBy c l f b = cond (ltb (f .at) (c .live)) (barrenBy l (slopeOf c f) (f .room) b) false
 
 -- whole strides of the room at the price of an item of that weight, rounded up, and the rest at that of continuous items
-abbrev pub strideFill : Soft → Fill → ℤ → ℤ → Fill
-strideFill m f size rate = record { at = 0; room = f .room -ℤ m .stride *ℤ floorDiv (f .room) (m .stride); worth = f .worth +ℤ ceilDiv (rate *ℤ (m .stride *ℤ floorDiv (f .room) (m .stride))) size }
+abbrev pub strideFill : StrideBound → Fill → ℤ → ℤ → Fill
+strideFill m f size rate =
+    record {
+      at = 0;
+      room = f .room -ℤ m .stride *ℤ floorDiv (f .room) (m .stride);
+      worth = f .worth +ℤ ceilDiv (rate *ℤ (m .stride *ℤ floorDiv (f .room) (m .stride))) size;
+    }
 
-abbrev pub mixedBound : Soft → Fill → ℤ → ℤ → Mixed
+abbrev pub mixedBound : StrideBound → Fill → ℤ → ℤ → Mixed
 mixedBound m f size rate = sharedBy (strideFill m f size rate) (natAbs (m .size)) (natAbs (m .rate))
 
-abbrev pub mixedBy : Soft → Fill → ℤ → ℤ → Mixed → Bool
+abbrev pub mixedBy : StrideBound → Fill → ℤ → ℤ → Mixed → Bool
 mixedBy m f size rate b =
     cond (ltZ (pos 0) (m .stride))
     (cond (ltb (m .rank) (f .at)) false (cond (ltZ (rate *ℤ m .size) (m .rate *ℤ size)) false (not (lessMixed b (mixedBound m f size rate)))))
     false
 
 -- no value above b is promised by a filling that ends at an item of that weight and price, or none is found on the lattice or by strides
-abbrev pub hopelessBy : Soft → Lattice → Fill → ℤ → ℤ → Mixed → Bool
+abbrev pub hopelessBy : StrideBound → Lattice → Fill → ℤ → ℤ → Mixed → Bool
 hopelessBy m l f size rate b =
     cond (lessMixed b (sharedBy f (natAbs size) (natAbs rate)))
     (cond (barrenBy l (record { worth = f .worth; rate = rate; size = size }) (f .room) (b .whole)) true (mixedBy m f size rate b))
     true
 
 -- the same of a filling's own critical item
-unfoldable pub blendBy : Columns → Soft → Fill → Mixed → Bool
-blendBy c m f b = cond (ltb (f .at) (c .live)) (mixedBy m f (at (c .size) (f .at)) (at (c .rate) (f .at)) b) false
+unfoldable pub mixedAt : Columns → StrideBound → Fill → Mixed → Bool
+mixedAt c m f b = cond (ltb (f .at) (c .live)) (mixedBy m f (at (c .size) (f .at)) (at (c .rate) (f .at)) b) false
 
-unfoldable pub cutBy : Columns → Soft → Lattice → Ends → Incumbent → Bool
+unfoldable pub cutBy : Columns → StrideBound → Lattice → Ends → Incumbent → Bool
 cutBy c m l e best =
     cond (ltZ (fill c e .room) (pos 0)) true
-    (cond (best .found) (cond (lessMixed (best .value) (bound c (fill c e))) (cond (sparseBy c l (fill c e) (best .value .whole)) true (blendBy c m (fill c e) (best .value))) true) false)
+    (cond (best .found) (cond (lessMixed (best .value) (bound c (fill c e)))
+    (cond (sparseBy c l (fill c e) (best .value .whole)) true (mixedAt c m (fill c e) (best .value))) true) false)
 
 -- whether a value is better than the incumbent's
 abbrev pub betters : Mixed → Incumbent → Bool
@@ -115,10 +115,6 @@ pub record Stays (x r l u : ℤ) : Type 0 where
   pub low : l ≤ℤ (x -ℤ r)
   pub high : (x -ℤ r) ≤ℤ u
 
--- the steps of the pair of two items
-abbrev pub pairIndex : ℕ → ℕ → ℕ
-pairIndex i j = 16 * i + j
-
 -- steps of r and t, of which r is not 0, can be taken away from x and y within their ends
 pub record Removable (r t x y l u m w : ℤ) : Type 0 where
   pub moves : r ≢ pos 0
@@ -127,7 +123,8 @@ pub record Removable (r t x y l u m w : ℤ) : Type 0 where
 
 -- the pair of the items of level d and of the level j above can be taken away from x within the box
 abbrev pub AppliesAt : Setting → Pairs → (ℕ → ℤ) → ℕ → ℕ → Type 0
-AppliesAt s p x d j = Removable (at (p .first) (pairIndex (levelAt s d) (levelAt s j))) (at (p .second) (pairIndex (levelAt s d) (levelAt s j))) (x d) (x j) (at (s .low) d) (at (s .high) d) (at (s .low) j) (at (s .high) j)
+AppliesAt s p x d j = Removable (at (p .first) (pairIndex (levelAt s d) (levelAt s j))) (at (p .second) (pairIndex (levelAt s d) (levelAt s j))) (x d) (x j)
+    (at (s .low) d) (at (s .high) d) (at (s .low) j) (at (s .high) j)
 
 pub record Applies (s : Setting) (p : Pairs) (x : ℕ → ℤ) (d : ℕ) : Type 0 where
   pub above : ℕ
@@ -135,7 +132,7 @@ pub record Applies (s : Setting) (p : Pairs) (x : ℕ → ℤ) (d : ℕ) : Type 
   pub here : AppliesAt s p x d above
 
 -- a test and what it decides
-pub record Decides (P : Type 0) (b : Bool) : Type 0 where
+pub record Reflects (P : Type 0) (b : Bool) : Type 0 where
   pub holds : b ≡ true → P
   pub fails : b ≡ false → ¬ P
 

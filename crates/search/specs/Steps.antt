@@ -1,11 +1,32 @@
 -- What the parts of a step ask and give.
+--   LongPath p        the lists of a path have a place for each level
 --   Dived s j p r     r is p with the levels from j on at their starts
+--   MixedBoundInRange, MixedInRange, HopelessInRange
+--                     what the bound by strides, its comparison, and the three cuts of a filling ask
+--   Started s t       the path's place is in the box, and its starts are the place's
+--   ProperBest b      an incumbent's value can be compared
+--   BoxInRange c e b  columns, box and incumbent are in their ranges, and the box in order
+--   cutAt s t b d     the run of level d is cut
 --   Passed s p t b d  the levels above d settle nothing
+--   Cut s p t b d     the first level that settles something is d, and its run is cut
+--   Discarded s p t b n  it is the last of the first n, and a pair discards them
+--   Tries c e x b r   r is the incumbent after a trial of e, and whether it is a better one
+--   Tried s p t b r n no level settles anything: the place is tried
+--   kept b            the incumbent stays
+--   LookedAs, Looked  what a look at a place settles, by the first level that settles something, and the incumbent after it
 --   Looks s p t b n   what a look asks: the levels above n are known to settle nothing
---   Looked s p t b r  what a look at a place settles, by the first level that settles something, and the incumbent after it
+--   Unpaired s p x n  no pair discards a level above n
+--   nobody            no incumbent yet
+--   movedAt t j v     the path with the amount v at level j
+--   MoveInRange s t j v  what a move to v at level j asks
+--   MovedTo s t j v r r is t with v at level j, and the starts at the deeper levels
+--   freshBy better j  the first level that may settle something after a move at level j
+--   WentOn s q …      where a step goes: to its move's place, or to the end
+--   countedBy n       one more, as long as it fits
 --   Stepped s p q r   a step from q to r
+--   origin            the path that a search begins from;  Begun s q: a search at its first place
 --   After s p n q     q after n steps from the first place on; each counts one
---   Took s p r        r is where a search ends, with the steps that it took
+--   EndsAfter s p r   r is where a search ends, with the steps that it took
 use mathlib.Core.Path.{_≡_}
 use mathlib.Core.Bool.{Bool, true, false, cond}
 use mathlib.Core.List.{List}
@@ -16,6 +37,7 @@ use lib.Dec.{ltb}
 use lib.IntN.{ℤ, pos}
 use lib.ListN.{length, set, replicate}
 use lib.Signed.{_≤ℤ_, _<ℤ_}
+use Rattle.arith.specs.Limits.{mostRoom}
 use Rattle.arith.specs.Within.{Within}
 use Rattle.arith.specs.Mixed.{Proper}
 use Rattle.arith.specs.declared.Mixed.{Mixed}
@@ -31,16 +53,17 @@ use Rattle.lattice.specs.Lattice.{Tame, Steep, latticeAt}
 use Rattle.places.specs.declared.Settled.{Settled}
 use Rattle.places.specs.declared.Settled.the-variants.{Run, Prefix}
 use Rattle.places.specs.Moves.{pastOf}
-use Rattle.search.specs.declared.Setting.{Setting}
-use Rattle.search.specs.declared.Soft.{Soft}
-use Rattle.search.specs.declared.Pairs.{Pairs}
+use Rattle.setting.specs.declared.Setting.{Setting}
+use Rattle.setting.specs.declared.StrideBound.{StrideBound}
+use Rattle.setting.specs.declared.Pairs.{Pairs}
 use Rattle.search.specs.declared.Incumbent.{Incumbent}
 use Rattle.search.specs.declared.Path.{Path}
 use Rattle.search.specs.declared.Sighting.{Sighting}
 use Rattle.search.specs.declared.State.{State}
-use Rattle.search.specs.declared.Trial.{Trial}
-use Rattle.search.specs.Search.{fixedBy, startBy, runEnds, cutBy, betterBy, triedBy, Applies}
-use Rattle.search.specs.Ready.{Moderate, ReadySetting, Ready, Inside}
+use Rattle.search.specs.declared.Comparison.{Comparison}
+use Rattle.setting.specs.Box.{fixedBy, Long, Inside}
+use Rattle.search.specs.Search.{startBy, runEnds, cutBy, betterBy, triedBy, Applies}
+use Rattle.setting.specs.Ready.{StrideBoundInRange, ReadySetting, Ready}
 
 -- ---- going down
 
@@ -58,28 +81,23 @@ pub record Dived (s : Setting) (j : ℕ) (p r : Path) : Type 0 where
 -- ---- looking
 
 -- what a filling that ends at an item of that weight and price promises can be compared
-pub record Mixes (m : Soft) (f : Fill) (size rate : ℤ) : Type 0 where
-  pub moderate : Moderate m
-  pub strides : pos 0 <ℤ m .stride
+pub record MixedBoundInRange (m : StrideBound) (f : Fill) (size rate : ℤ) : Type 0 where
+  pub strides-in : StrideBoundInRange m
+  pub stride≥1 : pos 0 <ℤ m .stride
   pub steep : Steep (record { worth = f .worth; rate = rate; size = size })
   pub room≥0 : pos 0 ≤ℤ f .room
-  pub room-in : Within 20000000000000 (f .room)
+  pub room-in : Within mostRoom (f .room)
 
-pub record Blends (m : Soft) (f : Fill) (size rate : ℤ) (b : Mixed) : Type 0 where
-  pub moderate : Moderate m
+pub record MixedInRange (m : StrideBound) (f : Fill) (size rate : ℤ) (b : Mixed) : Type 0 where
+  pub strides-in : StrideBoundInRange m
   pub steep : Steep (record { worth = f .worth; rate = rate; size = size })
   pub room≥0 : pos 0 ≤ℤ f .room
-  pub room-in : Within 20000000000000 (f .room)
+  pub room-in : Within mostRoom (f .room)
   pub proper : Proper b
 
-pub record Promises (m : Soft) (l : Lattice) (f : Fill) (size rate : ℤ) (b : Mixed) : Type 0 where
-  pub blends : Blends m f size rate b
+pub record HopelessInRange (m : StrideBound) (l : Lattice) (f : Fill) (size rate : ℤ) (b : Mixed) : Type 0 where
+  pub mixed-in : MixedInRange m f size rate b
   pub tame : Tame l
-
--- the lists of a box have a place for each item
-pub record Long (e : Ends) : Type 0 where
-  pub lo-long : length (e .lo) ≡ 16
-  pub hi-long : length (e .hi) ≡ 16
 
 -- the path's place is in the box, and its starts are the place's
 pub record Started (s : Setting) (t : Path) : Type 0 where
@@ -91,7 +109,7 @@ pub record Started (s : Setting) (t : Path) : Type 0 where
 abbrev pub ProperBest : Incumbent → Type 0
 ProperBest b = b .found ≡ true → Proper (b .value)
 
-pub record Judges (c : Columns) (e : Ends) (b : Incumbent) : Type 0 where
+pub record BoxInRange (c : Columns) (e : Ends) (b : Incumbent) : Type 0 where
   pub sized : Sized c e
   pub ordered : Ordered c
   pub in-order : InOrder c e
@@ -99,7 +117,7 @@ pub record Judges (c : Columns) (e : Ends) (b : Incumbent) : Type 0 where
 
 -- the run of level d is cut
 abbrev pub cutAt : Setting → Path → Incumbent → ℕ → Bool
-cutAt s t b d = cutBy (s .cols) (s .soft) (latticeAt (s .lattice) d) (runEnds s (at (t .place)) (at (t .starts) d) d) b
+cutAt s t b d = cutBy (s .cols) (s .strides) (latticeAt (s .lattice) d) (runEnds s (at (t .place)) (at (t .starts) d) d) b
 
 -- the levels above d settle nothing
 pub record Passed (s : Setting) (p : Pairs) (t : Path) (b : Incumbent) (d : ℕ) : Type 0 where
@@ -122,22 +140,22 @@ pub record Discarded (s : Setting) (p : Pairs) (t : Path) (b : Incumbent) (n : �
   pub paired : Applies s p (at (t .place)) level
 
 -- r is the incumbent after a trial of e, and whether it is a better one
-pub record Tries (c : Columns) (e : Ends) (x : List ℤ) (b : Incumbent) (r : Trial) : Type 0 where
+pub record Tries (c : Columns) (e : Ends) (x : List ℤ) (b : Incumbent) (r : Comparison) : Type 0 where
   pub best-is : r .best ≡ triedBy c e x b
   pub better-is : r .better ≡ betterBy c e b
 
 -- no level settles anything: the place is tried
-pub record Tried (s : Setting) (p : Pairs) (t : Path) (b : Incumbent) (r : Trial) (n : ℕ) : Type 0 where
+pub record Tried (s : Setting) (p : Pairs) (t : Path) (b : Incumbent) (r : Comparison) (n : ℕ) : Type 0 where
   pub all : n ≡ s .levels
   pub passed : Passed s p t b (s .levels)
   pub tries : Tries (s .cols) (fixedBy s (at (t .place)) (s .levels)) (t .place) b r
 
 -- the incumbent stays
-abbrev pub kept : Incumbent → Trial
+abbrev pub kept : Incumbent → Comparison
 kept b = record { best = b; better = false }
 
 -- r is the incumbent after the look, and whether it is a better one
-abbrev pub LookedAs : Setting → Pairs → Path → Incumbent → Trial → Settled → Type 0
+abbrev pub LookedAs : Setting → Pairs → Path → Incumbent → Comparison → Settled → Type 0
 LookedAs s p t b r (Run d) = (r ≡ kept b) × Cut s p t b d
 LookedAs s p t b r (Prefix n) = Tried s p t b r n ⊎ ((r ≡ kept b) × Discarded s p t b n)
 
@@ -165,10 +183,10 @@ abbrev pub nobody : Incumbent
 nobody = record { found = false; place = replicate 16 (pos 0); value = record { whole = pos 0; part = 0; parts = 1 } }
 
 -- the path with the amount v at level j
-abbrev pub turnedAt : Path → ℕ → ℤ → Path
-turnedAt t j v = record { place = set (t .place) j v; starts = t .starts }
+abbrev pub movedAt : Path → ℕ → ℤ → Path
+movedAt t j v = record { place = set (t .place) j v; starts = t .starts }
 
-pub record Turnable (s : Setting) (t : Path) (j : ℕ) (v : ℤ) : Type 0 where
+pub record MoveInRange (s : Setting) (t : Path) (j : ℕ) (v : ℤ) : Type 0 where
   pub ready : ReadySetting s
   pub started : Started s t
   pub level-in : j < s .levels
@@ -176,7 +194,7 @@ pub record Turnable (s : Setting) (t : Path) (j : ℕ) (v : ℤ) : Type 0 where
   pub high : v ≤ℤ at (s .high) j
 
 -- r is t with v at level j, and the starts at the deeper levels
-pub record Turned (s : Setting) (t : Path) (j : ℕ) (v : ℤ) (r : Path) : Type 0 where
+pub record MovedTo (s : Setting) (t : Path) (j : ℕ) (v : ℤ) (r : Path) : Type 0 where
   pub above : (i : ℕ) → i < j → at (r .place) i ≡ at (t .place) i
   pub here : at (r .place) j ≡ v
   pub deeper : (i : ℕ) → j < i → i < s .levels → at (r .place) i ≡ startBy s (at (r .place)) i
@@ -190,7 +208,7 @@ freshBy better j = cond better 0 j
 
 abbrev pub WentOn : Setting → State → Bool → Option (ℕ × ℤ) → State → Type 0
 WentOn s q better none r = (r .done ≡ true) × ((r .path ≡ q .path) × (r .from ≡ 0))
-WentOn s q better (some m) r = (r .done ≡ false) × (Turned s (q .path) (m .0) (m .1) (r .path) × (r .from ≡ freshBy better (m .0)))
+WentOn s q better (some m) r = (r .done ≡ false) × (MovedTo s (q .path) (m .0) (m .1) (r .path) × (r .from ≡ freshBy better (m .0)))
 
 -- one more, as long as it fits
 abbrev pub countedBy : ℕ → ℕ
@@ -222,7 +240,7 @@ After s p zero q = Begun s q
 After s p (suc n) r = (q : State) × (After s p n q × ((q .done ≡ false) × Stepped s p q r))
 
 -- r is where a search ends
-pub record Took (s : Setting) (p : Pairs) (r : State) : Type 0 where
+pub record EndsAfter (s : Setting) (p : Pairs) (r : State) : Type 0 where
   pub count : ℕ
   pub after : After s p count r
   pub over : r .done ≡ true

@@ -19,43 +19,22 @@ use lattice::barren;
 use places::Moved;
 use places::Settled;
 use places::past;
+use setting::Pairs;
+use setting::Setting;
+use setting::StrideBound;
+use setting::fixed_in;
 ghost use mathlib.Core.Path.{_≡_};
-ghost use Prim.Native.Nat.{ℕ, _≤_, _<_};
+ghost use Prim.Native.Nat.{_≤_, _<_};
+ghost use Rattle.arith.specs.Limits.{farthest};
 ghost use Rattle.arith.specs.Within.{Within};
 ghost use Rattle.greedy.specs.Fill.{at, place};
 ghost use Rattle.lattice.specs.Lattice.{Tame};
-ghost use Rattle.search.specs.Search.{fixedIn, fixedBy, bySide, mixedBound, mixedBy, hopelessBy, cutBy, Stays, Removable, Decides, FirstPaired};
-ghost use Rattle.search.specs.Ready.{Moderate, ReadySetting, Ready, InsideTo, Searched};
-ghost use Rattle.search.specs.Steps.{Dived, Mixes, Blends, Promises, Judges, Tries, Unpaired, Looks, Looked, nobody, LongPath, turnedAt, freshBy, countedBy, Stepped, Took};
-
-// What does not change during a search: the columns, the box by item, and by level the item, its ends, and the lattice of what the
-// items from that level on change, where no continuous item is free.
-pub struct Setting {
-    pub cols: Columns,
-    pub ends: Ends,
-    pub level: [usize; 16],
-    pub low: [i64; 16],
-    pub high: [i64; 16],
-    pub lattice: [Lattice; 16],
-    pub levels: usize,
-    pub soft: Soft,
-}
-
-// What continuous items can add to a filling: those that are free come at that rank or after, and none is worth more for its weight than
-// rate for size. Integer items weigh multiples of the stride. Stride 0: nothing is known.
-pub struct Soft {
-    pub stride: i64,
-    pub rank: usize,
-    pub rate: i64,
-    pub size: i64,
-}
-
-// The domination pairs (01: least pairs) of all pairs of items, at 16 i + j: the steps of i and of j; 0 where there is none. The numbers
-// are short because a struct is copied at a call.
-pub struct Pairs {
-    pub first: [i16; 256],
-    pub second: [i16; 256],
-}
+ghost use Rattle.setting.specs.Box.{InsideTo};
+ghost use Rattle.search.specs.Search.{bySide, mixedBound, mixedBy, hopelessBy, cutBy, Stays, Removable, Reflects, FirstPaired};
+ghost use Rattle.setting.specs.Ready.{StrideBoundInRange, ReadySetting, Ready};
+ghost use Rattle.search.specs.Searched.{Searched};
+ghost use Rattle.search.specs.Steps.{Dived, MixedBoundInRange, MixedInRange, HopelessInRange, BoxInRange, Tries, Unpaired, Looks, Looked, nobody};
+ghost use Rattle.search.specs.Steps.{LongPath, movedAt, freshBy, countedBy, Stepped, EndsAfter};
 
 // The best place so far, and its value.
 pub struct Incumbent {
@@ -71,7 +50,7 @@ pub struct Path {
 }
 
 // The incumbent after a trial, and whether that is a better one.
-pub struct Trial {
+pub struct Comparison {
     pub best: Incumbent,
     pub better: bool,
 }
@@ -83,40 +62,13 @@ pub struct Sighting {
     pub better: bool,
 }
 
-// A search on its way: where it is, and how many steps it took (as many as fit). The levels above `from` settle nothing.
+// A search on its way: where it is, and how many steps it ended (as many as fit). The levels above `from` settle nothing.
 pub struct State {
     pub path: Path,
     pub best: Incumbent,
     pub steps: u64,
     pub from: usize,
     pub done: bool,
-}
-
-// The box e with the items of the first d levels fixed at x.
-pub fn fixed_in(e: Ends, level: [usize; 16], x: [i64; 16], d: usize) -> Ends
-    requires { ⌜ (d ≤ 16) × ((k : ℕ) → k < d → place level k < 16) ⌝ }
-    ensures { λ r. ⌜ r ≡ fixedIn e level (at x) d ⌝ }
-{
-    let mut to = e;
-    let mut k: usize = 0;
-    while k < d {
-        let i = level[k];
-        let v = x[k];
-        to.lo[i] = v;
-        to.hi[i] = v;
-        k += 1;
-    }
-    to
-}
-
-// The search's box with the first d levels fixed at x.
-pub fn fixed(s: Setting, x: [i64; 16], d: usize) -> Ends
-    requires { ⌜ ReadySetting s × (d ≤ s .levels) ⌝ }
-    ensures { λ r. ⌜ r ≡ fixedBy s (at x) d ⌝ }
-{
-    let e = s.ends;
-    let level = s.level;
-    fixed_in(e, level, x, d)
 }
 
 // The path with the levels from j on at their starts: in the box with the levels above fixed, each takes its start.
@@ -148,8 +100,8 @@ pub fn dive(s: Setting, p: Path, j: usize) -> Path
 
 // What a filling that stops at an item of that weight and price is worth at most if integer items take whole strides of the room: what they
 // leave goes to continuous items.
-pub fn mixed_bound(m: Soft, f: Fill, size: i64, rate: i64) -> Mixed
-    requires { ⌜ Mixes m f size rate ⌝ }
+pub fn mixed_bound(m: StrideBound, f: Fill, size: i64, rate: i64) -> Mixed
+    requires { ⌜ MixedBoundInRange m f size rate ⌝ }
     ensures { λ r. ⌜ r ≡ mixedBound m f size rate ⌝ }
 {
     let r = f.room;
@@ -163,8 +115,8 @@ pub fn mixed_bound(m: Soft, f: Fill, size: i64, rate: i64) -> Mixed
 }
 
 // Whether that is no more than b, where it says something: see proofs/Mixing (mixed-most).
-pub fn mixed(m: Soft, f: Fill, size: i64, rate: i64, b: Mixed) -> bool
-    requires { ⌜ Blends m f size rate b ⌝ }
+pub fn mixed(m: StrideBound, f: Fill, size: i64, rate: i64, b: Mixed) -> bool
+    requires { ⌜ MixedInRange m f size rate b ⌝ }
     ensures { λ r. ⌜ r ≡ mixedBy m f size rate b ⌝ }
 {
     if 0 < m.stride {
@@ -182,8 +134,8 @@ pub fn mixed(m: Soft, f: Fill, size: i64, rate: i64, b: Mixed) -> bool
 
 // Whether a filling that stops at an item of that weight and price promises no value above b, or the items can make none whatever it
 // promises: cut by relaxation, by lattice, see proofs/Cuts (sparse-most), and by strides.
-pub fn hopeless(m: Soft, l: Lattice, f: Fill, size: i64, rate: i64, b: Mixed) -> bool
-    requires { ⌜ Promises m l f size rate b ⌝ }
+pub fn hopeless(m: StrideBound, l: Lattice, f: Fill, size: i64, rate: i64, b: Mixed) -> bool
+    requires { ⌜ HopelessInRange m l f size rate b ⌝ }
     ensures { λ r. ⌜ r ≡ hopelessBy m l f size rate b ⌝ }
 {
     let v = share(f, magnitude(size), magnitude(rate));
@@ -203,8 +155,8 @@ pub fn hopeless(m: Soft, l: Lattice, f: Fill, size: i64, rate: i64, b: Mixed) ->
 
 // Whether the box e holds nothing better than the incumbent: see proofs/Settle (cut-settles). The columns are large, and a struct is
 // copied at a call: so the critical item is read here.
-pub fn cut(c: Columns, m: Soft, l: Lattice, e: Ends, best: Incumbent) -> bool
-    requires { ⌜ Judges c e best × (Tame l × Moderate m) ⌝ }
+pub fn cut(c: Columns, m: StrideBound, l: Lattice, e: Ends, best: Incumbent) -> bool
+    requires { ⌜ BoxInRange c e best × (Tame l × StrideBoundInRange m) ⌝ }
     ensures { λ r. ⌜ r ≡ cutBy c m l e best ⌝ }
 {
     let f = fill_up(c, e);
@@ -231,13 +183,13 @@ pub fn cut(c: Columns, m: Soft, l: Lattice, e: Ends, best: Incumbent) -> bool
 }
 
 // The better of the incumbent and the place x, whose levels are all fixed in e: see proofs/Settle (tried-settles).
-pub fn tried(c: Columns, e: Ends, x: [i64; 16], best: Incumbent) -> Trial
-    requires { ⌜ Judges c e best ⌝ }
+pub fn tried(c: Columns, e: Ends, x: [i64; 16], best: Incumbent) -> Comparison
+    requires { ⌜ BoxInRange c e best ⌝ }
     ensures { λ r. ⌜ Tries c e x best r ⌝ }
 {
     let f = fill_up(c, e);
     if f.room < 0 {
-        return Trial {
+        return Comparison {
             best: best,
             better: false,
         };
@@ -246,7 +198,7 @@ pub fn tried(c: Columns, e: Ends, x: [i64; 16], best: Incumbent) -> Trial
     if best.found {
         let b = best.value;
         if !less(b, v) {
-            return Trial {
+            return Comparison {
                 best: best,
                 better: false,
             };
@@ -257,7 +209,7 @@ pub fn tried(c: Columns, e: Ends, x: [i64; 16], best: Incumbent) -> Trial
         place: x,
         value: v,
     };
-    Trial {
+    Comparison {
         best: y,
         better: true,
     }
@@ -265,8 +217,8 @@ pub fn tried(c: Columns, e: Ends, x: [i64; 16], best: Incumbent) -> Trial
 
 // Whether x less r lies within l and u.
 pub fn within(x: i64, r: i64, l: i64, u: i64) -> bool
-    requires { ⌜ Within 300000000 x × Within 1000 r ⌝ }
-    ensures { λ y. ⌜ Decides (Stays x r l u) y ⌝ }
+    requires { ⌜ Within farthest x × Within 1000 r ⌝ }
+    ensures { λ y. ⌜ Reflects (Stays x r l u) y ⌝ }
 {
     let y = x - r;
     if y < l {
@@ -277,8 +229,8 @@ pub fn within(x: i64, r: i64, l: i64, u: i64) -> bool
 
 // Whether steps of r and t, if r is not 0, can be taken away from x and y within their ends.
 pub fn removable(r: i64, t: i64, x: i64, y: i64, l: i64, u: i64, m: i64, w: i64) -> bool
-    requires { ⌜ Within 1000 r × (Within 1000 t × (Within 300000000 x × Within 300000000 y)) ⌝ }
-    ensures { λ z. ⌜ Decides (Removable r t x y l u m w) z ⌝ }
+    requires { ⌜ Within 1000 r × (Within 1000 t × (Within farthest x × Within farthest y)) ⌝ }
+    ensures { λ z. ⌜ Reflects (Removable r t x y l u m w) z ⌝ }
 {
     if r == 0 {
         return false;
@@ -332,7 +284,7 @@ pub fn look(s: Setting, p: Pairs, t: Path, best: Incumbent, from: usize) -> Sigh
     let n = s.levels;
     let x = t.place;
     let v = t.starts;
-    let z = s.soft;
+    let z = s.strides;
     let m = first_paired(s, p, x, from);
     let ends = s.ends;
     let level = s.level;
@@ -396,9 +348,9 @@ pub fn counted(n: u64) -> u64
 }
 
 // The path with the amount v at level j.
-pub fn turn(t: Path, j: usize, v: i64) -> Path
+pub fn move_to(t: Path, j: usize, v: i64) -> Path
     requires { ⌜ j < 16 ⌝ }
-    ensures { λ r. ⌜ (r ≡ turnedAt t j v) × LongPath t ⌝ }
+    ensures { λ r. ⌜ (r ≡ movedAt t j v) × LongPath t ⌝ }
 {
     let mut x = t.place;
     x[j] = v;
@@ -436,7 +388,7 @@ pub fn step(s: Setting, p: Pairs, q: State) -> State
     let o = past(w, x, lo, hi, y);
     match o {
         Moved::At(j, v) => {
-            let u = turn(t, j, v);
+            let u = move_to(t, j, v);
             let from = fresh(better, j);
             if j + 1 < s.levels {
                 return State {
@@ -465,10 +417,10 @@ pub fn step(s: Setting, p: Pairs, q: State) -> State
     }
 }
 
-// The search from its first place on: the best place of the box, or that there is none, and how many steps that took.
+// The search from its first place on: the best place of the box, or that there is none, and how many steps that ended.
 pub fn run(s: Setting, p: Pairs) -> State
     requires { ⌜ Ready s p ⌝ }
-    ensures { λ r. ⌜ Searched s (r .best) × Took s p r ⌝ }
+    ensures { λ r. ⌜ Searched s (r .best) × EndsAfter s p r ⌝ }
 {
     let zero = Path {
         place: [0; 16],

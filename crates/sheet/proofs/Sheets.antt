@@ -1,51 +1,209 @@
--- The layout theorem: a sheet is accepted with a problem exactly if it is that problem's sheet.
--- accepted-sheet: what is accepted is the printing of its problem, which is in range, with its unused places blank.
--- sheet-accepted: the printing of a problem in range is accepted, with that problem.
--- accepted-exactly: both. sheet-unique: two problems in range have equal sheets only if they are equal.
+-- The layout theorem: a sheet is accepted with a record exactly if it is that record's sheet.
+--   Laid m b vi vl vu    the limit b, and the lines vi, vl, vu of the sections items, lower and upper, are those of the record m
+-- laid-text: so its sheet is their text. laid-once: no other record has them. laid: the record that was made from them has them.
+-- accepted-sheet: what is accepted is the printing of its record, which is in range, with its unused places blank.
+-- sheet-accepted: the printing of a record in range is accepted, with that record.
+-- accepted-exactly: both. sheet-unique: two records in range have equal sheets only if they are equal.
 use mathlib.Core.Path.{_≡_, refl, sym, ap, ap₂, _∙_}
 use mathlib.Core.Bool.{Bool, true, false, cond}
 use mathlib.Core.Logic.{_↔_}
-use mathlib.Core.List.{List, [], _++_, append-nil}
+use mathlib.Core.List.{List, [], _∷_, _++_, append-nil}
 use Prim.Native.Nat.{ℕ, _≤_, _<_}
 use native.Mathlib.Omega.{arith}
 use native.Mathlib.Decide.{decLt}
 use native.Mathlib.Nat.{zero-add}
 use borrow.Author.Tests.{le-ltb, ltb-false}
-use lib.Dec.{ltb}
+use lib.Dec.{ltb, lit<}
+use lib.IntN.{ℤ}
 use lib.ListN.{length, drop, drop-of-length-le, length-drop}
 use lib.Seq.{ext-getD}
 use Rattle.arith.specs.Sum.{Each}
-use Rattle.knapsack.specs.Records.{blank, emptyProblem, itemAt, badFigure, crosses, verdict}
+use Rattle.knapsack.specs.Ranges.{blank}
 use Rattle.knapsack.specs.declared.Bound.{Bound}
 use Rattle.knapsack.specs.declared.Bound.the-variants.{Absent}
 use Rattle.knapsack.specs.declared.Item.{Item}
-use Rattle.knapsack.specs.declared.Problem.{Problem}
 use Rattle.knapsack.specs.declared.Verdict.{Verdict}
 use Rattle.knapsack.specs.declared.Verdict.the-variants.{Accepted, Refused}
-use Rattle.sheet.specs.declared.Side.{Side}
-use Rattle.sheet.specs.declared.Side.the-variants.{Lower, Upper}
+use Rattle.model.specs.Refusals as refusal
+use Rattle.model.specs.declared.Model.{Model}
+use Rattle.model.specs.declared.Side.{Side}
+use Rattle.model.specs.declared.Side.the-variants.{Lower, Upper}
+use Rattle.model.specs.Records.{emptyModel, itemAt, outside, badFigure, crosses, verdict}
+use Rattle.model.specs.Setters.{withCapacity, withCount}
+use Rattle.model.proofs.Records.{Unfaulted, unfaulted, unrefused}
+use Rattle.lines.specs.Places.{lineAt, refusalOn}
+use Rattle.lines.specs.Layout.{headingText, itemText, Bounding}
+use Rattle.lines.proofs.Standing.{Has, has-join, Bytes}
+use Rattle.lines.proofs.Rereading.{bareOf}
 use Rattle.sheet.specs.declared.Progress.{Progress}
 use Rattle.sheet.specs.declared.Reading.{Reading}
-use Rattle.lines.specs.Text.{lineOf, refusal}
-use Rattle.sheet.specs.Reading.{items, wordOf, refusedAt, withCapacity, limitSection, itemsSection, boundsSection, endOfSheet}
-use Rattle.sheet.specs.Reading.{crossFrom, crossOf, crossCheck, itemsOf, lowerOf, upperOf, wholeOf, readSheet}
-use Rattle.sheet.specs.Printing.{headingText, itemText, boundAt, sideText, limitText, itemsPart, printing, Tidy, SheetOf}
-use Rattle.sheet.proofs.Decimals.{has-join}
-use Rattle.knapsack.proofs.Items.{Unfaulted, unfaulted, unrefused}
-use Rattle.sheet.proofs.Verdicts.{no-refusal, cross-all, all-cross}
+use Rattle.sheet.specs.Sections.{goesOn, refusedAt, linesText, sectionText}
+use Rattle.sheet.specs.Reading.{limit, items, wordOf, limitForm, itemForm, boundForm, limitSection, itemsSection, boundsSection, endOfSheet}
+use Rattle.sheet.specs.Reading.{crossFrom, crossOf, crossCheck, headOf, lowerOf, upperOf, tailOf, wholeOf, readSheet}
+use Rattle.sheet.specs.Printing.{upTo, boundAt, boundsUpTo, sideText, printing, Tidy, SheetOf}
+use Rattle.sheet.proofs.Sections.{no-refusal, went, section-before, SectionRead, section-read, Fitting, Back, section-back}
+use Rattle.sheet.proofs.Forms.{LimitFits, limit-laws, Bare, bare-same, bare-of, item-laws, BoundFits, bound-laws, fair-side}
+use Rattle.sheet.proofs.Filling.{upto-length, upto-cong, upto-inj, texts-cong, bounds-cong, bounds-skip, bounds-inj, bounds-few}
+use Rattle.sheet.proofs.Filling.{limited, Limited, limit-next, blanks, ItemsIn, items-next, items-fit}
+use Rattle.sheet.proofs.Filling.{Kept, kept-same, BoundsIn, bounds-next, bounds-fit}
 use Rattle.sheet.proofs.Lengths.{printing-short}
-use Rattle.sheet.proofs.Rereading.{bareOf, ItemsBack, BoundsBack, limit-reads, items-section, side-section}
-use Rattle.sheet.proofs.Printed.{went, Bare, Kept, items-cong, bounds-cong, counts-cong, LimitRead, limit-read, ItemsRead, items-read}
-use Rattle.sheet.proofs.Printed.{SideRead, side-read}
+use Rattle.sheet.proofs.Crossings.{cross-all, all-cross}
 
--- ---- the last two checks
+-- ---- the lines of a record
+
+-- an item by what its line has, and its bounds
+same-item : (i j : Item) → bareOf i ≡ bareOf j → i .lower ≡ j .lower → i .upper ≡ j .upper → i ≡ j
+same-item i j e l u = ap (λ (k : Item). record { mark = k .mark; weight = k .weight; price = k .price; lower = i .lower; upper = i .upper }) e ∙ rw (l, u)
+
+same-model : (m o : Model) → m .items ≡ o .items → m .count ≡ o .count → m .capacity ≡ o .capacity → m ≡ o
+same-model m o a b c = let r : m ≡ record { items = m .items; count = m .count; capacity = m .capacity } = refl in r ∙ rw (a, b, c)
+
+record Laid (m : Model) (b : ℤ) (vi : List Item) (vl vu : List Bounding) : Type 0 where
+  limit : m .capacity ≡ b
+  items : upTo (m .count) (λ k. bareOf (itemAt m k)) ≡ vi
+  lower : boundsUpTo (m .count) (boundAt Lower m) ≡ vl
+  upper : boundsUpTo (m .count) (boundAt Upper m) ≡ vu
+  tidy : Tidy m
+
+-- the text of those lines
+abbrev textOf : ℤ → List Item → List Bounding → List Bounding → List ℕ
+textOf b vi vl vu =
+    sectionText limitForm limit (b ∷ [])
+    ++ (sectionText itemForm items vi ++ (sectionText (boundForm Lower) (wordOf Lower) vl ++ sectionText (boundForm Upper) (wordOf Upper) vu))
+
+laid-text : (m : Model) (b : ℤ) (vi : List Item) (vl vu : List Bounding) → Laid m b vi vl vu → printing m ≡ textOf b vi vl vu
+unfolding printing
+laid-text m b vi vl vu l =
+    rw (← l .limit, ← l .items, ← l .lower, ← l .upper)
+    (let n = m .count in
+    let bare : ℕ → Item = λ k. bareOf (itemAt m k) in
+    let h = ap (headingText items) (upto-length n (itemAt m) ∙ sym (upto-length n bare)) in
+    let e = ap₂ _++_ h (texts-cong itemText n (itemAt m) bare (λ k l. refl)) in
+    ap (λ t. sectionText limitForm limit (m .capacity ∷ []) ++ (t ++ (sideText Lower m ++ sideText Upper m))) e)
+
+laid-once : (m o : Model) (b : ℤ) (vi : List Item) (vl vu : List Bounding) → Laid m b vi vl vu → Laid o b vi vl vu → m ≡ o
+laid-once m o b vi vl vu x y =
+    let n = sym (upto-length (m .count) (λ k. bareOf (itemAt m k))) ∙ ap length (x .items) in
+    let c : o .count ≡ m .count = sym (upto-length (o .count) (λ k. bareOf (itemAt o k))) ∙ ap length (y .items) ∙ sym n in
+    let i = upto-inj (m .count) _ _ (x .items ∙ sym (rw c at (y .items))) in
+    let l = bounds-inj (m .count) _ _ (x .lower ∙ sym (rw c at (y .lower))) in
+    let u = bounds-inj (m .count) _ _ (x .upper ∙ sym (rw c at (y .upper))) in
+    let e = ext-getD blank (m .items) (o .items) (x .tidy .places ∙ sym (y .tidy .places)) (λ k h. go k c i l u (decLt k (m .count))) in
+    same-model m o e (sym c) (x .limit ∙ sym (y .limit))
+  where
+    go : (k : ℕ) → o .count ≡ m .count → Each (m .count) (λ k. bareOf (itemAt m k) ≡ bareOf (itemAt o k)) →
+        Each (m .count) (λ k. boundAt Lower m k ≡ boundAt Lower o k) → Each (m .count) (λ k. boundAt Upper m k ≡ boundAt Upper o k) →
+        Dec (k < m .count) → itemAt m k ≡ itemAt o k
+    go k c i l u (yes h) = same-item (itemAt m k) (itemAt o k) (i k h) (l k h) (u k h)
+    go k c i l u (no h) = x .tidy .unused k (omega arith) ∙ sym (y .tidy .unused k (omega arith))
+
+-- ---- the record that the sections made
+
+-- before the first line of a section
+limit-start : (n at : ℕ) → Limited n [] (goesOn emptyModel at 0)
+limit-start n at = record { is = refl; fair = λ b bs e. absurd (let z : _≡_ {A = ℕ} 0 1 = cc in omega arith) }
+
+items-start : (m : Model) (b : ℤ) (n at : ℕ) → m ≡ withCapacity emptyModel b → n ≤ 16 → ItemsIn b n [] (goesOn (withCount m n) at 0)
+unfolding upTo
+items-start m b n at e few =
+    let empty = ap (λ (q : Model). q .items) e in
+    record {
+      listed = refl;
+      bare = λ k l. absurd (omega arith);
+      rest = λ k l. rw empty (blanks k);
+      places = rw empty refl;
+      count = refl;
+      few = few;
+      capacity = ap (λ (q : Model). q .capacity) e;
+    }
+
+bounds-start : (side : Side) (o : Model) (n at : ℕ) → o .count ≤ 16 → length (o .items) ≡ 16 → ((k : ℕ) → boundAt side o k ≡ Absent) →
+    BoundsIn side o n [] (goesOn o at 0)
+unfolding boundsUpTo
+bounds-start side o n at few size free = record {
+  listed = refl;
+  number = refl;
+  rest = λ k l. free k;
+  fair = λ k. rw (free k) refl;
+  within = omega arith;
+  few = few;
+  places = size;
+  count = refl;
+  capacity = refl;
+  same = λ k. kept-same side (itemAt o k);
+}
+
+-- behind the last item
+items-end : (b : ℤ) (vs : List Item) (p : Progress) → ItemsIn b (length vs) vs p → p .item ≡ p .model .count
+items-end b vs p i = sym (upto-length (p .item) (itemAt (p .model))) ∙ ap length (i .listed) ∙ sym (i .count)
+
+-- items that were just read have no bounds
+no-bounds : (side : Side) (b : ℤ) (vs : List Item) (p : Progress) → ItemsIn b (length vs) vs p → (k : ℕ) → boundAt side (p .model) k ≡ Absent
+no-bounds side b vs p i k = go side (decLt k (p .item))
+  where
+    go : (side : Side) → Dec (k < p .item) → boundAt side (p .model) k ≡ Absent
+    go Lower (yes l) = i .bare k l .lower
+    go Upper (yes l) = i .bare k l .upper
+    go Lower (no l) = ap (λ (i : Item). i .lower) (i .rest k (omega arith))
+    go Upper (no l) = ap (λ (i : Item). i .upper) (i .rest k (omega arith))
+
+kept-bare : (side : Side) (i j : Item) → Kept side i j → bareOf j ≡ bareOf i
+kept-bare side i j k = rw (k .mark, k .weight, k .price)
+
+-- the lines of all items are those up to the last that was listed
+bounds-end : (side : Side) (o : Model) (vs : List Bounding) (p : Progress) → BoundsIn side o (length vs) vs p →
+    boundsUpTo (o .count) (boundAt side (p .model)) ≡ vs
+bounds-end side o vs p g = bounds-skip (p .item) (o .count) (boundAt side (p .model)) (g .rest) (g .within) ∙ g .listed
+
+module _ (b : ℤ) (vi : List Item) (vl vu : List Bounding) (h l u : Progress) (i : ItemsIn b (length vi) vi h)
+    (x : BoundsIn Lower (h .model) (length vl) vl l) (y : BoundsIn Upper (l .model) (length vu) vu u) where
+  -- the number of items
+  counted : (u .model .count ≡ h .item) × (u .model .count ≡ l .model .count)
+  counted = (y .count ∙ x .count ∙ sym (items-end b vi h i), y .count)
+
+  -- an item keeps its mark and figures from the section of items on, and its lower bound from `lower` on
+  bare-kept : (k : ℕ) → bareOf (itemAt (u .model) k) ≡ bareOf (itemAt (h .model) k)
+  bare-kept k = kept-bare Upper _ _ (y .same k) ∙ kept-bare Lower _ _ (x .same k)
+
+  lower-kept : (k : ℕ) → boundAt Lower (u .model) k ≡ boundAt Lower (l .model) k
+  lower-kept k = y .same k .other
+
+  unused-item : (k : ℕ) → u .model .count ≤ k → itemAt (u .model) k ≡ blank
+  unused-item k c =
+      same-item (itemAt (u .model) k) blank
+      (bare-kept k ∙ ap bareOf (i .rest k (omega (arith, counted .0))))
+      (lower-kept k ∙ x .rest k (omega (arith, x .within, items-end b vi h i, counted .0)))
+      (y .rest k (omega (arith, y .within, counted .1)))
+
+  laid : Laid (u .model) b vi vl vu
+  laid =
+      let bare : ℕ → Item = λ k. bareOf (itemAt (u .model) k) in
+      let n = counted .0 in
+      let e = upto-cong (h .item) bare (itemAt (h .model)) (λ k c. bare-kept k ∙ bare-same (itemAt (h .model) k) (i .bare k c)) in
+      let f = bounds-cong (h .model .count) (boundAt Lower (u .model)) (boundAt Lower (l .model)) (λ k c. lower-kept k) in
+      record {
+        limit = y .capacity ∙ x .capacity ∙ i .capacity;
+        items = ap (λ n. upTo n bare) n ∙ e ∙ i .listed;
+        lower = ap (λ n. boundsUpTo n (boundAt Lower (u .model))) (y .count ∙ x .count) ∙ f ∙ bounds-end Lower (h .model) vl l x;
+        upper = ap (λ n. boundsUpTo n (boundAt Upper (u .model))) (counted .1) ∙ bounds-end Upper (l .model) vu u y;
+        tidy = record { places = y .places; unused = unused-item };
+      }
+
+  fair-figures : (k : ℕ) → k < u .model .count → badFigure (itemAt (u .model) k) ≡ false
+  fair-figures k c =
+      let a = i .bare k (omega (arith, counted .0)) in
+      let p = y .same k in
+      let q = x .same k in
+      rw (p .weight ∙ q .weight, a .weight, p .price ∙ q .price, a .price, p .other, x .fair k, y .fair k)
+
+-- ---- what is accepted
 
 record Ended (s : List ℕ) (p : Progress) : Type 0 where
   before : p .verdict ≡ Accepted
   is : endOfSheet s p ≡ p
   past : length s ≤ p .at
 
-at-end : (s : List ℕ) (p : Progress) (t : Bool) → cond t (refusedAt s 2 (p .at)) p .verdict ≡ Accepted → t ≡ false
+at-end : (s : List ℕ) (p : Progress) (t : Bool) → cond t (refusedAt s refusal.form (p .at)) p .verdict ≡ Accepted → t ≡ false
 at-end s p true h = no-refusal h
 at-end s p false h = refl
 
@@ -59,7 +217,7 @@ ended s p h =
 record Uncrossed (s : List ℕ) (heading : ℕ) (p : Progress) : Type 0 where
   before : p .verdict ≡ Accepted
   is : crossCheck s heading p ≡ p
-  none : Each (p .problem .count) (λ k. crosses (itemAt (p .problem) k) ≡ false)
+  none : Each (p .model .count) (λ k. crosses (itemAt (p .model) k) ≡ false)
 
 all-clear : (p : Progress) (v : Verdict) → crossOf p v .verdict ≡ Accepted → v ≡ Accepted
 all-clear p Accepted h = refl
@@ -69,247 +227,228 @@ uncrossed : (s : List ℕ) (heading : ℕ) (p : Progress) → crossCheck s headi
 unfolding crossCheck
 uncrossed s heading p h =
     let w = went p _ h in
-    let n = p .problem .count in
-    let f = itemAt (p .problem) in
-    let e = all-clear p (crossFrom n f 0 (lineOf s heading)) (w .after) in
-    record { before = w .before; is = w .is ∙ rw e; none = λ k l. rw (zero-add k) at (cross-all n f 0 (lineOf s heading) e k l) }
+    let n = p .model .count in
+    let f = itemAt (p .model) in
+    let e = all-clear p (crossFrom n f 0 (lineAt s heading)) (w .after) in
+    record { before = w .before; is = w .is ∙ rw e; none = λ k l. rw (zero-add k) at (cross-all n f 0 (lineAt s heading) e k l) }
 
--- ---- from section to section
+-- what is behind the last section of an accepted sheet
+record Tail (s : List ℕ) (p q : Progress) : Type 0 where
+  before : p .verdict ≡ Accepted
+  is : q ≡ p
+  past : length s ≤ p .at
+  crossed : Each (p .model .count) (λ k. crosses (itemAt (p .model) k) ≡ false)
 
--- equal parts make equal items
-same-item : (i j : Item) → i .mark ≡ j .mark → i .weight ≡ j .weight → i .price ≡ j .price → i .lower ≡ j .lower → i .upper ≡ j .upper → i ≡ j
-same-item i j a b c d e =
-    let r : i ≡ record { mark = i .mark; weight = i .weight; price = i .price; lower = i .lower; upper = i .upper } = refl in r ∙ rw (a, b, c, d, e)
+tail-read : (s : List ℕ) (heading : ℕ) (p : Progress) → tailOf s heading p .verdict ≡ Accepted → Tail s p (tailOf s heading p)
+unfolding tailOf
+tail-read s heading p h =
+    let c = uncrossed s heading (endOfSheet s p) h in
+    let e = ended s p (c .before) in
+    record { before = e .before; is = c .is ∙ e .is; past = e .past; crossed = λ k l. rw (e .is) at (c .none) k l }
 
-same-problem : (p q : Problem) → p .items ≡ q .items → p .count ≡ q .count → p .capacity ≡ q .capacity → p ≡ q
-same-problem p q a b c = let r : p ≡ record { items = p .items; count = p .count; capacity = p .capacity } = refl in r ∙ rw (a, b, c)
+abbrev limit-bytes : Bytes limit
+limit-bytes = (lit< tt, (lit< tt, (lit< tt, (lit< tt, (lit< tt, tt)))))
 
-kept-text : (side : Side) (i j : Item) → Kept side i j → itemText j ≡ itemText i
-kept-text side i j k = rw (k .mark, k .weight, k .price)
+abbrev items-bytes : Bytes items
+items-bytes = (lit< tt, (lit< tt, (lit< tt, (lit< tt, (lit< tt, tt)))))
 
-items-before : (s : List ℕ) (p : Progress) → itemsSection s p .verdict ≡ Accepted → p .verdict ≡ Accepted
-unfolding itemsSection
-items-before s p h = went p _ h .before
+abbrev word-bytes : (side : Side) → Bytes (wordOf side)
+word-bytes Lower = (lit< tt, (lit< tt, (lit< tt, (lit< tt, (lit< tt, tt)))))
+word-bytes Upper = (lit< tt, (lit< tt, (lit< tt, (lit< tt, (lit< tt, tt)))))
+
+only : (vs : List ℤ) → 1 ≤ length vs → length vs ≤ 1 → (b : ℤ) × (vs ≡ b ∷ [])
+only [] h l = absurd (omega arith)
+only (b ∷ []) h l = (b, refl)
+only (b ∷ c ∷ vs) h l = absurd (omega arith)
+
+-- what was read of an accepted sheet
+record Sections (s : List ℕ) : Type 0 where
+  limit : ℤ
+  vi : List Item
+  vl : List Bounding
+  vu : List Bounding
+  fair : outside 100000000 limit ≡ false
+  some : 1 ≤ length vi
+  items : ItemsIn limit (length vi) vi (headOf s)
+  lower : BoundsIn Lower (headOf s .model) (length vl) vl (lowerOf s)
+  upper : BoundsIn Upper (lowerOf s .model) (length vu) vu (upperOf s)
+  text : Has s 0 (textOf limit vi vl vu) (upperOf s .at)
 
 side-before : (s : List ℕ) (side : Side) (p : Progress) → boundsSection s side p .verdict ≡ Accepted → p .verdict ≡ Accepted
 unfolding boundsSection
-side-before s side p h = went p _ h .before
+side-before s side p h = section-before (boundForm side) _ _ _ s p h
 
--- what was read, section by section, of an accepted sheet
-record Sections (s : List ℕ) : Type 0 where
-  limit : LimitRead s (limitSection s)
-  items : ItemsRead s (limitSection s .at) (limit .limit) (itemsOf s)
-  lower : SideRead s Lower (itemsOf s .at) (itemsOf s .problem) (lowerOf s)
-  upper : SideRead s Upper (lowerOf s .at) (lowerOf s .problem) (upperOf s)
-  past : length s ≤ upperOf s .at
-  crossed : Each (upperOf s .problem .count) (λ k. crosses (itemAt (upperOf s .problem) k) ≡ false)
-  is : wholeOf s ≡ upperOf s
+side-read : (s : List ℕ) (side : Side) (p : Progress) → p .model .count ≤ 16 → length (p .model .items) ≡ 16 →
+    ((k : ℕ) → boundAt side (p .model) k ≡ Absent) → boundsSection s side p .verdict ≡ Accepted →
+    SectionRead (boundForm side) (BoundsIn side (p .model)) (wordOf side) s 0 (p .model .count) (p .at) (boundsSection s side p)
+unfolding boundsSection
+side-read s side p few size free h =
+    section-read (boundForm side) BoundFits (bound-laws side) (BoundsIn side (p .model)) (bounds-next side (p .model)) (wordOf side) 0 (p .model .count) _
+    s p (word-bytes side) (λ n at x y. bounds-start side (p .model) n at few size free) h
 
--- items that were just read have no bounds
-no-bounds : (side : Side) (p : Problem) → Each (p .count) (λ k. Bare (itemAt p k)) → ((k : ℕ) → p .count ≤ k → itemAt p k ≡ blank) → (k : ℕ) →
-    boundAt side p k ≡ Absent
-no-bounds side p b r k = go side (decLt k (p .count))
-  where
-    go : (side : Side) → Dec (k < p .count) → boundAt side p k ≡ Absent
-    go Lower (yes l) = b k l .lower
-    go Upper (yes l) = b k l .upper
-    go Lower (no l) = ap (λ (i : Item). i .lower) (r k (omega arith))
-    go Upper (no l) = ap (λ (i : Item). i .upper) (r k (omega arith))
-
-sections : (s : List ℕ) → wholeOf s .verdict ≡ Accepted → Sections s
-unfolding wholeOf upperOf lowerOf itemsOf
+sections : (s : List ℕ) → upperOf s .verdict ≡ Accepted → Sections s
+unfolding upperOf lowerOf headOf limitSection itemsSection
 sections s h =
-    let c = uncrossed s (lowerOf s .at) (endOfSheet s (upperOf s)) h in
-    let e = ended s (upperOf s) (c .before) in
-    let hl = side-before s Upper (lowerOf s) (e .before) in
-    let hi = side-before s Lower (itemsOf s) hl in
-    let b = limit-read s (items-before s (limitSection s) hi) in
-    let i = items-read s (limitSection s) (b .limit) (b .is) hi in
-    let none : (side : Side) (k : ℕ) → boundAt side (itemsOf s .problem) k ≡ Absent = λ side. no-bounds side (itemsOf s .problem) (i .bare) (i .rest) in
-    let l = side-read s Lower (itemsOf s) (i .most) (i .places) (none Lower) hl in
-    let u = side-read s Upper (lowerOf s) (omega (arith, l .count, i .most)) (l .places) (λ k. l .same k .other ∙ none Upper k) (e .before) in
+    let hl = side-before s Upper (lowerOf s) h in
+    let hi = side-before s Lower (headOf s) hl in
+    let hb = section-before itemForm _ _ _ s (limitSection s) hi in
+    let a = section-read limitForm LimitFits limit-laws Limited limit-next limit 1 1 _ s (goesOn emptyModel 0 0) limit-bytes
+    (λ n at x y. limit-start n at) hb in
+    let o = only (a .values) (a .least) (a .most) in
+    let b = o .0 in
+    let is : limitSection s .model ≡ withCapacity emptyModel b = a .holds .is ∙ ap limited (o .1) in
+    let i = section-read itemForm (λ p i. Bare i) item-laws (ItemsIn b) (items-next b) items 1 16 _ s (limitSection s) items-bytes
+    (λ n at x y. items-start (limitSection s .model) b n at is y) hi in
+    let q = headOf s .model in
+    let free : (side : Side) (k : ℕ) → boundAt side q k ≡ Absent = λ side. no-bounds side b (i .values) (headOf s) (i .holds) in
+    let few : q .count ≤ 16 = omega (arith, i .most, i .holds .count) in
+    let x = side-read s Lower (headOf s) few (i .holds .places) (free Lower) hl in
+    let y = side-read s Upper (lowerOf s) (omega (arith, few, x .holds .count)) (x .holds .places) (λ k. x .holds .same k .other ∙ free Upper k) h in
     record {
       limit = b;
-      items = i;
-      lower = l;
-      upper = u;
-      past = e .past;
-      crossed = λ k m. rw (e .is) at (c .none) k m;
-      is = c .is ∙ e .is;
+      vi = i .values;
+      vl = x .values;
+      vu = y .values;
+      fair = a .holds .fair b [] (o .1);
+      some = i .least;
+      items = i .holds;
+      lower = x .holds;
+      upper = y .holds;
+      text = has-join (rw (o .1) at (a .text)) (has-join (i .text) (has-join (x .text) (y .text)));
     }
 
-module _ (s : List ℕ) (r : Sections s) where
-  -- the problem that was read
-  found : Problem
-  found = upperOf s .problem
+found-sheet : (s : List ℕ) (heading : ℕ) → Tail s (upperOf s) (tailOf s heading (upperOf s)) → SheetOf s (upperOf s .model)
+found-sheet s heading t =
+    let r = sections s (t .before) in
+    let m = upperOf s .model in
+    let l = laid (r .limit) (r .vi) (r .vl) (r .vu) (headOf s) (lowerOf s) (upperOf s) (r .items) (r .lower) (r .upper) in
+    let c = counted (r .limit) (r .vi) (r .vl) (r .vu) (headOf s) (lowerOf s) (upperOf s) (r .items) (r .lower) (r .upper) .0 in
+    let n = items-end (r .limit) (r .vi) (headOf s) (r .items) in
+    record {
+      fair = unrefused m (record {
+        least = omega (arith, r .some, r .items .count);
+        most = omega (arith, r .items .few, r .items .count);
+        capacity = rw (l .limit) (r .fair);
+        figures = fair-figures (r .limit) (r .vi) (r .vl) (r .vu) (headOf s) (lowerOf s) (upperOf s) (r .items) (r .lower) (r .upper);
+        uncrossed = t .crossed;
+      });
+      tidy = l .tidy;
+      text = r .text .has ∙ rw (drop-of-length-le s (t .past)) (append-nil _) ∙ sym (laid-text m (r .limit) (r .vi) (r .vl) (r .vu) l);
+    }
 
-  -- an item keeps its mark and figures from the section of items on, and its lower bound from `lower` on
-  item-kept : (k : ℕ) → itemText (itemAt found k) ≡ itemText (itemAt (itemsOf s .problem) k)
-  unfolding found
-  item-kept k = kept-text Upper _ _ (r .upper .same k) ∙ kept-text Lower _ _ (r .lower .same k)
-
-  lower-kept : (k : ℕ) → boundAt Lower found k ≡ boundAt Lower (lowerOf s .problem) k
-  unfolding found
-  lower-kept k = r .upper .same k .other
-
-  counted : (found .count ≡ lowerOf s .problem .count) × (found .count ≡ itemsOf s .problem .count)
-  unfolding found
-  counted = (r .upper .count, r .upper .count ∙ r .lower .count)
-
-  items-text : itemsPart (itemsOf s .problem) ≡ itemsPart found
-  items-text =
-      rw (counted .1)
-      (ap (λ l. headingText items (itemsOf s .problem .count) ++ l) (sym (items-cong (itemsOf s .problem .count) (itemAt found) (itemAt (itemsOf s .problem)) (λ k l. item-kept k))))
-
-  lower-text : sideText Lower (lowerOf s .problem) ≡ sideText Lower found
-  lower-text =
-      rw (counted .0)
-      (sym (ap₂ (λ m l. headingText (wordOf Lower) m ++ l) (counts-cong n f g (λ k l. lower-kept k)) (bounds-cong n f g (λ k l. lower-kept k))))
-    where
-      n : ℕ
-      n = lowerOf s .problem .count
-
-      f : ℕ → Bound
-      f = boundAt Lower found
-
-      g : ℕ → Bound
-      g = boundAt Lower (lowerOf s .problem)
-
-  capacity-is : found .capacity ≡ r .limit .limit
-  unfolding found
-  capacity-is = r .upper .capacity ∙ r .lower .capacity ∙ r .items .capacity
-
-  text-is : s ≡ printing found
-  unfolding printing found
-  text-is =
-      let h = has-join (r .limit .text) (has-join (r .items .text) (has-join (r .lower .text) (r .upper .text))) in
-      h .has
-      ∙ rw (drop-of-length-le s (r .past)) (append-nil _)
-      ∙ ap₂ _++_ (ap limitText (sym capacity-is)) (ap₂ _++_ items-text (ap₂ _++_ lower-text refl))
-
-  fair-item : (k : ℕ) → k < found .count → badFigure (itemAt found k) ≡ false
-  unfolding found
-  fair-item k l =
-      let b = r .items .bare k (omega (arith, counted .1)) in
-      let u = r .upper .same k in
-      let v = r .lower .same k in
-      rw (u .weight ∙ v .weight, b .weight, u .price ∙ v .price, b .price, u .other, r .lower .fair k, r .upper .fair k)
-
-  unused-item : (k : ℕ) → found .count ≤ k → itemAt found k ≡ blank
-  unfolding found
-  unused-item k l =
-      let e = r .items .rest k (omega (arith, counted .1)) in
-      let u = r .upper .same k in
-      let v = r .lower .same k in
-      same-item (itemAt found k) blank
-      (u .mark ∙ v .mark ∙ ap (λ (i : Item). i .mark) e)
-      (u .weight ∙ v .weight ∙ ap (λ (i : Item). i .weight) e)
-      (u .price ∙ v .price ∙ ap (λ (i : Item). i .price) e)
-      (u .other ∙ r .lower .rest k (omega (arith, counted .0)))
-      (r .upper .rest k l)
-
-  found-sheet : SheetOf s found
-  unfolding found
-  found-sheet = record {
-    fair = unrefused found (record {
-      least = omega (arith, r .items .least, counted .1);
-      most = omega (arith, r .items .most, counted .1);
-      capacity = rw capacity-is (r .limit .fair);
-      figures = fair-item;
-      uncrossed = r .crossed;
-    });
-    tidy = record { places = r .upper .places; unused = unused-item };
-    text = text-is;
-  }
-
--- what is accepted with a problem is that problem's sheet
-pub accepted-sheet : (s : List ℕ) (p : Problem) → readSheet s ≡ record { verdict = Accepted; problem = p } → SheetOf s p
-unfolding readSheet found
-accepted-sheet s p h = go (ltb 4096 (length s)) h
+-- what is accepted with a record is that record's sheet
+pub accepted-sheet : (s : List ℕ) (m : Model) → readSheet s ≡ record { verdict = Accepted; model = m } → SheetOf s m
+unfolding readSheet wholeOf
+accepted-sheet s m h = go (ltb 4096 (length s)) h
   where
-    read : Reading → Problem
-    read r = r .problem
-
     go : (t : Bool) →
-        _≡_ {A = Reading} (cond t (record { verdict = refusal 1 0; problem = emptyProblem }) (record { verdict = wholeOf s .verdict; problem = wholeOf s .problem })) (record { verdict = Accepted; problem = p }) →
-        SheetOf s p
+        _≡_ {A = Reading}
+        (cond t
+        (record { verdict = Refused (refusalOn refusal.overlong 0); model = emptyModel })
+        (record { verdict = wholeOf s .verdict; model = wholeOf s .model }))
+        (record { verdict = Accepted; model = m }) →
+        SheetOf s m
     go true h = no-refusal (ap (λ (r : Reading). r .verdict) h)
     go false h =
-        let r = sections s (ap (λ (r : Reading). r .verdict) h) in
-        let e : upperOf s .problem ≡ p = ap (λ (q : Progress). q .problem) (sym (r .is)) ∙ ap read h in
-        rw (← e) (found-sheet s r)
+        let t = tail-read s (lowerOf s .at) (upperOf s) (ap (λ (r : Reading). r .verdict) h) in
+        let e : upperOf s .model ≡ m = ap (λ (q : Progress). q .model) (sym (t .is)) ∙ ap (λ (r : Reading). r .model) h in
+        rw (← e) (found-sheet s (lowerOf s .at) t)
 
--- ---- the printing of a problem is read back
+-- ---- the printing of a record is read back
 
-module _ (p : Problem) (r : Unfaulted p) (tidy : Tidy p) where
+module _ (m : Model) (r : Unfaulted m) (tidy : Tidy m) where
+  vi : List Item
+  vi = upTo (m .count) (λ k. bareOf (itemAt m k))
+
+  vl : List Bounding
+  vl = boundsUpTo (m .count) (boundAt Lower m)
+
+  vu : List Bounding
+  vu = boundsUpTo (m .count) (boundAt Upper m)
+
+  own : Laid m (m .capacity) vi vl vu
+  unfolding vi vl vu
+  own = record { limit = refl; items = refl; lower = refl; upper = refl; tidy = tidy }
+
   sheet : List ℕ
-  sheet = printing p
+  sheet = textOf (m .capacity) vi vl vu
 
   -- the text left behind each section
-  behind-items : List ℕ
-  behind-items = sideText Lower p ++ sideText Upper p
+  upper-left : List ℕ
+  upper-left = sectionText (boundForm Upper) (wordOf Upper) vu
 
-  limit-back : (n : ℕ) × (limitSection sheet ≡ withCapacity (p .capacity) n) × (drop n sheet ≡ itemsPart p ++ behind-items)
-  unfolding sheet printing behind-items
-  limit-back = limit-reads sheet (p .capacity) (itemsPart p ++ behind-items) (r .capacity) refl
+  lower-left : List ℕ
+  lower-left = sectionText (boundForm Lower) (wordOf Lower) vl ++ upper-left
 
-  items-back : ItemsBack p sheet (p .count) behind-items (itemsOf sheet)
-  unfolding itemsOf
-  items-back = rw (limit-back .1) (items-section p sheet behind-items (limit-back .0) r (limit-back .2))
+  many : length vi ≡ m .count
+  unfolding vi
+  many = upto-length (m .count) (λ k. bareOf (itemAt m k))
 
-  no-bounds-yet : (side : Side) (k : ℕ) → boundAt side (itemsOf sheet .problem) k ≡ Absent
-  no-bounds-yet side k = go side (decLt k (p .count))
-    where
-      go : (side : Side) → Dec (k < p .count) → boundAt side (itemsOf sheet .problem) k ≡ Absent
-      go Lower (yes l) = ap (λ (i : Item). i .lower) (items-back .done k l)
-      go Upper (yes l) = ap (λ (i : Item). i .upper) (items-back .done k l)
-      go Lower (no l) = ap (λ (i : Item). i .lower) (items-back .rest k (omega arith))
-      go Upper (no l) = ap (λ (i : Item). i .upper) (items-back .rest k (omega arith))
+  limit-back : Back (Limited 1) sheet (sectionText itemForm items vi ++ lower-left) (m .capacity ∷ []) (limitSection sheet)
+  unfolding limitSection sheet lower-left upper-left
+  limit-back =
+      section-back limitForm LimitFits limit-laws Limited limit-next limit 1 1 _ sheet _ (goesOn emptyModel 0 0) (m .capacity ∷ [])
+      (omega arith) (omega arith) (limit-start 1) ((λ p i. r .capacity), tt) refl refl
 
-  lower-back : BoundsBack Lower p (itemsOf sheet .problem) sheet (p .count) (sideText Upper p) (lowerOf sheet)
-  unfolding lowerOf behind-items
+  items-fits : Fitting (ItemsIn (m .capacity) (length vi)) (λ p i. Bare i) vi
+  unfolding vi
+  items-fits = items-fit (m .capacity) (length vi) (m .count) (λ k. bareOf (itemAt m k)) (λ k l. bare-of (itemAt m k) (r .figures k l))
+
+  items-back : Back (ItemsIn (m .capacity) (length vi)) sheet lower-left vi (headOf sheet)
+  unfolding headOf itemsSection
+  items-back =
+      let l = limit-back in
+      let few : length vi ≤ 16 = omega (arith, many, r .most) in
+      let o = limitSection sheet .model in
+      let first : (at : ℕ) → ItemsIn (m .capacity) (length vi) [] (goesOn (withCount o (length vi)) at 0)
+      = λ at. items-start o (m .capacity) (length vi) at (l .holds .is) few in
+      section-back itemForm (λ p i. Bare i) item-laws (ItemsIn (m .capacity)) (items-next (m .capacity)) items 1 16 _ sheet lower-left
+      (limitSection sheet) vi (omega (arith, many, r .least)) few first items-fits (l .accepted) (l .left)
+
+  -- the record that the items made
+  bare : Model
+  bare = headOf sheet .model
+
+  bare-count : bare .count ≡ m .count
+  unfolding bare
+  bare-count = items-back .holds .count ∙ many
+
+  -- a section of bounds, where none of its side have been read
+  side-back : (side : Side) (l : List ℕ) (p : Progress) → p .verdict ≡ Accepted → p .model .count ≡ m .count → length (p .model .items) ≡ 16 →
+      ((k : ℕ) → boundAt side (p .model) k ≡ Absent) → let vs = boundsUpTo (m .count) (boundAt side m) in
+      drop (p .at) sheet ≡ sectionText (boundForm side) (wordOf side) vs ++ l →
+      Back (BoundsIn side (p .model) (length vs)) sheet l vs (boundsSection sheet side p)
+  unfolding boundsSection
+  side-back side l p v c size free h =
+      let n = m .count in
+      let vs = boundsUpTo n (boundAt side m) in
+      let few = bounds-few n (boundAt side m) in
+      let first : (at : ℕ) → BoundsIn side (p .model) (length vs) [] (goesOn (p .model) at 0)
+      = λ at. bounds-start side (p .model) (length vs) at (omega (arith, c, r .most)) size free in
+      let fits = bounds-fit side (p .model) (length vs) n (boundAt side m) (omega (arith, c)) (λ k j. fair-side side (itemAt m k) (r .figures k j)) in
+      section-back (boundForm side) BoundFits (bound-laws side) (BoundsIn side (p .model)) (bounds-next side (p .model)) (wordOf side) 0 (p .model .count) _
+      sheet l p vs (omega arith) (omega (arith, c, few)) first fits v h
+
+  lower-back : Back (BoundsIn Lower bare (length vl)) sheet upper-left vl (lowerOf sheet)
+  unfolding lowerOf bare vl lower-left
   lower-back =
       let i = items-back in
-      side-section Lower p sheet (sideText Upper p) (itemsOf sheet) r (i .accepted) (i .count) (i .capacity) (i .places) (no-bounds-yet Lower) (i .left)
+      let free = no-bounds Lower (m .capacity) vi (headOf sheet) (i .holds) in
+      side-back Lower upper-left (headOf sheet) (i .accepted) bare-count (i .holds .places) free (i .left)
 
-  upper-back : BoundsBack Upper p (lowerOf sheet .problem) sheet (p .count) [] (upperOf sheet)
-  unfolding upperOf
+  upper-back : Back (BoundsIn Upper (lowerOf sheet .model) (length vu)) sheet [] vu (upperOf sheet)
+  unfolding upperOf bare vu upper-left
   upper-back =
       let l = lower-back in
-      side-section Upper p sheet [] (lowerOf sheet) r (l .accepted) (l .count) (l .capacity) (l .places) (λ k. l .same k .other ∙ no-bounds-yet Upper k) (l .left ∙ sym (append-nil (sideText Upper p)))
+      let free : (k : ℕ) → boundAt Upper (lowerOf sheet .model) k ≡ Absent
+      = λ k. l .holds .same k .other ∙ no-bounds Upper (m .capacity) vi (headOf sheet) (items-back .holds) k in
+      side-back Upper [] (lowerOf sheet) (l .accepted) (l .holds .count ∙ bare-count) (l .holds .places) free (l .left ∙ sym (append-nil _))
 
-  item-back : (k : ℕ) → itemAt (upperOf sheet .problem) k ≡ itemAt p k
-  item-back k = go (decLt k (p .count))
-    where
-      u : Kept Upper (itemAt (lowerOf sheet .problem) k) (itemAt (upperOf sheet .problem) k)
-      u = upper-back .same k
-
-      v : Kept Lower (itemAt (itemsOf sheet .problem) k) (itemAt (lowerOf sheet .problem) k)
-      v = lower-back .same k
-
-      -- the item as the section of items left it
-      from : (i : Item) → itemAt (itemsOf sheet .problem) k ≡ i → i .mark ≡ itemAt p k .mark → i .weight ≡ itemAt p k .weight →
-          i .price ≡ itemAt p k .price →
-          boundAt Lower (lowerOf sheet .problem) k ≡ itemAt p k .lower → boundAt Upper (upperOf sheet .problem) k ≡ itemAt p k .upper → itemAt (upperOf sheet .problem) k ≡ itemAt p k
-      from i e a b c f g = same-item (itemAt (upperOf sheet .problem) k) (itemAt p k)
-          (u .mark ∙ v .mark ∙ ap (λ (i : Item). i .mark) e ∙ a)
-          (u .weight ∙ v .weight ∙ ap (λ (i : Item). i .weight) e ∙ b)
-          (u .price ∙ v .price ∙ ap (λ (i : Item). i .price) e ∙ c)
-          (u .other ∙ f)
-          g
-
-      go : Dec (k < p .count) → itemAt (upperOf sheet .problem) k ≡ itemAt p k
-      go (yes l) = from (bareOf (itemAt p k)) (items-back .done k l) refl refl refl (lower-back .done k l) (upper-back .done k l)
-      go (no l) =
-          let e = tidy .unused k (omega arith) in
-          from blank (items-back .rest k (omega arith)) (ap (λ (i : Item). i .mark) (sym e)) (ap (λ (i : Item). i .weight) (sym e)) (ap (λ (i : Item). i .price) (sym e))
-          (lower-back .rest k (omega arith) ∙ ap (λ (i : Item). i .lower) (sym e)) (upper-back .rest k (omega arith) ∙ ap (λ (i : Item). i .upper) (sym e))
-
-  problem-back : upperOf sheet .problem ≡ p
-  problem-back =
-      let u = upper-back in
-      let e : upperOf sheet .problem .items ≡ p .items = ext-getD blank (upperOf sheet .problem .items) (p .items) (u .places ∙ sym (tidy .places)) (λ k l. item-back k) in
-      same-problem (upperOf sheet .problem) p e (u .count) (u .capacity)
+  model-back : upperOf sheet .model ≡ m
+  unfolding bare
+  model-back =
+      let l = laid (m .capacity) vi vl vu (headOf sheet) (lowerOf sheet) (upperOf sheet) (items-back .holds) (lower-back .holds) (upper-back .holds) in
+      laid-once (upperOf sheet .model) m (m .capacity) vi vl vu l own
 
   end-back : endOfSheet sheet (upperOf sheet) ≡ upperOf sheet
   unfolding endOfSheet
@@ -321,34 +460,31 @@ module _ (p : Problem) (r : Unfaulted p) (tidy : Tidy p) where
   cross-back : crossCheck sheet (lowerOf sheet .at) (upperOf sheet) ≡ upperOf sheet
   unfolding crossCheck
   cross-back =
-      rw (
-        upper-back .accepted,
-        problem-back,
-        all-cross (p .count) (itemAt p) 0 (lineOf sheet (lowerOf sheet .at)) (λ k l. rw (zero-add k) (r .uncrossed k l)),
-      )
+      let none = all-cross (m .count) (itemAt m) 0 (lineAt sheet (lowerOf sheet .at)) (λ k l. rw (zero-add k) (r .uncrossed k l)) in
+      rw (upper-back .accepted, model-back, none)
 
   whole-back : wholeOf sheet ≡ upperOf sheet
-  unfolding wholeOf
+  unfolding wholeOf tailOf
   whole-back = rw end-back cross-back
 
-  short : length sheet ≤ 4096
+  text-is : printing m ≡ sheet
   unfolding sheet
-  short = printing-short p r
+  text-is = laid-text m (m .capacity) vi vl vu own
 
-  reading-back : readSheet sheet ≡ record { verdict = Accepted; problem = p }
+  reading-back : readSheet (printing m) ≡ record { verdict = Accepted; model = m }
   unfolding readSheet
   reading-back =
-      rw (le-ltb 4096 (length sheet) short, whole-back, upper-back .accepted, problem-back)
+      let short : length sheet ≤ 4096 = omega (arith, printing-short m r, ap length text-is) in
+      rw (text-is, le-ltb 4096 (length sheet) short, whole-back, upper-back .accepted, model-back)
 
--- the sheet of a problem is accepted with that problem
-pub sheet-accepted : (s : List ℕ) (p : Problem) → SheetOf s p → readSheet s ≡ record { verdict = Accepted; problem = p }
-unfolding sheet
-sheet-accepted s p h = rw (h .text) (reading-back p (unfaulted p (h .fair)) (h .tidy))
+-- the sheet of a record is accepted with that record
+pub sheet-accepted : (s : List ℕ) (m : Model) → SheetOf s m → readSheet s ≡ record { verdict = Accepted; model = m }
+sheet-accepted s m h = rw (h .text) (reading-back m (unfaulted m (h .fair)) (h .tidy))
 
--- a sheet is accepted with a problem exactly if it is that problem's sheet
-pub accepted-exactly : (s : List ℕ) (p : Problem) → (readSheet s ≡ record { verdict = Accepted; problem = p }) ↔ SheetOf s p
-accepted-exactly s p = (accepted-sheet s p, sheet-accepted s p)
+-- End theorem: a sheet is accepted with a record exactly if it is that record's sheet.
+pub accepted-exactly : (s : List ℕ) (m : Model) → (readSheet s ≡ record { verdict = Accepted; model = m }) ↔ SheetOf s m
+accepted-exactly s m = (accepted-sheet s m, sheet-accepted s m)
 
--- two problems in range have equal sheets only if they are equal
-pub sheet-unique : (s : List ℕ) (p q : Problem) → SheetOf s p → SheetOf s q → p ≡ q
-sheet-unique s p q h k = ap (λ (r : Reading). r .problem) (sym (sheet-accepted s p h) ∙ sheet-accepted s q k)
+-- End theorem: two records in range have equal sheets only if they are equal.
+pub sheet-unique : (s : List ℕ) (m o : Model) → SheetOf s m → SheetOf s o → m ≡ o
+sheet-unique s m o h k = ap (λ (r : Reading). r .model) (sym (sheet-accepted s m h) ∙ sheet-accepted s o k)

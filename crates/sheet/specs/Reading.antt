@@ -1,41 +1,51 @@
--- The reader. Paper 01, "The sheet" and "Refused, by place": the sheet's first fault in reading order, or its problem.
---   refusedAt s n at      refusal n, told at the line that holds a place
---   limitSection …        the four sections, each from where the one before ended
---   endOfSheet            nothing stands behind the last section
---   crossCheck            no lower bound is above its upper
---   readSheet s           what a sheet gives
+-- The reader. Paper 01, "The sheet" and "Refused, by place": the sheet's first fault in reading order, or its record.
+--   limit, items, wordOf side    the heading words
+--   limits                       the range of the limit
+--   limitForm, itemForm, boundForm side    the kinds of line, which give what limitGives, itemGives, boundGives say
+--   limitSection, itemsSection, boundsSection    the sections, each from where the one before ended
+--   endOfSheet s p       nothing stands behind the last section
+--   upperLine b n        the line in `upper` of an item with that bound, or of the last one before it that has one, if that was line n
+--   crossFrom n f k l    the first of n items from place k on whose bounds cross, where the last line of `upper` before them was l
+--   crossOf p v          the reading goes on if no bounds cross
+--   crossCheck s h p     no lower bound is above its upper; h is a place of the line `upper m`
+--   headOf, lowerOf, upperOf s    the sheet read so far: limit and items, then lower, then upper
+--   tailOf s h p         what is tried behind the last section
+--   wholeOf s            the sheet read to its end
+--   readSheet s          what a sheet gives
 use mathlib.Core.Bool.{cond}
 use mathlib.Core.List.{List, [], _∷_}
 use Prim.Native.Nat.{ℕ, zero, suc, _-_}
 use lib.Dec.{ltb}
 use lib.IntN.{ℤ, pos, negsuc}
-use lib.ListN.{length, set, replicate}
-use Rattle.knapsack.specs.Records.{blank, emptyProblem, itemAt, crosses}
+use lib.ListN.{length}
 use Rattle.knapsack.specs.declared.Bound.{Bound}
 use Rattle.knapsack.specs.declared.Bound.the-variants.{Absent, At}
 use Rattle.knapsack.specs.declared.Item.{Item}
-use Rattle.knapsack.specs.declared.Refusal.{Refusal}
 use Rattle.knapsack.specs.declared.Verdict.{Verdict}
 use Rattle.knapsack.specs.declared.Verdict.the-variants.{Accepted, Refused}
+use Rattle.model.specs.declared.Side.{Side}
+use Rattle.model.specs.declared.Side.the-variants.{Lower, Upper}
+use Rattle.model.specs.Refusals as refusal
+use Rattle.model.specs.Records.{emptyModel, itemAt, crosses}
+use Rattle.model.specs.Setters.{withCapacity, withCount, withItem, withBound}
+use Rattle.text.specs.Decimal.{integer}
+use Rattle.text.specs.Layout.{line}
 use Rattle.lines.specs.declared.number.Range.{Range}
-use Rattle.lines.specs.declared.number.Figure.the-variants.{In, Out}
+use Rattle.lines.specs.declared.number.Ranged.the-variants.{In, Out}
 use Rattle.lines.specs.declared.number.Field.{Field}
 use Rattle.lines.specs.declared.number.Field.the-variants.{Malformed, Number}
-use Rattle.sheet.specs.declared.Side.{Side}
-use Rattle.sheet.specs.declared.Side.the-variants.{Lower, Upper}
-use Rattle.lines.specs.declared.Count.{Count}
-use Rattle.lines.specs.declared.Count.the-variants.{Fault as CountFault, Lines}
 use Rattle.lines.specs.declared.ItemRead.{ItemRead}
 use Rattle.lines.specs.declared.ItemRead.the-variants.{Fault as ItemFault, Read as ItemIs}
 use Rattle.lines.specs.declared.BoundRead.{BoundRead}
 use Rattle.lines.specs.declared.BoundRead.the-variants.{Fault as BoundFault, Read as BoundIs}
+use Rattle.lines.specs.Places.{lineAt, refusalOn}
+use Rattle.lines.specs.Numbers.{fromTo, fieldAt}
+use Rattle.lines.specs.Lines.{itemRead, boundRead}
+use Rattle.lines.specs.Layout.{itemText, Bounding, boundText}
 use Rattle.sheet.specs.declared.Progress.{Progress}
 use Rattle.sheet.specs.declared.Reading.{Reading}
-use Rattle.lines.specs.Text.{lineOf, refusal}
-use Rattle.lines.specs.Numbers.{fieldAt}
-use Rattle.lines.specs.Lines.{countAt, itemRead, boundRead}
+use Rattle.sheet.specs.Sections.{goesOn, stoppedBy, refusedAt, onward, Gives, fault, gives, LineForm, sectionOf}
 
--- ---- the heading words: limit, items, lower, upper
 abbrev pub limit : List ℕ
 limit = 108 ∷ 105 ∷ 109 ∷ 105 ∷ 116 ∷ []
 
@@ -46,155 +56,97 @@ abbrev pub wordOf : Side → List ℕ
 wordOf Lower = 108 ∷ 111 ∷ 119 ∷ 101 ∷ 114 ∷ []
 wordOf Upper = 117 ∷ 112 ∷ 112 ∷ 101 ∷ 114 ∷ []
 
--- ---- a refusal ends the reading
-abbrev pub stoppedBy : Refusal → Progress
-stoppedBy r = record { verdict = Refused r; problem = emptyProblem; at = 0; item = 0 }
-
-abbrev pub refusedAt : List ℕ → ℕ → ℕ → Progress
-refusedAt s n at = stoppedBy (record { number = n; line = lineOf s at })
-
-abbrev pub onVerdict : {A : Type 0} → Verdict → A → A → A
-onVerdict Accepted a b = a
-onVerdict (Refused r) a b = b
-
--- what follows while nothing is refused
-abbrev pub onward : Progress → Progress → Progress
-onward p q = onVerdict (p .verdict) q p
-
-abbrev pub onCount : {A : Type 0} → Count → (ℕ → A) → (ℕ → ℕ → A) → A
-onCount (CountFault n) f g = f n
-onCount (Lines m n) f g = g m n
-
 -- ---- limit 1, and a line with b
 abbrev pub limits : Range
 limits = record { lo = negsuc 99999999; hi = pos 100000000 }
 
-abbrev pub withCapacity : ℤ → ℕ → Progress
-withCapacity b next = record {
-  verdict = Accepted;
-  problem = record { items = replicate 16 blank; count = 0; capacity = b };
-  at = next;
-  item = 0;
+abbrev pub limitGives : Field → Gives ℤ
+limitGives Malformed = fault refusal.form
+limitGives (Number Out n) = fault refusal.figure
+limitGives (Number (In b) n) = gives b n
+
+abbrev pub limitForm : LineForm ℤ
+limitForm = record {
+  read = λ s p. limitGives (fieldAt 10 limits s (p .at));
+  text = λ b. line (integer b) [];
+  fill = λ p b. withCapacity (p .model) b;
+  item = λ p b. 0;
 }
-
-abbrev pub capacityOf : List ℕ → ℕ → Field → Progress
-capacityOf s at Malformed = refusedAt s 2 at
-capacityOf s at (Number Out n) = refusedAt s 4 at
-capacityOf s at (Number (In b) n) = withCapacity b n
-
-unfoldable pub capacityLine : List ℕ → ℕ → Progress
-capacityLine s at = capacityOf s at (fieldAt 10 limits s at)
 
 unfoldable pub limitSection : List ℕ → Progress
-limitSection s =
-    onCount (countAt limit (record { lo = pos 1; hi = pos 1 }) s 0) (λ n. refusedAt s n 0) (λ m n. capacityLine s n)
+limitSection s = sectionOf limitForm limit (fromTo 1 1) (λ n. emptyModel) s (goesOn emptyModel 0 0)
 
 -- ---- items n, and n lines
-abbrev pub withCount : Progress → ℕ → ℕ → Progress
-withCount p n next = record {
-  verdict = Accepted;
-  problem = record { items = p .problem .items; count = n; capacity = p .problem .capacity };
-  at = next;
-  item = 0;
+abbrev pub itemGives : ItemRead → Gives Item
+itemGives (ItemFault n) = fault n
+itemGives (ItemIs i n) = gives i n
+
+abbrev pub itemForm : LineForm Item
+itemForm = record {
+  read = λ s p. itemGives (itemRead s (p .at));
+  text = itemText;
+  fill = λ p i. withItem (p .model) (p .item) i;
+  item = λ p i. suc (p .item);
 }
-
-abbrev pub withItem : Progress → Item → ℕ → Progress
-withItem p i next = record {
-  verdict = Accepted;
-  problem = record { items = set (p .problem .items) (p .item) i; count = p .problem .count; capacity = p .problem .capacity };
-  at = next;
-  item = suc (p .item);
-}
-
-abbrev pub itemTaken : List ℕ → Progress → ItemRead → Progress
-itemTaken s p (ItemFault n) = refusedAt s n (p .at)
-itemTaken s p (ItemIs i n) = withItem p i n
-
-unfoldable pub itemStep : List ℕ → Progress → Progress
-itemStep s p = onward p (itemTaken s p (itemRead s (p .at)))
-
-unfoldable pub itemLines : ℕ → List ℕ → Progress → Progress
-itemLines zero s p = p
-itemLines (suc n) s p = itemLines n s (itemStep s p)
 
 unfoldable pub itemsSection : List ℕ → Progress → Progress
-itemsSection s p = onward p
-    (onCount (countAt items (record { lo = pos 1; hi = pos 16 }) s (p .at)) (λ n. refusedAt s n (p .at)) (λ n next. itemLines n s (withCount p n next)))
+itemsSection s p = sectionOf itemForm items (fromTo 1 16) (λ n. withCount (p .model) n) s p
 
 -- ---- lower m and upper m, and m lines
-abbrev pub bounded : Side → ℤ → Item → Item
-bounded Lower v i = record { mark = i .mark; weight = i .weight; price = i .price; lower = At v; upper = i .upper }
-bounded Upper v i = record { mark = i .mark; weight = i .weight; price = i .price; lower = i .lower; upper = At v }
+abbrev pub boundGives : BoundRead → Gives Bounding
+boundGives (BoundFault n) = fault n
+boundGives (BoundIs k v n) = gives (record { number = k; bound = v }) n
 
-abbrev pub withBound : Progress → Side → ℕ → ℤ → ℕ → Progress
-withBound p side k v next = record {
-  verdict = Accepted;
-  problem = record {
-    items = set (p .problem .items) (k - 1) (bounded side v (itemAt (p .problem) (k - 1)));
-    count = p .problem .count;
-    capacity = p .problem .capacity;
-  };
-  at = next;
-  item = k;
+abbrev pub boundForm : Side → LineForm Bounding
+boundForm side = record {
+  read = λ s p. boundGives (boundRead (p .model .count) (p .item) s (p .at));
+  text = boundText;
+  fill = λ p b. withBound (p .model) side (b .number - 1) (b .bound);
+  item = λ p b. b .number;
 }
 
-abbrev pub boundTaken : List ℕ → Side → Progress → BoundRead → Progress
-boundTaken s side p (BoundFault n) = refusedAt s n (p .at)
-boundTaken s side p (BoundIs k v n) = withBound p side k v n
-
-unfoldable pub boundStep : List ℕ → Side → Progress → Progress
-boundStep s side p = onward p (boundTaken s side p (boundRead (p .problem .count) (p .item) s (p .at)))
-
-unfoldable pub boundLines : ℕ → List ℕ → Side → Progress → Progress
-boundLines zero s side p = p
-boundLines (suc n) s side p = boundLines n s side (boundStep s side p)
-
-abbrev pub fromPlace : Progress → ℕ → Progress
-fromPlace p next = record { verdict = Accepted; problem = p .problem; at = next; item = 0 }
-
 unfoldable pub boundsSection : List ℕ → Side → Progress → Progress
-boundsSection s side p = onward p
-    (onCount (countAt (wordOf side) (record { lo = pos 0; hi = pos (p .problem .count) }) s (p .at)) (λ n. refusedAt s n (p .at)) (λ m next. boundLines m s side (fromPlace p next)))
+boundsSection s side p = sectionOf (boundForm side) (wordOf side) (fromTo 0 (p .model .count)) (λ n. p .model) s p
 
 -- ---- behind the last section
 unfoldable pub endOfSheet : List ℕ → Progress → Progress
-endOfSheet s p = onward p (cond (ltb (p .at) (length s)) (refusedAt s 2 (p .at)) p)
+endOfSheet s p = onward p (cond (ltb (p .at) (length s)) (refusedAt s refusal.form (p .at)) p)
 
 -- ---- crossing bounds
--- the line in `upper` of an item with that upper bound, or of the last one before it that has one
 abbrev pub upperLine : Bound → ℕ → ℕ
-upperLine Absent line = line
-upperLine (At u) line = suc line
+upperLine Absent n = n
+upperLine (At u) n = suc n
 
--- the first of the items from place k on whose bounds cross
 unfoldable pub crossFrom : ℕ → (ℕ → Item) → ℕ → ℕ → Verdict
-crossFrom zero f k line = Accepted
-crossFrom (suc n) f k line =
-    cond (crosses (f k)) (refusal 6 (upperLine (f k .upper) line)) (crossFrom n f (suc k) (upperLine (f k .upper) line))
+crossFrom zero f k l = Accepted
+crossFrom (suc n) f k l =
+    cond (crosses (f k)) (Refused (refusalOn refusal.crossing (upperLine (f k .upper) l))) (crossFrom n f (suc k) (upperLine (f k .upper) l))
 
 abbrev pub crossOf : Progress → Verdict → Progress
 crossOf p Accepted = p
 crossOf p (Refused r) = stoppedBy r
 
--- heading is a place of the line `upper m`
 unfoldable pub crossCheck : List ℕ → ℕ → Progress → Progress
-crossCheck s heading p = onward p (crossOf p (crossFrom (p .problem .count) (itemAt (p .problem)) 0 (lineOf s heading)))
+crossCheck s heading p = onward p (crossOf p (crossFrom (p .model .count) (itemAt (p .model)) 0 (lineAt s heading)))
 
 -- ---- the sheet
-unfoldable pub itemsOf : List ℕ → Progress
-itemsOf s = itemsSection s (limitSection s)
+unfoldable pub headOf : List ℕ → Progress
+headOf s = itemsSection s (limitSection s)
 
 unfoldable pub lowerOf : List ℕ → Progress
-lowerOf s = boundsSection s Lower (itemsOf s)
+lowerOf s = boundsSection s Lower (headOf s)
 
 unfoldable pub upperOf : List ℕ → Progress
 upperOf s = boundsSection s Upper (lowerOf s)
 
+unfoldable pub tailOf : List ℕ → ℕ → Progress → Progress
+tailOf s heading p = crossCheck s heading (endOfSheet s p)
+
 unfoldable pub wholeOf : List ℕ → Progress
-wholeOf s = crossCheck s (lowerOf s .at) (endOfSheet s (upperOf s))
+wholeOf s = tailOf s (lowerOf s .at) (upperOf s)
 
 unfoldable pub readSheet : List ℕ → Reading
 readSheet s =
     cond (ltb 4096 (length s))
-    (record { verdict = refusal 1 0; problem = emptyProblem })
-    (record { verdict = wholeOf s .verdict; problem = wholeOf s .problem })
+    (record { verdict = Refused (refusalOn refusal.overlong 0); model = emptyModel })
+    (record { verdict = wholeOf s .verdict; model = wholeOf s .model })

@@ -1,79 +1,67 @@
 // The sheet of paper 01: the reader ("The sheet", "Refused, by place"), and the part of a sheet that holds a line.
-// read gives every sheet its problem or its numbered refusal; line_part and check_line give a line for the display.
-// A line is read in two steps, its form and then its values (crate lines); a section is a loop over its lines.
+// read gives every sheet its record or its numbered refusal; line_part and check_line give a line for the display.
+// A line is read in two steps, its form and then its values (crate lines); a section is a heading and a loop over its lines (specs/Sections).
 use knapsack::Bound;
 use knapsack::Item;
-use knapsack::Problem;
 use knapsack::Refusal;
 use knapsack::Verdict;
 use lines::BoundRead;
 use lines::Count;
 use lines::ItemRead;
 use lines::number::Field;
-use lines::number::Figure;
 use lines::number::Range;
-pub use lines::text::check_line;
-pub use lines::text::first_line_end;
-pub use lines::text::line_part;
+use lines::number::Ranged;
+pub use lines::scan::check_line;
+pub use lines::scan::first_line_end;
+pub use lines::scan::line_part;
+use model::Model;
+use model::Side;
+use model::refusals;
+use model::setters;
 ghost use mathlib.Core.Path.{_≡_};
-ghost use Prim.Native.Nat.{_+_, _^_, _≤_, _<_};
-ghost use lib.IntN.{pos};
-ghost use Rattle.knapsack.specs.Records.{itemAt, crossed};
+ghost use Prim.Native.Nat.{suc, _+_, _-_, _^_, _≤_, _<_};
+ghost use Rattle.model.specs.Records.{emptyModel, itemAt};
+ghost use Rattle.model.specs.Setters.{withItem, withBound};
+ghost use Rattle.lines.specs.Numbers.{fromTo};
 ghost use Rattle.lines.specs.Lines.{countAt};
-ghost use Rattle.sheet.specs.Reading.{
-  wordOf,
-  stoppedBy,
-  refusedAt,
-  withCapacity,
-  capacityLine,
-  limitSection,
-  withCount,
-  withItem,
-  itemStep,
-  itemLines,
-  itemsSection,
-  bounded,
-  withBound,
-  boundStep,
-  boundLines,
-  fromPlace,
-  boundsSection,
-  endOfSheet,
-  upperLine,
-  crossFrom,
-  crossCheck,
-  wholeOf,
-  readSheet,
-};
+ghost use Rattle.sheet.specs.Sections.{goesOn, stoppedBy, refusedAt, stepOf, linesOf};
+ghost use Rattle.sheet.specs.Reading.{wordOf, limitForm, itemForm, boundForm, limitSection, itemsSection, boundsSection, endOfSheet};
+ghost use Rattle.sheet.specs.Reading.{upperLine, crossFrom, crossCheck, headOf, tailOf, wholeOf, readSheet};
 
-// The two sections of bounds.
-pub enum Side {
-    Lower,
-    Upper,
-}
-
-// What a sheet gives: its problem, or a refusal beside the empty record.
+// What a sheet gives: its record, or a refusal beside the empty record.
 pub struct Reading {
     pub verdict: Verdict,
-    pub problem: Problem,
+    pub model: Model,
 }
 
 // A sheet read up to the place at. item is the number of the item that the section's last line was about, 0 at its start.
 pub struct Progress {
     pub verdict: Verdict,
-    pub problem: Problem,
+    pub model: Model,
     pub at: usize,
     pub item: usize,
+}
+
+// Nothing is refused as yet.
+fn goes_on(model: Model, at: usize, item: usize) -> Progress
+    ensures { λ r. ⌜ r ≡ goesOn model at item ⌝ }
+{
+    Progress {
+        verdict: Verdict::Accepted,
+        model,
+        at,
+        item,
+    }
 }
 
 // The end of a reading: a refusal has the empty record.
 fn stopped(refusal: Refusal) -> Progress
     ensures { λ r. ⌜ r ≡ stoppedBy refusal ⌝ }
 {
-    let problem = knapsack::empty_problem();
+    let model = setters::empty_model();
     Progress {
         verdict: Verdict::Refused(refusal),
-        problem,
+        model,
         at: 0,
         item: 0,
     }
@@ -83,33 +71,14 @@ fn stopped(refusal: Refusal) -> Progress
 fn refused(s: &[u8], number: u64, at: usize) -> Progress
     ensures { λ r. ⌜ r ≡ refusedAt (now (s .entry)) number at ⌝ }
 {
-    let line = lines::text::line_at(s, at);
+    let line = lines::scan::line_at(s, at);
     stopped(Refusal { number, line })
 }
 
 // ---- limit 1, and a line with b
 
-// A problem with a limit and nothing else.
-fn with_capacity(b: i64, next: usize) -> Progress
-    ensures { λ r. ⌜ r ≡ withCapacity b next ⌝ }
-{
-    let empty = knapsack::empty_problem();
-    let items = empty.items;
-    let problem = Problem {
-        items,
-        count: 0,
-        capacity: b,
-    };
-    Progress {
-        verdict: Verdict::Accepted,
-        problem,
-        at: next,
-        item: 0,
-    }
-}
-
-fn capacity_line(s: &[u8], at: usize) -> Progress
-    ensures { λ r. ⌜ r ≡ capacityLine (now (s .entry)) at ⌝ }
+fn limit_line(s: &[u8], at: usize) -> Progress
+    ensures { λ r. ⌜ r ≡ stepOf limitForm (now (s .entry)) (goesOn emptyModel at 0) ⌝ }
 {
     let limits = Range {
         lo: -100_000_000,
@@ -117,10 +86,13 @@ fn capacity_line(s: &[u8], at: usize) -> Progress
     };
     let f = lines::number::closed_number(s, at, limits, b'\n');
     match f {
-        Field::Malformed => refused(s, 2, at),
+        Field::Malformed => refused(s, refusals::FORM, at),
         Field::Number(g, next) => match g {
-            Figure::Out => refused(s, 4, at),
-            Figure::In(b) => with_capacity(b, next),
+            Ranged::Out => refused(s, refusals::FIGURE, at),
+            Ranged::In(b) => {
+                let empty = setters::empty_model();
+                goes_on(setters::with_capacity(empty, b), next, 0)
+            }
         },
     }
 }
@@ -131,57 +103,26 @@ fn limit_section(s: &[u8]) -> Progress
     let c = lines::heading(s, 0, b"limit", Range { lo: 1, hi: 1 });
     match c {
         Count::Fault(n) => refused(s, n, 0),
-        Count::Lines(_, next) => capacity_line(s, next),
+        Count::Lines(_, next) => limit_line(s, next),
     }
 }
 
 // ---- items n, and n lines
 
-// A problem with n items, blank as yet.
-fn with_count(p: Progress, n: usize, next: usize) -> Progress
-    ensures { λ r. ⌜ r ≡ withCount p n next ⌝ }
-{
-    let q = p.problem;
-    let items = q.items;
-    let problem = Problem {
-        items,
-        count: n,
-        capacity: q.capacity,
-    };
-    Progress {
-        verdict: Verdict::Accepted,
-        problem,
-        at: next,
-        item: 0,
-    }
-}
-
 // The next item.
-fn with_item(p: Progress, item: Item, next: usize) -> Progress
+fn item_taken(p: Progress, item: Item, next: usize) -> Progress
     requires { ⌜ p .item < 16 ⌝ }
-    ensures { λ r. ⌜ r ≡ withItem p item next ⌝ }
+    ensures { λ r. ⌜ r ≡ goesOn (withItem (p .model) (p .item) item) next (suc (p .item)) ⌝ }
 {
-    let q = p.problem;
+    let m = p.model;
     let k = p.item;
-    let mut items = q.items;
-    items[k] = item;
-    let problem = Problem {
-        items,
-        count: q.count,
-        capacity: q.capacity,
-    };
-    Progress {
-        verdict: Verdict::Accepted,
-        problem,
-        at: next,
-        item: k + 1,
-    }
+    goes_on(setters::with_item(m, k, item), next, k + 1)
 }
 
 // One line of an item; after a refusal nothing is read.
 fn item_step(s: &[u8], p: Progress) -> Progress
     requires { ⌜ p .item < 16 ⌝ }
-    ensures { λ r. ⌜ r ≡ itemStep (now (s .entry)) p ⌝ }
+    ensures { λ r. ⌜ r ≡ stepOf itemForm (now (s .entry)) p ⌝ }
 {
     let verdict = p.verdict;
     match verdict {
@@ -191,7 +132,7 @@ fn item_step(s: &[u8], p: Progress) -> Progress
             let r = lines::item_at(s, at);
             match r {
                 ItemRead::Fault(n) => refused(s, n, at),
-                ItemRead::Read(item, next) => with_item(p, item, next),
+                ItemRead::Read(item, next) => item_taken(p, item, next),
             }
         }
     }
@@ -199,13 +140,13 @@ fn item_step(s: &[u8], p: Progress) -> Progress
 
 fn item_lines(s: &[u8], n: usize, p: Progress) -> Progress
     requires { ⌜ p .item + n ≤ 16 ⌝ }
-    ensures { λ r. ⌜ r ≡ itemLines n (now (s .entry)) p ⌝ }
+    ensures { λ r. ⌜ r ≡ linesOf itemForm n (now (s .entry)) p ⌝ }
 {
     let mut r = p;
-    let mut left = n;
-    while 0 < left {
+    let mut k: usize = 0;
+    while k < n {
         r = item_step(s, r);
-        left -= 1;
+        k += 1;
     }
     r
 }
@@ -221,7 +162,10 @@ fn items_section(s: &[u8], p: Progress) -> Progress
             let c = lines::heading(s, at, b"items", Range { lo: 1, hi: 16 });
             match c {
                 Count::Fault(n) => refused(s, n, at),
-                Count::Lines(n, next) => item_lines(s, n, with_count(p, n, next)),
+                Count::Lines(n, next) => {
+                    let m = p.model;
+                    item_lines(s, n, goes_on(setters::with_count(m, n), next, 0))
+                }
             }
         }
     }
@@ -229,85 +173,44 @@ fn items_section(s: &[u8], p: Progress) -> Progress
 
 // ---- lower m and upper m, and m lines
 
-// An item with one more bound.
-fn with_side(item: Item, side: Side, v: i64) -> Item
-    ensures { λ r. ⌜ r ≡ bounded side v item ⌝ }
-{
-    let mark = item.mark;
-    let weight = item.weight;
-    let price = item.price;
-    let lower = item.lower;
-    let upper = item.upper;
-    match side {
-        Side::Lower => Item {
-            mark,
-            weight,
-            price,
-            lower: Bound::At(v),
-            upper,
-        },
-        Side::Upper => Item {
-            mark,
-            weight,
-            price,
-            lower,
-            upper: Bound::At(v),
-        },
-    }
-}
-
 // A bound of item k.
-fn with_bound(p: Progress, side: Side, k: usize, v: i64, next: usize) -> Progress
+fn bound_taken(p: Progress, side: Side, k: usize, v: i64, next: usize) -> Progress
     requires { ⌜ (1 ≤ k) × (k ≤ 16) ⌝ }
-    ensures { λ r. ⌜ r ≡ withBound p side k v next ⌝ }
+    ensures { λ r. ⌜ r ≡ goesOn (withBound (p .model) side (k - 1) v) next k ⌝ }
 {
-    let q = p.problem;
-    let mut items = q.items;
-    let i = k - 1;
-    let item = items[i];
-    items[i] = with_side(item, side, v);
-    let problem = Problem {
-        items,
-        count: q.count,
-        capacity: q.capacity,
-    };
-    Progress {
-        verdict: Verdict::Accepted,
-        problem,
-        at: next,
-        item: k,
-    }
+    let m = p.model;
+    goes_on(setters::with_bound(m, side, k - 1, v), next, k)
 }
 
 // One line of a bound.
 fn bound_step(s: &[u8], side: Side, p: Progress) -> Progress
-    requires { ⌜ p .problem .count ≤ 16 ⌝ }
-    ensures { λ r. ⌜ r ≡ boundStep (now (s .entry)) side p ⌝ }
+    requires { ⌜ p .model .count ≤ 16 ⌝ }
+    ensures { λ r. ⌜ r ≡ stepOf (boundForm side) (now (s .entry)) p ⌝ }
 {
     let verdict = p.verdict;
     match verdict {
         Verdict::Refused(_) => p,
         Verdict::Accepted => {
             let at = p.at;
-            let q = p.problem;
+            let q = p.model;
             let r = lines::bound_at(s, at, q.count, p.item);
             match r {
                 BoundRead::Fault(n) => refused(s, n, at),
-                BoundRead::Read(k, v, next) => with_bound(p, side, k, v, next),
+                BoundRead::Read(k, v, next) => bound_taken(p, side, k, v, next),
             }
         }
     }
 }
 
-fn bound_lines(s: &[u8], side: Side, m: usize, p: Progress) -> Progress
-    requires { ⌜ p .problem .count ≤ 16 ⌝ }
-    ensures { λ r. ⌜ r ≡ boundLines m (now (s .entry)) side p ⌝ }
+fn bound_lines(s: &[u8], side: Side, n: usize, p: Progress) -> Progress
+    requires { ⌜ p .model .count ≤ 16 ⌝ }
+    ensures { λ r. ⌜ r ≡ linesOf (boundForm side) n (now (s .entry)) p ⌝ }
 {
     let mut r = p;
-    let mut left = m;
-    while 0 < left {
+    let mut k: usize = 0;
+    while k < n {
         r = bound_step(s, side, r);
-        left -= 1;
+        k += 1;
     }
     r
 }
@@ -315,7 +218,7 @@ fn bound_lines(s: &[u8], side: Side, m: usize, p: Progress) -> Progress
 // The heading of a section of bounds, over n items.
 fn bounds_heading(s: &[u8], side: Side, at: usize, n: usize) -> Count
     requires { ⌜ n ≤ 16 ⌝ }
-    ensures { λ r. ⌜ r ≡ countAt (wordOf side) (record { lo = pos 0; hi = pos n }) (now (s .entry)) at ⌝ }
+    ensures { λ r. ⌜ r ≡ countAt (wordOf side) (fromTo 0 n) (now (s .entry)) at ⌝ }
 {
     let range = Range {
         lo: 0,
@@ -327,21 +230,8 @@ fn bounds_heading(s: &[u8], side: Side, at: usize, n: usize) -> Count
     }
 }
 
-// The section's lines begin.
-fn from_place(p: Progress, at: usize) -> Progress
-    ensures { λ r. ⌜ r ≡ fromPlace p at ⌝ }
-{
-    let problem = p.problem;
-    Progress {
-        verdict: Verdict::Accepted,
-        problem,
-        at,
-        item: 0,
-    }
-}
-
 fn bounds_section(s: &[u8], side: Side, p: Progress) -> Progress
-    requires { ⌜ p .problem .count ≤ 16 ⌝ }
+    requires { ⌜ p .model .count ≤ 16 ⌝ }
     ensures { λ r. ⌜ r ≡ boundsSection (now (s .entry)) side p ⌝ }
 {
     let verdict = p.verdict;
@@ -349,11 +239,11 @@ fn bounds_section(s: &[u8], side: Side, p: Progress) -> Progress
         Verdict::Refused(_) => p,
         Verdict::Accepted => {
             let at = p.at;
-            let q = p.problem;
+            let q = p.model;
             let c = bounds_heading(s, side, at, q.count);
             match c {
                 Count::Fault(n) => refused(s, n, at),
-                Count::Lines(m, next) => bound_lines(s, side, m, from_place(p, next)),
+                Count::Lines(m, next) => bound_lines(s, side, m, goes_on(q, next, 0)),
             }
         }
     }
@@ -369,21 +259,12 @@ fn end_of_sheet(s: &[u8], p: Progress) -> Progress
         Verdict::Refused(_) => p,
         Verdict::Accepted => {
             let at = p.at;
-            if at < s.len() { refused(s, 2, at) } else { p }
+            if at < s.len() {
+                refused(s, refusals::FORM, at)
+            } else {
+                p
+            }
         }
-    }
-}
-
-// Whether a lower bound is above an upper.
-fn cross(lower: Bound, upper: Bound) -> bool
-    ensures { λ r. ⌜ r ≡ crossed lower upper ⌝ }
-{
-    match lower {
-        Bound::Absent => false,
-        Bound::At(l) => match upper {
-            Bound::Absent => false,
-            Bound::At(u) => u < l,
-        },
     }
 }
 
@@ -399,20 +280,23 @@ fn upper_line(upper: Bound, line: u64) -> u64
 }
 
 // The first item whose bounds cross; heading is the line of `upper m`.
-fn crossing(problem: Problem, heading: u64) -> Verdict
-    requires { ⌜ (problem .count ≤ 16) × (heading ≤ 2 ^ 63) ⌝ }
-    ensures { λ r. ⌜ r ≡ crossFrom (problem .count) (itemAt problem) 0 heading ⌝ }
+fn crossing(model: Model, heading: u64) -> Verdict
+    requires { ⌜ (model .count ≤ 16) × (heading ≤ 2 ^ 63) ⌝ }
+    ensures { λ r. ⌜ r ≡ crossFrom (model .count) (itemAt model) 0 heading ⌝ }
 {
-    let n = problem.count;
+    let n = model.count;
     let mut line = heading;
     let mut k: usize = 0;
     while k < n {
-        let item = problem.items[k];
+        let item = model.items[k];
         let lower = item.lower;
         let upper = item.upper;
         line = upper_line(upper, line);
-        if cross(lower, upper) {
-            return Verdict::Refused(Refusal { number: 6, line });
+        if model::crossed_bounds(lower, upper) {
+            return Verdict::Refused(Refusal {
+                number: refusals::CROSSING,
+                line,
+            });
         }
         k += 1;
     }
@@ -421,15 +305,15 @@ fn crossing(problem: Problem, heading: u64) -> Verdict
 
 // heading is a place of the line `upper m`.
 fn uncrossed(s: &[u8], heading: usize, p: Progress) -> Progress
-    requires { ⌜ p .problem .count ≤ 16 ⌝ }
+    requires { ⌜ p .model .count ≤ 16 ⌝ }
     ensures { λ r. ⌜ r ≡ crossCheck (now (s .entry)) heading p ⌝ }
 {
     let verdict = p.verdict;
     match verdict {
         Verdict::Refused(_) => p,
         Verdict::Accepted => {
-            let q = p.problem;
-            let told = crossing(q, lines::text::line_at(s, heading));
+            let q = p.model;
+            let told = crossing(q, lines::scan::line_at(s, heading));
             match told {
                 Verdict::Accepted => p,
                 Verdict::Refused(r) => stopped(r),
@@ -440,30 +324,46 @@ fn uncrossed(s: &[u8], heading: usize, p: Progress) -> Progress
 
 // ---- the sheet
 
+// Limit and items.
+fn head(s: &[u8]) -> Progress
+    ensures { λ r. ⌜ r ≡ headOf (now (s .entry)) ⌝ }
+{
+    items_section(s, limit_section(s))
+}
+
+// What is tried behind the last section; heading is a place of the line `upper m`.
+fn tail(s: &[u8], heading: usize, p: Progress) -> Progress
+    requires { ⌜ p .model .count ≤ 16 ⌝ }
+    ensures { λ r. ⌜ r ≡ tailOf (now (s .entry)) heading p ⌝ }
+{
+    uncrossed(s, heading, end_of_sheet(s, p))
+}
+
 fn whole(s: &[u8]) -> Progress
     ensures { λ r. ⌜ r ≡ wholeOf (now (s .entry)) ⌝ }
 {
-    let limit = limit_section(s);
-    let items = items_section(s, limit);
-    let lower = bounds_section(s, Side::Lower, items);
+    let h = head(s);
+    let lower = bounds_section(s, Side::Lower, h);
     let upper = bounds_section(s, Side::Upper, lower);
-    let end = end_of_sheet(s, upper);
-    uncrossed(s, lower.at, end)
+    tail(s, lower.at, upper)
 }
 
-// Every sheet gets its problem or its refusal.
+// Every sheet gets its record or its refusal.
 pub fn read(sheet: &[u8]) -> Reading
     ensures { λ r. ⌜ r ≡ readSheet (now (sheet .entry)) ⌝ }
 {
-    if lines::text::LONGEST < sheet.len() {
-        let problem = knapsack::empty_problem();
+    if lines::scan::LONGEST < sheet.len() {
+        let model = setters::empty_model();
         return Reading {
-            verdict: Verdict::Refused(Refusal { number: 1, line: 0 }),
-            problem,
+            verdict: Verdict::Refused(Refusal {
+                number: refusals::OVERLONG,
+                line: 0,
+            }),
+            model,
         };
     }
     let p = whole(sheet);
     let verdict = p.verdict;
-    let problem = p.problem;
-    Reading { verdict, problem }
+    let model = p.model;
+    Reading { verdict, model }
 }

@@ -19,11 +19,11 @@ fn print_refusal(refusal: Refusal) {
 fn print_reading(sheet: &[u8]) {
     let r = sheet::read(sheet);
     let verdict = r.verdict;
-    let problem = r.problem;
+    let model = r.model;
     match verdict {
         Verdict::Accepted => {
             print(b" accepted ");
-            print_problem(problem);
+            print_problem(model);
         }
         Verdict::Refused(refusal) => print_refusal(refusal),
     }

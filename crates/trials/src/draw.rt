@@ -1,10 +1,11 @@
 // Problems drawn from a seed, by a linear congruential generator. What is drawn from a state comes of its higher bits.
 use crate::exact::times;
+use crate::make::record_of;
 use knapsack::Bound;
 use knapsack::Item;
 use knapsack::Mark;
-use knapsack::Problem;
 use knapsack::blank_item;
+use model::Model;
 ghost use Prim.Native.Nat.{_≤_};
 
 // No figure is farther from zero than its span, and the capacity is a multiple of the unit. Of four bounds so many are absent, and of
@@ -38,7 +39,7 @@ pub struct DrawnItem {
 }
 
 pub struct DrawnProblem {
-    pub problem: Problem,
+    pub problem: Model,
     pub state: u64,
 }
 
@@ -147,13 +148,9 @@ pub fn drawn_problem(state: u64, count: usize, s: Spans) -> DrawnProblem {
         now = d.state;
         k += 1;
     }
-    let p = Problem {
-        items: items,
-        count: count,
-        capacity: capacity,
-    };
+    let m = record_of(capacity, count, items);
     DrawnProblem {
-        problem: p,
+        problem: m,
         state: now,
     }
 }

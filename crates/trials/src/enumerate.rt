@@ -9,7 +9,7 @@ use crate::print::size_of;
 use knapsack::Bound;
 use knapsack::Item;
 use knapsack::Mark;
-use knapsack::Problem;
+use model::Model;
 ghost use Prim.Native.Nat.{_≤_};
 
 // The best value p / q so far, of the feasible points that were tried.
@@ -99,7 +99,7 @@ fn scaled(n: u64, m: u64) -> u64 {
 }
 
 // How many points there are.
-fn points(p: Problem, filler: usize, n: usize) -> u64
+fn points(p: Model, filler: usize, n: usize) -> u64
     requires { ⌜ n ≤ 16 ⌝ }
 {
     let items = p.items;
@@ -130,7 +130,7 @@ fn with_item(s: Sums, x: Item, filler: bool) -> Sums {
 }
 
 // The weight and the value of a point.
-fn sums_of(p: Problem, filler: usize, n: usize, number: u64) -> Sums
+fn sums_of(p: Model, filler: usize, n: usize, number: u64) -> Sums
     requires { ⌜ n ≤ 16 ⌝ }
 {
     let items = p.items;
@@ -170,7 +170,7 @@ fn offered(best: Best, p: i64, q: i64) -> Best {
 }
 
 // A point with no filler.
-fn with_corner(best: Best, p: Problem, s: Sums) -> Best {
+fn with_corner(best: Best, p: Model, s: Sums) -> Best {
     if p.capacity < s.weight {
         return best;
     }
@@ -203,7 +203,7 @@ fn with_lightened(best: Best, x: Item, room: i64, value: i64) -> Best {
     best
 }
 
-fn with_filler(best: Best, p: Problem, x: Item, s: Sums) -> Best {
+fn with_filler(best: Best, p: Model, x: Item, s: Sums) -> Best {
     let room = minus(p.capacity, s.weight);
     if x.weight > 0 {
         return with_filled(best, x, room, s.value);
@@ -215,7 +215,7 @@ fn with_filler(best: Best, p: Problem, x: Item, s: Sums) -> Best {
 }
 
 // All points with one filler, or with none where its number is n.
-fn with_points(start: Best, p: Problem, filler: usize, n: usize) -> Best
+fn with_points(start: Best, p: Model, filler: usize, n: usize) -> Best
     requires { ⌜ n ≤ 15 ⌝ }
 {
     let items = p.items;
@@ -244,7 +244,7 @@ fn can_fill(x: Item) -> bool {
 }
 
 // The best value of a problem of at most 15 items with every bound present.
-pub fn best_value(p: Problem, n: usize) -> Best
+pub fn best_value(p: Model, n: usize) -> Best
     requires { ⌜ n ≤ 15 ⌝ }
 {
     let items = p.items;

@@ -1,6 +1,6 @@
 // Sums and products of numbers within 10^9, with no need to know that they are. Where one is beyond that it is handed on as it is, so
 // that what is once so far off stays so.
-use knapsack::beyond;
+use model::beyond;
 
 pub fn plus(a: i64, b: i64) -> i64 {
     if beyond(a, 1000000000) {

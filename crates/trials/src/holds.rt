@@ -11,11 +11,11 @@ use feasibility::check_point;
 use knapsack::Answer;
 use knapsack::Bound;
 use knapsack::Item;
-use knapsack::Problem;
-use knapsack::beyond;
+use model::Model;
+use model::beyond;
 ghost use Prim.Native.Nat.{_≤_};
 
-fn checked(p: Problem, a: Answer) -> PointReply {
+fn checked(p: Model, a: Answer) -> PointReply {
     let amounts = a.point;
     check_point(
         p,
@@ -50,7 +50,7 @@ fn divides(q: u64, weight: i64) -> bool {
 }
 
 // Whether the divisor of each amount divides the item's weight, a limit of paper 01 that the point check does not ask for.
-fn divisors_hold(p: Problem, a: Answer) -> bool {
+fn divisors_hold(p: Model, a: Answer) -> bool {
     let items = p.items;
     let amounts = a.point;
     let n = p.count;
@@ -67,7 +67,7 @@ fn divisors_hold(p: Problem, a: Answer) -> bool {
 }
 
 // Feasible, within the limits of paper 01, and worth the value told.
-pub fn point_holds(p: Problem, a: Answer) -> bool {
+pub fn point_holds(p: Model, a: Answer) -> bool {
     let v = a.value;
     divisors_hold(p, a) && is_worth(checked(p, a), v)
 }
@@ -122,7 +122,7 @@ fn with_step(r: Ray, x: Item, s: i64) -> Ray {
 }
 
 // The steps of the first n items.
-fn ray_of(p: Problem, steps: [i64; 16], n: usize) -> Ray
+fn ray_of(p: Model, steps: [i64; 16], n: usize) -> Ray
     requires { ⌜ n ≤ 16 ⌝ }
 {
     let items = p.items;
@@ -160,7 +160,7 @@ fn is_ray(r: Ray) -> bool {
 }
 
 // The start is feasible and within the limits, and the steps are a ray.
-pub fn ray_holds(p: Problem, a: Answer) -> bool {
+pub fn ray_holds(p: Model, a: Answer) -> bool {
     if p.count > 16 {
         return false;
     }

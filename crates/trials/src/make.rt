@@ -2,9 +2,9 @@
 use knapsack::Bound;
 use knapsack::Item;
 use knapsack::Mark;
-use knapsack::Problem;
 use knapsack::blank_item;
-use knapsack::empty_problem;
+use model::Model;
+use model::setters;
 
 pub fn item(weight: i64, price: i64, lower: Bound, upper: Bound) -> Item {
     Item {
@@ -49,26 +49,28 @@ pub fn loose(x: Item) -> Item {
     }
 }
 
+// The record of a capacity, a count and all 16 places.
+pub fn record_of(capacity: i64, count: usize, items: [Item; 16]) -> Model {
+    let m = setters::with_capacity(setters::empty_model(), capacity);
+    setters::with_items(setters::with_count(m, count), items)
+}
+
 // The first count of x, y and z are the problem's items.
-pub fn first_of(capacity: i64, count: usize, x: Item, y: Item, z: Item) -> Problem {
-    let p = empty_problem();
-    let mut items = p.items;
+pub fn first_of(capacity: i64, count: usize, x: Item, y: Item, z: Item) -> Model {
+    let blank = blank_item();
+    let mut items = [blank; 16];
     items[0] = x;
     items[1] = y;
     items[2] = z;
-    Problem {
-        items: items,
-        count: count,
-        capacity: capacity,
-    }
+    record_of(capacity, count, items)
 }
 
-pub fn one(capacity: i64, x: Item) -> Problem {
+pub fn one(capacity: i64, x: Item) -> Model {
     let blank = blank_item();
     first_of(capacity, 1, x, blank, blank)
 }
 
-pub fn two(capacity: i64, x: Item, y: Item) -> Problem {
+pub fn two(capacity: i64, x: Item, y: Item) -> Model {
     let blank = blank_item();
     first_of(capacity, 2, x, y, blank)
 }

@@ -14,7 +14,7 @@ use knapsack::Answer;
 use knapsack::Bound;
 use knapsack::Item;
 use knapsack::Kind;
-use knapsack::Problem;
+use model::Model;
 ghost use Prim.Native.Nat.{_≤_};
 
 // ---- the problem with its absent bounds closed
@@ -41,7 +41,7 @@ fn shut_item(x: Item, reach: i64) -> Item {
     }
 }
 
-fn with_shut(p: Problem, k: usize, reach: i64) -> Problem
+fn with_shut(p: Model, k: usize, reach: i64) -> Model
     requires { ⌜ k ≤ 15 ⌝ }
 {
     let mut q = p;
@@ -51,7 +51,7 @@ fn with_shut(p: Problem, k: usize, reach: i64) -> Problem
     q
 }
 
-fn shut_problem(p: Problem, n: usize, reach: i64) -> Problem
+fn shut_problem(p: Model, n: usize, reach: i64) -> Model
     requires { ⌜ n ≤ 15 ⌝ }
 {
     let mut q = p;
@@ -72,7 +72,7 @@ pub struct Outcome {
 }
 
 // The value told is at least the best one found, and as much where that has to be.
-fn best_outcome(p: Problem, a: Answer, b: Best, sure: bool) -> Outcome {
+fn best_outcome(p: Model, a: Answer, b: Best, sure: bool) -> Outcome {
     let v = a.value;
     let q = as_signed(v.q);
     let met = if b.found {
@@ -93,7 +93,7 @@ fn best_outcome(p: Problem, a: Answer, b: Best, sure: bool) -> Outcome {
 }
 
 // The answer to a problem of n items, of which some best point, if there is any, is sure to be within reach or not.
-pub fn outcome_of(p: Problem, a: Answer, n: usize, reach: i64, sure: bool) -> Outcome
+pub fn outcome_of(p: Model, a: Answer, n: usize, reach: i64, sure: bool) -> Outcome
     requires { ⌜ n ≤ 15 ⌝ }
 {
     let b = best_value(shut_problem(p, n, reach), n);

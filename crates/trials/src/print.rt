@@ -4,8 +4,8 @@ use knapsack::Bound;
 use knapsack::Item;
 use knapsack::Kind;
 use knapsack::Mark;
-use knapsack::Problem;
 use libc::STDOUT_FILENO;
+use model::Model;
 
 pub fn print(text: &[u8]) {
     io::write_all(STDOUT_FILENO, text);
@@ -81,7 +81,7 @@ pub fn print_item(x: Item) {
 }
 
 // The capacity and the items.
-pub fn print_problem(p: Problem) {
+pub fn print_problem(p: Model) {
     print_signed(p.capacity);
     print(b";");
     let n = p.count;

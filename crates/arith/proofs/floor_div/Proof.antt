@@ -53,13 +53,15 @@ rem-zero : (s : tie.Start) → ofZ w64 (remZ (toZ w64 (ofZ w64 (N s))) (toZ w64 
 rem-zero s e = bits-zero _ (rem-in s) (rw (toZ-ofZ (s .fits .n), toZ-ofZ (s .fits .d)) at e)
 
 -- a remainder that is not zero and not below it
-rem-above : (s : tie.Start) → (ofZ w64 (remZ (toZ w64 (ofZ w64 (N s))) (toZ w64 (ofZ w64 (D s)))) ≡ 0 → ⊥) → pos 0 ≤ℤ remZ (N s) (D s) → pos 0 <ℤ remZ (N s) (D s)
+rem-above : (s : tie.Start) → (ofZ w64 (remZ (toZ w64 (ofZ w64 (N s))) (toZ w64 (ofZ w64 (D s)))) ≡ 0 → ⊥) → pos 0 ≤ℤ remZ (N s) (D s)
+    → pos 0 <ℤ remZ (N s) (D s)
 rem-above s ne g = omega (arith, zs, above-dn g, nonzero (remZ (N s) (D s)) (λ e. ne (rw (toZ-ofZ (s .fits .n), toZ-ofZ (s .fits .d), e))))
 
 moved : (s : tie.Start) → SFits w64 (quotZ (N s) (D s) -ℤ pos 1)
 moved s = let h = quot-within (N s) (D s) (s .pre .0) in omega (arith, zs, diff (quotZ (N s) (D s)) (pos 1))
 
-moved-back : (s : tie.Start) → toZ w64 (ofZ w64 (toZ w64 (ofZ w64 (quotZ (toZ w64 (ofZ w64 (N s))) (toZ w64 (ofZ w64 (D s))))) -ℤ pos 1)) ≡ quotZ (N s) (D s) -ℤ pos 1
+moved-back : (s : tie.Start) → toZ w64 (ofZ w64 (toZ w64 (ofZ w64 (quotZ (toZ w64 (ofZ w64 (N s))) (toZ w64 (ofZ w64 (D s))))) -ℤ pos 1)) ≡ quotZ (N s) (D s)
+    -ℤ pos 1
 moved-back s = rw (quot-back s) (toZ-ofZ (moved s))
 
 exact : (s : tie.Start) (q : ℤ) → IsFloor (N s) (D s) q → q ≡ floorDiv (N s) (D s)

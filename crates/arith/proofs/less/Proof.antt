@@ -37,7 +37,8 @@ mul-result : tie.Need-mul-result
 mul-result c = let s = c .before .before .before .before .before .before .before .before .before .before .before .before in small _ _ (s .pre .0) (s .pre .1)
 
 mul-result-2 : tie.Need-mul-result-2
-mul-result-2 c = let s = c .before .before .before .before .before .before .before .before .before .before .before .before .before .before in small _ _ (s .pre .1) (s .pre .0)
+mul-result-2 c = let s =
+    c .before .before .before .before .before .before .before .before .before .before .before .before .before .before in small _ _ (s .pre .1) (s .pre .0)
 
 returns-3 : tie.Need-returns-3
 unfolding lessMixed

@@ -32,7 +32,13 @@ div-with-sign : tie.Need-div-with-sign
 div-with-sign c = divisor≥1 c
 
 with-sign-requires : tie.Need-with-sign-requires
-with-sign-requires c κs = omega (arith, div-le-self (c .before .magnitude .result) (c .gcd .result), is-abs (c .before), within-abs (c .before .before .args .p) (c .before .before .pre .0))
+with-sign-requires c κs =
+    omega (
+      arith,
+      div-le-self (c .before .magnitude .result) (c .gcd .result),
+      is-abs (c .before),
+      within-abs (c .before .before .args .p) (c .before .before .pre .0),
+    )
 
 div-t7 : tie.Need-div-t7
 div-t7 c = divisor≥1 (c .before)

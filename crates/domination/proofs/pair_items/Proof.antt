@@ -3,17 +3,18 @@ use mathlib.Core.Path.{_≡_, sym, _∙_}
 use mathlib.Core.Logic.{⊎-elim}
 use mathlib.Core.Bool.{true, false}
 use Rattle.knapsack.specs.declared.Item.{Item}
-use Rattle.domination.specs.Pairs.{eligible, refuse, paired}
+use Rattle.model.specs.Refusals.{pair-items}
+use Rattle.domination.specs.Pairs.{eligible, refusePair, paired}
 use Rattle.domination.proofs.Eligible.{eligible-iff}
 use borrow.Author.Needs.{needs}
 use Rattle.domination.proofs.pair_items.Statement.{statement}
 use Rattle.domination.proofs.pair_items.Tie as tie
 
-first-fails : (x y : Item) → eligible x ≡ false → refuse 10 ≡ paired x y
+first-fails : (x y : Item) → eligible x ≡ false → refusePair pair-items ≡ paired x y
 unfolding paired
 first-fails x y p = rw p
 
-second-fails : (x y : Item) → eligible x ≡ true → eligible y ≡ false → refuse 10 ≡ paired x y
+second-fails : (x y : Item) → eligible x ≡ true → eligible y ≡ false → refusePair pair-items ≡ paired x y
 unfolding paired
 second-fails x y p q = rw (p, q)
 
@@ -27,8 +28,13 @@ pair-of-requires : tie.Need-pair-of-requires
 pair-of-requires c κs =
     let s = c .before .before .before .before in
     let p = sym (c .before .before .before .is-eligible .ensures) ∙ c .before .before .if1 .taken in
-    let q = sym (c .before .is-eligible2 .ensures) ∙ c .if2 .taken in
-    (record { in-range = s .pre .0; is-eligible = eligible-iff (s .args .x) .0 p }, record { in-range = s .pre .1; is-eligible = eligible-iff (s .args .y) .0 q })
+    let q = sym (c .before .is-eligible2 .ensures) ∙ c .if2 .taken in (
+      record { in-range = s .pre .0; is-eligible = eligible-iff (s .args .x) .0 p },
+      record {
+        in-range = s .pre .1;
+        is-eligible = eligible-iff (s .args .y) .0 q;
+      },
+    )
 
 returns : tie.Need-returns
 unfolding paired
@@ -37,13 +43,14 @@ returns c =
     let q = sym (c .before .before .is-eligible2 .ensures) ∙ c .before .if2 .taken in
     rw (p, q, c .pair-of .ensures)
 
-refusal-requires : tie.Need-refusal-requires
-refusal-requires c κs = search needs
+refused-requires : tie.Need-refused-requires
+refused-requires c κs = search needs
 
 returns-2 : tie.Need-returns-2
 returns-2 c =
     let e = sym (c .before .before .is-eligible .ensures) in
-    c .refusal .ensures ∙ ⊎-elim (λ w. second-fails _ _ (e ∙ w .0 .taken) (sym (w .1 .ensures) ∙ w .2 .left)) (λ w. first-fails _ _ (e ∙ w .left)) (c .before .if1 .came)
+    c .refused .ensures ∙ ⊎-elim (λ w. second-fails _ _ (e ∙ w .0 .taken) (sym (w .1 .ensures) ∙ w .2 .left)) (λ w. first-fails _ _ (e ∙ w .left))
+    (c .before .if1 .came)
 
 pub pair-items-spec : {M : Type 1} → statement M
 pair-items-spec =
@@ -53,5 +60,5 @@ pair-items-spec =
     is-eligible-requires-2
     pair-of-requires
     returns
-    refusal-requires
+    refused-requires
     returns-2)

@@ -13,12 +13,12 @@ numbers c = numbers-iff _ _ _ .0 (sym (c .before .are-wrong .ensures) ∙ c .if1
 are-wrong-requires : tie.Need-are-wrong-requires
 are-wrong-requires c κs = search needs
 
-refusal-requires : tie.Need-refusal-requires
-refusal-requires c κs = search needs
+refused-requires : tie.Need-refused-requires
+refused-requires c κs = search needs
 
 returns : tie.Need-returns
 unfolding numbered
-returns c = let p = sym (c .before .before .are-wrong .ensures) ∙ c .before .if1 .taken in rw p (c .refusal .ensures)
+returns c = let p = sym (c .before .before .are-wrong .ensures) ∙ c .before .if1 .taken in rw p (c .refused .ensures)
 
 sub-x : tie.Need-sub-x
 sub-x c = omega (arith, numbers c)
@@ -53,7 +53,7 @@ pair-numbered-spec =
     tie.close
     (tie.spec
     are-wrong-requires
-    refusal-requires
+    refused-requires
     returns
     sub-x
     mul-x

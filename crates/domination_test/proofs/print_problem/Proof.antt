@@ -10,8 +10,8 @@ Inv-loop p lines t i₀ bar end last i = Unit {0}
 abbrev μ-loop : tie.MeasureT-loop
 μ-loop p lines t i₀ bar end last i = lines + 2 - i
 
-pair-table-requires : tie.Need-pair-table-requires Inv-loop μ-loop
-pair-table-requires c κs = search needs
+table-of-requires : tie.Need-table-of-requires Inv-loop μ-loop
+table-of-requires c κs = search needs
 
 loop-holds : tie.Need-loop-holds Inv-loop μ-loop
 loop-holds c = search needs
@@ -64,7 +64,7 @@ print-problem-spec =
     (tie.spec
     Inv-loop
     μ-loop
-    pair-table-requires
+    table-of-requires
     loop-holds
     add-loop
     print-replies-requires

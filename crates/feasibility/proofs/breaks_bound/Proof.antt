@@ -9,7 +9,7 @@ use mir.Val.{SFits, toZ, ofZ}
 use mir.Facts.{toZ-ofZ}
 use borrow.Author.Needs.{needs}
 use Rattle.arith.proofs.Words.{back}
-use Rattle.knapsack.specs.Records.{BoundInRange}
+use Rattle.knapsack.specs.Ranges.{BoundInRange}
 use Rattle.feasibility.proofs.breaks_bound.Statement.{statement}
 use Rattle.feasibility.proofs.breaks_bound.Tie as tie
 

@@ -2,9 +2,9 @@
 use mathlib.Core.Path.{sym, _∙_}
 use borrow.Author.Needs.{needs}
 use borrow.Author.Tests.{eq-eqb, ne-eqb}
-use Rattle.feasibility.specs.Amounts.{amountAt}
+use Rattle.feasibility.specs.Amounts.{proposedAt}
 use Rattle.feasibility.specs.Check.{amountCheck}
-use Rattle.feasibility.proofs.Divisor.{Serves, serves}
+use Rattle.feasibility.proofs.Divisor.{Divided, divided}
 use Rattle.feasibility.proofs.check_amounts.Statement.{statement}
 use Rattle.feasibility.proofs.check_amounts.Tie as tie
 
@@ -27,8 +27,10 @@ returns-2 c =
     let d = c .before .before in
     rw (eq-eqb _ _ (d .before .if1 .left), eq-eqb _ _ (sym (d .common-divisor .ensures) ∙ c .before .if2 .taken)) (c .refused2 .ensures)
 
-served : (c : tie.Else2) → Serves (c .before .before .before .before .before .args .c .count) (amountAt (c .before .before .before .before .before .args .c)) (c .before .common-divisor .result)
-served c = let e = c .before .common-divisor .ensures in rw e (serves _ _ (λ z. c .if2 .left (e ∙ z)))
+served : (c : tie.Else2) →
+    Divided (c .before .before .before .before .before .args .c .count) (proposedAt (c .before .before .before .before .before .args .c))
+    (c .before .common-divisor .result)
+served c = let e = c .before .common-divisor .ensures in rw e (divided _ _ (λ z. c .if2 .left (e ∙ z)))
 
 judge-requires : tie.Need-judge-requires
 judge-requires c κs =

@@ -1,39 +1,47 @@
--- `feasibility::check_point` meets its contract.
-use mathlib.Core.Path.{sym, _∙_}
+-- `feasibility::check_point` meets its contract: the plain problem of an accepted record is in range.
+use mathlib.Core.Path.{_≡_, sym, _∙_}
 use borrow.Author.Needs.{needs}
-use Rattle.knapsack.proofs.Items.{accepted}
+use Rattle.knapsack.specs.declared.Verdict.the-variants.{Accepted}
+use Rattle.model.specs.Records.{verdict}
+use Rattle.model.proofs.Records.{plain-in-range}
 use Rattle.feasibility.specs.Check.{pointCheck}
 use Rattle.feasibility.proofs.check_point.Statement.{statement}
 use Rattle.feasibility.proofs.check_point.Tie as tie
 
-check-record-requires : tie.Need-check-record-requires
-check-record-requires c κs = search needs
+check-model-requires : tie.Need-check-model-requires
+check-model-requires c κs = search needs
 
 enum-told : tie.Need-enum-told
 enum-told c = search needs
 
+plain-of-requires : tie.Need-plain-of-requires
+plain-of-requires c κs = search needs
+
+-- the record is accepted
+taken : (e : tie.After-enum-told) → verdict (e .before .before .before .args .m) ≡ Accepted
+taken e = sym (e .before .before .check-model .ensures) ∙ e .enum-told .given .1
+
 check-amounts-requires : tie.Need-check-amounts-requires
-check-amounts-requires c κs = accepted _ (sym (c .before .before .check-record .ensures) ∙ c .enum-told .given .1)
+check-amounts-requires c κs = rw (c .plain-of .ensures) (plain-in-range _ (taken (c .before)))
 
 enum-known-v : tie.Need-enum-known-v
 enum-known-v c = search needs
 
 returns : tie.Need-returns
 unfolding pointCheck
-returns c =
-    let e = c .before in
-    rw (sym (e .before .before .check-record .ensures) ∙ e .enum-told .given .1) (c .check-amounts .ensures)
+returns c = rw (taken (c .before .before), ← c .before .plain-of .ensures) (c .check-amounts .ensures)
 
 returns-2 : tie.Need-returns-2
 unfolding pointCheck
-returns-2 c = rw (sym (c .before .before .before .check-record .ensures) ∙ c .before .v .given .1)
+returns-2 c = rw (sym (c .before .before .before .check-model .ensures) ∙ c .before .v .given .1)
 
 pub check-point-spec : {M : Type 1} → statement M
 check-point-spec =
     tie.close
     (tie.spec
-    check-record-requires
+    check-model-requires
     enum-told
+    plain-of-requires
     check-amounts-requires
     enum-known-v
     returns

@@ -3,12 +3,12 @@ use mathlib.Core.Path.{_≡_, refl}
 use Prim.Native.Nat.{_-_, _≤_}
 use native.Mathlib.Numerals.{add-one}
 use native.Mathlib.Omega.{arith}
-use Rattle.feasibility.specs.Amounts.{amountAt, commonDivisor}
+use Rattle.feasibility.specs.Amounts.{proposedAt, commonDivisor}
 use Rattle.feasibility.proofs.common_divisor.Statement.{statement}
 use Rattle.feasibility.proofs.common_divisor.Tie as tie
 
 abbrev Inv-loop : tie.InvT-loop
-Inv-loop c n d₀ k₀ d k = (k ≤ n) × (d ≡ commonDivisor k (amountAt c))
+Inv-loop c n d₀ k₀ d k = (k ≤ n) × (d ≡ commonDivisor k (proposedAt c))
 
 abbrev μ-loop : tie.MeasureT-loop
 μ-loop c n d₀ k₀ d k = n - k

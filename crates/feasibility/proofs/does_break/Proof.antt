@@ -5,11 +5,13 @@ use mir.Val.{SFits}
 use mir.Facts.{toZ-ofZ}
 use borrow.Author.Needs.{needs}
 use Rattle.feasibility.specs.Check.{breaksBound, breaks}
-use Rattle.feasibility.specs.declared.Side.the-variants.{Lower}
+use Rattle.model.specs.declared.Side.the-variants.{Lower}
 use Rattle.feasibility.proofs.does_break.Statement.{statement}
 use Rattle.feasibility.proofs.does_break.Tie as tie
 
-lower-test : (c : tie.After-breaks-bound) → breaksBound Lower (c .before .before .before .before .args .i .lower) (c .before .before .before .before .args .x .p) (c .before .before .before .before .args .x .q) ≡ c .breaks-bound .result
+lower-test : (c : tie.After-breaks-bound) →
+    breaksBound Lower (c .before .before .before .before .args .i .lower) (c .before .before .before .before .args .x .p)
+    (c .before .before .before .before .args .x .q) ≡ c .breaks-bound .result
 lower-test c =
     let h : SFits w64 (c .before .before .before .before .args .x .p) = search needs in
     sym (rw (toZ-ofZ h) at (c .breaks-bound .ensures))

@@ -4,15 +4,15 @@ use Prim.Native.Nat.{ℕ, zero, suc}
 use native.Mathlib.Numerals.{add-one}
 use native.Mathlib.Omega.{arith}
 use borrow.Author.Needs.{needs}
-use Rattle.feasibility.specs.Check.{orElse, numbered}
+use Rattle.feasibility.specs.Check.{earlierOf, numbered}
 use Rattle.feasibility.proofs.earlier.Statement.{statement}
 use Rattle.feasibility.proofs.earlier.Tie as tie
 
-none-yet : (m n : ℕ) → m ≡ 0 → orElse m n ≡ n
+none-yet : (m n : ℕ) → m ≡ 0 → earlierOf m n ≡ n
 none-yet zero n e = refl
 none-yet (suc m) n e = absurd (omega arith)
 
-stays : (m n : ℕ) → (m ≡ 0 → ⊥) → orElse m n ≡ m
+stays : (m n : ℕ) → (m ≡ 0 → ⊥) → earlierOf m n ≡ m
 stays zero n h = absurd (h refl)
 stays (suc m) n h = refl
 
@@ -25,12 +25,18 @@ add-result c = search needs
 returns : tie.Need-returns
 returns c =
     let t = c .before .before in
-    rw (none-yet (t .before .args .found) (numbered (t .before .args .k) (t .before .args .i) (t .before .args .x)) (t .if1 .taken), sym (c .before .does-break .ensures) ∙ c .if2 .taken) (add-one (t .before .args .k))
+    rw (
+      none-yet (t .before .args .found) (numbered (t .before .args .k) (t .before .args .i) (t .before .args .x)) (t .if1 .taken),
+      sym (c .before .does-break .ensures) ∙ c .if2 .taken,
+    ) (add-one (t .before .args .k))
 
 returns-2 : tie.Need-returns-2
 returns-2 c =
     let t = c .before .before in
-    rw (none-yet (t .before .args .found) (numbered (t .before .args .k) (t .before .args .i) (t .before .args .x)) (t .if1 .taken), sym (c .before .does-break .ensures) ∙ c .if2 .left) (t .if1 .taken)
+    rw (
+      none-yet (t .before .args .found) (numbered (t .before .args .k) (t .before .args .i) (t .before .args .x)) (t .if1 .taken),
+      sym (c .before .does-break .ensures) ∙ c .if2 .left,
+    ) (t .if1 .taken)
 
 returns-3 : tie.Need-returns-3
 returns-3 c = sym (stays _ _ (c .if1 .left))

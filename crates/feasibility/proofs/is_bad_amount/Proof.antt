@@ -22,7 +22,8 @@ either-way true false = refl
 either-way false true = refl
 either-way false false = refl
 
-far-test : (c : tie.After-is-farther) → c .is-farther .result ≡ farther (c .before .before .before .before .args .x .p) (c .before .before .before .before .args .x .q)
+far-test : (c : tie.After-is-farther) →
+    c .is-farther .result ≡ farther (c .before .before .before .before .args .x .p) (c .before .before .before .before .args .x .q)
 far-test c =
     let h : SFits w64 (c .before .before .before .before .args .x .p) = search needs in
     rw (toZ-ofZ h) at (c .is-farther .ensures)
@@ -43,7 +44,13 @@ unfolding badAmount
 returns-3 c =
     let a = c .before .before .before in
     let x = a .before .before .args .x in
-    rw (ne-eqb (x .q) 0 (a .before .if1 .left), le-ltb 1000 _ (a .if2 .left), sym (far-test (c .before)) ∙ c .if3 .taken, either-way (ltb 1 (gcdOf (natAbs (x .p)) (x .q))) true)
+    rw (
+      ne-eqb (x .q) 0 (a .before .if1 .left),
+      le-ltb 1000 _ (a .if2 .left),
+      sym (far-test (c .before)) ∙
+          c .if3 .taken,
+      either-way (ltb 1 (gcdOf (natAbs (x .p)) (x .q))) true,
+    )
 
 magnitude-requires : tie.Need-magnitude-requires
 magnitude-requires c κs =
@@ -63,7 +70,13 @@ returns-4 c =
     let x = a .before .before .args .x in
     let h : SFits w64 (x .p) = search needs in
     let m : c .before .magnitude .result ≡ natAbs (x .p) = rw (toZ-ofZ h) at (c .before .magnitude .ensures) in
-    rw (ne-eqb (x .q) 0 (a .before .if1 .left), le-ltb 1000 _ (a .if2 .left), sym (far-test (b .before)) ∙ b .if3 .left, either-way (ltb 1 (gcdOf (natAbs (x .p)) (x .q))) false) (ap (ltb 1) (c .gcd .ensures ∙ ap (λ n. gcdOf n (x .q)) m))
+    rw (
+      ne-eqb (x .q) 0 (a .before .if1 .left),
+      le-ltb 1000 _ (a .if2 .left),
+      sym (far-test (b .before)) ∙
+          b .if3 .left,
+      either-way (ltb 1 (gcdOf (natAbs (x .p)) (x .q))) false,
+    ) (ap (ltb 1) (c .gcd .ensures ∙ ap (λ n. gcdOf n (x .q)) m))
 
 pub is-bad-amount-spec : {M : Type 1} → statement M
 is-bad-amount-spec =

@@ -64,7 +64,8 @@ weight-is : (c : tie.After-total) → toZ w64 (ofZ w64 (c .total .result)) ≡ s
 weight-is c = back (c .total .result) (c .total .ok) ∙ c .total .ensures
 
 -- the code's test of the weight is the definition's
-compared : (c : tie.After-total) {b : Bool} → ltZ (toZ w64 (ofZ w64 (c .before .times .result))) (toZ w64 (ofZ w64 (c .total .result))) ≡ b → ltZ (limit (c .before .before .before .before .before)) (sums Weight (c .before .before .before .before .before)) ≡ b
+compared : (c : tie.After-total) {b : Bool} → ltZ (toZ w64 (ofZ w64 (c .before .times .result))) (toZ w64 (ofZ w64 (c .total .result))) ≡ b →
+    ltZ (limit (c .before .before .before .before .before)) (sums Weight (c .before .before .before .before .before)) ≡ b
 compared c e = sym (ap₂ ltZ (limit-is (c .before)) (weight-is c)) ∙ e
 
 returns-2 : tie.Need-returns-2
@@ -83,7 +84,8 @@ worth-is c = back (c .total2 .result) (c .total2 .ok) ∙ c .total2 .ensures
 small : (s : tie.Start) → Within 1000000000000000000 (sums Price s)
 small s =
     let r = s .pre .1 in
-    within-more (omega (arith, r .problem .few-items)) (total-within Price (s .args .d) (s .args .p .count) (s .args .p) (s .args .c) (s .pre .0 .1) r (omega arith))
+    within-more (omega (arith, r .problem .few-items)) (total-within Price (s .args .d) (s .args .p .count) (s .args .p) (s .args .c) (s .pre .0 .1) r
+    (omega arith))
 
 reduce-requires : tie.Need-reduce-requires
 reduce-requires c κs =
@@ -95,7 +97,8 @@ unfolding judged
 returns-3 c =
     let t = c .before .before .before in
     let e = t .before .before .before in
-    rw (sym (e .before .first-broken .ensures), none-told _ _ (e .if1 .left), compared t (c .before .before .if2 .left)) (ap Feasible (c .reduce .ensures ∙ ap (λ v. lowest v (e .before .before .args .d)) (worth-is (c .before))))
+    rw (sym (e .before .first-broken .ensures), none-told _ _ (e .if1 .left), compared t (c .before .before .if2 .left))
+    (ap Feasible (c .reduce .ensures ∙ ap (λ v. lowest v (e .before .before .args .d)) (worth-is (c .before))))
 
 pub judge-spec : {M : Type 1} → statement M
 judge-spec =

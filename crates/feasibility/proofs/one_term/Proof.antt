@@ -27,15 +27,22 @@ times-requires c κs =
     let h : SFits w64 (s .args .x .p) = search needs in
     rw (toZ-ofZ h) (numerator-small (s .args .d) (s .args .x) (s .pre .0) (s .pre .1 .1), omega (arith, div-le-self (s .args .d) (s .args .x .q), s .pre .0))
 
-product : (c : tie.After-times) → toZ w64 (ofZ w64 (c .before .before .figure-of .result)) *ℤ toZ w64 (ofZ w64 (c .times .result)) ≡ term (c .before .before .before .args .f) (c .before .before .before .args .d) (c .before .before .before .args .i) (c .before .before .before .args .x)
+product : (c : tie.After-times) →
+    toZ w64 (ofZ w64 (c .before .before .figure-of .result)) *ℤ toZ w64 (ofZ w64 (c .times .result)) ≡ term (c .before .before .before .args .f)
+    (c .before .before .before .args .d) (c .before .before .before .args .i) (c .before .before .before .args .x)
 product c =
     let f = c .before .before in
     let s = f .before in
     let h : SFits w64 (s .args .x .p) = search needs in
-    ap₂ _*ℤ_ (back (f .figure-of .result) (f .figure-of .ok) ∙ f .figure-of .ensures) (back (c .times .result) (c .times .ok) ∙ (rw (toZ-ofZ h) at (c .times .ensures)))
+    ap₂ _*ℤ_ (back (f .figure-of .result) (f .figure-of .ok) ∙ f .figure-of .ensures)
+    (back (c .times .result) (c .times .ok) ∙ (rw (toZ-ofZ h) at (c .times .ensures)))
 
-fits : (c : tie.After-times) → SFits w64 (term (c .before .before .before .args .f) (c .before .before .before .args .d) (c .before .before .before .args .i) (c .before .before .before .args .x))
-fits c = let s = c .before .before .before in within-sfits (lit< tt) (term-within (s .args .f) (s .args .d) (s .args .i) (s .args .x) (s .pre .0) (s .pre .1 .0) (s .pre .1 .1))
+fits : (c : tie.After-times) →
+    SFits w64 (term (c .before .before .before .args .f) (c .before .before .before .args .d) (c .before .before .before .args .i)
+    (c .before .before .before .args .x))
+fits c =
+    let s = c .before .before .before in
+    within-sfits (lit< tt) (term-within (s .args .f) (s .args .d) (s .args .i) (s .args .x) (s .pre .0) (s .pre .1 .0) (s .pre .1 .1))
 
 mul-result : tie.Need-mul-result
 mul-result c = rw (product c) (fits c)

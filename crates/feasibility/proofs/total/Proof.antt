@@ -55,11 +55,14 @@ fits s k l =
     within-sfits {n = 160000000000000000} (lit< tt) (within-more (omega (arith, few s)) h)
 
 -- one more
-next : (c : tie.After-one-term Inv-loop μ-loop) → toZ w64 (c .before .before .before .before .loop .sum) +ℤ toZ w64 (ofZ w64 (c .one-term .result)) ≡ S (c .before .before .before .before .before) (c .before .before .before .before .loop .k + 1)
+next : (c : tie.After-one-term Inv-loop μ-loop) →
+    toZ w64 (c .before .before .before .before .loop .sum) +ℤ toZ w64 (ofZ w64 (c .one-term .result)) ≡ S (c .before .before .before .before .before)
+    (c .before .before .before .before .loop .k + 1)
 next c =
     let l = c .before .before .before .before in
     let s = l .before in
-    rw add-one (ap₂ _+ℤ_ (ap (toZ w64) (l .loop .inv .1) ∙ toZ-ofZ (fits s (l .loop .k) (l .loop .inv .0))) (back (c .one-term .result) (c .one-term .ok) ∙ c .one-term .ensures))
+    rw add-one (ap₂ _+ℤ_ (ap (toZ w64) (l .loop .inv .1) ∙ toZ-ofZ (fits s (l .loop .k) (l .loop .inv .0)))
+    (back (c .one-term .result) (c .one-term .ok) ∙ c .one-term .ensures))
 
 add-sum : tie.Need-add-sum Inv-loop μ-loop
 add-sum c = let l = c .before .before .before .before in rw (next c) (fits (l .before) (l .loop .k + 1) (omega arith))

@@ -10,7 +10,7 @@ use Rattle.arith.proofs.Parts.{within-sub, within-more, within-back}
 use Rattle.greedy.specs.declared.Columns.{Columns}
 use Rattle.greedy.specs.declared.Ends.{Ends}
 use Rattle.greedy.specs.declared.Fill.{Fill}
-use Rattle.greedy.specs.Fill.{at, weightOf, priceOf, lightOf, cornerWeight, cornerWorth, withItem}
+use Rattle.greedy.specs.Fill.{at, weightOf, priceOf, lightOf, cornerWeight, cornerWorth, withAmount}
 use Rattle.greedy.proofs.Sizes.{light-within, corner-weight-within, corner-worth-within}
 use Rattle.greedy.proofs.begin.Statement.{statement}
 use Rattle.greedy.proofs.begin.Tie as tie
@@ -19,8 +19,9 @@ use Rattle.greedy.proofs.begin.Tie as tie
 abbrev partly : Columns → Ends → ℕ → Fill
 partly c e k = record { at = 0; room = c .capacity -ℤ cornerWeight c e k; worth = cornerWorth c e k }
 
-more : (c : Columns) (e : Ends) (k : ℕ) → withItem (partly c e k) (weightOf c k) (priceOf c k) (lightOf c e k) ≡ partly c e (k + 1)
-more c e k = rw add-one (ap₂ (λ (r w : ℤ). record { at = 0; room = r; worth = w }) (take (c .capacity) (cornerWeight c e k) (weightOf c k *ℤ lightOf c e k)) refl)
+more : (c : Columns) (e : Ends) (k : ℕ) → withAmount (partly c e k) (weightOf c k) (priceOf c k) (lightOf c e k) ≡ partly c e (k + 1)
+more c e k = rw add-one (ap₂ (λ (r w : ℤ). record { at = 0; room = r; worth = w }) (take (c .capacity) (cornerWeight c e k) (weightOf c k *ℤ lightOf c e k))
+    refl)
   where
     take : (x y z : ℤ) → (x -ℤ y) -ℤ z ≡ x -ℤ (y +ℤ z)
     take = split3 _ (λ a b c e f g. simp zed (omega arith))
@@ -32,7 +33,11 @@ abbrev μ-loop : tie.MeasureT-loop
 μ-loop cols ends n f₀ k₀ f k = n - k
 
 loop-holds : tie.Need-loop-holds Inv-loop μ-loop
-loop-holds c = (omega arith, ap₂ (λ (r w : ℤ). record { at = 0; room = r; worth = w }) (within-back tt (c .before .pre .columns .capacity-in) ∙ nothing (c .before .args .t1 .capacity)) refl)
+loop-holds c = (
+  omega arith,
+  ap₂ (λ (r w : ℤ). record { at = 0; room = r; worth = w })
+      (within-back tt (c .before .pre .columns .capacity-in) ∙ nothing (c .before .args .t1 .capacity)) refl,
+)
   where
     nothing : (x : ℤ) → x ≡ x -ℤ pos 0
     nothing = split _ (λ a b. simp zed (omega arith))
@@ -43,37 +48,59 @@ mul-a c = omega (arith, c .before .before .before .pre .columns .few)
 element-copy-out-a : tie.Need-element-copy-out-a Inv-loop μ-loop
 element-copy-out-a c = omega (arith, c .before .before .before .pre .columns .few)
 
+-- the moments that are spoken of below
+abbrev at-loop : tie.After-light-end Inv-loop μ-loop → tie.At-loop Inv-loop μ-loop
+at-loop c = c .before .before .before .before .before .before
+
+abbrev start-by-a : tie.After-a Inv-loop μ-loop → tie.Start Inv-loop μ-loop
+start-by-a c = c .before .before .before .before
+
+abbrev start-by-p : tie.After-p Inv-loop μ-loop → tie.Start Inv-loop μ-loop
+start-by-p c = c .before .before .before .before .before
+
+abbrev start-by-l : tie.After-l Inv-loop μ-loop → tie.Start Inv-loop μ-loop
+start-by-l c = c .before .before .before .before .before .before
+
+abbrev start-by-light-end : tie.After-light-end Inv-loop μ-loop → tie.Start Inv-loop μ-loop
+start-by-light-end c = c .before .before .before .before .before .before .before .before
+
 mul-p : tie.Need-mul-p Inv-loop μ-loop
-mul-p c = omega (arith, c .before .before .before .before .pre .columns .few)
+mul-p c = omega (arith, start-by-a c .pre .columns .few)
 
 element-copy-out-p : tie.Need-element-copy-out-p Inv-loop μ-loop
-element-copy-out-p c = omega (arith, c .before .before .before .before .pre .columns .few)
+element-copy-out-p c = omega (arith, start-by-a c .pre .columns .few)
 
 mul-l : tie.Need-mul-l Inv-loop μ-loop
-mul-l c = omega (arith, c .before .before .before .before .before .pre .columns .few)
+mul-l c = omega (arith, start-by-p c .pre .columns .few)
 
 element-copy-out-l : tie.Need-element-copy-out-l Inv-loop μ-loop
-element-copy-out-l c = omega (arith, c .before .before .before .before .before .pre .columns .few)
+element-copy-out-l c = omega (arith, start-by-p c .pre .columns .few)
 
 mul-u : tie.Need-mul-u Inv-loop μ-loop
-mul-u c = omega (arith, c .before .before .before .before .before .before .pre .columns .few)
+mul-u c = omega (arith, start-by-l c .pre .columns .few)
 
 element-copy-out-u : tie.Need-element-copy-out-u Inv-loop μ-loop
-element-copy-out-u c = omega (arith, c .before .before .before .before .before .before .pre .columns .few)
+element-copy-out-u c = omega (arith, start-by-l c .pre .columns .few)
 
 light-end-requires : tie.Need-light-end-requires Inv-loop μ-loop
 light-end-requires c κs = search needs
 
 -- the light end of the turn's item
-amount : (c : tie.After-light-end Inv-loop μ-loop) → c .light-end .result ≡ lightOf (c .before .before .before .before .before .before .before .before .args .t1) (c .before .before .before .before .before .before .before .before .args .t2) (c .before .before .before .before .before .before .loop .k)
+amount : (c : tie.After-light-end Inv-loop μ-loop) → c .light-end .result ≡ lightOf (start-by-light-end c .args .t1) (start-by-light-end c .args .t2)
+    (at-loop c .loop .k)
 amount c =
-    let l = c .before .before .before .before .before .before in
+    let l = at-loop c in
     let z = l .before .before .pre in
     let k = l .loop .k in
-    rw (within-back tt (z .columns .weights-in k), within-back tt (z .columns .prices-in k), within-back tt (z .ends .lo-in k), within-back tt (z .ends .hi-in k)) at (c .light-end .ensures)
+    rw (
+      within-back tt (z .columns .weights-in k),
+      within-back tt (z .columns .prices-in k),
+      within-back tt (z .ends .lo-in k),
+      within-back tt (z .ends .hi-in k),
+    ) at (c .light-end .ensures)
 
-with-item-requires : tie.Need-with-item-requires Inv-loop μ-loop
-with-item-requires c κs =
+with-amount-requires : tie.Need-with-amount-requires Inv-loop μ-loop
+with-amount-requires c κs =
     let l = c .before .before .before .before .before .before in
     let s = l .before .before in
     let z = s .pre in
@@ -86,7 +113,8 @@ with-item-requires c κs =
         (
           w,
           (
-            within-more (omega arith) (within-sub (z .columns .capacity-in) (corner-weight-within (s .args .t1) (s .args .t2) z k (omega (arith, z .columns .few)))),
+            within-more (omega arith) (within-sub (z .columns .capacity-in)
+                (corner-weight-within (s .args .t1) (s .args .t2) z k (omega (arith, z .columns .few)))),
             within-more (omega arith) (corner-worth-within (s .args .t1) (s .args .t2) z k (omega (arith, z .columns .few))),
           ),
         ),
@@ -105,7 +133,13 @@ loop-again c =
     let s = l .before .before in
     let z = s .pre in
     let k = l .loop .k in
-    let e = rw (within-back tt (z .columns .weights-in k), within-back tt (z .columns .prices-in k), amount (c .before), within-back tt (light-within (s .args .t1) (s .args .t2) z k), l .loop .inv .1) at (c .with-item .ensures) in
+    let e = rw (
+      within-back tt (z .columns .weights-in k),
+      within-back tt (z .columns .prices-in k),
+      amount (c .before),
+      within-back tt (light-within (s .args .t1) (s .args .t2) z k),
+      l .loop .inv .1,
+    ) at (c .with-amount .ensures) in
     (omega arith, e ∙ more (s .args .t1) (s .args .t2) k)
 
 returns : tie.Need-returns Inv-loop μ-loop
@@ -129,7 +163,7 @@ begin-spec =
     mul-u
     element-copy-out-u
     light-end-requires
-    with-item-requires
+    with-amount-requires
     add-k
     loop-less
     loop-again

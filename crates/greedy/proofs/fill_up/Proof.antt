@@ -8,13 +8,14 @@ use lib.Signed.{ltZ}
 use lib.IntN.{ℤ, _*ℤ_}
 use mir.Syntax.{w64}
 use mir.Val.{Fits}
+use Rattle.arith.specs.Limits.{mostRoom, mostWorth}
 use Rattle.arith.specs.Within.{Within}
 use Rattle.arith.proofs.Parts.{within-add, within-sub, within-more, within-sfits, within-back, within-mul, impossible}
 use Rattle.greedy.specs.declared.Columns.{Columns}
 use Rattle.greedy.specs.declared.Ends.{Ends}
 use Rattle.greedy.specs.declared.Fill.{Fill}
-use Rattle.greedy.specs.declared.Turn.{Turn}
-use Rattle.greedy.specs.Fill.{at, itemOf, width, begun, raised, raisedBy, turnBy, fillFrom, fill}
+use Rattle.greedy.specs.declared.Raising.{Raising}
+use Rattle.greedy.specs.Fill.{at, itemOf, width, begun, raised, raisedBy, raiseBy, fillFrom, fill}
 use Rattle.greedy.specs.Sized.{Sized}
 use Rattle.greedy.proofs.Sizes.{corner-weight-within, corner-worth-within, width-within}
 use Rattle.greedy.proofs.fill_up.Statement.{statement}
@@ -35,9 +36,10 @@ begin-filling c e z = record {
   rest = ap (λ n. fillFrom c e n (begun c e)) (omega arith);
 }
 
-turn-once : (c : Columns) (e : Ends) (n : ℕ) (f : Fill) → ltZ (f .room) (at (c .size) (f .at) *ℤ width c e (f .at)) ≡ false → fillFrom c e (suc n) f ≡ fillFrom c e n (raised c e f)
+raise-once : (c : Columns) (e : Ends) (n : ℕ) (f : Fill) → ltZ (f .room) (at (c .size) (f .at) *ℤ width c e (f .at)) ≡ false
+    → fillFrom c e (suc n) f ≡ fillFrom c e n (raised c e f)
 unfolding fillFrom
-turn-once c e n f h = rw h
+raise-once c e n f h = rw h
 
 from-zero : (c : Columns) (e : Ends) (f : Fill) → fillFrom c e 0 f ≡ f
 unfolding fillFrom
@@ -49,9 +51,9 @@ stop-once c e zero f h = refl
 stop-once c e (suc n) f h = rw h
 
 -- one turn of what is left
-turn-left : (c : Columns) (e : Ends) (f : Fill) → f .at < c .live → ltZ (f .room) (at (c .size) (f .at) *ℤ width c e (f .at)) ≡ false
+raise-left : (c : Columns) (e : Ends) (f : Fill) → f .at < c .live → ltZ (f .room) (at (c .size) (f .at) *ℤ width c e (f .at)) ≡ false
     → fillFrom c e (c .live - f .at) f ≡ fillFrom c e (c .live - (f .at + 1)) (raised c e f)
-turn-left c e f l h = ap (λ n. fillFrom c e n f) (apart (c .live) (f .at) l) ∙ turn-once c e (c .live - (f .at + 1)) f h
+raise-left c e f l h = ap (λ n. fillFrom c e n f) (apart (c .live) (f .at) l) ∙ raise-once c e (c .live - (f .at + 1)) f h
   where
     apart : (m k : ℕ) → k < m → m - k ≡ suc (m - (k + 1))
     apart m k l = omega arith
@@ -80,15 +82,43 @@ returns c =
     let t = rw (e, within-back tt (begun-room s)) at (c .if1 .taken) in
     rw (e, t)
 
+-- the moments that are spoken of below
+abbrev at-loop-by-raise : tie.After-raise Inv-loop μ-loop → tie.At-loop Inv-loop μ-loop
+at-loop-by-raise c = c .before .before .before .before .before .before .before .before
+
+abbrev at-loop-by-then3 : tie.Then3 Inv-loop μ-loop → tie.At-loop Inv-loop μ-loop
+at-loop-by-then3 c = c .before .before .before .before .before .before .before .before .before
+
+abbrev start-by-else1 : tie.Else1 Inv-loop μ-loop → tie.Start Inv-loop μ-loop
+start-by-else1 c = c .before .before .before .before
+
+abbrev start-by-at-loop : tie.At-loop Inv-loop μ-loop → tie.Start Inv-loop μ-loop
+start-by-at-loop c = c .before .before .before .before .before
+
+abbrev start-by-then2 : tie.Then2 Inv-loop μ-loop → tie.Start Inv-loop μ-loop
+start-by-then2 c = c .before .before .before .before .before .before .before
+
+abbrev start-by-raise : tie.After-raise Inv-loop μ-loop → tie.Start Inv-loop μ-loop
+start-by-raise c = c .before .before .before .before .before .before .before .before .before .before .before .before .before
+
+abbrev start-by-then3 : tie.Then3 Inv-loop μ-loop → tie.Start Inv-loop μ-loop
+start-by-then3 c = c .before .before .before .before .before .before .before .before .before .before .before .before .before .before
+
+abbrev then2-by-s : tie.After-s Inv-loop μ-loop → tie.Then2 Inv-loop μ-loop
+then2-by-s c = c .before .before .before .before
+
+abbrev then2-by-then3 : tie.Then3 Inv-loop μ-loop → tie.Then2 Inv-loop μ-loop
+then2-by-then3 c = c .before .before .before .before .before .before .before
+
 loop-holds : tie.Need-loop-holds Inv-loop μ-loop
-loop-holds c = let s = c .before .before .before .before in rw (c .before .before .before .begin .ensures) (begin-filling (s .args .t1) (s .args .t2) (s .pre))
+loop-holds c = let s = start-by-else1 c in rw (c .before .before .before .begin .ensures) (begin-filling (s .args .t1) (s .args .t2) (s .pre))
 
 -- the rank of the turn
 rank<16 : (c : tie.Then2 Inv-loop μ-loop) → c .before .before .loop .f .at < 16
-rank<16 c = let l = c .before .before in omega (arith, l .loop .inv .rank-in, l .before .before .before .before .before .pre .columns .live-few, c .if2 .taken)
+rank<16 c = let l = c .before .before in omega (arith, l .loop .inv .rank-in, start-by-at-loop l .pre .columns .live-few, c .if2 .taken)
 
-item<16 : (c : tie.Then2 Inv-loop μ-loop) → itemOf (c .before .before .before .before .before .before .before .args .t1) (c .before .before .loop .f .at) < 16
-item<16 c = c .before .before .before .before .before .before .before .pre .columns .items-in (c .before .before .loop .f .at)
+item<16 : (c : tie.Then2 Inv-loop μ-loop) → itemOf (start-by-then2 c .args .t1) (c .before .before .loop .f .at) < 16
+item<16 c = start-by-then2 c .pre .columns .items-in (c .before .before .loop .f .at)
 
 mul-k : tie.Need-mul-k Inv-loop μ-loop
 mul-k c = omega (arith, rank<16 c)
@@ -115,35 +145,42 @@ element-copy-out-s : tie.Need-element-copy-out-s Inv-loop μ-loop
 element-copy-out-s c = rank<16 (c .before .before .before)
 
 mul-p : tie.Need-mul-p Inv-loop μ-loop
-mul-p c = small (rank<16 (c .before .before .before .before))
+mul-p c = small (rank<16 (then2-by-s c))
 
 element-copy-out-p : tie.Need-element-copy-out-p Inv-loop μ-loop
-element-copy-out-p c = rank<16 (c .before .before .before .before)
+element-copy-out-p c = rank<16 (then2-by-s c)
 
 sub-raise : tie.Need-sub-raise Inv-loop μ-loop
 sub-raise c =
     let l = c .before .before .before .before .before .before .before in
-    let s = l .before .before .before .before .before in
+    let s = start-by-at-loop l in
     let k = itemOf (s .args .t1) (l .loop .f .at) in
-    rw (within-back tt (s .pre .ends .hi-in k), within-back tt (s .pre .ends .lo-in k)) (within-sfits (lit< tt) (width-within (s .args .t1) (s .args .t2) (s .pre) (l .loop .f .at)))
+    rw (within-back tt (s .pre .ends .hi-in k), within-back tt (s .pre .ends .lo-in k))
+    (within-sfits (lit< tt) (width-within (s .args .t1) (s .args .t2) (s .pre) (l .loop .f .at)))
 
 -- the room and the worth stay small
 module _ {c : Columns} {e : Ends} {f : Fill} (i : Filling c e f) (few : c .live ≤ 16) where
-  room-small : Within 20000000000000 (f .room)
+  room-small : Within mostRoom (f .room)
   room-small = within-more (omega (arith, i .rank-in)) (i .room-in)
 
-  worth-small : Within 200000000000000 (f .worth)
+  worth-small : Within mostWorth (f .worth)
   worth-small = within-more (omega (arith, i .rank-in)) (i .worth-in)
 
 raise-requires : tie.Need-raise-requires Inv-loop μ-loop
 raise-requires c κs =
     let t = c .before .before .before .before .before in
     let l = t .before .before in
-    let s = l .before .before .before .before .before in
+    let s = start-by-at-loop l in
     let u = l .loop .f .at in
     let k = itemOf (s .args .t1) u in
     let w = width-within (s .args .t1) (s .args .t2) (s .pre) u in
-    rw (within-back tt (s .pre .columns .sizes-in u), within-back tt (s .pre .columns .rates-in u), within-back tt (s .pre .ends .hi-in k), within-back tt (s .pre .ends .lo-in k), within-back tt w) (record {
+    rw (
+      within-back tt (s .pre .columns .sizes-in u),
+      within-back tt (s .pre .columns .rates-in u),
+      within-back tt (s .pre .ends .hi-in k),
+      within-back tt (s .pre .ends .lo-in k),
+      within-back tt w,
+    ) (record {
       rank-in = rank<16 t;
       room-in = room-small (l .loop .inv) (s .pre .columns .live-few);
       worth-in = worth-small (l .loop .inv) (s .pre .columns .live-few);
@@ -153,56 +190,66 @@ raise-requires c κs =
     })
 
 -- what a turn gives
-turned : (c : tie.After-raise Inv-loop μ-loop) → c .raise .result ≡ turnBy (c .before .before .before .before .before .before .before .before .loop .f) (at (c .before .before .before .before .before .before .before .before .before .before .before .before .before .args .t1 .size) (c .before .before .before .before .before .before .before .before .loop .f .at)) (at (c .before .before .before .before .before .before .before .before .before .before .before .before .before .args .t1 .rate) (c .before .before .before .before .before .before .before .before .loop .f .at)) (width (c .before .before .before .before .before .before .before .before .before .before .before .before .before .args .t1) (c .before .before .before .before .before .before .before .before .before .before .before .before .before .args .t2) (c .before .before .before .before .before .before .before .before .loop .f .at))
-turned c =
-    let l = c .before .before .before .before .before .before .before .before in
-    let s = l .before .before .before .before .before in
+raise-is : (c : tie.After-raise Inv-loop μ-loop) → c .raise .result ≡ raiseBy (at-loop-by-raise c .loop .f)
+    (at (start-by-raise c .args .t1 .size) (at-loop-by-raise c .loop .f .at)) (at (start-by-raise c .args .t1 .rate) (at-loop-by-raise c .loop .f .at))
+    (width (start-by-raise c .args .t1) (start-by-raise c .args .t2) (at-loop-by-raise c .loop .f .at))
+raise-is c =
+    let l = at-loop-by-raise c in
+    let s = start-by-at-loop l in
     let u = l .loop .f .at in
     let k = itemOf (s .args .t1) u in
     let w = width-within (s .args .t1) (s .args .t2) (s .pre) u in
-    rw (within-back tt (s .pre .columns .sizes-in u), within-back tt (s .pre .columns .rates-in u), within-back tt (s .pre .ends .hi-in k), within-back tt (s .pre .ends .lo-in k), within-back tt w) at (c .raise .ensures)
+    rw (
+      within-back tt (s .pre .columns .sizes-in u),
+      within-back tt (s .pre .columns .rates-in u),
+      within-back tt (s .pre .ends .hi-in k),
+      within-back tt (s .pre .ends .lo-in k),
+      within-back tt w,
+    ) at (c .raise .ensures)
 
 -- a turn that fits, and one that does not
-turn-fits : (f : Fill) (a p w : ℤ) → turnBy f a p w .fits ≡ true → (ltZ (f .room) (a *ℤ w) ≡ false) × (turnBy f a p w .fill ≡ raisedBy f a p w)
-turn-fits f a p w h = go (ltZ (f .room) (a *ℤ w)) refl
+raise-fits : (f : Fill) (a p w : ℤ) → raiseBy f a p w .fits ≡ true → (ltZ (f .room) (a *ℤ w) ≡ false) × (raiseBy f a p w .fill ≡ raisedBy f a p w)
+raise-fits f a p w h = go (ltZ (f .room) (a *ℤ w)) refl
   where
-    go : (b : Bool) → ltZ (f .room) (a *ℤ w) ≡ b → (ltZ (f .room) (a *ℤ w) ≡ false) × (turnBy f a p w .fill ≡ raisedBy f a p w)
+    go : (b : Bool) → ltZ (f .room) (a *ℤ w) ≡ b → (ltZ (f .room) (a *ℤ w) ≡ false) × (raiseBy f a p w .fill ≡ raisedBy f a p w)
     go true e = absurd (impossible (rw e at h))
     go false e = (e, rw e)
 
-turn-stops : (f : Fill) (a p w : ℤ) → turnBy f a p w .fits ≡ false → ltZ (f .room) (a *ℤ w) ≡ true
-turn-stops f a p w h = go (ltZ (f .room) (a *ℤ w)) refl
+raise-stops : (f : Fill) (a p w : ℤ) → raiseBy f a p w .fits ≡ false → ltZ (f .room) (a *ℤ w) ≡ true
+raise-stops f a p w h = go (ltZ (f .room) (a *ℤ w)) refl
   where
     go : (b : Bool) → ltZ (f .room) (a *ℤ w) ≡ b → ltZ (f .room) (a *ℤ w) ≡ true
     go true e = e
     go false e = absurd (impossible (sym (rw e at h)))
 
-more-filling : (c : Columns) (e : Ends) (f : Fill) → Sized c e → f .at < c .live → ltZ (f .room) (at (c .size) (f .at) *ℤ width c e (f .at)) ≡ false → Filling c e f → Filling c e (raised c e f)
+more-filling : (c : Columns) (e : Ends) (f : Fill) → Sized c e → f .at < c .live → ltZ (f .room) (at (c .size) (f .at) *ℤ width c e (f .at)) ≡ false
+    → Filling c e f → Filling c e (raised c e f)
 more-filling c e f z l h i = record {
   rank-in = omega arith;
   room-in = within-more (omega arith) (within-sub (i .room-in) (within-mul (z .columns .sizes-in (f .at)) (width-within c e z (f .at))));
   worth-in = within-more (omega arith) (within-add (i .worth-in) (within-mul (z .columns .rates-in (f .at)) (width-within c e z (f .at))));
-  rest = sym (turn-left c e f l h) ∙ i .rest;
+  rest = sym (raise-left c e f l h) ∙ i .rest;
 }
 
 -- after a turn that fits
 module _ (c : tie.Then3 Inv-loop μ-loop) where
-  raised-to : (c .before .raise .result .fill ≡ raised (c .before .before .before .before .before .before .before .before .before .before .before .before .before .before .args .t1) (c .before .before .before .before .before .before .before .before .before .before .before .before .before .before .args .t2) (c .before .before .before .before .before .before .before .before .before .loop .f))
-      × (ltZ (c .before .before .before .before .before .before .before .before .before .loop .f .room) (at (c .before .before .before .before .before .before .before .before .before .before .before .before .before .before .args .t1 .size) (c .before .before .before .before .before .before .before .before .before .loop .f .at) *ℤ width (c .before .before .before .before .before .before .before .before .before .before .before .before .before .before .args .t1) (c .before .before .before .before .before .before .before .before .before .before .before .before .before .before .args .t2) (c .before .before .before .before .before .before .before .before .before .loop .f .at)) ≡ false)
+  raised-to : (c .before .raise .result .fill ≡ raised (start-by-then3 c .args .t1) (start-by-then3 c .args .t2) (at-loop-by-then3 c .loop .f))
+      × (ltZ (at-loop-by-then3 c .loop .f .room) (at (start-by-then3 c .args .t1 .size) (at-loop-by-then3 c .loop .f .at) *ℤ width (start-by-then3 c .args .t1)
+      (start-by-then3 c .args .t2) (at-loop-by-then3 c .loop .f .at)) ≡ false)
   raised-to =
-      let l = c .before .before .before .before .before .before .before .before .before in
-      let s = l .before .before .before .before .before in
+      let l = at-loop-by-then3 c in
+      let s = start-by-at-loop l in
       let u = l .loop .f .at in
-      let e = turned (c .before) in
-      let t = turn-fits (l .loop .f) (at (s .args .t1 .size) u) (at (s .args .t1 .rate) u) (width (s .args .t1) (s .args .t2) u) (rw e at (c .if3 .taken)) in
-      (ap (λ (x : Turn). x .fill) e ∙ t .1, t .0)
+      let e = raise-is (c .before) in
+      let t = raise-fits (l .loop .f) (at (s .args .t1 .size) u) (at (s .args .t1 .rate) u) (width (s .args .t1) (s .args .t2) u) (rw e at (c .if3 .taken)) in
+      (ap (λ (x : Raising). x .fill) e ∙ t .1, t .0)
 
 loop-less : tie.Need-loop-less Inv-loop μ-loop
 loop-less c =
     let t = c .before in
-    let l = t .before .before .before .before .before .before .before .before .before in
-    let k = t .before .before .before .before .before .before .before in
-    let s = l .before .before .before .before .before in
+    let l = at-loop-by-then3 t in
+    let k = then2-by-then3 t in
+    let s = start-by-at-loop l in
     rw (raised-to t .0) (falls (s .args .t1 .live) (l .loop .f .at) (k .if2 .taken))
   where
     falls : (m k : ℕ) → k < m → m - (k + 1) < m - k
@@ -211,32 +258,34 @@ loop-less c =
 loop-again : tie.Need-loop-again Inv-loop μ-loop
 loop-again c =
     let t = c .before in
-    let l = t .before .before .before .before .before .before .before .before .before in
-    let k = t .before .before .before .before .before .before .before in
-    let s = l .before .before .before .before .before in
+    let l = at-loop-by-then3 t in
+    let k = then2-by-then3 t in
+    let s = start-by-at-loop l in
     rw (raised-to t .0) (more-filling (s .args .t1) (s .args .t2) (l .loop .f) (s .pre) (k .if2 .taken) (raised-to t .1) (l .loop .inv))
 
 -- the box is not empty where the loop is entered
-entered : (l : tie.At-loop Inv-loop μ-loop) → fill (l .before .before .before .before .before .args .t1) (l .before .before .before .before .before .args .t2) ≡ fillFrom (l .before .before .before .before .before .args .t1) (l .before .before .before .before .before .args .t2) (l .before .before .before .before .before .args .t1 .live) (begun (l .before .before .before .before .before .args .t1) (l .before .before .before .before .before .args .t2))
+entered : (l : tie.At-loop Inv-loop μ-loop) → fill (start-by-at-loop l .args .t1) (start-by-at-loop l .args .t2) ≡ fillFrom (start-by-at-loop l .args .t1)
+    (start-by-at-loop l .args .t2) (start-by-at-loop l .args .t1 .live) (begun (start-by-at-loop l .args .t1) (start-by-at-loop l .args .t2))
 unfolding fill
 entered l =
     let b = l .before in
-    let s = b .before .before .before .before in
+    let s = start-by-else1 b in
     let t = rw (b .before .before .before .begin .ensures, within-back tt (begun-room s)) at (b .if1 .left) in
     rw t
 
 returns-2 : tie.Need-returns-2 Inv-loop μ-loop
 returns-2 c =
     let l = c .before .before .before .before .before .before .before .before .before in
-    let s = l .before .before .before .before .before in
+    let s = start-by-at-loop l in
     let u = l .loop .f .at in
-    let t = turn-stops (l .loop .f) (at (s .args .t1 .size) u) (at (s .args .t1 .rate) u) (width (s .args .t1) (s .args .t2) u) (rw (turned (c .before)) at (c .if3 .left)) in
+    let t = raise-stops (l .loop .f) (at (s .args .t1 .size) u) (at (s .args .t1 .rate) u) (width (s .args .t1) (s .args .t2) u)
+    (rw (raise-is (c .before)) at (c .if3 .left)) in
     sym (stop-once (s .args .t1) (s .args .t2) (s .args .t1 .live - u) (l .loop .f) t) ∙ l .loop .inv .rest ∙ sym (entered l)
 
 returns-3 : tie.Need-returns-3 Inv-loop μ-loop
 returns-3 c =
     let l = c .before .before in
-    let s = l .before .before .before .before .before in
+    let s = start-by-at-loop l in
     sym (all-ranks (s .args .t1) (s .args .t2) (l .loop .f) (c .if2 .left)) ∙ l .loop .inv .rest ∙ sym (entered l)
   where
     nothing : (m k : ℕ) → m ≤ k → m - k ≡ 0
@@ -246,4 +295,6 @@ returns-3 c =
     all-ranks c e f h = ap (λ n. fillFrom c e n f) (nothing (c .live) (f .at) h) ∙ from-zero c e f
 
 pub fill-up-spec : {M : Type 1} → statement M
-fill-up-spec = tie.close (tie.spec Inv-loop μ-loop begin-requires returns loop-holds mul-k element-copy-out-k mul-l element-copy-out-l mul-h element-copy-out-h mul-s element-copy-out-s mul-p element-copy-out-p sub-raise raise-requires loop-less loop-again returns-2 returns-3)
+fill-up-spec = tie.close
+    (tie.spec Inv-loop μ-loop begin-requires returns loop-holds mul-k element-copy-out-k mul-l element-copy-out-l mul-h element-copy-out-h mul-s
+    element-copy-out-s mul-p element-copy-out-p sub-raise raise-requires loop-less loop-again returns-2 returns-3)

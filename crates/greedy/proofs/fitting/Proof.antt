@@ -34,7 +34,8 @@ ceil-div-requires c κs =
     rw (toZ-ofZ (s .fits .a), toZ-ofZ (s .fits .room)) (within-more (omega arith) (s .pre .room-in), below (s .args .a) (yes-lt t))
 
 up : (c : tie.After-ceil-div) → toZ w64 (ofZ w64 (c .ceil-div .result)) ≡ ceilDiv (c .before .before .args .room) (c .before .before .args .a)
-up c = let s = c .before .before in rw (back (c .ceil-div .result) (c .ceil-div .ok)) (rw (toZ-ofZ (s .fits .a), toZ-ofZ (s .fits .room)) at (c .ceil-div .ensures))
+up c = let s = c .before .before in rw (back (c .ceil-div .result) (c .ceil-div .ok))
+    (rw (toZ-ofZ (s .fits .a), toZ-ofZ (s .fits .room)) at (c .ceil-div .ensures))
 
 add-result : tie.Need-add-result
 add-result c = let s = c .before .before in rw (up c, toZ-ofZ (s .fits .u)) (within-sfits (lit< tt) (sunk s))
@@ -56,8 +57,10 @@ floor-div-requires c κs =
     let t = rw (toZ-ofZ (s .fits .a)) at (c .if2 .taken) in
     rw (toZ-ofZ (s .fits .a), toZ-ofZ (s .fits .room)) (within-more (omega arith) (s .pre .room-in), above (s .args .a) (yes-lt t))
 
-down : (c : tie.After-floor-div) → toZ w64 (ofZ w64 (c .floor-div .result)) ≡ floorDiv (c .before .before .before .args .room) (c .before .before .before .args .a)
-down c = let s = c .before .before .before in rw (back (c .floor-div .result) (c .floor-div .ok)) (rw (toZ-ofZ (s .fits .a), toZ-ofZ (s .fits .room)) at (c .floor-div .ensures))
+down : (c : tie.After-floor-div) → toZ w64 (ofZ w64 (c .floor-div .result)) ≡ floorDiv (c .before .before .before .args .room)
+    (c .before .before .before .args .a)
+down c = let s = c .before .before .before in rw (back (c .floor-div .result) (c .floor-div .ok))
+    (rw (toZ-ofZ (s .fits .a), toZ-ofZ (s .fits .room)) at (c .floor-div .ensures))
 
 add-result-2 : tie.Need-add-result-2
 add-result-2 c = let s = c .before .before .before in rw (down c, toZ-ofZ (s .fits .l)) (within-sfits (lit< tt) (risen s))

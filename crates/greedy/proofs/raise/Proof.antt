@@ -1,7 +1,7 @@
 -- `greedy::raise` meets its contract: nothing overflows.
 use mathlib.Core.Path.{_≡_}
 use lib.Dec.{lit<}
-use lib.IntN.{ℤ, _+ℤ_, _-ℤ_, _*ℤ_}
+use lib.IntN.{_+ℤ_, _-ℤ_, _*ℤ_}
 use mir.Syntax.{w64}
 use mir.Val.{toZ, ofZ}
 use mir.Facts.{toZ-ofZ}
@@ -43,24 +43,41 @@ returns c =
 add-t8 : tie.Need-add-t8
 add-t8 c = search needs
 
+-- the moments that are spoken of below
+abbrev start-by-struct-told2 : tie.After-struct-told2 → tie.Start
+start-by-struct-told2 c = c .before .before .before .before .before .before
+
+abbrev start-by-struct-told3 : tie.After-struct-told3 → tie.Start
+start-by-struct-told3 c = c .before .before .before .before .before .before .before .before
+
 sub-t9 : tie.Need-sub-t9
 sub-t9 c =
-    let s = c .before .before .before .before .before .before in
+    let s = start-by-struct-told2 c in
     rw (within-back tt (s .pre .room-in), need s, within-back tt (need-within s)) (within-sfits (lit< tt) (room-within s))
 
 mul-t10 : tie.Need-mul-t10
-mul-t10 c = let s = c .before .before .before .before .before .before in rw (gain s) (within-sfits (lit< tt) (gain-within s))
+mul-t10 c = let s = start-by-struct-told2 c in rw (gain s) (within-sfits (lit< tt) (gain-within s))
 
 add-t11 : tie.Need-add-t11
 add-t11 c =
-    let s = c .before .before .before .before .before .before .before .before in
+    let s = start-by-struct-told3 c in
     rw (within-back tt (s .pre .worth-in), gain s, within-back tt (gain-within s)) (within-sfits (lit< tt) (worth-within s))
 
 returns-2 : tie.Need-returns-2
 returns-2 c =
-    let s = c .before .before .before .before .before .before .before .before in
+    let s = start-by-struct-told3 c in
     let t = rw (within-back tt (s .pre .room-in), need s, within-back tt (need-within s)) at (c .before .before .before .before .before .if1 .left) in
-    rw (within-back tt (s .pre .room-in), need s, within-back tt (need-within s), within-back tt (room-within s), within-back tt (s .pre .worth-in), gain s, within-back tt (gain-within s), within-back tt (worth-within s), t)
+    rw (
+      within-back tt (s .pre .room-in),
+      need s,
+      within-back tt (need-within s),
+      within-back tt (room-within s),
+      within-back tt (s .pre .worth-in),
+      gain s,
+      within-back tt (gain-within s),
+      within-back tt (worth-within s),
+      t,
+    )
 
 pub raise-spec : {M : Type 1} → statement M
 raise-spec = tie.close (tie.spec mul-need returns add-t8 sub-t9 mul-t10 add-t11 returns-2)

@@ -46,22 +46,28 @@ returns-2 c =
     let e = rw (toZ-ofZ (s .fits .a), toZ-ofZ (s .fits .l), toZ-ofZ (s .fits .u)) at (c .heavy-end .ensures) in
     rw (not-empty (t .before), lt-ltb _ _ (t .if2 .taken)) (back (c .heavy-end .result) (c .heavy-end .ok) ∙ e)
 
+-- the moments that are spoken of below
+abbrev after-light-end : tie.Then4 → tie.After-light-end
+after-light-end c = c .before .before .before .before
+
 fitting-requires : tie.Need-fitting-requires
 fitting-requires c κs =
-    let s = S (c .before .before .before .before) in
+    let s = S (after-light-end c) in
     rw (toZ-ofZ (s .fits .l), toZ-ofZ (s .fits .u), within-back tt (s .pre .room-in)) (s .pre)
 
 returns-3 : tie.Need-returns-3
 returns-3 c =
     let t = c .before in
-    let s = S (t .before .before .before .before) in
+    let s = S (after-light-end t) in
     let e = rw (toZ-ofZ (s .fits .a), toZ-ofZ (s .fits .l), toZ-ofZ (s .fits .u), within-back tt (s .pre .room-in)) at (c .fitting .ensures) in
-    rw (not-empty (t .before .before .before), le-ltb _ _ (t .before .before .if2 .left), eq-eqb _ _ (t .before .if3 .taken), lt-ltb _ _ (t .if4 .taken)) (back (c .fitting .result) (c .fitting .ok) ∙ e)
+    rw (not-empty (t .before .before .before), le-ltb _ _ (t .before .before .if2 .left), eq-eqb _ _ (t .before .if3 .taken), lt-ltb _ _ (t .if4 .taken))
+    (back (c .fitting .result) (c .fitting .ok) ∙ e)
 
 returns-4 : tie.Need-returns-4
 returns-4 c =
     let t = c .before in
-    rw (not-empty (t .before .before), le-ltb _ _ (t .before .if2 .left), eq-eqb _ _ (t .if3 .taken), le-ltb _ _ (c .if4 .left)) (light-is (t .before .before .before))
+    rw (not-empty (t .before .before), le-ltb _ _ (t .before .if2 .left), eq-eqb _ _ (t .if3 .taken), le-ltb _ _ (c .if4 .left))
+    (light-is (t .before .before .before))
 
 returns-5 : tie.Need-returns-5
 returns-5 c = rw (not-empty (c .before .before), le-ltb _ _ (c .before .if2 .left), ne-eqb _ _ (c .if3 .left)) (light-is (c .before .before .before))

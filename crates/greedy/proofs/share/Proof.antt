@@ -4,10 +4,11 @@ use Prim.Native.Nat.{_*_, _<_, _≤_, _/_}
 use native.Mathlib.Nat.{div-le-self, mul-le-mul}
 use native.Mathlib.Omega.{arith}
 use lib.Dec.{lit<}
-use lib.IntN.{ℤ, pos, natAbs, _+ℤ_}
+use lib.IntN.{pos, natAbs, _+ℤ_}
 use mir.Syntax.{w64}
 use mir.Val.{toZ}
 use mir.Facts.{toZ-pos}
+use Rattle.arith.specs.Limits.{mostRoom}
 use Rattle.arith.specs.Within.{Within}
 use Rattle.arith.proofs.Parts.{within-more, within-abs, within-add, within-sfits, within-back}
 use Rattle.greedy.proofs.share.Statement.{statement}
@@ -22,13 +23,14 @@ room-is c = rw (within-back tt (c .before .before .pre .room-in)) at (c .magnitu
 product : (c : tie.After-magnitude) → c .before .before .args .p * c .magnitude .result ≤ 200000000000000000
 product c =
     let s = c .before .before in
-    let r : c .magnitude .result ≤ 20000000000000 = omega (arith, room-is c, within-abs (s .args .f .room) (s .pre .room-in)) in
+    let r : c .magnitude .result ≤ mostRoom = omega (arith, room-is c, within-abs (s .args .f .room) (s .pre .room-in)) in
     mul-le-mul (s .pre .rate-in) r
 
 quotient : (c : tie.After-magnitude) → (c .before .before .args .p * c .magnitude .result) / c .before .before .args .s ≤ 200000000000000000
 quotient c = omega (arith, div-le-self (c .before .before .args .p * c .magnitude .result) (c .before .before .args .s), product c)
 
-whole-within : (c : tie.After-magnitude) → Within 500000000000000000 (c .before .before .args .f .worth +ℤ pos ((c .before .before .args .p * c .magnitude .result) / c .before .before .args .s))
+whole-within : (c : tie.After-magnitude) → Within 500000000000000000 (c .before .before .args .f .worth +ℤ pos
+    ((c .before .before .args .p * c .magnitude .result) / c .before .before .args .s))
 whole-within c = within-add (c .before .before .pre .worth-in) (record { above = quotient c; below = omega arith })
 
 mul-x : tie.Need-mul-x
@@ -41,7 +43,8 @@ cast-t7 : tie.Need-cast-t7
 cast-t7 c = record { sfits = omega (arith, quotient c) }
 
 -- the sum's two terms, as the code holds them
-terms : (c : tie.After-magnitude) → toZ w64 ((c .before .before .args .p * c .magnitude .result) / c .before .before .args .s) ≡ pos ((c .before .before .args .p * c .magnitude .result) / c .before .before .args .s)
+terms : (c : tie.After-magnitude) → toZ w64 ((c .before .before .args .p * c .magnitude .result) / c .before .before .args .s) ≡ pos
+    ((c .before .before .args .p * c .magnitude .result) / c .before .before .args .s)
 terms c = toZ-pos w64 (omega (arith, quotient c))
 
 add-t8 : tie.Need-add-t8

@@ -46,7 +46,8 @@ rounded-requires c κs =
     let s = c .before .before .before .before .before .before in
     let k = s .args .k in
     let z = s .pre .0 .ends in
-    rw (within-back tt (z .lo-in k), within-back tt (z .hi-in k), c .before .before .before .before .before .fill-up .ensures) (record { low-in = z .lo-in k; high-in = z .hi-in k; room-in = fill-sized (s .args .t1) (s .args .t2) (s .pre .0) .room-in })
+    rw (within-back tt (z .lo-in k), within-back tt (z .hi-in k), c .before .before .before .before .before .fill-up .ensures)
+    (record { low-in = z .lo-in k; high-in = z .hi-in k; room-in = fill-sized (s .args .t1) (s .args .t2) (s .pre .0) .room-in })
 
 returns : tie.Need-returns
 unfolding start
@@ -54,7 +55,13 @@ returns c =
     let s = c .before .before .before .before .before .before .before in
     let k = s .args .k in
     let z = s .pre .0 in
-    let e = rw (within-back tt (z .columns .weights-in k), within-back tt (z .columns .prices-in k), within-back tt (z .ends .lo-in k), within-back tt (z .ends .hi-in k), c .before .before .before .before .before .before .fill-up .ensures) at (c .rounded .ensures) in
+    let e = rw (
+      within-back tt (z .columns .weights-in k),
+      within-back tt (z .columns .prices-in k),
+      within-back tt (z .ends .lo-in k),
+      within-back tt (z .ends .hi-in k),
+      c .before .before .before .before .before .before .fill-up .ensures,
+    ) at (c .rounded .ensures) in
     back (c .rounded .result) (c .rounded .ok) ∙ e
 
 pub start-of-spec : {M : Type 1} → statement M

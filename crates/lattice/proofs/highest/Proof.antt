@@ -2,7 +2,7 @@
 use mathlib.Core.Path.{_≡_}
 use native.Mathlib.Omega.{arith}
 use lib.Dec.{lit<}
-use lib.IntN.{ℤ, _+ℤ_, _-ℤ_, _*ℤ_}
+use lib.IntN.{_+ℤ_, _-ℤ_, _*ℤ_}
 use mir.Syntax.{w64}
 use mir.Val.{toZ, ofZ}
 use Rattle.arith.specs.Within.{Within}
@@ -25,15 +25,19 @@ sub-floor-div c = let s = c .before in rw (within-back tt (s .pre .height-in), w
 floor-div-requires : tie.Need-floor-div-requires
 floor-div-requires c κs =
     let s = c .before in
-    rw (within-back tt (s .pre .height-in), within-back tt (s .pre .base-in), within-back tt (over s), within-back tt (s .pre .tame .gap-in)) (within-more (omega arith) (over s), nonzero (s .args .l .gap) (s .pre .tame .gap≥1))
+    rw (within-back tt (s .pre .height-in), within-back tt (s .pre .base-in), within-back tt (over s), within-back tt (s .pre .tame .gap-in))
+    (within-more (omega arith) (over s), nonzero (s .args .l .gap) (s .pre .tame .gap≥1))
 
-quotient : (c : tie.After-floor-div) → c .floor-div .result ≡ floorDiv (c .before .before .args .h -ℤ c .before .before .args .base) (c .before .before .args .l .gap)
+quotient : (c : tie.After-floor-div) → c .floor-div .result ≡ floorDiv (c .before .before .args .h -ℤ c .before .before .args .base)
+    (c .before .before .args .l .gap)
 quotient c =
     let s = c .before .before in
-    rw (within-back tt (s .pre .height-in), within-back tt (s .pre .base-in), within-back tt (over s), within-back tt (s .pre .tame .gap-in)) at (c .floor-div .ensures)
+    rw (within-back tt (s .pre .height-in), within-back tt (s .pre .base-in), within-back tt (over s), within-back tt (s .pre .tame .gap-in)) at
+    (c .floor-div .ensures)
 
 -- the gap times the quotient, as the local holds it
-multiple : (c : tie.After-floor-div) → toZ w64 (ofZ w64 (c .before .before .args .l .gap)) *ℤ toZ w64 (ofZ w64 (c .floor-div .result)) ≡ c .before .before .args .l .gap *ℤ floorDiv (c .before .before .args .h -ℤ c .before .before .args .base) (c .before .before .args .l .gap)
+multiple : (c : tie.After-floor-div) → toZ w64 (ofZ w64 (c .before .before .args .l .gap)) *ℤ toZ w64 (ofZ w64 (c .floor-div .result))
+    ≡ c .before .before .args .l .gap *ℤ floorDiv (c .before .before .args .h -ℤ c .before .before .args .base) (c .before .before .args .l .gap)
 multiple c = let s = c .before .before in rw (within-back tt (s .pre .tame .gap-in), back (c .floor-div .result) (c .floor-div .ok), quotient c)
 
 mul-result : tie.Need-mul-result

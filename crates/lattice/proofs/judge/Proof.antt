@@ -26,7 +26,8 @@ height-in : (s : tie.Start) → Within 210000000000000000 (H s)
 height-in s = floor-within (s .args .f .rate *ℤ s .args .r .weight) (s .args .f .size) (within-mul (s .pre .steep .rate-in) (s .pre .weight-in))
 
 highest-in : (s : tie.Start) → Within 250000000100000000 (T s)
-highest-in s = within-add (s .pre .worth-in) (multiple-within (H s -ℤ s .args .r .worth) (s .args .l .gap) (s .pre .tame .gap≥1) (within-sub (height-in s) (s .pre .worth-in)) (s .pre .tame .gap-in))
+highest-in s = within-add (s .pre .worth-in) (multiple-within (H s -ℤ s .args .r .worth) (s .args .l .gap) (s .pre .tame .gap≥1)
+    (within-sub (height-in s) (s .pre .worth-in)) (s .pre .tame .gap-in))
 
 height-requires : tie.Need-height-requires
 height-requires c κs = let s = c .before .before in rw (within-back tt (s .pre .weight-in)) (record { steep = s .pre .steep; weight-in = s .pre .weight-in })
@@ -47,7 +48,14 @@ highest-requires c κs =
     let s = h .before .before .before in
     rw (held h, within-back tt (s .pre .worth-in)) (record { tame = s .pre .tame; base-in = s .pre .worth-in; height-in = height-in s })
 
-held-highest : (c : tie.After-highest) → toZ w64 (ofZ w64 (c .highest .result)) ≡ T (c .before .before .before .before .before .before)
+-- the moments that are spoken of below
+abbrev start-by-then1 : tie.Then1 → tie.Start
+start-by-then1 c = c .before .before .before .before
+
+abbrev start-by-highest : tie.After-highest → tie.Start
+start-by-highest c = c .before .before .before .before .before .before
+
+held-highest : (c : tie.After-highest) → toZ w64 (ofZ w64 (c .highest .result)) ≡ T (start-by-highest c)
 held-highest c =
     let h = c .before .before .before in
     let s = h .before .before .before in
@@ -57,18 +65,24 @@ snapped : (s : tie.Start) → Within 250200000100000000 (s .args .f .worth +ℤ 
 snapped s = within-add (s .pre .steep .worth-in) (highest-in s)
 
 add-if2 : tie.Need-add-if2
-add-if2 c = let s = c .before .before .before .before .before .before in rw (held-highest c, within-back tt (s .pre .steep .worth-in)) (within-sfits (lit< tt) (snapped s))
+add-if2 c = let s = start-by-highest c in rw (held-highest c, within-back tt (s .pre .steep .worth-in))
+    (within-sfits (lit< tt) (snapped s))
 
 -- the first test, and the second
-above : (c : tie.Then1) → ltZ (c .before .before .before .before .args .b) (c .before .before .before .before .args .f .worth +ℤ H (c .before .before .before .before)) ≡ true
-above c = let s = c .before .before .before .before in rw (toZ-ofZ (s .fits .b), held (c .before), within-back tt (s .pre .steep .worth-in), within-back tt (up-to s)) at (c .if1 .taken)
+above : (c : tie.Then1) → ltZ (start-by-then1 c .args .b) (start-by-then1 c .args .f .worth +ℤ H (start-by-then1 c)) ≡ true
+above c = let s = start-by-then1 c in rw (
+  toZ-ofZ (s .fits .b),
+  held (c .before),
+  within-back tt (s .pre .steep .worth-in),
+  within-back tt (up-to s),
+) at (c .if1 .taken)
 
 returns : tie.Need-returns
 unfolding judged
 returns c =
     let d = c .before in
     let o = d .before .before in
-    let s = o .before .before .before .before in
+    let s = start-by-then1 o in
     let k = rw (toZ-ofZ (s .fits .b), held-highest d, within-back tt (s .pre .steep .worth-in), within-back tt (snapped s)) at (c .if2 .taken) in
     rw (above o, k)
 
@@ -77,7 +91,7 @@ unfolding judged
 returns-2 c =
     let d = c .before in
     let o = d .before .before in
-    let s = o .before .before .before .before in
+    let s = start-by-then1 o in
     let k = rw (toZ-ofZ (s .fits .b), held-highest d, within-back tt (s .pre .steep .worth-in), within-back tt (snapped s)) at (c .if2 .left) in
     rw (above o, k)
 

@@ -13,15 +13,28 @@ worth : (s : tie.Start) → Within 30000000100000000 (s .args .r .worth -ℤ s .
 worth s = within-sub (s .pre .worth-in) (s .pre .tame .slant-in)
 
 sub-t3 : tie.Need-sub-t3
-sub-t3 c = let s = c .before .before .before .before in rw (within-back tt (s .pre .weight-in), within-back tt (s .pre .tame .stride-in)) (within-sfits (lit< tt) (weight s))
+sub-t3 c = let s = c .before .before .before .before in rw (within-back tt (s .pre .weight-in), within-back tt (s .pre .tame .stride-in))
+    (within-sfits (lit< tt) (weight s))
+
+-- the moments that are spoken of below
+abbrev start : tie.After-struct-told4 → tie.Start
+start c = c .before .before .before .before .before .before .before .before
 
 sub-t4 : tie.Need-sub-t4
-sub-t4 c = let s = c .before .before .before .before .before .before .before .before in rw (within-back tt (s .pre .worth-in), within-back tt (s .pre .tame .slant-in)) (within-sfits (lit< tt) (worth s))
+sub-t4 c = let s = start c in
+    rw (within-back tt (s .pre .worth-in), within-back tt (s .pre .tame .slant-in)) (within-sfits (lit< tt) (worth s))
 
 returns : tie.Need-returns
 returns c =
-    let s = c .before .before .before .before .before .before .before .before in
-    rw (within-back tt (s .pre .weight-in), within-back tt (s .pre .tame .stride-in), within-back tt (s .pre .worth-in), within-back tt (s .pre .tame .slant-in), within-back tt (weight s), within-back tt (worth s))
+    let s = start c in
+    rw (
+      within-back tt (s .pre .weight-in),
+      within-back tt (s .pre .tame .stride-in),
+      within-back tt (s .pre .worth-in),
+      within-back tt (s .pre .tame .slant-in),
+      within-back tt (weight s),
+      within-back tt (worth s),
+    )
 
 pub less-stride-spec : {M : Type 1} → statement M
 less-stride-spec = tie.close (tie.spec sub-t3 sub-t4 returns)

@@ -1,16 +1,16 @@
 use denote.Ref.{now}
-use lib.IntN.{pos}
 use mir.Syntax.{w64}
 use mir.Val.{ofZ, toZ}
-use Rattle.lines.specs.Lines.{pairLine, prices}
-use Rattle.lines.specs.declared.number.Figure.the-variants.{In}
-use Rattle.lines.specs.declared.Pair.the-variants.{Numbers}
+use Rattle.lines.specs.Numbers.{fromTo}
+use Rattle.lines.specs.Lines.{numbersLine, prices}
+use Rattle.lines.specs.declared.number.Ranged.the-variants.{In}
+use Rattle.lines.specs.declared.TwoNumbers.the-variants.{Both}
 use Rattle.lines.specs.Lines.{boundRead}
 use mathlib.Core.Path.{_≡_, sym, ap, _∙_}
 use Rattle.arith.proofs.Words.{back}
 use Rattle.arith.proofs.Parts.{cast-in}
 use Rattle.arith.proofs.Integers.{≤ℤ-trans}
-use Rattle.lines.proofs.Shapes.{pair-range}
+use Rattle.lines.proofs.Shapes.{numbers-range}
 use lib.Signed.{leZ-yes}
 use borrow.Author.Tests.{le-leb, lt-leb}
 use borrow.Author.Needs.{needs}
@@ -32,25 +32,29 @@ enum-told-2 c = search needs
 enum-known-f : tie.Need-enum-known-f
 enum-known-f c = search needs
 
+-- where the line was known, and where all began
+abbrev known : tie.After-known-told2 → tie.After-l
+known c = let f = c .before .before in f .before .before
+
 abbrev start : tie.After-known-told2 → tie.Start
-start c = c .before .before .before .before .before .before .before .before
+start c = let l = known c .before .before in l .before .before
 
 back-z : (c : tie.After-known-told2) → toZ w64 (ofZ w64 (c .before .f .given .0 .0)) ≡ c .before .f .given .0 .0
 back-z c = back _ (c .known-told2 .given .0 .1)
 
 -- the line that was read
 read : (c : tie.After-known-told2) →
-    let k = c .before .before .before .before in
-    pairLine (record { lo = pos 1; hi = pos (start c .args .count) }) prices (now (start c .args .s)) (start c .args .at)
-    ≡ Numbers (In (c .before .f .given .0 .0)) (k .l .given .0 .1 .0) (k .l .given .0 .1 .1 .0)
+    let k = known c in
+    numbersLine (fromTo 1 (start c .args .count)) prices (now (start c .args .s)) (start c .args .at)
+    ≡ Both (In (c .before .f .given .0 .0)) (k .l .given .0 .1 .0) (k .l .given .0 .1 .1 .0)
 read c =
-    let k = c .before .before .before .before in
+    let k = known c in
     sym (k .before .before .bound-line .ensures)
     ∙ k .l .given .1
-    ∙ ap (λ x. Numbers x (k .l .given .0 .1 .0) (k .l .given .0 .1 .1 .0)) (c .before .f .given .1)
+    ∙ ap (λ x. Both x (k .l .given .0 .1 .0) (k .l .given .0 .1 .1 .0)) (c .before .f .given .1)
 
 cast-k : tie.Need-cast-k
-cast-k c = rw (back-z c) (cast-in (≤ℤ-trans (leZ-yes tt) (pair-range _ _ _ _ _ _ _ (read c) .0)) (record { sfits = c .known-told2 .given .0 .1 }))
+cast-k c = rw (back-z c) (cast-in (≤ℤ-trans (leZ-yes tt) (numbers-range _ _ _ _ _ _ _ (read c) .0)) (record { sfits = c .known-told2 .given .0 .1 }))
 
 returns : tie.Need-returns
 unfolding boundRead

@@ -10,7 +10,7 @@ enum-known-v : tie.Need-enum-known-v
 enum-known-v c = search needs
 
 returns : tie.Need-returns
-returns c = search needs
+returns c = rw (c .enum-told .given .1)
 
 returns-2 : tie.Need-returns-2
 returns-2 c = rw (back (c .before .v .given .0 .0) (c .known-told .given .0 .1), c .before .v .given .1)

@@ -2,7 +2,7 @@ use denote.Ref.{now}
 use mir.Syntax.{w64}
 use mir.Val.{ofZ, toZ}
 use Rattle.lines.specs.Lines.{headingLine}
-use Rattle.lines.specs.declared.number.Figure.the-variants.{In}
+use Rattle.lines.specs.declared.number.Ranged.the-variants.{In}
 use Rattle.lines.specs.declared.number.Field.the-variants.{Number}
 use Rattle.lines.specs.Lines.{countAt}
 use mathlib.Core.Path.{_≡_, sym, ap, _∙_}
@@ -29,17 +29,22 @@ enum-told-2 c = search needs
 enum-known-g : tie.Need-enum-known-g
 enum-known-g c = search needs
 
+-- where the field was known, and where all began
+abbrev known : tie.After-known-told2 → tie.After-f
+known c = let g = c .before .before in g .before .before
+
 abbrev start : tie.After-known-told2 → tie.Start
-start c = c .before .before .before .before .before .before .before .before .before
+start c = let h = known c .before .before in h .before .before .before
 
 back-z : (c : tie.After-known-told2) → toZ w64 (ofZ w64 (c .before .g .given .0 .0)) ≡ c .before .g .given .0 .0
 back-z c = back _ (c .known-told2 .given .0 .1)
 
 -- the heading that was read
 read : (c : tie.After-known-told2) →
-    headingLine (now (start c .args .word)) (start c .args .range) (now (start c .args .s)) (start c .args .at) ≡ Number (In (c .before .g .given .0 .0)) (c .before .before .before .before .f .given .0 .1 .0)
+    let a = start c .args in
+    headingLine (now (a .word)) (a .range) (now (a .s)) (a .at) ≡ Number (In (c .before .g .given .0 .0)) (known c .f .given .0 .1 .0)
 read c =
-    let k = c .before .before .before .before in
+    let k = known c in
     sym (k .before .before .heading-line .ensures) ∙ k .f .given .1 ∙ ap (λ x. Number x (k .f .given .0 .1 .0)) (c .before .g .given .1)
 
 cast-t11 : tie.Need-cast-t11

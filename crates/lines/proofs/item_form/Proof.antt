@@ -13,8 +13,8 @@ enum-told c = search needs
 enum-known-m : tie.Need-enum-known-m
 enum-known-m c = search needs
 
-pair-line-requires : tie.Need-pair-line-requires
-pair-line-requires c κs = search needs
+numbers-line-requires : tie.Need-numbers-line-requires
+numbers-line-requires c κs = search needs
 
 enum-told-2 : tie.Need-enum-told-2
 enum-told-2 c = search needs
@@ -32,7 +32,7 @@ returns-2 c =
     let k = c .before .before .before in
     rw (
       sym (k .before .before .before .mark-field .ensures) ∙ k .before .m .given .1,
-      sym (c .before .before .pair-line .ensures) ∙ c .enum-told2 .given .1,
+      sym (c .before .before .numbers-line .ensures) ∙ c .enum-told2 .given .1,
     )
 
 returns-3 : tie.Need-returns-3
@@ -41,7 +41,7 @@ returns-3 c =
     let k = c .before .before .before .before in
     rw (
       sym (k .before .before .before .mark-field .ensures) ∙ k .before .m .given .1,
-      sym (c .before .before .before .pair-line .ensures) ∙ c .before .p .given .1,
+      sym (c .before .before .before .numbers-line .ensures) ∙ c .before .p .given .1,
     )
 
 pub item-form-spec : {M : Type 1} → statement M
@@ -51,7 +51,7 @@ item-form-spec =
     mark-field-requires
     enum-told
     enum-known-m
-    pair-line-requires
+    numbers-line-requires
     enum-told-2
     enum-known-p
     returns

@@ -16,19 +16,17 @@ enum-known-price : tie.Need-enum-known-price
 enum-known-price c = search needs
 
 returns : tie.Need-returns
-returns c = search needs
+returns c = rw (c .enum-told .given .1)
 
 returns-2 : tie.Need-returns-2
-returns-2 c = search needs
+returns-2 c = let k = c .before .before .before in rw (k .weight .given .1, c .enum-told2 .given .1)
 
 returns-3 : tie.Need-returns-3
 returns-3 c =
-    rw (
-      back (c .before .before .before .before .weight .given .0 .0) (c .before .before .before .known-told .given .0 .1),
-      back (c .before .price .given .0 .0) (c .known-told2 .given .0 .1),
-      c .before .before .before .before .weight .given .1,
-      c .before .price .given .1,
-    )
+    let k = c .before .before .before in
+    let w = k .before .weight in
+    let v = c .before .price in
+    rw (back (w .given .0 .0) (k .known-told .given .0 .1), back (v .given .0 .0) (c .known-told2 .given .0 .1), w .given .1, v .given .1)
 
 pub item-of-spec : {M : Type 1} → statement M
 item-of-spec =

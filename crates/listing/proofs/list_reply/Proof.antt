@@ -9,7 +9,7 @@ use Rattle.knapsack.proofs.Kind.{the-type}
 use Rattle.knapsack.specs.declared.Refusal.{Refusal}
 use Rattle.knapsack.specs.declared.Kind.{Kind}
 use Rattle.knapsack.specs.declared.Kind.the-variants.{Optimal, Infeasible, Unbounded, Refused}
-use Rattle.listing.specs.Listing.{unlessRefused}
+use Rattle.listing.specs.Printing.{unlessRefused}
 use borrow.Author.Needs.{needs}
 use Rattle.listing.proofs.list_reply.Statement.{statement}
 use Rattle.listing.proofs.list_reply.Tie as tie

@@ -5,7 +5,7 @@ use native.Mathlib.Omega.{arith}
 use Rattle.knapsack.specs.declared.Answer.{Answer}
 use Rattle.knapsack.specs.declared.Kind.{Kind}
 use Rattle.listing.specs.Printing.{printed, printedAs}
-use Rattle.listing.proofs.Buffers.{puts, roomier}
+use Rattle.text.proofs.Buffers.{puts, roomier}
 use borrow.Author.Needs.{needs}
 use Rattle.listing.proofs.put_answer.Statement.{statement}
 use Rattle.listing.proofs.put_answer.Tie as tie
@@ -64,7 +64,8 @@ returns c =
     let m = t .before .before in
     let s = m .before .before .args in
     let h : m .listed-items .result ≤ 16 = omega arith in
-    rw (as-kind (s .n) (s .a) (t .enum-told .given .1)) (rw (m .listed-items .ensures) at (roomier {n = 1440} (omega arith) (puts (omega arith) (b .put-best .ensures) (i .put-items .ensures))))
+    let p = roomier {n = 1440} (omega arith) (puts (omega arith) (b .put-best .ensures) (i .put-items .ensures)) in
+    rw (as-kind (s .n) (s .a) (t .enum-told .given .1)) (rw (m .listed-items .ensures) at p)
 
 same-length-2 : tie.Need-same-length-2
 same-length-2 c = search needs
@@ -87,7 +88,8 @@ returns-3 c =
     let m = t .before .before in
     let s = m .before .before .args in
     let h : m .listed-items .result ≤ 16 = omega arith in
-    rw (as-kind (s .n) (s .a) (t .enum-told3 .given .1)) (rw (m .listed-items .ensures) at (roomier {n = 1440} (omega arith) (puts (omega arith) (w .put-word2 .ensures) (i .put-items2 .ensures))))
+    let p = roomier {n = 1440} (omega arith) (puts (omega arith) (w .put-word2 .ensures) (i .put-items2 .ensures)) in
+    rw (as-kind (s .n) (s .a) (t .enum-told3 .given .1)) (rw (m .listed-items .ensures) at p)
 
 same-length-4 : tie.Need-same-length-4
 same-length-4 c = search needs

@@ -3,7 +3,7 @@ use native.Mathlib.Omega.{arith}
 use mir.Syntax.{w64}
 use mir.Val.{SFits}
 use mir.Facts.{toZ-ofZ}
-use Rattle.listing.proofs.Buffers.{puts}
+use Rattle.text.proofs.Buffers.{puts}
 use borrow.Author.Needs.{needs}
 use Rattle.listing.proofs.put_best.Statement.{statement}
 use Rattle.listing.proofs.put_best.Tie as tie

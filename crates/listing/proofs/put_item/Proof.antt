@@ -5,7 +5,7 @@ use native.Mathlib.Omega.{arith}
 use mir.Syntax.{w64}
 use mir.Val.{SFits}
 use mir.Facts.{toZ-ofZ}
-use Rattle.listing.proofs.Buffers.{puts, roomier}
+use Rattle.text.proofs.Buffers.{puts, roomier}
 use borrow.Author.Needs.{needs}
 use Rattle.listing.proofs.put_item.Statement.{statement}
 use Rattle.listing.proofs.put_item.Tie as tie
@@ -40,8 +40,9 @@ returns c =
     let n = p .before .before .before .before in
     let s = n .before .before .before .before in
     let hp : SFits w64 (s .args .x .p) = search needs in
-    rw (t .if1 .taken, sym (add-one (s .args .k)))
-    (rw (toZ-ofZ hp, toZ-ofZ (s .fits .s)) at (puts (omega arith) (n .put-natural .ensures) (puts (omega arith) (p .put-integer .ensures) (puts (omega arith) (q .put-natural2 .ensures) (r .put-integer2 .ensures)))))
+    let l = puts (omega arith) (q .put-natural2 .ensures) (r .put-integer2 .ensures) in
+    let f = puts (omega arith) (n .put-natural .ensures) (puts (omega arith) (p .put-integer .ensures) l) in
+    rw (t .if1 .taken, sym (add-one (s .args .k))) (rw (toZ-ofZ hp, toZ-ofZ (s .fits .s)) at f)
 
 same-length-2 : tie.Need-same-length-2
 same-length-2 c = search needs
@@ -54,8 +55,8 @@ returns-2 c =
     let n = p .before .before .before .before in
     let s = n .before .before .before .before in
     let hp : SFits w64 (s .args .x .p) = search needs in
-    rw (t .if1 .left, sym (add-one (s .args .k)))
-    (roomier (omega arith) (rw (toZ-ofZ hp) at (puts (omega arith) (n .put-natural .ensures) (puts (omega arith) (p .put-integer .ensures) (q .put-natural3 .ensures)))))
+    let f = puts (omega arith) (n .put-natural .ensures) (puts (omega arith) (p .put-integer .ensures) (q .put-natural3 .ensures)) in
+    rw (t .if1 .left, sym (add-one (s .args .k))) (roomier (omega arith) (rw (toZ-ofZ hp) at f))
 
 pub put-item-spec : {M : Type 1} → statement M
 put-item-spec =

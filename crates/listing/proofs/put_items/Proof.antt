@@ -5,9 +5,9 @@ use native.Mathlib.Numerals.{add-one}
 use native.Mathlib.Omega.{arith}
 use lib.ListN.{length}
 use Rattle.arith.proofs.Words.{back}
-use Rattle.listing.specs.Buffer.{Put}
+use Rattle.text.specs.Buffer.{Put}
 use Rattle.listing.specs.Printing.{stepAt, itemLines}
-use Rattle.listing.proofs.Buffers.{put-nothing, puts, roomier}
+use Rattle.text.proofs.Buffers.{put-nothing, puts, roomier}
 use Rattle.listing.proofs.put_items.Statement.{statement}
 use Rattle.listing.proofs.put_items.Tie as tie
 
@@ -19,7 +19,9 @@ abbrev μ-loop : tie.MeasureT-loop
 
 loop-holds : tie.Need-loop-holds Inv-loop μ-loop
 unfolding itemLines
-loop-holds c = (omega arith, (refl, record { short = omega arith; next = omega arith; bytes = sym (put-nothing (c .before .args .at) (c .before .args .out .now)) }))
+loop-holds c =
+    let a = c .before .args in
+    (omega arith, (refl, record { short = omega arith; next = omega arith; bytes = sym (put-nothing (a .at) (a .out .now)) }))
 
 mul-x : tie.Need-mul-x Inv-loop μ-loop
 mul-x c = omega arith

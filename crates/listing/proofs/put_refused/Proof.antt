@@ -1,6 +1,6 @@
 -- `listing::put_refused` meets its contract: the word, the refusal's number and its line.
 use native.Mathlib.Omega.{arith}
-use Rattle.listing.proofs.Buffers.{puts}
+use Rattle.text.proofs.Buffers.{puts}
 use borrow.Author.Needs.{needs}
 use Rattle.listing.proofs.put_refused.Statement.{statement}
 use Rattle.listing.proofs.put_refused.Tie as tie

@@ -5,7 +5,7 @@ use native.Mathlib.Omega.{arith}
 use lib.ListN.{length}
 use lib.Seq.{length-take-le}
 use Rattle.listing.specs.Printing.{printed}
-use Rattle.listing.proofs.Buffers.{put-shown}
+use Rattle.text.proofs.Buffers.{put-shown}
 use borrow.Author.Needs.{needs}
 use Rattle.listing.proofs.text_of.Statement.{statement}
 use Rattle.listing.proofs.text_of.Tie as tie

@@ -1,6 +1,6 @@
 -- `places::next_value` meets its contract.
 use mir.Facts.{toZ-ofZ}
-use Rattle.places.specs.Moves.{nextValue, turn}
+use Rattle.places.specs.Moves.{nextValue, belowStart}
 use Rattle.arith.proofs.Words.{on-values, yes-lt, less-fits, more-fits}
 use Rattle.places.proofs.next_value.Statement.{statement}
 use Rattle.places.proofs.next_value.Tie as tie
@@ -39,7 +39,7 @@ sub-t9 c = let s = c .before .before .before in
     rw (toZ-ofZ (s .fits .s)) (less-fits (s .fits .lo) (s .fits .s) (yes-lt (on-values (s .fits .lo) (s .fits .s) (c .if4 .taken))))
 
 returns-4 : tie.Need-returns-4
-unfolding nextValue turn
+unfolding nextValue belowStart
 returns-4 c = let s = c .before .before .before in
     let h = on-values (s .fits .x) (s .fits .s) (c .before .before .if1 .left) in
     let k = on-values (s .fits .x) (s .fits .hi) (c .before .if3 .left) in
@@ -48,9 +48,13 @@ returns-4 c = let s = c .before .before .before in
     simp (toZ-ofZ (s .fits .s), toZ-ofZ f, h, k, l)
 
 returns-5 : tie.Need-returns-5
-unfolding nextValue turn
+unfolding nextValue belowStart
 returns-5 c = let s = c .before .before .before in
-    simp (on-values (s .fits .x) (s .fits .s) (c .before .before .if1 .left), on-values (s .fits .x) (s .fits .hi) (c .before .if3 .left), on-values (s .fits .lo) (s .fits .s) (c .if4 .left))
+    simp (
+      on-values (s .fits .x) (s .fits .s) (c .before .before .if1 .left),
+      on-values (s .fits .x) (s .fits .hi) (c .before .if3 .left),
+      on-values (s .fits .lo) (s .fits .s) (c .if4 .left),
+    )
 
 pub next-value-spec : {M : Type 1} → statement M
 next-value-spec =

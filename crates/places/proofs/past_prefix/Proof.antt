@@ -52,15 +52,24 @@ next-value-requires c κs = search needs
 enum-known-o : tie.Need-enum-known-o Inv-loop μ-loop
 enum-known-o c = search needs
 
+-- the moments that are spoken of below
+abbrev at-loop : tie.After-next-value-arg4 Inv-loop μ-loop → tie.At-loop Inv-loop μ-loop
+at-loop c = c .before .before .before .before .before
+
 returns : tie.Need-returns Inv-loop μ-loop
 returns c =
     let p = c .before .before .before .before in
-    let l = p .before .before .before .before .before in
+    let l = at-loop p in
     let a = l .before .args in
     let i = l .loop .j - 1 in
     rw (back (c .before .o .given .0 .0) (c .known-told .given .0 .1), l .loop .inv .1)
     (carry-here (at (a .t3)) (at (a .t4)) (at (a .t5)) (at (a .t1)) (l .loop .j) (c .before .o .given .0 .0) (omega arith)
-    (simp (back (at (a .t3) i) (p .before .before .before .next-value-arg .given), back (at (a .t4) i) (p .before .before .next-value-arg2 .given), back (at (a .t5) i) (p .before .next-value-arg3 .given), back (at (a .t1) i) (p .next-value-arg4 .given))
+    (simp (
+      back (at (a .t3) i) (p .before .before .before .next-value-arg .given),
+      back (at (a .t4) i) (p .before .before .next-value-arg2 .given),
+      back (at (a .t5) i) (p .before .next-value-arg3 .given),
+      back (at (a .t1) i) (p .next-value-arg4 .given),
+    )
     at (sym (c .before .o .given .1) ∙ c .before .before .before .next-value .ensures)))
 
 enum-told : tie.Need-enum-told Inv-loop μ-loop
@@ -72,12 +81,17 @@ loop-less c = search needs
 loop-again : tie.Need-loop-again Inv-loop μ-loop
 loop-again c =
     let p = c .before .before .before in
-    let l = p .before .before .before .before .before in
+    let l = at-loop p in
     let a = l .before .args in
     let i = l .loop .j - 1 in (
       omega arith,
       l .loop .inv .1 ∙ carry-on (at (a .t3)) (at (a .t4)) (at (a .t5)) (at (a .t1)) (l .loop .j) (omega arith)
-          (simp (back (at (a .t3) i) (p .before .before .before .next-value-arg .given), back (at (a .t4) i) (p .before .before .next-value-arg2 .given), back (at (a .t5) i) (p .before .next-value-arg3 .given), back (at (a .t1) i) (p .next-value-arg4 .given))
+          (simp (
+            back (at (a .t3) i) (p .before .before .before .next-value-arg .given),
+            back (at (a .t4) i) (p .before .before .next-value-arg2 .given),
+            back (at (a .t5) i) (p .before .next-value-arg3 .given),
+            back (at (a .t1) i) (p .next-value-arg4 .given),
+          )
           at (sym (c .enum-told .given .1) ∙ c .before .before .next-value .ensures)),
     )
 

@@ -43,7 +43,11 @@ returns c =
     let a = p .before .before .before .args in
     rw (back (c .before .o .given .0 .0) (c .known-told .given .0 .1))
     (segment-here (at (a .t3)) (at (a .hi)) (at (a .t5)) (at (a .t1)) (a .d) (c .before .o .given .0 .0)
-    (simp (back (at (a .t3) (a .d)) (p .before .before .next-segment-arg .given), back (at (a .t5) (a .d)) (p .before .next-segment-arg2 .given), back (at (a .t1) (a .d)) (p .next-segment-arg3 .given))
+    (simp (
+      back (at (a .t3) (a .d)) (p .before .before .next-segment-arg .given),
+      back (at (a .t5) (a .d)) (p .before .next-segment-arg2 .given),
+      back (at (a .t1) (a .d)) (p .next-segment-arg3 .given),
+    )
     at (sym (c .before .o .given .1) ∙ c .before .before .before .next-segment .ensures)))
 
 returns-2 : tie.Need-returns-2
@@ -51,7 +55,11 @@ returns-2 c =
     let p = c .before .before .before .before in
     let a = p .before .before .before .args in
     rw (← segment-on (at (a .t3)) (at (a .hi)) (at (a .t5)) (at (a .t1)) (a .d)
-    (simp (back (at (a .t3) (a .d)) (p .before .before .next-segment-arg .given), back (at (a .t5) (a .d)) (p .before .next-segment-arg2 .given), back (at (a .t1) (a .d)) (p .next-segment-arg3 .given))
+    (simp (
+      back (at (a .t3) (a .d)) (p .before .before .next-segment-arg .given),
+      back (at (a .t5) (a .d)) (p .before .next-segment-arg2 .given),
+      back (at (a .t1) (a .d)) (p .next-segment-arg3 .given),
+    )
     at (sym (c .before .enum-told .given .1) ∙ c .before .before .before .next-segment .ensures)))
     (c .past-prefix .ensures)
 

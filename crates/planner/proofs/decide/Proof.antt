@@ -33,7 +33,10 @@ returns c =
     let q = a .prepare .ensures in
     let s = a .prepare .result in
     let t = rw (b .begin .ensures, within-back tt (begun-within (s .cols) (s .ends) (q .ready .sized))) at (h .before .if1 .taken) in
-    rw (c .with-steps .ensures, h .no-point .ensures) (record { answers = infeasible-corner (a .before .args .p) (a .before .pre) s q (yes-lt t); counts = refl })
+    rw (c .with-steps .ensures, h .no-point .ensures) (record {
+      answers = infeasible-corner (a .before .args .p) (a .before .pre) s q (yes-lt t);
+      counts = refl;
+    })
 
 find-ray-requires : tie.Need-find-ray-requires
 find-ray-requires c κs = search needs
@@ -56,7 +59,8 @@ returns-2 c =
     let s = a .prepare .result in
     let t = rw (b .begin .ensures, within-back tt (begun-within (s .cols) (s .ends) (q .ready .sized))) at (e .if1 .left) in
     rw (c .with-steps2 .ensures) (record {
-      answers = unbounded-corner (a .before .args .p) (a .before .pre) s q (r .find-ray .result) (u .unbounded .result) (no-lt t) (r .find-ray .ensures) (t2 .if2 .taken) (u .unbounded .ensures);
+      answers = unbounded-corner (a .before .args .p) (a .before .pre) s q (r .find-ray .result) (u .unbounded .result) (no-lt t) (r .find-ray .ensures)
+          (t2 .if2 .taken) (u .unbounded .ensures);
       counts = rw (u .unbounded .ensures .kind-is) refl;
     })
 
@@ -69,15 +73,18 @@ Prep e = e .before .before .before .before .before .before
 
 narrowed-requires : tie.Need-narrowed-requires
 unfolding Prep
-narrowed-requires c κs = let a = Prep (c .before) in let s = a .before in (a .prepare .ensures .ready, rw (c .reach-of .ensures) (reach-small (s .args .p) (s .pre)))
+narrowed-requires c κs =
+    let a = Prep (c .before) in let s = a .before in (a .prepare .ensures .ready, rw (c .reach-of .ensures) (reach-small (s .args .p) (s .pre)))
 
 -- the nearer setting is the problem's
-near : (c : tie.After-narrowed) → PreparedAt (spanOf (Prep (c .before .before) .before .args .p)) (Prep (c .before .before) .before .args .p) (c .narrowed .result)
+near : (c : tie.After-narrowed) → PreparedAt (spanOf (Prep (c .before .before) .before .args .p)) (Prep (c .before .before) .before .args .p)
+    (c .narrowed .result)
 unfolding Prep
 near c =
     let a = Prep (c .before .before) in
     let s = a .before in
-    narrowed-prepared (s .args .p) (s .pre) (a .prepare .result) (c .narrowed .result) (a .prepare .ensures) (subst (λ r. Narrowed (a .prepare .result) r (c .narrowed .result)) (c .before .reach-of .ensures) (c .narrowed .ensures))
+    narrowed-prepared (s .args .p) (s .pre) (a .prepare .result) (c .narrowed .result) (a .prepare .ensures)
+    (subst (λ r. Narrowed (a .prepare .result) r (c .narrowed .result)) (c .before .reach-of .ensures) (c .narrowed .ensures))
 
 pairs-of-requires : tie.Need-pairs-of-requires
 pairs-of-requires c κs = search needs
@@ -87,7 +94,10 @@ unfolding Prep
 run-requires c κs =
     let n = c .before in
     let q = near n in
-    record { setting = q .ready; true-pairs = c .pairs-of .ensures .ready (n .narrowed .result .cols) (record { weights-agree = q .weights; prices-agree = q .prices }) }
+    record {
+      setting = q .ready;
+      true-pairs = c .pairs-of .ensures .ready (n .narrowed .result .cols) (record { weights-agree = q .weights; prices-agree = q .prices });
+    }
 
 -- the search found a place
 found : (c : tie.After-run) → c .run .result .best .found ≡ true
@@ -102,7 +112,8 @@ found c =
     let s = a .before in
     let q = a .prepare .ensures in
     let t = rw (b .begin .ensures, within-back tt (begun-within (a .prepare .result .cols) (a .prepare .result .ends) (q .ready .sized))) at (e1 .if1 .left) in
-    must-find (s .args .p) (s .pre) (w .narrowed .result) (near w) _ (corner-feasible-at (s .args .p) (s .pre) (a .prepare .result) q (no-lt t)) (r .find-ray .result) (c .run .result .best) (r .find-ray .ensures) (e2 .if2 .left) (c .run .ensures .0)
+    must-find (s .args .p) (s .pre) (w .narrowed .result) (near w) _ (corner-feasible-at (s .args .p) (s .pre) (a .prepare .result) q (no-lt t))
+    (r .find-ray .result) (c .run .result .best) (r .find-ray .ensures) (e2 .if2 .left) (c .run .ensures .0)
 
 optimal-requires : tie.Need-optimal-requires
 unfolding Prep
@@ -122,7 +133,7 @@ walked n = record {
   pairs = n .before .pairs-of .result;
   pairs-are = n .before .pairs-of .ensures;
   end = n .run .result;
-  took = n .run .ensures .1;
+  ended = n .run .ensures .1;
   steps-are = refl;
 }
 
@@ -136,7 +147,8 @@ returns-3 c =
     let r = e2 .before in
     let s = Prep e2 .before in
     rw (c .with-steps3 .ensures) (record {
-      answers = optimal-found (s .args .p) (s .pre) (w .narrowed .result) (near w) (n .run .result .best) (n .run .ensures .0) (found n) (o .optimal .result) (o .optimal .ensures) (r .find-ray .result) (r .find-ray .ensures) (e2 .if2 .left);
+      answers = optimal-found (s .args .p) (s .pre) (w .narrowed .result) (near w) (n .run .result .best) (n .run .ensures .0) (found n) (o .optimal .result)
+          (o .optimal .ensures) (r .find-ray .result) (r .find-ray .ensures) (e2 .if2 .left);
       counts = rw (o .optimal .ensures .kind-is) (walked n);
     })
 

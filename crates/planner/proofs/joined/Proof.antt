@@ -25,8 +25,10 @@ mul-result c = let s = c .before .before .before in rw (product-is s) (within-sf
 cast-result-2 : tie.Need-cast-result-2
 cast-result-2 c = search needs
 
-held : (s : tie.Start) → toZ w64 (ofZ w64 (toZ w64 (ofZ w64 (s .args .v .whole)) *ℤ toZ w64 (s .args .v .parts))) +ℤ toZ w64 (s .args .v .part) ≡ over (s .args .v)
-held s = ap₂ (λ (x y : ℤ). x +ℤ y) (ap (λ (x : ℤ). toZ w64 (ofZ w64 x)) (product-is s) ∙ within-back tt (s .pre .product-in)) (toZ-pos w64 (omega (arith, s .pre .part-in)))
+held : (s : tie.Start) → toZ w64 (ofZ w64 (toZ w64 (ofZ w64 (s .args .v .whole)) *ℤ toZ w64 (s .args .v .parts))) +ℤ toZ w64 (s .args .v .part) ≡ over
+    (s .args .v)
+held s = ap₂ (λ (x y : ℤ). x +ℤ y) (ap (λ (x : ℤ). toZ w64 (ofZ w64 x)) (product-is s) ∙ within-back tt (s .pre .product-in))
+    (toZ-pos w64 (omega (arith, s .pre .part-in)))
 
 add-result : tie.Need-add-result
 add-result c = let s = c .before .before .before .before in rw (held s) (within-sfits (lit< tt) (joined-within (s .args .v) (s .pre)))

@@ -8,9 +8,9 @@ use Rattle.arith.proofs.Words.{back}
 use Rattle.greedy.specs.Fill.{at, fill, bound}
 use Rattle.greedy.specs.Sized.{Sized, SizedFill}
 use Rattle.greedy.proofs.Sizes.{fill-sized}
-use Rattle.search.specs.Steps.{Long}
-use Rattle.search.proofs.Boxes.{fixed-sized}
-use Rattle.search.proofs.Bounds.{bound-proper}
+use Rattle.setting.specs.Box.{Long}
+use Rattle.setting.proofs.Boxes.{fixed-sized}
+use Rattle.greedy.proofs.Bounds.{bound-proper}
 use Rattle.planner.specs.Outcomes.{boxAt, fillAt, valueAt}
 use Rattle.planner.proofs.Values.{bound-joins, joined-within}
 use Rattle.planner.proofs.optimal.Statement.{statement}
@@ -20,7 +20,10 @@ long : (s : tie.Start) → Long (s .args .s .ends)
 long s = record { lo-long = search needs; hi-long = search needs }
 
 sized : (s : tie.Start) → Sized (s .args .s .cols) (boxAt (s .args .s) (s .args .x))
-sized s = record { columns = s .pre .0 .sized .columns; ends = fixed-sized (s .args .s) (s .pre .0) (long s) (at (s .args .x)) (s .args .s .levels) (omega arith) (s .pre .1) }
+sized s = record {
+  columns = s .pre .0 .sized .columns;
+  ends = fixed-sized (s .args .s) (s .pre .0) (long s) (at (s .args .x)) (s .args .s .levels) (omega arith) (s .pre .1);
+}
 
 filled : (s : tie.Start) → SizedFill (s .args .s .cols) (fillAt (s .args .s) (s .args .x))
 filled s = fill-sized (s .args .s .cols) (boxAt (s .args .s) (s .args .x)) (sized s)
@@ -45,12 +48,15 @@ amounts-requires : tie.Need-amounts-requires
 amounts-requires c κs =
     let s = c .before .before .before in
     let b = bound-proper (s .args .s .cols) (fillAt (s .args .s) (s .args .x)) (filled s) in
-    rw (c .before .before .fixed .ensures, fill-is (c .before), value-is c) (record { sized = sized s; filled = filled s; divisor = omega (arith, b .low); few = b .few; item-in = omega arith })
+    rw (c .before .before .fixed .ensures, fill-is (c .before), value-is c)
+    (record { sized = sized s; filled = filled s; divisor = omega (arith, b .low); few = b .few; item-in = omega arith })
 
 joined-requires : tie.Need-joined-requires
-joined-requires c κs = let s = c .before .before .before .before in rw (value-is (c .before)) (bound-joins (s .args .s .cols) (fillAt (s .args .s) (s .args .x)) (filled s))
+joined-requires c κs =
+    let s = c .before .before .before .before in rw (value-is (c .before)) (bound-joins (s .args .s .cols) (fillAt (s .args .s) (s .args .x)) (filled s))
 
-numerator-is : (c : tie.After-joined) → c .joined .result ≡ over (valueAt (c .before .before .before .before .before .args .s) (c .before .before .before .before .before .args .x))
+numerator-is : (c : tie.After-joined) → c .joined .result ≡ over (valueAt (c .before .before .before .before .before .args .s)
+    (c .before .before .before .before .before .args .x))
 numerator-is c = c .joined .ensures ∙ ap over (value-is (c .before .before))
 
 reduce-requires : tie.Need-reduce-requires
@@ -58,7 +64,8 @@ reduce-requires c κs =
     let s = c .before .before .before .before .before in
     let v = valueAt (s .args .s) (s .args .x) in
     let j = bound-joins (s .args .s .cols) (fillAt (s .args .s) (s .args .x)) (filled s) in
-    rw (back (c .joined .result) (c .joined .ok), numerator-is c, value-is (c .before .before)) (within-more (omega arith) (joined-within v j), omega (arith, bound-proper (s .args .s .cols) (fillAt (s .args .s) (s .args .x)) (filled s) .low))
+    rw (back (c .joined .result) (c .joined .ok), numerator-is c, value-is (c .before .before))
+    (within-more (omega arith) (joined-within v j), omega (arith, bound-proper (s .args .s .cols) (fillAt (s .args .s) (s .args .x)) (filled s) .low))
 
 returns : tie.Need-returns
 returns c =

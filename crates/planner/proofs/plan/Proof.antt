@@ -1,19 +1,29 @@
 -- `planner::plan` meets its contract.
-use mathlib.Core.Path.{sym, _∙_, subst}
+use mathlib.Core.Path.{_≡_, sym, _∙_, subst}
 use borrow.Author.Needs.{needs}
-use Rattle.knapsack.specs.Meaning.{instanceOf, RepliesAs}
-use Rattle.knapsack.proofs.Items.{accepted}
+use Rattle.knapsack.specs.Meaning.{instanceOf, Answers}
+use Rattle.knapsack.specs.declared.Verdict.the-variants.{Accepted}
+use Rattle.model.specs.Promises.{RepliesAs}
+use Rattle.model.specs.Records.{plainOf, verdict}
+use Rattle.model.proofs.Records.{plain-in-range}
 use Rattle.planner.proofs.plan.Statement.{statement}
 use Rattle.planner.proofs.plan.Tie as tie
 
-check-record-requires : tie.Need-check-record-requires
-check-record-requires c κs = search needs
+check-model-requires : tie.Need-check-model-requires
+check-model-requires c κs = search needs
 
 enum-told : tie.Need-enum-told
 enum-told c = search needs
 
+plain-of-requires : tie.Need-plain-of-requires
+plain-of-requires c κs = search needs
+
+-- the record is accepted
+taken : (e : tie.After-enum-told) → verdict (e .before .before .before .args .m) ≡ Accepted
+taken e = sym (e .before .before .check-model .ensures) ∙ e .enum-told .given .1
+
 solve-requires : tie.Need-solve-requires
-solve-requires c κs = let k = c .before .before in accepted (k .before .args .p) (sym (k .check-record .ensures) ∙ c .enum-told .given .1)
+solve-requires c κs = rw (c .plain-of .ensures) (plain-in-range _ (taken (c .before)))
 
 enum-known-v : tie.Need-enum-known-v
 enum-known-v c = search needs
@@ -24,22 +34,26 @@ no-point-requires c κs = search needs
 returns : tie.Need-returns
 returns c =
     let r = c .before in
-    let t = r .before in
-    let k = t .before .before in
-    subst (RepliesAs (instanceOf (k .before .args .p)) (r .solve .result .answer)) (sym (sym (k .check-record .ensures) ∙ t .enum-told .given .1)) (r .solve .ensures .answers)
+    let p = r .before in
+    let e = p .before in
+    let m = e .before .before .before .args .m in
+    let answers : Answers (instanceOf (plainOf m)) (r .solve .result .answer) = rw (p .plain-of .ensures) at (r .solve .ensures .answers) in
+    subst (RepliesAs (instanceOf (plainOf m)) (r .solve .result .answer)) (sym (taken e)) answers
 
 returns-2 : tie.Need-returns-2
 returns-2 c =
     let v = c .before .before in
     let k = v .before .before in
-    subst (RepliesAs (instanceOf (k .before .args .p)) (c .no-point .result)) (sym (sym (k .check-record .ensures) ∙ v .v .given .1)) (c .no-point .ensures)
+    let is = sym (k .check-model .ensures) ∙ v .v .given .1 in
+    subst (RepliesAs (instanceOf (plainOf (k .before .args .m))) (c .no-point .result)) (sym is) (c .no-point .ensures)
 
 pub plan-spec : {M : Type 1} → statement M
 plan-spec =
     tie.close
     (tie.spec
-    check-record-requires
+    check-model-requires
     enum-told
+    plain-of-requires
     solve-requires
     enum-known-v
     no-point-requires

@@ -1,6 +1,6 @@
 -- `prepare::bounding_box` meets its contract.
 use borrow.Author.Needs.{needs}
-use Rattle.tables.specs.declared.Figure.the-variants.{Low, High}
+use Rattle.prepare.specs.declared.tables.Figure.the-variants.{Low, High}
 use Rattle.prepare.proofs.Lists.{places-listing, tabled-places}
 use Rattle.prepare.proofs.bounding_box.Statement.{statement}
 use Rattle.prepare.proofs.bounding_box.Tie as tie

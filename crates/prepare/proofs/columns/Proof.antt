@@ -4,11 +4,11 @@ use borrow.Author.Needs.{needs}
 use mir.Facts.{toZ-ofZ}
 use mir.Syntax.{w64}
 use mir.Val.{SFits}
-use Rattle.knapsack.specs.Records.{itemAt}
-use Rattle.tables.specs.Figures.{keyOf}
-use Rattle.tables.specs.Tables.{Listing, Permuted}
-use Rattle.tables.specs.declared.Figure.the-variants.{Weight, Price}
-use Rattle.tables.specs.declared.Key.the-variants.{Filling}
+use Rattle.knapsack.specs.Ranges.{itemAt}
+use Rattle.prepare.specs.Figures.{keyOf}
+use Rattle.prepare.specs.Tables.{Listing, Permuted}
+use Rattle.prepare.specs.declared.tables.Figure.the-variants.{Weight, Price}
+use Rattle.prepare.specs.declared.tables.Key.the-variants.{Filling}
 use Rattle.prepare.proofs.Lists.{places-listing, tabled-places, sorted-listing, sorted-permuted}
 use Rattle.prepare.proofs.columns.Statement.{statement}
 use Rattle.prepare.proofs.columns.Tie as tie
@@ -19,10 +19,12 @@ module _ (c : tie.After-ranking-by) where
   all-listed = let s = c .before .before in places-listing (s .args .p) (s .pre) (c .before .all-places .result) (c .before .all-places .ensures)
 
   in-order : Listing (c .before .before .args .p) (c .ranking-by .result) (c .before .before .args .p .count)
-  in-order = let s = c .before .before in sorted-listing (s .args .p) (s .pre) (λ k. keyOf Filling (itemAt (s .args .p) k)) (c .ranking-by .result) (c .ranking-by .ensures)
+  in-order = let s = c .before .before in sorted-listing (s .args .p) (s .pre) (λ k. keyOf Filling (itemAt (s .args .p) k)) (c .ranking-by .result)
+      (c .ranking-by .ensures)
 
   permuted : Permuted (c .before .before .args .p .count) (c .ranking-by .result)
-  permuted = let s = c .before .before in sorted-permuted (s .args .p) (s .pre) (λ k. keyOf Filling (itemAt (s .args .p) k)) (c .ranking-by .result) (c .ranking-by .ensures)
+  permuted = let s = c .before .before in sorted-permuted (s .args .p) (s .pre) (λ k. keyOf Filling (itemAt (s .args .p) k)) (c .ranking-by .result)
+      (c .ranking-by .ensures)
 
 all-places-requires : tie.Need-all-places-requires
 all-places-requires c κs = search needs
@@ -48,6 +50,10 @@ table-requires-4 c κs = in-order (c .before .before .before .before)
 leading-requires : tie.Need-leading-requires
 leading-requires c κs = in-order (c .before .before .before .before .before)
 
+-- the moments that are spoken of below
+abbrev after-table2 : tie.After-struct-told → tie.After-table2
+after-table2 c = c .before .before .before .before .before
+
 returns : tie.Need-returns
 returns c =
     let o = c .before .before .before .before .before .before .before in
@@ -59,7 +65,7 @@ returns c =
       count = refl;
       capacity = toZ-ofZ fits;
       weights = tabled-places (s .args .p) (s .pre) (items .result) (items .ensures) Weight (t .table .result) (t .table .ensures);
-      prices = tabled-places (s .args .p) (s .pre) (items .result) (items .ensures) Price (c .before .before .before .before .before .table2 .result) (c .before .before .before .before .before .table2 .ensures);
+      prices = tabled-places (s .args .p) (s .pre) (items .result) (items .ensures) Price (after-table2 c .table2 .result) (after-table2 c .table2 .ensures);
       order = o .ranking-by .ensures;
       rank = c .before .before .before .before .inverse .ensures;
       sizes = c .before .before .before .table3 .ensures;

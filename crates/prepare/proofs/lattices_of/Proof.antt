@@ -4,9 +4,9 @@ use borrow.Author.Needs.{needs}
 use borrow.Author.Tests.{lt-ltb, le-ltb}
 use Rattle.lattice.proofs.Levels.{unknown-at}
 use Rattle.lattice.specs.Building.{entry}
-use Rattle.tables.specs.Figures.{figureOf}
-use Rattle.tables.specs.Tables.{listed}
-use Rattle.tables.specs.declared.Figure.the-variants.{Weight, Price}
+use Rattle.prepare.specs.Figures.{figureOf}
+use Rattle.prepare.specs.Tables.{listed}
+use Rattle.prepare.specs.declared.tables.Figure.the-variants.{Weight, Price}
 use Rattle.prepare.specs.Prepared.{column}
 use Rattle.prepare.proofs.Lattices.{items-in, tabled-column, leading-places}
 use Rattle.prepare.proofs.Lists.{places-listing}
@@ -40,16 +40,27 @@ table-requires c κs = search needs
 table-requires-2 : tie.Need-table-requires-2
 table-requires-2 c κs = search needs
 
--- the tables, as columns of the levels
-weights : (c : tie.After-table) → entry (c .table .result) ≡ column (c .before .before .before .before .before .args .n) (λ u. listed (c .before .before .before .before .before .args .p) (c .before .before .before .before .before .args .level) u .weight)
-weights c = let s = c .before .before .before .before .before in tabled-column (s .args .n) (λ u. figureOf Weight (listed (s .args .p) (s .args .level) u)) (c .table .result) (c .table .ensures)
+-- the moments that are spoken of below
+abbrev start-by-table : tie.After-table → tie.Start
+start-by-table c = c .before .before .before .before .before
 
-prices : (c : tie.After-table2) → entry (c .table2 .result) ≡ column (c .before .before .before .before .before .before .args .n) (λ u. listed (c .before .before .before .before .before .before .args .p) (c .before .before .before .before .before .before .args .level) u .price)
-prices c = let s = c .before .before .before .before .before .before in tabled-column (s .args .n) (λ u. figureOf Price (listed (s .args .p) (s .args .level) u)) (c .table2 .result) (c .table2 .ensures)
+abbrev start-by-table2 : tie.After-table2 → tie.Start
+start-by-table2 c = c .before .before .before .before .before .before
+
+-- the tables, as columns of the levels
+weights : (c : tie.After-table) → entry (c .table .result) ≡ column (start-by-table c .args .n)
+    (λ u. listed (start-by-table c .args .p) (start-by-table c .args .level) u .weight)
+weights c = let s = start-by-table c in tabled-column (s .args .n) (λ u. figureOf Weight (listed (s .args .p) (s .args .level) u))
+    (c .table .result) (c .table .ensures)
+
+prices : (c : tie.After-table2) → entry (c .table2 .result) ≡ column (start-by-table2 c .args .n)
+    (λ u. listed (start-by-table2 c .args .p) (start-by-table2 c .args .level) u .price)
+prices c = let s = start-by-table2 c in tabled-column (s .args .n)
+    (λ u. figureOf Price (listed (s .args .p) (s .args .level) u)) (c .table2 .result) (c .table2 .ensures)
 
 lattices-requires : tie.Need-lattices-requires
 lattices-requires c κs =
-    let s = c .before .before .before .before .before .before in
+    let s = start-by-table2 c in
     rw (weights (c .before), prices c) (items-in (s .args .p) (s .args .level) (s .args .n) (s .pre))
 
 returns-2 : tie.Need-returns-2

@@ -2,9 +2,9 @@
 use mathlib.Core.Path.{sym, subst}
 use borrow.Author.Needs.{needs}
 use Rattle.greedy.specs.Fill.{fill}
-use Rattle.knapsack.specs.Records.{itemAt}
-use Rattle.tables.specs.Figures.{keyOf, SmallKey}
-use Rattle.tables.specs.Tables.{Listing}
+use Rattle.knapsack.specs.Ranges.{itemAt}
+use Rattle.prepare.specs.Figures.{keyOf, SmallKey}
+use Rattle.prepare.specs.Tables.{Listing}
 use Rattle.prepare.proofs.Levels.{critical-small}
 use Rattle.prepare.proofs.Lists.{sorted-listing, shorter-listing}
 use Rattle.prepare.proofs.Order.{columns-sized}
@@ -12,14 +12,21 @@ use Rattle.prepare.proofs.Ready.{box-sized, prepared}
 use Rattle.prepare.proofs.prepare.Statement.{statement}
 use Rattle.prepare.proofs.prepare.Tie as tie
 
-in-order : (c : tie.After-ranking-by) → Listing (c .before .before .before .before .args .p) (c .ranking-by .result) (c .before .before .before .before .args .p .count)
+-- the moments that are spoken of below
+abbrev start-by-ranking-by : tie.After-ranking-by → tie.Start
+start-by-ranking-by c = c .before .before .before .before
+
+abbrev start-by-leading : tie.After-leading → tie.Start
+start-by-leading c = c .before .before .before .before .before
+
+in-order : (c : tie.After-ranking-by) → Listing (start-by-ranking-by c .args .p) (c .ranking-by .result) (start-by-ranking-by c .args .p .count)
 in-order c =
-    let s = c .before .before .before .before in
+    let s = start-by-ranking-by c in
     sorted-listing (s .args .p) (s .pre) (λ k. keyOf (c .before .branching .result) (itemAt (s .args .p) k)) (c .ranking-by .result) (c .ranking-by .ensures)
 
-by-level : (c : tie.After-leading) → Listing (c .before .before .before .before .before .args .p) (c .before .ranking-by .result) (c .leading .result)
+by-level : (c : tie.After-leading) → Listing (start-by-leading c .args .p) (c .before .ranking-by .result) (c .leading .result)
 by-level c =
-    let s = c .before .before .before .before .before in
+    let s = start-by-leading c in
     shorter-listing (s .args .p) (c .before .ranking-by .result) (c .leading .result) (s .args .p .count) (c .leading .ensures .most) (in-order (c .before))
 
 columns-requires : tie.Need-columns-requires
@@ -32,13 +39,19 @@ branching-requires : tie.Need-branching-requires
 branching-requires c κs =
     let k = c .before in
     let s = k .before in
-    record { columns = columns-sized (s .args .p) (k .columns .result) (s .pre) (k .columns .ensures); ends = box-sized (s .args .p) (s .pre) (c .bounding-box .result) (c .bounding-box .ensures) }
+    record {
+      columns = columns-sized (s .args .p) (k .columns .result) (s .pre) (k .columns .ensures);
+      ends = box-sized (s .args .p) (s .pre) (c .bounding-box .result) (c .bounding-box .ensures);
+    }
 
 ranking-by-requires : tie.Need-ranking-by-requires
 ranking-by-requires c κs =
     let k = c .before .before in
-    let s = k .before in
-    (s .pre, subst SmallKey (sym (c .branching .ensures)) (critical-small (k .columns .result) (fill (k .columns .result) (c .before .bounding-box .result)) (columns-sized (s .args .p) (k .columns .result) (s .pre) (k .columns .ensures))))
+    let s = k .before in (
+      s .pre,
+      subst SmallKey (sym (c .branching .ensures)) (critical-small (k .columns .result) (fill (k .columns .result) (c .before .bounding-box .result))
+          (columns-sized (s .args .p) (k .columns .result) (s .pre) (k .columns .ensures))),
+    )
 
 leading-requires : tie.Need-leading-requires
 leading-requires c κs = in-order c
@@ -52,8 +65,8 @@ table-requires-2 c κs = by-level (c .before)
 lattices-of-requires : tie.Need-lattices-of-requires
 lattices-of-requires c κs = by-level (c .before .before)
 
-soft-of-requires : tie.Need-soft-of-requires
-soft-of-requires c κs =
+stride-bound-requires : tie.Need-stride-bound-requires
+stride-bound-requires c κs =
     let k = c .before .before .before .before .before .before .before in
     (k .before .pre, k .columns .ensures)
 
@@ -74,7 +87,7 @@ returns c =
       lows = c .before .before .before .table .ensures;
       highs = c .before .before .table2 .ensures;
       latticing = c .before .lattices-of .ensures;
-      softens = c .soft-of .ensures;
+      strides-of = c .stride-bound .ensures;
     })
 
 pub prepare-spec : {M : Type 1} → statement M
@@ -89,5 +102,5 @@ prepare-spec =
     table-requires
     table-requires-2
     lattices-of-requires
-    soft-of-requires
+    stride-bound-requires
     returns)

@@ -28,14 +28,19 @@ quotient c = rw (y-back (c .before .before .before), x-back (c .before .before .
 handed : (c : tie.After-floor-div) → toZ w64 (ofZ w64 (c .floor-div .result)) ≡ factor (c .before .before .before .args .x) (c .before .before .before .args .y)
 handed c = back (c .floor-div .result) (c .floor-div .ok) ∙ quotient c
 
-tested : (c : tie.After-is-multiple) → parallel (c .before .before .before .before .args .x) (c .before .before .before .before .args .y) ≡ c .is-multiple .result
+tested : (c : tie.After-is-multiple) → parallel (c .before .before .before .before .args .x) (c .before .before .before .before .args .y)
+    ≡ c .is-multiple .result
 tested c = sym (rw (handed (c .before)) at (c .is-multiple .ensures))
 
 floor-div-requires : tie.Need-floor-div-requires
 floor-div-requires c κs = let s = c .before .before in (rw (y-back s) (within-more (omega arith) (y-weight s)), λ e. s .pre .0 (sym (x-back s) ∙ e))
 
 is-multiple-requires : tie.Need-is-multiple-requires
-is-multiple-requires c κs = let s = c .before .before .before in (rw (back (c .floor-div .result) (c .floor-div .ok), quotient c) (floor-within (s .args .y .weight) (s .args .x .weight) (y-weight s)), s .pre .1)
+is-multiple-requires c κs =
+    let s = c .before .before .before in (
+      rw (back (c .floor-div .result) (c .floor-div .ok), quotient c) (floor-within (s .args .y .weight) (s .args .x .weight) (y-weight s)),
+      s .pre .1,
+    )
 
 rest-of-requires : tie.Need-rest-of-requires
 rest-of-requires c κs = search needs

@@ -19,7 +19,8 @@ so-far : (c : tie.In-loop Inv-loop μ-loop) → Presolves (c .before .before .ar
 so-far c =
     let l = c .before in
     let s = l .before in
-    subst (Presolves (s .args .p)) (sym (l .loop .inv .1)) (fixed-by-presolves (s .args .p) (s .args .i) (l .loop .j) (s .pre .0) (s .pre .1 .0) (l .loop .inv .0))
+    subst (Presolves (s .args .p)) (sym (l .loop .inv .1)) (fixed-by-presolves (s .args .p) (s .args .i) (l .loop .j) (s .pre .0) (s .pre .1 .0)
+    (l .loop .inv .0))
 
 loop-holds : tie.Need-loop-holds Inv-loop μ-loop
 unfolding fixedBy

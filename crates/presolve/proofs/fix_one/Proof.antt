@@ -24,7 +24,14 @@ element-copy-out-y : tie.Need-element-copy-out-y
 element-copy-out-y c = search needs
 
 fix-beside-requires : tie.Need-fix-beside-requires
-fix-beside-requires c κs = let s = c .before .before .before in (s .pre .1 .1 .1, (s .pre .0 .items-in (s .args .i) (s .pre .1 .0), s .pre .0 .items-in (s .args .j) (s .pre .1 .1 .0)))
+fix-beside-requires c κs =
+    let s = c .before .before .before in (
+      s .pre .1 .1 .1,
+      (
+        s .pre .0 .items-in (s .args .i) (s .pre .1 .0),
+        s .pre .0 .items-in (s .args .j) (s .pre .1 .1 .0),
+      ),
+    )
 
 with-item-requires : tie.Need-with-item-requires
 with-item-requires c κs = search needs

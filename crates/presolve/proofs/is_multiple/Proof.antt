@@ -6,7 +6,7 @@ use mir.Facts.{toZ-ofZ}
 use borrow.Author.Needs.{needs}
 use Rattle.arith.proofs.Parts.{abs-within, within-more, within-back}
 use Rattle.arith.specs.Within.{Within}
-use Rattle.knapsack.specs.Records.{ItemInRange}
+use Rattle.knapsack.specs.Ranges.{ItemInRange}
 use Rattle.knapsack.specs.declared.Item.{Item}
 use Rattle.presolve.specs.Presolve.{same}
 use Rattle.presolve.proofs.is_multiple.Statement.{statement}
@@ -30,15 +30,19 @@ is-product-requires-2 c κs =
     let p = price-in (s .args .x) (s .pre .1 .0) in
     (rw (toZ-ofZ (s .fits .m)) (s .pre .0), rw (within-back tt p) p)
 
-weight-test : (c : tie.After-is-product) → let s = c .before .before .before in same (s .args .m *ℤ s .args .x .weight) (s .args .y .weight) ≡ c .is-product .result
+weight-test : (c : tie.After-is-product) → let s =
+    c .before .before .before in same (s .args .m *ℤ s .args .x .weight) (s .args .y .weight) ≡ c .is-product .result
 weight-test c =
     let s = c .before .before .before in
-    sym (rw (toZ-ofZ (s .fits .m), within-back tt (weight-in (s .args .x) (s .pre .1 .0)), within-back tt (weight-in (s .args .y) (s .pre .1 .1))) at (c .is-product .ensures))
+    sym (rw (toZ-ofZ (s .fits .m), within-back tt (weight-in (s .args .x) (s .pre .1 .0)), within-back tt (weight-in (s .args .y) (s .pre .1 .1))) at
+    (c .is-product .ensures))
 
-price-test : (c : tie.After-is-product2) → let s = c .before .before .before .before .before .before .before in same (s .args .m *ℤ s .args .x .price) (s .args .y .price) ≡ c .is-product2 .result
+price-test : (c : tie.After-is-product2) → let s =
+    c .before .before .before .before .before .before .before in same (s .args .m *ℤ s .args .x .price) (s .args .y .price) ≡ c .is-product2 .result
 price-test c =
     let s = c .before .before .before .before .before .before .before in
-    sym (rw (toZ-ofZ (s .fits .m), within-back tt (price-in (s .args .x) (s .pre .1 .0)), within-back tt (price-in (s .args .y) (s .pre .1 .1))) at (c .is-product2 .ensures))
+    sym (rw (toZ-ofZ (s .fits .m), within-back tt (price-in (s .args .x) (s .pre .1 .0)), within-back tt (price-in (s .args .y) (s .pre .1 .1))) at
+    (c .is-product2 .ensures))
 
 suit-requires : tie.Need-suit-requires
 suit-requires c κs = search needs

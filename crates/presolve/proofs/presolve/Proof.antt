@@ -2,7 +2,7 @@
 use mathlib.Core.Path.{_≡_, refl, sym, _∙_}
 use Prim.Native.Nat.{_-_, _≤_, _<_}
 use native.Mathlib.Omega.{arith}
-use Rattle.knapsack.specs.Records.{itemAt, InRange}
+use Rattle.knapsack.specs.Ranges.{itemAt, InRange}
 use Rattle.presolve.specs.Presolve.{fixedAround, presolvedFrom, presolved}
 use Rattle.presolve.proofs.Presolves.{around-presolves, presolved-next}
 use Rattle.presolve.proofs.Tests.{takes-over-weighs}
@@ -42,7 +42,8 @@ fix-by-requires c κs =
     (l .inv .0, (item<count n, takes-over-weighs (itemAt (l .q) (l .i - 1)) (sym (t .takes-over .ensures) ∙ c .if1 .taken)))
 
 -- one item more
-next : (n : tie.In-loop Inv-loop μ-loop) → Inv-loop (n .before .before .args .p) (n .before .before .args .p .count) (fixedAround (n .before .loop .q) (n .before .loop .i - 1)) (n .before .loop .i - 1)
+next : (n : tie.In-loop Inv-loop μ-loop) → Inv-loop (n .before .before .args .p) (n .before .before .args .p .count)
+    (fixedAround (n .before .loop .q) (n .before .loop .i - 1)) (n .before .loop .i - 1)
 next n =
     let l = n .before .loop in
     let f = around-presolves (l .q) (l .i - 1) (l .inv .0) (item<count n) in

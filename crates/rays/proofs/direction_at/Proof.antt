@@ -6,7 +6,7 @@ use mir.Val.{SFits}
 use mir.Facts.{toZ-ofZ}
 use Rattle.arith.proofs.Parts.{abs-within}
 use Rattle.arith.proofs.Words.{back}
-use Rattle.knapsack.specs.Records.{itemAt, ItemInRange}
+use Rattle.knapsack.specs.Ranges.{itemAt, ItemInRange}
 use Rattle.rays.specs.Directions.{directionOf}
 use borrow.Author.Needs.{needs}
 use Rattle.rays.proofs.direction_at.Statement.{statement}

@@ -1,7 +1,7 @@
 -- `rays::gain_of` meets its contract: no product is above ten million.
 use mathlib.Core.Path.{_≡_}
 use lib.Dec.{lit<}
-use lib.IntN.{ℤ, pos, negℤ, _+ℤ_, _-ℤ_, _*ℤ_}
+use lib.IntN.{pos, negℤ, _+ℤ_, _-ℤ_, _*ℤ_}
 use Prim.Native.Nat.{_*_}
 use mir.Syntax.{w64}
 use mir.Val.{SFits, toZ, ofZ}
@@ -30,7 +30,8 @@ module _ (c : tie.Start) where
   negation = within-neg (c .args .e .weight) e-weight
 
   -- what is read back from the bits of each number on the way
-  there : toZ w64 (ofZ w64 (c .args .d .price)) *ℤ toZ w64 (ofZ w64 (pos 0 -ℤ toZ w64 (ofZ w64 (c .args .e .weight)))) ≡ c .args .d .price *ℤ negℤ (c .args .e .weight)
+  there : toZ w64 (ofZ w64 (c .args .d .price)) *ℤ toZ w64 (ofZ w64 (pos 0 -ℤ toZ w64 (ofZ w64 (c .args .e .weight)))) ≡ c .args .d .price *ℤ negℤ
+      (c .args .e .weight)
   there = rw (negated (lit< tt) e-weight, read-back (lit< tt) negation, read-back (lit< tt) d-price)
 
   here : toZ w64 (ofZ w64 (c .args .e .price)) *ℤ toZ w64 (ofZ w64 (c .args .d .weight)) ≡ c .args .e .price *ℤ c .args .d .weight
@@ -51,18 +52,23 @@ sub-result c = let s = c .before .before in rw (negated (lit< tt) (e-weight s)) 
 mul-result : tie.Need-mul-result
 mul-result c = let s = c .before .before .before .before in rw (there s) (within-sfits (lit< tt) (there-in s))
 
+-- the moments that are spoken of below
+abbrev start : tie.After-struct-told4 → tie.Start
+start c = c .before .before .before .before .before .before .before .before
+
 mul-result-2 : tie.Need-mul-result-2
-mul-result-2 c = let s = c .before .before .before .before .before .before .before .before in rw (here s) (within-sfits (lit< tt) (here-in s))
+mul-result-2 c = let s = start c in rw (here s) (within-sfits (lit< tt) (here-in s))
 
 -- the sum of the two products, read back
-summed : (s : tie.Start) → toZ w64 (ofZ w64 (toZ w64 (ofZ w64 (s .args .d .price)) *ℤ toZ w64 (ofZ w64 (pos 0 -ℤ toZ w64 (ofZ w64 (s .args .e .weight)))))) +ℤ toZ w64 (ofZ w64 (toZ w64 (ofZ w64 (s .args .e .price)) *ℤ toZ w64 (ofZ w64 (s .args .d .weight)))) ≡ gain (s .args .d) (s .args .e)
+summed : (s : tie.Start) → toZ w64 (ofZ w64 (toZ w64 (ofZ w64 (s .args .d .price)) *ℤ toZ w64 (ofZ w64 (pos 0 -ℤ toZ w64 (ofZ w64 (s .args .e .weight))))))
+    +ℤ toZ w64 (ofZ w64 (toZ w64 (ofZ w64 (s .args .e .price)) *ℤ toZ w64 (ofZ w64 (s .args .d .weight)))) ≡ gain (s .args .d) (s .args .e)
 summed s = rw (there s, here s, read-back (lit< tt) (there-in s), read-back (lit< tt) (here-in s))
 
 add-result : tie.Need-add-result
-add-result c = let s = c .before .before .before .before .before .before .before .before in rw (summed s) (gain-fits s)
+add-result c = let s = start c in rw (summed s) (gain-fits s)
 
 returns : tie.Need-returns
-returns c = let s = c .before .before .before .before .before .before .before .before in rw (summed s) (toZ-ofZ (gain-fits s))
+returns c = let s = start c in rw (summed s) (toZ-ofZ (gain-fits s))
 
 pub gain-of-spec : {M : Type 1} → statement M
 gain-of-spec = tie.close (tie.spec sub-result mul-result mul-result-2 add-result returns)

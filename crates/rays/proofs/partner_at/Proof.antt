@@ -15,7 +15,8 @@ does-pay-requires c κs =
     (s .pre .1 .0, rw (c .direction-at .ensures) (direction-in (s .args .p) (s .args .w) (s .pre .0) (s .pre .1 .1)))
 
 -- the answer of the test is the definition's
-test : (c : tie.After-does-pay) → pays (c .before .before .args .d) (directionOf (c .before .before .args .p) (c .before .before .args .w)) ≡ c .does-pay .result
+test : (c : tie.After-does-pay) → pays (c .before .before .args .d) (directionOf (c .before .before .args .p) (c .before .before .args .w))
+    ≡ c .does-pay .result
 test c = sym (c .does-pay .ensures ∙ ap (pays (c .before .before .args .d)) (c .before .direction-at .ensures))
 
 returns : tie.Need-returns

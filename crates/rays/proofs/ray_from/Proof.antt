@@ -31,7 +31,11 @@ unfolding rayFrom
 returns c =
     let g = c .before .before .before .before .before in
     let h : SFits w64 (g .before .direction-at .result .weight) = search needs in
-    rw (← g .before .direction-at .ensures, sym (g .does-gain .ensures) ∙ c .before .before .before .before .if1 .taken, on-values zero-fits h (c .before .if2 .taken)) (c .partner .ensures)
+    rw (
+      ← g .before .direction-at .ensures,
+      sym (g .does-gain .ensures) ∙ c .before .before .before .before .if1 .taken,
+      on-values zero-fits h (c .before .if2 .taken),
+    ) (c .partner .ensures)
 
 returns-2 : tie.Need-returns-2
 unfolding rayFrom

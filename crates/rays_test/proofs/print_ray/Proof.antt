@@ -1,25 +1,29 @@
 -- `rays_test::print_ray` meets its contract: an accepted record is in range, which is all that the scan asks.
 use mathlib.Core.Path.{sym, _∙_}
-use Rattle.knapsack.specs.Records.{InRange}
-use Rattle.knapsack.proofs.Items.{accepted}
+use Rattle.knapsack.specs.Ranges.{InRange}
+use Rattle.model.specs.Records.{plainOf}
+use Rattle.model.proofs.Records.{plain-in-range}
 use borrow.Author.Needs.{needs}
 use Rattle.rays_test.proofs.print_ray.Statement.{statement}
 use Rattle.rays_test.proofs.print_ray.Tie as tie
 
-in-range : (c : tie.After-enum-told) → InRange (c .before .before .before .args .p)
-in-range c = accepted (c .before .before .before .args .p) (sym (c .before .before .check-record .ensures) ∙ c .enum-told .given .1)
+in-range : (c : tie.After-enum-told) → InRange (plainOf (c .before .before .before .args .p))
+in-range c = plain-in-range (c .before .before .before .args .p) (sym (c .before .before .check-model .ensures) ∙ c .enum-told .given .1)
 
-check-record-requires : tie.Need-check-record-requires
-check-record-requires c κs = search needs
+check-model-requires : tie.Need-check-model-requires
+check-model-requires c κs = search needs
 
 enum-told : tie.Need-enum-told
 enum-told c = search needs
 
+plain-of-requires : tie.Need-plain-of-requires
+plain-of-requires c κs = search needs
+
 find-ray-requires : tie.Need-find-ray-requires
-find-ray-requires c κs = in-range c
+find-ray-requires c κs = rw (c .plain-of .ensures) (in-range (c .before))
 
 print-reply-requires : tie.Need-print-reply-requires
-print-reply-requires c κs = in-range (c .before) .few-items
+print-reply-requires c κs = in-range (c .before .before) .few-items
 
 enum-told-2 : tie.Need-enum-told-2
 enum-told-2 c = search needs
@@ -40,8 +44,9 @@ pub print-ray-spec : {M : Type 1} → statement M
 print-ray-spec =
     tie.close
     (tie.spec
-    check-record-requires
+    check-model-requires
     enum-told
+    plain-of-requires
     find-ray-requires
     print-reply-requires
     enum-told-2

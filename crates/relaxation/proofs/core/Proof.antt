@@ -1,27 +1,43 @@
 -- `relaxation::core` meets its contract.
-use mathlib.Core.Path.{sym, _∙_, subst}
+use mathlib.Core.Path.{_≡_, sym, ap, _∙_, subst}
 use borrow.Author.Needs.{needs}
-use Rattle.knapsack.proofs.Items.{accepted}
-use Rattle.knapsack.specs.Meaning.{instanceOf, relaxed, RepliesAs}
-use Rattle.ordering.proofs.Accepted.{accepted-ranged}
+use Rattle.knapsack.specs.Meaning.{instanceOf, relaxed, Answers}
+use Rattle.knapsack.specs.Ranges.{InRange}
+use Rattle.knapsack.specs.declared.Verdict.the-variants.{Accepted}
+use Rattle.model.specs.declared.Model.{Model}
+use Rattle.model.specs.Promises.{RepliesAs}
+use Rattle.model.specs.Records.{plainOf, verdict}
+use Rattle.model.proofs.Records.{plain-in-range}
+use Rattle.ordering.proofs.Accepted.{in-range-ranged}
+use Rattle.ordering.specs.Ranking.{arranged}
 use Rattle.relaxation.proofs.Lent.{settled-accepted, settled-refused}
 use Rattle.relaxation.proofs.core.Statement.{statement}
 use Rattle.relaxation.proofs.core.Tie as tie
 
-check-record-requires : tie.Need-check-record-requires
-check-record-requires c κs = search needs
+plain-of-requires : tie.Need-plain-of-requires
+plain-of-requires c κs = search needs
+
+check-model-requires : tie.Need-check-model-requires
+check-model-requires c κs = search needs
 
 enum-told : tie.Need-enum-told
 enum-told c = search needs
 
+abbrev asked : tie.After-check-model → Model
+asked k = k .before .before .args .m
+
+-- the record is accepted, so its plain problem is in range
+taken : (t : tie.After-enum-told) → verdict (asked (t .before .before)) ≡ Accepted
+taken t = sym (t .before .before .check-model .ensures) ∙ t .enum-told .given .1
+
+ranged : (t : tie.After-enum-told) → InRange (t .before .before .before .plain-of .result)
+ranged t = rw (t .before .before .before .plain-of .ensures) (plain-in-range _ (taken t))
+
 relaxed-answer-requires : tie.Need-relaxed-answer-requires
-relaxed-answer-requires c κs = let k = c .before .before in accepted (k .before .args .p) (sym (k .check-record .ensures) ∙ c .enum-told .given .1)
+relaxed-answer-requires c κs = ranged c
 
 arrange-requires : tie.Need-arrange-requires
-arrange-requires c κs =
-    let t = c .before in
-    let k = t .before .before in
-    accepted-ranged (k .before .args .p) (sym (k .check-record .ensures) ∙ t .enum-told .given .1)
+arrange-requires c κs = in-range-ranged _ (ranged (c .before))
 
 enum-known-v : tie.Need-enum-known-v
 enum-known-v c = search needs
@@ -32,25 +48,32 @@ no-point-requires c κs = search needs
 returns : tie.Need-returns
 returns c =
     let a = c .before in
-    let t = a .before in
-    let k = t .before .before in
-    let p = k .before .args .p in
-    let is = sym (k .check-record .ensures) ∙ t .enum-told .given .1 in
-    record { reply = subst (RepliesAs (relaxed (instanceOf p)) (a .relaxed-answer .result)) (sym is) (a .relaxed-answer .ensures); problem = c .arrange .ensures ∙ sym (settled-accepted p is) }
+    let k = a .before .before .before in
+    let m = asked k in
+    let plain = k .before .plain-of .ensures in
+    let answers : Answers (relaxed (instanceOf (plainOf m))) (a .relaxed-answer .result) = rw plain at (a .relaxed-answer .ensures) in
+    record {
+      reply = subst (RepliesAs (relaxed (instanceOf (plainOf m))) (a .relaxed-answer .result)) (sym (taken (a .before))) answers;
+      problem = c .arrange .ensures ∙ ap arranged plain ∙ sym (settled-accepted m (taken (a .before)));
+    }
 
 returns-2 : tie.Need-returns-2
 returns-2 c =
     let v = c .before .before in
     let k = v .before .before in
-    let p = k .before .args .p in
-    let is = sym (k .check-record .ensures) ∙ v .v .given .1 in
-    record { reply = subst (RepliesAs (relaxed (instanceOf p)) (c .no-point .result)) (sym is) (c .no-point .ensures); problem = sym (settled-refused p _ is) }
+    let m = asked k in
+    let is = sym (k .check-model .ensures) ∙ v .v .given .1 in
+    record {
+      reply = subst (RepliesAs (relaxed (instanceOf (plainOf m))) (c .no-point .result)) (sym is) (c .no-point .ensures);
+      problem = k .before .plain-of .ensures ∙ sym (settled-refused m _ is);
+    }
 
 pub core-spec : {M : Type 1} → statement M
 core-spec =
     tie.close
     (tie.spec
-    check-record-requires
+    plain-of-requires
+    check-model-requires
     enum-told
     relaxed-answer-requires
     arrange-requires

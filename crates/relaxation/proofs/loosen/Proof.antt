@@ -3,7 +3,7 @@ use Prim.Native.Nat.{_≤_, _-_}
 use native.Mathlib.Omega.{arith}
 use lib.ListN.{length, length-map, length-set}
 use borrow.Author.Needs.{needs}
-use Rattle.knapsack.specs.Records.{itemAt}
+use Rattle.knapsack.specs.Ranges.{itemAt}
 use Rattle.knapsack.specs.Items.{withItem}
 use Rattle.relaxation.specs.Lent.{loose, Loosened}
 use Rattle.relaxation.proofs.Loose.{loosened-none, loosened-more}
@@ -30,8 +30,8 @@ element-copy-out-loose-item c = omega arith
 loose-item-requires : tie.Need-loose-item-requires Inv-loop μ-loop
 loose-item-requires c κs = search needs
 
-with-requires : tie.Need-with-requires Inv-loop μ-loop
-with-requires c κs = omega arith
+with-item-requires : tie.Need-with-item-requires Inv-loop μ-loop
+with-item-requires c κs = omega arith
 
 add-k : tie.Need-add-k Inv-loop μ-loop
 add-k c = omega arith
@@ -44,8 +44,15 @@ loop-again c =
     let b = c .before .before .before .before in
     let p = b .before .args .t1 in
     let x : c .before .loose-item .result ≡ loose (itemAt p (b .loop .k)) = c .before .loose-item .ensures in
-    let q : c .with .result ≡ withItem (b .loop .q) (b .loop .k) (loose (itemAt p (b .loop .k))) = c .with .ensures ∙ ap (withItem (b .loop .q) (b .loop .k)) x in
-    (omega arith, rw q (simp length-set (b .loop .inv .1 .0), loosened-more p (b .loop .q) (b .loop .k) (omega (arith, b .loop .inv .1 .0)) (b .loop .inv .1 .1)))
+    let q : c .with-item .result ≡ withItem (b .loop .q) (b .loop .k) (loose (itemAt p (b .loop .k))) = c .with-item .ensures ∙
+    ap (withItem (b .loop .q) (b .loop .k)) x in (
+      omega arith,
+      rw q (
+        simp length-set (b .loop .inv .1 .0),
+        loosened-more p (b .loop .q) (b .loop .k) (omega (arith, b .loop .inv .1 .0))
+            (b .loop .inv .1 .1),
+      ),
+    )
 
 returns : tie.Need-returns Inv-loop μ-loop
 returns c =
@@ -62,7 +69,7 @@ loosen-spec =
     mul-loose-item
     element-copy-out-loose-item
     loose-item-requires
-    with-requires
+    with-item-requires
     add-k
     loop-less
     loop-again

@@ -1,14 +1,25 @@
+-- `relaxation::opened` meets its contract.
 use mir.Facts.{toZ-ofZ}
 use borrow.Author.Needs.{needs}
 use Rattle.relaxation.proofs.Lent.{load-none}
 use Rattle.relaxation.proofs.opened.Statement.{statement}
 use Rattle.relaxation.proofs.opened.Tie as tie
 
-empty-problem-requires : tie.Need-empty-problem-requires
-empty-problem-requires c κs = search needs
+empty-model-requires : tie.Need-empty-model-requires
+empty-model-requires c κs = search needs
+
+with-capacity-requires : tie.Need-with-capacity-requires
+with-capacity-requires c κs = search needs
+
+with-count-requires : tie.Need-with-count-requires
+with-count-requires c κs = search needs
 
 returns : tie.Need-returns
-returns c = rw (c .before .empty-problem .ensures, toZ-ofZ (c .before .before .fits .capacity), load-none)
+returns c =
+    let m = c .before in
+    let s = m .before .before in
+    rw (c .with-count .ensures, m .with-capacity .ensures, m .before .empty-model .ensures, toZ-ofZ (s .fits .capacity), load-none)
 
 pub opened-spec : {M : Type 1} → statement M
-opened-spec = tie.close (tie.spec empty-problem-requires returns)
+opened-spec =
+    tie.close (tie.spec empty-model-requires with-capacity-requires with-count-requires returns)

@@ -1,5 +1,5 @@
 -- `relax_with` meets its contract: a walk of its MIR, by hand, with two loops. The borrow is opened once: the first loop copies the items
--- into a problem, the core answers it and puts its items in order, and the second loop stores them back; then the borrow is closed.
+-- into a record, the core answers it and puts its items in order, and the second loop stores them back; then the borrow is closed.
 use mathlib.Core.Path.{_≡_, refl, sym, ap, subst, _∙_}
 use mathlib.Core.Bool.{Bool}
 use mathlib.Core.WellFounded.{WellFounded, InvImage·wf}
@@ -27,8 +27,69 @@ use prog.Wp.{Heap, Calls, Loops, WpFn, Tables, Wp, Out, Env, afterSeq, afterBloc
 use ghost.Atoms.{Atoms, sem}
 use contract.Monad.{Fun, fact}
 use contract.Running.{givenOf, tables, tablesOf}
-use types.Kit.{Given, Item as Entry, ‵, _⊛_, ⋆, anyQ, atRet, Seq, Go, allocs, params′, runs, _$_, _∵_, !, qed, by, move, keep, drop, split, join, rewrite, fsplit, fjoin, suffices, frame, done}
-use types.Run.{look, look-raw, init, store, store-raw, forget, stop, hop, fld, from, load, lit, of-opd, bin, and-then, no-more, land, assigns, assigns-last, stays, leaves-loop, exec, returns, enter, alloc1, alloc0, params1, pass1, pass0, free1, free0}
+use types.Kit.{
+  Given,
+  Item as Entry,
+  ‵,
+  _⊛_,
+  ⋆,
+  anyQ,
+  atRet,
+  Seq,
+  Go,
+  allocs,
+  params′,
+  runs,
+  _$_,
+  _∵_,
+  !,
+  qed,
+  by,
+  move,
+  keep,
+  drop,
+  split,
+  join,
+  rewrite,
+  fsplit,
+  fjoin,
+  suffices,
+  frame,
+  done,
+}
+use types.Run.{
+  look,
+  look-raw,
+  init,
+  store,
+  store-raw,
+  forget,
+  stop,
+  hop,
+  fld,
+  from,
+  load,
+  lit,
+  of-opd,
+  bin,
+  and-then,
+  no-more,
+  land,
+  assigns,
+  assigns-last,
+  stays,
+  leaves-loop,
+  exec,
+  returns,
+  enter,
+  alloc1,
+  alloc0,
+  params1,
+  pass1,
+  pass0,
+  free1,
+  free0,
+}
 use types.Part.{whole, sub, look-in}
 use sound.Loop.{loop-rule}
 use sound.WpLaws.{WpFn-mono, FmC, fmOf}
@@ -55,18 +116,18 @@ use denote.Triple.Walked.{says, Stays, stay-none, stay-slice, walkOf, goes-none,
 use denote.Signature.{plain}
 use Rattle.knapsack.specs.declared.Answer.{Answer}
 use Rattle.knapsack.specs.declared.Item.{Item}
-use Rattle.knapsack.specs.declared.Problem.{Problem}
-use Rattle.knapsack.specs.Records.{blank, itemAt}
+use Rattle.model.specs.declared.Model.{Model}
+use Rattle.knapsack.specs.Ranges.{blank, itemAt}
 use Rattle.knapsack.proofs.Answer as Q
 use Rattle.knapsack.proofs.Answer.Laws as Q′
 use Rattle.knapsack.proofs.Item as T
 use Rattle.knapsack.proofs.Item.Laws as T′
-use Rattle.knapsack.proofs.Problem as P
-use Rattle.knapsack.proofs.Problem.Laws as P′
+use Rattle.model.proofs.Model as P
+use Rattle.model.proofs.Model.Laws as P′
 use Rattle.ordering.proofs.Lists.{store-more, store-length}
 use Rattle.relaxation.specs.declared.Outcome.{Outcome}
-use Rattle.knapsack.specs.Items.{withItem}
-use Rattle.relaxation.specs.Lent.{usable, loaded, problemOf, after, settled, Settles, Relaxes}
+use Rattle.model.specs.Setters.{withItem}
+use Rattle.relaxation.specs.Lent.{usable, loaded, modelOf, after, settled, Settles, Relaxes}
 use Rattle.relaxation.proofs.Lent.{load-more, load-all, settled-length, stored, after-length}
 use Rattle.relaxation.proofs.Calls.{asks}
 use Rattle.relaxation.proofs.Outcome as O
@@ -79,10 +140,10 @@ use Rattle.relaxation.proofs.opened as opened′
 use Rattle.relaxation.proofs.opened.Symbol as opened-def
 use Rattle.relaxation.proofs.opened.Symbol.{name as #opened}
 use Rattle.relaxation.proofs.opened.Met as opened-thm
-use Rattle.relaxation.proofs.with as with′
-use Rattle.relaxation.proofs.with.Symbol as with-def
-use Rattle.relaxation.proofs.with.Symbol.{name as #with}
-use Rattle.relaxation.proofs.with.Met as with-thm
+use Rattle.model.proofs.setters.with_item as with′
+use Rattle.model.proofs.setters.with_item.Symbol as with-def
+use Rattle.model.proofs.setters.with_item.Symbol.{name as #with}
+use Rattle.model.proofs.setters.with_item.Met as with-thm
 use Rattle.relaxation.proofs.core as core′
 use Rattle.relaxation.proofs.core.Symbol as core-def
 use Rattle.relaxation.proofs.core.Symbol.{name as #core}
@@ -140,16 +201,19 @@ module _ {M : Type 1} (𝓤 : URA M) (H : Heap 𝓤) (A : Atoms 𝓤) (mem : Mem
   usable-of : (m r : ℕ) → ent 𝓤 (ensured 𝓤 H A usable′.ended (usable′.clauses 𝓤 H A mem run) tt (m, tt) tt r) (fact 𝓤 (r ≡ usable m))
   usable-of m r = exE 𝓤 _ (λ ws. snd∗ 𝓤 (sem 𝓤 H A (lasts usable′.ended tt (m, tt) ws)) (fact 𝓤 (r ≡ usable m)))
 
-  opened-of : (c : ℤ) (m : ℕ) (r : Problem) → ent 𝓤 (ensured 𝓤 H A opened′.ended (opened′.clauses 𝓤 H A mem run) tt (c, (m, tt)) tt r) (fact 𝓤 (r ≡ loaded c m []))
+  opened-of : (c : ℤ) (m : ℕ) (r : Model) →
+      ent 𝓤 (ensured 𝓤 H A opened′.ended (opened′.clauses 𝓤 H A mem run) tt (c, (m, tt)) tt r) (fact 𝓤 (r ≡ loaded c m []))
   opened-of c m r = exE 𝓤 _ (λ ws. snd∗ 𝓤 (sem 𝓤 H A (lasts opened′.ended tt (c, (m, tt)) ws)) (fact 𝓤 (r ≡ loaded c m [])))
 
-  with-of : (p : Problem) (i : ℕ) (x : Item) (r : Problem) → ent 𝓤 (ensured 𝓤 H A with′.ended (with′.clauses 𝓤 H A mem run) tt (p, (i, (x, tt))) tt r) (fact 𝓤 (r ≡ withItem p i x))
+  with-of : (p : Model) (i : ℕ) (x : Item) (r : Model) →
+      ent 𝓤 (ensured 𝓤 H A with′.ended (with′.clauses 𝓤 H A mem run) tt (p, (i, (x, tt))) tt r) (fact 𝓤 (r ≡ withItem p i x))
   with-of p i x r = exE 𝓤 _ (λ ws. snd∗ 𝓤 (sem 𝓤 H A (lasts with′.ended tt (p, (i, (x, tt))) ws)) (fact 𝓤 (r ≡ withItem p i x)))
 
-  core-of : (p : Problem) (r : Outcome) → ent 𝓤 (ensured 𝓤 H A core′.ended (core′.clauses 𝓤 H A mem run) tt (p, tt) tt r) (fact 𝓤 (Settles p r))
+  core-of : (p : Model) (r : Outcome) → ent 𝓤 (ensured 𝓤 H A core′.ended (core′.clauses 𝓤 H A mem run) tt (p, tt) tt r) (fact 𝓤 (Settles p r))
   core-of p r = exE 𝓤 _ (λ ws. snd∗ 𝓤 (sem 𝓤 H A (lasts core′.ended tt (p, tt) ws)) (fact 𝓤 (Settles p r)))
 
-  nth-of : (o : Outcome) (i : ℕ) (r : Item) → ent 𝓤 (ensured 𝓤 H A nth′.ended (nth′.clauses 𝓤 H A mem run) tt (o, (i, tt)) tt r) (fact 𝓤 (r ≡ itemAt (o .problem) i))
+  nth-of : (o : Outcome) (i : ℕ) (r : Item) →
+      ent 𝓤 (ensured 𝓤 H A nth′.ended (nth′.clauses 𝓤 H A mem run) tt (o, (i, tt)) tt r) (fact 𝓤 (r ≡ itemAt (o .problem) i))
   nth-of o i r = exE 𝓤 _ (λ ws. snd∗ 𝓤 (sem 𝓤 H A (lasts nth′.ended tt (o, (i, tt)) ws)) (fact 𝓤 (r ≡ itemAt (o .problem) i)))
 
   answer-of : (o : Outcome) (r : Answer) → ent 𝓤 (ensured 𝓤 H A answer′.ended (answer′.clauses 𝓤 H A mem run) tt (o, tt) tt r) (fact 𝓤 (r ≡ o .answer))
@@ -158,13 +222,14 @@ module _ {M : Type 1} (𝓤 : URA M) (H : Heap 𝓤) (A : Atoms 𝓤) (mem : Mem
 -- ---- where the first loop stands
 record Loading (c : ℤ) (ys : List Item) : Type 0 where
   i : ℕ
-  p : Problem
+  p : Model
   v : Val
   is : Is P.the-row p (v ∷ [])
   le : i ≤ usable (length ys)
   got : p ≡ loaded c (length ys) (take i ys)
 
-module _ {M : Type 1} (𝓤 : URA M) (H : Heap 𝓤) (A : Atoms 𝓤) (W : Given 𝓤 H A) (mem : Memory → SProp 𝓤) (run : Routine → Fun 𝓤) (κ : Lft) (q : Share) (c : ℤ) (c-fits : mag c < 2 ^ 63) (b o : ℕ) (γ : GName) (ys : List Item) (room : Room T.the-row (length ys)) where
+module _ {M : Type 1} (𝓤 : URA M) (H : Heap 𝓤) (A : Atoms 𝓤) (W : Given 𝓤 H A) (mem : Memory → SProp 𝓤) (run : Routine → Fun 𝓤) (κ : Lft) (q : Share) (c : ℤ)
+    (c-fits : mag c < 2 ^ 63) (b o : ℕ) (γ : GName) (ys : List Item) (room : Room T.the-row (length ys)) where
   abbrev R : RattleType
   R = T.the-row
 
@@ -178,7 +243,7 @@ module _ {M : Type 1} (𝓤 : URA M) (H : Heap 𝓤) (A : Atoms 𝓤) (W : Given
   zs = after c ys
 
   abbrev os : List Item
-  os = settled (problemOf c ys) .items
+  os = settled (modelOf c ys) .items
 
   abbrev x : List Item → RefT (List Item)
   x l = record { ptr = (b, o); name = γ; now = l }
@@ -189,41 +254,53 @@ module _ {M : Type 1} (𝓤 : URA M) (H : Heap 𝓤) (A : Atoms 𝓤) (W : Given
   abbrev Post : Val → SProp 𝓤
   Post = walkOf 𝓤 H A relax′.ended stayed (relax′.clauses 𝓤 H A mem run) .post (((κ, tt), (q, tt), tt, (c, (x ys, tt)), at), tt)
 
-  exits : (r : Answer) (v : Val) → Relaxes c ys zs r → ent 𝓤 (⋆ 𝓤 H A (‵ (fobs γ (codedHoleys R .code (heres R zs))) ∷ ‵ (fbor κ (Held R (length zs) b o γ)) ∷ ‵ (flft κ q) ∷ ‵ (Q.the-row .own r (v ∷ [])) ∷ [])) (Post v)
+  exits : (r : Answer) (v : Val) → Relaxes c ys zs r →
+      ent 𝓤 (⋆ 𝓤 H A (‵ (fobs γ (codedHoleys R .code (heres R zs))) ∷ ‵ (fbor κ (Held R (length zs) b o γ)) ∷ ‵ (flft κ q) ∷ ‵ (Q.the-row .own r (v ∷ [])) ∷
+      [])) (Post v)
   exits r v e =
       qed W (‵ (fobs γ (codedHoleys R .code (heres R zs))) ∷ ‵ (fbor κ (Held R (length zs) b o γ)) ∷ ‵ (flft κ q) ∷ ‵ (Q.the-row .own r (v ∷ [])) ∷ []) ∵
-      suffices ! _ (ends-at 𝓤 H A relax′.ended stayed (relax′.clauses 𝓤 H A mem run) W (((κ, tt), (q, tt), tt, (c, (x ys, tt)), at), tt) v r (tt, (zs, tt)) (tt, (after-length c ys, tt))) $ says ! e $
+      suffices ! _ (ends-at 𝓤 H A relax′.ended stayed (relax′.clauses 𝓤 H A mem run) W (((κ, tt), (q, tt), tt, (c, (x ys, tt)), at), tt) v r (tt, (zs, tt))
+      (tt, (after-length c ys, tt))) $ says ! e $
       nothing ! $ move ! (3 ∷ 0 ∷ []) $ join ! $
-      frame ! $ fjoin ! $ pureI ! (at-slice R (x zs) (at .1 .0)) (tt, (tt, tt)) (ap (λ (k : ℕ). sliceVal (b, o) k ∷ []) (sym (after-length c ys)), subst (Room R) (sym (after-length c ys)) room) $ fjoin ! $
+      frame ! $ fjoin ! $ pureI ! (at-slice R (x zs) (at .1 .0)) (tt, (tt, tt))
+      (ap (λ (k : ℕ). sliceVal (b, o) k ∷ []) (sym (after-length c ys)), subst (Room R) (sym (after-length c ys)) room) $ fjoin ! $
       nothing ! $ move ! (1 ∷ 0 ∷ []) $ fjoin ! $ owned ! i64 (Is i64) (sint-makes 𝓤 H A W w64) c _ (refl, c-fits) $ fjoin ! $ done !
 
   -- what each call is handed
   goes-usable : ent 𝓤 (sem 𝓤 H A ftrue) (Usable 𝓤 H A mem run .pre ((tt, tt, tt, (len, tt), (vint w64 len ∷ [], tt)), tt))
   goes-usable =
-      qed W (‵ ftrue ∷ []) ∵ nothing ! $ owned ! usize (Is usize) (uint-makes 𝓤 H A W w64) len _ (refl, room .0) $ fjoin ! $ move ! (1 ∷ 0 ∷ []) $ join ! $ frame ! $ done !
+      qed W (‵ ftrue ∷ []) ∵ nothing ! $ owned ! usize (Is usize) (uint-makes 𝓤 H A W w64) len _ (refl, room .0) $ fjoin ! $ move ! (1 ∷ 0 ∷ []) $ join ! $
+      frame ! $ done !
 
   goes-opened : ent 𝓤 (sem 𝓤 H A ftrue) (Opened 𝓤 H A mem run .pre ((tt, tt, tt, (c, (len, tt)), (vint w64 (ofZ w64 c) ∷ [], (vint w64 len ∷ [], tt))), tt))
   goes-opened =
-      qed W (‵ ftrue ∷ []) ∵ nothing ! $ owned ! usize (Is usize) (uint-makes 𝓤 H A W w64) len _ (refl, room .0) $ fjoin ! $ owned ! i64 (Is i64) (sint-makes 𝓤 H A W w64) c _ (refl, c-fits) $ fjoin ! $
+      qed W (‵ ftrue ∷ []) ∵ nothing ! $ owned ! usize (Is usize) (uint-makes 𝓤 H A W w64) len _ (refl, room .0) $ fjoin ! $
+      owned ! i64 (Is i64) (sint-makes 𝓤 H A W w64) c _ (refl, c-fits) $ fjoin ! $
       move ! (1 ∷ 0 ∷ []) $ join ! $ frame ! $ done !
 
-  goes-with : (p : Problem) (v : Val) (i : ℕ) (y : Item) → Is P.the-row p (v ∷ []) → Is R y (val y ∷ []) → i < n → ent 𝓤 (sem 𝓤 H A ftrue) (With 𝓤 H A mem run .pre ((tt, tt, tt, (p, (i, (y, tt))), (v ∷ [], (vint w64 i ∷ [], (val y ∷ [], tt)))), tt))
+  goes-with : (p : Model) (v : Val) (i : ℕ) (y : Item) → Is P.the-row p (v ∷ []) → Is R y (val y ∷ []) → i < n →
+      ent 𝓤 (sem 𝓤 H A ftrue) (With 𝓤 H A mem run .pre ((tt, tt, tt, (p, (i, (y, tt))), (v ∷ [], (vint w64 i ∷ [], (val y ∷ [], tt)))), tt))
   goes-with p v i y gp gy h =
-      qed W (‵ ftrue ∷ []) ∵ says ! (omega arith) $ frame ! $ nothing ! $ owned ! R (Is R) (LL.makes T.the-type T′.the-plain 𝓤 H A) y _ gy $ fjoin ! $ owned ! usize (Is usize) (uint-makes 𝓤 H A W w64) i _ (refl, omega arith) $ fjoin ! $
+      qed W (‵ ftrue ∷ []) ∵ says ! (omega arith) $ frame ! $ nothing ! $ owned ! R (Is R) (LL.makes T.the-type T′.the-plain 𝓤 H A) y _ gy $ fjoin ! $
+      owned ! usize (Is usize) (uint-makes 𝓤 H A W w64) i _ (refl, omega arith) $ fjoin ! $
       owned ! P.the-row (Is P.the-row) (LL.makes P.the-type P′.the-plain 𝓤 H A) p _ gp $ fjoin ! $ done !
 
-  goes-core : (p : Problem) (v : Val) → Is P.the-row p (v ∷ []) → ent 𝓤 (sem 𝓤 H A ftrue) (Core 𝓤 H A mem run .pre ((tt, tt, tt, (p, tt), (v ∷ [], tt)), tt))
+  goes-core : (p : Model) (v : Val) → Is P.the-row p (v ∷ []) → ent 𝓤 (sem 𝓤 H A ftrue) (Core 𝓤 H A mem run .pre ((tt, tt, tt, (p, tt), (v ∷ [], tt)), tt))
   goes-core p v gp =
-      qed W (‵ ftrue ∷ []) ∵ nothing ! $ owned ! P.the-row (Is P.the-row) (LL.makes P.the-type P′.the-plain 𝓤 H A) p _ gp $ fjoin ! $ move ! (1 ∷ 0 ∷ []) $ join ! $ frame ! $ done !
+      qed W (‵ ftrue ∷ []) ∵ nothing ! $ owned ! P.the-row (Is P.the-row) (LL.makes P.the-type P′.the-plain 𝓤 H A) p _ gp $ fjoin ! $ move ! (1 ∷ 0 ∷ []) $
+      join ! $ frame ! $ done !
 
-  goes-nth : (a : Outcome) (v : Val) (j : ℕ) → Is O.the-row a (v ∷ []) → j < n → ent 𝓤 (sem 𝓤 H A ftrue) (Nth 𝓤 H A mem run .pre ((tt, tt, tt, (a, (j, tt)), (v ∷ [], (vint w64 j ∷ [], tt))), tt))
+  goes-nth : (a : Outcome) (v : Val) (j : ℕ) → Is O.the-row a (v ∷ []) → j < n →
+      ent 𝓤 (sem 𝓤 H A ftrue) (Nth 𝓤 H A mem run .pre ((tt, tt, tt, (a, (j, tt)), (v ∷ [], (vint w64 j ∷ [], tt))), tt))
   goes-nth a v j ga h =
       qed W (‵ ftrue ∷ []) ∵ says ! (omega arith) $ frame ! $ nothing ! $ owned ! usize (Is usize) (uint-makes 𝓤 H A W w64) j _ (refl, omega arith) $ fjoin ! $
       owned ! O.the-row (Is O.the-row) (LL.makes O.the-type O′.the-plain 𝓤 H A) a _ ga $ fjoin ! $ done !
 
-  goes-answer : (a : Outcome) (v : Val) → Is O.the-row a (v ∷ []) → ent 𝓤 (sem 𝓤 H A ftrue) (AnswerOf 𝓤 H A mem run .pre ((tt, tt, tt, (a, tt), (v ∷ [], tt)), tt))
+  goes-answer : (a : Outcome) (v : Val) → Is O.the-row a (v ∷ []) →
+      ent 𝓤 (sem 𝓤 H A ftrue) (AnswerOf 𝓤 H A mem run .pre ((tt, tt, tt, (a, tt), (v ∷ [], tt)), tt))
   goes-answer a v ga =
-      qed W (‵ ftrue ∷ []) ∵ nothing ! $ owned ! O.the-row (Is O.the-row) (LL.makes O.the-type O′.the-plain 𝓤 H A) a _ ga $ fjoin ! $ move ! (1 ∷ 0 ∷ []) $ join ! $ frame ! $ done !
+      qed W (‵ ftrue ∷ []) ∵ nothing ! $ owned ! O.the-row (Is O.the-row) (LL.makes O.the-type O′.the-plain 𝓤 H A) a _ ga $ fjoin ! $ move ! (1 ∷ 0 ∷ []) $
+      join ! $ frame ! $ done !
 
   abbrev word : Ty
   word = tyInt w64
@@ -231,8 +308,10 @@ module _ {M : Type 1} (𝓤 : URA M) (H : Heap 𝓤) (A : Atoms 𝓤) (W : Given
   abbrev slice : Ty
   slice = sliceTy (tyRef (named 0) mut (pointee (R .written)))
 
-  module _ (𝓣 : Tables 𝓤 H) (known-usable : Triple 𝓤 (𝓣 .C #usable-of) (Usable 𝓤 H A mem run)) (known-opened : Triple 𝓤 (𝓣 .C #opened) (Opened 𝓤 H A mem run)) (known-with : Triple 𝓤 (𝓣 .C #with) (With 𝓤 H A mem run))
-      (known-core : Triple 𝓤 (𝓣 .C #core) (Core 𝓤 H A mem run)) (known-nth : Triple 𝓤 (𝓣 .C #nth) (Nth 𝓤 H A mem run)) (known-answer : Triple 𝓤 (𝓣 .C #answer-of) (AnswerOf 𝓤 H A mem run)) where
+  module _ (𝓣 : Tables 𝓤 H) (known-usable : Triple 𝓤 (𝓣 .C #usable-of) (Usable 𝓤 H A mem run)) (known-opened : Triple 𝓤 (𝓣 .C #opened) (Opened 𝓤 H A mem run))
+      (known-with : Triple 𝓤 (𝓣 .C #with) (With 𝓤 H A mem run))
+      (known-core : Triple 𝓤 (𝓣 .C #core) (Core 𝓤 H A mem run)) (known-nth : Triple 𝓤 (𝓣 .C #nth) (Nth 𝓤 H A mem run))
+      (known-answer : Triple 𝓤 (𝓣 .C #answer-of) (AnswerOf 𝓤 H A mem run)) where
     abbrev C : Calls 𝓤 H
     C = 𝓣 .C
 
@@ -244,12 +323,15 @@ module _ {M : Type 1} (𝓤 : URA M) (H : Heap 𝓤) (A : Atoms 𝓤) (W : Given
 
     module _ (l₀ l₁ l₂ l₃ l₄ l₅ l₆ l₇ l₈ l₉ l₁₀ l₁₁ l₁₂ l₁₃ l₁₄ l₁₅ : ℕ) where
       abbrev En : Env 𝓤 H
-      En = (Q′.mir, l₀) ∷ (word, l₁) ∷ (slice, l₂) ∷ (word, l₃) ∷ (word, l₄) ∷ (P′.mir, l₅) ∷ (word, l₆) ∷ (O′.mir, l₇) ∷ (tyBool, l₈) ∷ (word, l₉) ∷ (tyPtr, l₁₀) ∷ (T′.mir, l₁₁) ∷ (tyBool, l₁₂) ∷ (T′.mir, l₁₃) ∷ (word, l₁₄) ∷ (tyPtr, l₁₅) ∷ []
+      En = (Q′.mir, l₀) ∷ (word, l₁) ∷ (slice, l₂) ∷ (word, l₃) ∷ (word, l₄) ∷ (P′.mir, l₅) ∷ (word, l₆) ∷ (O′.mir, l₇) ∷ (tyBool, l₈) ∷ (word, l₉) ∷
+          (tyPtr, l₁₀) ∷ (T′.mir, l₁₁) ∷ (tyBool, l₁₂) ∷ (T′.mir, l₁₃) ∷ (word, l₁₄) ∷ (tyPtr, l₁₅) ∷ []
 
       -- each local dies
       abbrev Dies : List (Entry 𝓤)
-      Dies = ‵ (fdies Q′.mir l₀) ∷ ‵ (fdies word l₁) ∷ ‵ (fdies slice l₂) ∷ ‵ (fdies word l₃) ∷ ‵ (fdies word l₄) ∷ ‵ (fdies P′.mir l₅) ∷ ‵ (fdies word l₆) ∷ ‵ (fdies O′.mir l₇)
-          ∷ ‵ (fdies tyBool l₈) ∷ ‵ (fdies word l₉) ∷ ‵ (fdies tyPtr l₁₀) ∷ ‵ (fdies T′.mir l₁₁) ∷ ‵ (fdies tyBool l₁₂) ∷ ‵ (fdies T′.mir l₁₃) ∷ ‵ (fdies word l₁₄) ∷ ‵ (fdies tyPtr l₁₅) ∷ []
+      Dies = ‵ (fdies Q′.mir l₀) ∷ ‵ (fdies word l₁) ∷ ‵ (fdies slice l₂) ∷ ‵ (fdies word l₃) ∷ ‵ (fdies word l₄) ∷ ‵ (fdies P′.mir l₅) ∷ ‵ (fdies word l₆) ∷
+          ‵ (fdies O′.mir l₇)
+          ∷ ‵ (fdies tyBool l₈) ∷ ‵ (fdies word l₉) ∷ ‵ (fdies tyPtr l₁₀) ∷ ‵ (fdies T′.mir l₁₁) ∷ ‵ (fdies tyBool l₁₂) ∷ ‵ (fdies T′.mir l₁₃) ∷
+          ‵ (fdies word l₁₄) ∷ ‵ (fdies tyPtr l₁₅) ∷ []
 
       -- the open borrow
       abbrev Open : List (Entry 𝓤)
@@ -257,15 +339,19 @@ module _ {M : Type 1} (𝓤 : URA M) (H : Heap 𝓤) (A : Atoms 𝓤) (W : Given
 
       -- the second loop's context: j items are stored
       abbrev At2 : ℕ → Val → List Item → List (Entry 𝓤)
-      At2 j v l = ‵ (row R fullShare l b o) ∷ ‵ (fat fullShare word l₆ 0 (vint w64 j)) ∷ ‵ (fat fullShare O′.mir l₇ 0 v) ∷ ‵ (fat fullShare slice l₂ 0 (sliceVal (b, o) len)) ∷ ‵ (fat fullShare word l₄ 0 (vint w64 n))
+      At2 j v l = ‵ (row R fullShare l b o) ∷ ‵ (fat fullShare word l₆ 0 (vint w64 j)) ∷ ‵ (fat fullShare O′.mir l₇ 0 v) ∷
+          ‵ (fat fullShare slice l₂ 0 (sliceVal (b, o) len)) ∷ ‵ (fat fullShare word l₄ 0 (vint w64 n))
           ∷ ‵ (froom tyBool l₁₂ 0) ∷ ‵ (froom word l₁₄ 0) ∷ ‵ (froom tyPtr l₁₅ 0) ∷ ‵ (froom T′.mir l₁₃ 0) ∷ ‵ (froom Q′.mir l₀ 0)
-          ∷ ‵ (froom P′.mir l₅ 0) ∷ ‵ (froom tyBool l₈ 0) ∷ ‵ (froom word l₉ 0) ∷ ‵ (froom tyPtr l₁₀ 0) ∷ ‵ (froom T′.mir l₁₁ 0) ∷ ‵ (froom word l₁ 0) ∷ ‵ (froom word l₃ 0) ∷ Open
+          ∷ ‵ (froom P′.mir l₅ 0) ∷ ‵ (froom tyBool l₈ 0) ∷ ‵ (froom word l₉ 0) ∷ ‵ (froom tyPtr l₁₀ 0) ∷ ‵ (froom T′.mir l₁₁ 0) ∷ ‵ (froom word l₁ 0) ∷
+          ‵ (froom word l₃ 0) ∷ Open
 
       -- the first loop's context: i items are loaded
       abbrev At1 : ℕ → Val → List (Entry 𝓤)
-      At1 i v = ‵ (row R fullShare ys b o) ∷ ‵ (fat fullShare word l₆ 0 (vint w64 i)) ∷ ‵ (fat fullShare P′.mir l₅ 0 v) ∷ ‵ (fat fullShare slice l₂ 0 (sliceVal (b, o) len)) ∷ ‵ (fat fullShare word l₄ 0 (vint w64 n))
+      At1 i v = ‵ (row R fullShare ys b o) ∷ ‵ (fat fullShare word l₆ 0 (vint w64 i)) ∷ ‵ (fat fullShare P′.mir l₅ 0 v) ∷
+          ‵ (fat fullShare slice l₂ 0 (sliceVal (b, o) len)) ∷ ‵ (fat fullShare word l₄ 0 (vint w64 n))
           ∷ ‵ (froom tyBool l₈ 0) ∷ ‵ (froom word l₉ 0) ∷ ‵ (froom tyPtr l₁₀ 0) ∷ ‵ (froom T′.mir l₁₁ 0) ∷ ‵ (froom Q′.mir l₀ 0)
-          ∷ ‵ (froom O′.mir l₇ 0) ∷ ‵ (froom tyBool l₁₂ 0) ∷ ‵ (froom T′.mir l₁₃ 0) ∷ ‵ (froom word l₁₄ 0) ∷ ‵ (froom tyPtr l₁₅ 0) ∷ ‵ (froom word l₁ 0) ∷ ‵ (froom word l₃ 0) ∷ Open
+          ∷ ‵ (froom O′.mir l₇ 0) ∷ ‵ (froom tyBool l₁₂ 0) ∷ ‵ (froom T′.mir l₁₃ 0) ∷ ‵ (froom word l₁₄ 0) ∷ ‵ (froom tyPtr l₁₅ 0) ∷ ‵ (froom word l₁ 0) ∷
+          ‵ (froom word l₃ 0) ∷ Open
 
       abbrev Left1 : Out → SProp 𝓤
       Left1 = afterBlock 𝓤 H (afterSeq 𝓤 H (Wp 𝓤 H C Λ En mir′.t-6 (atReturn 𝓤 H En Post)) (atReturn 𝓤 H En Post))
@@ -280,7 +366,7 @@ module _ {M : Type 1} (𝓤 : URA M) (H : Heap 𝓤) (A : Atoms 𝓤) (W : Given
       next-fits i h = omega arith
 
       -- ---- the second loop
-      module _ (a : Outcome) (w : Val) (ga : Is O.the-row a (w ∷ [])) (does : Settles (problemOf c ys) a) where
+      module _ (a : Outcome) (w : Val) (ga : Is O.the-row a (w ∷ [])) (does : Settles (modelOf c ys) a) where
         abbrev part : ℕ → List Item
         part j = take j os ++ dropList j ys
 
@@ -288,46 +374,60 @@ module _ {M : Type 1} (𝓤 : URA M) (H : Heap 𝓤) (A : Atoms 𝓤) (W : Given
         inside j h = omega (arith, store-length os ys j (omega (arith, settled-length c ys)) (omega arith))
 
         put-back : (j : ℕ) → j < n → (r : Item) → r ≡ itemAt (a .problem) j → set (part j) j r ≡ part (j + 1)
-        put-back j h r e = ap (λ t. set (part j) j t) (e ∙ ap (λ p. itemAt p j) (does .problem)) ∙ rw add-one (store-more blank os ys j (omega (arith, settled-length c ys)) (omega arith))
+        put-back j h r e = ap (λ t. set (part j) j t) (e ∙ ap (λ p. itemAt p j) (does .problem)) ∙
+            rw add-one (store-more blank os ys j (omega (arith, settled-length c ys)) (omega arith))
 
-        more2 : (j : ℕ) → j < n → (X : SProp 𝓤) → ent 𝓤 (⋆ 𝓤 H A (At2 (j + 1) w (part (j + 1)))) X → ent 𝓤 (⋆ 𝓤 H A (At2 j w (part j))) (Wp 𝓤 H C Λ En mir′.turn-2 (afterTurn 𝓤 H X Left2))
+        more2 : (j : ℕ) → j < n → (X : SProp 𝓤) → ent 𝓤 (⋆ 𝓤 H A (At2 (j + 1) w (part (j + 1)))) X →
+            ent 𝓤 (⋆ 𝓤 H A (At2 j w (part j))) (Wp 𝓤 H C Λ En mir′.turn-2 (afterTurn 𝓤 H X Left2))
         unfolding afterTurn
         more2 j h X k =
             qed W (At2 j w (part j)) ∵ exec ! C Λ En mir′.turn-2 (anyQ (afterTurn 𝓤 H X Left2)) $
-            assigns ! (bin ! (load ! (from ! (stop !)) (look ! 1 refl)) (load ! (from ! (stop !)) (look ! 4 refl)) tt) (from ! (stop !)) (init ! 5 refl (tt, tt)) $
+            assigns ! (bin ! (load ! (from ! (stop !)) (look ! 1 refl)) (load ! (from ! (stop !)) (look ! 4 refl)) tt) (from ! (stop !))
+            (init ! 5 refl (tt, tt)) $
             rewrite ! 5 (λ (t : Bool). ‵ (fat fullShare tyBool l₁₂ 0 (vbool t))) (lt-ltb j n h) refl $
             stays ! (load ! (from ! (stop !)) (look ! 5 refl)) $
             asks ! fm (Nth 𝓤 H A mem run) known-nth ((tt, tt, tt, (a, (j, tt)), (w ∷ [], (vint w64 j ∷ [], tt))), tt) (goes-nth a w j ga h)
             (and-then ! (load ! (from ! (stop !)) (look ! 3 refl)) (and-then ! (load ! (from ! (stop !)) (look ! 2 refl)) (no-more !)))
-            R (ensured 𝓤 H A nth′.ended (nth′.clauses 𝓤 H A mem run) tt (a, (j, tt)) tt) (λ r. r ≡ itemAt (a .problem) j) (λ _. id⊢ 𝓤 _) (nth-of 𝓤 H A mem run a j) (λ v r e is.
+            R (ensured 𝓤 H A nth′.ended (nth′.clauses 𝓤 H A mem run) tt (a, (j, tt)) tt) (λ r. r ≡ itemAt (a .problem) j) (λ _. id⊢ 𝓤 _)
+            (nth-of 𝓤 H A mem run a j) (λ v r e is.
             land ! (from ! (stop !)) (init ! 9 refl (LL.lawful T.the-type T′.the-laws 𝓤 H A W .typed r _ is .0)) $ drop ! $
-            assigns ! (bin ! (load ! (from ! (stop !)) (look ! 1 refl)) (lit ! tt) (record { fits = scaled j h })) (from ! (stop !)) (init ! 6 refl (tt, record { fits = scaled j h })) $
-            assigns ! (bin ! (load ! (from ! (fld ! refl (stop !))) (look-in ! 3 (sub ! 0 refl (whole !)))) (load ! (from ! (stop !)) (look ! 6 refl)) tt) (from ! (stop !)) (init ! 7 refl (tt, tt)) $
+            assigns ! (bin ! (load ! (from ! (stop !)) (look ! 1 refl)) (lit ! tt) (record { fits = scaled j h })) (from ! (stop !))
+            (init ! 6 refl (tt, record { fits = scaled j h })) $
+            assigns ! (bin ! (load ! (from ! (fld ! refl (stop !))) (look-in ! 3 (sub ! 0 refl (whole !)))) (load ! (from ! (stop !)) (look ! 6 refl)) tt)
+            (from ! (stop !)) (init ! 7 refl (tt, tt)) $
             rewrite ! 7 (λ (p : ℕ). ‵ (fat fullShare tyPtr l₁₅ 0 (vptr b p))) (sym (place-is 56 o j)) refl $
-            elem-out ! R (Is R) (shows 𝓤 H A R) (LL.vals T.the-type T′.the-laws) (LL.tells T.the-type T′.the-laws) fullShare (part j) j blank b o (inside j h) (λ _.
+            elem-out ! R (Is R) (shows 𝓤 H A R) (LL.vals T.the-type T′.the-laws) (LL.tells T.the-type T′.the-laws) fullShare (part j) j blank b o (inside j h)
+            (λ _.
             -- [items[i]; what it owns; the others; …]
-            assigns ! (of-opd ! (load ! (from ! (stop !)) (look ! 10 refl))) (from ! (hop ! (look ! 9 refl) (stop !))) (store-raw ! 0 refl (LL.lawful T.the-type T′.the-laws 𝓤 H A W .typed r _ is .0)) $
-            move ! (1 ∷ []) $ drop ! $ owned ! R (Is R) (LL.makes T.the-type T′.the-plain 𝓤 H A) r (v ∷ []) is $ move ! (1 ∷ 0 ∷ []) $ elem-put ! R fullShare (part j) j r (v ∷ []) b o (inside j h) $
+            assigns ! (of-opd ! (load ! (from ! (stop !)) (look ! 10 refl))) (from ! (hop ! (look ! 9 refl) (stop !)))
+            (store-raw ! 0 refl (LL.lawful T.the-type T′.the-laws 𝓤 H A W .typed r _ is .0)) $
+            move ! (1 ∷ []) $ drop ! $ owned ! R (Is R) (LL.makes T.the-type T′.the-plain 𝓤 H A) r (v ∷ []) is $ move ! (1 ∷ 0 ∷ []) $
+            elem-put ! R fullShare (part j) j r (v ∷ []) b o (inside j h) $
             rewrite ! 0 (λ (l : List Item). ‵ (row R fullShare l b o)) (put-back j h r e) refl $
-            assigns-last ! (bin ! (load ! (from ! (stop !)) (look ! 1 refl)) (lit ! tt) (record { fits = next-fits j h })) (from ! (stop !)) (store ! 1 refl (tt, record { fits = next-fits j h })) $
+            assigns-last ! (bin ! (load ! (from ! (stop !)) (look ! 1 refl)) (lit ! tt) (record { fits = next-fits j h })) (from ! (stop !))
+            (store ! 1 refl (tt, record { fits = next-fits j h })) $
             forget ! 5 refl $ forget ! 6 refl $ forget ! 7 refl $ forget ! 8 refl $ by ! k))
 
         ends2 : (X : SProp 𝓤) → ent 𝓤 (⋆ 𝓤 H A (At2 n w (part n))) (Wp 𝓤 H C Λ En mir′.turn-2 (afterTurn 𝓤 H X Left2))
         unfolding afterTurn
         ends2 X =
             qed W (At2 n w (part n)) ∵ exec ! C Λ En mir′.turn-2 (anyQ (afterTurn 𝓤 H X Left2)) $
-            assigns ! (bin ! (load ! (from ! (stop !)) (look ! 1 refl)) (load ! (from ! (stop !)) (look ! 4 refl)) tt) (from ! (stop !)) (init ! 5 refl (tt, tt)) $
+            assigns ! (bin ! (load ! (from ! (stop !)) (look ! 1 refl)) (load ! (from ! (stop !)) (look ! 4 refl)) tt) (from ! (stop !))
+            (init ! 5 refl (tt, tt)) $
             rewrite ! 5 (λ (t : Bool). ‵ (fat fullShare tyBool l₁₂ 0 (vbool t))) (le-ltb n n (omega arith)) refl $
             leaves-loop ! (load ! (from ! (stop !)) (look ! 5 refl)) $ exec ! C Λ En mir′.t-9 (atRet En Post) $
             asks ! fm (AnswerOf 𝓤 H A mem run) known-answer ((tt, tt, tt, (a, tt), (w ∷ [], tt)), tt) (goes-answer a w ga)
             (and-then ! (load ! (from ! (stop !)) (look ! 3 refl)) (no-more !))
-            Q.the-row (ensured 𝓤 H A answer′.ended (answer′.clauses 𝓤 H A mem run) tt (a, tt) tt) (λ r. r ≡ a .answer) (λ _. id⊢ 𝓤 _) (answer-of 𝓤 H A mem run a) (λ v r e is.
+            Q.the-row (ensured 𝓤 H A answer′.ended (answer′.clauses 𝓤 H A mem run) tt (a, tt) tt) (λ r. r ≡ a .answer) (λ _. id⊢ 𝓤 _)
+            (answer-of 𝓤 H A mem run a) (λ v r e is.
             land ! (from ! (stop !)) (init ! 10 refl (LL.lawful Q.the-type Q′.the-laws 𝓤 H A W .typed r _ is .0)) $
             rewrite ! 1 (λ (l : List Item). ‵ (row R fullShare l b o)) (stored c ys) refl $
             move ! (1 ∷ 18 ∷ 19 ∷ 20 ∷ []) $ closes-slice ! tt R ys zs (after-length c ys) b o $
             returns ! (look ! 12 refl) $ forget ! 4 refl $ forget ! 5 refl $ forget ! 6 refl $ forget ! 7 refl $ forget ! 8 refl $ forget ! 12 refl $
-            move ! (12 ∷ 20 ∷ 18 ∷ 21 ∷ 6 ∷ 22 ∷ 19 ∷ 23 ∷ 7 ∷ 24 ∷ 13 ∷ 25 ∷ 4 ∷ 26 ∷ 5 ∷ 27 ∷ 14 ∷ 28 ∷ 15 ∷ 29 ∷ 16 ∷ 30 ∷ 17 ∷ 31 ∷ 8 ∷ 32 ∷ 11 ∷ 33 ∷ 9 ∷ 34 ∷ 10 ∷ 35 ∷ []) $
-            free1 ! $ free1 ! $ free1 ! $ free1 ! $ free1 ! $ free1 ! $ free1 ! $ free1 ! $ free1 ! $ free1 ! $ free1 ! $ free1 ! $ free1 ! $ free1 ! $ free1 ! $ free1 ! $ free0 ! $
+            move ! (12 ∷ 20 ∷ 18 ∷ 21 ∷ 6 ∷ 22 ∷ 19 ∷ 23 ∷ 7 ∷ 24 ∷ 13 ∷ 25 ∷ 4 ∷ 26 ∷ 5 ∷ 27 ∷ 14 ∷ 28 ∷ 15 ∷ 29 ∷ 16 ∷ 30 ∷ 17 ∷ 31 ∷ 8 ∷ 32 ∷ 11 ∷ 33 ∷ 9 ∷
+            34 ∷ 10 ∷ 35 ∷ []) $
+            free1 ! $ free1 ! $ free1 ! $ free1 ! $ free1 ! $ free1 ! $ free1 ! $ free1 ! $ free1 ! $ free1 ! $ free1 ! $ free1 ! $ free1 ! $ free1 ! $
+            free1 ! $ free1 ! $ free0 ! $
             by ! (exits r v (record { list = refl; reply = rw e (does .reply) })))
 
         -- a turn from j leaves the loop, or ends at j + 1
@@ -344,54 +444,80 @@ module _ {M : Type 1} (𝓤 : URA M) (H : Heap 𝓤) (A : Atoms 𝓤) (W : Given
             back j e = omega arith
 
             go : (j t : ℕ) → j + t ≡ n → ent 𝓤 (⋆ 𝓤 H A (At2 j w (part j))) (Wp 𝓤 H C Λ En mir′.turn-2 (afterTurn 𝓤 H (B2 t) Left2))
-            go j zero e = subst (λ (k : ℕ). ent 𝓤 (⋆ 𝓤 H A (At2 k w (part k))) (Wp 𝓤 H C Λ En mir′.turn-2 (afterTurn 𝓤 H (B2 zero) Left2))) (back j e) (ends2 (B2 zero))
+            go j zero e = subst (λ (k : ℕ). ent 𝓤 (⋆ 𝓤 H A (At2 k w (part k))) (Wp 𝓤 H C Λ En mir′.turn-2 (afterTurn 𝓤 H (B2 zero) Left2))) (back j e)
+                (ends2 (B2 zero))
             go j (suc t) e =
                 more2 j (omega arith) (B2 (suc t))
-                (via 𝓤 (I2 t) (via 𝓤 (guard 𝓤 (j + 1 + t ≡ n) (⋆ 𝓤 H A (At2 (j + 1) w (part (j + 1))))) (guardI 𝓤 (j + 1 + t ≡ n) (⋆ 𝓤 H A (At2 (j + 1) w (part (j + 1)))) (omega arith)) (exI 𝓤 (λ (k : ℕ). guard 𝓤 (k + t ≡ n) (⋆ 𝓤 H A (At2 k w (part k)))) (j + 1)))
+                (via 𝓤 (I2 t) (via 𝓤 (guard 𝓤 (j + 1 + t ≡ n) (⋆ 𝓤 H A (At2 (j + 1) w (part (j + 1)))))
+                (guardI 𝓤 (j + 1 + t ≡ n) (⋆ 𝓤 H A (At2 (j + 1) w (part (j + 1)))) (omega arith))
+                (exI 𝓤 (λ (k : ℕ). guard 𝓤 (k + t ≡ n) (⋆ 𝓤 H A (At2 k w (part k)))) (j + 1)))
                 (via 𝓤 (guard 𝓤 (t < suc t) (I2 t)) (guardI 𝓤 (t < suc t) (I2 t) (omega arith)) (exI 𝓤 (λ (t′ : ℕ). guard 𝓤 (t′ < suc t) (I2 t′)) t)))
 
         loop2 : ent 𝓤 (⋆ 𝓤 H A (At2 0 w ys)) (Wp 𝓤 H C Λ En (loop mir′.turn-2) Left2)
         loop2 =
-            via 𝓤 (I2 n) (via 𝓤 (guard 𝓤 (0 + n ≡ n) (⋆ 𝓤 H A (At2 0 w (part 0)))) (guardI 𝓤 (0 + n ≡ n) (⋆ 𝓤 H A (At2 0 w (part 0))) (omega arith)) (exI 𝓤 (λ (k : ℕ). guard 𝓤 (k + n ≡ n) (⋆ 𝓤 H A (At2 k w (part k)))) 0))
+            via 𝓤 (I2 n) (via 𝓤 (guard 𝓤 (0 + n ≡ n) (⋆ 𝓤 H A (At2 0 w (part 0)))) (guardI 𝓤 (0 + n ≡ n) (⋆ 𝓤 H A (At2 0 w (part 0))) (omega arith))
+            (exI 𝓤 (λ (k : ℕ). guard 𝓤 (k + n ≡ n) (⋆ 𝓤 H A (At2 k w (part k)))) 0))
             (loop-rule 𝓤 H (W .laws) 𝓣 _<_ (Nat·lt-wfRel .wf) En mir′.turn-2 Left2 I2 turn2 n)
 
       -- ---- the first loop
-      more1 : (u : Loading c ys) → u .i < n → (X : SProp 𝓤) → ((r : Problem) (w : Val) → Is P.the-row r (w ∷ []) → r ≡ withItem (u .p) (u .i) (getD ys (u .i) blank) → ent 𝓤 (⋆ 𝓤 H A (At1 (u .i + 1) w)) X)
+      more1 : (u : Loading c ys) → u .i < n → (X : SProp 𝓤) →
+          ((r : Model) (w : Val) → Is P.the-row r (w ∷ []) → r ≡ withItem (u .p) (u .i) (getD ys (u .i) blank) → ent 𝓤 (⋆ 𝓤 H A (At1 (u .i + 1) w)) X)
           → ent 𝓤 (⋆ 𝓤 H A (At1 (u .i) (u .v))) (Wp 𝓤 H C Λ En mir′.turn-1 (afterTurn 𝓤 H X Left1))
       unfolding afterTurn
       more1 u h X k =
           qed W (At1 (u .i) (u .v)) ∵ exec ! C Λ En mir′.turn-1 (anyQ (afterTurn 𝓤 H X Left1)) $
-          assigns ! (bin ! (load ! (from ! (stop !)) (look ! 1 refl)) (load ! (from ! (stop !)) (look ! 4 refl)) tt) (from ! (stop !)) (init ! 5 refl (tt, tt)) $
+          assigns ! (bin ! (load ! (from ! (stop !)) (look ! 1 refl)) (load ! (from ! (stop !)) (look ! 4 refl)) tt) (from ! (stop !))
+          (init ! 5 refl (tt, tt)) $
           rewrite ! 5 (λ (t : Bool). ‵ (fat fullShare tyBool l₈ 0 (vbool t))) (lt-ltb (u .i) n h) refl $
           stays ! (load ! (from ! (stop !)) (look ! 5 refl)) $
-          assigns ! (bin ! (load ! (from ! (stop !)) (look ! 1 refl)) (lit ! tt) (record { fits = scaled (u .i) h })) (from ! (stop !)) (init ! 6 refl (tt, record { fits = scaled (u .i) h })) $
-          assigns ! (bin ! (load ! (from ! (fld ! refl (stop !))) (look-in ! 3 (sub ! 0 refl (whole !)))) (load ! (from ! (stop !)) (look ! 6 refl)) tt) (from ! (stop !)) (init ! 7 refl (tt, tt)) $
+          assigns ! (bin ! (load ! (from ! (stop !)) (look ! 1 refl)) (lit ! tt) (record { fits = scaled (u .i) h })) (from ! (stop !))
+          (init ! 6 refl (tt, record { fits = scaled (u .i) h })) $
+          assigns ! (bin ! (load ! (from ! (fld ! refl (stop !))) (look-in ! 3 (sub ! 0 refl (whole !)))) (load ! (from ! (stop !)) (look ! 6 refl)) tt)
+          (from ! (stop !)) (init ! 7 refl (tt, tt)) $
           rewrite ! 7 (λ (p : ℕ). ‵ (fat fullShare tyPtr l₁₀ 0 (vptr b p))) (sym (place-is 56 o (u .i))) refl $
-          elem-out ! R (Is R) (shows 𝓤 H A R) (LL.vals T.the-type T′.the-laws) (LL.tells T.the-type T′.the-laws) fullShare ys (u .i) blank b o (omega arith) (λ g.
+          elem-out ! R (Is R) (shows 𝓤 H A R) (LL.vals T.the-type T′.the-laws) (LL.tells T.the-type T′.the-laws) fullShare ys (u .i) blank b o (omega arith)
+          (λ g.
           -- [items[i]; what it owns; the others; …]
-          assigns ! (of-opd ! (load ! (from ! (hop ! (look ! 9 refl) (stop !))) (look-raw ! 0 refl))) (from ! (stop !)) (init ! 10 refl (LL.lawful T.the-type T′.the-laws 𝓤 H A W .typed (getD ys (u .i) blank) _ g .0)) $
+          assigns ! (of-opd ! (load ! (from ! (hop ! (look ! 9 refl) (stop !))) (look-raw ! 0 refl))) (from ! (stop !))
+          (init ! 10 refl (LL.lawful T.the-type T′.the-laws 𝓤 H A W .typed (getD ys (u .i) blank) _ g .0)) $
           elem-back ! R fullShare ys (u .i) blank (val (getD ys (u .i) blank) ∷ []) b o (omega arith) $
-          asks ! fm (With 𝓤 H A mem run) known-with ((tt, tt, tt, (u .p, (u .i, (getD ys (u .i) blank, tt))), (u .v ∷ [], (vint w64 (u .i) ∷ [], (val (getD ys (u .i) blank) ∷ [], tt)))), tt) (goes-with (u .p) (u .v) (u .i) (getD ys (u .i) blank) (u .is) g h)
-          (and-then ! (load ! (from ! (stop !)) (look ! 3 refl)) (and-then ! (load ! (from ! (stop !)) (look ! 2 refl)) (and-then ! (load ! (from ! (stop !)) (look ! 9 refl)) (no-more !))))
-          P.the-row (ensured 𝓤 H A with′.ended (with′.clauses 𝓤 H A mem run) tt (u .p, (u .i, (getD ys (u .i) blank, tt))) tt) (λ r. r ≡ withItem (u .p) (u .i) (getD ys (u .i) blank)) (λ _. id⊢ 𝓤 _) (with-of 𝓤 H A mem run (u .p) (u .i) (getD ys (u .i) blank)) (λ w r e is.
+          asks ! fm (With 𝓤 H A mem run) known-with (
+            (
+              tt,
+              tt,
+              tt,
+              (u .p, (u .i, (getD ys (u .i) blank, tt))),
+              (u .v ∷ [], (vint w64 (u .i) ∷ [], (val (getD ys (u .i) blank) ∷ [], tt))),
+            ),
+            tt,
+          ) (goes-with (u .p) (u .v) (u .i) (getD ys (u .i)
+          blank) (u .is) g h)
+          (and-then ! (load ! (from ! (stop !)) (look ! 3 refl))
+          (and-then ! (load ! (from ! (stop !)) (look ! 2 refl)) (and-then ! (load ! (from ! (stop !)) (look ! 9 refl)) (no-more !))))
+          P.the-row (ensured 𝓤 H A with′.ended (with′.clauses 𝓤 H A mem run) tt (u .p, (u .i, (getD ys (u .i) blank, tt))) tt)
+          (λ r. r ≡ withItem (u .p) (u .i) (getD ys (u .i) blank)) (λ _. id⊢ 𝓤 _) (with-of 𝓤 H A mem run (u .p) (u .i) (getD ys (u .i) blank)) (λ w r e is.
           land ! (from ! (stop !)) (store ! 3 refl (LL.lawful P.the-type P′.the-laws 𝓤 H A W .typed r _ is .0)) $ drop ! $
-          assigns-last ! (bin ! (load ! (from ! (stop !)) (look ! 1 refl)) (lit ! tt) (record { fits = next-fits (u .i) h })) (from ! (stop !)) (store ! 1 refl (tt, record { fits = next-fits (u .i) h })) $
+          assigns-last ! (bin ! (load ! (from ! (stop !)) (look ! 1 refl)) (lit ! tt) (record { fits = next-fits (u .i) h })) (from ! (stop !))
+          (store ! 1 refl (tt, record { fits = next-fits (u .i) h })) $
           forget ! 5 refl $ forget ! 6 refl $ forget ! 7 refl $ forget ! 8 refl $ by ! (k r w is e)))
 
       ends1 : (u : Loading c ys) → u .i ≡ n → (X : SProp 𝓤) → ent 𝓤 (⋆ 𝓤 H A (At1 (u .i) (u .v))) (Wp 𝓤 H C Λ En mir′.turn-1 (afterTurn 𝓤 H X Left1))
       unfolding afterTurn
       ends1 u e X =
           qed W (At1 (u .i) (u .v)) ∵ exec ! C Λ En mir′.turn-1 (anyQ (afterTurn 𝓤 H X Left1)) $
-          assigns ! (bin ! (load ! (from ! (stop !)) (look ! 1 refl)) (load ! (from ! (stop !)) (look ! 4 refl)) tt) (from ! (stop !)) (init ! 5 refl (tt, tt)) $
+          assigns ! (bin ! (load ! (from ! (stop !)) (look ! 1 refl)) (load ! (from ! (stop !)) (look ! 4 refl)) tt) (from ! (stop !))
+          (init ! 5 refl (tt, tt)) $
           rewrite ! 5 (λ (t : Bool). ‵ (fat fullShare tyBool l₈ 0 (vbool t))) (le-ltb (u .i) n (omega arith)) refl $
           leaves-loop ! (load ! (from ! (stop !)) (look ! 5 refl)) $ exec ! C Λ En mir′.t-6 (atRet En Post) $
           asks ! fm (Core 𝓤 H A mem run) known-core ((tt, tt, tt, (u .p, tt), (u .v ∷ [], tt)), tt) (goes-core (u .p) (u .v) (u .is))
           (and-then ! (load ! (from ! (stop !)) (look ! 3 refl)) (no-more !))
-          O.the-row (ensured 𝓤 H A core′.ended (core′.clauses 𝓤 H A mem run) tt (u .p, tt) tt) (Settles (u .p)) (λ _. id⊢ 𝓤 _) (core-of 𝓤 H A mem run (u .p)) (λ w r f is.
+          O.the-row (ensured 𝓤 H A core′.ended (core′.clauses 𝓤 H A mem run) tt (u .p, tt) tt) (Settles (u .p)) (λ _. id⊢ 𝓤 _) (core-of 𝓤 H A mem run (u .p))
+          (λ w r f is.
           land ! (from ! (stop !)) (init ! 11 refl (LL.lawful O.the-type O′.the-laws 𝓤 H A W .typed r _ is .0)) $ drop ! $
           assigns ! (of-opd ! (lit ! tt)) (from ! (stop !)) (store ! 1 refl (tt, record { fits = lit< tt })) $
           forget ! 2 refl $ forget ! 5 refl $
-          keep ! (0 ∷ 1 ∷ 10 ∷ 3 ∷ 4 ∷ 11 ∷ 13 ∷ 14 ∷ 12 ∷ 9 ∷ 2 ∷ 5 ∷ 6 ∷ 7 ∷ 8 ∷ 15 ∷ 16 ∷ 17 ∷ 18 ∷ 19 ∷ 20 ∷ 21 ∷ 22 ∷ 23 ∷ 24 ∷ 25 ∷ 26 ∷ 27 ∷ 28 ∷ 29 ∷ 30 ∷ 31 ∷ 32 ∷ 33 ∷ 34 ∷ 35 ∷ []) $
+          keep ! (0 ∷ 1 ∷ 10 ∷ 3 ∷ 4 ∷ 11 ∷ 13 ∷ 14 ∷ 12 ∷ 9 ∷ 2 ∷ 5 ∷ 6 ∷ 7 ∷ 8 ∷ 15 ∷ 16 ∷ 17 ∷ 18 ∷ 19 ∷ 20 ∷ 21 ∷ 22 ∷ 23 ∷ 24 ∷ 25 ∷ 26 ∷ 27 ∷ 28 ∷ 29 ∷
+          30 ∷ 31 ∷ 32 ∷ 33 ∷ 34 ∷ 35 ∷ []) $
           by ! (loop2 r w is (subst (λ p. Settles p r) (u .got ∙ rw e (load-all c ys)) f)))
 
       -- a turn from u leaves the loop, or ends with one item more
@@ -410,7 +536,14 @@ module _ {M : Type 1} (𝓤 : URA M) (H : Heap 𝓤) (A : Atoms 𝓤) (W : Given
           go : Dec (u .i < n) → ent 𝓤 (I1 u) (Wp 𝓤 H C Λ En mir′.turn-1 (afterTurn 𝓤 H (ex 𝓤 (λ (t : Loading c ys). guard 𝓤 (≺ t u) (I1 t))) Left1))
           go (yes h) =
               more1 u h (ex 𝓤 (λ (t : Loading c ys). guard 𝓤 (≺ t u) (I1 t))) (λ r w is e.
-              let t : Loading c ys = record { i = u .i + 1; p = r; v = w; is = is; le = omega arith; got = e ∙ ap (λ p. withItem p (u .i) (getD ys (u .i) blank)) (u .got) ∙ rw add-one (load-more c ys (u .i) h) } in
+              let t : Loading c ys = record {
+                i = u .i + 1;
+                p = r;
+                v = w;
+                is = is;
+                le = omega arith;
+                got = e ∙ ap (λ p. withItem p (u .i) (getD ys (u .i) blank)) (u .got) ∙ rw add-one (load-more c ys (u .i) h);
+              } in
               via 𝓤 (guard 𝓤 (≺ t u) (I1 t)) (guardI 𝓤 (≺ t u) (I1 t) (omega arith)) (exI 𝓤 (λ (t : Loading c ys). guard 𝓤 (≺ t u) (I1 t)) t))
           go (no h) = ends1 u (omega (arith, u .le)) (ex 𝓤 (λ (t : Loading c ys). guard 𝓤 (≺ t u) (I1 t)))
 
@@ -419,27 +552,33 @@ module _ {M : Type 1} (𝓤 : URA M) (H : Heap 𝓤) (A : Atoms 𝓤) (W : Given
 
       -- ---- the body, from where the parameters are passed
       abbrev At0 : List (Entry 𝓤)
-      At0 = ‵ (froom word l₆ 0) ∷ ‵ (froom P′.mir l₅ 0) ∷ ‵ (fat fullShare slice l₂ 0 (sliceVal (b, o) len)) ∷ ‵ (froom word l₄ 0) ∷ ‵ (froom tyBool l₈ 0) ∷ ‵ (froom word l₉ 0) ∷ ‵ (froom tyPtr l₁₀ 0) ∷ ‵ (froom T′.mir l₁₁ 0) ∷ ‵ (froom Q′.mir l₀ 0) ∷ ‵ (froom O′.mir l₇ 0) ∷ ‵ (froom tyBool l₁₂ 0) ∷ ‵ (froom T′.mir l₁₃ 0) ∷ ‵ (froom word l₁₄ 0) ∷ ‵ (froom tyPtr l₁₅ 0) ∷ ‵ (fat fullShare word l₁ 0 (vint w64 (ofZ w64 c))) ∷ ‵ (froom word l₃ 0)
+      At0 = ‵ (froom word l₆ 0) ∷ ‵ (froom P′.mir l₅ 0) ∷ ‵ (fat fullShare slice l₂ 0 (sliceVal (b, o) len)) ∷ ‵ (froom word l₄ 0) ∷ ‵ (froom tyBool l₈ 0) ∷
+          ‵ (froom word l₉ 0) ∷ ‵ (froom tyPtr l₁₀ 0) ∷ ‵ (froom T′.mir l₁₁ 0) ∷ ‵ (froom Q′.mir l₀ 0) ∷ ‵ (froom O′.mir l₇ 0) ∷ ‵ (froom tyBool l₁₂ 0) ∷
+          ‵ (froom T′.mir l₁₃ 0) ∷ ‵ (froom word l₁₄ 0) ∷ ‵ (froom tyPtr l₁₅ 0) ∷ ‵ (fat fullShare word l₁ 0 (vint w64 (ofZ w64 c))) ∷ ‵ (froom word l₃ 0)
           ∷ (‵ (flft κ q) ⊛ ‵ ftrue) ∷ ‵ (owns (i64 ∷ MutSlice (named 0) κ R ∷ []) (c, (x ys, tt)) at) ∷ Dies
 
       begins : ent 𝓤 (⋆ 𝓤 H A At0) (Wp 𝓤 H C Λ En mir′.t-1 (atReturn 𝓤 H En Post))
       begins =
           qed W At0 ∵ exec ! C Λ En mir′.t-1 (atRet En Post) $
-          assigns ! (of-opd ! (load ! (from ! (fld ! refl (stop !))) (look-in ! 2 (sub ! 1 refl (whole !))))) (from ! (stop !)) (init ! 15 refl (tt, record { fits = room .0 })) $
+          assigns ! (of-opd ! (load ! (from ! (fld ! refl (stop !))) (look-in ! 2 (sub ! 1 refl (whole !))))) (from ! (stop !))
+          (init ! 15 refl (tt, record { fits = room .0 })) $
           asks ! fm (Usable 𝓤 H A mem run) known-usable ((tt, tt, tt, (len, tt), (vint w64 len ∷ [], tt)), tt) goes-usable
           (and-then ! (load ! (from ! (stop !)) (look ! 16 refl)) (no-more !))
-          usize (ensured 𝓤 H A usable′.ended (usable′.clauses 𝓤 H A mem run) tt (len, tt) tt) (λ r. r ≡ n) (λ _. id⊢ 𝓤 _) (usable-of 𝓤 H A mem run len) (λ w m e is.
+          usize (ensured 𝓤 H A usable′.ended (usable′.clauses 𝓤 H A mem run) tt (len, tt) tt) (λ r. r ≡ n) (λ _. id⊢ 𝓤 _) (usable-of 𝓤 H A mem run len)
+          (λ w m e is.
           land ! (from ! (stop !)) (init ! 4 refl (uint-lawful 𝓤 H A W w64 .typed m _ is .0)) $ drop ! $
           rewrite ! 3 (λ (v : Val). ‵ (fat fullShare word l₄ 0 v)) (first w (vint w64 n) (is .0 ∙ ap (λ (k : ℕ). vint w64 k ∷ []) e)) refl $
           asks ! fm (Opened 𝓤 H A mem run) known-opened ((tt, tt, tt, (c, (len, tt)), (vint w64 (ofZ w64 c) ∷ [], (vint w64 len ∷ [], tt))), tt) goes-opened
           (and-then ! (load ! (from ! (stop !)) (look ! 15 refl)) (and-then ! (load ! (from ! (stop !)) (look ! 16 refl)) (no-more !)))
-          P.the-row (ensured 𝓤 H A opened′.ended (opened′.clauses 𝓤 H A mem run) tt (c, (len, tt)) tt) (λ r. r ≡ loaded c len []) (λ _. id⊢ 𝓤 _) (opened-of 𝓤 H A mem run c len) (λ v r f ir.
+          P.the-row (ensured 𝓤 H A opened′.ended (opened′.clauses 𝓤 H A mem run) tt (c, (len, tt)) tt) (λ r. r ≡ loaded c len []) (λ _. id⊢ 𝓤 _)
+          (opened-of 𝓤 H A mem run c len) (λ v r f ir.
           land ! (from ! (stop !)) (init ! 2 refl (LL.lawful P.the-type P′.the-laws 𝓤 H A W .typed r _ ir .0)) $ drop ! $
           forget ! 14 refl $ forget ! 15 refl $
           assigns ! (of-opd ! (lit ! tt)) (from ! (stop !)) (init ! 0 refl (tt, record { fits = lit< tt })) $
           move ! (17 ∷ []) $ fsplit ! $ drop ! $ fsplit ! $ fsplit ! $ move ! (1 ∷ []) $ fsplit ! $ move ! (20 ∷ []) $ split ! $ move ! (2 ∷ 3 ∷ 0 ∷ []) $
           opens-slice ! tt R ys b o $
-          keep ! (0 ∷ 7 ∷ 8 ∷ 9 ∷ 10 ∷ 11 ∷ 12 ∷ 13 ∷ 14 ∷ 15 ∷ 16 ∷ 17 ∷ 18 ∷ 19 ∷ 20 ∷ 21 ∷ 22 ∷ 1 ∷ 2 ∷ 3 ∷ 23 ∷ 24 ∷ 25 ∷ 26 ∷ 27 ∷ 28 ∷ 29 ∷ 30 ∷ 31 ∷ 32 ∷ 33 ∷ 34 ∷ 35 ∷ 36 ∷ 37 ∷ 38 ∷ []) $
+          keep ! (0 ∷ 7 ∷ 8 ∷ 9 ∷ 10 ∷ 11 ∷ 12 ∷ 13 ∷ 14 ∷ 15 ∷ 16 ∷ 17 ∷ 18 ∷ 19 ∷ 20 ∷ 21 ∷ 22 ∷ 1 ∷ 2 ∷ 3 ∷ 23 ∷ 24 ∷ 25 ∷ 26 ∷ 27 ∷ 28 ∷ 29 ∷ 30 ∷ 31 ∷ 32 ∷
+          33 ∷ 34 ∷ 35 ∷ 36 ∷ 37 ∷ 38 ∷ []) $
           by ! (loop1 (record { i = 0; p = r; v = v; is = ir; le = omega arith; got = f }))))
 
       -- the same in the order in which the locals are allocated
@@ -464,34 +603,64 @@ module _ {M : Type 1} (𝓤 : URA M) (H : Heap 𝓤) (A : Atoms 𝓤) (W : Given
 
       starts : ent 𝓤 (⋆ 𝓤 H A Fresh) (Wp 𝓤 H C Λ En (code.function .body) (atReturn 𝓤 H En Post))
       starts =
-          qed W Fresh ∵ keep ! (18 ∷ 20 ∷ 26 ∷ 22 ∷ 14 ∷ 12 ∷ 10 ∷ 8 ∷ 30 ∷ 16 ∷ 6 ∷ 4 ∷ 2 ∷ 0 ∷ 28 ∷ 24 ∷ 32 ∷ 33 ∷ 31 ∷ 29 ∷ 27 ∷ 25 ∷ 23 ∷ 21 ∷ 19 ∷ 17 ∷ 15 ∷ 13 ∷ 11 ∷ 9 ∷ 7 ∷ 5 ∷ 3 ∷ 1 ∷ []) $
+          qed W Fresh ∵ keep ! (18 ∷ 20 ∷ 26 ∷ 22 ∷ 14 ∷ 12 ∷ 10 ∷ 8 ∷ 30 ∷ 16 ∷ 6 ∷ 4 ∷ 2 ∷ 0 ∷ 28 ∷ 24 ∷ 32 ∷ 33 ∷ 31 ∷ 29 ∷ 27 ∷ 25 ∷ 23 ∷ 21 ∷ 19 ∷ 17 ∷
+          15 ∷ 13 ∷ 11 ∷ 9 ∷ 7 ∷ 5 ∷ 3 ∷ 1 ∷ []) $
           by ! begins
 
       -- the parameters are passed
-      passed : Seq Go W (‵ (froom tyPtr l₁₅ 0) ∷ ‵ (fdies tyPtr l₁₅) ∷ ‵ (froom word l₁₄ 0) ∷ ‵ (fdies word l₁₄) ∷ ‵ (froom T′.mir l₁₃ 0) ∷ ‵ (fdies T′.mir l₁₃) ∷ ‵ (froom tyBool l₁₂ 0) ∷ ‵ (fdies tyBool l₁₂) ∷ ‵ (froom T′.mir l₁₁ 0) ∷ ‵ (fdies T′.mir l₁₁) ∷ ‵ (froom tyPtr l₁₀ 0) ∷ ‵ (fdies tyPtr l₁₀) ∷ ‵ (froom word l₉ 0) ∷ ‵ (fdies word l₉) ∷ ‵ (froom tyBool l₈ 0) ∷ ‵ (fdies tyBool l₈) ∷ ‵ (froom O′.mir l₇ 0) ∷ ‵ (fdies O′.mir l₇) ∷ ‵ (froom word l₆ 0) ∷ ‵ (fdies word l₆) ∷ ‵ (froom P′.mir l₅ 0) ∷ ‵ (fdies P′.mir l₅) ∷ ‵ (froom word l₄ 0) ∷ ‵ (fdies word l₄) ∷ ‵ (froom word l₃ 0) ∷ ‵ (fdies word l₃) ∷ ‵ (froom slice l₂ 0) ∷ ‵ (fdies slice l₂) ∷ ‵ (froom word l₁ 0) ∷ ‵ (fdies word l₁) ∷ ‵ (froom Q′.mir l₀ 0) ∷ ‵ (fdies Q′.mir l₀) ∷ (‵ (flft κ q) ⊛ ‵ ftrue) ∷ ‵ (owns (i64 ∷ MutSlice (named 0) κ R ∷ []) (c, (x ys, tt)) at) ∷ []) (params′ En (vint w64 (ofZ w64 c) ∷ sliceVal (b, o) len ∷ []) (runs C Λ En (code.function .body) (atRet En Post)))
-      passed = params1 ! $ pass1 ! (init ! 28 refl (tt, ofZ-fits w64 c (record { sfits = c-fits }))) $ pass1 ! (init ! 26 refl (tt, (tt, (record { fits = room .0 }, tt)))) $ pass0 ! $ by ! starts
+      passed : Seq Go W (‵ (froom tyPtr l₁₅ 0) ∷ ‵ (fdies tyPtr l₁₅) ∷ ‵ (froom word l₁₄ 0) ∷ ‵ (fdies word l₁₄) ∷ ‵ (froom T′.mir l₁₃ 0) ∷
+          ‵ (fdies T′.mir l₁₃) ∷ ‵ (froom tyBool l₁₂ 0) ∷ ‵ (fdies tyBool l₁₂) ∷ ‵ (froom T′.mir l₁₁ 0) ∷ ‵ (fdies T′.mir l₁₁) ∷ ‵ (froom tyPtr l₁₀ 0) ∷
+          ‵ (fdies tyPtr l₁₀) ∷ ‵ (froom word l₉ 0) ∷ ‵ (fdies word l₉) ∷ ‵ (froom tyBool l₈ 0) ∷ ‵ (fdies tyBool l₈) ∷ ‵ (froom O′.mir l₇ 0) ∷
+          ‵ (fdies O′.mir l₇) ∷ ‵ (froom word l₆ 0) ∷ ‵ (fdies word l₆) ∷ ‵ (froom P′.mir l₅ 0) ∷ ‵ (fdies P′.mir l₅) ∷ ‵ (froom word l₄ 0) ∷
+          ‵ (fdies word l₄) ∷ ‵ (froom word l₃ 0) ∷ ‵ (fdies word l₃) ∷ ‵ (froom slice l₂ 0) ∷ ‵ (fdies slice l₂) ∷ ‵ (froom word l₁ 0) ∷
+          ‵ (fdies word l₁) ∷ ‵ (froom Q′.mir l₀ 0) ∷ ‵ (fdies Q′.mir l₀) ∷ (‵ (flft κ q) ⊛ ‵ ftrue) ∷
+          ‵ (owns (i64 ∷ MutSlice (named 0) κ R ∷ []) (c, (x ys, tt)) at) ∷ []) (params′ En
+          (vint w64 (ofZ w64 c) ∷ sliceVal (b, o) len ∷ []) (runs C Λ En (code.function .body) (atRet En Post)))
+      passed = params1 ! $ pass1 ! (init ! 28 refl (tt, ofZ-fits w64 c (record { sfits = c-fits }))) $
+          pass1 ! (init ! 26 refl (tt, (tt, (record { fits = room .0 }, tt)))) $ pass0 ! $ by ! starts
 
     -- the later locals are allocated
-    allocated : (l₀ l₁ l₂ l₃ l₄ l₅ l₆ l₇ : ℕ) → Seq Go W (‵ (froom O′.mir l₇ 0) ∷ ‵ (fdies O′.mir l₇) ∷ ‵ (froom word l₆ 0) ∷ ‵ (fdies word l₆) ∷ ‵ (froom P′.mir l₅ 0) ∷ ‵ (fdies P′.mir l₅) ∷ ‵ (froom word l₄ 0) ∷ ‵ (fdies word l₄) ∷ ‵ (froom word l₃ 0) ∷ ‵ (fdies word l₃) ∷ ‵ (froom slice l₂ 0) ∷ ‵ (fdies slice l₂) ∷ ‵ (froom word l₁ 0) ∷ ‵ (fdies word l₁) ∷ ‵ (froom Q′.mir l₀ 0) ∷ ‵ (fdies Q′.mir l₀) ∷ (‵ (flft κ q) ⊛ ‵ ftrue) ∷ ‵ (owns (i64 ∷ MutSlice (named 0) κ R ∷ []) (c, (x ys, tt)) at) ∷ [])
-        (allocs (local tyBool valueLocal ∷ local word valueLocal ∷ local tyPtr valueLocal ∷ local T′.mir valueLocal ∷ local tyBool valueLocal ∷ local T′.mir valueLocal ∷ local word valueLocal ∷ local tyPtr valueLocal ∷ []) (λ E. params′ ((Q′.mir, l₀) ∷ (word, l₁) ∷ (slice, l₂) ∷ (word, l₃) ∷ (word, l₄) ∷ (P′.mir, l₅) ∷ (word, l₆) ∷ (O′.mir, l₇) ∷ E) (vint w64 (ofZ w64 c) ∷ sliceVal (b, o) len ∷ []) (runs C Λ ((Q′.mir, l₀) ∷ (word, l₁) ∷ (slice, l₂) ∷ (word, l₃) ∷ (word, l₄) ∷ (P′.mir, l₅) ∷ (word, l₆) ∷ (O′.mir, l₇) ∷ E) (code.function .body) (atRet ((Q′.mir, l₀) ∷ (word, l₁) ∷ (slice, l₂) ∷ (word, l₃) ∷ (word, l₄) ∷ (P′.mir, l₅) ∷ (word, l₆) ∷ (O′.mir, l₇) ∷ E) Post))))
-    allocated l₀ l₁ l₂ l₃ l₄ l₅ l₆ l₇ = alloc1 ! (λ l₈. alloc1 ! (λ l₉. alloc1 ! (λ l₁₀. alloc1 ! (λ l₁₁. alloc1 ! (λ l₁₂. alloc1 ! (λ l₁₃. alloc1 ! (λ l₁₄. alloc1 ! (λ l₁₅. alloc0 ! $ passed l₀ l₁ l₂ l₃ l₄ l₅ l₆ l₇ l₈ l₉ l₁₀ l₁₁ l₁₂ l₁₃ l₁₄ l₁₅))))))))
+    allocated : (l₀ l₁ l₂ l₃ l₄ l₅ l₆ l₇ : ℕ) →
+        Seq Go W (‵ (froom O′.mir l₇ 0) ∷ ‵ (fdies O′.mir l₇) ∷ ‵ (froom word l₆ 0) ∷ ‵ (fdies word l₆) ∷ ‵ (froom P′.mir l₅ 0) ∷ ‵ (fdies P′.mir l₅) ∷
+        ‵ (froom word l₄ 0) ∷ ‵ (fdies word l₄) ∷ ‵ (froom word l₃ 0) ∷ ‵ (fdies word l₃) ∷ ‵ (froom slice l₂ 0) ∷ ‵ (fdies slice l₂) ∷
+        ‵ (froom word l₁ 0) ∷ ‵ (fdies word l₁) ∷ ‵ (froom Q′.mir l₀ 0) ∷ ‵ (fdies Q′.mir l₀) ∷ (‵ (flft κ q) ⊛ ‵ ftrue) ∷
+        ‵ (owns (i64 ∷ MutSlice (named 0) κ R ∷ []) (c, (x ys, tt)) at) ∷ [])
+        (allocs (local tyBool valueLocal ∷ local word valueLocal ∷ local tyPtr valueLocal ∷ local T′.mir valueLocal ∷ local tyBool valueLocal ∷
+        local T′.mir valueLocal ∷ local word valueLocal ∷ local tyPtr valueLocal ∷ []) (λ E.
+        params′ ((Q′.mir, l₀) ∷ (word, l₁) ∷ (slice, l₂) ∷ (word, l₃) ∷ (word, l₄) ∷ (P′.mir, l₅) ∷ (word, l₆) ∷ (O′.mir, l₇) ∷ E)
+        (vint w64 (ofZ w64 c) ∷ sliceVal (b, o) len ∷ []) (runs C Λ
+        ((Q′.mir, l₀) ∷ (word, l₁) ∷ (slice, l₂) ∷ (word, l₃) ∷ (word, l₄) ∷ (P′.mir, l₅) ∷ (word, l₆) ∷ (O′.mir, l₇) ∷ E) (code.function .body)
+        (atRet ((Q′.mir, l₀) ∷ (word, l₁) ∷ (slice, l₂) ∷ (word, l₃) ∷ (word, l₄) ∷ (P′.mir, l₅) ∷ (word, l₆) ∷ (O′.mir, l₇) ∷ E) Post))))
+    allocated l₀ l₁ l₂ l₃ l₄ l₅ l₆ l₇ = alloc1 ! (λ l₈. alloc1 !
+        (λ l₉. alloc1 ! (λ l₁₀. alloc1 ! (λ l₁₁. alloc1 ! (λ l₁₂. alloc1 !
+        (λ l₁₃. alloc1 ! (λ l₁₄. alloc1 ! (λ l₁₅. alloc0 ! $ passed l₀ l₁ l₂ l₃ l₄ l₅ l₆ l₇ l₈ l₉ l₁₀ l₁₁ l₁₂ l₁₃ l₁₄ l₁₅))))))))
 
-    walk : ent 𝓤 (onEntry 𝓤 H A relax′.signature (κ, tt) (q, tt) (c, (x ys, tt)) at) (WpFn 𝓤 H C Λ code.function (vint w64 (ofZ w64 c) ∷ sliceVal (b, o) len ∷ []) Post)
+    walk : ent 𝓤 (onEntry 𝓤 H A relax′.signature (κ, tt) (q, tt) (c, (x ys, tt)) at)
+        (WpFn 𝓤 H C Λ code.function (vint w64 (ofZ w64 c) ∷ sliceVal (b, o) len ∷ []) Post)
     walk =
-        qed W ((‵ (flft κ q) ⊛ ‵ ftrue) ∷ ‵ (owns (i64 ∷ MutSlice (named 0) κ R ∷ []) (c, (x ys, tt)) at) ∷ []) ∵ enter ! C Λ code.function (vint w64 (ofZ w64 c) ∷ sliceVal (b, o) len ∷ []) _ $
-        alloc1 ! (λ l₀. alloc1 ! (λ l₁. alloc1 ! (λ l₂. alloc1 ! (λ l₃. alloc1 ! (λ l₄. alloc1 ! (λ l₅. alloc1 ! (λ l₆. alloc1 ! (λ l₇. allocated l₀ l₁ l₂ l₃ l₄ l₅ l₆ l₇))))))))
+        qed W ((‵ (flft κ q) ⊛ ‵ ftrue) ∷ ‵ (owns (i64 ∷ MutSlice (named 0) κ R ∷ []) (c, (x ys, tt)) at) ∷ []) ∵ enter ! C Λ code.function
+        (vint w64 (ofZ w64 c) ∷ sliceVal (b, o) len ∷ []) _ $
+        alloc1 ! (λ l₀. alloc1 ! (λ l₁. alloc1 ! (λ l₂. alloc1 !
+        (λ l₃. alloc1 ! (λ l₄. alloc1 ! (λ l₅. alloc1 ! (λ l₆. alloc1 ! (λ l₇. allocated l₀ l₁ l₂ l₃ l₄ l₅ l₆ l₇))))))))
 
-module _ {M : Type 1} (𝓤 : URA M) (H : Heap 𝓤) (A : Atoms 𝓤) (W : Given 𝓤 H A) (mem : Memory → SProp 𝓤) (run : Routine → Fun 𝓤) (𝓣 : Tables 𝓤 H) (known-usable : Triple 𝓤 (𝓣 .C #usable-of) (Usable 𝓤 H A mem run)) (known-opened : Triple 𝓤 (𝓣 .C #opened) (Opened 𝓤 H A mem run)) (known-with : Triple 𝓤 (𝓣 .C #with) (With 𝓤 H A mem run))
-    (known-core : Triple 𝓤 (𝓣 .C #core) (Core 𝓤 H A mem run)) (known-nth : Triple 𝓤 (𝓣 .C #nth) (Nth 𝓤 H A mem run)) (known-answer : Triple 𝓤 (𝓣 .C #answer-of) (AnswerOf 𝓤 H A mem run)) where
+module _ {M : Type 1} (𝓤 : URA M) (H : Heap 𝓤) (A : Atoms 𝓤) (W : Given 𝓤 H A) (mem : Memory → SProp 𝓤) (run : Routine → Fun 𝓤) (𝓣 : Tables 𝓤 H)
+    (known-usable : Triple 𝓤 (𝓣 .C #usable-of) (Usable 𝓤 H A mem run)) (known-opened : Triple 𝓤 (𝓣 .C #opened) (Opened 𝓤 H A mem run))
+    (known-with : Triple 𝓤 (𝓣 .C #with) (With 𝓤 H A mem run))
+    (known-core : Triple 𝓤 (𝓣 .C #core) (Core 𝓤 H A mem run)) (known-nth : Triple 𝓤 (𝓣 .C #nth) (Nth 𝓤 H A mem run))
+    (known-answer : Triple 𝓤 (𝓣 .C #answer-of) (AnswerOf 𝓤 H A mem run)) where
   relax-walks : Walks 𝓤 H A relax′.ended stayed (WpFn 𝓤 H (𝓣 .C) (𝓣 .Λ) code.function) (relax′.clauses 𝓤 H A mem run)
   relax-walks = walked 𝓤 H A relax′.ended stayed (relax′.clauses 𝓤 H A mem run) (WpFn 𝓤 H (𝓣 .C) (𝓣 .Λ) code.function)
       (λ κs. (sint-vals w64, (slice-vals, tt))) (λ κs. (sint-tells w64, (mut-slice-tells (named 0) (κs .0) T.the-row, tt)))
       (λ κs qs bounds a g are. via 𝓤 _ (fst∗ 𝓤 _ (emp 𝓤))
-      (walk 𝓤 H A W mem run (κs .0) (qs .0) (a .0) (are .0 .1) (a .1 .0 .ptr .0) (a .1 .0 .ptr .1) (a .1 .0 .name) (a .1 .0 .now) (are .1 .0 .0 .1) 𝓣 known-usable known-opened known-with known-core known-nth known-answer))
+      (walk 𝓤 H A W mem run (κs .0) (qs .0) (a .0) (are .0 .1) (a .1 .0 .ptr .0) (a .1 .0 .ptr .1) (a .1 .0 .name) (a .1 .0 .now) (are .1 .0 .0 .1) 𝓣
+      known-usable known-opened known-with known-core known-nth known-answer))
 
   relax-meets : Meets 𝓤 H A relax′.signature (WpFn 𝓤 H (𝓣 .C) (𝓣 .Λ) code.function) (relax′.spec 𝓤 H A mem run)
   relax-meets =
-      walk-meets 𝓤 H A relax′.ended stayed W (goes-none 𝓤 H A W 1 (λ _. i64) kept-as-is (λ κs x f. refl), (goes-slice 𝓤 H A W 1 0 tt (plain (λ _. T.the-row)), tt)) (relax′.clauses 𝓤 H A mem run)
+      walk-meets 𝓤 H A relax′.ended stayed W (
+        goes-none 𝓤 H A W 1 (λ _. i64) kept-as-is (λ κs x f. refl),
+        (goes-slice 𝓤 H A W 1 0 tt (plain (λ _. T.the-row)), tt),
+      ) (relax′.clauses 𝓤 H A mem run)
       (WpFn 𝓤 H (𝓣 .C) (𝓣 .Λ) code.function) (WpFn-mono 𝓤 H (W .laws) 𝓣 code.function) relax-walks
 
 pub relax-with-spec : {M : Type 1} → stated.statement M
@@ -502,7 +671,7 @@ relax-with-spec 𝓤 H 𝓜 𝓖 𝓡 =
     (relax-meets 𝓤 H (𝓖 .A) (givenOf 𝓤 H 𝓜 𝓖) (𝓜 .mem) (𝓡 .run) (tablesOf 𝓤 H 𝓜 (tables 𝓤 H 𝓜 𝓡 code.env))
     (cited 𝓤 H (Usable 𝓤 H (𝓖 .A) (𝓜 .mem) (𝓡 .run)) 𝓜 𝓡 code.env #usable-of usable-def.routine code.calls-relaxation·usable-of (usable-thm.met 𝓤 H 𝓜 𝓖 𝓡))
     (cited 𝓤 H (Opened 𝓤 H (𝓖 .A) (𝓜 .mem) (𝓡 .run)) 𝓜 𝓡 code.env #opened opened-def.routine code.calls-relaxation·opened (opened-thm.met 𝓤 H 𝓜 𝓖 𝓡))
-    (cited 𝓤 H (With 𝓤 H (𝓖 .A) (𝓜 .mem) (𝓡 .run)) 𝓜 𝓡 code.env #with with-def.routine code.calls-relaxation·with (with-thm.met 𝓤 H 𝓜 𝓖 𝓡))
+    (cited 𝓤 H (With 𝓤 H (𝓖 .A) (𝓜 .mem) (𝓡 .run)) 𝓜 𝓡 code.env #with with-def.routine code.calls-model·setters·with-item (with-thm.met 𝓤 H 𝓜 𝓖 𝓡))
     (cited 𝓤 H (Core 𝓤 H (𝓖 .A) (𝓜 .mem) (𝓡 .run)) 𝓜 𝓡 code.env #core core-def.routine code.calls-relaxation·core (core-thm.met 𝓤 H 𝓜 𝓖 𝓡))
     (cited 𝓤 H (Nth 𝓤 H (𝓖 .A) (𝓜 .mem) (𝓡 .run)) 𝓜 𝓡 code.env #nth nth-def.routine code.calls-relaxation·nth (nth-thm.met 𝓤 H 𝓜 𝓖 𝓡))
     (cited 𝓤 H (AnswerOf 𝓤 H (𝓖 .A) (𝓜 .mem) (𝓡 .run)) 𝓜 𝓡 code.env #answer-of answer-def.routine code.calls-relaxation·answer-of (answer-thm.met 𝓤 H 𝓜 𝓖 𝓡)))

@@ -3,10 +3,11 @@ use mathlib.Core.Path.{_≡_, ap, subst}
 use mathlib.Core.List.{List}
 use Prim.Native.Nat.{ℕ}
 use borrow.Author.Needs.{needs}
-use Rattle.knapsack.specs.Records.{InRange}
+use Rattle.knapsack.specs.Ranges.{InRange}
 use Rattle.knapsack.specs.declared.Verdict.{Verdict}
 use Rattle.knapsack.specs.declared.Verdict.the-variants.{Accepted}
-use Rattle.knapsack.proofs.Items.{accepted}
+use Rattle.model.specs.Records.{plainOf}
+use Rattle.model.proofs.Records.{plain-in-range}
 use Rattle.sheet.specs.declared.Reading.{Reading}
 use Rattle.sheet.specs.Reading.{readSheet}
 use Rattle.sheet.proofs.Sheets.{accepted-sheet}
@@ -14,8 +15,8 @@ use Rattle.runcefo.specs.Entries.{Steps}
 use Rattle.runcefo.proofs.charge_steps.Statement.{statement}
 use Rattle.runcefo.proofs.charge_steps.Tie as tie
 
-in-range : (s : List ℕ) → readSheet s .verdict ≡ Accepted → InRange (readSheet s .problem)
-in-range s h = let p = readSheet s .problem in accepted p (accepted-sheet s p (ap (λ (v : Verdict). record { verdict = v; problem = p }) h) .fair)
+in-range : (s : List ℕ) → readSheet s .verdict ≡ Accepted → InRange (plainOf (readSheet s .model))
+in-range s h = let m = readSheet s .model in plain-in-range m (accepted-sheet s m (ap (λ (v : Verdict). record { verdict = v; model = m }) h) .fair)
 
 read-requires : tie.Need-read-requires
 read-requires c κs = search needs

@@ -7,17 +7,22 @@ use Rattle.runcefo.proofs.steps_of.Tie as tie
 enum-told : tie.Need-enum-told
 enum-told c = search needs
 
+plain-of-requires : tie.Need-plain-of-requires
+plain-of-requires c κs = search needs
+
 solve-requires : tie.Need-solve-requires
-solve-requires c κs = c .before .before .before .pre (c .enum-told .given .1)
+solve-requires c κs = let e = c .before in rw (c .plain-of .ensures) (e .before .before .before .pre (e .enum-told .given .1))
 
 enum-told-2 : tie.Need-enum-told-2
 enum-told-2 c = search needs
 
 returns : tie.Need-returns
-returns c = rw (c .before .enum-told .given .1) (c .solve .result, (c .solve .ensures, refl))
+returns c =
+    let p = c .before in
+    rw (p .before .enum-told .given .1) (c .solve .result, (rw (p .plain-of .ensures) at (c .solve .ensures), refl))
 
 returns-2 : tie.Need-returns-2
 returns-2 c = rw (c .enum-told2 .given .1) refl
 
 pub steps-of-spec : {M : Type 1} → statement M
-steps-of-spec = tie.close (tie.spec enum-told solve-requires enum-told-2 returns returns-2)
+steps-of-spec = tie.close (tie.spec enum-told plain-of-requires solve-requires enum-told-2 returns returns-2)

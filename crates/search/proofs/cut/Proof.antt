@@ -12,8 +12,8 @@ use Rattle.arith.proofs.Words.{no-lt}
 use Rattle.greedy.specs.Fill.{fill, bound}
 use Rattle.greedy.specs.Sized.{SizedFill}
 use Rattle.greedy.proofs.Sizes.{fill-sized}
-use Rattle.search.specs.Search.{sparseBy, blendBy, cutBy}
-use Rattle.search.proofs.Bounds.{steep}
+use Rattle.search.specs.Search.{sparseBy, mixedAt, cutBy}
+use Rattle.search.proofs.Slopes.{steep}
 use borrow.Author.Needs.{needs}
 use Rattle.search.proofs.cut.Statement.{statement}
 use Rattle.search.proofs.cut.Tie as tie
@@ -61,10 +61,19 @@ hopeless-requires c κs =
     let z : SizedFill (s .args .t1) (g .fill-up .result) = rw (g .fill-up .ensures) (sized s) in
     let u = g .fill-up .result .at in
     rw (within-back tt (z .columns .sizes-in u), within-back tt (z .columns .rates-in u))
-    (record { blends = record { moderate = s .pre .1 .1; steep = steep (s .args .t1) (g .fill-up .result) (s .pre .0 .ordered) z (h .if3 .taken); room≥0 = rw (g .fill-up .ensures) (no-lt (not-empty (h .before .before .before))); room-in = z .room-in; proper = s .pre .0 .proper (h .before .before .if2 .taken) }; tame = s .pre .1 .0 })
+    (record {
+      mixed-in = record {
+        strides-in = s .pre .1 .1;
+        steep = steep (s .args .t1) (g .fill-up .result) (s .pre .0 .ordered) z (h .if3 .taken);
+        room≥0 = rw (g .fill-up .ensures) (no-lt (not-empty (h .before .before .before)));
+        room-in = z .room-in;
+        proper = s .pre .0 .proper (h .before .before .if2 .taken);
+      };
+      tame = s .pre .1 .0;
+    })
 
 returns-2 : tie.Need-returns-2
-unfolding cutBy sparseBy blendBy bound
+unfolding cutBy sparseBy mixedAt bound
 returns-2 c =
     let h = c .before .before .before in
     let g = h .before .before .before .before .before .before in
@@ -86,14 +95,15 @@ turned true = refl
 turned false = refl
 
 returns-3 : tie.Need-returns-3
-unfolding cutBy sparseBy blendBy bound
+unfolding cutBy sparseBy mixedAt bound
 returns-3 c =
     let h = c .before .before in
     let g = h .before .before .before .before .before .before in
     let s = g .before in
     let l = rw (g .fill-up .ensures) at (h .if3 .left) in
     let e = rw (g .fill-up .ensures, within-back tt (sized s .worth-in)) at (c .less .ensures) in
-    rw (not-empty (h .before .before .before), h .before .before .if2 .taken, le-ltb _ _ l) (ap not e ∙ turned (lessMixed (s .args .best .value) (record { whole = fill (s .args .t1) (s .args .e) .worth; part = 0; parts = 1 })))
+    rw (not-empty (h .before .before .before), h .before .before .if2 .taken, le-ltb _ _ l)
+    (ap not e ∙ turned (lessMixed (s .args .best .value) (record { whole = fill (s .args .t1) (s .args .e) .worth; part = 0; parts = 1 })))
 
 returns-4 : tie.Need-returns-4
 unfolding cutBy

@@ -4,9 +4,9 @@ use Prim.Native.Nat.{_-_, _<_}
 use native.Mathlib.Omega.{arith}
 use borrow.Author.Needs.{needs}
 use Rattle.arith.proofs.Words.{back}
-use Rattle.search.specs.Search.{levelAt}
-use Rattle.search.specs.Steps.{Long, LongPath}
-use Rattle.search.proofs.Boxes.{item<16}
+use Rattle.setting.specs.Box.{levelAt, Long}
+use Rattle.search.specs.Steps.{LongPath}
+use Rattle.setting.proofs.Boxes.{item<16}
 use Rattle.search.proofs.Dives.{Diving, startIn, diving-first, diving-sized, diving-step, diving-done}
 use Rattle.search.proofs.dive.Statement.{statement}
 use Rattle.search.proofs.dive.Tie as tie
@@ -42,7 +42,8 @@ fixed-in-requires c κs =
     (omega (arith, s .pre .1 .0, r .few), λ k h. item<16 (s .args .t1) r (long s) k (omega (arith, s .pre .1 .0)))
 
 loop-holds : tie.Need-loop-holds Inv-loop μ-loop
-loop-holds c = let s = c .before .before .before .before .before in diving-first (s .args .t1) (s .args .j) (s .args .p) (c .fixed-in .result) (s .pre .1 .0) (long-path s) (c .fixed-in .ensures) (s .pre .1 .1)
+loop-holds c = let s = c .before .before .before .before .before in diving-first (s .args .t1) (s .args .j) (s .args .p) (c .fixed-in .result) (s .pre .1 .0)
+    (long-path s) (c .fixed-in .ensures) (s .pre .1 .1)
 
 mul-i : tie.Need-mul-i Inv-loop μ-loop
 mul-i c = record { fits = omega (arith, k<16 c) }
@@ -93,7 +94,8 @@ loop-again c =
     let l = i .before in
     let s = Of l in
     let v : c .start-of .result ≡ startIn (s .args .t1) (l .loop .e) (l .loop .k) = c .start-of .ensures in
-    rw (back (c .start-of .result) (c .start-of .ok), v) (diving-step (s .args .t1) (s .pre .0) (long s) (s .args .j) (s .args .p) _ (l .loop .e) (l .loop .k) (i .loop-test .taken) (l .loop .inv))
+    rw (back (c .start-of .result) (c .start-of .ok), v) (diving-step (s .args .t1) (s .pre .0) (long s) (s .args .j) (s .args .p) _ (l .loop .e) (l .loop .k)
+    (i .loop-test .taken) (l .loop .inv))
 
 returns : tie.Need-returns Inv-loop μ-loop
 returns c =

@@ -3,6 +3,7 @@ use mathlib.Core.Path.{_≡_, sym, subst}
 use Prim.Native.Nat.{ℕ, _+_, _*_, _-_, _≤_, _<_}
 use native.Mathlib.Decide.{ℕ-discrete}
 use native.Mathlib.Omega.{arith}
+use Rattle.arith.specs.Limits.{farthest}
 use Rattle.arith.specs.Within.{Within}
 use lib.Dec.{lit<}
 use mir.Facts.{toZ-ofZ}
@@ -11,8 +12,10 @@ use mir.Val.{toZ, ofZ}
 use Rattle.arith.proofs.Parts.{abs-within, within-width, within-back, within-sfits}
 use Rattle.arith.proofs.Words.{back}
 use Rattle.greedy.specs.Fill.{at}
-use Rattle.search.specs.Search.{levelAt, pairIndex, AppliesAt, Applies, Decides}
-use Rattle.search.proofs.Boxes.{between}
+use Rattle.setting.specs.Box.{levelAt}
+use Rattle.setting.specs.Ready.{pairIndex}
+use Rattle.search.specs.Search.{AppliesAt, Applies, Reflects}
+use Rattle.setting.proofs.Boxes.{between}
 use Rattle.search.proofs.first_paired.Statement.{statement}
 use Rattle.search.proofs.first_paired.Tie as tie
 
@@ -28,11 +31,12 @@ module _ (s : tie.Start Inv-loop μ-loop) where
   item<16 : (d : ℕ) → d < s .args .t1 .levels → levelAt (s .args .t1) d < 16
   item<16 d l = omega (arith, s .pre .ready .setting .level-in d l, s .pre .ready .setting .sized .columns .few)
 
-  amount-within : (d : ℕ) → d < s .args .t1 .levels → Within 300000000 (at (s .args .t3) d)
+  amount-within : (d : ℕ) → d < s .args .t1 .levels → Within farthest (at (s .args .t3) d)
   amount-within d l =
       let r = s .pre .ready .setting in
       let i = s .pre .inside d l in
-      between (at (s .args .t1 .low) d) (at (s .args .t1 .high) d) (at (s .args .t3) d) (rw (r .low-is d l) (r .sized .ends .lo-in (levelAt (s .args .t1) d))) (rw (r .high-is d l) (r .sized .ends .hi-in (levelAt (s .args .t1) d))) (i .0) (i .1)
+      between (at (s .args .t1 .low) d) (at (s .args .t1 .high) d) (at (s .args .t3) d) (rw (r .low-is d l) (r .sized .ends .lo-in (levelAt (s .args .t1) d)))
+      (rw (r .high-is d l) (r .sized .ends .hi-in (levelAt (s .args .t1) d))) (i .0) (i .1)
 
   first-within : (k : ℕ) → Within 1000 (at (s .args .t2 .first) k)
   first-within k = abs-within _ (s .pre .ready .true-pairs .steps-in k .0)
@@ -64,7 +68,8 @@ module _ (c : tie.Then1 Inv-loop μ-loop) where
   j<16 : c .before .before .loop .j < 16
   j<16 = omega (arith, j-in, c .before .before .before .pre .ready .setting .few)
 
-  index<256 : pairIndex (levelAt (c .before .before .before .args .t1) (c .before .before .loop .d)) (levelAt (c .before .before .before .args .t1) (c .before .before .loop .j)) < 256
+  index<256 : pairIndex (levelAt (c .before .before .before .args .t1) (c .before .before .loop .d))
+      (levelAt (c .before .before .before .args .t1) (c .before .before .loop .j)) < 256
   index<256 = let s = c .before .before .before in omega (arith, item<16 s (c .before .before .loop .d) d-in, item<16 s (c .before .before .loop .j) j-in)
 
 mul-k : tie.Need-mul-k Inv-loop μ-loop
@@ -93,7 +98,8 @@ element-copy-out-r c = index<256 (c .before .before)
 
 -- the pair of the two levels
 abbrev K : tie.Then1 Inv-loop μ-loop → ℕ
-K c = pairIndex (levelAt (c .before .before .before .args .t1) (c .before .before .loop .d)) (levelAt (c .before .before .before .args .t1) (c .before .before .loop .j))
+K c = pairIndex (levelAt (c .before .before .before .args .t1) (c .before .before .loop .d))
+    (levelAt (c .before .before .before .args .t1) (c .before .before .loop .j))
 
 cast-r : tie.Need-cast-r Inv-loop μ-loop
 cast-r c = let t = c .before .before .before in let s = t .before .before .before in rw (first-back s (K t)) (within-sfits (lit< tt) (first-within s (K t)))
@@ -104,44 +110,70 @@ mul-t c = record { fits = omega (arith, index<256 (c .before .before .before)) }
 element-copy-out-t : tie.Need-element-copy-out-t Inv-loop μ-loop
 element-copy-out-t c = index<256 (c .before .before .before)
 
+-- the moments that are spoken of below
+abbrev then1-by-t : tie.After-t Inv-loop μ-loop → tie.Then1 Inv-loop μ-loop
+then1-by-t c = c .before .before .before .before
+
+abbrev then1-by-removable-arg : tie.After-removable-arg Inv-loop μ-loop → tie.Then1 Inv-loop μ-loop
+then1-by-removable-arg c = c .before .before .before .before .before
+
+abbrev then1-by-removable-arg2 : tie.After-removable-arg2 Inv-loop μ-loop → tie.Then1 Inv-loop μ-loop
+then1-by-removable-arg2 c = c .before .before .before .before .before .before
+
+abbrev then1-by-removable-arg3 : tie.After-removable-arg3 Inv-loop μ-loop → tie.Then1 Inv-loop μ-loop
+then1-by-removable-arg3 c = c .before .before .before .before .before .before .before
+
+abbrev then1-by-removable-arg4 : tie.After-removable-arg4 Inv-loop μ-loop → tie.Then1 Inv-loop μ-loop
+then1-by-removable-arg4 c = c .before .before .before .before .before .before .before .before
+
+abbrev then1-by-removable-arg5 : tie.After-removable-arg5 Inv-loop μ-loop → tie.Then1 Inv-loop μ-loop
+then1-by-removable-arg5 c = c .before .before .before .before .before .before .before .before .before
+
+abbrev then1-by-removable : tie.After-removable Inv-loop μ-loop → tie.Then1 Inv-loop μ-loop
+then1-by-removable c = c .before .before .before .before .before .before .before .before .before .before .before
+
+abbrev then1-by-else2 : tie.Else2 Inv-loop μ-loop → tie.Then1 Inv-loop μ-loop
+then1-by-else2 c = c .before .before .before .before .before .before .before .before .before .before .before .before
+
 cast-t : tie.Need-cast-t Inv-loop μ-loop
-cast-t c = let t = c .before .before .before .before in let s = t .before .before .before in rw (second-back s (K t)) (within-sfits (lit< tt) (second-within s (K t)))
+cast-t c = let t = then1-by-t c in let s =
+    t .before .before .before in rw (second-back s (K t)) (within-sfits (lit< tt) (second-within s (K t)))
 
 mul-removable : tie.Need-mul-removable Inv-loop μ-loop
-mul-removable c = record { fits = omega (arith, d<16 (c .before .before .before .before)) }
+mul-removable c = record { fits = omega (arith, d<16 (then1-by-t c)) }
 
 array-copy-out-removable : tie.Need-array-copy-out-removable Inv-loop μ-loop
-array-copy-out-removable c = d<16 (c .before .before .before .before)
+array-copy-out-removable c = d<16 (then1-by-t c)
 
 mul-removable-2 : tie.Need-mul-removable-2 Inv-loop μ-loop
-mul-removable-2 c = record { fits = omega (arith, j<16 (c .before .before .before .before .before)) }
+mul-removable-2 c = record { fits = omega (arith, j<16 (then1-by-removable-arg c)) }
 
 array-copy-out-removable-2 : tie.Need-array-copy-out-removable-2 Inv-loop μ-loop
-array-copy-out-removable-2 c = j<16 (c .before .before .before .before .before)
+array-copy-out-removable-2 c = j<16 (then1-by-removable-arg c)
 
 mul-removable-3 : tie.Need-mul-removable-3 Inv-loop μ-loop
-mul-removable-3 c = record { fits = omega (arith, d<16 (c .before .before .before .before .before .before)) }
+mul-removable-3 c = record { fits = omega (arith, d<16 (then1-by-removable-arg2 c)) }
 
 element-copy-out-removable : tie.Need-element-copy-out-removable Inv-loop μ-loop
-element-copy-out-removable c = d<16 (c .before .before .before .before .before .before)
+element-copy-out-removable c = d<16 (then1-by-removable-arg2 c)
 
 mul-removable-4 : tie.Need-mul-removable-4 Inv-loop μ-loop
-mul-removable-4 c = record { fits = omega (arith, d<16 (c .before .before .before .before .before .before .before)) }
+mul-removable-4 c = record { fits = omega (arith, d<16 (then1-by-removable-arg3 c)) }
 
 element-copy-out-removable-2 : tie.Need-element-copy-out-removable-2 Inv-loop μ-loop
-element-copy-out-removable-2 c = d<16 (c .before .before .before .before .before .before .before)
+element-copy-out-removable-2 c = d<16 (then1-by-removable-arg3 c)
 
 mul-removable-5 : tie.Need-mul-removable-5 Inv-loop μ-loop
-mul-removable-5 c = record { fits = omega (arith, j<16 (c .before .before .before .before .before .before .before .before)) }
+mul-removable-5 c = record { fits = omega (arith, j<16 (then1-by-removable-arg4 c)) }
 
 element-copy-out-removable-3 : tie.Need-element-copy-out-removable-3 Inv-loop μ-loop
-element-copy-out-removable-3 c = j<16 (c .before .before .before .before .before .before .before .before)
+element-copy-out-removable-3 c = j<16 (then1-by-removable-arg4 c)
 
 mul-removable-6 : tie.Need-mul-removable-6 Inv-loop μ-loop
-mul-removable-6 c = record { fits = omega (arith, j<16 (c .before .before .before .before .before .before .before .before .before)) }
+mul-removable-6 c = record { fits = omega (arith, j<16 (then1-by-removable-arg5 c)) }
 
 element-copy-out-removable-4 : tie.Need-element-copy-out-removable-4 Inv-loop μ-loop
-element-copy-out-removable-4 c = j<16 (c .before .before .before .before .before .before .before .before .before)
+element-copy-out-removable-4 c = j<16 (then1-by-removable-arg5 c)
 
 removable-requires : tie.Need-removable-requires Inv-loop μ-loop
 removable-requires c κs =
@@ -160,9 +192,10 @@ removable-requires c κs =
 abbrev At : tie.After-removable Inv-loop μ-loop → tie.At-loop Inv-loop μ-loop
 At c = c .before .before .before .before .before .before .before .before .before .before .before .before .before
 
-decided : (c : tie.After-removable Inv-loop μ-loop) → Decides (AppliesAt (At c .before .args .t1) (At c .before .args .t2) (at (At c .before .args .t3)) (At c .loop .d) (At c .loop .j)) (c .removable .result)
+decided : (c : tie.After-removable Inv-loop μ-loop) → Reflects (AppliesAt (At c .before .args .t1) (At c .before .args .t2) (at (At c .before .args .t3))
+    (At c .loop .d) (At c .loop .j)) (c .removable .result)
 decided c =
-    let t = c .before .before .before .before .before .before .before .before .before .before .before in
+    let t = then1-by-removable c in
     let l = At c in
     let s = l .before in
     let k = pairIndex (levelAt (s .args .t1) (l .loop .d)) (levelAt (s .args .t1) (l .loop .j)) in
@@ -186,23 +219,35 @@ returns c =
     let i = a .before .before .before .before .before .before .before .before .before .before .before .before in
     record {
       most = omega (arith, i .loop-test .taken);
-      here = λ h. record { above = l .loop .j; is-above = a .before .before .before .before .before .before .before .before .before .before .before .if1 .taken; here = decided a .holds (c .if2 .taken) };
+      here = λ h. record {
+        above = l .loop .j;
+        is-above = then1-by-removable a .if1 .taken;
+        here = decided a .holds (c .if2 .taken);
+      };
       before = l .loop .inv .1 .1 .0;
     }
 
 add-j : tie.Need-add-j Inv-loop μ-loop
-add-j c = record { fits = omega (arith, j<16 (c .before .before .before .before .before .before .before .before .before .before .before .before)) }
+add-j c = record { fits = omega (arith, j<16 (then1-by-else2 c)) }
 
 loop-less : tie.Need-loop-less Inv-loop μ-loop
-loop-less c = omega (arith, j<16 (c .before .before .before .before .before .before .before .before .before .before .before .before))
+loop-less c = omega (arith, j<16 (then1-by-else2 c))
 
 loop-again : tie.Need-loop-again Inv-loop μ-loop
 loop-again c =
     let a = c .before in
-    let t = a .before .before .before .before .before .before .before .before .before .before .before in
+    let t = then1-by-removable a in
     let l = At a in
-    let v = l .loop .inv in
-    (v .0, (omega (arith, t .if1 .taken), (v .1 .1 .0, λ i h. more (l .loop .j) i h (ℕ-discrete i (l .loop .j)) (v .1 .1 .1) (decided a .fails (c .if2 .left)))))
+    let v = l .loop .inv in (
+      v .0,
+      (
+        omega (arith, t .if1 .taken),
+        (
+          v .1 .1 .0,
+          λ i h. more (l .loop .j) i h (ℕ-discrete i (l .loop .j)) (v .1 .1 .1) (decided a .fails (c .if2 .left)),
+        ),
+      ),
+    )
   where
     more : {P : ℕ → Type 0} (j i : ℕ) → i < j + 1 → Dec (i ≡ j) → ((k : ℕ) → k < j → ¬ P k) → ¬ P j → ¬ P i
     more {P} j i h (yes q) f g = subst (λ k. ¬ P k) (sym q) g
@@ -220,8 +265,17 @@ loop-less-2 c =
 loop-again-2 : tie.Need-loop-again-2 Inv-loop μ-loop
 loop-again-2 c =
     let l = c .before .before in
-    let v = l .loop .inv in
-    (omega (arith, c .before .loop-test .taken), (omega arith, (λ e h. more (l .loop .d) e h (ℕ-discrete e (l .loop .d)) (v .1 .1 .0) (λ q. v .1 .1 .1 (q .above) (omega (arith, q .is-above, c .if1 .left)) (q .here)), λ i h. absurd (omega arith))))
+    let v = l .loop .inv in (
+      omega (arith, c .before .loop-test .taken),
+      (
+        omega arith,
+        (
+          λ e h. more (l .loop .d) e h (ℕ-discrete e (l .loop .d)) (v .1 .1 .0)
+              (λ q. v .1 .1 .1 (q .above) (omega (arith, q .is-above, c .if1 .left)) (q .here)),
+          λ i h. absurd (omega arith),
+        ),
+      ),
+    )
   where
     more : {P : ℕ → Type 0} (d e : ℕ) → e < d + 1 → Dec (e ≡ d) → ((k : ℕ) → k < d → ¬ P k) → ¬ P d → ¬ P e
     more {P} d e h (yes q) f g = subst (λ k. ¬ P k) (sym q) g

@@ -9,15 +9,15 @@ use Rattle.arith.proofs.Parts.{within-more, within-abs, within-back}
 use Rattle.arith.proofs.Words.{back}
 use Rattle.greedy.specs.Fill.{sharedBy}
 use Rattle.lattice.specs.Lattice.{barrenBy}
-use Rattle.search.proofs.Bounds.{above-zero, shared-proper}
+use Rattle.greedy.proofs.Bounds.{above-zero, shared-proper}
 use Rattle.search.proofs.hopeless.Statement.{statement}
 use Rattle.search.proofs.hopeless.Tie as tie
 
 magnitude-requires : tie.Need-magnitude-requires
-magnitude-requires c κs = rw (toZ-ofZ (c .fits .size)) (within-more (omega arith) (c .pre .blends .steep .size-in))
+magnitude-requires c κs = rw (toZ-ofZ (c .fits .size)) (within-more (omega arith) (c .pre .mixed-in .steep .size-in))
 
 magnitude-requires-2 : tie.Need-magnitude-requires-2
-magnitude-requires-2 c κs = rw (toZ-ofZ (c .before .fits .rate)) (within-more (omega arith) (c .before .pre .blends .steep .rate-in))
+magnitude-requires-2 c κs = rw (toZ-ofZ (c .before .fits .rate)) (within-more (omega arith) (c .before .pre .mixed-in .steep .rate-in))
 
 size-is : (c : tie.After-magnitude) → c .magnitude .result ≡ natAbs (c .before .args .size)
 size-is c = rw (toZ-ofZ (c .before .fits .size)) at (c .magnitude .ensures)
@@ -27,40 +27,66 @@ rate-is c = rw (toZ-ofZ (c .before .before .fits .rate)) at (c .magnitude2 .ensu
 
 -- the size is at least 1
 size≥1 : (s : tie.Start) → 0 < natAbs (s .args .size)
-size≥1 s = above-zero (s .args .size) (s .pre .blends .steep .size≥1)
+size≥1 s = above-zero (s .args .size) (s .pre .mixed-in .steep .size≥1)
 
 share-requires : tie.Need-share-requires
 share-requires c κs =
     let s = c .before .before in
     record {
-      room-in = s .pre .blends .room-in;
-      worth-in = within-more (omega arith) (s .pre .blends .steep .worth-in);
+      room-in = s .pre .mixed-in .room-in;
+      worth-in = within-more (omega arith) (s .pre .mixed-in .steep .worth-in);
       size-in = omega (arith, size-is (c .before), size≥1 s);
-      rate-in = omega (arith, rate-is c, within-abs (s .args .rate) (s .pre .blends .steep .rate-in));
+      rate-in = omega (arith, rate-is c, within-abs (s .args .rate) (s .pre .mixed-in .steep .rate-in));
     }
 
 -- what is promised
-promise : (c : tie.After-share) → c .share .result ≡ sharedBy (c .before .before .before .args .f) (natAbs (c .before .before .before .args .size)) (natAbs (c .before .before .before .args .rate))
+promise : (c : tie.After-share) → c .share .result ≡ sharedBy (c .before .before .before .args .f) (natAbs (c .before .before .before .args .size))
+    (natAbs (c .before .before .before .args .rate))
 promise c = c .share .ensures ∙ ap₂ (sharedBy (c .before .before .before .args .f)) (size-is (c .before .before)) (rate-is (c .before))
 
 less-requires : tie.Need-less-requires
 less-requires c κs =
-    let s = c .before .before .before in
-    (s .pre .blends .proper, rw (promise c) (shared-proper (s .args .f) (natAbs (s .args .size)) (natAbs (s .args .rate)) (size≥1 s) (within-abs (s .args .size) (s .pre .blends .steep .size-in))))
+    let s = c .before .before .before in (
+      s .pre .mixed-in .proper,
+      rw (promise c) (shared-proper (s .args .f) (natAbs (s .args .size)) (natAbs (s .args .rate)) (size≥1 s)
+          (within-abs (s .args .size) (s .pre .mixed-in .steep .size-in))),
+    )
+
+-- the moments that are spoken of below
+abbrev start-by-less : tie.After-less → tie.Start
+start-by-less c = c .before .before .before .before
+
+abbrev start-by-barren : tie.After-barren → tie.Start
+start-by-barren c = c .before .before .before .before .before .before .before .before .before
 
 -- what the comparison said
-less-is : (c : tie.After-less) → c .less .result ≡ lessMixed (c .before .before .before .before .args .b) (sharedBy (c .before .before .before .before .args .f) (natAbs (c .before .before .before .before .args .size)) (natAbs (c .before .before .before .before .args .rate)))
-less-is c = c .less .ensures ∙ ap (lessMixed (c .before .before .before .before .args .b)) (promise (c .before))
+less-is : (c : tie.After-less) → c .less .result ≡ lessMixed (start-by-less c .args .b)
+    (sharedBy (start-by-less c .args .f) (natAbs (start-by-less c .args .size)) (natAbs (start-by-less c .args .rate)))
+less-is c = c .less .ensures ∙ ap (lessMixed (start-by-less c .args .b)) (promise (c .before))
 
 barren-requires : tie.Need-barren-requires
 barren-requires c κs =
     let s = c .before .before .before .before .before .before .before .before in
-    rw (within-back tt (s .pre .blends .steep .worth-in), toZ-ofZ (s .fits .rate), toZ-ofZ (s .fits .size), within-back tt (s .pre .blends .room-in)) (s .pre .tame, (s .pre .blends .steep, s .pre .blends .room-in))
+    rw (within-back tt (s .pre .mixed-in .steep .worth-in), toZ-ofZ (s .fits .rate), toZ-ofZ (s .fits .size), within-back tt (s .pre .mixed-in .room-in))
+    (s .pre .tame, (s .pre .mixed-in .steep, s .pre .mixed-in .room-in))
 
-barren-is : (c : tie.After-barren) → c .barren .result ≡ barrenBy (c .before .before .before .before .before .before .before .before .before .args .l) (record { worth = c .before .before .before .before .before .before .before .before .before .args .f .worth; rate = c .before .before .before .before .before .before .before .before .before .args .rate; size = c .before .before .before .before .before .before .before .before .before .args .size }) (c .before .before .before .before .before .before .before .before .before .args .f .room) (c .before .before .before .before .before .before .before .before .before .args .b .whole)
+barren-is : (c : tie.After-barren) → c .barren .result ≡ barrenBy (start-by-barren c .args .l)
+    (record {
+      worth = start-by-barren c .args .f .worth;
+      rate = c .before .before .before .before .before .before .before .before .before .args .rate;
+      size = c .before .before .before .before .before .before .before .before .before .args .size;
+    })
+    (start-by-barren c .args .f .room)
+    (start-by-barren c .args .b .whole)
 barren-is c =
-    let s = c .before .before .before .before .before .before .before .before .before in
-    rw (within-back tt (s .pre .blends .steep .worth-in), toZ-ofZ (s .fits .rate), toZ-ofZ (s .fits .size), within-back tt (s .pre .blends .room-in), back (s .args .b .whole) (c .before .struct-told3 .given .0 .1)) at (c .barren .ensures)
+    let s = start-by-barren c in
+    rw (
+      within-back tt (s .pre .mixed-in .steep .worth-in),
+      toZ-ofZ (s .fits .rate),
+      toZ-ofZ (s .fits .size),
+      within-back tt (s .pre .mixed-in .room-in),
+      back (s .args .b .whole) (c .before .struct-told3 .given .0 .1),
+    ) at (c .barren .ensures)
 
 -- the relaxation promises more
 promised : (c : tie.After-barren) → tie.Then1
@@ -71,7 +97,8 @@ unfolding promised
 returns c = let h = promised (c .before) in rw (sym (less-is (h .before)) ∙ h .if1 .taken, sym (barren-is (c .before)) ∙ c .if2 .taken)
 
 mixed-requires : tie.Need-mixed-requires
-mixed-requires c κs = let s = c .before .before .before .before .before .before .before .before .before .before in rw (toZ-ofZ (s .fits .size), toZ-ofZ (s .fits .rate)) (s .pre .blends)
+mixed-requires c κs = let s = c .before .before .before .before .before .before .before .before .before .before in
+    rw (toZ-ofZ (s .fits .size), toZ-ofZ (s .fits .rate)) (s .pre .mixed-in)
 
 returns-2 : tie.Need-returns-2
 unfolding promised

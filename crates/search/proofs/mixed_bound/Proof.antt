@@ -15,7 +15,7 @@ use Rattle.greedy.specs.Fill.{sharedBy}
 use Rattle.greedy.specs.declared.Fill.{Fill}
 use Rattle.lattice.proofs.Ranges.{nonzero, multiple-within, rest-within}
 use Rattle.search.specs.Search.{strideFill}
-use Rattle.search.proofs.Bounds.{above-zero}
+use Rattle.greedy.proofs.Bounds.{above-zero}
 use Rattle.search.proofs.mixed_bound.Statement.{statement}
 use Rattle.search.proofs.mixed_bound.Tie as tie
 
@@ -25,10 +25,10 @@ module _ (s : tie.Start) where
   w = s .args .m .stride *ℤ floorDiv (s .args .f .room) (s .args .m .stride)
 
   w-in : Within 20000000001000 w
-  w-in = multiple-within (s .args .f .room) (s .args .m .stride) (s .pre .strides) (s .pre .room-in) (s .pre .moderate .stride-in)
+  w-in = multiple-within (s .args .f .room) (s .args .m .stride) (s .pre .stride≥1) (s .pre .room-in) (s .pre .strides-in .stride-in)
 
   rest-in : Within 1000 (s .args .f .room -ℤ w)
-  rest-in = rest-within (s .args .f .room) (s .args .m .stride) (s .pre .strides) (s .pre .room-in) (s .pre .moderate .stride-in)
+  rest-in = rest-within (s .args .f .room) (s .args .m .stride) (s .pre .stride≥1) (s .pre .room-in) (s .pre .strides-in .stride-in)
 
   cost-in : Within 200000000010000000 (s .args .rate *ℤ w)
   cost-in = within-more (omega arith) (within-mul (s .pre .steep .rate-in) w-in)
@@ -45,7 +45,8 @@ module _ (s : tie.Start) where
 floor-div-requires : tie.Need-floor-div-requires
 floor-div-requires c κs =
     let s = c .before .before in
-    rw (within-back tt (s .pre .room-in), within-back tt (s .pre .moderate .stride-in)) (within-more (omega arith) (s .pre .room-in), nonzero (s .args .m .stride) (s .pre .strides))
+    rw (within-back tt (s .pre .room-in), within-back tt (s .pre .strides-in .stride-in))
+    (within-more (omega arith) (s .pre .room-in), nonzero (s .args .m .stride) (s .pre .stride≥1))
 
 -- the weight of whole strides, as the code holds it
 module _ (c : tie.After-floor-div) where
@@ -56,7 +57,8 @@ module _ (c : tie.After-floor-div) where
   product = toZ w64 (ofZ w64 (S .args .m .stride)) *ℤ toZ w64 (ofZ w64 (c .floor-div .result))
 
   product-is : product ≡ w S
-  product-is = ap₂ _*ℤ_ (within-back tt (S .pre .moderate .stride-in)) (back (c .floor-div .result) (c .floor-div .ok) ∙ (rw (within-back tt (S .pre .room-in), within-back tt (S .pre .moderate .stride-in)) at (c .floor-div .ensures)))
+  product-is = ap₂ _*ℤ_ (within-back tt (S .pre .strides-in .stride-in)) (back (c .floor-div .result) (c .floor-div .ok) ∙
+      (rw (within-back tt (S .pre .room-in), within-back tt (S .pre .strides-in .stride-in)) at (c .floor-div .ensures)))
 
   weight-is : toZ w64 (ofZ w64 product) ≡ w S
   weight-is = ap (λ z. toZ w64 (ofZ w64 z)) product-is ∙ within-back tt (w-in S)
@@ -80,7 +82,10 @@ ceil-div-requires : tie.Need-ceil-div-requires
 ceil-div-requires c κs =
     let d = c .before .before in
     let s = S d in
-    rw (toZ-ofZ (s .fits .size)) (subst (λ z. Within 1000000000000000000 (toZ w64 (ofZ w64 z))) (sym (cost-is d)) (rw (within-back tt (cost-in s)) (within-more (omega arith) (cost-in s))), nonzero (s .args .size) (s .pre .steep .size≥1))
+    rw (toZ-ofZ (s .fits .size)) (
+      subst (λ z. Within 1000000000000000000 (toZ w64 (ofZ w64 z))) (sym (cost-is d)) (rw (within-back tt (cost-in s)) (within-more (omega arith) (cost-in s))),
+      nonzero (s .args .size) (s .pre .steep .size≥1),
+    )
 
 -- the worth of whole strides, as the code holds it
 module _ (c : tie.After-ceil-div) where
@@ -94,27 +99,35 @@ module _ (c : tie.After-ceil-div) where
   worth-is = ap₂ _+ℤ_ (within-back tt (S F .pre .steep .worth-in)) (back (c .ceil-div .result) (c .ceil-div .ok) ∙ ceil-is)
 
   -- the filling that is shared
-  fill-is : _≡_ {A = Fill} (record { at = 0; room = toZ w64 (ofZ w64 (toZ w64 (ofZ w64 (S F .args .f .room)) -ℤ toZ w64 (ofZ w64 (product F)))); worth = toZ w64 (ofZ w64 (toZ w64 (ofZ w64 (S F .args .f .worth)) +ℤ toZ w64 (ofZ w64 (c .ceil-div .result)))) }) (strideFill (S F .args .m) (S F .args .f) (S F .args .size) (S F .args .rate))
-  fill-is = ap₂ (λ (x y : ℤ). record { at = 0; room = x; worth = y }) (ap (λ z. toZ w64 (ofZ w64 z)) (rest-is F) ∙ within-back tt (rest-in (S F))) (ap (λ z. toZ w64 (ofZ w64 z)) worth-is ∙ within-back tt (worth-in (S F)))
+  fill-is : _≡_ {A = Fill} (record {
+    at = 0;
+    room = toZ w64 (ofZ w64 (toZ w64 (ofZ w64 (S F .args .f .room)) -ℤ toZ w64 (ofZ w64 (product F))));
+    worth = toZ w64 (ofZ w64 (toZ w64 (ofZ w64 (S F .args .f .worth)) +ℤ toZ w64 (ofZ w64 (c .ceil-div .result))));
+  })
+      (strideFill (S F .args .m) (S F .args .f) (S F .args .size) (S F .args .rate))
+  fill-is = ap₂ (λ (x y : ℤ). record { at = 0; room = x; worth = y }) (ap (λ z. toZ w64 (ofZ w64 z)) (rest-is F) ∙ within-back tt (rest-in (S F)))
+      (ap (λ z. toZ w64 (ofZ w64 z)) worth-is ∙ within-back tt (worth-in (S F)))
 
 add-t11 : tie.Need-add-t11
 add-t11 c = let d = c .before .before in subst (SFits w64) (sym (worth-is d)) (within-sfits (lit< tt) (worth-in (S (F d))))
 
 magnitude-requires : tie.Need-magnitude-requires
-magnitude-requires c κs = let s = c .before .before .before .before .before .before .before .before .before in rw (within-back tt (s .pre .moderate .size-in)) (within-more (omega arith) (s .pre .moderate .size-in))
+magnitude-requires c κs = let s = c .before .before .before .before .before .before .before .before .before in
+    rw (within-back tt (s .pre .strides-in .size-in)) (within-more (omega arith) (s .pre .strides-in .size-in))
 
 magnitude-requires-2 : tie.Need-magnitude-requires-2
-magnitude-requires-2 c κs = let s = c .before .before .before .before .before .before .before .before .before .before .before in rw (within-back tt (s .pre .moderate .rate-in)) (within-more (omega arith) (s .pre .moderate .rate-in))
+magnitude-requires-2 c κs = let s = c .before .before .before .before .before .before .before .before .before .before .before in
+    rw (within-back tt (s .pre .strides-in .rate-in)) (within-more (omega arith) (s .pre .strides-in .rate-in))
 
 module _ (c : tie.After-magnitude2) where
   abbrev C : tie.After-ceil-div
   C = c .before .before .before .before .before .before
 
   size-is : c .before .before .magnitude .result ≡ natAbs (S (F C) .args .m .size)
-  size-is = rw (within-back tt (S (F C) .pre .moderate .size-in)) at (c .before .before .magnitude .ensures)
+  size-is = rw (within-back tt (S (F C) .pre .strides-in .size-in)) at (c .before .before .magnitude .ensures)
 
   rate-is : c .magnitude2 .result ≡ natAbs (S (F C) .args .m .rate)
-  rate-is = rw (within-back tt (S (F C) .pre .moderate .rate-in)) at (c .magnitude2 .ensures)
+  rate-is = rw (within-back tt (S (F C) .pre .strides-in .rate-in)) at (c .magnitude2 .ensures)
 
 share-requires : tie.Need-share-requires
 share-requires c κs =
@@ -123,8 +136,8 @@ share-requires c κs =
     rw (fill-is d) (record {
       room-in = within-more (omega arith) (rest-in s);
       worth-in = worth-in s;
-      size-in = omega (arith, size-is c, above-zero (s .args .m .size) (s .pre .moderate .size≥1));
-      rate-in = omega (arith, rate-is c, within-abs (s .args .m .rate) (s .pre .moderate .rate-in));
+      size-in = omega (arith, size-is c, above-zero (s .args .m .size) (s .pre .strides-in .size≥1));
+      rate-in = omega (arith, rate-is c, within-abs (s .args .m .rate) (s .pre .strides-in .rate-in));
     })
 
 returns : tie.Need-returns
@@ -132,7 +145,8 @@ returns c =
     let m = c .before in
     let d = C m in
     let s = S (F d) in
-    c .share .ensures ∙ ap (λ (f : Fill). sharedBy f (m .before .before .magnitude .result) (m .magnitude2 .result)) (fill-is d) ∙ ap₂ (sharedBy (strideFill (s .args .m) (s .args .f) (s .args .size) (s .args .rate))) (size-is m) (rate-is m)
+    c .share .ensures ∙ ap (λ (f : Fill). sharedBy f (m .before .before .magnitude .result) (m .magnitude2 .result)) (fill-is d)
+    ∙ ap₂ (sharedBy (strideFill (s .args .m) (s .args .f) (s .args .size) (s .args .rate))) (size-is m) (rate-is m)
 
 pub mixed-bound-spec : {M : Type 1} → statement M
 mixed-bound-spec =

@@ -5,7 +5,7 @@ use mir.Val.{ofZ}
 use mir.Facts.{toZ-ofZ}
 use Rattle.arith.proofs.Parts.{impossible}
 use Rattle.arith.proofs.Quotients.{bits-zero}
-use Rattle.search.specs.Search.{Stays, Decides}
+use Rattle.search.specs.Search.{Stays, Reflects}
 use Rattle.search.proofs.removable.Statement.{statement}
 use Rattle.search.proofs.removable.Tie as tie
 
@@ -16,7 +16,8 @@ within-requires : tie.Need-within-requires
 within-requires c κs = let s = c .before in rw (toZ-ofZ (s .fits .x), toZ-ofZ (s .fits .r)) (s .pre .1 .1 .0, s .pre .0)
 
 -- what the first test decides, of the figures themselves
-own : (c : tie.After-within) → Decides (Stays (c .before .before .args .x) (c .before .before .args .r) (c .before .before .args .l) (c .before .before .args .u)) (c .within .result)
+own : (c : tie.After-within) → Reflects (Stays (c .before .before .args .x) (c .before .before .args .r) (c .before .before .args .l)
+    (c .before .before .args .u)) (c .within .result)
 own c = let s = c .before .before in rw (toZ-ofZ (s .fits .x), toZ-ofZ (s .fits .r), toZ-ofZ (s .fits .l), toZ-ofZ (s .fits .u)) at (c .within .ensures)
 
 within-requires-2 : tie.Need-within-requires-2

@@ -4,7 +4,8 @@ use mathlib.Core.Bool.{Bool, true, false, not}
 use Prim.Native.Nat.{ℕ, suc}
 use native.Mathlib.Omega.{arith}
 use borrow.Author.Needs.{needs}
-use Rattle.search.specs.Steps.{Long, After}
+use Rattle.setting.specs.Box.{Long}
+use Rattle.search.specs.Steps.{After}
 use Rattle.search.proofs.Finish.{Going, Fresh, fresh-top, left, going-first, going-on, going-less, fresh-on, searched}
 use Rattle.search.proofs.run.Statement.{statement}
 use Rattle.search.proofs.run.Tie as tie
@@ -38,19 +39,25 @@ step-requires : tie.Need-step-requires Inv-loop μ-loop
 step-requires c κs =
     let l = c .before .before in
     let v = l .loop .inv in
-    record { ready = l .before .before .before .pre; started = v .0 .started; proper = v .0 .good .proper; from-in = v .1 .0 .from-in; passed = v .1 .0 .passed }
+    record {
+      ready = l .before .before .before .pre;
+      started = v .0 .started;
+      proper = v .0 .good .proper;
+      from-in = v .1 .0 .from-in;
+      passed = v .1 .0 .passed;
+    }
 
 -- a test that is turned round
-turned-true : (b : Bool) → not b ≡ true → b ≡ false
-turned-true true h = sym h
-turned-true false h = refl
+not-true : (b : Bool) → not b ≡ true → b ≡ false
+not-true true h = sym h
+not-true false h = refl
 
-turned-false : (b : Bool) → not b ≡ false → b ≡ true
-turned-false true h = refl
-turned-false false h = sym h
+not-false : (b : Bool) → not b ≡ false → b ≡ true
+not-false true h = refl
+not-false false h = sym h
 
 on : (c : tie.Then1 Inv-loop μ-loop) → c .before .before .loop .q .done ≡ false
-on c = turned-true (c .before .before .loop .q .done) (c .if1 .taken)
+on c = not-true (c .before .before .loop .q .done) (c .if1 .taken)
 
 loop-less : tie.Need-loop-less Inv-loop μ-loop
 loop-less c =
@@ -78,8 +85,10 @@ returns : tie.Need-returns Inv-loop μ-loop
 returns c =
     let l = c .before .before in
     let s = l .before .before .before in
-    let over = turned-false (l .loop .q .done) (c .if1 .left) in
-    (searched (s .args .s) (s .pre .setting) (l .loop .q) (l .loop .inv .0) over, record { count = l .loop .inv .1 .1 .0; after = l .loop .inv .1 .1 .1; over = over })
+    let over = not-false (l .loop .q .done) (c .if1 .left) in (
+      searched (s .args .s) (s .pre .setting) (l .loop .q) (l .loop .inv .0) over,
+      record { count = l .loop .inv .1 .1 .0; after = l .loop .inv .1 .1 .1; over = over },
+    )
 
 pub run-spec : {M : Type 1} → statement M
 run-spec = tie.close (tie.spec Inv-loop μ-loop dive-requires no-incumbent-requires loop-holds step-requires loop-less loop-again returns)

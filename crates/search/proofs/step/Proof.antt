@@ -12,9 +12,9 @@ use Rattle.greedy.specs.Fill.{at}
 use Rattle.places.specs.Moves.{SettledIn, pastOf}
 use Rattle.places.proofs.Steps.{moved-at, moved-done}
 use Rattle.search.specs.declared.Path.{Path}
-use Rattle.search.specs.Steps.{LongPath, Dived, Turnable, turnedAt, Stepped}
-use Rattle.search.proofs.Dives.{dived-none, turn-inside, turned-by}
-use Rattle.search.proofs.Turns.{looked-in, wider, past-started, MoveIn, move-in}
+use Rattle.search.specs.Steps.{LongPath, Dived, MoveInRange, movedAt, Stepped}
+use Rattle.search.proofs.Dives.{dived-none, moved-inside, moved-by}
+use Rattle.search.proofs.Moving.{looked-in, wider, past-started, MoveIn, move-in}
 use Rattle.search.proofs.step.Statement.{statement}
 use Rattle.search.proofs.step.Tie as tie
 
@@ -25,7 +25,8 @@ counted-requires : tie.Need-counted-requires
 counted-requires c κs = search needs
 
 settled-in : (c : tie.After-look) → SettledIn (c .before .before .before .args .s .levels) (c .look .result .settled)
-settled-in c = let s = c .before .before .before in looked-in (s .args .s) (s .args .p) (s .args .q .path) (s .args .q .best) (record { best = c .look .result .best; better = c .look .result .better }) (c .look .result .settled) (c .look .ensures)
+settled-in c = let s = c .before .before .before in looked-in (s .args .s) (s .args .p) (s .args .q .path) (s .args .q .best)
+    (record { best = c .look .result .best; better = c .look .result .better }) (c .look .result .settled) (c .look .ensures)
 
 past-requires : tie.Need-past-requires
 past-requires c κs =
@@ -38,30 +39,51 @@ enum-known-o c = search needs
 
 -- where the verdict leads
 abbrev goal : tie.After-past → Option (ℕ × ℤ)
-goal c = pastOf (c .before .before .before .before .before .before .before .look .result .settled) (at (c .before .before .before .before .before .before .before .before .before .before .args .s .low)) (at (c .before .before .before .before .before .before .before .before .before .before .args .s .high)) (at (c .before .before .before .before .before .before .before .before .before .before .args .q .path .starts)) (at (c .before .before .before .before .before .before .before .before .before .before .args .q .path .place))
+goal c = pastOf (c .before .before .before .before .before .before .before .look .result .settled)
+    (at (c .before .before .before .before .before .before .before .before .before .before .args .s .low))
+    (at (c .before .before .before .before .before .before .before .before .before .before .args .s .high))
+    (at (c .before .before .before .before .before .before .before .before .before .before .args .q .path .starts))
+    (at (c .before .before .before .before .before .before .before .before .before .before .args .q .path .place))
+
+-- the moments that are spoken of below
+abbrev after-look : tie.After-known-told → tie.After-look
+after-look c = c .before .before .before .before .before .before .before .before .before .before
+
+abbrev start : tie.After-known-told → tie.Start
+start c = c .before .before .before .before .before .before .before .before .before .before .before .before .before
 
 module _ (c : tie.After-known-told) where
   went : goal (c .before .before .before) ≡ some (c .before .o .given .0 .0, c .before .o .given .0 .1 .0)
-  went = moved-at (goal (c .before .before .before)) (c .before .o .given .0 .0) (c .before .o .given .0 .1 .0) (sym (c .before .o .given .1) ∙ c .before .before .before .past .ensures)
+  went = moved-at (goal (c .before .before .before)) (c .before .o .given .0 .0) (c .before .o .given .0 .1 .0)
+      (sym (c .before .o .given .1) ∙ c .before .before .before .past .ensures)
 
-  moves : MoveIn (c .before .before .before .before .before .before .before .before .before .before .before .before .before .args .s) (c .before .before .before .before .before .before .before .before .before .before .look .result .settled) (c .before .o .given .0 .0) (c .before .o .given .0 .1 .0)
+  moves : MoveIn (start c .args .s) (after-look c .look .result .settled) (c .before .o .given .0 .0) (c .before .o .given .0 .1 .0)
   moves =
-      let k = c .before .before .before .before .before .before .before .before .before .before in
+      let k = after-look c in
       let s = k .before .before .before in
       let w = k .look .result .settled in
-      move-in (s .args .s) (s .pre .ready .setting) (s .pre .started .long) (at (s .args .q .path .place)) (s .pre .started .inside) w (settled-in k) (c .before .o .given .0 .0) (c .before .o .given .0 .1 .0)
+      move-in (s .args .s) (s .pre .ready .setting) (s .pre .started .long) (at (s .args .q .path .place)) (s .pre .started .inside) w (settled-in k)
+      (c .before .o .given .0 .0) (c .before .o .given .0 .1 .0)
       (sym (past-started (s .args .s) (s .args .q .path) w (s .pre .started) (settled-in k)) ∙ went)
 
   -- the move can be made
-  turnable : Turnable (c .before .before .before .before .before .before .before .before .before .before .before .before .before .args .s) (c .before .before .before .before .before .before .before .before .before .before .before .before .before .args .q .path) (c .before .o .given .0 .0) (c .before .o .given .0 .1 .0)
-  turnable = let s = c .before .before .before .before .before .before .before .before .before .before .before .before .before in record { ready = s .pre .ready .setting; started = s .pre .started; level-in = moves .level-in; low = moves .low; high = moves .high }
+  move-in-range : MoveInRange (start c .args .s) (start c .args .q .path) (c .before .o .given .0 .0) (c .before .o .given .0 .1 .0)
+  move-in-range = let s = start c in
+      record { ready = s .pre .ready .setting; started = s .pre .started; level-in = moves .level-in; low = moves .low; high = moves .high }
 
-turn-requires : tie.Need-turn-requires
-turn-requires c κs = omega (arith, moves c .level-in, c .before .before .before .before .before .before .before .before .before .before .before .before .before .pre .ready .setting .few)
+move-to-requires : tie.Need-move-to-requires
+move-to-requires c κs =
+    omega (
+      arith,
+      moves c .level-in,
+      c .before .before .before .before .before .before .before .before .before .before .before .before .before .pre .ready .setting .few,
+    )
 
 -- the path that the dive goes on from
-turned : (c : tie.After-turn) → c .turn .result ≡ turnedAt (c .before .before .before .before .before .before .before .before .before .before .before .before .before .before .args .q .path) (c .before .before .o .given .0 .0) (c .before .before .o .given .0 .1 .0)
-turned c = let t = c .before in rw (back (t .before .o .given .0 .1 .0) (t .known-told .given .1 .0 .1)) at (c .turn .ensures .0)
+moved : (c : tie.After-move-to) → c .move-to .result ≡ movedAt
+    (c .before .before .before .before .before .before .before .before .before .before .before .before .before .before .args .q .path)
+    (c .before .before .o .given .0 .0) (c .before .before .o .given .0 .1 .0)
+moved c = let t = c .before in rw (back (t .before .o .given .0 .1 .0) (t .known-told .given .1 .0 .1)) at (c .move-to .ensures .0)
 
 fresh-requires : tie.Need-fresh-requires
 fresh-requires c κs = search needs
@@ -71,7 +93,11 @@ abbrev Told : tie.After-fresh → tie.After-known-told
 Told f = f .before .before
 
 next-in : (f : tie.After-fresh) → Told f .before .o .given .0 .0 + 1 ≤ 16
-next-in f = let t = Told f in omega (arith, moves t .level-in, t .before .before .before .before .before .before .before .before .before .before .before .before .before .pre .ready .setting .few)
+next-in f = let t = Told f in omega (
+  arith,
+  moves t .level-in,
+  t .before .before .before .before .before .before .before .before .before .before .before .before .before .pre .ready .setting .few,
+)
 
 add-if1 : tie.Need-add-if1
 add-if1 c = omega (arith, next-in c)
@@ -84,11 +110,29 @@ dive-requires c κs =
     let f = c .before .before in
     let t = Told f in
     let s = t .before .before .before .before .before .before .before .before .before .before .before .before .before in
-    rw (turned (f .before)) (s .pre .ready .setting, (omega (arith, moves t .level-in), turn-inside (s .args .s) (s .args .q .path) (t .before .o .given .0 .0) (t .before .o .given .0 .1 .0) (turnable t) (f .before .turn .ensures .1)))
+    rw (moved (f .before)) (
+      s .pre .ready .setting,
+      (
+        omega (arith, moves t .level-in),
+        moved-inside (s .args .s) (s .args .q .path) (t .before .o .given .0 .0)
+            (t .before .o .given .0 .1 .0) (move-in-range t) (f .before .move-to .ensures .1),
+      ),
+    )
 
 -- a step that goes on along the path r
-onward : (f : tie.After-fresh) (r : Path) → Dived (Told f .before .before .before .before .before .before .before .before .before .before .before .before .before .args .s) (Told f .before .o .given .0 .0 + 1) (f .before .turn .result) r
-    → Stepped (Told f .before .before .before .before .before .before .before .before .before .before .before .before .before .args .s) (Told f .before .before .before .before .before .before .before .before .before .before .before .before .before .args .p) (Told f .before .before .before .before .before .before .before .before .before .before .before .before .before .args .q) (record { path = r; best = Told f .before .before .before .before .before .before .before .before .before .before .look .result .best; steps = Told f .before .before .before .before .before .before .before .before .counted .result; from = f .fresh .result; done = false })
+onward : (f : tie.After-fresh) (r : Path) → Dived
+    (Told f .before .before .before .before .before .before .before .before .before .before .before .before .before .args .s)
+    (Told f .before .o .given .0 .0 + 1) (f .before .move-to .result) r
+    → Stepped (Told f .before .before .before .before .before .before .before .before .before .before .before .before .before .args .s)
+    (Told f .before .before .before .before .before .before .before .before .before .before .before .before .before .args .p)
+    (Told f .before .before .before .before .before .before .before .before .before .before .before .before .before .args .q)
+    (record {
+      path = r;
+      best = Told f .before .before .before .before .before .before .before .before .before .before .look .result .best;
+      steps = Told f .before .before .before .before .before .before .before .before .counted .result;
+      from = f .fresh .result;
+      done = false;
+    })
 onward f r d =
     let u = f .before in
     let t = Told f in
@@ -98,7 +142,14 @@ onward f r d =
       verdict = k .look .result .settled;
       better = k .look .result .better;
       looked = k .look .ensures;
-      went = rw (went t) (refl, (turned-by (s .args .s) (s .args .q .path) (t .before .o .given .0 .0) (t .before .o .given .0 .1 .0) (turnable t) (u .turn .ensures .1) r (subst (λ z. Dived (s .args .s) (t .before .o .given .0 .0 + 1) z r) (turned u) d), f .fresh .ensures));
+      went = rw (went t) (
+        refl,
+        (
+          moved-by (s .args .s) (s .args .q .path) (t .before .o .given .0 .0) (t .before .o .given .0 .1 .0) (move-in-range t)
+              (u .move-to .ensures .1) r (subst (λ z. Dived (s .args .s) (t .before .o .given .0 .0 + 1) z r) (moved u) d),
+          f .fresh .ensures,
+        ),
+      );
       counted = t .before .before .before .before .before .before .before .before .counted .ensures;
     }
 
@@ -114,9 +165,10 @@ returns-2 c =
     let f = c .before .before in
     let u = f .before in
     let s = Told f .before .before .before .before .before .before .before .before .before .before .before .before .before in
-    let l = u .turn .ensures .1 in
-    let long : LongPath (u .turn .result) = rw (u .turn .ensures .0) (record { place-long = simp length-set (l .place-long); starts-long = l .starts-long }) in
-    onward f (u .turn .result) (dived-none (s .args .s) _ (u .turn .result) (c .if1 .left) long)
+    let l = u .move-to .ensures .1 in
+    let long : LongPath (u .move-to .result) =
+    rw (u .move-to .ensures .0) (record { place-long = simp length-set (l .place-long); starts-long = l .starts-long }) in
+    onward f (u .move-to .result) (dived-none (s .args .s) _ (u .move-to .result) (c .if1 .left) long)
 
 returns-3 : tie.Need-returns-3
 returns-3 c =
@@ -138,7 +190,7 @@ step-spec =
     counted-requires
     past-requires
     enum-known-o
-    turn-requires
+    move-to-requires
     fresh-requires
     add-if1
     add-dive

@@ -9,7 +9,7 @@ use Rattle.greedy.specs.Fill.{fill, bound}
 use Rattle.greedy.specs.Sized.{SizedFill}
 use Rattle.greedy.proofs.Sizes.{fill-sized}
 use Rattle.search.specs.Search.{betterBy, triedBy}
-use Rattle.search.proofs.Bounds.{bound-proper}
+use Rattle.greedy.proofs.Bounds.{bound-proper}
 use borrow.Author.Needs.{needs}
 use Rattle.search.proofs.tried.Statement.{statement}
 use Rattle.search.proofs.tried.Tie as tie
@@ -28,15 +28,26 @@ returns c =
     let t = rw (f, within-back tt (sized s .room-in)) at (c .if1 .taken) in
     record { best-is = rw t; better-is = rw t }
 
-not-empty : (c : tie.Else1) → ltZ (fill (c .before .before .before .before .args .c) (c .before .before .before .before .args .e) .room) (pos 0) ≡ false
+-- the moments that are spoken of below
+abbrev start-by-else1 : tie.Else1 → tie.Start
+start-by-else1 c = c .before .before .before .before
+
+abbrev start-by-bound-of : tie.After-bound-of → tie.Start
+start-by-bound-of c = c .before .before .before .before .before
+
+abbrev start-by-less : tie.After-less → tie.Start
+start-by-less c = c .before .before .before .before .before .before .before .before
+
+not-empty : (c : tie.Else1) → ltZ (fill (start-by-else1 c .args .c) (start-by-else1 c .args .e) .room) (pos 0) ≡ false
 not-empty c =
-    let s = c .before .before .before .before in
+    let s = start-by-else1 c in
     rw (c .before .before .before .fill-up .ensures, within-back tt (sized s .room-in)) at (c .if1 .left)
 
 bound-of-requires : tie.Need-bound-of-requires
-bound-of-requires c κs = let s = c .before .before .before .before in rw (c .before .before .before .fill-up .ensures) (sized s)
+bound-of-requires c κs = let s = start-by-else1 c in rw (c .before .before .before .fill-up .ensures) (sized s)
 
-bound-is : (c : tie.After-bound-of) → c .bound-of .result ≡ bound (c .before .before .before .before .before .args .c) (fill (c .before .before .before .before .before .args .c) (c .before .before .before .before .before .args .e))
+bound-is : (c : tie.After-bound-of) → c .bound-of .result ≡ bound (start-by-bound-of c .args .c)
+    (fill (start-by-bound-of c .args .c) (start-by-bound-of c .args .e))
 bound-is c = rw (c .before .before .before .before .fill-up .ensures) at (c .bound-of .ensures)
 
 less-requires : tie.Need-less-requires
@@ -46,23 +57,25 @@ less-requires c κs =
     (s .pre .proper (t .if2 .taken), rw (bound-is (t .before)) (bound-proper _ _ (sized s)))
 
 -- a test that is turned round
-turned-true : (b : Bool) → not b ≡ true → b ≡ false
-turned-true true h = sym h
-turned-true false h = refl
+not-true : (b : Bool) → not b ≡ true → b ≡ false
+not-true true h = sym h
+not-true false h = refl
 
-turned-false : (b : Bool) → not b ≡ false → b ≡ true
-turned-false true h = refl
-turned-false false h = sym h
+not-false : (b : Bool) → not b ≡ false → b ≡ true
+not-false true h = refl
+not-false false h = sym h
 
-compared : (c : tie.After-less) → c .less .result ≡ lessMixed (c .before .before .before .before .before .before .before .before .args .best .value) (bound (c .before .before .before .before .before .before .before .before .args .c) (fill (c .before .before .before .before .before .before .before .before .args .c) (c .before .before .before .before .before .before .before .before .args .e)))
-compared c = c .less .ensures ∙ ap (λ v. lessMixed (c .before .before .before .before .before .before .before .before .args .best .value) v) (bound-is (c .before .before .before))
+compared : (c : tie.After-less) → c .less .result ≡ lessMixed (start-by-less c .args .best .value)
+    (bound (start-by-less c .args .c) (fill (start-by-less c .args .c) (start-by-less c .args .e)))
+compared c = c .less .ensures ∙ ap (λ v. lessMixed (start-by-less c .args .best .value) v)
+    (bound-is (c .before .before .before))
 
 returns-2 : tie.Need-returns-2
 unfolding triedBy betterBy
 returns-2 c =
     let d = c .before in
     let t = d .before .before in
-    let l = sym (compared d) ∙ turned-true (d .less .result) (c .if3 .taken) in
+    let l = sym (compared d) ∙ not-true (d .less .result) (c .if3 .taken) in
     record { best-is = rw (not-empty (t .before .before), t .if2 .taken, l); better-is = rw (not-empty (t .before .before), t .if2 .taken, l) }
 
 returns-3 : tie.Need-returns-3
@@ -70,16 +83,24 @@ unfolding triedBy betterBy
 returns-3 c =
     let d = c .before in
     let t = d .before .before in
-    let l = sym (compared d) ∙ turned-false (d .less .result) (c .if3 .left) in
+    let l = sym (compared d) ∙ not-false (d .less .result) (c .if3 .left) in
     record {
-      best-is = rw (not-empty (t .before .before), t .if2 .taken, l) (ap (λ v. record { found = true; place = t .before .before .before .before .before .before .args .x; value = v }) (bound-is (t .before)));
+      best-is = rw (not-empty (t .before .before), t .if2 .taken, l) (ap (λ v. record {
+        found = true;
+        place = t .before .before .before .before .before .before .args .x;
+        value = v;
+      }) (bound-is (t .before)));
       better-is = rw (not-empty (t .before .before), t .if2 .taken, l);
     }
 
 returns-4 : tie.Need-returns-4
 unfolding triedBy betterBy
 returns-4 c = record {
-  best-is = rw (not-empty (c .before .before), c .if2 .left) (ap (λ v. record { found = true; place = c .before .before .before .before .before .before .args .x; value = v }) (bound-is (c .before)));
+  best-is = rw (not-empty (c .before .before), c .if2 .left) (ap (λ v. record {
+    found = true;
+    place = c .before .before .before .before .before .before .args .x;
+    value = v;
+  }) (bound-is (c .before)));
   better-is = rw (not-empty (c .before .before), c .if2 .left);
 }
 

@@ -8,7 +8,7 @@ use mir.Facts.{toZ-ofZ}
 use Rattle.arith.specs.Within.{Within}
 use Rattle.arith.proofs.Parts.{impossible, within-sub, within-sfits, within-back}
 use Rattle.arith.proofs.Words.{yes-lt, no-lt}
-use Rattle.search.specs.Search.{Stays, Decides}
+use Rattle.search.specs.Search.{Stays, Reflects}
 use Rattle.search.proofs.within.Statement.{statement}
 use Rattle.search.proofs.within.Tie as tie
 
@@ -29,9 +29,10 @@ returns-2 : tie.Need-returns-2
 returns-2 c =
     let s = c .before in
     let low = rw (toZ-ofZ (s .fits .x), toZ-ofZ (s .fits .r), within-back tt (difference s), toZ-ofZ (s .fits .l)) at (c .if1 .left) in
-    rw (toZ-ofZ (s .fits .x), toZ-ofZ (s .fits .r), within-back tt (difference s), toZ-ofZ (s .fits .u)) (decided (s .args .x) (s .args .r) (s .args .l) (s .args .u) (no-lt low) (ltZ (s .args .u) (s .args .x -ℤ s .args .r)) refl)
+    rw (toZ-ofZ (s .fits .x), toZ-ofZ (s .fits .r), within-back tt (difference s), toZ-ofZ (s .fits .u))
+    (decided (s .args .x) (s .args .r) (s .args .l) (s .args .u) (no-lt low) (ltZ (s .args .u) (s .args .x -ℤ s .args .r)) refl)
   where
-    decided : (x r l u : ℤ) → l ≤ℤ (x -ℤ r) → (t : Bool) → ltZ u (x -ℤ r) ≡ t → Decides (Stays x r l u) (not t)
+    decided : (x r l u : ℤ) → l ≤ℤ (x -ℤ r) → (t : Bool) → ltZ u (x -ℤ r) ≡ t → Reflects (Stays x r l u) (not t)
     decided x r l u h true q = record { holds = λ e. absurd (impossible e); fails = λ e z. clashℤ (yes-lt q) (z .high) }
     decided x r l u h false q = record { holds = λ e. record { low = h; high = no-lt q }; fails = λ e z. absurd (impossible (sym e)) }
 

@@ -1,54 +1,51 @@
-use Prim.Native.Nat.{suc, _-_}
-use mathlib.Core.Path.{_≡_, refl, sym, ap, _∙_}
+use mathlib.Core.Path.{_≡_, refl, ap, _∙_}
+use Prim.Native.Nat.{suc, _≤_, _-_}
+use native.Mathlib.Numerals.{add-one}
 use native.Mathlib.Omega.{arith}
-use Rattle.sheet.specs.Reading.{boundLines}
+use Rattle.sheet.specs.Sections.{stepOf, linesOf}
+use Rattle.sheet.specs.Reading.{boundForm}
 use Rattle.sheet.proofs.Steps.{Few, bound-few}
 use Rattle.sheet.proofs.bound_lines.Statement.{statement}
 use Rattle.sheet.proofs.bound_lines.Tie as tie
 
 abbrev Inv-loop : tie.InvT-loop
-Inv-loop s side m r₀ left₀ r left = Few r × (boundLines m s side r₀ ≡ boundLines left s side r)
+Inv-loop s side n r₀ k₀ r k = (k ≤ n) × (Few r × (r ≡ linesOf (boundForm side) k s r₀))
 
 abbrev μ-loop : tie.MeasureT-loop
-μ-loop s side m r₀ left₀ r left = left
+μ-loop s side n r₀ k₀ r k = n - k
 
 loop-holds : tie.Need-loop-holds Inv-loop μ-loop
-loop-holds c = (c .before .pre, refl)
+unfolding linesOf
+loop-holds c = (omega arith, (omega arith, refl))
 
 bound-step-requires : tie.Need-bound-step-requires Inv-loop μ-loop
-bound-step-requires c κs = c .before .loop .inv .0
+bound-step-requires c κs = omega arith
 
-sub-left : tie.Need-sub-left Inv-loop μ-loop
-sub-left c = omega arith
+add-k : tie.Need-add-k Inv-loop μ-loop
+add-k c = omega arith
 
 loop-less : tie.Need-loop-less Inv-loop μ-loop
 loop-less c = omega arith
 
 loop-again : tie.Need-loop-again Inv-loop μ-loop
-unfolding boundLines
+unfolding linesOf
 loop-again c =
     let l = c .before .before in
-    let s = l .before .before .args .s .now in
-    let side = l .before .before .args .side in
-    let q : l .loop .left ≡ suc (l .loop .left - 1) = omega arith in
-    rw (c .bound-step .ensures) (bound-few s side (l .loop .r) (l .loop .inv .0), l .loop .inv .1 ∙ ap (λ n. boundLines n s side (l .loop .r)) q)
+    let a = l .before .before .args in
+    let s = a .s .now in
+    let e = c .bound-step .ensures in (
+      omega arith,
+      (rw e (bound-few s (a .side) (l .loop .r) (l .loop .inv .1 .0)), rw add-one (e ∙ ap (stepOf (boundForm (a .side)) s) (l .loop .inv .1 .1))),
+    )
 
 returns : tie.Need-returns Inv-loop μ-loop
-unfolding boundLines
 returns c =
     let l = c .before in
-    let q : l .loop .left ≡ 0 = omega arith in
-    sym (l .loop .inv .1 ∙ ap (λ n. boundLines n (l .before .before .args .s .now) (l .before .before .args .side) (l .loop .r)) q)
+    let a = l .before .before .args in
+    let q : l .loop .k ≡ a .n = omega arith in
+    rw q at (l .loop .inv .1 .1)
 
 pub bound-lines-spec : {M : Type 1} → statement M
 bound-lines-spec =
     tie.close
-    (tie.spec
-    Inv-loop
-    μ-loop
-    loop-holds
-    bound-step-requires
-    sub-left
-    loop-less
-    loop-again
-    returns)
+    (tie.spec Inv-loop μ-loop loop-holds bound-step-requires add-k loop-less loop-again returns)

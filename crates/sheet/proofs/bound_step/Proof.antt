@@ -1,8 +1,8 @@
-use Rattle.sheet.specs.Reading.{boundStep}
 use mathlib.Core.Path.{sym, _∙_}
 use native.Mathlib.Omega.{arith}
 use Rattle.arith.proofs.Words.{back}
 use Rattle.lines.proofs.Shapes.{bound-parts}
+use Rattle.sheet.specs.Sections.{stepOf}
 use borrow.Author.Needs.{needs}
 use Rattle.sheet.proofs.bound_step.Statement.{statement}
 use Rattle.sheet.proofs.bound_step.Tie as tie
@@ -25,26 +25,28 @@ refused-requires c κs = search needs
 enum-known-r-2 : tie.Need-enum-known-r-2
 enum-known-r-2 c = search needs
 
-with-bound-requires : tie.Need-with-bound-requires
-with-bound-requires c κs =
+bound-taken-requires : tie.Need-bound-taken-requires
+bound-taken-requires c κs =
     let k = c .before .before .before in let p = bound-parts _ _ _ _ _ _ _ (sym (k .bound-at .ensures) ∙ c .before .r2 .given .1) in omega arith
 
 returns : tie.Need-returns
-unfolding boundStep
+unfolding stepOf
 returns c = rw (c .enum-told .given .1)
 
 returns-2 : tie.Need-returns-2
-unfolding boundStep
+unfolding stepOf
 returns-2 c =
-    let k = c .before .before .before .before in
-    rw (k .before .before .enum-told2 .given .1, sym (k .bound-at .ensures) ∙ c .before .before .r .given .1) (c .refused .ensures)
+    let k = c .before .before in
+    let l = k .before .before in
+    rw (l .before .before .enum-told2 .given .1, sym (l .bound-at .ensures) ∙ k .r .given .1) (c .refused .ensures)
 
 returns-3 : tie.Need-returns-3
-unfolding boundStep
+unfolding stepOf
 returns-3 c =
-    let k = c .before .before .before .before in
-    rw (k .before .before .enum-told2 .given .1, sym (k .bound-at .ensures) ∙ c .before .before .r2 .given .1)
-    (rw (back (c .before .before .r2 .given .0 .1 .0) (c .before .known-told2 .given .1 .0 .1)) at (c .with-bound .ensures))
+    let k = c .before .before in
+    let l = k .before .before in
+    rw (l .before .before .enum-told2 .given .1, sym (l .bound-at .ensures) ∙ k .r2 .given .1)
+    (rw (back (k .r2 .given .0 .1 .0) (c .before .known-told2 .given .1 .0 .1)) at (c .bound-taken .ensures))
 
 pub bound-step-spec : {M : Type 1} → statement M
 bound-step-spec =
@@ -56,7 +58,7 @@ bound-step-spec =
     enum-known-r
     refused-requires
     enum-known-r-2
-    with-bound-requires
+    bound-taken-requires
     returns
     returns-2
     returns-3)

@@ -16,7 +16,7 @@ slice-aggregate-heading : tie.Need-slice-aggregate-heading
 slice-aggregate-heading c = search needs
 
 heading-requires : tie.Need-heading-requires
-heading-requires c κs = rw (toZ-pos w64 {n = c .before .before .before .before .args .n} (omega arith)) (omega (arith, zs))
+heading-requires c κs = let w = c .before .before in rw (toZ-pos w64 {n = w .before .before .args .n} (omega arith)) (omega (arith, zs))
 
 enum-told-2 : tie.Need-enum-told-2
 enum-told-2 c = search needs
@@ -25,17 +25,19 @@ slice-aggregate-heading-2 : tie.Need-slice-aggregate-heading-2
 slice-aggregate-heading-2 c = search needs
 
 heading-requires-2 : tie.Need-heading-requires-2
-heading-requires-2 c κs = rw (toZ-pos w64 {n = c .before .before .before .before .args .n} (omega arith)) (omega (arith, zs))
+heading-requires-2 c κs = let w = c .before .before in rw (toZ-pos w64 {n = w .before .before .args .n} (omega arith)) (omega (arith, zs))
 
 returns : tie.Need-returns
 returns c =
-    let e = toZ-pos w64 {n = c .before .before .before .before .before .args .n} (omega arith) in
-    rw (c .before .before .enum-told .given .1) (rw e at (c .heading .ensures))
+    let w = c .before .before in
+    let e = toZ-pos w64 {n = w .before .before .before .args .n} (omega arith) in
+    rw (w .enum-told .given .1) (rw e at (c .heading .ensures))
 
 returns-2 : tie.Need-returns-2
 returns-2 c =
-    let e = toZ-pos w64 {n = c .before .before .before .before .before .args .n} (omega arith) in
-    rw (c .before .before .enum-told2 .given .1) (rw e at (c .heading2 .ensures))
+    let w = c .before .before in
+    let e = toZ-pos w64 {n = w .before .before .before .args .n} (omega arith) in
+    rw (w .enum-told2 .given .1) (rw e at (c .heading2 .ensures))
 
 pub bounds-heading-spec : {M : Type 1} → statement M
 bounds-heading-spec =

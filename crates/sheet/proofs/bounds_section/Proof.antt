@@ -1,6 +1,7 @@
-use Rattle.sheet.specs.Reading.{boundsSection}
 use mathlib.Core.Path.{sym, _∙_}
 use native.Mathlib.Omega.{arith}
+use Rattle.sheet.specs.Sections.{sectionOf}
+use Rattle.sheet.specs.Reading.{boundsSection}
 use borrow.Author.Needs.{needs}
 use Rattle.sheet.proofs.bounds_section.Statement.{statement}
 use Rattle.sheet.proofs.bounds_section.Tie as tie
@@ -23,32 +24,30 @@ refused-requires c κs = search needs
 enum-known-c-2 : tie.Need-enum-known-c-2
 enum-known-c-2 c = search needs
 
-from-place-requires : tie.Need-from-place-requires
-from-place-requires c κs = search needs
+goes-on-requires : tie.Need-goes-on-requires
+goes-on-requires c κs = search needs
 
 bound-lines-requires : tie.Need-bound-lines-requires
-bound-lines-requires c κs = rw (c .from-place .ensures) (omega arith)
+bound-lines-requires c κs = rw (c .goes-on .ensures) (omega arith)
 
 returns : tie.Need-returns
-unfolding boundsSection
+unfolding boundsSection sectionOf
 returns c = rw (c .enum-told .given .1)
 
 returns-2 : tie.Need-returns-2
-unfolding boundsSection
+unfolding boundsSection sectionOf
 returns-2 c =
-    let k = c .before .before .before .before in
-    rw (k .before .before .enum-told2 .given .1, sym (k .bounds-heading .ensures) ∙ c .before .before .c .given .1) (c .refused .ensures)
+    let k = c .before .before in
+    let h = k .before .before in
+    rw (h .before .before .enum-told2 .given .1, sym (h .bounds-heading .ensures) ∙ k .c .given .1) (c .refused .ensures)
 
 returns-3 : tie.Need-returns-3
-unfolding boundsSection
+unfolding boundsSection sectionOf
 returns-3 c =
-    let k = c .before .before .before .before .before in
-    rw (
-      k .before .before .enum-told2 .given .1,
-      sym (k .bounds-heading .ensures) ∙ c .before .before .before .c2 .given .1,
-      ← c .before .from-place .ensures,
-    )
-    (c .bound-lines .ensures)
+    let g = c .before in
+    let k = g .before .before in
+    let h = k .before .before in
+    rw (h .before .before .enum-told2 .given .1, sym (h .bounds-heading .ensures) ∙ k .c2 .given .1, ← g .goes-on .ensures) (c .bound-lines .ensures)
 
 pub bounds-section-spec : {M : Type 1} → statement M
 bounds-section-spec =
@@ -60,7 +59,7 @@ bounds-section-spec =
     enum-known-c
     refused-requires
     enum-known-c-2
-    from-place-requires
+    goes-on-requires
     bound-lines-requires
     returns
     returns-2

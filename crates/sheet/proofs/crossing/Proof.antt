@@ -4,7 +4,7 @@ use native.Mathlib.Nat.{sub-zero}
 use native.Mathlib.Numerals.{add-one}
 use native.Mathlib.Omega.{arith}
 use borrow.Author.Needs.{needs}
-use Rattle.knapsack.specs.Records.{itemAt}
+use Rattle.model.specs.Records.{itemAt}
 use Rattle.sheet.specs.Reading.{crossFrom}
 use Rattle.sheet.proofs.Crossings.{cross-here, cross-later, cross-none, upper-near}
 use Rattle.sheet.proofs.crossing.Statement.{statement}
@@ -29,16 +29,18 @@ element-copy-out-item c = omega arith
 upper-line-requires : tie.Need-upper-line-requires Inv-loop μ-loop
 upper-line-requires c κs = omega arith
 
-cross-requires : tie.Need-cross-requires Inv-loop μ-loop
-cross-requires c κs = search needs
+crossed-bounds-requires : tie.Need-crossed-bounds-requires Inv-loop μ-loop
+crossed-bounds-requires c κs = search needs
 
 returns : tie.Need-returns Inv-loop μ-loop
 returns c =
-    let l = c .before .before .before .before .before in
+    let u = c .before .before in
+    let l = u .before .before .before in
     let p = l .before .args .t1 in
     let k = l .loop .k in
     let q : p .count - k ≡ suc (p .count - (k + 1)) = omega arith in
-    sym (l .loop .inv .1 .1 ∙ rw (q, c .before .before .upper-line .ensures) (cross-here (p .count - (k + 1)) (itemAt p) k (l .loop .line) (sym (c .before .cross .ensures) ∙ c .if1 .taken)))
+    let t = sym (c .before .crossed-bounds .ensures) ∙ c .if1 .taken in
+    sym (l .loop .inv .1 .1 ∙ rw (q, u .upper-line .ensures) (cross-here (p .count - (k + 1)) (itemAt p) k (l .loop .line) t))
 
 add-k : tie.Need-add-k Inv-loop μ-loop
 add-k c = omega arith
@@ -48,13 +50,15 @@ loop-less c = omega arith
 
 loop-again : tie.Need-loop-again Inv-loop μ-loop
 loop-again c =
-    let l = c .before .before .before .before .before in
+    let u = c .before .before in
+    let l = u .before .before .before in
     let p = l .before .args .t1 in
     let k = l .loop .k in
     let q : p .count - k ≡ suc (p .count - suc k) = omega arith in
-    let u = upper-near (itemAt p k .upper) (l .loop .line) in
-    let e = c .before .before .upper-line .ensures in
-    (omega arith, (rw e (omega arith), l .loop .inv .1 .1 ∙ rw (q, e, add-one) (cross-later (p .count - suc k) (itemAt p) k (l .loop .line) (sym (c .before .cross .ensures) ∙ c .if1 .left))))
+    let n = upper-near (itemAt p k .upper) (l .loop .line) in
+    let e = u .upper-line .ensures in
+    let t = sym (c .before .crossed-bounds .ensures) ∙ c .if1 .left in
+    (omega arith, (rw e (omega arith), l .loop .inv .1 .1 ∙ rw (q, e, add-one) (cross-later (p .count - suc k) (itemAt p) k (l .loop .line) t)))
 
 returns-2 : tie.Need-returns-2 Inv-loop μ-loop
 returns-2 c =
@@ -72,7 +76,7 @@ crossing-spec =
     mul-item
     element-copy-out-item
     upper-line-requires
-    cross-requires
+    crossed-bounds-requires
     returns
     add-k
     loop-less

@@ -1,52 +1,48 @@
+use mathlib.Core.Path.{_≡_, refl, ap, _∙_}
 use Prim.Native.Nat.{suc, _≤_, _-_, _+_}
-use mathlib.Core.Path.{_≡_, refl, sym, ap, _∙_}
+use native.Mathlib.Numerals.{add-one}
 use native.Mathlib.Omega.{arith}
-use Rattle.sheet.specs.Reading.{itemLines}
+use Rattle.sheet.specs.Sections.{stepOf, linesOf}
+use Rattle.sheet.specs.Reading.{itemForm}
 use Rattle.sheet.proofs.Steps.{step-item}
 use Rattle.sheet.proofs.item_lines.Statement.{statement}
 use Rattle.sheet.proofs.item_lines.Tie as tie
 
 abbrev Inv-loop : tie.InvT-loop
-Inv-loop s n r₀ left₀ r left = (r .item + left ≤ 16) × (itemLines n s r₀ ≡ itemLines left s r)
+Inv-loop s n r₀ k₀ r k = (k ≤ n) × ((r .item ≤ r₀ .item + k) × (r ≡ linesOf itemForm k s r₀))
 
 abbrev μ-loop : tie.MeasureT-loop
-μ-loop s n r₀ left₀ r left = left
+μ-loop s n r₀ k₀ r k = n - k
 
 loop-holds : tie.Need-loop-holds Inv-loop μ-loop
-loop-holds c = (c .before .pre, refl)
+unfolding linesOf
+loop-holds c = (omega arith, (omega arith, refl))
 
 item-step-requires : tie.Need-item-step-requires Inv-loop μ-loop
 item-step-requires c κs = omega arith
 
-sub-left : tie.Need-sub-left Inv-loop μ-loop
-sub-left c = omega arith
+add-k : tie.Need-add-k Inv-loop μ-loop
+add-k c = omega arith
 
 loop-less : tie.Need-loop-less Inv-loop μ-loop
 loop-less c = omega arith
 
 loop-again : tie.Need-loop-again Inv-loop μ-loop
-unfolding itemLines
+unfolding linesOf
 loop-again c =
     let l = c .before .before in
     let s = l .before .before .args .s .now in
-    let q : l .loop .left ≡ suc (l .loop .left - 1) = omega arith in
-    rw (c .item-step .ensures) (omega (arith, step-item s (l .loop .r)), l .loop .inv .1 ∙ ap (λ n. itemLines n s (l .loop .r)) q)
+    let e = c .item-step .ensures in
+    (omega arith, (rw e (omega (arith, step-item s (l .loop .r))), rw add-one (e ∙ ap (stepOf itemForm s) (l .loop .inv .1 .1))))
 
 returns : tie.Need-returns Inv-loop μ-loop
-unfolding itemLines
 returns c =
     let l = c .before in
-    let q : l .loop .left ≡ 0 = omega arith in sym (l .loop .inv .1 ∙ ap (λ n. itemLines n (l .before .before .args .s .now) (l .loop .r)) q)
+    let a = l .before .before .args in
+    let q : l .loop .k ≡ a .n = omega arith in
+    rw q at (l .loop .inv .1 .1)
 
 pub item-lines-spec : {M : Type 1} → statement M
 item-lines-spec =
     tie.close
-    (tie.spec
-    Inv-loop
-    μ-loop
-    loop-holds
-    item-step-requires
-    sub-left
-    loop-less
-    loop-again
-    returns)
+    (tie.spec Inv-loop μ-loop loop-holds item-step-requires add-k loop-less loop-again returns)

@@ -1,5 +1,5 @@
-use Rattle.sheet.specs.Reading.{itemStep}
 use mathlib.Core.Path.{sym, _∙_}
+use Rattle.sheet.specs.Sections.{stepOf}
 use borrow.Author.Needs.{needs}
 use Rattle.sheet.proofs.item_step.Statement.{statement}
 use Rattle.sheet.proofs.item_step.Tie as tie
@@ -22,24 +22,26 @@ refused-requires c κs = search needs
 enum-known-r-2 : tie.Need-enum-known-r-2
 enum-known-r-2 c = search needs
 
-with-item-requires : tie.Need-with-item-requires
-with-item-requires c κs = search needs
+item-taken-requires : tie.Need-item-taken-requires
+item-taken-requires c κs = search needs
 
 returns : tie.Need-returns
-unfolding itemStep
+unfolding stepOf
 returns c = rw (c .enum-told .given .1)
 
 returns-2 : tie.Need-returns-2
-unfolding itemStep
+unfolding stepOf
 returns-2 c =
-    let k = c .before .before .before .before in
-    rw (k .before .enum-told2 .given .1, sym (k .item-at .ensures) ∙ c .before .before .r .given .1) (c .refused .ensures)
+    let k = c .before .before in
+    let l = k .before .before in
+    rw (l .before .enum-told2 .given .1, sym (l .item-at .ensures) ∙ k .r .given .1) (c .refused .ensures)
 
 returns-3 : tie.Need-returns-3
-unfolding itemStep
+unfolding stepOf
 returns-3 c =
-    let k = c .before .before .before .before in
-    rw (k .before .enum-told2 .given .1, sym (k .item-at .ensures) ∙ c .before .before .r2 .given .1) (c .with-item .ensures)
+    let k = c .before .before in
+    let l = k .before .before in
+    rw (l .before .enum-told2 .given .1, sym (l .item-at .ensures) ∙ k .r2 .given .1) (c .item-taken .ensures)
 
 pub item-step-spec : {M : Type 1} → statement M
 item-step-spec =
@@ -51,7 +53,7 @@ item-step-spec =
     enum-known-r
     refused-requires
     enum-known-r-2
-    with-item-requires
+    item-taken-requires
     returns
     returns-2
     returns-3)

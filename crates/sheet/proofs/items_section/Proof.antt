@@ -1,8 +1,8 @@
-use Rattle.sheet.specs.Reading.{itemsSection}
 use mathlib.Core.Path.{sym, _∙_}
 use native.Mathlib.Omega.{arith}
 use Rattle.lines.proofs.Shapes.{count-parts}
-use Rattle.sheet.specs.Reading.{items}
+use Rattle.sheet.specs.Sections.{sectionOf}
+use Rattle.sheet.specs.Reading.{items, itemsSection}
 use borrow.Author.Needs.{needs}
 use Rattle.sheet.proofs.items_section.Statement.{statement}
 use Rattle.sheet.proofs.items_section.Tie as tie
@@ -31,30 +31,35 @@ enum-known-c-2 c = search needs
 with-count-requires : tie.Need-with-count-requires
 with-count-requires c κs = search needs
 
+goes-on-requires : tie.Need-goes-on-requires
+goes-on-requires c κs = search needs
+
 item-lines-requires : tie.Need-item-lines-requires
 item-lines-requires c κs =
-    let k = c .before .before .before .before in
-    rw (c .with-count .ensures) (omega (arith, count-parts items 1 16 _ _ _ _ (sym (k .heading .ensures) ∙ c .before .before .c2 .given .1) .most))
+    let w = c .before in
+    let k = w .before .before .before in
+    let p = count-parts items 1 16 _ _ _ _ (sym (k .before .before .heading .ensures) ∙ k .c2 .given .1) in
+    rw (c .goes-on .ensures) (omega (arith, p .most))
 
 returns : tie.Need-returns
-unfolding itemsSection
+unfolding itemsSection sectionOf
 returns c = rw (c .enum-told .given .1)
 
 returns-2 : tie.Need-returns-2
-unfolding itemsSection
+unfolding itemsSection sectionOf
 returns-2 c =
-    let k = c .before .before .before .before in
-    rw (k .before .before .enum-told2 .given .1, sym (k .heading .ensures) ∙ c .before .before .c .given .1) (c .refused .ensures)
+    let k = c .before .before in
+    let h = k .before .before in
+    rw (h .before .before .enum-told2 .given .1, sym (h .heading .ensures) ∙ k .c .given .1) (c .refused .ensures)
 
 returns-3 : tie.Need-returns-3
-unfolding itemsSection
+unfolding itemsSection sectionOf
 returns-3 c =
-    let k = c .before .before .before .before .before in
-    rw (
-      k .before .before .enum-told2 .given .1,
-      sym (k .heading .ensures) ∙ c .before .before .before .c2 .given .1,
-      ← c .before .with-count .ensures,
-    )
+    let g = c .before in
+    let w = g .before in
+    let k = w .before .before .before in
+    let h = k .before .before in
+    rw (h .before .before .enum-told2 .given .1, sym (h .heading .ensures) ∙ k .c2 .given .1, ← w .with-count .ensures, ← g .goes-on .ensures)
     (c .item-lines .ensures)
 
 pub items-section-spec : {M : Type 1} → statement M
@@ -69,6 +74,7 @@ items-section-spec =
     refused-requires
     enum-known-c-2
     with-count-requires
+    goes-on-requires
     item-lines-requires
     returns
     returns-2

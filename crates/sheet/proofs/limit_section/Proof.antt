@@ -1,8 +1,11 @@
 use denote.Ref.{now}
 use mathlib.Core.Path.{_≡_, sym, _∙_}
-use lib.IntN.{pos}
+use native.Mathlib.Omega.{arith}
 use borrow.Author.Needs.{needs}
+use Rattle.lines.specs.Numbers.{fromTo}
 use Rattle.lines.specs.Lines.{countAt}
+use Rattle.lines.proofs.Shapes.{count-parts}
+use Rattle.sheet.specs.Sections.{linesOf, sectionOf}
 use Rattle.sheet.specs.Reading.{limit, limitSection}
 use Rattle.sheet.proofs.limit_section.Statement.{statement}
 use Rattle.sheet.proofs.limit_section.Tie as tie
@@ -22,21 +25,25 @@ refused-requires c κs = search needs
 enum-known-c-2 : tie.Need-enum-known-c-2
 enum-known-c-2 c = search needs
 
-capacity-line-requires : tie.Need-capacity-line-requires
-capacity-line-requires c κs = search needs
+limit-line-requires : tie.Need-limit-line-requires
+limit-line-requires c κs = search needs
 
 -- the heading is read as one with the count 1
-heading-is : (c : tie.After-heading) →
-    c .heading .result ≡ countAt limit (record { lo = pos 1; hi = pos 1 }) (now (c .before .before .before .args .s)) 0
+heading-is : (c : tie.After-heading) → c .heading .result ≡ countAt limit (fromTo 1 1) (now (c .before .before .before .args .s)) 0
 heading-is c = c .heading .ensures
 
 returns : tie.Need-returns
-unfolding limitSection
-returns c = rw (sym (heading-is (c .before .before .before .before)) ∙ c .before .before .c .given .1) (c .refused .ensures)
+unfolding limitSection sectionOf
+returns c = let k = c .before .before in rw (sym (heading-is (k .before .before)) ∙ k .c .given .1) (c .refused .ensures)
 
 returns-2 : tie.Need-returns-2
-unfolding limitSection
-returns-2 c = rw (sym (heading-is (c .before .before .before .before)) ∙ c .before .before .c2 .given .1) (c .capacity-line .ensures)
+unfolding limitSection sectionOf linesOf
+returns-2 c =
+    let k = c .before .before in
+    let e = sym (heading-is (k .before .before)) ∙ k .c2 .given .1 in
+    let p = count-parts limit 1 1 _ 0 _ _ e in
+    let one : k .c2 .given .0 .0 ≡ 1 = omega (arith, p .least, p .most) in
+    rw (e, one) (c .limit-line .ensures)
 
 pub limit-section-spec : {M : Type 1} → statement M
 limit-section-spec =
@@ -47,6 +54,6 @@ limit-section-spec =
     enum-known-c
     refused-requires
     enum-known-c-2
-    capacity-line-requires
+    limit-line-requires
     returns
     returns-2)

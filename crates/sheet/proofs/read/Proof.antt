@@ -4,12 +4,12 @@ use borrow.Author.Needs.{needs}
 use Rattle.sheet.proofs.read.Statement.{statement}
 use Rattle.sheet.proofs.read.Tie as tie
 
-empty-problem-requires : tie.Need-empty-problem-requires
-empty-problem-requires c κs = search needs
+empty-model-requires : tie.Need-empty-model-requires
+empty-model-requires c κs = search needs
 
 returns : tie.Need-returns
 unfolding readSheet
-returns c = rw (lt-ltb _ _ (c .before .if1 .taken), c .empty-problem .ensures)
+returns c = rw (lt-ltb _ _ (c .before .if1 .taken), c .empty-model .ensures)
 
 whole-requires : tie.Need-whole-requires
 whole-requires c κs = search needs
@@ -19,4 +19,4 @@ unfolding readSheet
 returns-2 c = rw (le-ltb _ _ (c .before .before .if1 .left), c .before .whole .ensures)
 
 pub read-spec : {M : Type 1} → statement M
-read-spec = tie.close (tie.spec empty-problem-requires returns whole-requires returns-2)
+read-spec = tie.close (tie.spec empty-model-requires returns whole-requires returns-2)

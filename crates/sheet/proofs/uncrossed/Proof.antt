@@ -18,7 +18,8 @@ line-at-requires c κs = search needs
 
 crossing-requires : tie.Need-crossing-requires
 crossing-requires c κs =
-    let s = c .before .before .before .before .before in
+    let v = c .before .before in
+    let s = v .before .before .before in
     let n = ends-within (take (s .args .heading) (s .args .s .now)) in
     (omega arith, omega (arith, c .line-at .ensures, length-take (s .args .heading) (s .args .s .now)))
 
@@ -44,12 +45,10 @@ returns-2 c =
 returns-3 : tie.Need-returns-3
 unfolding crossCheck
 returns-3 c =
-    let k = c .before .before .before .before .before in
-    rw (
-      k .before .before .enum-told2 .given .1,
-      sym (rw (k .line-at .ensures) at (c .before .before .before .before .crossing .ensures)) ∙ c .before .before .told .given .1,
-    )
-    (c .stopped .ensures)
+    let t = c .before .before in
+    let x = t .before .before in
+    let k = x .before in
+    rw (k .before .before .enum-told2 .given .1, sym (rw (k .line-at .ensures) at (x .crossing .ensures)) ∙ t .told .given .1) (c .stopped .ensures)
 
 pub uncrossed-spec : {M : Type 1} → statement M
 uncrossed-spec =

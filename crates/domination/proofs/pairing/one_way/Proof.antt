@@ -13,7 +13,9 @@ has-room-requires : tie.Need-has-room-requires
 has-room-requires c κs = rw (c .trade-of .ensures) (c .before .pre .first-fit .in-range, trade-small (c .before .pre) .0)
 
 has-room-requires-2 : tie.Need-has-room-requires-2
-has-room-requires-2 c κs = let s = c .before .before .before in rw (c .before .before .trade-of .ensures) (s .pre .second-fit .in-range, trade-small (s .pre) .1)
+has-room-requires-2 c κs =
+    let s = c .before .before .before in
+    rw (c .before .before .trade-of .ensures) (s .pre .second-fit .in-range, trade-small (s .pre) .1)
 
 steps-of-requires : tie.Need-steps-of-requires
 steps-of-requires c κs =

@@ -9,7 +9,11 @@ is-less-efficient-requires : tie.Need-is-less-efficient-requires
 is-less-efficient-requires c κs = search needs
 
 one-way-requires : tie.Need-one-way-requires
-one-way-requires c κs = record { first-fit = c .before .before .pre .0; second-fit = c .before .before .pre .1; direction = sym (c .before .is-less-efficient .ensures) ∙ c .if1 .taken }
+one-way-requires c κs = record {
+  first-fit = c .before .before .pre .0;
+  second-fit = c .before .before .pre .1;
+  direction = sym (c .before .is-less-efficient .ensures) ∙ c .if1 .taken;
+}
 
 returns : tie.Need-returns
 unfolding pairOf
@@ -19,7 +23,9 @@ is-less-efficient-requires-2 : tie.Need-is-less-efficient-requires-2
 is-less-efficient-requires-2 c κs = search needs
 
 one-way-requires-2 : tie.Need-one-way-requires-2
-one-way-requires-2 c κs = let s = c .before .before .before .before in record { first-fit = s .pre .1; second-fit = s .pre .0; direction = sym (c .before .is-less-efficient2 .ensures) ∙ c .if2 .taken }
+one-way-requires-2 c κs =
+    let s = c .before .before .before .before in
+    record { first-fit = s .pre .1; second-fit = s .pre .0; direction = sym (c .before .is-less-efficient2 .ensures) ∙ c .if2 .taken }
 
 swap-requires : tie.Need-swap-requires
 swap-requires c κs = search needs

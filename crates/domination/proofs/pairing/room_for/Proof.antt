@@ -67,7 +67,8 @@ returns-2 c = search needs
 returns-3 : tie.Need-returns-3
 returns-3 c =
     let s = c .before .before .before .before .before .before in
-    rw (difference c, toZ-ofZ (fits c), toZ-pos w64 {n = s .args .n} (omega arith)) (both _ _ _ _ (s .args .n) (c .before .before .before .before .lower .given .1) (c .before .upper .given .1))
+    rw (difference c, toZ-ofZ (fits c), toZ-pos w64 {n = s .args .n} (omega arith))
+    (both _ _ _ _ (s .args .n) (c .before .before .before .before .lower .given .1) (c .before .upper .given .1))
 
 pub room-for-spec : {M : Type 1} → statement M
 room-for-spec =

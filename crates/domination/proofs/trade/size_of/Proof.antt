@@ -27,7 +27,9 @@ magnitude-requires-2 : tie.Need-magnitude-requires-2
 magnitude-requires-2 c κs = let s = c .before .before .before in asked (s .args .x .price) (s .pre .price-in)
 
 returns : tie.Need-returns
-returns c = let s = c .before .before .before .before in rw (c .before .before .magnitude .ensures, c .magnitude2 .ensures, figure (s .args .x .weight) (weight-in s), figure (s .args .x .price) (s .pre .price-in))
+returns c =
+    let s = c .before .before .before .before in
+    rw (c .before .before .magnitude .ensures, c .magnitude2 .ensures, figure (s .args .x .weight) (weight-in s), figure (s .args .x .price) (s .pre .price-in))
 
 pub size-of-spec : {M : Type 1} → statement M
 size-of-spec = tie.close (tie.spec magnitude-requires magnitude-requires-2 returns)

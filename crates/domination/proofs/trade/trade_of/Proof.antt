@@ -8,7 +8,8 @@ use Rattle.domination.proofs.trade.trade_of.Statement.{statement}
 use Rattle.domination.proofs.trade.trade_of.Tie as tie
 
 -- the four figures, as the locals hold them
-figures : (c : tie.After-size-of2) → Sizes (c .before .size-of .result .weight) (c .size-of2 .result .weight) (c .before .size-of .result .price) (c .size-of2 .result .price)
+figures : (c : tie.After-size-of2) →
+    Sizes (c .before .size-of .result .weight) (c .size-of2 .result .weight) (c .before .size-of .result .price) (c .size-of2 .result .price)
 figures c = rw (c .before .size-of .ensures, c .size-of2 .ensures) (sizes (c .before .before .pre))
 
 size-of-requires : tie.Need-size-of-requires

@@ -26,8 +26,13 @@ positive c = let k = c .before .before .before in rw (k .closed .ensures, within
 held-from-requires : tie.Need-held-from-requires
 held-from-requires c κs = let k = c .before .before .before in rw (k .closed .ensures) (tame k, (yes-lt (positive c), k .before .pre .1))
 
+-- the moments that are spoken of below
+abbrev start : tie.After-held-from → tie.Start
+start c = c .before .before .before .before .before
+
 -- the test of the items
-held : (c : tie.After-held-from) → c .held-from .result ≡ heldFrom (closedBy (c .before .before .before .before .before .args .l)) (entry (c .before .before .before .before .before .args .weight)) (entry (c .before .before .before .before .before .args .price)) (c .before .before .before .before .before .args .d) (c .before .before .before .before .before .args .n - c .before .before .before .before .before .args .d)
+held : (c : tie.After-held-from) → c .held-from .result ≡ heldFrom (closedBy (start c .args .l)) (entry (start c .args .weight)) (entry (start c .args .price))
+    (start c .args .d) (start c .args .n - c .before .before .before .before .before .args .d)
 held c = rw (c .before .before .before .before .closed .ensures) at (c .held-from .ensures)
 
 returns : tie.Need-returns

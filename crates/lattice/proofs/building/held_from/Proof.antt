@@ -37,10 +37,18 @@ holds-requires c κs =
     let p = s .pre .1 .1 .prices-in (i .loop .j) in
     rw (within-back tt w, within-back tt p) (record { tame = s .pre .0; stride≥1 = s .pre .1 .0; weight-in = w; price-in = p })
 
+-- the moments that are spoken of below
+abbrev at-loop : tie.After-holds Inv-loop μ-loop → tie.At-loop Inv-loop μ-loop
+at-loop c = c .before .before .before .before
+
+abbrev start : tie.After-holds Inv-loop μ-loop → tie.Start Inv-loop μ-loop
+start c = c .before .before .before .before .before
+
 -- what `holds` says of the item at j
-found : (c : tie.After-holds Inv-loop μ-loop) → c .holds .result ≡ holdsBy (c .before .before .before .before .before .args .l) (entry (c .before .before .before .before .before .args .t2) (c .before .before .before .before .loop .j)) (entry (c .before .before .before .before .before .args .t3) (c .before .before .before .before .loop .j))
+found : (c : tie.After-holds Inv-loop μ-loop) → c .holds .result ≡ holdsBy (start c .args .l) (entry (start c .args .t2) (at-loop c .loop .j))
+    (entry (start c .args .t3) (at-loop c .loop .j))
 found c =
-    let i = c .before .before .before .before in
+    let i = at-loop c in
     let s = i .before in
     rw (within-back tt (s .pre .1 .1 .weights-in (i .loop .j)), within-back tt (s .pre .1 .1 .prices-in (i .loop .j))) at (c .holds .ensures)
 
@@ -54,13 +62,15 @@ loop-again : tie.Need-loop-again Inv-loop μ-loop
 loop-again c =
     let i = c .before .before .before .before .before in
     let s = i .before in
-    held-step (s .args .l) (entry (s .args .t2)) (entry (s .args .t3)) (i .loop .j) (s .args .n) (omega arith) (sym (found (c .before)) ∙ c .if1 .taken) ∙ i .loop .inv
+    held-step (s .args .l) (entry (s .args .t2)) (entry (s .args .t3)) (i .loop .j) (s .args .n) (omega arith) (sym (found (c .before)) ∙ c .if1 .taken)
+    ∙ i .loop .inv
 
 returns : tie.Need-returns Inv-loop μ-loop
 returns c =
     let i = c .before .before .before .before .before in
     let s = i .before in
-    sym (sym (i .loop .inv) ∙ held-stop (s .args .l) (entry (s .args .t2)) (entry (s .args .t3)) (i .loop .j) (s .args .n) (omega arith) (sym (found (c .before)) ∙ c .if1 .left))
+    sym (sym (i .loop .inv) ∙ held-stop (s .args .l) (entry (s .args .t2)) (entry (s .args .t3)) (i .loop .j) (s .args .n) (omega arith)
+    (sym (found (c .before)) ∙ c .if1 .left))
 
 returns-2 : tie.Need-returns-2 Inv-loop μ-loop
 returns-2 c =

@@ -28,7 +28,11 @@ rest-requires : tie.Need-rest-requires
 rest-requires c κs =
     let s = c .before in
     rw (within-back tt (s .pre .weight-in), within-back tt (s .pre .tame .stride-in))
-    (record { dividend-in = within-more (omega arith) (s .pre .weight-in); divisor-in = within-more (omega arith) (s .pre .tame .stride-in); divisor≥1 = s .pre .stride≥1 })
+    (record {
+      dividend-in = within-more (omega arith) (s .pre .weight-in);
+      divisor-in = within-more (omega arith) (s .pre .tame .stride-in);
+      divisor≥1 = s .pre .stride≥1;
+    })
 
 -- what the weight leaves, as the local holds it
 left : (c : tie.After-rest) → toZ w64 (ofZ w64 (c .rest .result)) ≡ restOf (c .before .before .args .a) (c .before .before .args .l .stride)
@@ -43,28 +47,34 @@ returns c = let k = rw (left (c .before)) at (c .if1 .taken) in rw k
 floor-div-requires : tie.Need-floor-div-requires
 floor-div-requires c κs =
     let s = c .before .before .before in
-    rw (within-back tt (s .pre .weight-in), within-back tt (s .pre .tame .stride-in)) (within-more (omega arith) (s .pre .weight-in), nonzero (s .args .l .stride) (s .pre .stride≥1))
+    rw (within-back tt (s .pre .weight-in), within-back tt (s .pre .tame .stride-in))
+    (within-more (omega arith) (s .pre .weight-in), nonzero (s .args .l .stride) (s .pre .stride≥1))
+
+-- the moments that are spoken of below
+abbrev start : tie.After-floor-div → tie.Start
+start c = c .before .before .before .before
 
 -- the slant times the strides, as the locals hold them
-multiple : (c : tie.After-floor-div) → toZ w64 (ofZ w64 (c .before .before .before .before .args .l .slant)) *ℤ toZ w64 (ofZ w64 (c .floor-div .result)) ≡ c .before .before .before .before .args .l .slant *ℤ S (c .before .before .before .before)
+multiple : (c : tie.After-floor-div) → toZ w64 (ofZ w64 (c .before .before .before .before .args .l .slant)) *ℤ toZ w64 (ofZ w64 (c .floor-div .result))
+    ≡ c .before .before .before .before .args .l .slant *ℤ S (c .before .before .before .before)
 multiple c =
     let s = c .before .before .before .before in
     let e = rw (within-back tt (s .pre .weight-in), within-back tt (s .pre .tame .stride-in)) at (c .floor-div .ensures) in
     rw (within-back tt (s .pre .tame .slant-in), back (c .floor-div .result) (c .floor-div .ok), e)
 
 mul-z : tie.Need-mul-z
-mul-z c = let f = c .before .before in rw (multiple f) (within-sfits (lit< tt) (product (f .before .before .before .before)))
+mul-z c = let f = c .before .before in rw (multiple f) (within-sfits (lit< tt) (product (start f)))
 
 sub-z : tie.Need-sub-z
 sub-z c =
     let f = c .before .before in
-    let s = f .before .before .before .before in
+    let s = start f in
     rw (multiple f, within-back tt (product s), within-back tt (s .pre .price-in)) (within-sfits (lit< tt) (over s))
 
 rest-requires-2 : tie.Need-rest-requires-2
 rest-requires-2 c κs =
     let f = c .before .before .before in
-    let s = f .before .before .before .before in
+    let s = start f in
     rw (multiple f, within-back tt (product s), within-back tt (s .pre .price-in), within-back tt (over s), within-back tt (s .pre .tame .gap-in))
     (record { dividend-in = within-more (omega arith) (over s); divisor-in = s .pre .tame .gap-in; divisor≥1 = s .pre .tame .gap≥1 })
 
@@ -72,9 +82,10 @@ returns-2 : tie.Need-returns-2
 unfolding holdsBy
 returns-2 c =
     let f = c .before .before .before .before in
-    let s = f .before .before .before .before in
+    let s = start f in
     let k = rw (left (f .before .before)) at (f .before .if1 .left) in
-    let e = rw (multiple f, within-back tt (product s), within-back tt (s .pre .price-in), within-back tt (over s), within-back tt (s .pre .tame .gap-in)) at (c .rest2 .ensures) in
+    let e = rw (multiple f, within-back tt (product s), within-back tt (s .pre .price-in), within-back tt (over s), within-back tt (s .pre .tame .gap-in)) at
+    (c .rest2 .ensures) in
     rw (k, back (c .rest2 .result) (c .rest2 .ok), e)
 
 pub holds-spec : {M : Type 1} → statement M

@@ -24,14 +24,23 @@ first-change-requires c κs = c .before .pre .0
 loop-holds : tie.Need-loop-holds Inv-loop μ-loop
 loop-holds c =
     let s = c .before .before in
-    rw (c .first-change .ensures) ((first-upright (s .args .l) (s .pre .0), s .pre .1), record { steps = natAbs (s .args .v .weight); enough = omega arith; is = refl })
+    rw (c .first-change .ensures) (
+      (first-upright (s .args .l) (s .pre .0), s .pre .1),
+      record { steps = natAbs (s .args .v .weight); enough = omega arith; is = refl },
+    )
 
 -- what a step is given
-steps : (c : tie.Then1 Inv-loop μ-loop) → Reduces (c .before .before .before .loop .x) (c .before .before .before .loop .y) (c .before .before .before .before .before .before .args .l .gap)
+steps : (c : tie.Then1 Inv-loop μ-loop) → Reduces (c .before .before .before .loop .x) (c .before .before .before .loop .y)
+    (c .before .before .before .before .before .before .args .l .gap)
 steps c =
     let a = c .before .before .before in
     let i = a .loop .inv .0 in
-    record { first = i .0; second = i .1; weight≥1 = yes-lt (rw (within-back tt (i .1 .weight-in)) at (c .if1 .taken)); gap-in = a .before .before .before .pre .0 .joined .gap-in }
+    record {
+      first = i .0;
+      second = i .1;
+      weight≥1 = yes-lt (rw (within-back tt (i .1 .weight-in)) at (c .if1 .taken));
+      gap-in = a .before .before .before .pre .0 .joined .gap-in;
+    }
 
 reduced-requires : tie.Need-reduced-requires Inv-loop μ-loop
 reduced-requires c κs = rw (within-back tt (steps c .gap-in)) (steps c)
@@ -42,7 +51,12 @@ loop-less c =
     let i = a .loop .inv .0 in
     let r = steps (c .before) in
     let u = reduced-upright (a .loop .x) (a .loop .y) _ r in
-    rw (c .reduced .ensures) (omega (arith, from-lt (rest-high (a .loop .x .weight) (a .loop .y .weight) (r .weight≥1)), above-dn (u .weight≥0), above-dn (i .1 .weight≥0)))
+    rw (c .reduced .ensures) (omega (
+      arith,
+      from-lt (rest-high (a .loop .x .weight) (a .loop .y .weight) (r .weight≥1)),
+      above-dn (u .weight≥0),
+      above-dn (i .1 .weight≥0),
+    ))
 
 loop-again : tie.Need-loop-again Inv-loop μ-loop
 loop-again c =
@@ -51,8 +65,10 @@ loop-again c =
     let g = a .before .before .before .args .l .gap in
     let r = steps t in
     let y = rw (within-back tt (r .second .weight-in)) at (t .if1 .taken) in
-    rw (c .reduced .ensures, within-back tt (r .gap-in))
-    ((r .second, reduced-upright (a .loop .x) (a .loop .y) g r), rw (within-back tt (r .gap-in)) at (reaches-step _ _ (a .loop .x) (a .loop .y) (r .second) y (a .loop .inv .1)))
+    rw (c .reduced .ensures, within-back tt (r .gap-in)) (
+      (r .second, reduced-upright (a .loop .x) (a .loop .y) g r),
+      rw (within-back tt (r .gap-in)) at (reaches-step _ _ (a .loop .x) (a .loop .y) (r .second) y (a .loop .inv .1)),
+    )
 
 returns : tie.Need-returns Inv-loop μ-loop
 returns c =

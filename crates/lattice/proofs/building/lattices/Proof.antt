@@ -59,10 +59,21 @@ widen-requires c κs =
     let p = s .pre .prices-in (i .loop .d - 1) in
     rw (within-back tt a, within-back tt p) (guessed n, (a, p))
 
+-- the moments that are spoken of below
+abbrev at-loop : tie.After-widen Inv-loop μ-loop → tie.At-loop Inv-loop μ-loop
+at-loop c = c .before .before .before .before
+
+abbrev in-loop : tie.After-checked Inv-loop μ-loop → tie.In-loop Inv-loop μ-loop
+in-loop c = c .before .before .before .before
+
+abbrev start : tie.After-widen Inv-loop μ-loop → tie.Start Inv-loop μ-loop
+start c = c .before .before .before .before .before .before .before
+
 -- the guess with the level's item
-wider : (c : tie.After-widen Inv-loop μ-loop) → c .widen .result ≡ widenedBy (c .before .before .before .before .loop .l) (entry (c .before .before .before .before .before .before .before .args .t1) (c .before .before .before .before .loop .d - 1)) (entry (c .before .before .before .before .before .before .before .args .t2) (c .before .before .before .before .loop .d - 1))
+wider : (c : tie.After-widen Inv-loop μ-loop) → c .widen .result ≡ widenedBy (at-loop c .loop .l) (entry (start c .args .t1) (at-loop c .loop .d - 1))
+    (entry (start c .args .t2) (at-loop c .loop .d - 1))
 wider c =
-    let i = c .before .before .before .before in
+    let i = at-loop c in
     let s = i .before .before .before in
     rw (within-back tt (s .pre .weights-in (i .loop .d - 1)), within-back tt (s .pre .prices-in (i .loop .d - 1))) at (c .widen .ensures)
 
@@ -75,10 +86,10 @@ checked-requires c κs =
     rw (wider c) (widened-guess (i .loop .l) (entry (s .args .t1) k) (entry (s .args .t2) k) (guessed n) (s .pre .weights-in k) (s .pre .prices-in k), s .pre)
 
 mul-to : tie.Need-mul-to Inv-loop μ-loop
-mul-to c = omega (arith, level<16 (c .before .before .before .before))
+mul-to c = omega (arith, level<16 (in-loop c))
 
 array-set-from-to : tie.Need-array-set-from-to Inv-loop μ-loop
-array-set-from-to c = level<16 (c .before .before .before .before)
+array-set-from-to c = level<16 (in-loop c)
 
 loop-less : tie.Need-loop-less Inv-loop μ-loop
 loop-less c = omega arith
@@ -86,16 +97,18 @@ loop-less c = omega arith
 loop-again : tie.Need-loop-again Inv-loop μ-loop
 loop-again c =
     let w = c .before in
-    let i = w .before .before .before .before in
+    let i = at-loop w in
     let s = i .before .before .before in
-    rw (c .checked .ensures) (built-more (entry (s .args .t1)) (entry (s .args .t2)) (s .args .n) (i .loop .d) (i .loop .l) (w .widen .result) (i .loop .to) (s .pre .few) (omega arith) (wider w) (i .loop .inv))
+    rw (c .checked .ensures) (built-more (entry (s .args .t1)) (entry (s .args .t2)) (s .args .n) (i .loop .d) (i .loop .l) (w .widen .result) (i .loop .to)
+    (s .pre .few) (omega arith) (wider w) (i .loop .inv))
 
 returns : tie.Need-returns Inv-loop μ-loop
 returns c =
     let i = c .before in
     let s = i .before .before .before in
     let none : i .loop .d ≡ 0 = omega (arith, c .loop-test .left) in
-    built-done (entry (s .args .t1)) (entry (s .args .t2)) (s .args .n) (i .loop .l) (i .loop .to) (subst (λ d. Built (entry (s .args .t1)) (entry (s .args .t2)) (s .args .n) d (i .loop .l) (i .loop .to)) none (i .loop .inv))
+    built-done (entry (s .args .t1)) (entry (s .args .t2)) (s .args .n) (i .loop .l) (i .loop .to)
+    (subst (λ d. Built (entry (s .args .t1)) (entry (s .args .t2)) (s .args .n) d (i .loop .l) (i .loop .to)) none (i .loop .inv))
 
 pub lattices-spec : {M : Type 1} → statement M
 lattices-spec =

@@ -27,10 +27,12 @@ worth s = reduced-within (s .args .u) (s .args .v) (s .args .g) (s .pre)
 floor-div-requires : tie.Need-floor-div-requires
 floor-div-requires c κs =
     let s = c .before .before in
-    rw (within-back tt (s .pre .first .weight-in), within-back tt (s .pre .second .weight-in)) (within-more (omega arith) (s .pre .first .weight-in), nonzero (s .args .v .weight) (s .pre .weight≥1))
+    rw (within-back tt (s .pre .first .weight-in), within-back tt (s .pre .second .weight-in))
+    (within-more (omega arith) (s .pre .first .weight-in), nonzero (s .args .v .weight) (s .pre .weight≥1))
 
 -- the second worth times the quotient, as the locals hold them
-multiple : (c : tie.After-floor-div) → toZ w64 (ofZ w64 (c .before .before .before .args .v .worth)) *ℤ toZ w64 (ofZ w64 (c .floor-div .result)) ≡ c .before .before .before .args .v .worth *ℤ Q (c .before .before .before)
+multiple : (c : tie.After-floor-div) → toZ w64 (ofZ w64 (c .before .before .before .args .v .worth)) *ℤ toZ w64 (ofZ w64 (c .floor-div .result))
+    ≡ c .before .before .before .args .v .worth *ℤ Q (c .before .before .before)
 multiple c =
     let s = c .before .before .before in
     let e = rw (within-back tt (s .pre .first .weight-in), within-back tt (s .pre .second .weight-in)) at (c .floor-div .ensures) in
@@ -49,26 +51,39 @@ rest-requires : tie.Need-rest-requires
 rest-requires c κs =
     let s = c .before .before .before .before .before .before .before in
     rw (within-back tt (s .pre .first .weight-in), within-back tt (s .pre .second .weight-in))
-    (record { dividend-in = within-more (omega arith) (s .pre .first .weight-in); divisor-in = within-more (omega arith) (s .pre .second .weight-in); divisor≥1 = s .pre .weight≥1 })
+    (record {
+      dividend-in = within-more (omega arith) (s .pre .first .weight-in);
+      divisor-in = within-more (omega arith) (s .pre .second .weight-in);
+      divisor≥1 = s .pre .weight≥1;
+    })
+
+-- the moments that are spoken of below
+abbrev after-floor-div : tie.After-rest → tie.After-floor-div
+after-floor-div c = c .before .before .before .before .before
+
+abbrev start : tie.After-rest → tie.Start
+start c = c .before .before .before .before .before .before .before .before
 
 tame-requires : tie.Need-tame-requires
 tame-requires c κs =
-    let f = c .before .before .before .before .before in
+    let f = after-floor-div c in
     let s = f .before .before .before in
-    rw (multiple f, within-back tt (product s), within-back tt (s .pre .first .worth-in), within-back tt (worth s), within-back tt (s .pre .gap-in)) (within-more (omega arith) (worth s), s .pre .gap-in)
+    rw (multiple f, within-back tt (product s), within-back tt (s .pre .first .worth-in), within-back tt (worth s), within-back tt (s .pre .gap-in))
+    (within-more (omega arith) (worth s), s .pre .gap-in)
 
 -- what the weight leaves, as the local holds it
-left : (c : tie.After-rest) → toZ w64 (ofZ w64 (c .rest .result)) ≡ restOf (c .before .before .before .before .before .before .before .before .args .u .weight) (c .before .before .before .before .before .before .before .before .args .v .weight)
+left : (c : tie.After-rest) → toZ w64 (ofZ w64 (c .rest .result)) ≡ restOf (start c .args .u .weight) (start c .args .v .weight)
 left c =
-    let s = c .before .before .before .before .before .before .before .before in
+    let s = start c in
     rw (back (c .rest .result) (c .rest .ok)) (rw (within-back tt (s .pre .first .weight-in), within-back tt (s .pre .second .weight-in)) at (c .rest .ensures))
 
 returns : tie.Need-returns
 returns c =
     let d = c .before in
-    let f = d .before .before .before .before .before in
+    let f = after-floor-div d in
     let s = f .before .before .before in
-    let e = rw (multiple f, within-back tt (product s), within-back tt (s .pre .first .worth-in), within-back tt (worth s), within-back tt (s .pre .gap-in)) at (c .tame .ensures) in
+    let e = rw (multiple f, within-back tt (product s), within-back tt (s .pre .first .worth-in), within-back tt (worth s), within-back tt (s .pre .gap-in)) at
+    (c .tame .ensures) in
     rw (left d, back (c .tame .result) (c .tame .ok), e)
 
 pub reduced-spec : {M : Type 1} → statement M

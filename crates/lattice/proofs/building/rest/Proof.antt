@@ -2,7 +2,7 @@
 use mathlib.Core.Path.{_≡_}
 use native.Mathlib.Omega.{arith}
 use lib.Dec.{lit<}
-use lib.IntN.{ℤ, _*ℤ_}
+use lib.IntN.{_*ℤ_}
 use mir.Syntax.{w64}
 use mir.Val.{toZ, ofZ}
 use Rattle.arith.specs.Within.{Within}
@@ -21,10 +21,12 @@ left : (s : tie.Start) → Within 100000000 (restOf (s .args .n) (s .args .m))
 left s = rest-within (s .args .n) (s .args .m) (s .pre .divisor≥1) (s .pre .dividend-in) (s .pre .divisor-in)
 
 floor-div-requires : tie.Need-floor-div-requires
-floor-div-requires c κs = let s = c in rw (within-back tt (s .pre .dividend-in), within-back tt (s .pre .divisor-in)) (within-more (omega arith) (s .pre .dividend-in), nonzero (s .args .m) (s .pre .divisor≥1))
+floor-div-requires c κs = let s = c in rw (within-back tt (s .pre .dividend-in), within-back tt (s .pre .divisor-in))
+    (within-more (omega arith) (s .pre .dividend-in), nonzero (s .args .m) (s .pre .divisor≥1))
 
 -- the divisor times the quotient, as the local holds it
-multiple : (c : tie.After-floor-div) → toZ w64 (ofZ w64 (c .before .args .m)) *ℤ toZ w64 (ofZ w64 (c .floor-div .result)) ≡ c .before .args .m *ℤ floorDiv (c .before .args .n) (c .before .args .m)
+multiple : (c : tie.After-floor-div) → toZ w64 (ofZ w64 (c .before .args .m)) *ℤ toZ w64 (ofZ w64 (c .floor-div .result)) ≡ c .before .args .m *ℤ floorDiv
+    (c .before .args .n) (c .before .args .m)
 multiple c =
     let s = c .before in
     let e = rw (within-back tt (s .pre .dividend-in), within-back tt (s .pre .divisor-in)) at (c .floor-div .ensures) in

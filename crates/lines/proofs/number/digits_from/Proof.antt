@@ -1,30 +1,26 @@
 use Prim.Native.Nat.{ℕ, suc, _≤_, _<_, _-_, _+_, _*_, min}
-use mathlib.Core.Path.{_≡_, refl, sym, _∙_}
-use mathlib.Core.Bool.{false}
-use mathlib.Core.List.{List}
+use mathlib.Core.Path.{_≡_, refl, sym, ap, _∙_}
+use mathlib.Core.List.{List, []}
 use native.Mathlib.Numerals.{add-one}
 use native.Mathlib.Omega.{arith}
 use lib.ListN.{length, drop, getD}
-use Rattle.lines.specs.Numbers.{isDigit, digitCount, valueAfter}
-use Rattle.lines.proofs.Numerals.{digit-yes, digit-low, digit-high, count-more, value-more, count-stop, value-stop, count-end, value-end}
-use Rattle.lines.proofs.Numerals.{saturate}
+use Rattle.text.specs.Decimal.{readAfter}
+use Rattle.lines.specs.Numbers.{digitRun, RunFrom}
+use Rattle.lines.proofs.Numerals.{digit-yes, digit-low, digit-high, run-more, run-stop, run-end, saturate}
 use Rattle.lines.proofs.number.digits_from.Statement.{statement}
 use Rattle.lines.proofs.number.digits_from.Tie as tie
 
 -- the digits from `at` on are still to be read
 pub record Reading (s : List ℕ) (from value at : ℕ) : Type 0 where
   pub small : value ≤ 1000000000
-  pub same : min (valueAfter 0 (drop from s)) 1000000000 ≡ min (valueAfter value (drop at s)) 1000000000
-  pub place : at + digitCount (drop at s) ≡ from + digitCount (drop from s)
+  pub same : min (readAfter 0 (digitRun (drop from s))) 1000000000 ≡ min (readAfter value (digitRun (drop at s))) 1000000000
+  pub place : at + length (digitRun (drop at s)) ≡ from + length (digitRun (drop from s))
 
 -- a run that ends here
-done : (s : List ℕ) (from value at : ℕ) → Reading s from value at → valueAfter value (drop at s) ≡ value → digitCount (drop at s) ≡ 0 →
-    (value ≡ min (valueAfter 0 (drop from s)) 1000000000) × (at ≡ from + digitCount (drop from s))
-done s from value at r v n = (sym (r .same ∙ rw v (omega (arith, r .small))), omega (arith, r .place))
-
-stopped : (s : List ℕ) (from value at : ℕ) → Reading s from value at → at < length s → isDigit (getD s at 0) ≡ false →
-    (value ≡ min (valueAfter 0 (drop from s)) 1000000000) × (at ≡ from + digitCount (drop from s))
-stopped s from value at r h e = done s from value at r (value-stop value s at h e) (count-stop s at h e)
+done : (s : List ℕ) (from value at : ℕ) → Reading s from value at → digitRun (drop at s) ≡ [] →
+    RunFrom s from (record { value = value; next = at })
+unfolding readAfter
+done s from value at r e = record { capped = sym (r .same ∙ rw e (omega (arith, r .small))); behind = omega (arith, rw e at (r .place)) }
 
 abbrev Inv-loop : tie.InvT-loop
 Inv-loop s from value₀ at₀ value at = Reading s from value at
@@ -41,12 +37,13 @@ shared-slice-read-b c = omega arith
 returns : tie.Need-returns Inv-loop μ-loop
 returns c =
     let l = c .before .before .before in
-    stopped (l .before .before .args .s .now) (l .before .before .args .from) (l .loop .value) (l .loop .at) (l .loop .inv) (c .before .before .loop-test .taken) (digit-low _ (c .if1 .taken))
+    done _ _ (l .loop .value) (l .loop .at) (l .loop .inv) (run-stop _ _ (c .before .before .loop-test .taken) (digit-low _ (c .if1 .taken)))
 
 returns-2 : tie.Need-returns-2 Inv-loop μ-loop
 returns-2 c =
-    let l = c .before .before .before .before in
-    stopped (l .before .before .args .s .now) (l .before .before .args .from) (l .loop .value) (l .loop .at) (l .loop .inv) (c .before .before .before .loop-test .taken) (digit-high _ (c .if2 .taken))
+    let f = c .before .before in
+    let l = f .before .before in
+    done _ _ (l .loop .value) (l .loop .at) (l .loop .inv) (run-stop _ _ (f .before .loop-test .taken) (digit-high _ (c .if2 .taken)))
 
 push-requires : tie.Need-push-requires Inv-loop μ-loop
 push-requires c κs = (c .before .before .before .before .loop .inv .small, c .before .if1 .left)
@@ -58,26 +55,23 @@ loop-less : tie.Need-loop-less Inv-loop μ-loop
 loop-less c = omega arith
 
 loop-again : tie.Need-loop-again Inv-loop μ-loop
+unfolding readAfter
 loop-again c =
-    let l = c .before .before .before .before .before in
+    let f = c .before .before in
+    let t = f .before .before in
+    let l = t .before in
     let s = l .before .before .args .s .now in
     let at = l .loop .at in
     let v = l .loop .value in
-    let h = c .before .before .before .before .loop-test .taken in
-    let d = digit-yes (getD s at 0) (c .before .before .if1 .left) (c .before .if2 .left) in
+    let e = run-more s at (t .loop-test .taken) (digit-yes (getD s at 0) (f .if1 .left) (c .before .if2 .left)) in
     record {
       small = omega (arith, c .push .ensures);
-      same =
-          l .loop .inv .same
-          ∙ rw (value-more v s at h d, add-one, c .push .ensures) (saturate 1000000000 (10 * v + (getD s at 0 - 48)) (drop (suc at) s));
-      place = rw add-one (omega (arith, count-more s at h d, l .loop .inv .place));
+      same = l .loop .inv .same ∙ rw (e, add-one, c .push .ensures) (saturate 1000000000 (10 * v + (getD s at 0 - 48)) (digitRun (drop (suc at) s)));
+      place = rw add-one (omega (arith, ap length e, l .loop .inv .place));
     }
 
 returns-3 : tie.Need-returns-3 Inv-loop μ-loop
-returns-3 c =
-    let l = c .before in
-    let s = l .before .before .args .s .now in
-    done s (l .before .before .args .from) (l .loop .value) (l .loop .at) (l .loop .inv) (value-end (l .loop .value) s (l .loop .at) (c .loop-test .left)) (count-end s (l .loop .at) (c .loop-test .left))
+returns-3 c = let l = c .before in done _ _ (l .loop .value) (l .loop .at) (l .loop .inv) (run-end _ _ (c .loop-test .left))
 
 pub digits-from-spec : {M : Type 1} → statement M
 digits-from-spec =

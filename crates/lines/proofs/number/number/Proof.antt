@@ -10,8 +10,8 @@ after-byte-requires c κs = search needs
 enum-known-zero : tie.Need-enum-known-zero
 enum-known-zero c = search needs
 
-ranged-requires : tie.Need-ranged-requires
-ranged-requires c κs = search needs
+by-range-requires : tie.Need-by-range-requires
+by-range-requires c κs = search needs
 
 enum-told : tie.Need-enum-told
 enum-told c = search needs
@@ -34,7 +34,7 @@ unsigned-requires-2 c κs = search needs
 returns : tie.Need-returns
 returns c =
     rw (sym (c .before .before .before .before .after-byte .ensures) ∙ c .before .before .zero .given .1)
-    (ap (λ f. Number f (c .before .before .zero .given .0 .0)) (c .ranged .ensures))
+    (ap (λ f. Number f (c .before .before .zero .given .0 .0)) (c .by-range .ensures))
 
 returns-2 : tie.Need-returns-2
 returns-2 c =
@@ -60,7 +60,7 @@ number-spec =
     (tie.spec
     after-byte-requires
     enum-known-zero
-    ranged-requires
+    by-range-requires
     enum-told
     after-byte-requires-2
     enum-known-minus

@@ -1,9 +1,10 @@
 use mathlib.Core.Path.{sym, ap, ap₂, _∙_}
 use borrow.Author.Needs.{needs}
 use Rattle.arith.proofs.Words.{back}
+use Rattle.text.specs.Decimal.{readAfter}
 use Rattle.lines.specs.declared.number.Field.the-variants.{Number}
-use Rattle.lines.specs.Numbers.{signedOf, figure, valueAfter}
-use Rattle.lines.proofs.Numerals.{figure-saturated}
+use Rattle.lines.specs.Numbers.{signedOf, ranged}
+use Rattle.lines.proofs.Numerals.{ranged-saturated}
 use Rattle.lines.proofs.number.unsigned.Statement.{statement}
 use Rattle.lines.proofs.number.unsigned.Tie as tie
 
@@ -16,19 +17,20 @@ digits-from-requires c κs = search needs
 signed-requires : tie.Need-signed-requires
 signed-requires c κs = search needs
 
-ranged-requires : tie.Need-ranged-requires
-ranged-requires c κs = search needs
+by-range-requires : tie.Need-by-range-requires
+by-range-requires c κs = search needs
 
 returns : tie.Need-returns
 returns c =
-    let s = c .before .before .before .before .before .before in
+    let g = c .before in
+    let d = g .before in
+    let t = d .before in
+    let s = t .before .before .before in
     let r = s .args .range in
     let n = s .args .negative in
-    let f = c .ranged .ensures
-    ∙ ap (figure r) (back (c .before .signed .result) (c .before .signed .ok) ∙ c .before .signed .ensures ∙ ap (signedOf n) (c .before .before .digits-from .ensures .0))
-    ∙ figure-saturated r n (valueAfter 0 _) (s .pre) in
-    rw (sym (c .before .before .before .before .leads .ensures) ∙ c .before .before .before .if1 .taken)
-    (ap₂ Number f (c .before .before .digits-from .ensures .1))
+    let z = back (g .signed .result) (g .signed .ok) ∙ g .signed .ensures ∙ ap (signedOf n) (d .digits-from .ensures .capped) in
+    let f = c .by-range .ensures ∙ ap (ranged r) z ∙ ranged-saturated r n (readAfter 0 _) (s .pre) in
+    rw (sym (t .before .leads .ensures) ∙ t .if1 .taken) (ap₂ Number f (d .digits-from .ensures .behind))
 
 returns-2 : tie.Need-returns-2
 returns-2 c = rw (sym (c .before .leads .ensures) ∙ c .if1 .left)
@@ -40,6 +42,6 @@ unsigned-spec =
     leads-requires
     digits-from-requires
     signed-requires
-    ranged-requires
+    by-range-requires
     returns
     returns-2)

@@ -9,14 +9,14 @@ use borrow.Author.Needs.{needs}
 use Rattle.parts_test.proofs.points.product.Statement.{statement}
 use Rattle.parts_test.proofs.points.product.Tie as tie
 
-is-farther-requires : tie.Need-is-farther-requires
-is-farther-requires c κs = search needs
+beyond-requires : tie.Need-beyond-requires
+beyond-requires c κs = search needs
 
 returns : tie.Need-returns
 returns c = search needs
 
-is-farther-requires-2 : tie.Need-is-farther-requires-2
-is-farther-requires-2 c κs = search needs
+beyond-requires-2 : tie.Need-beyond-requires-2
+beyond-requires-2 c κs = search needs
 
 returns-2 : tie.Need-returns-2
 returns-2 c = search needs
@@ -24,8 +24,8 @@ returns-2 c = search needs
 mul-result : tie.Need-mul-result
 mul-result c =
     let s = c .before .before .before .before in
-    let a = ltb-false 10000 (natAbs (s .args .a)) (sym (rw (toZ-ofZ (s .fits .a)) at (c .before .before .before .is-farther .ensures)) ∙ c .before .before .if1 .left) in
-    let b = ltb-false 100000000000000 (natAbs (s .args .b)) (sym (rw (toZ-ofZ (s .fits .b)) at (c .before .is-farther2 .ensures)) ∙ c .if2 .left) in
+    let a = ltb-false 10000 (natAbs (s .args .a)) (sym (rw (toZ-ofZ (s .fits .a)) at (c .before .before .before .beyond .ensures)) ∙ c .before .before .if1 .left) in
+    let b = ltb-false 100000000000000 (natAbs (s .args .b)) (sym (rw (toZ-ofZ (s .fits .b)) at (c .before .beyond2 .ensures)) ∙ c .if2 .left) in
     rw (toZ-ofZ (s .fits .a), toZ-ofZ (s .fits .b)) (within-sfits (lit< tt) (within-mul (abs-within (s .args .a) a) (abs-within (s .args .b) b)))
 
 returns-3 : tie.Need-returns-3
@@ -33,4 +33,4 @@ returns-3 c = search needs
 
 pub product-spec : {M : Type 1} → statement M
 product-spec =
-    tie.close (tie.spec is-farther-requires returns is-farther-requires-2 returns-2 mul-result returns-3)
+    tie.close (tie.spec beyond-requires returns beyond-requires-2 returns-2 mul-result returns-3)

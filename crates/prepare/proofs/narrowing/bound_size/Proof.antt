@@ -5,7 +5,7 @@ use borrow.Author.Needs.{needs}
 use Rattle.arith.proofs.Parts.{within-more, abs-within}
 use Rattle.arith.proofs.Words.{back}
 use Rattle.arith.specs.Within.{Within}
-use Rattle.knapsack.specs.Records.{BoundInRange}
+use Rattle.knapsack.specs.Ranges.{BoundInRange}
 use Rattle.prepare.proofs.narrowing.bound_size.Statement.{statement}
 use Rattle.prepare.proofs.narrowing.bound_size.Tie as tie
 

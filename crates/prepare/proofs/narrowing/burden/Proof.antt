@@ -32,7 +32,12 @@ burden-of-requires c κs = let i = c .before in let s = i .before .before in (s 
 
 -- the sum so far is small
 small : (l : tie.At-loop Inv-loop μ-loop) → l .loop .t ≤ 176000000
-small l = let s = l .before in rw (l .loop .inv .1) (omega (arith, burden-small (s .args .t1) (s .pre .0) (s .args .a) (l .loop .k) (s .pre .1) (l .loop .inv .0), l .loop .inv .0, s .pre .0 .few-items))
+small l = let s = l .before in rw (l .loop .inv .1) (omega (
+  arith,
+  burden-small (s .args .t1) (s .pre .0) (s .args .a) (l .loop .k) (s .pre .1) (l .loop .inv .0),
+  l .loop .inv .0,
+  s .pre .0 .few-items,
+))
 
 add-t : tie.Need-add-t Inv-loop μ-loop
 add-t c = record { fits = omega (arith, small (c .before .before .before), c .burden-of .ensures .1) }

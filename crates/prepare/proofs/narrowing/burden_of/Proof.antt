@@ -24,7 +24,8 @@ weight-is : (c : tie.After-magnitude) → c .magnitude .result ≡ natAbs (c .be
 weight-is c = rw (within-back tt (weight-in (c .before .before))) at (c .magnitude .ensures)
 
 small : (c : tie.After-lead-of) → c .before .magnitude .result * c .lead-of .result ≤ 11000000
-small c = let s = c .before .before .before in rw (weight-is (c .before), c .lead-of .ensures) (mul-le-mul (s .pre .0 .weight-in) (lead-small (s .args .a) (s .args .i) (s .pre .1) (s .pre .0)))
+small c = let s = c .before .before .before in rw (weight-is (c .before), c .lead-of .ensures)
+    (mul-le-mul (s .pre .0 .weight-in) (lead-small (s .args .a) (s .args .i) (s .pre .1) (s .pre .0)))
 
 mul-result : tie.Need-mul-result
 mul-result c = record { fits = omega (arith, small c) }

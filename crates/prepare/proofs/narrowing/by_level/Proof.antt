@@ -58,7 +58,8 @@ loop-again c =
       omega (arith, i .loop-test .taken),
       (
         length-set (l .loop .to) d _ ∙ l .loop .inv .1 .0,
-        one-more (l .loop .to) d _ (λ j. at (s .args .t1) (place (s .args .t2) j)) (omega (arith, l .loop .inv .1 .0, d<16 i)) (back (at (s .args .t1) (place (s .args .t2) d)) (c .x .given)) (l .loop .inv .1 .1),
+        one-more (l .loop .to) d _ (λ j. at (s .args .t1) (place (s .args .t2) j)) (omega (arith, l .loop .inv .1 .0, d<16 i))
+            (back (at (s .args .t1) (place (s .args .t2) d)) (c .x .given)) (l .loop .inv .1 .1),
       ),
     )
 

@@ -34,7 +34,11 @@ array-copy-out-end-within : tie.Need-array-copy-out-end-within Inv-loop μ-loop
 array-copy-out-end-within c = c .before .loop-test .taken
 
 end-within-requires : tie.Need-end-within-requires Inv-loop μ-loop
-end-within-requires c κs = let s = c .before .before .before .before in (s .pre .0, rw (within-back tt (s .pre .1 (c .before .before .before .loop .k))) (s .pre .1 (c .before .before .before .loop .k)))
+end-within-requires c κs =
+    let s = c .before .before .before .before in (
+      s .pre .0,
+      rw (within-back tt (s .pre .1 (c .before .before .before .loop .k))) (s .pre .1 (c .before .before .before .loop .k)),
+    )
 
 mul-to : tie.Need-mul-to Inv-loop μ-loop
 mul-to c = record { fits = omega (arith, c .before .before .before .loop-test .taken) }
@@ -55,7 +59,9 @@ loop-again c =
     let k = l .loop .k in
     let e = rw (back (at (s .args .t1) k) (c .before .before .x .given), within-back tt (s .pre .1 k)) at (c .end-within .ensures) in (
       length-set (l .loop .to) k _ ∙ l .loop .inv .0,
-      one-more (l .loop .to) k _ (λ j. clampTo (spanBy (s .args .r) (at (s .args .t2) j)) (at (s .args .t1) j)) (omega (arith, l .loop .inv .0, c .before .before .before .loop-test .taken)) (back (c .end-within .result) (c .end-within .ok) ∙ e) (l .loop .inv .1),
+      one-more (l .loop .to) k _ (λ j. clampTo (spanBy (s .args .r) (at (s .args .t2) j)) (at (s .args .t1) j))
+          (omega (arith, l .loop .inv .0, c .before .before .before .loop-test .taken)) (back (c .end-within .result) (c .end-within .ok) ∙ e)
+          (l .loop .inv .1),
     )
 
 returns : tie.Need-returns Inv-loop μ-loop

@@ -7,6 +7,7 @@ use mir.Syntax.{w64}
 use mir.Val.{toZ}
 use mir.Facts.{toZ-ofZ, toZ-pos}
 use borrow.Author.Needs.{needs}
+use Rattle.arith.specs.Limits.{farthest}
 use Rattle.arith.specs.Within.{Within}
 use Rattle.arith.proofs.Parts.{neg-within, zero-less, within-sfits, within-back}
 use Rattle.arith.proofs.Words.{back}
@@ -23,7 +24,7 @@ span-is c = rw (toZ-ofZ (c .before .fits .a)) at (c .span-of .ensures .0)
 up : (c : tie.After-span-of) → toZ w64 (c .span-of .result) ≡ pos (c .span-of .result)
 up c = toZ-pos w64 (omega (arith, c .span-of .ensures .1))
 
-down : (c : tie.After-span-of) → Within 300000000 (negℤ (pos (c .span-of .result)))
+down : (c : tie.After-span-of) → Within farthest (negℤ (pos (c .span-of .result)))
 down c = neg-within (c .span-of .result) (c .span-of .ensures .1)
 
 cast-u : tie.Need-cast-u

@@ -31,7 +31,9 @@ returns c =
     let x = y .before in
     let a = x .before in
     let s = a .before in
-    ap₂ (λ w b. record { weight = w; bound = b }) (l1 .larger-of .ensures ∙ ap (λ n. larger (s .args .m .weight) n) (a .open-weight .ensures)) (c .larger-of3 .ensures ∙ ap₂ larger (l2 .larger-of2 .ensures ∙ ap (λ n. larger (s .args .m .bound) n) (x .bound-size .ensures)) (y .bound-size2 .ensures))
+    ap₂ (λ w b. record { weight = w; bound = b }) (l1 .larger-of .ensures ∙ ap (λ n. larger (s .args .m .weight) n) (a .open-weight .ensures))
+    (c .larger-of3 .ensures ∙ ap₂ larger (l2 .larger-of2 .ensures ∙ ap (λ n. larger (s .args .m .bound) n) (x .bound-size .ensures))
+    (y .bound-size2 .ensures))
 
 pub grown-spec : {M : Type 1} → statement M
 grown-spec =

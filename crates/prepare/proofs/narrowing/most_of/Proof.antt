@@ -3,7 +3,7 @@ use mathlib.Core.Path.{_≡_, refl, ap, _∙_}
 use Prim.Native.Nat.{_-_, _≤_, _<_}
 use native.Mathlib.Numerals.{add-one}
 use native.Mathlib.Omega.{arith}
-use Rattle.knapsack.specs.Records.{itemAt}
+use Rattle.knapsack.specs.Ranges.{itemAt}
 use Rattle.prepare.specs.Narrowing.{grownBy, mostOf}
 use Rattle.prepare.proofs.narrowing.most_of.Statement.{statement}
 use Rattle.prepare.proofs.narrowing.most_of.Tie as tie

@@ -3,7 +3,7 @@ use mathlib.Core.Path.{refl}
 use Prim.Native.Nat.{ℕ, _≤_, _<_}
 use native.Mathlib.Omega.{arith}
 use borrow.Author.Needs.{needs}
-use Rattle.search.specs.Search.{levelAt}
+use Rattle.setting.specs.Box.{levelAt}
 use Rattle.prepare.proofs.narrowing.narrowed.Statement.{statement}
 use Rattle.prepare.proofs.narrowing.narrowed.Tie as tie
 
@@ -29,7 +29,7 @@ returns c = record {
   level = refl;
   levels = refl;
   lattice = refl;
-  soft = refl;
+  strides = refl;
   lo = c .before .before .before .before .before .clamped .ensures;
   hi = c .before .before .before .before .clamped2 .ensures;
   low = c .before .before .before .by-level .ensures;

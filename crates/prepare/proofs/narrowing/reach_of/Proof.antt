@@ -38,10 +38,18 @@ module _ (c : tie.After-magnitude) where
   capacity-is = rw (within-back tt (capacity-in S)) at (c .magnitude .ensures)
 
   burden-is : c .before .before .burden .result ≡ burdenOf (S .args .p) (mostOf (S .args .p) (S .args .p .count) .weight) (S .args .p .count)
-  burden-is = c .before .before .burden .ensures ∙ ap (λ (m : Most). burdenOf (S .args .p) (m .weight) (S .args .p .count)) (c .before .before .before .most-of .ensures)
+  burden-is = c .before .before .burden .ensures ∙ ap (λ (m : Most). burdenOf (S .args .p) (m .weight) (S .args .p .count))
+      (c .before .before .before .most-of .ensures)
 
   sum≤ : c .magnitude .result + c .before .before .burden .result ≤ 276000000
-  sum≤ = omega (arith, capacity-is, S .pre .capacity-in, burden-is, burden-small (S .args .p) (S .pre) (mostOf (S .args .p) (S .args .p .count) .weight) (S .args .p .count) (weight≤ S) (omega arith), S .pre .few-items)
+  sum≤ = omega (
+    arith,
+    capacity-is,
+    S .pre .capacity-in,
+    burden-is,
+    burden-small (S .args .p) (S .pre) (mostOf (S .args .p) (S .args .p .count) .weight) (S .args .p .count) (weight≤ S) (omega arith),
+    S .pre .few-items,
+  )
 
   weight-small : c .before .before .before .most-of .result .weight ≤ 1000
   weight-small = rw (c .before .before .before .most-of .ensures) (weight≤ S)
@@ -62,8 +70,15 @@ returns : tie.Need-returns
 unfolding reachOf
 returns c =
     let d = c .before in
-    ap₂ (λ (n t : ℕ). record { weight = n + t + d .before .before .before .most-of .result .weight; amount = d .before .before .before .most-of .result .bound + d .before .before .before .most-of .result .weight }) (capacity-is d) (burden-is d)
-    ∙ ap (λ (m : Most). record { weight = natAbs (S d .args .p .capacity) + burdenOf (S d .args .p) (mostOf (S d .args .p) (S d .args .p .count) .weight) (S d .args .p .count) + m .weight; amount = m .bound + m .weight }) (d .before .before .before .most-of .ensures)
+    ap₂ (λ (n t : ℕ). record {
+      weight = n + t + d .before .before .before .most-of .result .weight;
+      amount = d .before .before .before .most-of .result .bound + d .before .before .before .most-of .result .weight;
+    }) (capacity-is d) (burden-is d)
+    ∙ ap (λ (m : Most). record {
+      weight = natAbs (S d .args .p .capacity) + burdenOf (S d .args .p) (mostOf (S d .args .p) (S d .args .p .count) .weight)
+          (S d .args .p .count) + m .weight;
+      amount = m .bound + m .weight;
+    }) (d .before .before .before .most-of .ensures)
 
 pub reach-of-spec : {M : Type 1} → statement M
 reach-of-spec = tie.close (tie.spec most-of-requires burden-requires magnitude-requires add-t6 add-t7 add-t8 returns)

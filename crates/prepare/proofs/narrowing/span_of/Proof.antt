@@ -6,6 +6,7 @@ use native.Mathlib.Omega.{arith}
 use lib.IntN.{natAbs}
 use mir.Facts.{toZ-ofZ}
 use borrow.Author.Needs.{needs}
+use Rattle.arith.specs.Limits.{farthest}
 use Rattle.arith.proofs.Parts.{within-more}
 use Rattle.prepare.specs.Narrowing.{larger}
 use Rattle.prepare.proofs.Nearer.{larger-left}
@@ -27,9 +28,19 @@ divisor-is c = c .larger-of .ensures ∙ ap (larger 1) (size-is (c .before))
 div-result : tie.Need-div-result
 div-result c = omega (arith, divisor-is (c .before), larger-left 1 (natAbs (c .before .before .before .args .a)))
 
+-- the moments that are spoken of below
+abbrev start : tie.After-struct-known2 → tie.Start
+start c = c .before .before .before .before
+
 -- a span fits
-small : (c : tie.After-struct-known2) → c .before .before .before .before .args .r .amount + c .before .before .before .before .args .r .weight / c .before .before .larger-of .result + 1 ≤ 300000000
-small c = let s = c .before .before .before .before in omega (arith, div-le-self (s .args .r .weight) (c .before .before .larger-of .result), s .pre .0 .weight-in, s .pre .0 .amount-in)
+small : (c : tie.After-struct-known2)
+    → start c .args .r .amount + c .before .before .before .before .args .r .weight / c .before .before .larger-of .result + 1 ≤ farthest
+small c = let s = start c in omega (
+  arith,
+  div-le-self (s .args .r .weight) (c .before .before .larger-of .result),
+  s .pre .0 .weight-in,
+  s .pre .0 .amount-in,
+)
 
 add-result : tie.Need-add-result
 add-result c = record { fits = omega (arith, small c) }
@@ -38,7 +49,7 @@ add-result-2 : tie.Need-add-result-2
 add-result-2 c = record { fits = omega (arith, small c) }
 
 returns : tie.Need-returns
-returns c = let r = c .before .before .before .before .args .r in (ap (λ d. r .amount + r .weight / d + 1) (divisor-is (c .before .before)), small c)
+returns c = let r = start c .args .r in (ap (λ d. r .amount + r .weight / d + 1) (divisor-is (c .before .before)), small c)
 
 pub span-of-spec : {M : Type 1} → statement M
 span-of-spec =

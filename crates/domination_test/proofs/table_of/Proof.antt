@@ -1,0 +1,41 @@
+-- `domination_test::table_of`: the plain problem of an accepted record is in range, which is all that the table asks.
+use mathlib.Core.Path.{sym, _∙_}
+use Rattle.model.proofs.Records.{plain-in-range}
+use borrow.Author.Needs.{needs}
+use Rattle.domination_test.proofs.table_of.Statement.{statement}
+use Rattle.domination_test.proofs.table_of.Tie as tie
+
+check-model-requires : tie.Need-check-model-requires
+check-model-requires c κs = search needs
+
+enum-told : tie.Need-enum-told
+enum-told c = search needs
+
+plain-of-requires : tie.Need-plain-of-requires
+plain-of-requires c κs = search needs
+
+pair-table-requires : tie.Need-pair-table-requires
+pair-table-requires c κs =
+    let e = c .before in
+    rw (c .plain-of .ensures) (plain-in-range _ (sym (e .before .before .check-model .ensures) ∙ e .enum-told .given .1))
+
+enum-told-2 : tie.Need-enum-told-2
+enum-told-2 c = search needs
+
+returns : tie.Need-returns
+returns c = search needs
+
+returns-2 : tie.Need-returns-2
+returns-2 c = search needs
+
+pub table-of-spec : {M : Type 1} → statement M
+table-of-spec =
+    tie.close
+    (tie.spec
+    check-model-requires
+    enum-told
+    plain-of-requires
+    pair-table-requires
+    enum-told-2
+    returns
+    returns-2)

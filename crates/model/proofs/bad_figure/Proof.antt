@@ -1,0 +1,68 @@
+-- `model::bad_figure` meets its contract: the tests are those of the definition, in its order.
+use mathlib.Core.Path.{_≡_, sym, _∙_}
+use mathlib.Core.Bool.{false}
+use mir.Syntax.{w64}
+use mir.Val.{SFits}
+use mir.Facts.{toZ-ofZ}
+use borrow.Author.Needs.{needs}
+use Rattle.model.specs.Records.{outside}
+use Rattle.model.proofs.bad_figure.Statement.{statement}
+use Rattle.model.proofs.bad_figure.Tie as tie
+
+weight-test : (c : tie.After-beyond) → outside 1000 (c .before .before .args .i .weight) ≡ c .beyond .result
+weight-test c =
+    let h : SFits w64 (c .before .before .args .i .weight) = search needs in
+    sym (rw (toZ-ofZ h) at (c .beyond .ensures))
+
+price-test : (c : tie.After-beyond2) → outside 10000 (c .before .before .before .before .before .args .i .price) ≡ c .beyond2 .result
+price-test c =
+    let h : SFits w64 (c .before .before .before .before .before .args .i .price) = search needs in
+    sym (rw (toZ-ofZ h) at (c .beyond2 .ensures))
+
+beyond-requires : tie.Need-beyond-requires
+beyond-requires c κs = search needs
+
+returns : tie.Need-returns
+returns c = rw (weight-test (c .before) ∙ c .if1 .taken)
+
+beyond-requires-2 : tie.Need-beyond-requires-2
+beyond-requires-2 c κs = search needs
+
+returns-2 : tie.Need-returns-2
+returns-2 c = let e = c .before .before .before in rw (weight-test (e .before) ∙ e .if1 .left, price-test (c .before) ∙ c .if2 .taken)
+
+bad-bound-requires : tie.Need-bad-bound-requires
+bad-bound-requires c κs = search needs
+
+-- both figures are in range
+figures : (c : tie.Else2) →
+    (outside 1000 (c .before .before .before .before .before .before .args .i .weight) ≡ false) ×
+    (outside 10000 (c .before .before .before .before .before .before .args .i .price) ≡ false)
+figures c = let e = c .before .before .before in (weight-test (e .before) ∙ e .if1 .left, price-test (c .before) ∙ c .if2 .left)
+
+returns-3 : tie.Need-returns-3
+returns-3 c =
+    let f = figures (c .before .before) in
+    rw (f .0, f .1, sym (c .before .bad-bound .ensures) ∙ c .if3 .taken)
+
+bad-bound-requires-2 : tie.Need-bad-bound-requires-2
+bad-bound-requires-2 c κs = search needs
+
+returns-4 : tie.Need-returns-4
+returns-4 c =
+    let e = c .before in
+    let f = figures (e .before .before) in
+    rw (f .0, f .1, sym (e .before .bad-bound .ensures) ∙ e .if3 .left) (c .bad-bound2 .ensures)
+
+pub bad-figure-spec : {M : Type 1} → statement M
+bad-figure-spec =
+    tie.close
+    (tie.spec
+    beyond-requires
+    returns
+    beyond-requires-2
+    returns-2
+    bad-bound-requires
+    returns-3
+    bad-bound-requires-2
+    returns-4)

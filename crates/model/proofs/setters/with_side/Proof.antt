@@ -1,0 +1,30 @@
+-- `model::setters::with_side` meets its contract.
+use mir.Syntax.{w64}
+use mir.Val.{SFits}
+use mir.Facts.{toZ-ofZ}
+use borrow.Author.Needs.{needs}
+use Rattle.model.proofs.setters.with_side.Statement.{statement}
+use Rattle.model.proofs.setters.with_side.Tie as tie
+
+enum-told : tie.Need-enum-told
+enum-told c = search needs
+
+enum-told-2 : tie.Need-enum-told-2
+enum-told-2 c = search needs
+
+returns : tie.Need-returns
+returns c =
+    let i = c .before .before .before .before .args .item in
+    let f : SFits w64 (i .weight) = search needs in
+    let g : SFits w64 (i .price) = search needs in
+    rw (toZ-ofZ f, toZ-ofZ g, toZ-ofZ (c .before .before .before .before .fits .v), c .enum-told .given .1)
+
+returns-2 : tie.Need-returns-2
+returns-2 c =
+    let i = c .before .before .before .before .args .item in
+    let f : SFits w64 (i .weight) = search needs in
+    let g : SFits w64 (i .price) = search needs in
+    rw (toZ-ofZ f, toZ-ofZ g, toZ-ofZ (c .before .before .before .before .fits .v), c .enum-told2 .given .1)
+
+pub with-side-spec : {M : Type 1} → statement M
+with-side-spec = tie.close (tie.spec enum-told enum-told-2 returns returns-2)

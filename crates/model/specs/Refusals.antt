@@ -1,0 +1,37 @@
+-- The numbers of paper 01's refusals ("Refused, by place"), the twins of src/refusals.rt.
+--   overlong, form, count, figure, item-number, crossing        1 to 6: a sheet's; count, figure and crossing a record's too
+--   amounts, amount, pair-numbers, pair-items, short-buffer     7 to 11: the point check's, the least pair's, a lent buffer's
+use Prim.Native.Nat.{ℕ}
+
+abbrev pub overlong : ℕ
+overlong = 1
+
+abbrev pub form : ℕ
+form = 2
+
+abbrev pub count : ℕ
+count = 3
+
+abbrev pub figure : ℕ
+figure = 4
+
+abbrev pub item-number : ℕ
+item-number = 5
+
+abbrev pub crossing : ℕ
+crossing = 6
+
+abbrev pub amounts : ℕ
+amounts = 7
+
+abbrev pub amount : ℕ
+amount = 8
+
+abbrev pub pair-numbers : ℕ
+pair-numbers = 9
+
+abbrev pub pair-items : ℕ
+pair-items = 10
+
+abbrev pub short-buffer : ℕ
+short-buffer = 11

@@ -1,0 +1,36 @@
+-- Records by steps: the equations of src/setters.rt.
+--   withCapacity m b    with that capacity
+--   withCount m n       with that count
+--   withItems m l       with those items, all 16 places
+--   withItem m j x      with x at place j
+--   bounded side v i    the item with that bound at v
+--   withBound m side j v   with a bound of the item at place j
+use mathlib.Core.List.{List}
+use Prim.Native.Nat.{ℕ}
+use lib.IntN.{ℤ}
+use lib.ListN.{set}
+use Rattle.knapsack.specs.declared.Bound.the-variants.{At}
+use Rattle.knapsack.specs.declared.Item.{Item}
+use Rattle.model.specs.declared.Model.{Model}
+use Rattle.model.specs.declared.Side.{Side}
+use Rattle.model.specs.declared.Side.the-variants.{Lower, Upper}
+use Rattle.model.specs.Records.{itemAt}
+
+abbrev pub withCapacity : Model → ℤ → Model
+withCapacity m b = record { items = m .items; count = m .count; capacity = b }
+
+abbrev pub withCount : Model → ℕ → Model
+withCount m n = record { items = m .items; count = n; capacity = m .capacity }
+
+abbrev pub withItems : Model → List Item → Model
+withItems m l = record { items = l; count = m .count; capacity = m .capacity }
+
+abbrev pub withItem : Model → ℕ → Item → Model
+withItem m j x = record { items = set (m .items) j x; count = m .count; capacity = m .capacity }
+
+abbrev pub bounded : Side → ℤ → Item → Item
+bounded Lower v i = record { mark = i .mark; weight = i .weight; price = i .price; lower = At v; upper = i .upper }
+bounded Upper v i = record { mark = i .mark; weight = i .weight; price = i .price; lower = i .lower; upper = At v }
+
+abbrev pub withBound : Model → Side → ℕ → ℤ → Model
+withBound m side j v = withItem m j (bounded side v (itemAt m j))

@@ -1,0 +1,215 @@
+// The problem as it is handed over (paper 01: a problem handed over as a record): the record, its refusals, and what the entries owe for it (specs/).
+// An entry tries the record by check_model and goes on with plain_of, the solver's problem.
+pub mod refusals; // the numbers
+pub mod setters; // records by steps
+
+use knapsack::Bound;
+use knapsack::Item;
+use knapsack::Problem;
+use knapsack::Refusal;
+use knapsack::Verdict;
+ghost use mathlib.Core.Path.{_≡_};
+ghost use Prim.Native.Nat.{_≤_, _<_};
+ghost use lib.IntN.{pos, natAbs};
+ghost use lib.Signed.{_≤ℤ_};
+ghost use Rattle.model.specs.Records.{
+  itemAt,
+  plainOf,
+  outside,
+  badBound,
+  badFigure,
+  crossed,
+  faulty,
+  someItem,
+  held,
+  refusalOf,
+  refusedIf,
+  orElse,
+  countVerdict,
+  figureVerdict,
+  crossingVerdict,
+  verdict,
+};
+
+// A record: the items are the first count places, and the capacity is 01's limit b.
+pub struct Model {
+    pub items: [Item; 16],
+    pub count: usize,
+    pub capacity: i64,
+}
+
+// Which bound of an item.
+pub enum Side {
+    Lower,
+    Upper,
+}
+
+// What an item of a record is refused for.
+pub enum Fault {
+    Figure,
+    Crossing,
+}
+
+// The solver's problem.
+pub fn plain_of(m: Model) -> Problem
+    ensures { λ r. ⌜ r ≡ plainOf m ⌝ }
+{
+    let items = m.items;
+    Problem {
+        items,
+        count: m.count,
+        capacity: m.capacity,
+    }
+}
+
+// ---- tests
+
+// Whether x is farther than n from zero.
+pub fn beyond(x: i64, n: i64) -> bool
+    requires { ⌜ (pos 0 ≤ℤ n) × (n ≤ℤ pos 1000000000000000000) ⌝ }
+    ensures { λ r. ⌜ r ≡ outside (natAbs n) x ⌝ }
+{
+    if x < 0 - n {
+        return true;
+    }
+    n < x
+}
+
+pub fn bad_bound(b: Bound) -> bool
+    ensures { λ r. ⌜ r ≡ badBound b ⌝ }
+{
+    match b {
+        Bound::Absent => false,
+        Bound::At(v) => beyond(v, 10000),
+    }
+}
+
+pub fn bad_figure(i: Item) -> bool
+    ensures { λ r. ⌜ r ≡ badFigure i ⌝ }
+{
+    let w = i.weight;
+    if beyond(w, 1000) {
+        return true;
+    }
+    let c = i.price;
+    if beyond(c, 10000) {
+        return true;
+    }
+    let l = i.lower;
+    if bad_bound(l) {
+        return true;
+    }
+    let u = i.upper;
+    bad_bound(u)
+}
+
+// Whether a lower bound is above an upper.
+pub fn crossed_bounds(l: Bound, u: Bound) -> bool
+    ensures { λ r. ⌜ r ≡ crossed l u ⌝ }
+{
+    let Bound::At(a) = l else {
+        return false;
+    };
+    let Bound::At(b) = u else {
+        return false;
+    };
+    b < a
+}
+
+fn is_faulty(i: Item, f: Fault) -> bool
+    ensures { λ r. ⌜ r ≡ faulty f i ⌝ }
+{
+    match f {
+        Fault::Figure => bad_figure(i),
+        Fault::Crossing => {
+            let l = i.lower;
+            let u = i.upper;
+            crossed_bounds(l, u)
+        }
+    }
+}
+
+// How many items there are to be tried.
+fn held_items(m: Model) -> usize
+    ensures { λ r. ⌜ (r ≡ held m) × (r ≤ 16) ⌝ }
+{
+    let n = m.count;
+    if 16 < n { 16 } else { n }
+}
+
+fn some_faulty(m: Model, f: Fault) -> bool
+    ensures { λ r. ⌜ r ≡ someItem (held m) (itemAt m) (faulty f) ⌝ }
+{
+    let n = held_items(m);
+    let mut k: usize = 0;
+    while k < n {
+        let i = m.items[k];
+        if is_faulty(i, f) {
+            return true;
+        }
+        k += 1;
+    }
+    false
+}
+
+// ---- verdicts: a row of the refusals is one function
+
+// No sheet was read, so there is no line.
+pub fn refusal_of(number: u64) -> Refusal
+    ensures { λ r. ⌜ r ≡ refusalOf number ⌝ }
+{
+    Refusal { number, line: 0 }
+}
+
+fn refused_if(test: bool, number: u64) -> Verdict
+    ensures { λ r. ⌜ r ≡ refusedIf test number ⌝ }
+{
+    if test {
+        return Verdict::Refused(refusal_of(number));
+    }
+    Verdict::Accepted
+}
+
+// The first that refuses.
+fn first_of(v: Verdict, w: Verdict) -> Verdict
+    ensures { λ r. ⌜ r ≡ orElse v w ⌝ }
+{
+    match v {
+        Verdict::Accepted => w,
+        Verdict::Refused(_) => v,
+    }
+}
+
+fn check_counts(m: Model) -> Verdict
+    ensures { λ r. ⌜ r ≡ countVerdict m ⌝ }
+{
+    let n = m.count;
+    if n == 0 {
+        return refused_if(true, refusals::COUNT);
+    }
+    refused_if(16 < n, refusals::COUNT)
+}
+
+fn check_figures(m: Model) -> Verdict
+    ensures { λ r. ⌜ r ≡ figureVerdict m ⌝ }
+{
+    let b = m.capacity;
+    let capacity = refused_if(beyond(b, 100000000), refusals::FIGURE);
+    let items = refused_if(some_faulty(m, Fault::Figure), refusals::FIGURE);
+    first_of(capacity, items)
+}
+
+fn check_crossings(m: Model) -> Verdict
+    ensures { λ r. ⌜ r ≡ crossingVerdict m ⌝ }
+{
+    refused_if(some_faulty(m, Fault::Crossing), refusals::CROSSING)
+}
+
+// A record's refusal: 3 (count), then 4 (capacity, then each item's figures), then 6 (a lower bound above its upper), line 0.
+pub fn check_model(m: Model) -> Verdict
+    ensures { λ r. ⌜ r ≡ verdict m ⌝ }
+{
+    let v = check_counts(m);
+    let v = first_of(v, check_figures(m));
+    first_of(v, check_crossings(m))
+}

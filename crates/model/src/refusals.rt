@@ -1,0 +1,22 @@
+// The numbers of paper 01's refusals; specs/Refusals has their twins.
+pub const OVERLONG: u64 = 1;
+
+pub const FORM: u64 = 2;
+
+pub const COUNT: u64 = 3;
+
+pub const FIGURE: u64 = 4;
+
+pub const ITEM_NUMBER: u64 = 5;
+
+pub const CROSSING: u64 = 6;
+
+pub const AMOUNTS: u64 = 7;
+
+pub const AMOUNT: u64 = 8;
+
+pub const PAIR_NUMBERS: u64 = 9;
+
+pub const PAIR_ITEMS: u64 = 10;
+
+pub const SHORT_BUFFER: u64 = 11;

@@ -1,0 +1,90 @@
+// A record is filled by these alone: whoever reads, draws or lends one need not know its fields.
+use crate::Model;
+use crate::Side;
+use knapsack::Bound;
+use knapsack::Item;
+ghost use mathlib.Core.Path.{_≡_};
+ghost use Prim.Native.Nat.{_<_};
+ghost use Rattle.model.specs.Records.{emptyModel};
+ghost use Rattle.model.specs.Setters.{withCapacity, withCount, withItems, withItem, bounded, withBound};
+
+// The record of a refusal.
+pub fn empty_model() -> Model
+    ensures { λ r. ⌜ r ≡ emptyModel ⌝ }
+{
+    let item = knapsack::blank_item();
+    Model {
+        items: [item; 16],
+        count: 0,
+        capacity: 0,
+    }
+}
+
+pub fn with_capacity(m: Model, b: i64) -> Model
+    ensures { λ r. ⌜ r ≡ withCapacity m b ⌝ }
+{
+    let mut n = m;
+    n.capacity = b;
+    n
+}
+
+pub fn with_count(m: Model, count: usize) -> Model
+    ensures { λ r. ⌜ r ≡ withCount m count ⌝ }
+{
+    let mut n = m;
+    n.count = count;
+    n
+}
+
+// All places at once.
+pub fn with_items(m: Model, items: [Item; 16]) -> Model
+    ensures { λ r. ⌜ r ≡ withItems m items ⌝ }
+{
+    let mut n = m;
+    n.items = items;
+    n
+}
+
+pub fn with_item(m: Model, j: usize, x: Item) -> Model
+    requires { ⌜ j < 16 ⌝ }
+    ensures { λ r. ⌜ r ≡ withItem m j x ⌝ }
+{
+    let mut n = m;
+    n.items[j] = x;
+    n
+}
+
+// An item with one more bound.
+pub fn with_side(item: Item, side: Side, v: i64) -> Item
+    ensures { λ r. ⌜ r ≡ bounded side v item ⌝ }
+{
+    let mark = item.mark;
+    let weight = item.weight;
+    let price = item.price;
+    let lower = item.lower;
+    let upper = item.upper;
+    match side {
+        Side::Lower => Item {
+            mark,
+            weight,
+            price,
+            lower: Bound::At(v),
+            upper,
+        },
+        Side::Upper => Item {
+            mark,
+            weight,
+            price,
+            lower,
+            upper: Bound::At(v),
+        },
+    }
+}
+
+pub fn with_bound(m: Model, side: Side, j: usize, v: i64) -> Model
+    requires { ⌜ j < 16 ⌝ }
+    ensures { λ r. ⌜ r ≡ withBound m side j v ⌝ }
+{
+    let item = m.items[j];
+    with_item(m, j, with_side(item, side, v))
+}

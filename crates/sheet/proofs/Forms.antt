@@ -1,0 +1,159 @@
+-- The sheet's three forms of line keep the laws of a form: limit-laws, item-laws, bound-laws.
+--   LimitFits, Bare, BoundFits    what a line's value must be where it is read
+-- bare-same: a bare item is what its line gives. bare-of, fair-side: an item in range is bare without its bounds, which are in range.
+use mathlib.Core.Path.{_≡_, refl, sym, ap, _∙_}
+use mathlib.Core.Bool.{false}
+use mathlib.Core.List.{List, [], _∷_, _++_, append-assoc}
+use Prim.Native.Nat.{ℕ, suc, _≤_, _<_}
+use native.Mathlib.Omega.{arith}
+use borrow.Author.Tests.{le-ltb}
+use lib.Dec.{lit<, leb→le}
+use lib.IntN.{ℤ, pos, negsuc}
+use lib.ListN.{drop}
+use lib.Signed.{_≤ℤ_}
+use Rattle.knapsack.specs.declared.Bound.the-variants.{Absent}
+use Rattle.knapsack.specs.declared.Item.{Item}
+use Rattle.model.specs.declared.Side.{Side}
+use Rattle.model.specs.declared.Side.the-variants.{Lower, Upper}
+use Rattle.model.specs.Records.{outside, badBound, badFigure}
+use Rattle.model.proofs.Records.{neither}
+use Rattle.text.specs.Decimal.{integer}
+use Rattle.lines.specs.declared.number.Ranged.the-variants.{In, Out}
+use Rattle.lines.specs.declared.number.Field.{Field}
+use Rattle.lines.specs.declared.number.Field.the-variants.{Malformed, Number}
+use Rattle.lines.specs.declared.TwoNumbers.the-variants.{Both}
+use Rattle.lines.specs.declared.ItemRead.{ItemRead}
+use Rattle.lines.specs.declared.ItemRead.the-variants.{Fault as ItemFault, Read as ItemIs}
+use Rattle.lines.specs.declared.BoundRead.{BoundRead}
+use Rattle.lines.specs.declared.BoundRead.the-variants.{Fault as BoundFault, Read as BoundIs}
+use Rattle.lines.specs.Numbers.{fromTo, fieldAt}
+use Rattle.lines.specs.Lines.{numbersLine, prices, itemRead, boundRead}
+use Rattle.lines.specs.Layout.{itemText, Bounding, boundText}
+use Rattle.lines.proofs.Shapes.{field-range, numbers-parts, item-parts, bound-parts}
+use Rattle.lines.proofs.Standing.{Has, field-has, item-has, bound-has}
+use Rattle.lines.proofs.Rereading.{ranged-within, field-reads, bareOf, item-reads, bound-reads}
+use Rattle.sheet.specs.declared.Progress.{Progress}
+use Rattle.sheet.specs.Sections.{Gives, fault, gives}
+use Rattle.sheet.specs.Reading.{limits, limitGives, limitForm, itemGives, itemForm, boundGives, boundForm}
+use Rattle.sheet.specs.Printing.{sideOf}
+use Rattle.sheet.proofs.Sections.{Laws}
+
+no-value : {A B : Type 0} {n m : ℕ} {a : A} → fault n ≡ gives a m → B
+no-value h = absurd (let z : _≡_ {A = ℕ} 0 1 = cc in omega arith)
+
+within-range : (n : ℕ) (z : ℤ) → negsuc n ≤ℤ z → z ≤ℤ pos (suc n) → outside (suc n) z ≡ false
+within-range n (pos k) h l = le-ltb (suc n) k (leb→le k (suc n) (l .le))
+within-range n (negsuc k) h l = le-ltb (suc n) (suc k) (omega (arith, leb→le k n (h .le)))
+
+-- ---- the limit
+
+abbrev pub LimitFits : Progress → ℤ → Type 0
+LimitFits p b = outside 100000000 b ≡ false
+
+pub limit-laws : Laws limitForm LimitFits
+limit-laws = record {
+  has = λ s p b n h. has s p b n (fieldAt 10 limits s (p .at)) refl h;
+  reads = λ s p b l f h.
+      let r = field-reads 10 limits s (p .at) b l refl (ranged-within 99999999 b f) (h ∙ append-assoc (integer b) (10 ∷ []) l) in
+      (r .0, ap limitGives (r .1), r .2);
+}
+  where
+    has : (s : List ℕ) (p : Progress) (b : ℤ) (n : ℕ) (x : Field) → fieldAt 10 limits s (p .at) ≡ x → limitGives x ≡ gives b n →
+        LimitFits p b × Has s (p .at) (limitForm .text b) n
+    has s p b n Malformed e h = no-value h
+    has s p b n (Number Out k) e h = no-value h
+    has s p b n (Number (In c) k) e h =
+        let u : c ≡ b = cc in
+        let v : k ≡ n = cc in
+        let f : fieldAt 10 limits s (p .at) ≡ Number (In b) n = e ∙ rw (u, v) in
+        let r = field-range 10 limits s (p .at) b n f in
+        (within-range 99999999 b (r .0) (r .1), field-has 10 limits s (p .at) b n (lit< tt) f)
+
+-- ---- items
+
+-- an item as it is read: figures in range, no bounds
+pub record Bare (i : Item) : Type 0 where
+  pub weight : outside 1000 (i .weight) ≡ false
+  pub price : outside 10000 (i .price) ≡ false
+  pub lower : i .lower ≡ Absent
+  pub upper : i .upper ≡ Absent
+
+pub bare-same : (i : Item) → Bare i → bareOf i ≡ i
+bare-same i b = sym (let e : i ≡ record { mark = i .mark; weight = i .weight; price = i .price; lower = i .lower; upper = i .upper } = refl in
+    e ∙ rw (b .lower, b .upper))
+
+pub bare-of : (i : Item) → badFigure i ≡ false → Bare (bareOf i)
+bare-of i h =
+    let w = neither (outside 1000 (i .weight)) _ h in
+    let c = neither (outside 10000 (i .price)) _ (w .1) in
+    record { weight = w .0; price = c .0; lower = refl; upper = refl }
+
+pub fair-side : (side : Side) (i : Item) → badFigure i ≡ false → badBound (sideOf side i) ≡ false
+fair-side side i h =
+    let w = neither (outside 1000 (i .weight)) _ h in
+    let c = neither (outside 10000 (i .price)) _ (w .1) in
+    go side (neither (badBound (i .lower)) _ (c .1))
+  where
+    go : (side : Side) → (badBound (i .lower) ≡ false) × (badBound (i .upper) ≡ false) → badBound (sideOf side i) ≡ false
+    go Lower b = b .0
+    go Upper b = b .1
+
+item-bare : (s : List ℕ) (at : ℕ) (i : Item) (n : ℕ) → itemRead s at ≡ ItemIs i n → Bare i
+item-bare s at i n h =
+    let p = item-parts s at i n h in
+    let y = numbers-parts _ _ s (p .next) (In (i .weight)) (In (i .price)) n (p .numbers) in
+    let f = field-range 32 _ s (p .next) (i .weight) (y .next) (y .first) in
+    let g = field-range 10 _ s (y .next) (i .price) n (y .second) in
+    record { weight = within-range 999 (i .weight) (f .0) (f .1); price = within-range 9999 (i .price) (g .0) (g .1); lower = p .lower; upper = p .upper }
+
+pub item-laws : Laws itemForm (λ p i. Bare i)
+item-laws = record {
+  has = λ s p i n h. has s p i n (itemRead s (p .at)) refl h;
+  reads = λ s p i l f h.
+      let r = item-reads s (p .at) i l (f .weight) (f .price) h in
+      (r .0, ap itemGives (r .1 ∙ ap (λ j. ItemIs j (r .0)) (bare-same i f)), r .2);
+}
+  where
+    has : (s : List ℕ) (p : Progress) (i : Item) (n : ℕ) (x : ItemRead) → itemRead s (p .at) ≡ x → itemGives x ≡ gives i n →
+        Bare i × Has s (p .at) (itemText i) n
+    has s p i n (ItemFault k) e h = no-value h
+    has s p i n (ItemIs j k) e h =
+        let u : j ≡ i = cc in
+        let v : k ≡ n = cc in
+        let f : itemRead s (p .at) ≡ ItemIs i n = e ∙ rw (u, v) in
+        (item-bare s (p .at) i n f, item-has s (p .at) i n f)
+
+-- ---- bounds
+
+-- an item number of the record, above those before it, and a bound in range
+pub record BoundFits (p : Progress) (b : Bounding) : Type 0 where
+  pub least : 1 ≤ b .number
+  pub most : b .number ≤ p .model .count
+  pub rises : p .item < b .number
+  pub fair : outside 10000 (b .bound) ≡ false
+
+pub bound-laws : (side : Side) → Laws (boundForm side) BoundFits
+bound-laws side = record {
+  has = λ s p b n h. has s p b n (boundRead (p .model .count) (p .item) s (p .at)) refl h;
+  reads = λ s p b l f h.
+      let r = bound-reads (p .model .count) (p .item) s (p .at) b l (f .least) (f .most) (f .rises) (f .fair) h in
+      (r .0, ap boundGives (r .1), r .2);
+}
+  where
+    has : (s : List ℕ) (p : Progress) (b : Bounding) (n : ℕ) (x : BoundRead) → boundRead (p .model .count) (p .item) s (p .at) ≡ x →
+        boundGives x ≡ gives b n → BoundFits p b × Has s (p .at) (boundText b) n
+    has s p b n (BoundFault k) e h = no-value h
+    has s p b n (BoundIs j v k) e h =
+        let u : record { number = j; bound = v } ≡ b = cc in
+        let w : k ≡ n = cc in
+        let count = p .model .count in
+        let q = bound-parts count (p .item) s (p .at) j v k e in
+        let y = numbers-parts (fromTo 1 count) prices s (p .at) (In (pos j)) (In v) k (q .pair) in
+        let r = field-range 10 prices s (y .next) v k (y .second) in
+        let f : BoundFits p (record { number = j; bound = v }) = record {
+          least = q .least;
+          most = q .most;
+          rises = q .rises;
+          fair = within-range 9999 v (r .0) (r .1);
+        } in
+        rw (← u, ← w) (f, bound-has count (p .item) s (p .at) j v k e)
