@@ -60,7 +60,7 @@ fn timed<T>(mut work: impl FnMut() -> T) -> (T, f64) {
 
 fn measure(p: &Problem, o: &Options, row: &mut Row) {
     let sheet = p.sheet();
-    let (twin, twin_time) = timed(|| independent::read(&sheet).ok().and_then(|p| twin::plan(&p, o.limit)));
+    let (twin, twin_time) = timed(|| independent::read(&sheet).ok().and_then(|p| twin::plan(&p, twin::SEARCH_ONLY, o.limit)));
     let Some(twin) = twin else {
         row.over += 1;
         row.steps.push(u64::MAX);
