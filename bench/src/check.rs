@@ -29,7 +29,7 @@ fn total(p: &Problem, point: &[(i128, i128)], figure: impl Fn(&Item) -> i64) -> 
     (p.items.iter().zip(point).map(|(i, x)| figure(i) as i128 * x.0 * (d / x.1)).sum(), d)
 }
 
-fn check_point(p: &Problem, point: &[(i128, i128)]) -> Result<(), String> {
+pub fn check_point(p: &Problem, point: &[(i128, i128)]) -> Result<(), String> {
     for (k, (i, x)) in p.items.iter().zip(point).enumerate() {
         if !amount_keeps(i, x.0, x.1) {
             return Err(format!("amount of item {}", k + 1));

@@ -4,8 +4,8 @@ use crate::check::check;
 use crate::draw::{kind, Rng, KINDS};
 use crate::independent::{self, Reply};
 use crate::ours;
+use crate::progress::Progress;
 use crate::twin;
-use std::time::{Duration, Instant};
 
 /// How often each reply came: refused, infeasible, unbounded, best; and what was left out.
 #[derive(Clone, Copy, Default)]
@@ -76,12 +76,9 @@ pub fn compare(seed: u64, count: u64, limit: u64) -> bool {
     println!("Comparison with the independent planner: {count} sheets, seed {seed}");
     let mut rng = Rng(seed);
     let mut counts = [Counts::default(); KINDS.len()];
-    let mut shown = Instant::now();
+    let mut progress = Progress::new();
     for done in 0..count {
-        if shown.elapsed() > Duration::from_secs(2) {
-            eprintln!("  {done} of {count} sheets compared, {} differ", counts.iter().map(|c| c.differ).sum::<u64>());
-            shown = Instant::now();
-        }
+        progress.show(|| format!("{done} of {count} sheets compared, {} differ", counts.iter().map(|c| c.differ).sum::<u64>()));
         let k = kind(&mut rng);
         let sheet = KINDS[k].2(&mut rng);
         if let Err(what) = compare_sheet(&sheet, limit, &mut counts[k]) {

@@ -143,6 +143,30 @@ fn small(rng: &mut Rng) -> Problem {
     Problem { limit: rng.between(-a * b, 3 * a * b), items }
 }
 
+/// A small problem with every lower bound, for plain enumeration: weights of continuous items divide 12, and ratios are often equal.
+pub fn tiny(rng: &mut Rng) -> Problem {
+    let (style, soft, open) = (rng.between(0, 3), rng.pick(&[0, 20, 50]), rng.pick(&[0, 0, 20]));
+    let mut continuous = 0;
+    let items: Vec<Item> = (0..rng.between(1, 4))
+        .map(|_| {
+            let is_soft = continuous < 2 && rng.chance(soft);
+            continuous += is_soft as i64;
+            let weight = rng.pick(&[-6, -4, -3, -2, -1, 0, 1, 2, 3, 4, 6]) + if is_soft { 0 } else { rng.pick(&[0, 0, 1]) };
+            let price = match style {
+                0 => weight,
+                1 => rng.between(-7, 7),
+                2 => 2 * weight + weight.signum(),
+                _ => weight * rng.between(0, 1) + rng.between(0, 1) * weight.signum(),
+            };
+            let lower = rng.between(-2, 2);
+            let upper = lower + rng.between(0, if is_soft { 3 } else { 6 });
+            Item { integer: !is_soft, weight, price, lower: Some(lower), upper: (!rng.chance(open)).then_some(upper) }
+        })
+        .collect();
+    let (least, most) = weights(&items);
+    Problem { limit: rng.between(least.clamp(-40, 40) - 3, most.clamp(-40, 40) + 3), items }
+}
+
 fn equal_ratios(rng: &mut Rng) -> Problem {
     let ratio = rng.between(-1, 3);
     let items = (0..rng.between(2, 8))

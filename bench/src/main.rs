@@ -3,11 +3,14 @@
 mod check;
 mod compare;
 mod draw;
+mod enumeration;
 mod independent;
 mod ours;
 mod problem;
+mod progress;
 mod rivals;
 mod speed;
+mod trial;
 mod twin;
 
 const USAGE: &str = "bench/run [quick] [compare | speed | reply] [--seed N] [--sheets N] [--steps N]
@@ -54,9 +57,12 @@ fn main() {
     let seed = a.number("--seed").unwrap_or(1);
     let sheets = a.number("--sheets");
     let steps = a.number("--steps");
-    let reply = a.word("reply");
+    let (reply, trial) = (a.word("reply"), a.word("self"));
     if !a.words.is_empty() {
         usage();
+    }
+    if trial {
+        std::process::exit(if trial::trial(seed, sheets.unwrap_or(if quick { 2000 } else { 20_000 })) { 0 } else { 1 });
     }
     if reply {
         return rivals::reply();
