@@ -52,7 +52,7 @@ fn check_buffers(sheet: &[u8], text: &str) -> Result<(), String> {
 
 fn compare_sheet(sheet: &[u8], limit: u64, counts: &mut Counts) -> Result<(), String> {
     let problem = independent::read(sheet);
-    let twin = problem.as_ref().ok().map(|p| twin::plan(p, twin::SEARCH_ONLY, limit));
+    let twin = problem.as_ref().ok().map(|p| twin::plan(p, ours::RULES, limit));
     if let Some(None) = twin {
         counts.left_out += 1;
         return Ok(());
@@ -87,6 +87,7 @@ pub fn compare(seed: u64, count: u64, limit: u64) -> bool {
         }
     }
     show(&counts, limit);
+    println!();
     counts.iter().all(|c| c.differ == 0)
 }
 

@@ -1,5 +1,6 @@
-//! Drawn sheets. Every draw comes from one seed, by splitmix64.
+//! Drawn sheets of mixed kinds, for the comparison. Every draw comes from one seed, by splitmix64.
 
+use crate::families::{COMPARED, FAMILIES};
 use crate::problem::{Item, Problem};
 
 pub struct Rng(pub u64);
@@ -26,71 +27,6 @@ impl Rng {
         list[self.between(0, list.len() as i64 - 1) as usize]
     }
 }
-
-// ---- the families of the speed table
-
-#[derive(Clone, Copy, PartialEq)]
-pub enum Family {
-    Uncorrelated,
-    Weakly,
-    Strongly,
-    Inversely,
-    SubsetSum,
-    EvenOdd,
-    Similar,
-}
-
-pub const FAMILIES: [(Family, &str); 7] = [
-    (Family::Uncorrelated, "uncorrelated"),
-    (Family::Weakly, "weakly correlated"),
-    (Family::Strongly, "strongly correlated"),
-    (Family::Inversely, "inversely correlated"),
-    (Family::SubsetSum, "subset sum"),
-    (Family::EvenOdd, "even weights, odd limit"),
-    (Family::Similar, "similar weights"),
-];
-
-fn weight_and_price(rng: &mut Rng, family: Family) -> (i64, i64) {
-    let a = rng.between(1, 1000);
-    match family {
-        Family::Uncorrelated => (a, rng.between(1, 1000)),
-        Family::Weakly => (a, rng.between(a - 100, a + 100).max(1)),
-        Family::Strongly => (a, a + 100),
-        Family::Inversely => {
-            let c = rng.between(1, 900);
-            (c + 100, c)
-        }
-        Family::SubsetSum => (a, a),
-        Family::EvenOdd => {
-            let even = 2 * rng.between(1, 500);
-            (even, even)
-        }
-        Family::Similar => (rng.between(900, 1000), rng.between(1, 1000)),
-    }
-}
-
-/// 16 items from 0 to `bound`, the last of them continuous; the limit is half of what all weigh, at most 100,000,000.
-pub fn family(rng: &mut Rng, family: Family, bound: i64, continuous: usize) -> Problem {
-    let items: Vec<Item> = (0..16)
-        .map(|k| {
-            let (weight, price) = weight_and_price(rng, family);
-            Item { integer: k + continuous < 16, weight, price, lower: Some(0), upper: Some(bound) }
-        })
-        .collect();
-    let half = items.iter().map(|i| i.weight * bound).sum::<i64>() / 2;
-    let limit = match family {
-        Family::EvenOdd => (half | 1).min(99_999_999),
-        _ => half.min(100_000_000),
-    };
-    Problem { limit, items }
-}
-
-/// An item of weight and price 1.
-pub fn unit_item() -> Item {
-    Item { integer: true, weight: 1, price: 1, lower: Some(0), upper: Some(9) }
-}
-
-// ---- sheets of mixed kinds, for the comparison
 
 /// A kind of sheet, and how many of a thousand are of it.
 pub type Kind = (&'static str, i64, fn(&mut Rng) -> Vec<u8>);
@@ -249,9 +185,9 @@ fn far_out(rng: &mut Rng) -> Problem {
 }
 
 fn some_family(rng: &mut Rng) -> Problem {
-    let (f, _) = rng.pick(&FAMILIES);
+    let family = &FAMILIES[rng.between(0, COMPARED as i64 - 1) as usize];
     let (bound, continuous) = (rng.pick(&[1, 1, 1, 2, 2, 5, 5, 10, 100, 10_000]), rng.pick(&[0, 0, 1, 2]));
-    let mut p = family(rng, f, bound, continuous);
+    let mut p = family.draw(rng, bound, continuous);
     p.items.truncate(rng.pick(&[4, 8, 16]));
     p.limit = p.limit.min(weights(&p.items).1 / 2);
     p
