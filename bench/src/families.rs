@@ -11,7 +11,7 @@ type Figures = (i64, i64);
 pub struct Family {
     pub name: &'static str,
     pub bounds: [i64; 4],
-    figures: fn(&mut Rng) -> Vec<Figures>,
+    figures: fn(&mut Rng, usize) -> Vec<Figures>,
     /// amounts from -bound, not from 0
     both_ways: bool,
     odd_limit: bool,
@@ -25,25 +25,25 @@ pub const CONTINUOUS: [usize; 4] = [0, 1, 2, 4];
 const WIDE: [i64; 4] = [1, 10, 100, 10_000];
 const NARROW: [i64; 4] = [3, 10, 30, 100];
 
-const fn family(name: &'static str, figures: fn(&mut Rng) -> Vec<Figures>) -> Family {
+const fn family(name: &'static str, figures: fn(&mut Rng, usize) -> Vec<Figures>) -> Family {
     Family { name, bounds: WIDE, figures, both_ways: false, odd_limit: false }
 }
 
 pub const FAMILIES: [Family; 14] = [
-    family("uncorrelated", |rng| items(rng, |rng, a| (a, rng.between(1, 1000)))),
-    family("weakly correlated", |rng| items(rng, |rng, a| (a, rng.between(a - 100, a + 100).max(1)))),
-    family("strongly correlated", |rng| items(rng, |_, a| (a, a + SURCHARGE))),
-    family("inversely correlated", |rng| items(rng, inversely)),
-    family("subset sum", |rng| items(rng, |_, a| (a, a))),
-    Family { odd_limit: true, ..family("even weights, odd limit", |rng| items(rng, even)) },
-    family("similar weights", |rng| items(rng, |rng, _| (rng.between(900, 1000), rng.between(1, 1000)))),
+    family("uncorrelated", |rng, _| items(rng, |rng, a| (a, rng.between(1, 1000)))),
+    family("weakly correlated", |rng, _| items(rng, |rng, a| (a, rng.between(a - 100, a + 100).max(1)))),
+    family("strongly correlated", |rng, _| items(rng, |_, a| (a, a + SURCHARGE))),
+    family("inversely correlated", |rng, _| items(rng, inversely)),
+    family("subset sum", |rng, _| items(rng, |_, a| (a, a))),
+    Family { odd_limit: true, ..family("even weights, odd limit", |rng, _| items(rng, even)) },
+    family("similar weights", |rng, _| items(rng, |rng, _| (rng.between(900, 1000), rng.between(1, 1000)))),
     Family { bounds: NARROW, ..family("ingots and a surcharge", ingots) },
     family("multiples of two weights", multiples),
-    family("similar and correlated", |rng| items(rng, similar)),
-    family("ceilings of prices", |rng| items(rng, |_, a| (a, (a + CEILING - 1) / CEILING * CEILING))),
-    family("prices on a circle", |rng| items(rng, |_, a| (a, on_circle(a)))),
-    Family { both_ways: true, ..family("both signs", |rng| items(rng, either_sign)) },
-    family("covering, minus signs", |rng| items(rng, |_, a| (-a, -a - SURCHARGE))),
+    family("similar and correlated", |rng, _| items(rng, similar)),
+    family("ceilings of prices", |rng, _| items(rng, |_, a| (a, (a + CEILING - 1) / CEILING * CEILING))),
+    family("prices on a circle", |rng, _| items(rng, |_, a| (a, on_circle(a)))),
+    Family { both_ways: true, ..family("both signs", |rng, _| items(rng, either_sign)) },
+    family("covering, minus signs", |rng, _| items(rng, |_, a| (-a, -a - SURCHARGE))),
 ];
 
 /// The families that the comparison draws from.
@@ -93,7 +93,7 @@ fn on_circle(a: i64) -> i64 {
 }
 
 /// Nearly equal weights, a price for a unit of weight and a fixed surcharge.
-fn ingots(rng: &mut Rng) -> Vec<Figures> {
+fn ingots(rng: &mut Rng, _: usize) -> Vec<Figures> {
     let (price, surcharge) = (rng.between(1, 9), rng.between(1, 500));
     (0..ITEMS)
         .map(|_| {
@@ -103,17 +103,22 @@ fn ingots(rng: &mut Rng) -> Vec<Figures> {
         .collect()
 }
 
-/// Small multiples of two items.
-fn multiples(rng: &mut Rng) -> Vec<Figures> {
+/// Small multiples of two items; continuous ones are worth less for their weight.
+fn multiples(rng: &mut Rng, continuous: usize) -> Vec<Figures> {
     let mut base = || {
-        let a = rng.between(20, 100);
+        let a = rng.between(50, 100);
         (a, a + SURCHARGE / 10)
     };
     let bases = [base(), base()];
     (0..ITEMS)
-        .map(|_| {
+        .map(|k| {
             let ((a, c), m) = (rng.pick(&bases), rng.between(1, 10));
-            (m * a, m * c)
+            let loose = rng.between(1, 1000);
+            if k + continuous < ITEMS {
+                (m * a, m * c)
+            } else {
+                (loose, loose)
+            }
         })
         .collect()
 }
@@ -129,7 +134,7 @@ impl Family {
             lower: Some(lower),
             upper: Some(bound),
         };
-        let items: Vec<Item> = (self.figures)(rng).into_iter().enumerate().map(item).collect();
+        let items: Vec<Item> = (self.figures)(rng, continuous).into_iter().enumerate().map(item).collect();
         let half = items.iter().map(|i| i.weight * (lower + bound)).sum::<i64>() / 2;
         let limit = if self.odd_limit { (half | 1).min(99_999_999) } else { half.clamp(-100_000_000, 100_000_000) };
         Problem { limit, items }

@@ -106,7 +106,7 @@ fn show_start(solver: Solver) {
 pub fn show(solvers: &[Solver], rows: &[(usize, Row)], raced: usize) {
     println!();
     println!("Whole processes, from a problem to its solution in a file: median and worst of the first {raced} sheets of each row, in ms,");
-    println!("the least of three runs, of one above 10 ms; + if one was not done in {LIMIT} s");
+    println!("the least of three runs, of one if it takes a quarter of a second; + if one was not done in {LIMIT} s");
     for rival in RIVALS.into_iter().filter(|r| solvers.iter().all(|s| s.name() != r.name())) {
         println!("{} is not installed", rival.name());
     }

@@ -26,8 +26,8 @@ pub struct Options {
     pub picture: Option<String>,
 }
 
-/// The sheets of a family with a bound and some continuous items: the twin's work on those that it finished, seconds of ours and of the twin
-/// on those that both did, and the solvers as processes on the first of them.
+/// The sheets of a family with a bound and some continuous items: work and seconds of those that were done, and what both did of them; and
+/// the solvers as processes on the first sheets.
 #[derive(Default)]
 pub struct Row {
     pub name: &'static str,
@@ -36,23 +36,54 @@ pub struct Row {
     cells: Vec<u64>,
     pub ours: Vec<f64>,
     twin: Vec<f64>,
-    over: usize,
-    agree: usize,
-    same: usize,
-    deep: Deep,
+    pub over: usize,
+    both: Both,
     pub races: Vec<Race>,
 }
 
-/// Sheets that are all scales: cells, and seconds of ours and of the twin.
+/// Sheets that both did: how many, on how many work and text agree, seconds; and cells and seconds of the deep ones.
 #[derive(Clone, Copy, Default)]
-struct Deep {
-    cells: u64,
+struct Both {
+    count: usize,
+    agree: usize,
+    same: usize,
+    seconds: Pair,
+    deep_cells: u64,
+    deep: Pair,
+}
+
+/// Ours and the twin's.
+#[derive(Clone, Copy, Default)]
+struct Pair {
     ours: f64,
     twin: f64,
 }
 
-/// From so many cells on the steps do not count.
+/// From so many cells on the steps of a sheet do not count.
 const DEEP: u64 = 1_000_000;
+
+impl Pair {
+    fn plus(self, other: Pair) -> Pair {
+        Pair { ours: self.ours + other.ours, twin: self.twin + other.twin }
+    }
+
+    fn ratio(self) -> f64 {
+        self.ours / self.twin
+    }
+}
+
+impl Both {
+    fn plus(self, other: Both) -> Both {
+        Both {
+            count: self.count + other.count,
+            agree: self.agree + other.agree,
+            same: self.same + other.same,
+            seconds: self.seconds.plus(other.seconds),
+            deep_cells: self.deep_cells + other.deep_cells,
+            deep: self.deep.plus(other.deep),
+        }
+    }
+}
 
 /// Whether our program ends on a problem in good time.
 fn ends(p: &Problem, o: &Options) -> bool {
@@ -64,21 +95,26 @@ fn measure(p: &Problem, o: &Options, row: &mut Row) {
     let (twin, twin_time) = timed(|| independent::read(&sheet).ok().and_then(|p| twin::plan(&p, o.rules, o.limit)));
     row.steps.push(twin.as_ref().map_or(u64::MAX, |t| t.steps));
     row.cells.push(twin.as_ref().map_or(0, |t| t.cells));
+    if twin.is_some() {
+        row.twin.push(twin_time);
+    }
     let Some(twin) = twin.filter(|_| ends(p, o)) else {
         row.over += 1;
         return;
     };
     let (text, our_time) = timed(|| ours::plan(&sheet));
-    let work = ours::work(&sheet);
     row.ours.push(our_time);
-    row.twin.push(twin_time);
-    row.agree += (work.steps == twin.steps && work.cells.is_none_or(|c| c == twin.cells)) as usize;
-    row.same += (text == twin.text) as usize;
-    if twin.cells >= DEEP {
-        row.deep.cells += twin.cells;
-        row.deep.ours += our_time;
-        row.deep.twin += twin_time;
-    }
+    let work = ours::work(&sheet);
+    let seconds = Pair { ours: our_time, twin: twin_time };
+    let is_deep = twin.cells >= DEEP;
+    row.both = row.both.plus(Both {
+        count: 1,
+        agree: (work.steps == twin.steps && work.cells.is_none_or(|c| c == twin.cells)) as usize,
+        same: (text == twin.text) as usize,
+        seconds,
+        deep_cells: if is_deep { twin.cells } else { 0 },
+        deep: if is_deep { seconds } else { Pair::default() },
+    });
 }
 
 fn sheets(family: &Family, bound: i64, continuous: usize, o: &Options) -> Vec<Problem> {
@@ -117,10 +153,6 @@ fn three(list: &[f64], unit: f64) -> String {
 }
 
 impl Row {
-    fn ratio(&self) -> f64 {
-        self.ours.iter().sum::<f64>() / self.twin.iter().sum::<f64>()
-    }
-
     fn show(&self, o: &Options) {
         let steps = [MEDIAN, NINETY_NINTH, WORST].map(|share| format!("{:>8}", many(at(&self.steps, share).unwrap_or(0), o.limit)));
         let cells = [MEDIAN, NINETY_NINTH, WORST].map(|share| format!("{:>6}", at(&self.cells, share).unwrap_or(0).div_ceil(1000)));
@@ -132,7 +164,7 @@ impl Row {
             cells.join(" "),
             three(&self.ours, 1e6),
             three(&self.twin, 1e6),
-            self.ratio(),
+            self.both.seconds.ratio(),
             self.over
         );
     }
@@ -152,75 +184,55 @@ fn introduce(o: &Options) {
         true => println!("The twin searches for {} steps, then it goes by scales", o.rules.steps),
         false => println!("The twin searches until it ends, without scales"),
     }
-    println!("steps, cells: the twin's; us: from a sheet to its text, the least of three runs; ratio: our time by the twin's, of all sheets");
+    println!("steps, cells: the twin's; us: from a sheet to its text, the least of three runs; ratio: our time by the twin's, of all sheets that both did");
     if !ours::RULES.is_bounded() {
         println!("over: sheets whose search takes more than {} steps; ours is not timed on them", o.limit);
     }
 }
 
-/// What all rows come to.
-#[derive(Default)]
-struct Sum {
-    of: usize,
-    agree: usize,
-    same: usize,
-    most_steps: u64,
-    most_cells: u64,
-    highest: f64,
-    deep: Deep,
-}
-
-impl Sum {
-    fn add(&mut self, row: &Row) {
-        self.of += row.ours.len();
-        self.agree += row.agree;
-        self.same += row.same;
-        self.most_steps = self.most_steps.max(at(&row.steps, WORST).unwrap_or(0));
-        self.most_cells = self.most_cells.max(at(&row.cells, WORST).unwrap_or(0));
-        self.highest = self.highest.max(row.ratio());
-        self.deep.cells += row.deep.cells;
-        self.deep.ours += row.deep.ours;
-        self.deep.twin += row.deep.twin;
+/// What all rows come to. Whether work and text are the same on all sheets that both did.
+fn sum_up(rows: &[(usize, Row)], o: &Options) -> bool {
+    let both = rows.iter().fold(Both::default(), |sum, (_, r)| sum.plus(r.both));
+    let most = |list: fn(&Row) -> &[u64]| rows.iter().filter_map(|(_, r)| at(list(r), WORST)).max().unwrap_or(0);
+    let highest = rows.iter().map(|(_, r)| r.both.seconds.ratio()).fold(0.0, f64::max);
+    let Both { count, agree, same, deep_cells, deep, .. } = both;
+    println!();
+    println!("work agrees on {agree} of {count} sheets that both did; texts agree on {same} of {count}");
+    println!("most steps {}, most cells {}; highest ratio of a row {highest:.2}", many(most(|r| &r.steps), o.limit), most(|r| &r.cells));
+    if deep_cells > 0 {
+        let per_cell = |seconds: f64| seconds * 1e9 / deep_cells as f64;
+        println!(
+            "a cell, on sheets of {DEEP} or more that both did: ours {:.2} ns, the twin {:.2} ns, ratio {:.2}",
+            per_cell(deep.ours),
+            per_cell(deep.twin),
+            deep.ratio()
+        );
     }
-
-    fn show(&self, o: &Options) {
-        let Sum { of, agree, same, highest, deep, .. } = self;
-        println!();
-        println!("work agrees on {agree} of {of} sheets that both did; texts agree on {same} of {of}");
-        println!("most steps {}, most cells {}; highest ratio of a row {highest:.2}", many(self.most_steps, o.limit), self.most_cells);
-        if deep.cells > 0 {
-            let per_cell = |seconds: f64| seconds * 1e9 / deep.cells as f64;
-            println!(
-                "a cell, on sheets of {DEEP} or more that both did: ours {:.2} ns, the twin {:.2} ns, ratio {:.2}",
-                per_cell(deep.ours),
-                per_cell(deep.twin),
-                deep.ours / deep.twin
-            );
-        }
-    }
+    agree == count && same == count
 }
 
 /// Whether what was measured is the same work and the same text wherever ours and the twin go by the same rules.
 pub fn speed(o: &Options) -> bool {
     let solvers = race::solvers();
     introduce(o);
-    let (mut sum, mut rows) = (Sum::default(), vec![]);
+    let mut rows = vec![];
     for &continuous in o.continuous {
         heading(continuous);
         for family in FAMILIES.iter().filter(|f| f.name.contains(&o.family)) {
             for bound in family.bounds {
                 let row = measured(family, bound, continuous, &solvers, o);
                 row.show(o);
-                sum.add(&row);
                 rows.push((continuous, row));
             }
         }
     }
-    sum.show(o);
-    race::show(&solvers, &rows, o.raced);
+    let is_same = sum_up(&rows, o);
+    if o.raced > 0 {
+        race::show(&solvers, &rows, o.raced);
+    }
     if let Some(file) = &o.picture {
         std::fs::write(file, picture::draw(&solvers, &rows, o)).expect("a file for the picture");
         println!("picture: {file}");
     }
-    o.rules != ours::RULES || (sum.agree == sum.of && sum.same == sum.of)
+    o.rules != ours::RULES || is_same
 }

@@ -14,7 +14,7 @@ pub fn at<T: Copy>(sorted: &[T], share: usize) -> Option<T> {
 }
 
 /// A run that takes longer is not repeated.
-const LONG: f64 = 0.01;
+const LONG: f64 = 0.25;
 
 /// The least time of up to three runs, in seconds; one if it is long.
 pub fn timed<T>(mut work: impl FnMut() -> T) -> (T, f64) {
