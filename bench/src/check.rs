@@ -63,6 +63,16 @@ fn check_best<'a>(p: &Problem, value: (i128, i128), mut lines: impl Iterator<Ite
     lines.next().map_or(Ok(()), |_| Err("too many lines".into()))
 }
 
+/// The point of a best reply is this one.
+pub fn check_is(point: &[(i128, i128)], text: &str) -> Result<(), String> {
+    let lines: Vec<String> = point.iter().enumerate().map(|(k, x)| format!("{} {} {}", k + 1, x.0, x.1)).collect();
+    if text.lines().skip(1).eq(lines.iter().map(String::as_str)) {
+        Ok(())
+    } else {
+        Err(format!("the first best point is {point:?}"))
+    }
+}
+
 fn check_unbounded<'a>(p: &Problem, mut lines: impl Iterator<Item = &'a str>) -> Result<(), String> {
     if lines.next() != Some("unbounded") {
         return Err("kind".into());

@@ -1,11 +1,15 @@
 //! Our replies beside those of the independent planner, on drawn sheets of mixed kinds.
 
-use crate::check::check;
+use crate::check::{check, check_is};
 use crate::draw::{kind, Rng, KINDS};
 use crate::independent::{self, Reply};
 use crate::ours;
+use crate::problem::Problem;
 use crate::progress::Progress;
 use crate::twin;
+
+/// Whether our planner promises the best point that comes first, where every lower bound is present (paper 02, request 5).
+const FIRST: bool = false;
 
 /// How often each reply came: refused, infeasible, unbounded, best; and what was left out.
 #[derive(Clone, Copy, Default)]
@@ -37,6 +41,13 @@ fn check_verdict(sheet: &[u8], expected: Reply) -> Result<(), String> {
     }
 }
 
+fn check_first(problem: &Problem, text: &str) -> Result<(), String> {
+    match independent::first(problem) {
+        Some(point) => check_is(&point, text),
+        None => Ok(()),
+    }
+}
+
 /// Lent buffers that just do and just do not hold the text.
 fn check_buffers(sheet: &[u8], text: &str) -> Result<(), String> {
     let mut tight = vec![7; text.len()];
@@ -65,7 +76,9 @@ fn compare_sheet(sheet: &[u8], limit: u64, counts: &mut Counts) -> Result<(), St
     counts.replies[column(expected)] += 1;
     let twin = twin.flatten();
     counts.twin_agrees += twin.as_ref().is_some_and(|t| t.text == text) as u64;
+    let in_order = problem.as_ref().ok().filter(|_| FIRST);
     check(problem.as_ref().ok(), expected, &text)
+        .and_then(|_| in_order.map_or(Ok(()), |p| check_first(p, &text)))
         .and_then(|_| check_verdict(sheet, expected))
         .and_then(|_| if twin.is_none_or(|t| t.steps < 1000) { check_buffers(sheet, &text) } else { Ok(()) })
         .map_err(|what| format!("{what}; expected {expected:?}, ours is\n{text}"))

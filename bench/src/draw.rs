@@ -1,6 +1,7 @@
 //! Drawn sheets of mixed kinds, for the comparison. Every draw comes from one seed, by splitmix64.
 
 use crate::families::{COMPARED, FAMILIES};
+use crate::independent::CROSSING_IS_REFUSED;
 use crate::problem::{Item, Problem};
 
 pub struct Rng(pub u64);
@@ -65,13 +66,16 @@ fn item(rng: &mut Rng, weight: i64, price: i64, lower: i64, upper: i64, absent: 
     }
 }
 
+/// How many bounds of a hundred cross in a small problem.
+const CROSSING: i64 = if CROSSING_IS_REFUSED { 1 } else { 5 };
+
 fn small(rng: &mut Rng) -> Problem {
     let (a, c, b) = rng.pick(&[(2, 3, 2), (5, 7, 4), (10, 20, 6), (30, 50, 20)]);
     let absent = rng.pick(&[0, 0, 20]);
     let items = (0..rng.between(1, 6))
         .map(|_| {
             let lower = rng.between(-b, b);
-            let upper = if rng.chance(1) { lower - 1 } else { lower + rng.between(0, 2 * b) };
+            let upper = if rng.chance(CROSSING) { lower - 1 } else { lower + rng.between(0, 2 * b) };
             let (weight, price) = (rng.between(-a, a), rng.between(-c, c));
             item(rng, weight, price, lower, upper, absent)
         })

@@ -19,8 +19,9 @@ pub struct Family {
 
 pub const ITEMS: usize = 16;
 
-/// How many continuous items the rows of a family have.
+/// How many continuous items the rows of a family have, in full and in a quick run.
 pub const CONTINUOUS: [usize; 4] = [0, 1, 2, 4];
+pub const FEW_CONTINUOUS: [usize; 2] = [0, 2];
 
 const WIDE: [i64; 4] = [1, 10, 100, 10_000];
 const NARROW: [i64; 4] = [3, 10, 30, 100];

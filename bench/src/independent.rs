@@ -21,6 +21,9 @@ pub enum Reply {
     Best(i128, i128),
 }
 
+/// Whether a lower bound above its upper one is refused; if not, the sheet is infeasible (paper 02, request 2).
+pub const CROSSING_IS_REFUSED: bool = true;
+
 // ---- reading a sheet
 
 struct Lines<'a> {
@@ -131,11 +134,15 @@ pub fn read(sheet: &[u8]) -> Result<Problem, Refusal> {
     }
     for (k, value, line) in uppers {
         items[k].upper = Some(value);
-        if items[k].lower.is_some_and(|l| l > value) {
+        if CROSSING_IS_REFUSED && crosses(&items[k]) {
             return Err(Refusal { number: 6, line });
         }
     }
     Ok(Problem { limit, items })
+}
+
+fn crosses(i: &Item) -> bool {
+    i.lower.zip(i.upper).is_some_and(|(l, u)| l > u)
 }
 
 // ---- the dual of the relaxation
@@ -345,9 +352,13 @@ fn lowest(n: i128, d: i128) -> (i128, i128) {
     (n / gcd(n, d), d / gcd(n, d))
 }
 
-/// The light corner is a point, so a problem is infeasible only if that is too heavy.
+/// Where no bounds cross the light corner is a point, so that a problem is infeasible only if it is too heavy.
+fn is_infeasible(p: &Problem) -> bool {
+    p.items.iter().any(crosses) || lightest(&p.items).is_some_and(|w| w > p.limit)
+}
+
 pub fn plan(p: &Problem) -> Reply {
-    if lightest(&p.items).is_some_and(|w| w > p.limit) {
+    if is_infeasible(p) {
         return Reply::Infeasible;
     }
     match least(&dual(&p.items), p.limit) {

@@ -18,7 +18,7 @@ mod stats;
 mod trial;
 mod twin;
 
-use families::CONTINUOUS;
+use families::{CONTINUOUS, FEW_CONTINUOUS};
 
 const USAGE: &str = include_str!("../usage.txt");
 
@@ -73,7 +73,7 @@ fn main() {
         raced: a.number("--raced").unwrap_or(choose(3, 11)) as usize,
         limit: steps.unwrap_or(choose(100_000, 1_000_000)),
         rules: if a.word("--scales") { twin::WITH_SCALES } else { ours::RULES },
-        continuous: if quick { &CONTINUOUS[..2] } else { &CONTINUOUS },
+        continuous: if quick { &FEW_CONTINUOUS } else { &CONTINUOUS },
         family: a.value("--family").unwrap_or_default(),
         picture: a.value("--svg"),
     };

@@ -1,9 +1,10 @@
 //! The speed table as a picture in SVG: a family a row, times on a logarithmic scale, the median and the worst sheet of each solver.
 
+use crate::families::FAMILIES;
 use crate::race::Race;
 use crate::rivals::{Solver, LIMIT};
 use crate::speed::{Options, Row};
-use crate::stats::{at, MEDIAN, WORST};
+use crate::stats::{MEDIAN, WORST};
 
 const WIDTH: f64 = 960.0;
 const LEFT: f64 = 200.0;
@@ -89,18 +90,12 @@ fn strip(s: &Series, t: &Times, y: f64) -> String {
     out + &(s.mark)(from, y, colour)
 }
 
-/// Of all rows of a family: ours as a call, then each solver as a process.
+/// Of all rows of a family: ours as a call, then each solver as a process. What was left out counts as not done.
 fn times(rows: &[&Row], solvers: usize) -> Vec<Times> {
-    let mut calls: Vec<f64> = rows.iter().flat_map(|r| r.ours.iter().copied()).collect();
-    calls.sort_by(f64::total_cmp);
-    let late = rows.iter().any(|r| r.over > 0);
-    let of = |share| at(&calls, share).unwrap_or(LIMIT as f64);
-    let mut list = vec![Times { median: of(MEDIAN), worst: if late { LIMIT as f64 } else { of(WORST) }, is_late: late }];
-    for k in 0..solvers {
-        let all = rows.iter().fold(Race::default(), |sum, r| sum.with(&r.races[k]));
-        list.push(Times { median: all.at(MEDIAN), worst: all.at(WORST), is_late: all.late > 0 });
-    }
-    list
+    let calls = rows.iter().fold(Race::default(), |sum, r| sum.with(&r.calls()));
+    let processes = (0..solvers).map(|k| rows.iter().fold(Race::default(), |sum, r| sum.with(&r.races[k])));
+    let times = |r: Race| Times { median: r.at(MEDIAN), worst: r.at(WORST), is_late: r.late > 0 };
+    std::iter::once(calls).chain(processes).map(times).collect()
 }
 
 fn grid(bottom: f64) -> String {
@@ -120,10 +115,8 @@ fn legend(list: &[Series]) -> String {
 
 pub fn draw(solvers: &[Solver], rows: &[(usize, Row)], o: &Options) -> String {
     let list = series(solvers);
-    let mut names: Vec<&str> = rows.iter().map(|(_, r)| r.name).collect();
-    names.dedup();
-    let mut seen = vec![];
-    names.retain(|n| !seen.contains(n) && (seen.push(*n), true).1);
+    let is_there = |name: &&str| rows.iter().any(|(_, r)| r.name == *name);
+    let names: Vec<&str> = FAMILIES.iter().map(|f| f.name).filter(is_there).collect();
     let height = LINE * list.len() as f64 + GAP;
     let bottom = TOP + height * names.len() as f64;
     let mut out = format!(

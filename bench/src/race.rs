@@ -17,6 +17,11 @@ pub struct Race {
 }
 
 impl Race {
+    /// Of sheets that were done, and of those that were not.
+    pub fn of(done: &[f64], late: usize) -> Race {
+        Race { seconds: done.iter().copied().chain(std::iter::repeat_n(LIMIT as f64, late)).collect(), late, right: done.len() }
+    }
+
     pub fn at(&self, share: usize) -> f64 {
         at(&self.seconds, share).unwrap_or(0.0)
     }

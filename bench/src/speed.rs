@@ -34,9 +34,9 @@ pub struct Row {
     pub bound: i64,
     steps: Vec<u64>,
     cells: Vec<u64>,
-    pub ours: Vec<f64>,
+    ours: Vec<f64>,
     twin: Vec<f64>,
-    pub over: usize,
+    over: usize,
     both: Both,
     pub races: Vec<Race>,
 }
@@ -153,6 +153,11 @@ fn three(list: &[f64], unit: f64) -> String {
 }
 
 impl Row {
+    /// Ours as a call on all sheets; those left out count as not done.
+    pub fn calls(&self) -> Race {
+        Race::of(&self.ours, self.over)
+    }
+
     fn show(&self, o: &Options) {
         let steps = [MEDIAN, NINETY_NINTH, WORST].map(|share| format!("{:>8}", many(at(&self.steps, share).unwrap_or(0), o.limit)));
         let cells = [MEDIAN, NINETY_NINTH, WORST].map(|share| format!("{:>6}", at(&self.cells, share).unwrap_or(0).div_ceil(1000)));

@@ -7,7 +7,7 @@
 //! worse, so they gain; but then x with a little of them would be better. So, as in `integer_table`, steps of both signs in turns are fewer
 //! than 2 D, and those that are left, all of one sign, weigh less than 2 D. No part is farther than 4 D from x, and no sum leaves D D + 3 D.
 
-use super::{best_value, dual, least, lightest, lowest, Line, Table, Worth};
+use super::{best_value, dual, is_infeasible, least, lowest, Line, Table, Worth};
 use crate::problem::{gcd, Item, Problem};
 
 /// Amounts p / q in lowest terms.
@@ -149,8 +149,7 @@ impl<W: Worth> Table<W> {
 
 /// The first best point; none if a lower bound is absent, if there is no best point, or if no type holds the prices.
 pub fn first(p: &Problem) -> Option<Point> {
-    let infeasible = lightest(&p.items).is_some_and(|w| w > p.limit);
-    if infeasible || p.items.iter().any(|i| i.lower.is_none()) {
+    if is_infeasible(p) || p.items.iter().any(|i| i.lower.is_none()) {
         return None;
     }
     let line = least(&dual(&p.items), p.limit)?;
