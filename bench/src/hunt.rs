@@ -6,7 +6,7 @@ use crate::ours;
 use crate::problem::{Item, Problem};
 use crate::progress::Progress;
 use crate::stats::timed;
-use crate::twin::{self, Outcome, WITH_SCALES};
+use crate::twin::{self, Outcome, Rules};
 
 const ITEMS: i64 = 16;
 
@@ -86,23 +86,23 @@ fn changed(rng: &mut Rng, c: &Climber) -> Climber {
     Climber { problem: in_range(c.problem), ..c }
 }
 
-fn outcome(p: &Problem) -> Outcome {
-    twin::plan(p, WITH_SCALES, u64::MAX).expect("scales end")
+fn outcome(p: &Problem, rules: Rules) -> Outcome {
+    twin::plan(p, rules, u64::MAX).expect("scales end")
 }
 
-fn work(p: &Problem) -> u64 {
-    let o = outcome(p);
+fn work(p: &Problem, rules: Rules) -> u64 {
+    let o = outcome(p, rules);
     o.cells + STEP * o.steps
 }
 
 /// The end of one climb.
-fn climb(rng: &mut Rng, told: &mut dyn FnMut(u64, u64)) -> (Problem, u64) {
+fn climb(rng: &mut Rng, rules: Rules, told: &mut dyn FnMut(u64, u64)) -> (Problem, u64) {
     let mut c = start(rng);
-    let mut most = work(&c.problem);
+    let mut most = work(&c.problem, rules);
     let (mut stalled, mut tried) = (0, 1);
     while stalled < STALLED && tried < LONGEST {
         let next = changed(rng, &c);
-        let w = work(&next.problem);
+        let w = work(&next.problem, rules);
         tried += 1;
         stalled = if w > most { 0 } else { stalled + 1 };
         if w >= most {
@@ -113,10 +113,10 @@ fn climb(rng: &mut Rng, told: &mut dyn FnMut(u64, u64)) -> (Problem, u64) {
     (c.problem, most)
 }
 
-fn show(p: &Problem) {
-    let (o, twin_time) = timed(|| outcome(p));
+fn show(p: &Problem, rules: Rules) {
+    let (o, twin_time) = timed(|| outcome(p, rules));
     println!("most: {} steps, {} cells; the twin takes {:.1} ms", o.steps, o.cells, twin_time * 1e3);
-    if ours::RULES.is_bounded() {
+    if ours::RULES == rules {
         let sheet = p.sheet();
         let (_, our_time) = timed(|| ours::plan(&sheet));
         println!("ours takes {:.1} ms, {:.2} times the twin's", our_time * 1e3, our_time / twin_time);
@@ -125,14 +125,14 @@ fn show(p: &Problem) {
 }
 
 /// The hardest sheet of some climbs is shown.
-pub fn hunt(seed: u64, rounds: u64) -> bool {
+pub fn hunt(seed: u64, rounds: u64, rules: Rules) -> bool {
     println!("Hunt: {rounds} climbs, seed {seed}; work is counted in cells, a step as {STEP}");
     let mut rng = Rng(seed);
     let mut progress = Progress::new();
     let mut hardest: Option<(Problem, u64)> = None;
     for round in 1..=rounds {
         let before = hardest.as_ref().map_or(0, |h| h.1);
-        let (p, most) = climb(&mut rng, &mut |tried, most| {
+        let (p, most) = climb(&mut rng, rules, &mut |tried, most| {
             progress.show(|| format!("climb {round} of {rounds}: {tried} sheets tried, now {most}; most of earlier climbs {before}"))
         });
         println!("climb {round}: {most}");
@@ -141,7 +141,7 @@ pub fn hunt(seed: u64, rounds: u64) -> bool {
         }
     }
     if let Some((p, _)) = hardest {
-        show(&p);
+        show(&p, rules);
     }
     true
 }

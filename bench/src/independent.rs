@@ -4,7 +4,7 @@
 mod first;
 
 use crate::problem::{gcd, Item, Problem};
-pub use first::first;
+pub use first::{first, Point};
 use std::ops::{Add, Mul, Sub};
 
 #[derive(Clone, Copy, Debug, PartialEq)]

@@ -67,12 +67,15 @@ fn main() {
     let choose = |few: u64, many: u64| if quick { few } else { many };
     let seed = a.number("--seed").unwrap_or(1);
     let (sheets, steps) = (a.number("--sheets"), a.number("--steps"));
+    let (scales, first) = (a.word("--scales"), a.word("--first"));
+    let bounded = if first { twin::FIRST } else { twin::WITH_SCALES };
+    let rules = if first || scales { bounded } else { ours::RULES };
     let speed = speed::Options {
         seed,
         sheets: sheets.unwrap_or(choose(10, 100)) as usize,
         raced: a.number("--raced").unwrap_or(choose(3, 11)) as usize,
         limit: steps.unwrap_or(choose(100_000, 1_000_000)),
-        rules: if a.word("--scales") { twin::WITH_SCALES } else { ours::RULES },
+        rules,
         continuous: if quick { &FEW_CONTINUOUS } else { &CONTINUOUS },
         family: a.value("--family").unwrap_or_default(),
         picture: a.value("--svg"),
@@ -87,7 +90,7 @@ fn main() {
             "compare" => compare::compare(seed, sheets.unwrap_or(choose(5000, 120_000)), steps.unwrap_or(2_000_000)),
             "speed" => speed::speed(&speed),
             "self" => trial::trial(seed, sheets.unwrap_or(choose(2000, 20_000))),
-            "hunt" => hunt::hunt(seed, rounds),
+            "hunt" => hunt::hunt(seed, rounds, bounded),
             _ => rivals::reply(),
         };
     }

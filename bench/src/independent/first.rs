@@ -100,7 +100,8 @@ fn parts(p: &Problem, line: Line, value: (i128, i128)) -> (Vec<Part>, i64, i128)
     let heaviest = p.items.iter().filter(|i| i.integer).map(|i| i.weight.abs()).max().unwrap_or(0).max(1);
     let weights = first_weights(p, line);
     let parts: Vec<Part> = p.items.iter().zip(weights).map(|(i, w)| part(i, w, line, gap, 4 * heaviest)).collect();
-    let divisor = parts.iter().filter(|m| m.from < m.to).fold(1, |d: i128, m| (d / gcd(d, m.units as i128)).saturating_mul(m.units as i128));
+    let divisor =
+        parts.iter().filter(|m| m.from < m.to).fold(1, |d: i128, m| (d / gcd(d, m.units as i128)).saturating_mul(m.units as i128));
     (parts, heaviest * heaviest + 3 * heaviest, divisor)
 }
 

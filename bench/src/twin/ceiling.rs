@@ -23,12 +23,12 @@ const DEEPEST: i64 = 4_000_000_000_000;
 /// filling, in the order of filling.
 #[derive(Default)]
 pub struct Shape {
-    count: usize,
+    pub count: usize,
     size: [i64; ITEMS],
     rate: [i64; ITEMS],
     width: [i64; ITEMS],
-    light: [i64; ITEMS],
-    falls: [bool; ITEMS],
+    pub light: [i64; ITEMS],
+    pub falls: [bool; ITEMS],
     integer: [bool; ITEMS],
     room: i64,
     worth: i64,
@@ -44,16 +44,18 @@ pub struct Loss {
     den: u64,
 }
 
+/// `cut`: the item in granules.
 #[derive(Clone, Copy)]
-struct Frame {
-    scale: u64,
+pub struct Frame {
+    pub scale: u64,
+    pub cut: Option<usize>,
     room: u64,
     weight: [u64; PARTS],
     most: [u64; PARTS],
     cost: [u64; PARTS],
     heavy: [bool; PARTS],
     falls: [bool; PARTS],
-    low: [u64; PARTS],
+    pub low: [u64; PARTS],
     range: [u64; PARTS],
 }
 
@@ -81,6 +83,16 @@ impl Shape {
         h
     }
 
+    /// Of equal ratios falling items are filled first, by number, then rising ones, the last number first: so the first point of those worth
+    /// as much has a frame.
+    pub fn fill_early(&mut self) {
+        let early = |k: usize| if self.falls[k] { k } else { 2 * ITEMS - k };
+        let ratio = |j: usize, k: usize| (self.rate[k] * self.size[j]).cmp(&(self.rate[j] * self.size[k]));
+        let mut soft = self.soft.clone();
+        soft.sort_by(|&j, &k| ratio(j, k).then(early(j).cmp(&early(k))));
+        self.soft = soft;
+    }
+
     fn edge(&self, k: usize) -> i64 {
         self.q * self.rate[k] - self.p * self.size[k]
     }
@@ -93,7 +105,7 @@ impl Shape {
     }
 
     /// One for each soft item; one if there is none.
-    fn frames(&self) -> usize {
+    pub fn frames(&self) -> usize {
         self.soft.len().max(1)
     }
 
@@ -101,7 +113,7 @@ impl Shape {
     fn whole_frame(&self, scale: u64) -> Frame {
         let (none, no) = ([0; PARTS], [false; PARTS]);
         let room = self.room as u64;
-        let mut f = Frame { scale, room, weight: none, most: none, cost: none, heavy: no, falls: no, low: none, range: none };
+        let mut f = Frame { scale, cut: None, room, weight: none, most: none, cost: none, heavy: no, falls: no, low: none, range: none };
         for k in 0..self.count {
             f.weight[k] = self.size[k] as u64;
             f.most[k] = self.width[k] as u64;
@@ -125,6 +137,7 @@ impl Shape {
         for &j in &self.soft[..l] {
             f.low[j] = f.most[j];
         }
+        f.cut = Some(k);
         f.most[k] *= f.weight[k];
         f.range[k] = f.most[k];
         f.weight[k] = 1;
@@ -279,23 +292,26 @@ fn least_loss(h: &Shape, known: Loss, cells: &mut Cells) -> Option<(Loss, usize)
     found
 }
 
-/// The first point of frame l that has exactly the loss t, which it has to have. The items are decoded group by group.
-fn first_of_frame(h: &Shape, l: usize, t: Loss, cells: &mut Cells) -> Frame {
+/// The first point of frame l that has exactly the loss t, if one has; none has less. The items are decoded group by group.
+pub fn first_of_frame(h: &Shape, l: usize, t: Loss, cells: &mut Cells) -> Option<Frame> {
     let mut f = h.frame(l);
     let cap = f.scale * t.num / t.den + 1;
     let mut from = 0;
     while from < ITEMS {
         let (loss, to) = run(&mut f, cap, from, ITEMS, cells);
+        if loss == cap && from == 0 {
+            return None;
+        }
         assert!(loss + 1 == cap && to > from, "a run's least cost is attained");
         from = to;
     }
-    f
+    Some(f)
 }
 
 /// The amounts of the integer items at a point of less loss than `known` and of the least; none if no loss is less.
 pub fn better_amounts(h: &Shape, known: Loss, cells: &mut Cells) -> Option<[i64; ITEMS]> {
     let (least, l) = least_loss(h, known, cells)?;
-    let f = first_of_frame(h, l, least, cells);
+    let f = first_of_frame(h, l, least, cells)?;
     let mut x = [0; ITEMS];
     for k in 0..h.count {
         let y = f.low[k] as i64;

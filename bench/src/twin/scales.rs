@@ -26,6 +26,7 @@ pub struct Load {
 }
 
 /// The array, and how many updates of a cell all passes made.
+#[derive(Default)]
 pub struct Cells {
     array: Vec<u64>,
     pub updated: u64,
@@ -41,10 +42,6 @@ fn digit(range: u64) -> u64 {
 }
 
 impl Cells {
-    pub fn new() -> Cells {
-        Cells { array: vec![0; ARRAY], updated: 0 }
-    }
-
     /// A unit that weighs w is offered: cells 0 ..= top, downwards.
     fn offer(&mut self, top: usize, w: usize, taken: u64, left: u64, cap: u64) {
         let cells = &mut self.array[..=top];
@@ -78,6 +75,7 @@ impl Cells {
     /// The least cost of a choice that weighs exactly the capacity; cap if none costs less.
     pub fn least_cost(&mut self, mut l: Load) -> u64 {
         let mut top = 0;
+        self.array.resize(ARRAY, 0);
         self.array[0] = 0;
         while l.range.iter().any(|&r| r > 0) {
             top = (0..PARTS).fold(top, |top, j| self.offer_part(&l, j, top));

@@ -24,7 +24,7 @@ enum Settled {
 
 /// The levels above `from` settle nothing.
 pub struct Search<'a> {
-    s: &'a Setting,
+    pub s: &'a Setting,
     path: Path,
     pub best: Option<Incumbent>,
     pub steps: u64,
