@@ -92,7 +92,8 @@ fn ends(p: &Problem, o: &Options) -> bool {
 
 fn measure(p: &Problem, o: &Options, row: &mut Row) {
     let sheet = p.sheet();
-    let (twin, twin_time) = timed(|| independent::read(&sheet).ok().and_then(|p| twin::plan(&p, o.rules, o.limit)));
+    let limit = if o.rules.is_bounded() { u64::MAX } else { o.limit };
+    let (twin, twin_time) = timed(|| independent::read(&sheet).ok().and_then(|p| twin::plan(&p, o.rules, limit)));
     row.steps.push(twin.as_ref().map_or(u64::MAX, |t| t.steps));
     row.cells.push(twin.as_ref().map_or(0, |t| t.cells));
     if twin.is_some() {
@@ -147,9 +148,17 @@ fn many(steps: u64, limit: u64) -> String {
     }
 }
 
-/// Median, 99th of a hundred and worst.
-fn three(list: &[f64], unit: f64) -> String {
-    [MEDIAN, NINETY_NINTH, WORST].map(|share| format!("{:>9.1}", at(list, share).unwrap_or(0.0) * unit)).join(" ")
+/// Median, 99th of a hundred and worst, in columns of a width.
+fn three<T: Copy>(list: &[T], width: usize, text: impl Fn(T) -> String) -> String {
+    [MEDIAN, NINETY_NINTH, WORST].map(|share| format!("{:>width$}", at(list, share).map_or("-".into(), &text))).join(" ")
+}
+
+fn ratio_text(ratio: f64) -> String {
+    if ratio.is_nan() {
+        "-".into()
+    } else {
+        format!("{ratio:.2}")
+    }
 }
 
 impl Row {
@@ -159,17 +168,16 @@ impl Row {
     }
 
     fn show(&self, o: &Options) {
-        let steps = [MEDIAN, NINETY_NINTH, WORST].map(|share| format!("{:>8}", many(at(&self.steps, share).unwrap_or(0), o.limit)));
-        let cells = [MEDIAN, NINETY_NINTH, WORST].map(|share| format!("{:>6}", at(&self.cells, share).unwrap_or(0).div_ceil(1000)));
+        let micro = |seconds: f64| format!("{:.1}", seconds * 1e6);
         println!(
-            "{:24} {:>5} |{} |{} |{} |{} |{:>5.2} {:>4}",
+            "{:24} {:>5} |{} |{} |{} |{} |{:>5} {:>4}",
             self.name,
             self.bound,
-            steps.join(" "),
-            cells.join(" "),
-            three(&self.ours, 1e6),
-            three(&self.twin, 1e6),
-            self.both.seconds.ratio(),
+            three(&self.steps, 8, |n| many(n, o.limit)),
+            three(&self.cells, 6, |n| n.div_ceil(1000).to_string()),
+            three(&self.ours, 9, micro),
+            three(&self.twin, 9, micro),
+            ratio_text(self.both.seconds.ratio()),
             self.over
         );
     }

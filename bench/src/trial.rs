@@ -136,7 +136,9 @@ fn try_all(what: &str, count: u64, rng: &mut Rng, draw: fn(&mut Rng) -> Problem,
         }
     }
     let Counts { values, firsts, others, differ } = counts;
-    println!("{count} {what} problems: {values} best values, {firsts} first best points and {others} other replies compared; {differ} differ");
+    println!(
+        "{count} {what} problems: {values} best values, {firsts} first best points and {others} other replies compared; {differ} differ"
+    );
     differ == 0
 }
 
@@ -144,7 +146,9 @@ fn try_all(what: &str, count: u64, rng: &mut Rng, draw: fn(&mut Rng) -> Problem,
 const SMALL: u64 = 200;
 
 pub fn trial(seed: u64, count: u64) -> bool {
-    println!("The bench itself, seed {seed}: the twin, after {STEPS:?} steps, and the independent planner; small problems by enumeration too");
+    println!(
+        "The bench itself, seed {seed}: the twin, after {STEPS:?} steps, and the independent planner; small problems by enumeration too"
+    );
     let mut rng = Rng(seed);
     let small = try_all("small", count, &mut rng, tiny, check_small);
     try_all("large", count / SMALL, &mut rng, large, check_large) && small
