@@ -1,7 +1,7 @@
 //! The speed table as a picture in SVG: a family a row, times on a logarithmic scale, the median and the worst sheet of each solver.
 
 use crate::families::FAMILIES;
-use crate::race::Race;
+use crate::race::{left_out, Race};
 use crate::rivals::{Solver, LIMIT};
 use crate::speed::{Options, Row};
 use crate::stats::{MEDIAN, WORST};
@@ -137,5 +137,9 @@ pub fn draw(solvers: &[Solver], rows: &[(usize, Row)], o: &Options) -> String {
     }
     let raced: usize = rows.iter().map(|(_, r)| r.races.first().map_or(0, |r| r.seconds.len())).sum();
     let words = format!("{} sheets by call, {raced} by process; seed {}; an arrow: not done in {LIMIT} s", o.sheets * rows.len(), o.seed);
-    out + &text(RIGHT, bottom + 26.0, "end", &words) + "</svg>\n"
+    out += &text(RIGHT, bottom + 20.0, "end", &words);
+    if let Some(note) = left_out(o.limit) {
+        out += &text(RIGHT, bottom + 36.0, "end", &note);
+    }
+    out + "</svg>\n"
 }

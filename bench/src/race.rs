@@ -1,6 +1,7 @@
 //! The solvers as whole processes on the same sheets, from a problem to its solution in a file.
 
 use crate::families;
+use crate::ours;
 use crate::problem::Problem;
 use crate::progress::Progress;
 use crate::rivals::{value_of, Solver, LIMIT, RIVALS};
@@ -107,11 +108,17 @@ fn show_start(solver: Solver) {
     println!("{}: a sheet of one item takes {:.2} ms, the median of 9", solver.name(), at(&seconds, MEDIAN).unwrap() * 1e3);
 }
 
+/// What "not done" means for a program whose search is not bounded; nothing for one that is.
+pub fn left_out(limit: u64) -> Option<String> {
+    (!ours::RULES.is_bounded()).then(|| format!("ours is not run where its search takes more than {limit} steps: not done, as if {LIMIT} s"))
+}
+
 /// The table of all rows, and how ours stands.
-pub fn show(solvers: &[Solver], rows: &[(usize, Row)], raced: usize) {
+pub fn show(solvers: &[Solver], rows: &[(usize, Row)], raced: usize, limit: u64) {
     println!();
     println!("Whole processes, from a problem to its solution in a file: median and worst of the first {raced} sheets of each row, in ms,");
     println!("the least of three runs, of one if it takes a quarter of a second; + if one was not done in {LIMIT} s");
+    left_out(limit).iter().for_each(|note| println!("{note}"));
     for rival in RIVALS.into_iter().filter(|r| solvers.iter().all(|s| s.name() != r.name())) {
         println!("{} is not installed", rival.name());
     }
@@ -123,7 +130,7 @@ pub fn show(solvers: &[Solver], rows: &[(usize, Row)], raced: usize) {
     println!();
     for (k, solver) in solvers.iter().enumerate() {
         let all = rows.iter().fold(Race::default(), |sum, (_, row)| sum.with(&row.races[k]));
-        println!("{}: the best value on {} of {} sheets, {} not done in {LIMIT} s", solver.name(), all.right, all.seconds.len(), all.late);
+        println!("{}: the best value on {} of {} sheets, {} not done", solver.name(), all.right, all.seconds.len(), all.late);
     }
     for (k, solver) in solvers.iter().enumerate().skip(1) {
         let s = standing(rows, k);

@@ -241,7 +241,7 @@ pub fn speed(o: &Options) -> bool {
     }
     let is_same = sum_up(&rows, o);
     if o.raced > 0 {
-        race::show(&solvers, &rows, o.raced);
+        race::show(&solvers, &rows, o.raced, o.limit);
     }
     if let Some(file) = &o.picture {
         std::fs::write(file, picture::draw(&solvers, &rows, o)).expect("a file for the picture");
