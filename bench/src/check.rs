@@ -29,7 +29,7 @@ fn total(p: &Problem, point: &[(i128, i128)], figure: impl Fn(&Item) -> i64) -> 
     (p.items.iter().zip(point).map(|(i, x)| figure(i) as i128 * x.0 * (d / x.1)).sum(), d)
 }
 
-fn check_point(p: &Problem, point: &[(i128, i128)]) -> Result<(), String> {
+pub fn check_point(p: &Problem, point: &[(i128, i128)]) -> Result<(), String> {
     for (k, (i, x)) in p.items.iter().zip(point).enumerate() {
         if !amount_keeps(i, x.0, x.1) {
             return Err(format!("amount of item {}", k + 1));
@@ -61,6 +61,16 @@ fn check_best<'a>(p: &Problem, value: (i128, i128), mut lines: impl Iterator<Ite
         return Err("the point is not worth the value".into());
     }
     lines.next().map_or(Ok(()), |_| Err("too many lines".into()))
+}
+
+/// The point of a best reply is this one.
+pub fn check_is(point: &[(i128, i128)], text: &str) -> Result<(), String> {
+    let lines: Vec<String> = point.iter().enumerate().map(|(k, x)| format!("{} {} {}", k + 1, x.0, x.1)).collect();
+    if text.lines().skip(1).eq(lines.iter().map(String::as_str)) {
+        Ok(())
+    } else {
+        Err(format!("the first best point is {point:?}"))
+    }
 }
 
 fn check_unbounded<'a>(p: &Problem, mut lines: impl Iterator<Item = &'a str>) -> Result<(), String> {

@@ -1,11 +1,15 @@
 //! Our replies beside those of the independent planner, on drawn sheets of mixed kinds.
 
-use crate::check::check;
+use crate::check::{check, check_is};
 use crate::draw::{kind, Rng, KINDS};
 use crate::independent::{self, Reply};
 use crate::ours;
+use crate::problem::Problem;
+use crate::progress::Progress;
 use crate::twin;
-use std::time::{Duration, Instant};
+
+/// Whether our planner promises the best point that comes first, where every lower bound is present (paper 02, request 5).
+const FIRST: bool = false;
 
 /// How often each reply came: refused, infeasible, unbounded, best; and what was left out.
 #[derive(Clone, Copy, Default)]
@@ -37,6 +41,13 @@ fn check_verdict(sheet: &[u8], expected: Reply) -> Result<(), String> {
     }
 }
 
+fn check_first(problem: &Problem, text: &str) -> Result<(), String> {
+    match independent::first(problem) {
+        Some(point) => check_is(&point, text),
+        None => Ok(()),
+    }
+}
+
 /// Lent buffers that just do and just do not hold the text.
 fn check_buffers(sheet: &[u8], text: &str) -> Result<(), String> {
     let mut tight = vec![7; text.len()];
@@ -52,7 +63,7 @@ fn check_buffers(sheet: &[u8], text: &str) -> Result<(), String> {
 
 fn compare_sheet(sheet: &[u8], limit: u64, counts: &mut Counts) -> Result<(), String> {
     let problem = independent::read(sheet);
-    let twin = problem.as_ref().ok().map(|p| twin::plan(p, limit));
+    let twin = problem.as_ref().ok().map(|p| twin::plan(p, ours::RULES, limit));
     if let Some(None) = twin {
         counts.left_out += 1;
         return Ok(());
@@ -65,7 +76,9 @@ fn compare_sheet(sheet: &[u8], limit: u64, counts: &mut Counts) -> Result<(), St
     counts.replies[column(expected)] += 1;
     let twin = twin.flatten();
     counts.twin_agrees += twin.as_ref().is_some_and(|t| t.text == text) as u64;
+    let in_order = problem.as_ref().ok().filter(|_| FIRST);
     check(problem.as_ref().ok(), expected, &text)
+        .and_then(|_| in_order.map_or(Ok(()), |p| check_first(p, &text)))
         .and_then(|_| check_verdict(sheet, expected))
         .and_then(|_| if twin.is_none_or(|t| t.steps < 1000) { check_buffers(sheet, &text) } else { Ok(()) })
         .map_err(|what| format!("{what}; expected {expected:?}, ours is\n{text}"))
@@ -76,12 +89,9 @@ pub fn compare(seed: u64, count: u64, limit: u64) -> bool {
     println!("Comparison with the independent planner: {count} sheets, seed {seed}");
     let mut rng = Rng(seed);
     let mut counts = [Counts::default(); KINDS.len()];
-    let mut shown = Instant::now();
+    let mut progress = Progress::new();
     for done in 0..count {
-        if shown.elapsed() > Duration::from_secs(2) {
-            eprintln!("  {done} of {count} sheets compared, {} differ", counts.iter().map(|c| c.differ).sum::<u64>());
-            shown = Instant::now();
-        }
+        progress.show(|| format!("{done} of {count} sheets compared, {} differ", counts.iter().map(|c| c.differ).sum::<u64>()));
         let k = kind(&mut rng);
         let sheet = KINDS[k].2(&mut rng);
         if let Err(what) = compare_sheet(&sheet, limit, &mut counts[k]) {
@@ -90,6 +100,7 @@ pub fn compare(seed: u64, count: u64, limit: u64) -> bool {
         }
     }
     show(&counts, limit);
+    println!();
     counts.iter().all(|c| c.differ == 0)
 }
 

@@ -1,5 +1,7 @@
-//! Drawn sheets. Every draw comes from one seed, by splitmix64.
+//! Drawn sheets of mixed kinds, for the comparison. Every draw comes from one seed, by splitmix64.
 
+use crate::families::{COMPARED, FAMILIES};
+use crate::independent::CROSSING_IS_REFUSED;
 use crate::problem::{Item, Problem};
 
 pub struct Rng(pub u64);
@@ -26,71 +28,6 @@ impl Rng {
         list[self.between(0, list.len() as i64 - 1) as usize]
     }
 }
-
-// ---- the families of the speed table
-
-#[derive(Clone, Copy, PartialEq)]
-pub enum Family {
-    Uncorrelated,
-    Weakly,
-    Strongly,
-    Inversely,
-    SubsetSum,
-    EvenOdd,
-    Similar,
-}
-
-pub const FAMILIES: [(Family, &str); 7] = [
-    (Family::Uncorrelated, "uncorrelated"),
-    (Family::Weakly, "weakly correlated"),
-    (Family::Strongly, "strongly correlated"),
-    (Family::Inversely, "inversely correlated"),
-    (Family::SubsetSum, "subset sum"),
-    (Family::EvenOdd, "even weights, odd limit"),
-    (Family::Similar, "similar weights"),
-];
-
-fn weight_and_price(rng: &mut Rng, family: Family) -> (i64, i64) {
-    let a = rng.between(1, 1000);
-    match family {
-        Family::Uncorrelated => (a, rng.between(1, 1000)),
-        Family::Weakly => (a, rng.between(a - 100, a + 100).max(1)),
-        Family::Strongly => (a, a + 100),
-        Family::Inversely => {
-            let c = rng.between(1, 900);
-            (c + 100, c)
-        }
-        Family::SubsetSum => (a, a),
-        Family::EvenOdd => {
-            let even = 2 * rng.between(1, 500);
-            (even, even)
-        }
-        Family::Similar => (rng.between(900, 1000), rng.between(1, 1000)),
-    }
-}
-
-/// 16 items from 0 to `bound`, the last of them continuous; the limit is half of what all weigh, at most 100,000,000.
-pub fn family(rng: &mut Rng, family: Family, bound: i64, continuous: usize) -> Problem {
-    let items: Vec<Item> = (0..16)
-        .map(|k| {
-            let (weight, price) = weight_and_price(rng, family);
-            Item { integer: k + continuous < 16, weight, price, lower: Some(0), upper: Some(bound) }
-        })
-        .collect();
-    let half = items.iter().map(|i| i.weight * bound).sum::<i64>() / 2;
-    let limit = match family {
-        Family::EvenOdd => (half | 1).min(99_999_999),
-        _ => half.min(100_000_000),
-    };
-    Problem { limit, items }
-}
-
-/// An item of weight and price 1.
-pub fn unit_item() -> Item {
-    Item { integer: true, weight: 1, price: 1, lower: Some(0), upper: Some(9) }
-}
-
-// ---- sheets of mixed kinds, for the comparison
 
 /// A kind of sheet, and how many of a thousand are of it.
 pub type Kind = (&'static str, i64, fn(&mut Rng) -> Vec<u8>);
@@ -129,18 +66,45 @@ fn item(rng: &mut Rng, weight: i64, price: i64, lower: i64, upper: i64, absent: 
     }
 }
 
+/// How many bounds of a hundred cross in a small problem.
+const CROSSING: i64 = if CROSSING_IS_REFUSED { 1 } else { 5 };
+
 fn small(rng: &mut Rng) -> Problem {
     let (a, c, b) = rng.pick(&[(2, 3, 2), (5, 7, 4), (10, 20, 6), (30, 50, 20)]);
     let absent = rng.pick(&[0, 0, 20]);
     let items = (0..rng.between(1, 6))
         .map(|_| {
             let lower = rng.between(-b, b);
-            let upper = if rng.chance(1) { lower - 1 } else { lower + rng.between(0, 2 * b) };
+            let upper = if rng.chance(CROSSING) { lower - 1 } else { lower + rng.between(0, 2 * b) };
             let (weight, price) = (rng.between(-a, a), rng.between(-c, c));
             item(rng, weight, price, lower, upper, absent)
         })
         .collect();
     Problem { limit: rng.between(-a * b, 3 * a * b), items }
+}
+
+/// A small problem with every lower bound, for plain enumeration: weights of continuous items divide 12, and ratios are often equal.
+pub fn tiny(rng: &mut Rng) -> Problem {
+    let (style, soft, open) = (rng.between(0, 3), rng.pick(&[0, 20, 50]), rng.pick(&[0, 0, 20]));
+    let mut continuous = 0;
+    let items: Vec<Item> = (0..rng.between(1, 4))
+        .map(|_| {
+            let is_soft = continuous < 2 && rng.chance(soft);
+            continuous += is_soft as i64;
+            let weight = rng.pick(&[-6, -4, -3, -2, -1, 0, 1, 2, 3, 4, 6]) + if is_soft { 0 } else { rng.pick(&[0, 0, 1]) };
+            let price = match style {
+                0 => weight,
+                1 => rng.between(-7, 7),
+                2 => 2 * weight + weight.signum(),
+                _ => weight * rng.between(0, 1) + rng.between(0, 1) * weight.signum(),
+            };
+            let lower = rng.between(-2, 2);
+            let upper = lower + rng.between(0, if is_soft { 3 } else { 6 });
+            Item { integer: !is_soft, weight, price, lower: Some(lower), upper: (!rng.chance(open)).then_some(upper) }
+        })
+        .collect();
+    let (least, most) = weights(&items);
+    Problem { limit: rng.between(least.clamp(-40, 40) - 3, most.clamp(-40, 40) + 3), items }
 }
 
 fn equal_ratios(rng: &mut Rng) -> Problem {
@@ -225,9 +189,9 @@ fn far_out(rng: &mut Rng) -> Problem {
 }
 
 fn some_family(rng: &mut Rng) -> Problem {
-    let (f, _) = rng.pick(&FAMILIES);
+    let family = &FAMILIES[rng.between(0, COMPARED as i64 - 1) as usize];
     let (bound, continuous) = (rng.pick(&[1, 1, 1, 2, 2, 5, 5, 10, 100, 10_000]), rng.pick(&[0, 0, 1, 2]));
-    let mut p = family(rng, f, bound, continuous);
+    let mut p = family.draw(rng, bound, continuous);
     p.items.truncate(rng.pick(&[4, 8, 16]));
     p.limit = p.limit.min(weights(&p.items).1 / 2);
     p

@@ -1,7 +1,11 @@
 //! A second planner, written from paper 01 alone and by other means: the dual of the relaxation, and dynamic programming over weights
-//! in a window around the relaxation's point. It names the kind of reply and the best value, and no point.
+//! in a window around the relaxation's point. It names the kind of reply and the best value; `first` names the best point that comes first.
+
+mod first;
 
 use crate::problem::{gcd, Item, Problem};
+pub use first::{first, Point};
+use std::ops::{Add, Mul, Sub};
 
 #[derive(Clone, Copy, Debug, PartialEq)]
 pub struct Refusal {
@@ -16,6 +20,9 @@ pub enum Reply {
     Unbounded,
     Best(i128, i128),
 }
+
+/// Whether a lower bound above its upper one is refused; if not, the sheet is infeasible (paper 02, request 2).
+pub const CROSSING_IS_REFUSED: bool = true;
 
 // ---- reading a sheet
 
@@ -127,11 +134,15 @@ pub fn read(sheet: &[u8]) -> Result<Problem, Refusal> {
     }
     for (k, value, line) in uppers {
         items[k].upper = Some(value);
-        if items[k].lower.is_some_and(|l| l > value) {
+        if CROSSING_IS_REFUSED && crosses(&items[k]) {
             return Err(Refusal { number: 6, line });
         }
     }
     Ok(Problem { limit, items })
+}
+
+fn crosses(i: &Item) -> bool {
+    i.lower.zip(i.upper).is_some_and(|(l, u)| l > u)
 }
 
 // ---- the dual of the relaxation
@@ -218,24 +229,43 @@ fn relaxed_point(p: &Problem, line: Line) -> Vec<i64> {
 
 // ---- dynamic programming
 
-/// The most that the integer items are worth for each weight of a window, both counted from a point.
-struct Table {
-    low: i64,
-    worth: Vec<i64>,
+/// What a table counts in; NEVER is the worth of a weight that nothing has.
+trait Worth: Copy + Ord + From<i64> + Add<Output = Self> + Sub<Output = Self> + Mul<Output = Self> {
+    const NEVER: Self;
 }
 
-const NEVER: i64 = i64::MIN;
+impl Worth for i64 {
+    const NEVER: i64 = i64::MIN;
+}
 
-impl Table {
+impl Worth for i128 {
+    const NEVER: i128 = i128::MIN;
+}
+
+/// The most that some items are worth for each weight of a window, both counted from a point.
+struct Table<W> {
+    low: i64,
+    worth: Vec<W>,
+}
+
+impl<W: Worth> Table<W> {
+    /// Of no items.
+    fn new() -> Table<W> {
+        Table { low: 0, worth: vec![W::from(0)] }
+    }
+
     fn high(&self) -> i64 {
         self.low + self.worth.len() as i64 - 1
     }
 
-    /// With an item more, of weight a above 0 and price c, in from ..= to units; within the window.
-    fn with(&self, a: i64, c: i64, from: i64, to: i64, window: i64) -> Table {
+    /// With an item more, of weight a other than 0 and price c, in from ..= to units; within the window.
+    fn with(&self, a: i64, c: W, from: i64, to: i64, window: i64) -> Table<W> {
+        if a < 0 {
+            return self.with(-a, W::from(0) - c, -to, -from, window);
+        }
         let low = (self.low + a * from).max(-window);
         let high = (self.high() + a * to).min(window);
-        let mut worth = vec![NEVER; (high - low + 1) as usize];
+        let mut worth = vec![W::NEVER; (high - low + 1) as usize];
         for class in 0..a.min(high - low + 1) {
             self.with_class(a, c, from, to, low + class, &mut worth[class as usize..]);
         }
@@ -244,15 +274,15 @@ impl Table {
 
     /// The weights first, first + a, …: new[w] = max over t of old[w - a t] + c t. What is behind the queue's front in both place and
     /// worth is never the most again.
-    fn with_class(&self, a: i64, c: i64, from: i64, to: i64, first: i64, worth: &mut [i64]) {
+    fn with_class(&self, a: i64, c: W, from: i64, to: i64, first: i64, worth: &mut [W]) {
         let mut queue = std::collections::VecDeque::new();
         let mut next = (first - a * to).max(self.low + (first - self.low).rem_euclid(a));
         for (j, new) in worth.iter_mut().step_by(a as usize).enumerate() {
             let w = first + a * j as i64;
             while next <= (w - a * from).min(self.high()) {
                 let old = self.worth[(next - self.low) as usize];
-                if old != NEVER {
-                    let level = old - c * ((next - first).div_euclid(a));
+                if old != W::NEVER {
+                    let level = old - c * W::from((next - first).div_euclid(a));
                     while queue.back().is_some_and(|&(_, l)| l <= level) {
                         queue.pop_back();
                     }
@@ -264,7 +294,7 @@ impl Table {
                 queue.pop_front();
             }
             if let Some(&(_, level)) = queue.front() {
-                *new = level + c * j as i64;
+                *new = level + c * W::from(j as i64);
             }
         }
     }
@@ -277,21 +307,17 @@ impl Table {
 /// steps. Steps that are left then all have one sign; the parts that could balance one weigh less than it; so, with the fraction that
 /// rounding x took, they weigh less than 2 D. Each sign weighs at most D D + 2 D in all, and D more for rounding x. So no item is
 /// farther than 4 D from x, and in whatever order the items come, no sum leaves D D + 3 D.
-fn integer_table(p: &Problem, point: &[i64]) -> Table {
+fn integer_table(p: &Problem, point: &[i64]) -> Table<i64> {
     let integers: Vec<(&Item, i64)> =
         p.items.iter().zip(point.iter().copied()).filter(|(i, _)| i.integer && i.weight != 0).collect();
     let most = integers.iter().map(|(i, _)| i.weight.abs()).max().unwrap_or(0);
     let window = most * most + 3 * most;
     let far = 4 * most;
-    let mut table = Table { low: 0, worth: vec![0] };
+    let mut table = Table::new();
     for (i, x) in integers {
         let down = i.lower.map_or(far, |l| far.min(x - l));
         let up = i.upper.map_or(far, |u| far.min(u - x));
-        table = if i.weight > 0 {
-            table.with(i.weight, i.price, -down, up, window)
-        } else {
-            table.with(-i.weight, -i.price, -up, down, window)
-        };
+        table = table.with(i.weight, i.price, -down, up, window);
     }
     table
 }
@@ -309,7 +335,7 @@ fn best_value(p: &Problem, line: Line) -> (i128, i128) {
     let mut best: Option<(i128, i128)> = None;
     for (k, &gain) in table.worth.iter().enumerate() {
         let left = room - table.low - k as i64;
-        if gain == NEVER || need.is_some_and(|n| left < n) {
+        if gain == i64::NEVER || need.is_some_and(|n| left < n) {
             continue;
         }
         let rest = least(&lines, left).expect("a dual of the continuous items");
@@ -319,12 +345,20 @@ fn best_value(p: &Problem, line: Line) -> (i128, i128) {
         }
     }
     let (n, d) = best.expect("a feasible point");
+    lowest(n, d)
+}
+
+fn lowest(n: i128, d: i128) -> (i128, i128) {
     (n / gcd(n, d), d / gcd(n, d))
 }
 
-/// The light corner is a point, so a problem is infeasible only if that is too heavy.
+/// Where no bounds cross the light corner is a point, so that a problem is infeasible only if it is too heavy.
+fn is_infeasible(p: &Problem) -> bool {
+    p.items.iter().any(crosses) || lightest(&p.items).is_some_and(|w| w > p.limit)
+}
+
 pub fn plan(p: &Problem) -> Reply {
-    if lightest(&p.items).is_some_and(|w| w > p.limit) {
+    if is_infeasible(p) {
         return Reply::Infeasible;
     }
     match least(&dual(&p.items), p.limit) {

@@ -3,14 +3,24 @@
 mod check;
 mod compare;
 mod draw;
+mod enumeration;
+mod families;
+mod hunt;
 mod independent;
 mod ours;
+mod picture;
 mod problem;
+mod progress;
+mod race;
 mod rivals;
 mod speed;
+mod stats;
+mod trial;
 mod twin;
 
-const USAGE: &str = "bench/run --help tells the words and options";
+use families::{CONTINUOUS, FEW_CONTINUOUS};
+
+const USAGE: &str = include_str!("../usage.txt");
 
 struct Arguments {
     words: Vec<String>,
@@ -36,34 +46,53 @@ impl Arguments {
 }
 
 fn usage() -> ! {
-    eprintln!("{USAGE}");
+    eprint!("{USAGE}");
     std::process::exit(2)
+}
+
+/// The commands that stand there; compare and speed if none does.
+fn commands(a: &mut Arguments) -> Vec<&'static str> {
+    let mut named = ["compare", "speed", "self", "hunt", "reply"].to_vec();
+    named.retain(|word| a.word(word));
+    if named.is_empty() {
+        named = vec!["compare", "speed"];
+    }
+    named
 }
 
 fn main() {
     let mut a = Arguments { words: std::env::args().skip(1).collect() };
     let quick = a.word("quick");
-    let (compare, speed) = (a.word("compare"), a.word("speed"));
+    let commands = commands(&mut a);
+    let choose = |few: u64, many: u64| if quick { few } else { many };
     let seed = a.number("--seed").unwrap_or(1);
-    let sheets = a.number("--sheets");
-    let steps = a.number("--steps");
-    let reply = a.word("reply");
+    let (sheets, steps) = (a.number("--sheets"), a.number("--steps"));
+    let (scales, first) = (a.word("--scales"), a.word("--first"));
+    let bounded = if first { twin::FIRST } else { twin::WITH_SCALES };
+    let rules = if first || scales { bounded } else { ours::RULES };
+    let speed = speed::Options {
+        seed,
+        sheets: sheets.unwrap_or(choose(10, 100)) as usize,
+        raced: a.number("--raced").unwrap_or(choose(3, 11)) as usize,
+        limit: steps.unwrap_or(choose(100_000, 1_000_000)),
+        rules,
+        continuous: if quick { &FEW_CONTINUOUS } else { &CONTINUOUS },
+        family: a.value("--family").unwrap_or_default(),
+        picture: a.value("--svg"),
+    };
+    let rounds = a.number("--rounds").unwrap_or(choose(1, 5));
     if !a.words.is_empty() {
         usage();
     }
-    if reply {
-        return rivals::reply();
-    }
     let mut good = true;
-    if compare || !speed {
-        let count = sheets.unwrap_or(if quick { 5000 } else { 120_000 });
-        good = compare::compare(seed, count, steps.unwrap_or(2_000_000));
-        println!();
-    }
-    if speed || !compare {
-        let (count, rival_sheets) = if quick { (10, 3) } else { (100, 11) };
-        let limit = steps.unwrap_or(if quick { 100_000 } else { 1_000_000 });
-        speed::speed(&speed::Options { seed, sheets: sheets.unwrap_or(count) as usize, rival_sheets, limit });
+    for command in commands {
+        good &= match command {
+            "compare" => compare::compare(seed, sheets.unwrap_or(choose(5000, 120_000)), steps.unwrap_or(2_000_000)),
+            "speed" => speed::speed(&speed),
+            "self" => trial::trial(seed, sheets.unwrap_or(choose(2000, 20_000))),
+            "hunt" => hunt::hunt(seed, rounds, bounded),
+            _ => rivals::reply(),
+        };
     }
     std::process::exit(if good { 0 } else { 1 });
 }

@@ -22,14 +22,15 @@ pub const RIVALS: [Solver; 2] = [Solver::Glpsol, Solver::Cbc];
 pub const LIMIT: u64 = 2;
 
 /// Our reply to the sheet of standard input.
-pub fn reply() {
+pub fn reply() -> bool {
     let mut sheet = vec![];
     std::io::stdin().read_to_end(&mut sheet).expect("a sheet");
     std::io::stdout().write_all(ours::plan(&sheet).as_bytes()).expect("room for a reply");
+    true
 }
 
-/// The value of our reply as a float.
-fn value_of(text: &str) -> Option<f64> {
+/// The value of a reply as a float.
+pub fn value_of(text: &str) -> Option<f64> {
     let mut words = text.lines().next()?.strip_prefix("best ")?.split(' ');
     Some(words.next()?.parse::<f64>().ok()? / words.next()?.parse::<f64>().ok()?)
 }
@@ -65,7 +66,7 @@ impl Solver {
         command
     }
 
-    /// The value that it names optimal, if it does.
+    /// The size of the value that it names optimal, if it does; what is most of a value may be told as the least of its opposite.
     pub fn solve(self, p: &Problem) -> Option<f64> {
         let file = |end: &str| std::env::temp_dir().join(format!("charge-bench-{}.{end}", std::process::id()));
         let (model, solution) = (file("lp"), file("sol"));
@@ -83,7 +84,7 @@ impl Solver {
     fn value(self, solution: &PathBuf) -> Option<f64> {
         let text = std::fs::read_to_string(solution).ok()?;
         let line = match self {
-            Solver::Ours => return value_of(&text),
+            Solver::Ours => return value_of(&text).map(f64::abs),
             Solver::Glpsol => text.lines().find(|l| l.starts_with("s mip") && l.contains(" o "))?,
             Solver::Cbc => text.lines().find(|l| l.starts_with("Optimal"))?,
         };

@@ -1,102 +1,143 @@
 //! The speed table: ours, the twin and other solvers side by side, on drawn sheets of the field's families.
 
-use crate::draw::{self, Family, Rng, FAMILIES};
+use crate::draw::Rng;
+use crate::families::{Family, FAMILIES, ITEMS};
 use crate::independent;
 use crate::ours;
+use crate::picture;
 use crate::problem::Problem;
-use crate::rivals::{self, Solver, RIVALS};
-use crate::twin;
-use std::time::Instant;
+use crate::progress::Progress;
+use crate::race::{self, Race};
+use crate::rivals::Solver;
+use crate::stats::{at, timed, MEDIAN, NINETY_NINTH, WORST};
+use crate::twin::{self, Rules};
 
 pub struct Options {
     pub seed: u64,
     pub sheets: usize,
-    pub rival_sheets: usize,
+    pub raced: usize,
+    /// steps of a search that is not bounded
     pub limit: u64,
+    /// the twin's
+    pub rules: Rules,
+    pub continuous: &'static [usize],
+    /// only families whose name has this in it
+    pub family: String,
+    pub picture: Option<String>,
 }
 
-/// Times and steps of the sheets of a row that the twin finished.
+/// The sheets of a family with a bound and some continuous items: work and seconds of those that were done, and what both did of them; and
+/// the solvers as processes on the first sheets.
 #[derive(Default)]
-struct Row {
+pub struct Row {
+    pub name: &'static str,
+    pub bound: i64,
     steps: Vec<u64>,
+    cells: Vec<u64>,
+    ours: Vec<f64>,
+    twin: Vec<f64>,
     over: usize,
-    ours: f64,
-    twin: f64,
-    our_steps: u64,
-    twin_steps: u64,
+    both: Both,
+    pub races: Vec<Race>,
+}
+
+/// Sheets that both did: how many, on how many work and text agree, seconds; and cells and seconds of the deep ones.
+#[derive(Clone, Copy, Default)]
+struct Both {
+    count: usize,
     agree: usize,
     same: usize,
+    seconds: Pair,
+    deep_cells: u64,
+    deep: Pair,
 }
 
-/// What a solver did as a process on the first sheets of a row, or of all rows.
-#[derive(Default)]
-struct Rivalry {
-    seconds: Vec<f64>,
-    late: usize,
-    right: usize,
+/// Ours and the twin's.
+#[derive(Clone, Copy, Default)]
+struct Pair {
+    ours: f64,
+    twin: f64,
 }
 
-impl Rivalry {
-    fn median(&self) -> f64 {
-        let mut sorted = self.seconds.clone();
-        sorted.sort_by(f64::total_cmp);
-        sorted[sorted.len() / 2]
+/// From so many cells on the steps of a sheet do not count.
+const DEEP: u64 = 1_000_000;
+
+impl Pair {
+    fn plus(self, other: Pair) -> Pair {
+        Pair { ours: self.ours + other.ours, twin: self.twin + other.twin }
+    }
+
+    fn ratio(self) -> f64 {
+        self.ours / self.twin
     }
 }
 
-/// The least time of up to three runs; one if it is long.
-fn timed<T>(mut work: impl FnMut() -> T) -> (T, f64) {
-    let mut least = f64::MAX;
-    for _ in 0..3 {
-        let began = Instant::now();
-        let result = work();
-        least = least.min(began.elapsed().as_secs_f64());
-        if least > 0.01 {
-            return (result, least);
+impl Both {
+    fn plus(self, other: Both) -> Both {
+        Both {
+            count: self.count + other.count,
+            agree: self.agree + other.agree,
+            same: self.same + other.same,
+            seconds: self.seconds.plus(other.seconds),
+            deep_cells: self.deep_cells + other.deep_cells,
+            deep: self.deep.plus(other.deep),
         }
     }
-    (work(), least)
+}
+
+/// Whether our program ends on a problem in good time.
+fn ends(p: &Problem, o: &Options) -> bool {
+    ours::RULES.is_bounded() || twin::plan(p, ours::RULES, o.limit).is_some()
 }
 
 fn measure(p: &Problem, o: &Options, row: &mut Row) {
     let sheet = p.sheet();
-    let (twin, twin_time) = timed(|| independent::read(&sheet).ok().and_then(|p| twin::plan(&p, o.limit)));
-    let Some(twin) = twin else {
+    let limit = if o.rules.is_bounded() { u64::MAX } else { o.limit };
+    let (twin, twin_time) = timed(|| independent::read(&sheet).ok().and_then(|p| twin::plan(&p, o.rules, limit)));
+    row.steps.push(twin.as_ref().map_or(u64::MAX, |t| t.steps));
+    row.cells.push(twin.as_ref().map_or(0, |t| t.cells));
+    if twin.is_some() {
+        row.twin.push(twin_time);
+    }
+    let Some(twin) = twin.filter(|_| ends(p, o)) else {
         row.over += 1;
-        row.steps.push(u64::MAX);
         return;
     };
     let (text, our_time) = timed(|| ours::plan(&sheet));
-    let steps = ours::steps(&sheet);
-    row.steps.push(steps);
-    row.our_steps += steps;
-    row.twin_steps += twin.steps;
-    row.ours += our_time;
-    row.twin += twin_time;
-    row.agree += (steps == twin.steps) as usize;
-    row.same += (text == twin.text) as usize;
+    row.ours.push(our_time);
+    let work = ours::work(&sheet);
+    let seconds = Pair { ours: our_time, twin: twin_time };
+    let is_deep = twin.cells >= DEEP;
+    row.both = row.both.plus(Both {
+        count: 1,
+        agree: (work.steps == twin.steps && work.cells.is_none_or(|c| c == twin.cells)) as usize,
+        same: (text == twin.text) as usize,
+        seconds,
+        deep_cells: if is_deep { twin.cells } else { 0 },
+        deep: if is_deep { seconds } else { Pair::default() },
+    });
 }
 
-/// The solvers as processes on the same sheets, ours first; right: our value.
-fn measure_processes(solvers: &[Solver], problems: &[Problem]) -> Vec<Rivalry> {
-    let mut results: Vec<Rivalry> = solvers.iter().map(|_| Rivalry::default()).collect();
-    for p in problems {
-        let runs: Vec<(Option<f64>, f64)> = solvers.iter().map(|s| timed(|| s.solve(p))).collect();
-        let ours = runs[0].0;
-        for (&(value, seconds), result) in runs.iter().zip(&mut results) {
-            result.seconds.push(seconds);
-            match (value, ours) {
-                (Some(v), Some(w)) if seconds < rivals::LIMIT as f64 => result.right += ((v - w).abs() <= 1e-9 * w.abs()) as usize,
-                _ => result.late += 1,
-            }
-        }
-    }
-    results
-}
-
-fn sheets(family: Family, bound: i64, continuous: usize, o: &Options) -> Vec<Problem> {
+fn sheets(family: &Family, bound: i64, continuous: usize, o: &Options) -> Vec<Problem> {
     let mut rng = Rng(o.seed);
-    (0..o.sheets).map(|_| draw::family(&mut rng, family, bound, continuous)).collect()
+    (0..o.sheets).map(|_| family.draw(&mut rng, bound, continuous)).collect()
+}
+
+fn measured(family: &Family, bound: i64, continuous: usize, solvers: &[Solver], o: &Options) -> Row {
+    let problems = sheets(family, bound, continuous, o);
+    let mut row = Row { name: family.name, bound, ..Default::default() };
+    let mut progress = Progress::new();
+    for (k, p) in problems.iter().enumerate() {
+        progress.show(|| format!("{}, bound {bound}: {k} of {} sheets", family.name, problems.len()));
+        measure(p, o, &mut row);
+    }
+    let raced = &problems[..o.raced.min(problems.len())];
+    row.races = race::races(solvers, raced, &|p| ends(p, o), &mut progress);
+    row.steps.sort();
+    row.cells.sort();
+    row.ours.sort_by(f64::total_cmp);
+    row.twin.sort_by(f64::total_cmp);
+    row
 }
 
 fn many(steps: u64, limit: u64) -> String {
@@ -107,121 +148,104 @@ fn many(steps: u64, limit: u64) -> String {
     }
 }
 
-fn show(name: &str, bound: i64, row: &mut Row, rivals: &[Rivalry], o: &Options) {
-    row.steps.sort();
-    let done = (row.steps.len() - row.over).max(1) as f64;
-    let per_step = |seconds: f64, steps: u64| seconds * 1e9 / steps.max(1) as f64;
-    print!(
-        "{name:24} {bound:>6} {:>9} {:>9} {:>4} | {:>10.1} {:>6.0} | {:>10.1} {:>6.0} | {:>5.2} |",
-        many(row.steps[row.steps.len() / 2], o.limit),
-        many(row.steps[row.steps.len() - 1], o.limit),
-        row.over,
-        row.ours * 1e6 / done,
-        per_step(row.ours, row.our_steps),
-        row.twin * 1e6 / done,
-        per_step(row.twin, row.twin_steps),
-        row.ours / row.twin
-    );
-    for r in rivals {
-        print!(" {:>9.2}{}", r.median() * 1e3, if r.late > 0 { '+' } else { ' ' });
-    }
-    println!();
+/// Median, 99th of a hundred and worst, in columns of a width.
+fn three<T: Copy>(list: &[T], width: usize, text: impl Fn(T) -> String) -> String {
+    [MEDIAN, NINETY_NINTH, WORST].map(|share| format!("{:>width$}", at(list, share).map_or("-".into(), &text))).join(" ")
 }
 
-fn heading(continuous: usize, solvers: &[Solver]) {
-    println!();
-    println!("{} integer items and {continuous} continuous ones", 16 - continuous);
-    let names: String = solvers.iter().map(|r| format!(" {:>9} ", format!("{} ms", r.name()))).collect();
-    println!(
-        "{:24} {:>6} {:>9} {:>9} {:>4} | {:>10} {:>6} | {:>10} {:>6} | {:>5} |{names}",
-        "family", "bound", "median", "worst", "over", "ours us", "ns/st", "twin us", "ns/st", "ratio"
-    );
-}
-
-fn introduce(o: &Options, solvers: &[Solver]) {
-    println!("Speed: {} sheets a row, seed {}; the same sheets for all", o.sheets, o.seed);
-    println!(
-        "median, worst: steps of our search; over: sheets on which the twin takes more than {} steps, left out of the times",
-        o.limit
-    );
-    println!("us: time from a sheet to its text, the mean; ns/st: that time by step; ratio: our time by the twin's");
-    for rival in RIVALS {
-        if solvers.iter().all(|s| s.name() != rival.name()) {
-            println!("{} is not installed", rival.name());
-        }
-    }
-    println!(
-        "ms: a whole process, from a problem to its solution in a file: the median of the first {} sheets of the row, + if one was not done in {} s",
-        o.rival_sheets,
-        rivals::LIMIT
-    );
-    let one = Problem { limit: 7, items: vec![draw::unit_item()] };
-    for s in solvers {
-        let start = Rivalry { seconds: (0..9).map(|_| timed(|| s.solve(&one)).1).collect(), ..Default::default() };
-        println!("{}: a sheet of one item takes {:.2} ms, the median of 9", s.name(), start.median() * 1e3);
+fn ratio_text(ratio: f64) -> String {
+    if ratio.is_nan() {
+        "-".into()
+    } else {
+        format!("{ratio:.2}")
     }
 }
 
-/// How ours stands to a rival over all rows.
-#[derive(Default)]
-struct Standing {
-    rows: usize,
-    faster: usize,
-    /// the least of the rival's medians by ours
-    least: Option<f64>,
-    runs: usize,
-    late: usize,
-    right: usize,
-}
-
-impl Standing {
-    fn add(&mut self, ours: &Rivalry, rival: &Rivalry) {
-        let ratio = rival.median() / ours.median();
-        self.rows += 1;
-        self.faster += (ratio > 1.0) as usize;
-        self.least = Some(self.least.map_or(ratio, |l| l.min(ratio)));
-        self.runs += rival.seconds.len();
-        self.late += rival.late;
-        self.right += rival.right;
+impl Row {
+    /// Ours as a call on all sheets; those left out count as not done.
+    pub fn calls(&self) -> Race {
+        Race::of(&self.ours, self.over)
     }
 
-    fn show(&self, name: &str) {
+    fn show(&self, o: &Options) {
+        let micro = |seconds: f64| format!("{:.1}", seconds * 1e6);
         println!(
-            "{name}: ours is faster in the median on {} of {} rows, by {:.1} times at least; our value on {} of {} sheets, {} not done in {} s",
-            self.faster,
-            self.rows,
-            self.least.unwrap_or(0.0),
-            self.right,
-            self.runs,
-            self.late,
-            rivals::LIMIT
+            "{:24} {:>5} |{} |{} |{} |{} |{:>5} {:>4}",
+            self.name,
+            self.bound,
+            three(&self.steps, 8, |n| many(n, o.limit)),
+            three(&self.cells, 6, |n| n.div_ceil(1000).to_string()),
+            three(&self.ours, 9, micro),
+            three(&self.twin, 9, micro),
+            ratio_text(self.both.seconds.ratio()),
+            self.over
         );
     }
 }
 
-pub fn speed(o: &Options) {
-    let mut solvers = vec![Solver::Ours];
-    solvers.extend(RIVALS.into_iter().filter(|r| r.is_installed()));
-    introduce(o, &solvers);
-    let (mut agree, mut same, mut of) = (0, 0, 0);
-    let mut standings: Vec<Standing> = solvers[1..].iter().map(|_| Standing::default()).collect();
-    for continuous in [0, 2] {
-        heading(continuous, &solvers);
-        for (family, name) in FAMILIES {
-            for bound in [1, 10, 100, 10_000] {
-                let problems = sheets(family, bound, continuous, o);
-                let mut row = Row::default();
-                problems.iter().for_each(|p| measure(p, o, &mut row));
-                let processes = measure_processes(&solvers, &problems[..o.rival_sheets.min(problems.len())]);
-                standings.iter_mut().zip(&processes[1..]).for_each(|(s, r)| s.add(&processes[0], r));
-                show(name, bound, &mut row, &processes, o);
-                agree += row.agree;
-                same += row.same;
-                of += row.steps.len() - row.over;
+fn heading(continuous: usize) {
+    println!();
+    println!("{} integer items and {continuous} continuous ones", ITEMS - continuous);
+    let three = |width: usize| ["median", "99th", "worst"].map(|w| format!("{w:>width$}")).join(" ");
+    println!("{:30} |{:>26} |{:>20} |{:>29} |{:>29} |", "", "steps", "1,000 cells", "ours us", "twin us");
+    println!("{:24} {:>5} |{} |{} |{} |{} |{:>5} {:>4}", "family", "bound", three(8), three(6), three(9), three(9), "ratio", "over");
+}
+
+fn introduce(o: &Options) {
+    println!("Speed: {} sheets a row, seed {}; the same sheets for all", o.sheets, o.seed);
+    match o.rules.is_bounded() {
+        true => println!("The twin searches for {} steps, then it goes by scales", o.rules.steps),
+        false => println!("The twin searches until it ends, without scales"),
+    }
+    println!("steps, cells: the twin's; us: from a sheet to its text, the least of three runs; ratio: our time by the twin's, of all sheets that both did");
+    if !ours::RULES.is_bounded() {
+        println!("over: sheets whose search takes more than {} steps; ours is not timed on them", o.limit);
+    }
+}
+
+/// What all rows come to. Whether work and text are the same on all sheets that both did.
+fn sum_up(rows: &[(usize, Row)], o: &Options) -> bool {
+    let both = rows.iter().fold(Both::default(), |sum, (_, r)| sum.plus(r.both));
+    let most = |list: fn(&Row) -> &[u64]| rows.iter().filter_map(|(_, r)| at(list(r), WORST)).max().unwrap_or(0);
+    let highest = rows.iter().map(|(_, r)| r.both.seconds.ratio()).fold(0.0, f64::max);
+    let Both { count, agree, same, deep_cells, deep, .. } = both;
+    println!();
+    println!("work agrees on {agree} of {count} sheets that both did; texts agree on {same} of {count}");
+    println!("most steps {}, most cells {}; highest ratio of a row {highest:.2}", many(most(|r| &r.steps), o.limit), most(|r| &r.cells));
+    if deep_cells > 0 {
+        let per_cell = |seconds: f64| seconds * 1e9 / deep_cells as f64;
+        println!(
+            "a cell, on sheets of {DEEP} or more that both did: ours {:.2} ns, the twin {:.2} ns, ratio {:.2}",
+            per_cell(deep.ours),
+            per_cell(deep.twin),
+            deep.ratio()
+        );
+    }
+    agree == count && same == count
+}
+
+/// Whether what was measured is the same work and the same text wherever ours and the twin go by the same rules.
+pub fn speed(o: &Options) -> bool {
+    let solvers = race::solvers();
+    introduce(o);
+    let mut rows = vec![];
+    for &continuous in o.continuous {
+        heading(continuous);
+        for family in FAMILIES.iter().filter(|f| f.name.contains(&o.family)) {
+            for bound in family.bounds {
+                let row = measured(family, bound, continuous, &solvers, o);
+                row.show(o);
+                rows.push((continuous, row));
             }
         }
     }
-    println!();
-    println!("steps agree on {agree} of {of} sheets; texts agree on {same} of {of}");
-    solvers[1..].iter().zip(&standings).for_each(|(r, s)| s.show(r.name()));
+    let is_same = sum_up(&rows, o);
+    if o.raced > 0 {
+        race::show(&solvers, &rows, o.raced, o.limit);
+    }
+    if let Some(file) = &o.picture {
+        std::fs::write(file, picture::draw(&solvers, &rows, o)).expect("a file for the picture");
+        println!("picture: {file}");
+    }
+    o.rules != ours::RULES || is_same
 }

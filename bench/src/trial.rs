@@ -1,0 +1,155 @@
+//! The bench tried on itself: the twin and the independent planner held to plain enumeration of small problems, and to each other on large ones.
+
+use crate::check::{check_is, check_point};
+use crate::draw::{tiny, Rng};
+use crate::enumeration::{first_best, Found, GRID};
+use crate::families::{CONTINUOUS, FAMILIES};
+use crate::independent::{self, Point, Reply};
+use crate::problem::Problem;
+use crate::progress::Progress;
+use crate::twin::{self, Rules, FIRST, SEARCH_ONLY, WITH_SCALES};
+
+/// How far an absent upper bound is taken beyond the lower one.
+const BEYOND: i64 = 7;
+
+/// The numbers of steps that the twin's search is given before the scales.
+const STEPS: [u64; 4] = [0, 1, 3, 1000];
+
+/// What was compared: best values, points that come first, other kinds.
+#[derive(Default)]
+struct Counts {
+    values: u64,
+    firsts: u64,
+    others: u64,
+    differ: u64,
+}
+
+fn twin_text(p: &Problem, rules: Rules) -> String {
+    twin::plan(p, rules, u64::MAX).map(|o| o.text).unwrap_or_default()
+}
+
+/// The twin's reply begins as the independent one, whatever the steps.
+fn check_twin(p: &Problem, expected: Reply) -> Result<(), String> {
+    let line = match expected {
+        Reply::Best(n, d) => format!("best {n} {d}\n"),
+        Reply::Unbounded => "unbounded\n".into(),
+        _ => "infeasible\n".into(),
+    };
+    for steps in STEPS {
+        for rules in [SEARCH_ONLY, WITH_SCALES, FIRST] {
+            let text = twin_text(p, Rules { steps, ..rules });
+            if !text.starts_with(&line) {
+                return Err(format!("the twin after {steps} steps says {text}"));
+            }
+        }
+    }
+    Ok(())
+}
+
+/// The independent first point is a point, and the twin's is the same, whatever the steps.
+fn check_point_of(p: &Problem) -> Result<Point, String> {
+    let first = independent::first(p).ok_or("no first best point")?;
+    check_point(p, &first)?;
+    for steps in STEPS {
+        check_is(&first, &twin_text(p, Rules { steps, ..FIRST }))?;
+    }
+    Ok(first)
+}
+
+/// A point over GRID.
+fn on_grid(point: &Point) -> Result<Vec<i64>, String> {
+    let over = |x: &(i128, i128)| (GRID as i128 % x.1 == 0).then(|| (x.0 * (GRID as i128 / x.1)) as i64);
+    point.iter().map(over).collect::<Option<Vec<i64>>>().ok_or_else(|| format!("{point:?} is not on the grid"))
+}
+
+/// Value and first point beside the enumerated ones. Beyond where absent bounds are taken there may be better points, and earlier ones.
+fn check_first(p: &Problem, value: (i128, i128), found: &Found, counts: &mut Counts) -> Result<(), String> {
+    let (ours, enumerated) = (value.0 * GRID as i128, found.value as i128 * value.1);
+    let is_closed = p.items.iter().all(|i| i.upper.is_some());
+    counts.values += 1;
+    if ours < enumerated || (is_closed && ours > enumerated) {
+        return Err(format!("the value is not {} / {GRID}", found.value));
+    }
+    let first = on_grid(&check_point_of(p)?)?;
+    if ours > enumerated {
+        return Ok(());
+    }
+    counts.firsts += 1;
+    let is_inside = p.items.iter().zip(&first).all(|(i, &x)| i.upper.is_some() || x <= (i.lower.unwrap() + BEYOND) * GRID);
+    if first == found.amounts || (!is_inside && first < found.amounts) {
+        Ok(())
+    } else {
+        Err(format!("first is {first:?}, enumerated {:?}, over {GRID}", found.amounts))
+    }
+}
+
+fn check_small(p: &Problem, counts: &mut Counts) -> Result<(), String> {
+    let expected = independent::plan(p);
+    check_twin(p, expected)?;
+    match (expected, first_best(p, BEYOND)) {
+        (Reply::Best(n, d), Some(found)) => return check_first(p, (n, d), &found, counts),
+        (Reply::Infeasible, None) => {}
+        (Reply::Infeasible, Some(found)) => return Err(format!("{:?} / {GRID} is feasible", found.amounts)),
+        (_, _) if p.items.iter().all(|i| i.upper.is_some()) => return Err(format!("{expected:?}")),
+        _ => {}
+    }
+    counts.others += 1;
+    Ok(())
+}
+
+/// A sheet of a family, one in three with some upper bounds absent.
+fn large(rng: &mut Rng) -> Problem {
+    let family = &FAMILIES[rng.between(0, FAMILIES.len() as i64 - 1) as usize];
+    let (bound, continuous) = (rng.pick(&family.bounds), rng.pick(&CONTINUOUS));
+    let mut p = family.draw(rng, bound, continuous);
+    let absent = rng.pick(&[0, 0, 20]);
+    p.items.iter_mut().filter(|_| rng.chance(absent)).for_each(|i| i.upper = None);
+    p
+}
+
+/// Too large for enumeration: the twin and the independent planner are held to each other.
+fn check_large(p: &Problem, counts: &mut Counts) -> Result<(), String> {
+    let expected = independent::plan(p);
+    check_twin(p, expected)?;
+    if let Reply::Best(..) = expected {
+        counts.values += 1;
+        check_point_of(p)?;
+        counts.firsts += 1;
+    } else {
+        counts.others += 1;
+    }
+    Ok(())
+}
+
+type Check = fn(&Problem, &mut Counts) -> Result<(), String>;
+
+/// Whether nothing differs.
+fn try_all(what: &str, count: u64, rng: &mut Rng, draw: fn(&mut Rng) -> Problem, check: Check) -> bool {
+    let mut counts = Counts::default();
+    let mut progress = Progress::new();
+    for done in 0..count {
+        progress.show(|| format!("{done} of {count} {what} problems tried, {} differ", counts.differ));
+        let p = draw(rng);
+        if let Err(why) = check(&p, &mut counts) {
+            counts.differ += 1;
+            println!("{what} problem {done}: {why}\n{}", String::from_utf8_lossy(&p.sheet()));
+        }
+    }
+    let Counts { values, firsts, others, differ } = counts;
+    println!(
+        "{count} {what} problems: {values} best values, {firsts} first best points and {others} other replies compared; {differ} differ"
+    );
+    differ == 0
+}
+
+/// How many small problems come to a large one.
+const SMALL: u64 = 200;
+
+pub fn trial(seed: u64, count: u64) -> bool {
+    println!(
+        "The bench itself, seed {seed}: the twin, after {STEPS:?} steps, and the independent planner; small problems by enumeration too"
+    );
+    let mut rng = Rng(seed);
+    let small = try_all("small", count, &mut rng, tiny, check_small);
+    try_all("large", count / SMALL, &mut rng, large, check_large) && small
+}

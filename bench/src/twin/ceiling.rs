@@ -1,0 +1,321 @@
+//! The driver of the engine: the least loss of a box, and a place that has it.
+//!
+//! Items are seen from their light ends: y units away from it, y = 0 ..= width, weighing size and gaining rate for each. For any p >= 0, q > 0
+//!     q * value = top - loss,   loss = sum of |edge| * (units away from the good end) + p * slack,   edge = q * rate - p * size,
+//! where the good end is the heavy one if edge > 0 and the light one if not. So the best point has the least loss.
+//!
+//! A frame is one arrangement of the continuous items: those before one of them, in the order of filling, stand at their heavy ends, those
+//! after it at their light ends, and it is itself cut into granules of weight 1. Everything is then whole: 17 parts (the items and the
+//! slack), each with an amount low ..= low + range, that weigh exactly the room. Losses of a frame are in units of 1/scale.
+
+use super::relaxation::Mixed;
+use super::scales::{Cells, Load, HIGHEST, PARTS};
+use super::setting::Setting;
+use crate::problem::Problem;
+
+const ITEMS: usize = 16;
+const SLACK: usize = 16;
+
+/// Losses above this are not looked for: over a divisor of 1000 and times a scale of 1000 they are below 2^62.
+const DEEPEST: i64 = 4_000_000_000_000;
+
+/// What the driver has to know of a box. `falls`: the amount falls from the light end on. `soft`: the continuous items that can be worth
+/// filling, in the order of filling.
+#[derive(Default)]
+pub struct Shape {
+    pub count: usize,
+    size: [i64; ITEMS],
+    rate: [i64; ITEMS],
+    width: [i64; ITEMS],
+    pub light: [i64; ITEMS],
+    pub falls: [bool; ITEMS],
+    integer: [bool; ITEMS],
+    room: i64,
+    worth: i64,
+    p: i64,
+    q: i64,
+    soft: Vec<usize>,
+}
+
+/// A loss: num / den, den at most 1000.
+#[derive(Clone, Copy)]
+pub struct Loss {
+    num: u64,
+    den: u64,
+}
+
+/// `cut`: the item in granules.
+#[derive(Clone, Copy)]
+pub struct Frame {
+    pub scale: u64,
+    pub cut: Option<usize>,
+    room: u64,
+    weight: [u64; PARTS],
+    most: [u64; PARTS],
+    cost: [u64; PARTS],
+    heavy: [bool; PARTS],
+    falls: [bool; PARTS],
+    pub low: [u64; PARTS],
+    range: [u64; PARTS],
+}
+
+// ---- shapes
+
+impl Shape {
+    pub fn of(p: &Problem, s: &Setting) -> Shape {
+        let mut h = Shape { count: s.count, ..Default::default() };
+        for k in 0..s.count {
+            let (a, c) = (s.weight[k], s.price[k]);
+            h.falls[k] = a < 0 || (a == 0 && c > 0);
+            h.size[k] = a.abs();
+            h.rate[k] = if h.falls[k] { -c } else { c };
+            h.width[k] = s.ends.hi[k] - s.ends.lo[k];
+            h.light[k] = s.light(&s.ends, k);
+            h.integer[k] = p.items[k].integer;
+        }
+        let (corner, f) = (s.begin(&s.ends), s.fill(&s.ends));
+        (h.room, h.worth) = (corner.room, corner.worth);
+        // the multiplier p / q is the critical item's ratio
+        (h.p, h.q) = if f.at < s.live { (s.rate[f.at], s.size[f.at]) } else { (0, 1) };
+        let gains = |k: usize| h.rate[k] > 0 || (h.rate[k] == 0 && h.falls[k]);
+        let soft = |k: &usize| !h.integer[*k] && h.width[*k] > 0 && h.size[*k] > 0 && gains(*k);
+        h.soft = s.order[..s.count].iter().copied().filter(soft).collect();
+        h
+    }
+
+    /// Of equal ratios falling items are filled first, by number, then rising ones, the last number first: so the first point of those worth
+    /// as much has a frame.
+    pub fn fill_early(&mut self) {
+        let early = |k: usize| if self.falls[k] { k } else { 2 * ITEMS - k };
+        let ratio = |j: usize, k: usize| (self.rate[k] * self.size[j]).cmp(&(self.rate[j] * self.size[k]));
+        let mut soft = self.soft.clone();
+        soft.sort_by(|&j, &k| ratio(j, k).then(early(j).cmp(&early(k))));
+        self.soft = soft;
+    }
+
+    fn edge(&self, k: usize) -> i64 {
+        self.q * self.rate[k] - self.p * self.size[k]
+    }
+
+    /// How much q times a value is below the top of the box; none if that is too deep.
+    pub fn loss(&self, v: Mixed) -> Option<Loss> {
+        let gains = (0..self.count).map(|k| self.edge(k).max(0) * self.width[k]);
+        let whole = self.q * self.worth + self.p * self.room + gains.sum::<i64>() - self.q * v.whole;
+        (whole <= DEEPEST).then(|| Loss { num: (whole * v.parts - self.q * v.part) as u64, den: v.parts as u64 })
+    }
+
+    /// One for each soft item; one if there is none.
+    pub fn frames(&self) -> usize {
+        self.soft.len().max(1)
+    }
+
+    /// All items with their widths, and the slack.
+    fn whole_frame(&self, scale: u64) -> Frame {
+        let (none, no) = ([0; PARTS], [false; PARTS]);
+        let room = self.room as u64;
+        let mut f = Frame { scale, cut: None, room, weight: none, most: none, cost: none, heavy: no, falls: no, low: none, range: none };
+        for k in 0..self.count {
+            f.weight[k] = self.size[k] as u64;
+            f.most[k] = self.width[k] as u64;
+            f.cost[k] = scale * self.edge(k).unsigned_abs();
+            f.heavy[k] = self.edge(k) > 0;
+            f.falls[k] = self.falls[k];
+            f.range[k] = if self.integer[k] { f.most[k] } else { 0 };
+        }
+        f.weight[SLACK] = 1;
+        (f.most[SLACK], f.range[SLACK]) = (room, room);
+        f.cost[SLACK] = scale * self.p as u64;
+        f
+    }
+
+    /// Soft item l is cut: size granules make a unit, which costs scale = size times as much.
+    fn frame(&self, l: usize) -> Frame {
+        let Some(&k) = self.soft.get(l) else {
+            return self.whole_frame(1);
+        };
+        let mut f = self.whole_frame(self.size[k] as u64);
+        for &j in &self.soft[..l] {
+            f.low[j] = f.most[j];
+        }
+        f.cut = Some(k);
+        f.most[k] *= f.weight[k];
+        f.range[k] = f.most[k];
+        f.weight[k] = 1;
+        f.cost[k] = self.edge(k).unsigned_abs();
+        f
+    }
+}
+
+// ---- what is below a cap
+
+/// A cap less what so many units cost; 0 if that is no less than the cap.
+fn less_units(cap: u64, units: u64, cost: u64) -> u64 {
+    if units > 0 && cost > cap / units {
+        0
+    } else {
+        cap - units * cost
+    }
+}
+
+impl Frame {
+    fn fix(&mut self, k: usize, amount: u64) {
+        self.low[k] = amount;
+        self.range[k] = 0;
+    }
+
+    /// How many units the part is away from its good end at least.
+    fn away(&self, k: usize) -> u64 {
+        if self.heavy[k] {
+            self.most[k] - self.low[k] - self.range[k]
+        } else {
+            self.low[k]
+        }
+    }
+
+    /// What is left of a cap on losses when every part is as near to its good end as it may be.
+    fn remaining(&self, cap: u64) -> u64 {
+        (0..PARTS).fold(cap, |left, k| less_units(left, self.away(k), self.cost[k]))
+    }
+
+    /// Amounts that alone would cost `left` or more are taken out.
+    fn narrow(&mut self, left: u64) {
+        for k in 0..PARTS {
+            if self.cost[k] > 0 && self.range[k] > (left - 1) / self.cost[k] {
+                let range = (left - 1) / self.cost[k];
+                if self.heavy[k] {
+                    self.low[k] += self.range[k] - range;
+                }
+                self.range[k] = range;
+            }
+        }
+    }
+
+    /// The room that is left when every part has its least amount.
+    fn rest(&self) -> i64 {
+        (0..PARTS).fold(self.room as i64, |rest, k| rest - (self.weight[k] * self.low[k]) as i64)
+    }
+}
+
+// ---- keys: the amounts of a group of parts as one number, that of the first part foremost
+
+/// The parts from .. to have `base` keys in all, those after part k have radix[k].
+struct Group {
+    from: usize,
+    to: usize,
+    base: u64,
+    radix: [u64; PARTS],
+}
+
+impl Frame {
+    /// As many parts from `from` on, up to `end`, as keep left * base within HIGHEST.
+    fn group(&self, from: usize, end: usize, left: u64) -> Group {
+        let mut g = Group { from, to: from, base: 1, radix: [0; PARTS] };
+        while g.to < end && self.range[g.to] < HIGHEST / left / g.base {
+            g.base *= self.range[g.to] + 1;
+            g.to += 1;
+        }
+        let mut keys = 1;
+        for k in (from..g.to).rev() {
+            g.radix[k] = keys;
+            keys *= self.range[k] + 1;
+        }
+        g
+    }
+
+    /// The group's parts at the amounts of a key. A digit counts from the item's least amount: a light end may be the upper one.
+    fn decode(&mut self, g: &Group, key: u64) {
+        let mut rest = key;
+        for k in g.from..g.to {
+            let digit = rest / g.radix[k];
+            rest %= g.radix[k];
+            self.fix(k, self.low[k] + if self.falls[k] { self.range[k] - digit } else { digit });
+        }
+    }
+
+    /// Costs are losses * base + keys.
+    fn load(&self, g: &Group, capacity: u64, left: u64) -> Load {
+        let mut l = Load { weight: [0; PARTS], range: self.range, taken: g.radix, left: [0; PARTS], capacity, cap: left * g.base };
+        for k in 0..PARTS {
+            l.weight[k] = self.weight[k] as usize;
+            if self.falls[k] {
+                (l.taken[k], l.left[k]) = (0, g.radix[k]);
+            }
+            let loss = if self.range[k] > 0 { self.cost[k] * g.base } else { 0 };
+            if self.heavy[k] {
+                l.left[k] += loss;
+            } else {
+                l.taken[k] += loss;
+            }
+        }
+        l
+    }
+}
+
+// ---- runs
+
+/// The least loss below a cap, or the cap. If it is below, the frame has lost what is at or above the cap, and a group of its parts from ..
+/// end is fixed at the first amounts of the points that have this loss; the first part that is not fixed is told too.
+fn run(f: &mut Frame, cap: u64, from: usize, end: usize, cells: &mut Cells) -> (u64, usize) {
+    let left = f.remaining(cap);
+    if left == 0 {
+        return (cap, from);
+    }
+    let mut n = *f;
+    n.narrow(left);
+    let room = n.rest();
+    if room < 0 {
+        return (cap, from);
+    }
+    let g = n.group(from, end, left);
+    let l = n.load(&g, room as u64, left);
+    let cost = cells.least_cost(l);
+    if cost == l.cap {
+        return (cap, from);
+    }
+    n.decode(&g, cost % g.base);
+    *f = n;
+    (cap - left + cost / g.base, g.to)
+}
+
+/// The least loss of the box and the frame that has it, if it is less than `known`.
+fn least_loss(h: &Shape, known: Loss, cells: &mut Cells) -> Option<(Loss, usize)> {
+    let (mut best, mut found) = (known, None);
+    for l in 0..h.frames() {
+        let mut f = h.frame(l);
+        let cap = (f.scale * best.num).div_ceil(best.den);
+        let (loss, _) = run(&mut f, cap, 0, 0, cells);
+        if loss < cap {
+            best = Loss { num: loss, den: f.scale };
+            found = Some((best, l));
+        }
+    }
+    found
+}
+
+/// The first point of frame l that has exactly the loss t, if one has; none has less. The items are decoded group by group.
+pub fn first_of_frame(h: &Shape, l: usize, t: Loss, cells: &mut Cells) -> Option<Frame> {
+    let mut f = h.frame(l);
+    let cap = f.scale * t.num / t.den + 1;
+    let mut from = 0;
+    while from < ITEMS {
+        let (loss, to) = run(&mut f, cap, from, ITEMS, cells);
+        if loss == cap && from == 0 {
+            return None;
+        }
+        assert!(loss + 1 == cap && to > from, "a run's least cost is attained");
+        from = to;
+    }
+    Some(f)
+}
+
+/// The amounts of the integer items at a point of less loss than `known` and of the least; none if no loss is less.
+pub fn better_amounts(h: &Shape, known: Loss, cells: &mut Cells) -> Option<[i64; ITEMS]> {
+    let (least, l) = least_loss(h, known, cells)?;
+    let f = first_of_frame(h, l, least, cells)?;
+    let mut x = [0; ITEMS];
+    for k in 0..h.count {
+        let y = f.low[k] as i64;
+        x[k] = h.light[k] + if h.falls[k] { -y } else { y };
+    }
+    Some(x)
+}

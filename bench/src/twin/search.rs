@@ -1,0 +1,158 @@
+//! Branch and bound over the places of a box, step for step as the planner does it.
+
+use super::relaxation::{less, Mixed};
+use super::setting::{Ends, Setting};
+
+/// A place, and the starts of its levels along it.
+#[derive(Default)]
+pub struct Path {
+    pub place: [i64; 16],
+    starts: [i64; 16],
+}
+
+#[derive(Clone, Copy)]
+pub struct Incumbent {
+    pub place: [i64; 16],
+    pub value: Mixed,
+}
+
+/// What a look settled: the rest of the segment of a level, or every place with the first amounts.
+enum Settled {
+    Run(usize),
+    Prefix(usize),
+}
+
+/// The levels above `from` settle nothing.
+pub struct Search<'a> {
+    pub s: &'a Setting,
+    path: Path,
+    pub best: Option<Incumbent>,
+    pub steps: u64,
+    from: usize,
+}
+
+impl<'a> Search<'a> {
+    pub fn new(s: &'a Setting) -> Search<'a> {
+        let mut search = Search { s, path: Path::default(), best: None, steps: 0, from: 0 };
+        search.dive(0);
+        search
+    }
+
+    /// The levels from j on at their starts.
+    fn dive(&mut self, j: usize) {
+        let s = self.s;
+        let mut e = self.fixed(j);
+        for d in j..s.levels {
+            let k = s.level[d];
+            let v = s.start(&e, s.fill(&e), k);
+            (e.lo[k], e.hi[k]) = (v, v);
+            (self.path.place[d], self.path.starts[d]) = (v, v);
+        }
+    }
+
+    fn fixed(&self, levels: usize) -> Ends {
+        self.s.fixed(&self.path.place, levels)
+    }
+
+    /// Whether the box e of a run at level d holds nothing better than the incumbent.
+    fn is_cut(&self, e: &Ends, d: usize) -> bool {
+        let f = self.s.fill(e);
+        if f.room < 0 {
+            return true;
+        }
+        let Some(best) = self.best else {
+            return false;
+        };
+        !less(best.value, self.s.bound(f))
+            || if self.s.free { self.s.off_strides(f, best.value) } else { self.s.off_lattice(f, d, best.value.whole) }
+    }
+
+    /// Whether a pair of level d and one above can be taken away from the place within the box.
+    fn is_paired(&self, d: usize) -> bool {
+        let s = self.s;
+        let x = &self.path.place;
+        let within = |k: usize, y: i64| s.ends.lo[k] <= y && y <= s.ends.hi[k];
+        let i = s.level[d];
+        (0..d).any(|e| {
+            let j = s.level[e];
+            s.pairs[16 * i + j].is_some_and(|(r, t)| within(i, x[d] - r) && within(j, x[e] - t))
+        })
+    }
+
+    /// The first level whose run can be set aside, or that a pair discards; else the place is tried. And whether that is a better one.
+    fn look(&mut self) -> (Settled, bool) {
+        let s = self.s;
+        let mut e = self.fixed(self.from);
+        for d in self.from..s.levels {
+            let k = s.level[d];
+            let x = self.path.place[d];
+            if x < self.path.starts[d] {
+                e.hi[k] = x;
+            } else {
+                e.lo[k] = x;
+            }
+            if self.is_cut(&e, d) {
+                return (Settled::Run(d), false);
+            }
+            if self.is_paired(d) {
+                return (Settled::Prefix(d + 1), false);
+            }
+            (e.lo[k], e.hi[k]) = (x, x);
+        }
+        (Settled::Prefix(s.levels), self.try_place(&e))
+    }
+
+    fn try_place(&mut self, e: &Ends) -> bool {
+        let f = self.s.fill(e);
+        if f.room < 0 {
+            return false;
+        }
+        let value = self.s.bound(f);
+        let better = self.best.is_none_or(|b| less(b.value, value));
+        if better {
+            self.best = Some(Incumbent { place: self.path.place, value });
+        }
+        better
+    }
+
+    /// The first place after what was settled, as a level and its amount.
+    fn next(&self, settled: Settled) -> Option<(usize, i64)> {
+        let (x, starts) = (&self.path.place, &self.path.starts);
+        let lo = |d: usize| self.s.ends.lo[self.s.level[d]];
+        let hi = |d: usize| self.s.ends.hi[self.s.level[d]];
+        let below = |d: usize| (lo(d) < starts[d]).then(|| (d, starts[d] - 1));
+        let levels = match settled {
+            Settled::Prefix(n) => n,
+            Settled::Run(d) => {
+                if x[d] >= starts[d] && lo(d) < starts[d] {
+                    return below(d);
+                }
+                d
+            }
+        };
+        (0..levels).rev().find_map(|d| {
+            if x[d] < starts[d] {
+                (lo(d) < x[d]).then(|| (d, x[d] - 1))
+            } else if x[d] < hi(d) {
+                Some((d, x[d] + 1))
+            } else {
+                below(d)
+            }
+        })
+    }
+
+    /// Whether the search ended within so many steps in all; it goes on from where it was stopped.
+    pub fn run(&mut self, limit: u64) -> bool {
+        while self.steps < limit {
+            self.steps += 1;
+            let (settled, better) = self.look();
+            let Some((d, v)) = self.next(settled) else {
+                return true;
+            };
+            self.from = if better { 0 } else { d };
+            self.path.place[d] = v;
+            self.dive(d + 1);
+        }
+        false
+    }
+}
