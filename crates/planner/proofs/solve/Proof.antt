@@ -12,3 +12,24 @@ use Rattle.planner.proofs.solve.Tie as tie
 
 some-crosses-requires : tie.Need-some-crosses-requires
 some-crosses-requires c κs = c .pre .few-items
+
+no-point-requires : tie.Need-no-point-requires
+no-point-requires c κs = search needs
+
+with-steps-requires : tie.Need-with-steps-requires
+with-steps-requires c κs = search needs
+
+returns : tie.Need-returns
+returns c = ?
+
+presolve-requires : tie.Need-presolve-requires
+presolve-requires c κs = ?
+
+decide-requires : tie.Need-decide-requires
+decide-requires c κs = ?
+
+returns-2 : tie.Need-returns-2
+returns-2 c = ?
+
+pub solve-spec : {M : Type 1} → statement M
+solve-spec = tie.close (tie.spec some-crosses-requires no-point-requires with-steps-requires returns presolve-requires decide-requires returns-2)
