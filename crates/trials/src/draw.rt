@@ -33,6 +33,11 @@ pub fn small(absent: u64, loose: u64) -> Spans {
     }
 }
 
+struct Ends {
+    lower: i64,
+    upper: i64,
+}
+
 pub struct DrawnItem {
     pub item: Item,
     pub state: u64,
@@ -106,6 +111,22 @@ fn greater(a: i64, b: i64) -> i64 {
     if a < b { b } else { a }
 }
 
+// The lower bound first. One pair in eight crosses, unless it is of equals.
+fn drawn_ends(state: u64, a: i64, b: i64) -> Ends {
+    let low = lesser(a, b);
+    let high = greater(a, b);
+    if below(state, 7) == 0 {
+        return Ends {
+            lower: high,
+            upper: low,
+        };
+    }
+    Ends {
+        lower: low,
+        upper: high,
+    }
+}
+
 pub fn drawn_item(state: u64, s: Spans) -> DrawnItem {
     let m = next(state);
     let a = next(m);
@@ -116,10 +137,9 @@ pub fn drawn_item(state: u64, s: Spans) -> DrawnItem {
     let j = next(i);
     let mark = drawn_mark(m, s);
     let weight = drawn_weight(a, s);
-    let first = figure(l, s.bound);
-    let second = figure(u, s.bound);
-    let lower = drawn_bound(i, lesser(first, second), s);
-    let upper = drawn_bound(j, greater(first, second), s);
+    let ends = drawn_ends(c, figure(l, s.bound), figure(u, s.bound));
+    let lower = drawn_bound(i, ends.lower, s);
+    let upper = drawn_bound(j, ends.upper, s);
     let x = Item {
         mark: mark,
         weight: weight,

@@ -19,17 +19,42 @@ no-point-requires c κs = search needs
 with-steps-requires : tie.Need-with-steps-requires
 with-steps-requires c κs = search needs
 
-returns : tie.Need-returns
-returns c = ?
+-- where no bounds cross the problem is in range
+ranged : (c : tie.Else1) → InRange (c .before .before .args .p)
+ranged c = let s = c .before .before in plain-in-range (s .args .p) (s .pre) (uncrossed (s .args .p) (sym (c .before .some-crosses .ensures) ∙ c .if1 .left))
 
 presolve-requires : tie.Need-presolve-requires
-presolve-requires c κs = ?
+presolve-requires c κs = ranged c
 
 decide-requires : tie.Need-decide-requires
-decide-requires c κs = ?
+decide-requires c κs = rw (c .presolve .ensures) (presolved-presolves (c .before .before .before .args .p) (ranged (c .before)) .in-range)
+
+returns : tie.Need-returns
+returns c =
+    let a = c .before in
+    let x = a .before .before in
+    let p = x .before .args .p in
+    let crosses = sym (x .some-crosses .ensures) ∙ a .before .if1 .taken in
+    rw (c .with-steps .ensures, a .no-point .ensures) (record { answers = (crossed-infeasible p crosses, refl); counts = refl })
 
 returns-2 : tie.Need-returns-2
-returns-2 c = ?
+returns-2 c =
+    let q = c .before in
+    let p = q .before .before .before .args .p in
+    let d = rw (q .presolve .ensures) at (c .decide .ensures) in
+    record {
+      answers = answers-presolved p (presolved p) (presolved-presolves p (ranged (q .before))) (c .decide .result .answer) (d .answers);
+      counts = d .counts;
+    }
 
 pub solve-spec : {M : Type 1} → statement M
-solve-spec = tie.close (tie.spec some-crosses-requires no-point-requires with-steps-requires returns presolve-requires decide-requires returns-2)
+solve-spec =
+    tie.close
+    (tie.spec
+    some-crosses-requires
+    no-point-requires
+    with-steps-requires
+    returns
+    presolve-requires
+    decide-requires
+    returns-2)
