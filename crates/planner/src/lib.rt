@@ -148,8 +148,8 @@ pub fn solve(p: Problem) -> Solved
     ensures { λ r. ⌜ Solves p r ⌝ }
 {
     if some_crosses(p) {
-        let a = no_point(Kind::Infeasible);
-        return with_steps(a, 0);
+        let none = no_point(Kind::Infeasible);
+        return with_steps(none, 0);
     }
     let q = presolve(p);
     decide(q)
