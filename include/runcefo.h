@@ -33,7 +33,6 @@ enum charge_refusal {
     CHARGE_BAD_COUNT = 3,    /* capacities not 1, items not 1 to 16, or more bounds than items */
     CHARGE_OUT_OF_RANGE = 4, /* a figure */
     CHARGE_BAD_NUMBER = 5,   /* an item number that does not exist, or does not rise */
-    CHARGE_CROSSED = 6,      /* a lower bound above its upper bound; told with the upper one's line */
     CHARGE_SHORT_BUFFER = 11 /* charge_write: out is shorter than the sheet; told with line 0 */
 };
 

@@ -1,7 +1,6 @@
 //! Drawn sheets of mixed kinds, for the comparison. Every draw comes from one seed, by splitmix64.
 
 use crate::families::{COMPARED, FAMILIES};
-use crate::independent::CROSSING_IS_REFUSED;
 use crate::problem::{Item, Problem};
 
 pub struct Rng(pub u64);
@@ -67,7 +66,7 @@ fn item(rng: &mut Rng, weight: i64, price: i64, lower: i64, upper: i64, absent: 
 }
 
 /// How many bounds of a hundred cross in a small problem.
-const CROSSING: i64 = if CROSSING_IS_REFUSED { 1 } else { 5 };
+const CROSSING: i64 = 5;
 
 fn small(rng: &mut Rng) -> Problem {
     let (a, c, b) = rng.pick(&[(2, 3, 2), (5, 7, 4), (10, 20, 6), (30, 50, 20)]);

@@ -21,9 +21,6 @@ pub enum Reply {
     Best(i128, i128),
 }
 
-/// Whether a lower bound above its upper one is refused; if not, the sheet is infeasible (paper 02, request 2).
-pub const CROSSING_IS_REFUSED: bool = true;
-
 // ---- reading a sheet
 
 struct Lines<'a> {
@@ -98,8 +95,8 @@ impl<'a> Lines<'a> {
         Ok(Item { integer, weight: self.figure(weight, 1000)?, price: self.figure(price, 10_000)?, lower: None, upper: None })
     }
 
-    /// A section of bounds: item, bound and line of each.
-    fn bounds(&mut self, word: &[u8], n: i64) -> Result<Vec<(usize, i64, u64)>, Refusal> {
+    /// A section of bounds: item and bound of each.
+    fn bounds(&mut self, word: &[u8], n: i64) -> Result<Vec<(usize, i64)>, Refusal> {
         let mut list = vec![];
         let mut last = 0;
         for _ in 0..self.heading(word, 0, n)? {
@@ -108,7 +105,7 @@ impl<'a> Lines<'a> {
             if k <= last || k > n {
                 return self.refuse(5);
             }
-            list.push((k as usize - 1, self.figure(value, 10_000)?, self.line));
+            list.push((k as usize - 1, self.figure(value, 10_000)?));
             last = k;
         }
         Ok(list)
@@ -125,18 +122,14 @@ pub fn read(sheet: &[u8]) -> Result<Problem, Refusal> {
     let limit = lines.figure(lines.number(fields[0])?, 100_000_000)?;
     let n = lines.heading(b"items", 1, 16)?;
     let mut items = (0..n).map(|_| lines.item()).collect::<Result<Vec<Item>, Refusal>>()?;
-    for (k, value, _) in lines.bounds(b"lower", n)? {
+    for (k, value) in lines.bounds(b"lower", n)? {
         items[k].lower = Some(value);
     }
-    let uppers = lines.bounds(b"upper", n)?;
+    for (k, value) in lines.bounds(b"upper", n)? {
+        items[k].upper = Some(value);
+    }
     if !lines.rest.is_empty() {
         return Err(Refusal { number: 2, line: lines.line + 1 });
-    }
-    for (k, value, line) in uppers {
-        items[k].upper = Some(value);
-        if CROSSING_IS_REFUSED && crosses(&items[k]) {
-            return Err(Refusal { number: 6, line });
-        }
     }
     Ok(Problem { limit, items })
 }

@@ -25,7 +25,8 @@ use Rattle.arith.proofs.Parts.{lt-le}
 use Rattle.arith.proofs.Sums.{bump-same, bump-other}
 use Rattle.knapsack.specs.declared.Item.{Item}
 use Rattle.knapsack.specs.declared.Problem.{Problem}
-use Rattle.knapsack.specs.Ranges.{itemAt, InRange}
+use Rattle.knapsack.specs.Ranges.{itemAt}
+use Rattle.model.specs.Records.{FiguresInRange}
 use Rattle.knapsack.specs.Meaning.{Instance, instanceOf, Point, Keeps, weights, prices, Optimal, CostPair, EqualPair}
 use Rattle.knapsack.proofs.Common.{Keepsᴰ, weighsᴰ, valueᴰ, Feasibleᴰ}
 use Rattle.knapsack.proofs.Bridge.{over-lower, over-upper, Reads, bridge-feasible, bridge-value}
@@ -122,7 +123,7 @@ cost-not-optimal s x i j r t l m ne c ki kj =
     }) c (z .D≥1) x (z .reads)
 
 -- End theorem: an entry of the table discards.
-pub tabled-not-optimal : (p : Problem) → InRange p → (i j : ℕ) (r t : ℤ) → tabled p i j ≡ Steps r t → (x : Point) →
+pub tabled-not-optimal : (p : Problem) → FiguresInRange p → (i j : ℕ) (r t : ℤ) → tabled p i j ≡ Steps r t → (x : Point) →
     Keeps (itemAt p i) (x i +ᶠ int (negℤ r)) → Keeps (itemAt p j) (x j +ᶠ int (negℤ t)) → ¬ Optimal (instanceOf p) x
 tabled-not-optimal p range i j r t e x ki kj =
     let a = tabled-steps r t p range i j e in

@@ -16,9 +16,9 @@ use Rattle.knapsack.specs.declared.Item.{Item}
 use Rattle.knapsack.specs.declared.Problem.{Problem}
 use Rattle.knapsack.specs.declared.Refusal.{Refusal}
 use Rattle.knapsack.specs.declared.Verdict.the-variants.{Accepted, Refused as Rejected}
-use Rattle.knapsack.specs.Ranges.{itemAt, ItemInRange, InRange}
+use Rattle.knapsack.specs.Ranges.{itemAt}
 use Rattle.knapsack.specs.Meaning.{CostPair, LeastPair, NoPair}
-use Rattle.model.specs.Records.{plainOf, verdict}
+use Rattle.model.specs.Records.{plainOf, verdict, ItemFigures, FiguresInRange}
 use Rattle.model.specs.Refusals.{pair-numbers, pair-items}
 use Rattle.model.specs.declared.Model.{Model}
 use Rattle.domination.specs.declared.Pair.{Pair}
@@ -133,12 +133,12 @@ module _ (r s : ℤ) where
       go true e h = absurd (let z : _≡_ {A = ℕ} 0 1 = cc in omega arith)
       go false e h = (numbers-iff (p .count) i j .0 e, h)
 
-  pub tabled-steps : (p : Problem) → InRange p → (i j : ℕ) → tabled p i j ≡ Steps r s → Applies p i j r s
+  pub tabled-steps : (p : Problem) → FiguresInRange p → (i j : ℕ) → tabled p i j ≡ Steps r s → Applies p i j r s
   tabled-steps p range i j e =
       let n = numbers-of p (i + 1) (j + 1) (answer (numbered p (i + 1) (j + 1)) e) in
       go (range .items-in) (n .0) (items (itemAt p (i + 1 - 1)) (itemAt p (j + 1 - 1)) (n .1))
     where
-      go : ((k : ℕ) → k < p .count → ItemInRange (itemAt p k)) → Numbers (p .count) (i + 1) (j + 1) →
+      go : ((k : ℕ) → k < p .count → ItemFigures (itemAt p k)) → Numbers (p .count) (i + 1) (j + 1) →
           (Eligible (itemAt p (i + 1 - 1))) × (Eligible (itemAt p (j + 1 - 1))) × (pairOf (itemAt p (i + 1 - 1)) (itemAt p (j + 1 - 1)) ≡ Steps r s) →
           Applies p i j r s
       go f n h =

@@ -12,7 +12,7 @@ use Rattle.arith.specs.Gcd.{signed}
 use Rattle.arith.specs.Within.{Within}
 use Rattle.arith.proofs.Parts.{neg-within, within-neg}
 use Rattle.knapsack.specs.declared.Item.{Item}
-use Rattle.knapsack.specs.Ranges.{ItemInRange}
+use Rattle.model.specs.Records.{ItemFigures}
 use Rattle.domination.specs.Trades.{Sizes}
 use Rattle.domination.specs.declared.Pair.{Pair}
 use Rattle.domination.specs.declared.Pair.the-variants.{Missing, Steps}
@@ -21,7 +21,7 @@ use Rattle.domination.proofs.Trades.{least-trade}
 use Rattle.domination.proofs.Minimal.{signs, nonzero}
 
 -- products of a price and a weight
-pub ratio-most : {x y : Item} → ItemInRange x → ItemInRange y → natAbs (x .price) * natAbs (y .weight) ≤ 10000000
+pub ratio-most : {x y : Item} → ItemFigures x → ItemFigures y → natAbs (x .price) * natAbs (y .weight) ≤ 10000000
 ratio-most h k = mul-le-mul (h .price-in) (k .weight-in)
 
 pub sizes : {x y : Item} → Traded x y → Sizes (natAbs (x .weight)) (natAbs (y .weight)) (natAbs (x .price)) (natAbs (y .price))

@@ -31,8 +31,8 @@ use Rattle.knapsack.specs.declared.Item.{Item}
 use Rattle.knapsack.specs.declared.Problem.{Problem}
 use Rattle.knapsack.specs.declared.Verdict.{Verdict}
 use Rattle.knapsack.specs.declared.Verdict.the-variants.{Accepted, Refused as Rejected}
-use Rattle.knapsack.specs.Ranges.{itemAt, ItemInRange}
-use Rattle.model.specs.Records.{plainOf, refusalOf, verdict}
+use Rattle.knapsack.specs.Ranges.{itemAt}
+use Rattle.model.specs.Records.{plainOf, refusalOf, verdict, ItemFigures}
 use Rattle.model.specs.Refusals as refusal
 use Rattle.model.specs.declared.Model.{Model}
 use Rattle.domination.specs.declared.Pair.{Pair}
@@ -96,7 +96,7 @@ eligible x = cond (isInteger (x .mark)) (oneSign (x .weight) (x .price)) false
 
 -- what the code asks of items: in range and eligible, and for a trade the first the less efficient
 pub record Fit (x : Item) : Type 0 where
-  pub in-range : ItemInRange x
+  pub in-range : ItemFigures x
   pub is-eligible : Eligible x
 
 pub record Traded (x y : Item) : Type 0 where

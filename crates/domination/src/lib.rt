@@ -15,7 +15,7 @@ use pairing::pair_of;
 ghost use mathlib.Core.Path.{_≡_};
 ghost use Prim.Native.Nat.{ℕ, _+_, _*_, _<_};
 ghost use lib.ListN.{getD, replicate};
-ghost use Rattle.knapsack.specs.Ranges.{ItemInRange, InRange};
+ghost use Rattle.model.specs.Records.{ItemFigures, FiguresInRange};
 ghost use Rattle.domination.specs.Pairs.{wrongNumber, wrongNumbers, refusePair, paired, numbered, leastPair, orMissing, tabled};
 
 mod pairing; // pairing.rt: the least pair of two items
@@ -64,7 +64,7 @@ fn are_wrong(n: usize, i: usize, j: usize) -> bool
 
 // The reply for two items of an accepted problem.
 fn pair_items(x: Item, y: Item) -> PairReply
-    requires { ⌜ ItemInRange x × ItemInRange y ⌝ }
+    requires { ⌜ ItemFigures x × ItemFigures y ⌝ }
     ensures { λ r. ⌜ r ≡ paired x y ⌝ }
 {
     if is_eligible(x) {
@@ -78,7 +78,7 @@ fn pair_items(x: Item, y: Item) -> PairReply
 
 // The reply for two item numbers of an accepted problem.
 fn pair_numbered(p: Problem, i: usize, j: usize) -> PairReply
-    requires { ⌜ InRange p ⌝ }
+    requires { ⌜ FiguresInRange p ⌝ }
     ensures { λ r. ⌜ r ≡ numbered p i j ⌝ }
 {
     let n = p.count;
@@ -120,7 +120,7 @@ fn or_missing(q: PairReply) -> Pair
 
 // The table's entry for places i and j.
 fn entry_at(p: Problem, i: usize, j: usize) -> Pair
-    requires { ⌜ InRange p × ((i < 16) × (j < 16)) ⌝ }
+    requires { ⌜ FiguresInRange p × ((i < 16) × (j < 16)) ⌝ }
     ensures { λ r. ⌜ r ≡ tabled p i j ⌝ }
 {
     let q = pair_numbered(p, i + 1, j + 1);
@@ -130,7 +130,7 @@ fn entry_at(p: Problem, i: usize, j: usize) -> Pair
 // The least pairs of all places i and j, from 0: entry 16 i + j. Filled once, before a search: it serves the solver and is no public
 // entry, so it takes the plain problem and asks for its ranges.
 pub fn pair_table(p: Problem) -> [Pair; 256]
-    requires { ⌜ InRange p ⌝ }
+    requires { ⌜ FiguresInRange p ⌝ }
     ensures { λ r. ⌜ ((i j : ℕ) → i < 16 → j < 16 → getD r (16 * i + j) Pair.Missing ≡ tabled p i j) ⌝ }
 {
     let mut t = no_pairs();

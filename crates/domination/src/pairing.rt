@@ -8,7 +8,8 @@ use knapsack::Item;
 use knapsack::Mark;
 ghost use mathlib.Core.Path.{_≡_};
 ghost use Prim.Native.Nat.{_≤_};
-ghost use Rattle.knapsack.specs.Ranges.{BoundInRange, ItemInRange};
+ghost use Rattle.knapsack.specs.Ranges.{BoundInRange};
+ghost use Rattle.model.specs.Records.{ItemFigures};
 ghost use Rattle.domination.specs.Pairs.{Fit, Traded, roomFor, steps, oneWay, swapped, pairOf, oneSign, eligible};
 
 // Whether n steps fit between two bounds.
@@ -26,7 +27,7 @@ fn room_for(lower: Bound, upper: Bound, n: u64) -> bool
 }
 
 fn has_room(x: Item, n: u64) -> bool
-    requires { ⌜ ItemInRange x × (n ≤ 1000) ⌝ }
+    requires { ⌜ ItemFigures x × (n ≤ 1000) ⌝ }
     ensures { λ r. ⌜ r ≡ roomFor (x .lower) (x .upper) n ⌝ }
 {
     let lower = x.lower;
@@ -36,7 +37,7 @@ fn has_room(x: Item, n: u64) -> bool
 
 // Steps of these sizes: x's with the sign of its weight, y's with the opposite one.
 fn steps_of(x: Item, y: Item, give: u64, take: u64) -> Pair
-    requires { ⌜ ItemInRange x × (ItemInRange y × ((give ≤ 1000) × (take ≤ 1000))) ⌝ }
+    requires { ⌜ ItemFigures x × (ItemFigures y × ((give ≤ 1000) × (take ≤ 1000))) ⌝ }
     ensures { λ r. ⌜ r ≡ steps x y give take ⌝ }
 {
     let r = with_sign(x.weight, give);

@@ -3,7 +3,7 @@ use arith::magnitude;
 use knapsack::Item;
 ghost use mathlib.Core.Path.{_≡_};
 ghost use Prim.Native.Nat.{_≤_};
-ghost use Rattle.knapsack.specs.Ranges.{ItemInRange};
+ghost use Rattle.model.specs.Records.{ItemFigures};
 ghost use Rattle.domination.specs.Trades.{Sizes, partner, serves, leastGive};
 ghost use Rattle.domination.specs.Pairs.{Traded, sizeOf, lessEfficient, tradeOf};
 
@@ -52,7 +52,7 @@ fn least_give(a: u64, b: u64, c: u64, d: u64) -> u64
 }
 
 fn size_of(x: Item) -> Size
-    requires { ⌜ ItemInRange x ⌝ }
+    requires { ⌜ ItemFigures x ⌝ }
     ensures { λ r. ⌜ r ≡ sizeOf x ⌝ }
 {
     let weight = magnitude(x.weight);
@@ -65,7 +65,7 @@ fn size_of(x: Item) -> Size
 
 // Whether x is worth less than y per unit of weight: the ratios compared by products.
 pub fn is_less_efficient(x: Item, y: Item) -> bool
-    requires { ⌜ ItemInRange x × ItemInRange y ⌝ }
+    requires { ⌜ ItemFigures x × ItemFigures y ⌝ }
     ensures { λ r. ⌜ r ≡ lessEfficient x y ⌝ }
 {
     let s = size_of(x);

@@ -10,7 +10,8 @@ use Rattle.arith.proofs.Integers.{natAbs-times}
 use Rattle.arith.proofs.Parts.{abs-within, within-add, within-mul, within-more}
 use Rattle.knapsack.specs.declared.Item.{Item}
 use Rattle.knapsack.specs.declared.Problem.{Problem}
-use Rattle.knapsack.specs.Ranges.{itemAt, ItemInRange}
+use Rattle.knapsack.specs.Ranges.{itemAt}
+use Rattle.model.specs.Records.{ItemFigures}
 use Rattle.feasibility.specs.declared.Candidate.{Candidate}
 use Rattle.feasibility.specs.declared.Figure.{Figure}
 use Rattle.feasibility.specs.declared.Figure.the-variants.{Weight, Price}
@@ -23,11 +24,11 @@ numerator-small d x l g = omega (arith, mul-le-mul-right (d / x .q) (g .near), m
 numerator-within : (d : ℕ) (x : Fraction) → d ≤ 1000 → GoodAmount x → Within 1000000000000 (numerator d x)
 numerator-within d x l g = abs-within (numerator d x) (rw (natAbs-times (x .p) (d / x .q)) (numerator-small d x l g))
 
-figure-within : (f : Figure) (i : Item) → ItemInRange i → Within 10000 (figureOf f i)
+figure-within : (f : Figure) (i : Item) → ItemFigures i → Within 10000 (figureOf f i)
 figure-within Weight i r = abs-within (i .weight) (omega (arith, r .weight-in))
 figure-within Price i r = abs-within (i .price) (r .price-in)
 
-pub term-within : (f : Figure) (d : ℕ) (i : Item) (x : Fraction) → d ≤ 1000 → ItemInRange i → GoodAmount x → Within 10000000000000000 (term f d i x)
+pub term-within : (f : Figure) (d : ℕ) (i : Item) (x : Fraction) → d ≤ 1000 → ItemFigures i → GoodAmount x → Within 10000000000000000 (term f d i x)
 term-within f d i x l r g = within-mul (figure-within f i r) (numerator-within d x l g)
 
 pub total-within : (f : Figure) (d n : ℕ) (p : Problem) (c : Candidate) → d ≤ 1000 → Checkable p c → n ≤ p .count →

@@ -37,8 +37,8 @@ use Rattle.knapsack.specs.declared.Refusal.{Refusal}
 use Rattle.knapsack.specs.declared.Verdict.{Verdict}
 use Rattle.knapsack.specs.declared.Verdict.the-variants as verdicts
 use Rattle.knapsack.specs.Meaning.{Instance, Point, Keeps, Feasible, instanceOf, weighs, value}
-use Rattle.knapsack.specs.Ranges.{itemAt, InRange}
-use Rattle.model.specs.Records.{plainOf, refusalOf, verdict, Admissible}
+use Rattle.knapsack.specs.Ranges.{itemAt}
+use Rattle.model.specs.Records.{plainOf, refusalOf, verdict, Admissible, FiguresInRange}
 use Rattle.model.specs.Refusals as refusal
 use Rattle.model.specs.declared.Model.{Model}
 use Rattle.feasibility.specs.declared.Candidate.{Candidate}
@@ -123,7 +123,7 @@ pointCheck m c = afterRecord (verdict m) (amountCheck (plainOf m) c)
 
 -- what the code needs for yes or no
 pub record Checkable (p : Problem) (c : Candidate) : Type 0 where
-  pub problem : InRange p
+  pub problem : FiguresInRange p
   pub amounts : (k : ℕ) → k < p .count → GoodAmount (proposedAt c k)
 
 -- ---- what a reply means

@@ -21,7 +21,8 @@ use model::refusals;
 ghost use mathlib.Core.Path.{_≡_};
 ghost use Prim.Native.Nat.{_*_, _≤_, _<_};
 ghost use lib.IntN.{pos, natAbs, _*ℤ_};
-ghost use Rattle.knapsack.specs.Ranges.{BoundInRange, ItemInRange, InRange};
+ghost use Rattle.knapsack.specs.Ranges.{BoundInRange};
+ghost use Rattle.model.specs.Records.{ItemFigures, FiguresInRange};
 ghost use Rattle.feasibility.specs.Amounts.{proposedAt, farther, badAmount, joined, commonDivisor, GoodAmount};
 ghost use Rattle.feasibility.specs.Check.{
   breaksMark,
@@ -151,7 +152,7 @@ fn breaks_bound(s: Side, b: Bound, p: i64, q: u64) -> bool
 
 // Whether an amount breaks its item's mark or a bound.
 fn does_break(i: Item, x: Fraction) -> bool
-    requires { ⌜ ItemInRange i × GoodAmount x ⌝ }
+    requires { ⌜ ItemFigures i × GoodAmount x ⌝ }
     ensures { λ r. ⌜ r ≡ breaks i x ⌝ }
 {
     let p = x.p;
@@ -170,7 +171,7 @@ fn does_break(i: Item, x: Fraction) -> bool
 
 // The number of the first item that breaks: the one found so far if it is not 0, or that of the item at place k, or 0.
 fn earlier(found: usize, k: usize, i: Item, x: Fraction) -> usize
-    requires { ⌜ (k < 16) × (ItemInRange i × GoodAmount x) ⌝ }
+    requires { ⌜ (k < 16) × (ItemFigures i × GoodAmount x) ⌝ }
     ensures { λ r. ⌜ r ≡ earlierOf found (numbered k i x) ⌝ }
 {
     if found == 0 {
@@ -208,7 +209,7 @@ fn figure_of(f: Figure, i: Item) -> i64
 
 // An item's figure times its amount, over the divisor d: within 10^16.
 fn one_term(f: Figure, d: u64, i: Item, x: Fraction) -> i64
-    requires { ⌜ (d ≤ 1000) × (ItemInRange i × GoodAmount x) ⌝ }
+    requires { ⌜ (d ≤ 1000) × (ItemFigures i × GoodAmount x) ⌝ }
     ensures { λ r. ⌜ r ≡ term f d i x ⌝ }
 {
     let a = figure_of(f, i);
@@ -261,7 +262,7 @@ fn refused(number: u64) -> PointReply
 
 // The reply to a point of an accepted problem: refusals 7 and 8, then yes or no.
 fn check_amounts(p: Problem, c: Candidate) -> PointReply
-    requires { ⌜ InRange p ⌝ }
+    requires { ⌜ FiguresInRange p ⌝ }
     ensures { λ r. ⌜ r ≡ amountCheck p c ⌝ }
 {
     if c.count != p.count {

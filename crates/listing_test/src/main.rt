@@ -169,8 +169,8 @@ fn list_all() {
     list(Way::Answer, answer(Kind::Infeasible, 0, 1), 5, 0);
     list(Way::Answer, answer(Kind::Infeasible, 0, 1), 5, 10);
     list(Way::Answer, answer(Kind::Infeasible, 0, 1), 5, 11);
-    list(Way::Answer, refused(6, 12), 3, 12);
-    list(Way::Answer, refused(6, 12), 3, 13);
+    list(Way::Answer, refused(5, 12), 3, 12);
+    list(Way::Answer, refused(5, 12), 3, 13);
     list(Way::Answer, sixteen(Kind::Optimal), 16, 40);
 }
 

@@ -2,7 +2,7 @@
 -- some-found, some-more, none-fails: a test over the first items.
 -- both-accept: verdicts in a row. neither: tests in a row.
 -- unfaulted, unrefused: a record is accepted exactly if none of its tests holds; accepted-iff: exactly if it is admissible.
--- plain-in-range: the solver's problem of an accepted record is in range.
+-- figures-of: a problem in range has its figures in range. plain-in-range: and back, if no bounds cross.
 use mathlib.Core.Path.{_≡_, refl, sym, _∙_, subst}
 use mathlib.Core.Bool.{Bool, true, false, cond}
 use mathlib.Core.Logic.{_↔_}
@@ -14,26 +14,20 @@ use lib.Dec.{ltb, eqb}
 use lib.IntN.{ℤ, natAbs}
 use borrow.Author.Tests.{ltb-false, eqb-false, le-ltb, ne-eqb}
 use Rattle.arith.specs.Sum.{Each}
-use Rattle.arith.proofs.Words.{no-lt, le-no}
 use Rattle.knapsack.specs.declared.Bound.{Bound}
 use Rattle.knapsack.specs.declared.Bound.the-variants.{Absent, At}
 use Rattle.knapsack.specs.declared.Item.{Item}
+use Rattle.knapsack.specs.declared.Problem.{Problem}
 use Rattle.knapsack.specs.declared.Verdict.{Verdict}
 use Rattle.knapsack.specs.declared.Verdict.the-variants.{Accepted, Refused}
-use Rattle.knapsack.specs.Ranges.{BoundInRange, BoundsInOrder, ItemInRange, InRange}
-use Rattle.model.specs.declared.Fault.{Fault}
-use Rattle.model.specs.declared.Fault.the-variants.{Figure, Crossing}
+use Rattle.knapsack.specs.Ranges.{BoundInRange, InRange}
 use Rattle.model.specs.declared.Model.{Model}
-use Rattle.model.specs.Refusals.{count, figure, crossing}
+use Rattle.model.specs.Refusals.{count, figure}
 use Rattle.model.specs.Records.{
   itemAt,
-  plainOf,
   outside,
   badBound,
   badFigure,
-  crossed,
-  crosses,
-  faulty,
   someItem,
   badCount,
   held,
@@ -41,8 +35,10 @@ use Rattle.model.specs.Records.{
   orElse,
   countVerdict,
   figureVerdict,
-  crossingVerdict,
   verdict,
+  ItemFigures,
+  FiguresInRange,
+  Uncrossed,
   Admissible,
 }
 
@@ -102,18 +98,8 @@ in-bound : (b : Bound) → BoundInRange b → badBound b ≡ false
 in-bound Absent h = refl
 in-bound (At v) h = not-outside 10000 v h
 
-order-in : (l u : Bound) → crossed l u ≡ false → BoundsInOrder l u
-order-in Absent u h = tt
-order-in (At l) Absent h = tt
-order-in (At l) (At u) h = no-lt h
-
-in-order : (l u : Bound) → BoundsInOrder l u → crossed l u ≡ false
-in-order Absent u h = refl
-in-order (At l) Absent h = refl
-in-order (At l) (At u) h = le-no h
-
-item-in : (i : Item) → faulty Figure i ≡ false → faulty Crossing i ≡ false → ItemInRange i
-item-in i h k =
+item-in : (i : Item) → badFigure i ≡ false → ItemFigures i
+item-in i h =
     let w = neither (outside 1000 (i .weight)) _ h in
     let c = neither (outside 10000 (i .price)) _ (w .1) in
     let b = neither (badBound (i .lower)) _ (c .1) in
@@ -122,10 +108,9 @@ item-in i h k =
       price-in = inside 10000 (i .price) (c .0);
       lower-in = bound-in (i .lower) (b .0);
       upper-in = bound-in (i .upper) (b .1);
-      in-order = order-in (i .lower) (i .upper) k;
     }
 
-in-item : (i : Item) → ItemInRange i → faulty Figure i ≡ false
+in-item : (i : Item) → ItemFigures i → badFigure i ≡ false
 in-item i r = rw (not-outside 1000 (i .weight) (r .weight-in), not-outside 10000 (i .price) (r .price-in), in-bound (i .lower) (r .lower-in))
     (in-bound (i .upper) (r .upper-in))
 
@@ -141,7 +126,6 @@ pub record Unfaulted (m : Model) : Type 0 where
   pub most : m .count ≤ 16
   pub capacity : outside 100000000 (m .capacity) ≡ false
   pub figures : Each (m .count) (λ k. badFigure (itemAt m k) ≡ false)
-  pub uncrossed : Each (m .count) (λ k. crosses (itemAt m k) ≡ false)
 
 -- with a good count all items are tried
 held-all : (m : Model) → m .count ≤ 16 → held m ≡ m .count
@@ -150,10 +134,9 @@ held-all m h = rw (le-ltb 16 (m .count) h)
 pub unfaulted : (m : Model) → verdict m ≡ Accepted → Unfaulted m
 unfolding verdict
 unfaulted m h =
-    let s = both-accept (orElse (countVerdict m) (figureVerdict m)) (crossingVerdict m) h in
-    let r = both-accept (countVerdict m) (figureVerdict m) (s .0) in
-    let each : Fault → Bool = λ t. someItem (held m) (itemAt m) (faulty t) in
-    let f = both-accept (refusedIf (outside 100000000 (m .capacity)) figure) (refusedIf (each Figure) figure) (r .1) in
+    let r = both-accept (countVerdict m) (figureVerdict m) h in
+    let each = someItem (held m) (itemAt m) badFigure in
+    let f = both-accept (refusedIf (outside 100000000 (m .capacity)) figure) (refusedIf each figure) (r .1) in
     let n = neither (eqb (m .count) 0) (ltb 16 (m .count)) (row-clear (badCount (m .count)) count (r .0)) in
     let some = eqb-false (m .count) 0 (n .0) in
     let few = ltb-false 16 (m .count) (n .1) in
@@ -162,8 +145,7 @@ unfaulted m h =
       least = omega arith;
       most = few;
       capacity = row-clear (outside 100000000 (m .capacity)) figure (f .0);
-      figures = none-fails (m .count) (itemAt m) (faulty Figure) (rw all at (row-clear (each Figure) figure (f .1)));
-      uncrossed = none-fails (m .count) (itemAt m) (faulty Crossing) (rw all at (row-clear (each Crossing) crossing (s .1)));
+      figures = none-fails (m .count) (itemAt m) badFigure (rw all at (row-clear each figure (f .1)));
     }
 
 pub unrefused : (m : Model) → Unfaulted m → verdict m ≡ Accepted
@@ -174,8 +156,7 @@ unrefused m u =
       ne-eqb (m .count) 0 some,
       le-ltb 16 (m .count) (u .most),
       u .capacity,
-      all-pass (m .count) (itemAt m) (faulty Figure) (u .figures),
-      all-pass (m .count) (itemAt m) (faulty Crossing) (u .uncrossed),
+      all-pass (m .count) (itemAt m) badFigure (u .figures),
     )
 
 pub accepted : (m : Model) → verdict m ≡ Accepted → Admissible m
@@ -185,7 +166,7 @@ accepted m h =
       some-items = u .least;
       few-items = u .most;
       capacity-in = inside 100000000 (m .capacity) (u .capacity);
-      items-in = λ k l. item-in (itemAt m k) (u .figures k l) (u .uncrossed k l);
+      items-in = λ k l. item-in (itemAt m k) (u .figures k l);
     }
 
 pub admitted : (m : Model) → Admissible m → verdict m ≡ Accepted
@@ -194,12 +175,28 @@ admitted m r = unrefused m (record {
   most = r .few-items;
   capacity = not-outside 100000000 (m .capacity) (r .capacity-in);
   figures = λ k l. in-item (itemAt m k) (r .items-in k l);
-  uncrossed = λ k l. in-order (itemAt m k .lower) (itemAt m k .upper) (r .items-in k l .in-order);
 })
 
 -- End theorem: a record is accepted exactly if it keeps the ranges.
 pub accepted-iff : (m : Model) → (verdict m ≡ Accepted) ↔ Admissible m
 accepted-iff m = (accepted m, admitted m)
 
-pub plain-in-range : (m : Model) → verdict m ≡ Accepted → InRange (plainOf m)
-plain-in-range m h = accepted m h
+-- ---- what the solver asks
+
+pub figures-of : (p : Problem) → InRange p → FiguresInRange p
+figures-of p r = record {
+  some-items = r .some-items;
+  few-items = r .few-items;
+  capacity-in = r .capacity-in;
+  items-in = λ k l. let i = r .items-in k l in
+      record { weight-in = i .weight-in; price-in = i .price-in; lower-in = i .lower-in; upper-in = i .upper-in };
+}
+
+pub plain-in-range : (p : Problem) → FiguresInRange p → Uncrossed p → InRange p
+plain-in-range p r u = record {
+  some-items = r .some-items;
+  few-items = r .few-items;
+  capacity-in = r .capacity-in;
+  items-in = λ k l. let i = r .items-in k l in
+      record { weight-in = i .weight-in; price-in = i .price-in; lower-in = i .lower-in; upper-in = i .upper-in; in-order = u k l };
+}

@@ -4,24 +4,27 @@
 --   plainOf m        the solver's problem of a record
 --   outside n z      z is farther than n from zero
 --   badBound, badFigure, crossed, crosses   tests of a bound, of an item's figures, of its bounds
---   faulty f i       the item has that fault
 --   someItem n f t   the test holds of one of the first n items
+--   someCrosses p    the bounds of some item cross
 --   badCount n       n is no number of items
 --   held m           how many items there are to be tried: the count, at most 16
 --   refusalOf n      a refusal of a record, and of an entry that was given one: line 0
 --   refuse n         refusal n
 --   refusedIf t n    refusal n if the test holds
 --   orElse v w       the first that refuses
---   countVerdict, figureVerdict, crossingVerdict   the rows of the refusals of a record: 3, 4, 6
+--   countVerdict, figureVerdict   the rows of the refusals of a record: 3, 4
 --   verdict m        accepted, or the first refusal
+--   ItemFigures i    an item's figures within their ranges
+--   FiguresInRange p a problem's figures within the ranges of the paper's table; its bounds may cross
+--   Uncrossed p      no lower bound is above its upper: what the solver asks besides (proofs/Records, plain-in-range)
 --   Admissible m     the record keeps the ranges; it is accepted exactly then (proofs/Records, accepted-iff)
 use mathlib.Core.Bool.{Bool, true, false, cond}
-use Prim.Native.Nat.{ℕ, zero, suc}
+use Prim.Native.Nat.{ℕ, zero, suc, _≤_, _<_}
 use lib.Dec.{ltb, eqb}
 use lib.IntN.{ℤ, pos, natAbs}
 use lib.ListN.{getD, replicate}
 use lib.Signed.{ltZ}
-use Rattle.knapsack.specs.Ranges.{blank, InRange}
+use Rattle.knapsack.specs.Ranges.{blank, itemAt as plainItem, BoundInRange, BoundsInOrder}
 use Rattle.knapsack.specs.declared.Bound.{Bound}
 use Rattle.knapsack.specs.declared.Bound.the-variants.{Absent, At}
 use Rattle.knapsack.specs.declared.Item.{Item}
@@ -29,8 +32,6 @@ use Rattle.knapsack.specs.declared.Problem.{Problem}
 use Rattle.knapsack.specs.declared.Refusal.{Refusal}
 use Rattle.knapsack.specs.declared.Verdict.{Verdict}
 use Rattle.knapsack.specs.declared.Verdict.the-variants.{Accepted, Refused}
-use Rattle.model.specs.declared.Fault.{Fault}
-use Rattle.model.specs.declared.Fault.the-variants.{Figure, Crossing}
 use Rattle.model.specs.declared.Model.{Model}
 use Rattle.model.specs.Refusals as refusal
 
@@ -63,13 +64,12 @@ crossed (At l) (At u) = ltZ u l
 abbrev pub crosses : Item → Bool
 crosses i = crossed (i .lower) (i .upper)
 
-abbrev pub faulty : Fault → Item → Bool
-faulty Figure i = badFigure i
-faulty Crossing i = crosses i
-
 unfoldable pub someItem : ℕ → (ℕ → Item) → (Item → Bool) → Bool
 someItem zero f test = false
 someItem (suc n) f test = cond (someItem n f test) true (test (f n))
+
+abbrev pub someCrosses : Problem → Bool
+someCrosses p = someItem (p .count) (plainItem p) crosses
 
 abbrev pub badCount : ℕ → Bool
 badCount n = cond (eqb n 0) true (ltb 16 n)
@@ -98,15 +98,27 @@ countVerdict m = refusedIf (badCount (m .count)) refusal.count
 -- the capacity, then each item's figures
 abbrev pub figureVerdict : Model → Verdict
 figureVerdict m =
-    orElse (refusedIf (outside 100000000 (m .capacity)) refusal.figure) (refusedIf (someItem (held m) (itemAt m) (faulty Figure)) refusal.figure)
-
-abbrev pub crossingVerdict : Model → Verdict
-crossingVerdict m = refusedIf (someItem (held m) (itemAt m) (faulty Crossing)) refusal.crossing
+    orElse (refusedIf (outside 100000000 (m .capacity)) refusal.figure) (refusedIf (someItem (held m) (itemAt m) badFigure) refusal.figure)
 
 unfoldable pub verdict : Model → Verdict
-verdict m = orElse (orElse (countVerdict m) (figureVerdict m)) (crossingVerdict m)
+verdict m = orElse (countVerdict m) (figureVerdict m)
 
--- ---- the ranges: today a record is asked for what the solver asks of its problem
+-- ---- the ranges: what the solver asks of its problem, but for the order of bounds
+
+pub record ItemFigures (i : Item) : Type 0 where
+  pub weight-in : natAbs (i .weight) ≤ 1000
+  pub price-in : natAbs (i .price) ≤ 10000
+  pub lower-in : BoundInRange (i .lower)
+  pub upper-in : BoundInRange (i .upper)
+
+pub record FiguresInRange (p : Problem) : Type 0 where
+  pub some-items : 1 ≤ p .count
+  pub few-items : p .count ≤ 16
+  pub capacity-in : natAbs (p .capacity) ≤ 100000000
+  pub items-in : (k : ℕ) → k < p .count → ItemFigures (plainItem p k)
+
+abbrev pub Uncrossed : Problem → Type 0
+Uncrossed p = (k : ℕ) → k < p .count → BoundsInOrder (plainItem p k .lower) (plainItem p k .upper)
 
 abbrev pub Admissible : Model → Type 0
-Admissible m = InRange (plainOf m)
+Admissible m = FiguresInRange (plainOf m)

@@ -1,5 +1,5 @@
 -- The numbers of paper 01's refusals ("Refused, by place"), the twins of src/refusals.rt.
---   overlong, form, count, figure, item-number, crossing        1 to 6: a sheet's; count, figure and crossing a record's too
+--   overlong, form, count, figure, item-number                  1 to 5: a sheet's; count and figure a record's too
 --   amounts, amount, pair-numbers, pair-items, short-buffer     7 to 11: the point check's, the least pair's, a lent buffer's
 use Prim.Native.Nat.{ℕ}
 
@@ -17,9 +17,6 @@ figure = 4
 
 abbrev pub item-number : ℕ
 item-number = 5
-
-abbrev pub crossing : ℕ
-crossing = 6
 
 abbrev pub amounts : ℕ
 amounts = 7

@@ -19,15 +19,15 @@ ghost use Rattle.model.specs.Records.{
   badBound,
   badFigure,
   crossed,
-  faulty,
+  crosses,
   someItem,
+  someCrosses,
   held,
   refusalOf,
   refusedIf,
   orElse,
   countVerdict,
   figureVerdict,
-  crossingVerdict,
   verdict,
 };
 
@@ -42,12 +42,6 @@ pub struct Model {
 pub enum Side {
     Lower,
     Upper,
-}
-
-// What an item of a record is refused for.
-pub enum Fault {
-    Figure,
-    Crossing,
 }
 
 // The solver's problem.
@@ -116,17 +110,29 @@ pub fn crossed_bounds(l: Bound, u: Bound) -> bool
     b < a
 }
 
-fn is_faulty(i: Item, f: Fault) -> bool
-    ensures { λ r. ⌜ r ≡ faulty f i ⌝ }
+fn does_cross(i: Item) -> bool
+    ensures { λ r. ⌜ r ≡ crosses i ⌝ }
 {
-    match f {
-        Fault::Figure => bad_figure(i),
-        Fault::Crossing => {
-            let l = i.lower;
-            let u = i.upper;
-            crossed_bounds(l, u)
+    let l = i.lower;
+    let u = i.upper;
+    crossed_bounds(l, u)
+}
+
+// Whether some item's bounds cross. Such a problem is accepted and has no feasible point: see proofs/Crossings (crossed-infeasible).
+pub fn some_crosses(p: Problem) -> bool
+    requires { ⌜ p .count ≤ 16 ⌝ }
+    ensures { λ r. ⌜ r ≡ someCrosses p ⌝ }
+{
+    let n = p.count;
+    let mut k: usize = 0;
+    while k < n {
+        let i = p.items[k];
+        if does_cross(i) {
+            return true;
         }
+        k += 1;
     }
+    false
 }
 
 // How many items there are to be tried.
@@ -137,14 +143,14 @@ fn held_items(m: Model) -> usize
     if 16 < n { 16 } else { n }
 }
 
-fn some_faulty(m: Model, f: Fault) -> bool
-    ensures { λ r. ⌜ r ≡ someItem (held m) (itemAt m) (faulty f) ⌝ }
+fn some_faulty(m: Model) -> bool
+    ensures { λ r. ⌜ r ≡ someItem (held m) (itemAt m) badFigure ⌝ }
 {
     let n = held_items(m);
     let mut k: usize = 0;
     while k < n {
         let i = m.items[k];
-        if is_faulty(i, f) {
+        if bad_figure(i) {
             return true;
         }
         k += 1;
@@ -195,21 +201,14 @@ fn check_figures(m: Model) -> Verdict
 {
     let b = m.capacity;
     let capacity = refused_if(beyond(b, 100000000), refusals::FIGURE);
-    let items = refused_if(some_faulty(m, Fault::Figure), refusals::FIGURE);
+    let items = refused_if(some_faulty(m), refusals::FIGURE);
     first_of(capacity, items)
 }
 
-fn check_crossings(m: Model) -> Verdict
-    ensures { λ r. ⌜ r ≡ crossingVerdict m ⌝ }
-{
-    refused_if(some_faulty(m, Fault::Crossing), refusals::CROSSING)
-}
-
-// A record's refusal: 3 (count), then 4 (capacity, then each item's figures), then 6 (a lower bound above its upper), line 0.
+// A record's refusal: 3 (count), then 4 (capacity, then each item's figures), line 0.
 pub fn check_model(m: Model) -> Verdict
     ensures { λ r. ⌜ r ≡ verdict m ⌝ }
 {
     let v = check_counts(m);
-    let v = first_of(v, check_figures(m));
-    first_of(v, check_crossings(m))
+    first_of(v, check_figures(m))
 }

@@ -9,8 +9,6 @@ pub const FIGURE: u64 = 4;
 
 pub const ITEM_NUMBER: u64 = 5;
 
-pub const CROSSING: u64 = 6;
-
 pub const AMOUNTS: u64 = 7;
 
 pub const AMOUNT: u64 = 8;

@@ -2,4 +2,3 @@ pub mod Permutations
 pub mod Order
 pub mod Insertion
 pub mod Lists
-pub mod Accepted

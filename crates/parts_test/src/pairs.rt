@@ -246,7 +246,7 @@ fn with_problem(start: Tally, p: Model, n: usize) -> Tally
     t
 }
 
-// Small figures; of four bounds one is absent, and of four items one continuous.
+// Small figures; of four bounds one is absent, of four items one continuous, and of eight pairs of bounds one crosses.
 fn spans() -> Spans {
     Spans {
         weight: 4,
@@ -256,6 +256,7 @@ fn spans() -> Spans {
         unit: 1,
         absent: 1,
         loose: 1,
+        crossing: 1,
     }
 }
 

@@ -416,7 +416,7 @@ fn tried(t: Tally, p: Model, c: Candidate, n: usize) -> Tally
     tallied(t, kind_of(r), right)
 }
 
-// Small figures; of four bounds two are absent, and of four items three continuous.
+// Small figures; of four bounds two are absent, of four items three continuous, and of eight pairs of bounds one crosses.
 fn spans() -> Spans {
     Spans {
         weight: 4,
@@ -426,6 +426,7 @@ fn spans() -> Spans {
         unit: 1,
         absent: 2,
         loose: 3,
+        crossing: 1,
     }
 }
 

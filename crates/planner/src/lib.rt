@@ -15,6 +15,7 @@ use knapsack::Verdict;
 use model::Model;
 use model::check_model;
 use model::plain_of;
+use model::some_crosses;
 use prepare::narrowed;
 use prepare::pairs_of;
 use prepare::prepare;
@@ -31,6 +32,7 @@ ghost use Rattle.greedy.specs.Sized.{Sized};
 ghost use Rattle.knapsack.specs.Ranges.{InRange};
 ghost use Rattle.knapsack.specs.Meaning.{bare};
 ghost use Rattle.model.specs.Promises.{Planned};
+ghost use Rattle.model.specs.Records.{FiguresInRange};
 ghost use Rattle.setting.specs.Ready.{ReadySetting};
 ghost use Rattle.setting.specs.Box.{Inside};
 ghost use Rattle.planner.specs.Outcomes.{Joinable, Cornered, Best, Decides, Solves};
@@ -139,11 +141,16 @@ fn with_steps(a: Answer, n: u64) -> Solved
     }
 }
 
-// The answer of a problem in range: that of the problem with its parallel items fixed.
+// The answer of a problem whose figures are in range. Where bounds cross it is infeasible, even if there is a ray: see model's proofs/Crossings
+// (crossed-infeasible). Else it is that of the problem with its parallel items fixed.
 pub fn solve(p: Problem) -> Solved
-    requires { ⌜ InRange p ⌝ }
+    requires { ⌜ FiguresInRange p ⌝ }
     ensures { λ r. ⌜ Solves p r ⌝ }
 {
+    if some_crosses(p) {
+        let none = no_point(Kind::Infeasible);
+        return with_steps(none, 0);
+    }
     let q = presolve(p);
     decide(q)
 }

@@ -1,4 +1,5 @@
-// Paper 01's table, "Sheets and what they give": A to K and the pairs L and M from records, and A, N and O from sheets.
+// Paper 01's table, "Sheets and what they give": A to K and the pairs L and M from records, and A, N and O from sheets. Then, behind
+// a +, records, a pair and sheets whose bounds cross.
 use domination::Pair;
 use domination::PairReply;
 use domination::least_pair;
@@ -6,6 +7,7 @@ use listing::text_of;
 use model::Model;
 use planner::plan;
 use replies::reply_to;
+use trials::make::first_of;
 use trials::make::free;
 use trials::make::from_zero;
 use trials::make::held;
@@ -112,9 +114,28 @@ fn sheet_rows() {
     show_sheet(b'O', b"limit 1\n0\nitems 17\n");
 }
 
+// Infeasible, also beside a ray; no pair, but refusal 10 comes first; read as they stand, but a fault of form is told.
+fn crossing_rows() {
+    let x = held(4, 6, 10, 0);
+    show(b'+', two(10, held(3, 5, 0, 10), x));
+    show(b'+', first_of(0, 3, from_zero(2, 3), from_zero(-3, -4), x));
+    show(b'+', two(0, loose(x), from_zero(-1, 1)));
+    show_pair(b'+', two(10, held(3, 5, 0, 10), x));
+    show_pair(b'+', two(10, loose(held(3, 5, 0, 10)), x));
+    show_sheet(
+        b'+',
+        b"limit 1\n20\nitems 1\nW 9 13\nlower 1\n1 3\nupper 1\n1 2\n",
+    );
+    show_sheet(
+        b'+',
+        b"limit 1\n20\nitems 1\nW 9 13\nlower 1\n1 3\nupper 1\n1 2\n1",
+    );
+}
+
 pub fn show_rows() {
     bounded_rows();
     open_rows();
     pair_rows();
     sheet_rows();
+    crossing_rows();
 }

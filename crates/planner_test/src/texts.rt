@@ -62,7 +62,7 @@ pub fn show_texts() {
     show_text(sheet_g(), 33);
     show_text(sheet_g(), 34);
     show_text(sheet_g(), 40);
-    let p = one(0, held(1, 1, 1, 0));
+    let p = one(0, held(1001, 1, 0, 1));
     show_text(p, 0);
     show_text(p, 40);
 }

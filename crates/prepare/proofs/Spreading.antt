@@ -12,7 +12,7 @@ use lib.ListN.{length, getD, replicate, length-set, length-replicate}
 use lib.Seq.{getD-set-same, getD-set-other}
 use Rattle.arith.proofs.Parts.{within-abs}
 use Rattle.knapsack.specs.declared.Problem.{Problem}
-use Rattle.knapsack.specs.Ranges.{InRange}
+use Rattle.model.specs.Records.{FiguresInRange}
 use Rattle.domination.specs.declared.Pair.{Pair}
 use Rattle.domination.specs.declared.Pair.the-variants.{Missing, Steps}
 use Rattle.domination.specs.Pairs.{tabled}
@@ -79,7 +79,7 @@ spread-step t n r l s = record {
 abbrev Tabled : Problem → List Pair → Type 0
 Tabled p t = (i j : ℕ) → i < 16 → j < 16 → getD t (16 * i + j) Missing ≡ tabled p i j
 
-module _ (p : Problem) (range : InRange p) where
+module _ (p : Problem) (range : FiguresInRange p) where
   steps-small : (i j : ℕ) (q : Pair) → tabled p i j ≡ q → Short q
   steps-small i j Missing e = (omega arith, omega arith)
   steps-small i j (Steps a b) e = let h = tabled-steps a b p range i j e in (within-abs a (h .first-small), within-abs b (h .second-small))

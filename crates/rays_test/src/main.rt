@@ -2,6 +2,7 @@
 // that the scan finds, or `none`. An item is (weight, price, lower, upper); marks play no part.
 use knapsack::Bound;
 use knapsack::Item;
+use knapsack::Problem;
 use knapsack::Verdict;
 use model::Model;
 use rays::RayReply;
@@ -20,6 +21,7 @@ use trials::make::two;
 use trials::print::print;
 use trials::print::print_signed_field;
 ghost use Prim.Native.Nat.{_≤_};
+ghost use Rattle.model.specs.Records.{FiguresInRange};
 
 fn print_steps(steps: [i64; 16], n: usize)
     requires { ⌜ n ≤ 16 ⌝ }
@@ -43,13 +45,22 @@ fn print_reply(r: RayReply, n: usize)
     }
 }
 
+// Nothing is looked for where bounds cross.
+fn scanned(p: Problem)
+    requires { ⌜ FiguresInRange p ⌝ }
+{
+    if model::some_crosses(p) {
+        print(b" crossed");
+    } else {
+        let r = rays::find_ray(p);
+        print_reply(r, p.count);
+    }
+}
+
 fn print_ray(p: Model) {
     let v = model::check_model(p);
     match v {
-        Verdict::Accepted => {
-            let r = rays::find_ray(model::plain_of(p));
-            print_reply(r, p.count);
-        }
+        Verdict::Accepted => scanned(model::plain_of(p)),
         Verdict::Refused(_) => print(b" refused"),
     }
 }
@@ -87,6 +98,7 @@ fn light_items() {
     show(b'g', one(5, from_zero(-1, 0)));
     show(b'h', one(5, to_zero(2, -1)));
     show(b'i', two(5, held(1, 1, 0, 9), from_zero(-1, 1)));
+    show(b'i', two(5, held(1, 1, 9, 0), from_zero(-1, 1)));
 }
 
 // With no bound: no ray, up, down.

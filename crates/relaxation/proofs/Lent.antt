@@ -17,7 +17,7 @@ use Rattle.knapsack.specs.Ranges.{blank, itemAt}
 use Rattle.model.specs.declared.Model.{Model}
 use Rattle.model.specs.Records.{plainOf, verdict}
 use Rattle.model.specs.Setters.{withItem}
-use Rattle.model.proofs.Records.{plain-in-range}
+use Rattle.model.proofs.Records.{accepted}
 use Rattle.ordering.specs.Order.{orderedItems}
 use Rattle.ordering.specs.Ranking.{arranged}
 use Rattle.ordering.proofs.Order.{items-length, items-cong}
@@ -93,7 +93,7 @@ module _ (b : ℤ) (l : List Item) where
   n = usable (length l)
 
   accepted-few : verdict m ≡ Accepted → length l ≤ 16
-  accepted-few e = plain-in-range m e .few-items
+  accepted-few e = accepted m e .few-items
 
   pub settled-length : length (settled m .items) ≡ 16
   unfolding settled arranged

@@ -19,7 +19,8 @@ ghost use mathlib.Core.Path.{_≡_};
 ghost use Prim.Native.Nat.{_≤_, _<_};
 ghost use mathlib.Core.List.{[]};
 ghost use Rattle.knapsack.specs.Meaning.{instanceOf, relaxed, Answers};
-ghost use Rattle.knapsack.specs.Ranges.{itemAt, InRange};
+ghost use Rattle.knapsack.specs.Ranges.{itemAt};
+ghost use Rattle.model.specs.Records.{FiguresInRange};
 ghost use Rattle.relaxation.specs.Lent.{usable, loaded, loose, Loosened, Settles, Relaxes};
 
 // What the core gives: the answer, and the problem whose items are stored back.
@@ -89,9 +90,9 @@ fn loosen(p: Problem) -> Problem
     q
 }
 
-// The answer of the relaxation of a problem in range.
+// The answer of the relaxation of a problem whose figures are in range.
 fn relaxed_answer(p: Problem) -> Answer
-    requires { ⌜ InRange p ⌝ }
+    requires { ⌜ FiguresInRange p ⌝ }
     ensures { λ r. ⌜ Answers (relaxed (instanceOf p)) r ⌝ }
 {
     let q = loosen(p);

@@ -145,6 +145,17 @@ fn tight_sheets() {
     );
 }
 
+// A lower bound above its upper: infeasible, also beside a ray, and the list is put in order.
+fn crossing_bounds() {
+    show(b'w', two(0, held(1, 1, 0, 1), held(1, 2, 1, 0)));
+    show(b'x', one(0, held(1, 1, 10000, -10000)));
+    show(
+        b'y',
+        three(0, from_zero(-3, -4), from_zero(2, 3), held(1, 2, 1, 0)),
+    );
+    show(b'z', two(5, from_zero(0, 1), loose(held(0, 0, 1, 0))));
+}
+
 // ---- records that are refused
 
 fn bad_figures() {
@@ -163,10 +174,9 @@ fn bad_figures() {
     );
 }
 
-fn bad_bounds() {
-    show(b'!', two(0, held(1, 1, 0, 1), held(1, 2, 1, 0)));
+// Bounds that cross as well.
+fn refused_before() {
     show(b'!', two(0, held(1, 1, 1, 0), held(1001, 2, 0, 1)));
-    show(b'!', one(0, held(1, 1, 10000, -10000)));
     let x = held(1, 1, 1, 0);
     show(b'!', with_items(0, 0, x, x, x));
 }
@@ -215,8 +225,9 @@ fn main() {
     weightless_items();
     near_ratios();
     tight_sheets();
+    crossing_bounds();
     bad_figures();
-    bad_bounds();
+    refused_before();
     long_sheets();
     full_sheets();
     large_sheets();

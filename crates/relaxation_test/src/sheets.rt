@@ -52,7 +52,7 @@ pub fn three(capacity: i64, x: Item, y: Item, z: Item) -> Sheet
 
 // ---- drawn sheets
 
-// Weights and prices up to the ends of their ranges.
+// Weights and prices up to the ends of their ranges; no bounds cross.
 pub fn large(bound: u64, unit: i64, absent: u64) -> Spans {
     Spans {
         weight: 1000,
@@ -62,6 +62,7 @@ pub fn large(bound: u64, unit: i64, absent: u64) -> Spans {
         unit: unit,
         absent: absent,
         loose: 2,
+        crossing: 0,
     }
 }
 

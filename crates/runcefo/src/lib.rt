@@ -13,8 +13,7 @@ use text::hand_over;
 use writer::rewrite_sheet;
 ghost use mathlib.Core.Path.{_≡_};
 ghost use Rattle.knapsack.specs.declared.Verdict.the-variants.{Accepted};
-ghost use Rattle.knapsack.specs.Ranges.{InRange};
-ghost use Rattle.model.specs.Records.{plainOf};
+ghost use Rattle.model.specs.Records.{plainOf, FiguresInRange};
 ghost use Rattle.sheet.specs.Reading.{readSheet};
 ghost use Rattle.runcefo.specs.Entries.{toldNumber, toldLine, lengthOf, listedVerdict, Plans, Steps, saved, left};
 
@@ -60,7 +59,7 @@ fn listed_verdict(w: Listed) -> Verdict
 
 // The steps of the search for what was read.
 fn steps_of(r: Reading) -> u64
-    requires { ⌜ (r .verdict ≡ Accepted → InRange (plainOf (r .model))) ⌝ }
+    requires { ⌜ (r .verdict ≡ Accepted → FiguresInRange (plainOf (r .model))) ⌝ }
     ensures { λ n. ⌜ Steps r n ⌝ }
 {
     let v = r.verdict;

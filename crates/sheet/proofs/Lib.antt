@@ -2,6 +2,5 @@ pub mod Sections
 pub mod Forms
 pub mod Making
 pub mod Steps
-pub mod Crossings
 pub mod Lengths
 pub mod Sheets

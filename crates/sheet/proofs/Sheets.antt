@@ -11,7 +11,6 @@ use mathlib.Core.List.{List, [], _∷_, _++_, append-nil}
 use Prim.Native.Nat.{ℕ, _≤_, _<_}
 use native.Mathlib.Omega.{arith}
 use native.Mathlib.Decide.{decLt}
-use native.Mathlib.Nat.{zero-add}
 use borrow.Author.Tests.{le-ltb, ltb-false}
 use lib.Dec.{ltb, lit<}
 use lib.IntN.{ℤ}
@@ -28,10 +27,10 @@ use Rattle.model.specs.Refusals as refusal
 use Rattle.model.specs.declared.Model.{Model}
 use Rattle.model.specs.declared.Side.{Side}
 use Rattle.model.specs.declared.Side.the-variants.{Lower, Upper}
-use Rattle.model.specs.Records.{emptyModel, itemAt, outside, badFigure, crosses, verdict}
+use Rattle.model.specs.Records.{emptyModel, itemAt, outside, badFigure}
 use Rattle.model.specs.Setters.{withCapacity, withCount}
 use Rattle.model.proofs.Records.{Unfaulted, unfaulted, unrefused}
-use Rattle.lines.specs.Places.{lineAt, refusalOn}
+use Rattle.lines.specs.Places.{refusalOn}
 use Rattle.lines.specs.Layout.{headingText, itemText, Bounding}
 use Rattle.lines.proofs.Standing.{Has, has-join, Bytes}
 use Rattle.lines.proofs.Rereading.{bareOf}
@@ -39,7 +38,7 @@ use Rattle.sheet.specs.declared.Progress.{Progress}
 use Rattle.sheet.specs.declared.Reading.{Reading}
 use Rattle.sheet.specs.Sections.{goesOn, refusedAt, linesText, sectionText}
 use Rattle.sheet.specs.Reading.{limit, items, wordOf, limitForm, itemForm, boundForm, limitSection, itemsSection, boundsSection, endOfSheet}
-use Rattle.sheet.specs.Reading.{crossFrom, crossOf, crossCheck, headOf, lowerOf, upperOf, tailOf, wholeOf, readSheet}
+use Rattle.sheet.specs.Reading.{headOf, lowerOf, upperOf, wholeOf, readSheet}
 use Rattle.sheet.specs.Printing.{upTo, boundAt, boundsUpTo, sideText, printing, Tidy, SheetOf}
 use Rattle.sheet.proofs.Sections.{no-refusal, went, section-before, SectionRead, section-read, Fitting, Back, section-back}
 use Rattle.sheet.proofs.Forms.{LimitFits, limit-laws, Bare, bare-same, bare-of, item-laws, BoundFits, bound-laws, fair-side}
@@ -47,7 +46,6 @@ use Rattle.sheet.proofs.Making.{upto-length, upto-cong, upto-inj, texts
 use Rattle.sheet.proofs.Making.{limited, Limited, limit-next, blanks, ItemsIn, items-next, items-fit}
 use Rattle.sheet.proofs.Making.{Kept, kept-same, BoundsIn, bounds-next, bounds-fit}
 use Rattle.sheet.proofs.Lengths.{printing-short}
-use Rattle.sheet.proofs.Crossings.{cross-all, all-cross}
 
 -- ---- the lines of a record
 
@@ -214,38 +212,6 @@ ended s p h =
     let e = at-end s p (ltb (p .at) (length s)) (w .after) in
     record { before = w .before; is = w .is ∙ rw e; past = ltb-false (p .at) (length s) e }
 
-record Uncrossed (s : List ℕ) (heading : ℕ) (p : Progress) : Type 0 where
-  before : p .verdict ≡ Accepted
-  is : crossCheck s heading p ≡ p
-  none : Each (p .model .count) (λ k. crosses (itemAt (p .model) k) ≡ false)
-
-all-clear : (p : Progress) (v : Verdict) → crossOf p v .verdict ≡ Accepted → v ≡ Accepted
-all-clear p Accepted h = refl
-all-clear p (Refused r) h = no-refusal h
-
-uncrossed : (s : List ℕ) (heading : ℕ) (p : Progress) → crossCheck s heading p .verdict ≡ Accepted → Uncrossed s heading p
-unfolding crossCheck
-uncrossed s heading p h =
-    let w = went p _ h in
-    let n = p .model .count in
-    let f = itemAt (p .model) in
-    let e = all-clear p (crossFrom n f 0 (lineAt s heading)) (w .after) in
-    record { before = w .before; is = w .is ∙ rw e; none = λ k l. rw (zero-add k) at (cross-all n f 0 (lineAt s heading) e k l) }
-
--- what is behind the last section of an accepted sheet
-record Tail (s : List ℕ) (p q : Progress) : Type 0 where
-  before : p .verdict ≡ Accepted
-  is : q ≡ p
-  past : length s ≤ p .at
-  crossed : Each (p .model .count) (λ k. crosses (itemAt (p .model) k) ≡ false)
-
-tail-read : (s : List ℕ) (heading : ℕ) (p : Progress) → tailOf s heading p .verdict ≡ Accepted → Tail s p (tailOf s heading p)
-unfolding tailOf
-tail-read s heading p h =
-    let c = uncrossed s heading (endOfSheet s p) h in
-    let e = ended s p (c .before) in
-    record { before = e .before; is = c .is ∙ e .is; past = e .past; crossed = λ k l. rw (e .is) at (c .none) k l }
-
 abbrev limit-bytes : Bytes limit
 limit-bytes = (lit< tt, (lit< tt, (lit< tt, (lit< tt, (lit< tt, tt)))))
 
@@ -317,8 +283,8 @@ sections s h =
       text = has-join (rw (o .1) at (a .text)) (has-join (i .text) (has-join (x .text) (y .text)));
     }
 
-found-sheet : (s : List ℕ) (heading : ℕ) → Tail s (upperOf s) (tailOf s heading (upperOf s)) → SheetOf s (upperOf s .model)
-found-sheet s heading t =
+found-sheet : (s : List ℕ) → Ended s (upperOf s) → SheetOf s (upperOf s .model)
+found-sheet s t =
     let r = sections s (t .before) in
     let m = upperOf s .model in
     let l = laid (r .limit) (r .vi) (r .vl) (r .vu) (headOf s) (lowerOf s) (upperOf s) (r .items) (r .lower) (r .upper) in
@@ -330,7 +296,6 @@ found-sheet s heading t =
         most = omega (arith, r .items .few, r .items .count);
         capacity = rw (l .limit) (r .fair);
         figures = fair-figures (r .limit) (r .vi) (r .vl) (r .vu) (headOf s) (lowerOf s) (upperOf s) (r .items) (r .lower) (r .upper);
-        uncrossed = t .crossed;
       });
       tidy = l .tidy;
       text = r .text .has ∙ rw (drop-of-length-le s (t .past)) (append-nil _) ∙ sym (laid-text m (r .limit) (r .vi) (r .vl) (r .vu) l);
@@ -350,9 +315,9 @@ accepted-sheet s m h = go (ltb 4096 (length s)) h
         SheetOf s m
     go true h = no-refusal (ap (λ (r : Reading). r .verdict) h)
     go false h =
-        let t = tail-read s (lowerOf s .at) (upperOf s) (ap (λ (r : Reading). r .verdict) h) in
+        let t = ended s (upperOf s) (ap (λ (r : Reading). r .verdict) h) in
         let e : upperOf s .model ≡ m = ap (λ (q : Progress). q .model) (sym (t .is)) ∙ ap (λ (r : Reading). r .model) h in
-        rw (← e) (found-sheet s (lowerOf s .at) t)
+        rw (← e) (found-sheet s t)
 
 -- ---- the printing of a record is read back
 
@@ -457,15 +422,9 @@ module _ (m : Model) (r : Unfaulted m) (tidy : Tidy m) where
       let l : length sheet ≤ upperOf sheet .at = omega (arith, ap length (u .left), length-drop (upperOf sheet .at) sheet) in
       rw (u .accepted, le-ltb (upperOf sheet .at) (length sheet) l)
 
-  cross-back : crossCheck sheet (lowerOf sheet .at) (upperOf sheet) ≡ upperOf sheet
-  unfolding crossCheck
-  cross-back =
-      let none = all-cross (m .count) (itemAt m) 0 (lineAt sheet (lowerOf sheet .at)) (λ k l. rw (zero-add k) (r .uncrossed k l)) in
-      rw (upper-back .accepted, model-back, none)
-
   whole-back : wholeOf sheet ≡ upperOf sheet
-  unfolding wholeOf tailOf
-  whole-back = rw end-back cross-back
+  unfolding wholeOf
+  whole-back = end-back
 
   text-is : printing m ≡ sheet
   unfolding sheet

@@ -1,20 +1,16 @@
 -- What a step of the reader keeps (specs/Reading.antt), for what the code's functions require.
 --   Few p          the record has at most 16 items
 -- step-item: an item's line raises the item number by at most one.
--- bound-few, head-few, side-few, end-few: no line and no section makes a record of more than 16 items.
-use mathlib.Core.Bool.{Bool, true, false, cond}
+-- bound-few, head-few, side-few: no line and no section makes a record of more than 16 items.
 use mathlib.Core.List.{List}
 use Prim.Native.Nat.{ℕ, suc, _≤_}
 use native.Mathlib.Omega.{arith}
-use lib.Dec.{ltb}
-use lib.ListN.{length}
 use Rattle.knapsack.specs.declared.Refusal.{Refusal}
-use Rattle.model.specs.Refusals as refusal
 use Rattle.model.specs.declared.Side.{Side}
 use Rattle.sheet.specs.declared.Progress.{Progress}
-use Rattle.sheet.specs.Sections.{stoppedBy, refusedAt, stepOf}
-use Rattle.sheet.specs.Reading.{limit, items, wordOf, limitForm, itemForm, boundForm, limitSection, itemsSection, boundsSection, endOfSheet, headOf}
-use Rattle.sheet.proofs.Sections.{onward-keeps, step-keeps, section-keeps}
+use Rattle.sheet.specs.Sections.{stoppedBy, stepOf}
+use Rattle.sheet.specs.Reading.{limit, items, wordOf, limitForm, itemForm, boundForm, limitSection, itemsSection, boundsSection, headOf}
+use Rattle.sheet.proofs.Sections.{step-keeps, section-keeps}
 
 pub step-item : (s : List ℕ) (p : Progress) → stepOf itemForm s p .item ≤ suc (p .item)
 step-item s p = step-keeps itemForm (λ q. q .item ≤ suc (p .item)) s p (λ r. omega arith) (λ i n. omega arith) (omega arith)
@@ -39,11 +35,3 @@ bound-few s side p h = step-keeps (boundForm side) Few s p none-few (λ b n. h) 
 pub side-few : (s : List ℕ) (side : Side) (p : Progress) → Few p → Few (boundsSection s side p)
 unfolding boundsSection
 side-few s side p h = section-keeps (boundForm side) Few (wordOf side) 0 (p .model .count) _ s p none-few (λ q b n k. k) (λ n at k. h) h
-
-pub end-few : (s : List ℕ) (p : Progress) → Few p → Few (endOfSheet s p)
-unfolding endOfSheet
-end-few s p h = onward-keeps Few p _ h (go (ltb (p .at) (length s)))
-  where
-    go : (t : Bool) → Few (cond t (refusedAt s refusal.form (p .at)) p)
-    go true = omega arith
-    go false = h

@@ -4,29 +4,21 @@
 --   limitForm, itemForm, boundForm side    the kinds of line, which give what limitGives, itemGives, boundGives say
 --   limitSection, itemsSection, boundsSection    the sections, each from where the one before ended
 --   endOfSheet s p       nothing stands behind the last section
---   upperLine b n        the line in `upper` of an item with that bound, or of the last one before it that has one, if that was line n
---   crossFrom n f k l    the first of n items from place k on whose bounds cross, where the last line of `upper` before them was l
---   crossOf p v          the reading goes on if no bounds cross
---   crossCheck s h p     no lower bound is above its upper; h is a place of the line `upper m`
 --   headOf, lowerOf, upperOf s    the sheet read so far: limit and items, then lower, then upper
---   tailOf s h p         what is tried behind the last section
 --   wholeOf s            the sheet read to its end
 --   readSheet s          what a sheet gives
 use mathlib.Core.Bool.{cond}
 use mathlib.Core.List.{List, [], _∷_}
-use Prim.Native.Nat.{ℕ, zero, suc, _-_}
+use Prim.Native.Nat.{ℕ, suc, _-_}
 use lib.Dec.{ltb}
 use lib.IntN.{ℤ, pos, negsuc}
 use lib.ListN.{length}
-use Rattle.knapsack.specs.declared.Bound.{Bound}
-use Rattle.knapsack.specs.declared.Bound.the-variants.{Absent, At}
 use Rattle.knapsack.specs.declared.Item.{Item}
-use Rattle.knapsack.specs.declared.Verdict.{Verdict}
-use Rattle.knapsack.specs.declared.Verdict.the-variants.{Accepted, Refused}
+use Rattle.knapsack.specs.declared.Verdict.the-variants.{Refused}
 use Rattle.model.specs.declared.Side.{Side}
 use Rattle.model.specs.declared.Side.the-variants.{Lower, Upper}
 use Rattle.model.specs.Refusals as refusal
-use Rattle.model.specs.Records.{emptyModel, itemAt, crosses}
+use Rattle.model.specs.Records.{emptyModel}
 use Rattle.model.specs.Setters.{withCapacity, withCount, withItem, withBound}
 use Rattle.text.specs.Decimal.{integer}
 use Rattle.text.specs.Layout.{line}
@@ -38,13 +30,13 @@ use Rattle.lines.specs.declared.ItemRead.{ItemRead}
 use Rattle.lines.specs.declared.ItemRead.the-variants.{Fault as ItemFault, Read as ItemIs}
 use Rattle.lines.specs.declared.BoundRead.{BoundRead}
 use Rattle.lines.specs.declared.BoundRead.the-variants.{Fault as BoundFault, Read as BoundIs}
-use Rattle.lines.specs.Places.{lineAt, refusalOn}
+use Rattle.lines.specs.Places.{refusalOn}
 use Rattle.lines.specs.Numbers.{fromTo, fieldAt}
 use Rattle.lines.specs.Lines.{itemRead, boundRead}
 use Rattle.lines.specs.Layout.{itemText, Bounding, boundText}
 use Rattle.sheet.specs.declared.Progress.{Progress}
 use Rattle.sheet.specs.declared.Reading.{Reading}
-use Rattle.sheet.specs.Sections.{goesOn, stoppedBy, refusedAt, onward, Gives, fault, gives, LineForm, sectionOf}
+use Rattle.sheet.specs.Sections.{goesOn, refusedAt, onward, Gives, fault, gives, LineForm, sectionOf}
 
 abbrev pub limit : List ℕ
 limit = 108 ∷ 105 ∷ 109 ∷ 105 ∷ 116 ∷ []
@@ -112,23 +104,6 @@ boundsSection s side p = sectionOf (boundForm side) (wordOf side) (fromTo 0 (p .
 unfoldable pub endOfSheet : List ℕ → Progress → Progress
 endOfSheet s p = onward p (cond (ltb (p .at) (length s)) (refusedAt s refusal.form (p .at)) p)
 
--- ---- crossing bounds
-abbrev pub upperLine : Bound → ℕ → ℕ
-upperLine Absent n = n
-upperLine (At u) n = suc n
-
-unfoldable pub crossFrom : ℕ → (ℕ → Item) → ℕ → ℕ → Verdict
-crossFrom zero f k l = Accepted
-crossFrom (suc n) f k l =
-    cond (crosses (f k)) (Refused (refusalOn refusal.crossing (upperLine (f k .upper) l))) (crossFrom n f (suc k) (upperLine (f k .upper) l))
-
-abbrev pub crossOf : Progress → Verdict → Progress
-crossOf p Accepted = p
-crossOf p (Refused r) = stoppedBy r
-
-unfoldable pub crossCheck : List ℕ → ℕ → Progress → Progress
-crossCheck s heading p = onward p (crossOf p (crossFrom (p .model .count) (itemAt (p .model)) 0 (lineAt s heading)))
-
 -- ---- the sheet
 unfoldable pub headOf : List ℕ → Progress
 headOf s = itemsSection s (limitSection s)
@@ -139,11 +114,8 @@ lowerOf s = boundsSection s Lower (headOf s)
 unfoldable pub upperOf : List ℕ → Progress
 upperOf s = boundsSection s Upper (lowerOf s)
 
-unfoldable pub tailOf : List ℕ → ℕ → Progress → Progress
-tailOf s heading p = crossCheck s heading (endOfSheet s p)
-
 unfoldable pub wholeOf : List ℕ → Progress
-wholeOf s = tailOf s (lowerOf s .at) (upperOf s)
+wholeOf s = endOfSheet s (upperOf s)
 
 unfoldable pub readSheet : List ℕ → Reading
 readSheet s =

@@ -1,7 +1,6 @@
 // The sheet of paper 01: the reader ("The sheet", "Refused, by place"), and the part of a sheet that holds a line.
 // read gives every sheet its record or its numbered refusal; line_part and check_line give a line for the display.
 // A line is read in two steps, its form and then its values (crate lines); a section is a heading and a loop over its lines (specs/Sections).
-use knapsack::Bound;
 use knapsack::Item;
 use knapsack::Refusal;
 use knapsack::Verdict;
@@ -19,14 +18,14 @@ use model::Side;
 use model::refusals;
 use model::setters;
 ghost use mathlib.Core.Path.{_≡_};
-ghost use Prim.Native.Nat.{suc, _+_, _-_, _^_, _≤_, _<_};
-ghost use Rattle.model.specs.Records.{emptyModel, itemAt};
+ghost use Prim.Native.Nat.{suc, _+_, _-_, _≤_, _<_};
+ghost use Rattle.model.specs.Records.{emptyModel};
 ghost use Rattle.model.specs.Setters.{withItem, withBound};
 ghost use Rattle.lines.specs.Numbers.{fromTo};
 ghost use Rattle.lines.specs.Lines.{countAt};
 ghost use Rattle.sheet.specs.Sections.{goesOn, stoppedBy, refusedAt, stepOf, linesOf};
 ghost use Rattle.sheet.specs.Reading.{wordOf, limitForm, itemForm, boundForm, limitSection, itemsSection, boundsSection, endOfSheet};
-ghost use Rattle.sheet.specs.Reading.{upperLine, crossFrom, crossCheck, headOf, tailOf, wholeOf, readSheet};
+ghost use Rattle.sheet.specs.Reading.{headOf, wholeOf, readSheet};
 
 // What a sheet gives: its record, or a refusal beside the empty record.
 pub struct Reading {
@@ -268,60 +267,6 @@ fn end_of_sheet(s: &[u8], p: Progress) -> Progress
     }
 }
 
-// The line in `upper` of an item that has the bound, if the last one before it had the line given.
-fn upper_line(upper: Bound, line: u64) -> u64
-    requires { ⌜ line + 1 < 2 ^ 64 ⌝ }
-    ensures { λ r. ⌜ r ≡ upperLine upper line ⌝ }
-{
-    match upper {
-        Bound::Absent => line,
-        Bound::At(_) => line + 1,
-    }
-}
-
-// The first item whose bounds cross; heading is the line of `upper m`.
-fn crossing(model: Model, heading: u64) -> Verdict
-    requires { ⌜ (model .count ≤ 16) × (heading ≤ 2 ^ 63) ⌝ }
-    ensures { λ r. ⌜ r ≡ crossFrom (model .count) (itemAt model) 0 heading ⌝ }
-{
-    let n = model.count;
-    let mut line = heading;
-    let mut k: usize = 0;
-    while k < n {
-        let item = model.items[k];
-        let lower = item.lower;
-        let upper = item.upper;
-        line = upper_line(upper, line);
-        if model::crossed_bounds(lower, upper) {
-            return Verdict::Refused(Refusal {
-                number: refusals::CROSSING,
-                line,
-            });
-        }
-        k += 1;
-    }
-    Verdict::Accepted
-}
-
-// heading is a place of the line `upper m`.
-fn uncrossed(s: &[u8], heading: usize, p: Progress) -> Progress
-    requires { ⌜ p .model .count ≤ 16 ⌝ }
-    ensures { λ r. ⌜ r ≡ crossCheck (now (s .entry)) heading p ⌝ }
-{
-    let verdict = p.verdict;
-    match verdict {
-        Verdict::Refused(_) => p,
-        Verdict::Accepted => {
-            let q = p.model;
-            let told = crossing(q, lines::scan::line_at(s, heading));
-            match told {
-                Verdict::Accepted => p,
-                Verdict::Refused(r) => stopped(r),
-            }
-        }
-    }
-}
-
 // ---- the sheet
 
 // Limit and items.
@@ -331,21 +276,13 @@ fn head(s: &[u8]) -> Progress
     items_section(s, limit_section(s))
 }
 
-// What is tried behind the last section; heading is a place of the line `upper m`.
-fn tail(s: &[u8], heading: usize, p: Progress) -> Progress
-    requires { ⌜ p .model .count ≤ 16 ⌝ }
-    ensures { λ r. ⌜ r ≡ tailOf (now (s .entry)) heading p ⌝ }
-{
-    uncrossed(s, heading, end_of_sheet(s, p))
-}
-
 fn whole(s: &[u8]) -> Progress
     ensures { λ r. ⌜ r ≡ wholeOf (now (s .entry)) ⌝ }
 {
     let h = head(s);
     let lower = bounds_section(s, Side::Lower, h);
     let upper = bounds_section(s, Side::Upper, lower);
-    tail(s, lower.at, upper)
+    end_of_sheet(s, upper)
 }
 
 // Every sheet gets its record or its refusal.

@@ -8,8 +8,8 @@ use knapsack::blank_item;
 use model::Model;
 ghost use Prim.Native.Nat.{_≤_};
 
-// No figure is farther from zero than its span, and the capacity is a multiple of the unit. Of four bounds so many are absent, and of
-// four items so many continuous.
+// No figure is farther from zero than its span, and the capacity is a multiple of the unit. Of four bounds so many are absent, of four
+// items so many continuous, and of eight pairs of bounds so many cross, unless they are equal.
 pub struct Spans {
     pub weight: u64,
     pub price: u64,
@@ -18,6 +18,7 @@ pub struct Spans {
     pub unit: i64,
     pub absent: u64,
     pub loose: u64,
+    pub crossing: u64,
 }
 
 // Small figures, for problems that are enumerated.
@@ -30,7 +31,13 @@ pub fn small(absent: u64, loose: u64) -> Spans {
         unit: 1,
         absent: absent,
         loose: loose,
+        crossing: 1,
     }
+}
+
+struct Ends {
+    lower: i64,
+    upper: i64,
 }
 
 pub struct DrawnItem {
@@ -106,6 +113,21 @@ fn greater(a: i64, b: i64) -> i64 {
     if a < b { b } else { a }
 }
 
+fn drawn_ends(state: u64, a: i64, b: i64, s: Spans) -> Ends {
+    let low = lesser(a, b);
+    let high = greater(a, b);
+    if below(state, 7) < s.crossing {
+        return Ends {
+            lower: high,
+            upper: low,
+        };
+    }
+    Ends {
+        lower: low,
+        upper: high,
+    }
+}
+
 pub fn drawn_item(state: u64, s: Spans) -> DrawnItem {
     let m = next(state);
     let a = next(m);
@@ -116,10 +138,9 @@ pub fn drawn_item(state: u64, s: Spans) -> DrawnItem {
     let j = next(i);
     let mark = drawn_mark(m, s);
     let weight = drawn_weight(a, s);
-    let first = figure(l, s.bound);
-    let second = figure(u, s.bound);
-    let lower = drawn_bound(i, lesser(first, second), s);
-    let upper = drawn_bound(j, greater(first, second), s);
+    let ends = drawn_ends(c, figure(l, s.bound), figure(u, s.bound), s);
+    let lower = drawn_bound(i, ends.lower, s);
+    let upper = drawn_bound(j, ends.upper, s);
     let x = Item {
         mark: mark,
         weight: weight,

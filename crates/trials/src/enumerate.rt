@@ -63,6 +63,15 @@ fn is_continuous(x: Item) -> bool {
     }
 }
 
+// Bounds that cross leave none.
+fn no_choice() -> Choices {
+    Choices {
+        first: 0,
+        step: 0,
+        number: 0,
+    }
+}
+
 // The filler is left out: it takes 0 for the time being.
 fn choices_of(x: Item, filler: bool) -> Choices {
     if filler {
@@ -73,6 +82,9 @@ fn choices_of(x: Item, filler: bool) -> Choices {
         };
     }
     let span = minus(high(x), low(x));
+    if span < 0 {
+        return no_choice();
+    }
     if is_continuous(x) {
         return Choices {
             first: low(x),

@@ -1,6 +1,6 @@
 -- `domination_test::table_of`: the plain problem of an accepted record is in range, which is all that the table asks.
 use mathlib.Core.Path.{sym, _∙_}
-use Rattle.model.proofs.Records.{plain-in-range}
+use Rattle.model.proofs.Records.{accepted}
 use borrow.Author.Needs.{needs}
 use Rattle.domination_test.proofs.table_of.Statement.{statement}
 use Rattle.domination_test.proofs.table_of.Tie as tie
@@ -17,7 +17,7 @@ plain-of-requires c κs = search needs
 pair-table-requires : tie.Need-pair-table-requires
 pair-table-requires c κs =
     let e = c .before in
-    rw (c .plain-of .ensures) (plain-in-range _ (sym (e .before .before .check-model .ensures) ∙ e .enum-told .given .1))
+    rw (c .plain-of .ensures) (accepted _ (sym (e .before .before .check-model .ensures) ∙ e .enum-told .given .1))
 
 enum-told-2 : tie.Need-enum-told-2
 enum-told-2 c = search needs

@@ -3,7 +3,7 @@ use mathlib.Core.Path.{_≡_, sym, _∙_}
 use borrow.Author.Needs.{needs}
 use Rattle.knapsack.specs.declared.Verdict.the-variants.{Accepted}
 use Rattle.model.specs.Records.{verdict}
-use Rattle.model.proofs.Records.{plain-in-range}
+use Rattle.model.proofs.Records.{accepted}
 use Rattle.feasibility.specs.Check.{pointCheck}
 use Rattle.feasibility.proofs.check_point.Statement.{statement}
 use Rattle.feasibility.proofs.check_point.Tie as tie
@@ -22,7 +22,7 @@ taken : (e : tie.After-enum-told) → verdict (e .before .before .before .args .
 taken e = sym (e .before .before .check-model .ensures) ∙ e .enum-told .given .1
 
 check-amounts-requires : tie.Need-check-amounts-requires
-check-amounts-requires c κs = rw (c .plain-of .ensures) (plain-in-range _ (taken (c .before)))
+check-amounts-requires c κs = rw (c .plain-of .ensures) (accepted _ (taken (c .before)))
 
 enum-known-v : tie.Need-enum-known-v
 enum-known-v c = search needs

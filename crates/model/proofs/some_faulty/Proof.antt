@@ -1,20 +1,20 @@
--- `model::some_faulty` meets its contract: the items passed are not faulty.
+-- `model::some_faulty` meets its contract: the figures passed are in range.
 use mathlib.Core.Path.{_≡_, refl, sym, _∙_}
 use mathlib.Core.Bool.{false}
 use Prim.Native.Nat.{_-_, _≤_}
 use native.Mathlib.Numerals.{add-one}
 use native.Mathlib.Omega.{arith}
 use borrow.Author.Needs.{needs}
-use Rattle.model.specs.Records.{itemAt, someItem, faulty}
+use Rattle.model.specs.Records.{itemAt, badFigure, someItem}
 use Rattle.model.proofs.Records.{some-found, some-more}
 use Rattle.model.proofs.some_faulty.Statement.{statement}
 use Rattle.model.proofs.some_faulty.Tie as tie
 
 abbrev Inv-loop : tie.InvT-loop
-Inv-loop f m n k₀ k = (k ≤ n) × (someItem k (itemAt m) (faulty f) ≡ false)
+Inv-loop m n k₀ k = (k ≤ n) × (someItem k (itemAt m) badFigure ≡ false)
 
 abbrev μ-loop : tie.MeasureT-loop
-μ-loop f m n k₀ k = n - k
+μ-loop m n k₀ k = n - k
 
 held-items-requires : tie.Need-held-items-requires Inv-loop μ-loop
 held-items-requires c κs = search needs
@@ -29,16 +29,16 @@ mul-i c = omega arith
 element-copy-out-i : tie.Need-element-copy-out-i Inv-loop μ-loop
 element-copy-out-i c = omega arith
 
-is-faulty-requires : tie.Need-is-faulty-requires Inv-loop μ-loop
-is-faulty-requires c κs = search needs
+bad-figure-requires : tie.Need-bad-figure-requires Inv-loop μ-loop
+bad-figure-requires c κs = search needs
 
 returns : tie.Need-returns Inv-loop μ-loop
 returns c =
     let l = c .before .before .before .before in
     let h = l .before in
     let a = h .before .args in
-    let found = some-found (h .held-items .result) (l .loop .k) (itemAt (a .t1)) (faulty (a .f)) (omega arith)
-    (sym (c .before .is-faulty .ensures) ∙ c .if1 .taken) in
+    let found = some-found (h .held-items .result) (l .loop .k) (itemAt (a .t1)) badFigure (omega arith)
+    (sym (c .before .bad-figure .ensures) ∙ c .if1 .taken) in
     sym (rw (h .held-items .ensures .0) at found)
 
 add-k : tie.Need-add-k Inv-loop μ-loop
@@ -51,7 +51,7 @@ loop-again : tie.Need-loop-again Inv-loop μ-loop
 loop-again c =
     let l = c .before .before .before .before in
     let a = l .before .before .args in
-    (omega arith, rw add-one (some-more (l .loop .k) (itemAt (a .t1)) (faulty (a .f)) (l .loop .inv .1) (sym (c .before .is-faulty .ensures) ∙ c .if1 .left)))
+    (omega arith, rw add-one (some-more (l .loop .k) (itemAt (a .t1)) badFigure (l .loop .inv .1) (sym (c .before .bad-figure .ensures) ∙ c .if1 .left)))
 
 returns-2 : tie.Need-returns-2 Inv-loop μ-loop
 returns-2 c =
@@ -69,7 +69,7 @@ some-faulty-spec =
     loop-holds
     mul-i
     element-copy-out-i
-    is-faulty-requires
+    bad-figure-requires
     returns
     add-k
     loop-less

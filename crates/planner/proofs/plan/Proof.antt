@@ -5,7 +5,7 @@ use Rattle.knapsack.specs.Meaning.{instanceOf, Answers}
 use Rattle.knapsack.specs.declared.Verdict.the-variants.{Accepted}
 use Rattle.model.specs.Promises.{RepliesAs}
 use Rattle.model.specs.Records.{plainOf, verdict}
-use Rattle.model.proofs.Records.{plain-in-range}
+use Rattle.model.proofs.Records.{accepted}
 use Rattle.planner.proofs.plan.Statement.{statement}
 use Rattle.planner.proofs.plan.Tie as tie
 
@@ -23,7 +23,7 @@ taken : (e : tie.After-enum-told) → verdict (e .before .before .before .args .
 taken e = sym (e .before .before .check-model .ensures) ∙ e .enum-told .given .1
 
 solve-requires : tie.Need-solve-requires
-solve-requires c κs = rw (c .plain-of .ensures) (plain-in-range _ (taken (c .before)))
+solve-requires c κs = rw (c .plain-of .ensures) (accepted _ (taken (c .before)))
 
 enum-known-v : tie.Need-enum-known-v
 enum-known-v c = search needs

@@ -2,15 +2,14 @@
 use mathlib.Core.Path.{_≡_, sym, ap, _∙_, subst}
 use borrow.Author.Needs.{needs}
 use Rattle.knapsack.specs.Meaning.{instanceOf, relaxed, Answers}
-use Rattle.knapsack.specs.Ranges.{InRange}
 use Rattle.knapsack.specs.declared.Verdict.the-variants.{Accepted}
 use Rattle.model.specs.declared.Model.{Model}
 use Rattle.model.specs.Promises.{RepliesAs}
-use Rattle.model.specs.Records.{plainOf, verdict}
-use Rattle.model.proofs.Records.{plain-in-range}
-use Rattle.ordering.proofs.Accepted.{in-range-ranged}
+use Rattle.model.specs.Records.{plainOf, verdict, FiguresInRange}
+use Rattle.model.proofs.Records.{accepted}
 use Rattle.ordering.specs.Ranking.{arranged}
 use Rattle.relaxation.proofs.Lent.{settled-accepted, settled-refused}
+use Rattle.relaxation.proofs.Loose.{ranged}
 use Rattle.relaxation.proofs.core.Statement.{statement}
 use Rattle.relaxation.proofs.core.Tie as tie
 
@@ -26,18 +25,18 @@ enum-told c = search needs
 abbrev asked : tie.After-check-model → Model
 asked k = k .before .before .args .m
 
--- the record is accepted, so its plain problem is in range
+-- the record is accepted, so its figures are in range
 taken : (t : tie.After-enum-told) → verdict (asked (t .before .before)) ≡ Accepted
 taken t = sym (t .before .before .check-model .ensures) ∙ t .enum-told .given .1
 
-ranged : (t : tie.After-enum-told) → InRange (t .before .before .before .plain-of .result)
-ranged t = rw (t .before .before .before .plain-of .ensures) (plain-in-range _ (taken t))
+figures : (t : tie.After-enum-told) → FiguresInRange (t .before .before .before .plain-of .result)
+figures t = rw (t .before .before .before .plain-of .ensures) (accepted _ (taken t))
 
 relaxed-answer-requires : tie.Need-relaxed-answer-requires
-relaxed-answer-requires c κs = ranged c
+relaxed-answer-requires c κs = figures c
 
 arrange-requires : tie.Need-arrange-requires
-arrange-requires c κs = in-range-ranged _ (ranged (c .before))
+arrange-requires c κs = ranged _ (figures (c .before))
 
 enum-known-v : tie.Need-enum-known-v
 enum-known-v c = search needs

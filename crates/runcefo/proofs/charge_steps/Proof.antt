@@ -1,13 +1,12 @@
--- `runcefo::charge_steps` meets its contract: an accepted sheet's problem is in range.
+-- `runcefo::charge_steps` meets its contract: an accepted sheet's figures are in range.
 use mathlib.Core.Path.{_≡_, ap, subst}
 use mathlib.Core.List.{List}
 use Prim.Native.Nat.{ℕ}
 use borrow.Author.Needs.{needs}
-use Rattle.knapsack.specs.Ranges.{InRange}
 use Rattle.knapsack.specs.declared.Verdict.{Verdict}
 use Rattle.knapsack.specs.declared.Verdict.the-variants.{Accepted}
-use Rattle.model.specs.Records.{plainOf}
-use Rattle.model.proofs.Records.{plain-in-range}
+use Rattle.model.specs.Records.{plainOf, FiguresInRange}
+use Rattle.model.proofs.Records.{accepted}
 use Rattle.sheet.specs.declared.Reading.{Reading}
 use Rattle.sheet.specs.Reading.{readSheet}
 use Rattle.sheet.proofs.Sheets.{accepted-sheet}
@@ -15,8 +14,8 @@ use Rattle.runcefo.specs.Entries.{Steps}
 use Rattle.runcefo.proofs.charge_steps.Statement.{statement}
 use Rattle.runcefo.proofs.charge_steps.Tie as tie
 
-in-range : (s : List ℕ) → readSheet s .verdict ≡ Accepted → InRange (plainOf (readSheet s .model))
-in-range s h = let m = readSheet s .model in plain-in-range m (accepted-sheet s m (ap (λ (v : Verdict). record { verdict = v; model = m }) h) .fair)
+in-range : (s : List ℕ) → readSheet s .verdict ≡ Accepted → FiguresInRange (plainOf (readSheet s .model))
+in-range s h = let m = readSheet s .model in accepted m (accepted-sheet s m (ap (λ (v : Verdict). record { verdict = v; model = m }) h) .fair)
 
 read-requires : tie.Need-read-requires
 read-requires c κs = search needs

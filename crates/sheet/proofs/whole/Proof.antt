@@ -27,10 +27,6 @@ lower-few : (s : List ℕ) → Few (lowerOf s)
 unfolding lowerOf
 lower-few s = side-few s Lower (headOf s) (head-few s)
 
-upper-few : (s : List ℕ) → Few (upperOf s)
-unfolding upperOf
-upper-few s = side-few s Upper (lowerOf s) (lower-few s)
-
 head-requires : tie.Need-head-requires
 head-requires c κs = search needs
 
@@ -40,12 +36,12 @@ bounds-section-requires c κs = rw (c .head .ensures) (head-few (sheet c))
 bounds-section-requires-2 : tie.Need-bounds-section-requires-2
 bounds-section-requires-2 c κs = rw (lower-is c) (lower-few (sheet (c .before)))
 
-tail-requires : tie.Need-tail-requires
-tail-requires c κs = rw (upper-is c) (upper-few (sheet (c .before .before)))
+end-of-sheet-requires : tie.Need-end-of-sheet-requires
+end-of-sheet-requires c κs = search needs
 
 returns : tie.Need-returns
 unfolding wholeOf
-returns c = let u = c .before in rw (← lower-is (u .before), ← upper-is u) (c .tail .ensures)
+returns c = rw (← upper-is (c .before)) (c .end-of-sheet .ensures)
 
 pub whole-spec : {M : Type 1} → statement M
 whole-spec =
@@ -54,5 +50,5 @@ whole-spec =
     head-requires
     bounds-section-requires
     bounds-section-requires-2
-    tail-requires
+    end-of-sheet-requires
     returns)
