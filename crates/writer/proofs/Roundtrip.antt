@@ -51,7 +51,6 @@ agree-accepted m o a h =
       most = omega (arith, u .most, a .count);
       capacity = rw (a .capacity) at (u .capacity);
       figures = λ k l. let j : k < m .count = omega (arith, a .count) in rw (a .items k j) at (u .figures k j);
-      uncrossed = λ k l. let j : k < m .count = omega (arith, a .count) in rw (a .items k j) at (u .uncrossed k j);
     })
 
 -- ---- the record as the reader fills it
