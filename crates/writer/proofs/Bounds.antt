@@ -1,6 +1,6 @@
 -- Present bounds, one more at a time.
 -- counted-more: their number. lines-more: their lines.
-use mathlib.Core.Path.{_≡_, refl, sym, ap, _∙_}
+use mathlib.Core.Path.{_≡_, refl}
 use mathlib.Core.List.{List, _++_, append-nil}
 use Prim.Native.Nat.{ℕ, suc}
 use lib.ListN.{length}

@@ -6,22 +6,19 @@
 --   equal-sheets    two accepted problems have equal sheets only if they agree
 -- agree-text: records that agree have one sheet. agree-accepted: and are accepted together. tidied-agrees: so does the reader's record.
 use mathlib.Core.Path.{_≡_, refl, sym, ap, ap₂, _∙_}
-use mathlib.Core.Bool.{false}
 use mathlib.Core.List.{List, [], _∷_, _++_}
 use Prim.Native.Nat.{ℕ, _+_, _-_, _≤_, _<_}
 use native.Mathlib.Omega.{arith}
 use native.Mathlib.Decide.{decLt}
 use lib.ListN.{length, take, getD, replicate, length-append, length-replicate, getD-replicate, List·getD-append, List·getD-eq-default}
 use lib.Seq.{length-take-le, getD-take, getD-append-add}
-use Rattle.arith.specs.Sum.{Each}
 use Rattle.knapsack.specs.Ranges.{blank}
 use Rattle.knapsack.specs.declared.Verdict.the-variants.{Accepted}
 use Rattle.model.specs.declared.Model.{Model}
 use Rattle.model.specs.declared.Side.{Side}
 use Rattle.model.specs.declared.Side.the-variants.{Lower, Upper}
-use Rattle.model.specs.Records.{itemAt, outside, badFigure, crosses, verdict}
-use Rattle.model.proofs.Records.{Unfaulted, unfaulted, unrefused}
-use Rattle.sheet.specs.declared.Reading.{Reading}
+use Rattle.model.specs.Records.{itemAt, verdict}
+use Rattle.model.proofs.Records.{unfaulted, unrefused}
 use Rattle.sheet.specs.Sections.{sectionText}
 use Rattle.sheet.specs.Reading.{limit, items, wordOf, limitForm, itemForm, boundForm, readSheet}
 use Rattle.sheet.specs.Printing.{upTo, sideOf, boundAt, boundsUpTo, sideText, printing, Tidy, SheetOf}

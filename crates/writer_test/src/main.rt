@@ -21,7 +21,6 @@ use trials::make;
 use trials::print::print;
 use trials::print::print_field;
 ghost use mathlib.Core.Path.{_≡_};
-ghost use Prim.Native.Nat.{_≤_};
 ghost use lib.ListN.{length};
 
 // A buffer of '#', of which the first bytes were lent, and what was told.

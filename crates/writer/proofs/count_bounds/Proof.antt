@@ -1,11 +1,10 @@
 -- `writer::count_bounds` meets its contract: the present bounds of the first k items are counted.
-use mathlib.Core.Path.{_≡_, refl, sym, ap, _∙_}
+use mathlib.Core.Path.{_≡_, refl, _∙_}
 use Prim.Native.Nat.{suc, _-_, _≤_}
 use native.Mathlib.Numerals.{add-one}
 use native.Mathlib.Omega.{arith}
 use lib.ListN.{length}
 use borrow.Author.Needs.{needs}
-use Rattle.knapsack.specs.declared.Bound.{Bound}
 use Rattle.model.proofs.Records.{unfaulted}
 use Rattle.sheet.specs.Printing.{boundAt, boundsUpTo}
 use Rattle.sheet.proofs.Making.{bounds-few}

@@ -1,11 +1,10 @@
 -- `writer::put_bound_lines` meets its contract: the lines of the first k items stand in the buffer.
-use mathlib.Core.Path.{_≡_, refl, sym, ap, _∙_}
+use mathlib.Core.Path.{_≡_, refl, sym}
 use Prim.Native.Nat.{_-_, _*_, _≤_}
 use native.Mathlib.Numerals.{add-one}
 use native.Mathlib.Omega.{arith}
 use lib.ListN.{length}
 use borrow.Author.Needs.{needs}
-use Rattle.knapsack.specs.declared.Bound.{Bound}
 use Rattle.model.proofs.Records.{unfaulted}
 use Rattle.sheet.specs.Printing.{boundAt, boundsUpTo}
 use Rattle.text.specs.Buffer.{Put}
