@@ -291,7 +291,7 @@ fn show_chosen() {
         make::record_of(100000001, 1, all_places(x)),
     );
     show(b"refused, figures", make::one(0, rubbish()));
-    show(b"refused, crossing", make::one(0, make::held(1, 1, 1, 0)));
+    show(b"bounds that cross", make::one(0, make::held(1, 1, 1, 0)));
 }
 
 fn main() {
