@@ -25,14 +25,15 @@
 #define CHARGE_ROOM 1440
 #define CHARGE_STACK 65536
 
-/* Why a sheet is refused. */
+/* Why a sheet is refused, or not written. */
 enum charge_refusal {
     CHARGE_ACCEPTED = 0,     /* it is not */
     CHARGE_TOO_LONG = 1,     /* longer than CHARGE_SHEET bytes; told with line 0 */
     CHARGE_BAD_FORM = 2,     /* a line not in its form, or missing; or something after the last section */
     CHARGE_BAD_COUNT = 3,    /* capacities not 1, items not 1 to 16, or more bounds than items */
     CHARGE_OUT_OF_RANGE = 4, /* a figure */
-    CHARGE_BAD_NUMBER = 5    /* an item number that does not exist, or does not rise */
+    CHARGE_BAD_NUMBER = 5,   /* an item number that does not exist, or does not rise */
+    CHARGE_SHORT_BUFFER = 11 /* charge_write: out is shorter than the sheet; told with line 0 */
 };
 
 #ifdef __cplusplus
@@ -48,6 +49,10 @@ uint64_t charge_read(const uint8_t *sheet, size_t length, uint64_t *line);
 /* What `charge` prints for a sheet, at the start of out, and its length; there is no closing zero byte.
    0, and no byte changes, if out is shorter than the text (01's refusal 11): no reply is empty. */
 size_t charge_plan(const uint8_t *sheet, size_t length, uint8_t *out, size_t room);
+
+/* Reads a sheet and writes what was read at the start of out, to save it: an accepted sheet comes back byte by byte, in length bytes, and
+   CHARGE_ACCEPTED is told. Else no byte changes: the sheet's own refusal is told, then CHARGE_SHORT_BUFFER; *line gets its line, or 0. */
+uint64_t charge_write(const uint8_t *sheet, size_t length, uint8_t *out, size_t room, uint64_t *line);
 
 /* How many steps the search takes for a sheet; 0 if it is refused or needs no search. */
 uint64_t charge_steps(const uint8_t *sheet, size_t length);

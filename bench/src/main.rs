@@ -12,6 +12,7 @@ mod picture;
 mod problem;
 mod progress;
 mod race;
+mod reading;
 mod rivals;
 mod speed;
 mod stats;
@@ -52,7 +53,7 @@ fn usage() -> ! {
 
 /// The commands that stand there; compare and speed if none does.
 fn commands(a: &mut Arguments) -> Vec<&'static str> {
-    let mut named = ["compare", "speed", "self", "hunt", "reply"].to_vec();
+    let mut named = ["compare", "speed", "reading", "self", "hunt", "reply"].to_vec();
     named.retain(|word| a.word(word));
     if named.is_empty() {
         named = vec!["compare", "speed"];
@@ -89,6 +90,7 @@ fn main() {
         good &= match command {
             "compare" => compare::compare(seed, sheets.unwrap_or(choose(5000, 120_000)), steps.unwrap_or(2_000_000)),
             "speed" => speed::speed(&speed),
+            "reading" => reading::reading(seed, choose(200, 2000)),
             "self" => trial::trial(seed, sheets.unwrap_or(choose(2000, 20_000))),
             "hunt" => hunt::hunt(seed, rounds, bounded),
             _ => rivals::reply(),

@@ -2,22 +2,23 @@
 -- after-hit, after-miss, after-end: what stands at a place decides afterByte.
 -- word-more, word-not, word-done: afterWord, a byte of the word at a time.
 -- end-here, end-later, end-none: firstEnd, a byte of the text at a time; end-within: where it stands.
+-- end-split: firstEnd, some bytes of the text at a time.
 -- end-first, end-nowhere: what firstEnd means.
 -- ends-before, ends-past, ends-none: how many bytes 10 there are before a place, by the first one.
 -- closed-last, closed-more, closed-none: closedLine, a line at a time; closed-within, asked-within: where it stands.
-use mathlib.Core.Path.{_≡_, refl, sym, _∙_}
+use mathlib.Core.Path.{_≡_, refl, sym, ap, _∙_}
 use mathlib.Core.Bool.{Bool, true, false, cond}
-use mathlib.Core.List.{List, [], _∷_}
+use mathlib.Core.List.{List, [], _∷_, _++_}
 use Prim.Native.Nat.{ℕ, zero, suc, _+_, _-_, _≤_, _<_}
 use native.Mathlib.Omega.{arith}
 use native.Mathlib.Decide.{decLt}
 use borrow.Author.Tests.{eq-eqb, ne-eqb}
 use lib.Dec.{eqb, ltb}
-use lib.ListN.{length-drop, length, take, drop, getD, List·getD-eq-default, drop-of-length-le}
-use lib.Seq.{drop-cons, drop-drop}
+use lib.ListN.{length-drop, take-append-drop, length, take, drop, getD, List·getD-eq-default, drop-of-length-le}
+use lib.Seq.{drop-cons, drop-drop, length-take-le}
 use Rattle.lines.specs.declared.scan.Place.{Place}
 use Rattle.lines.specs.declared.scan.Place.the-variants.{Nothing, At}
-use Rattle.lines.specs.Places.{afterByte, afterWord, firstEnd, ends, closedLine, tooLong, closedOr, askedLine}
+use Rattle.lines.specs.Places.{afterByte, afterWord, onPlace, firstEnd, ends, closedLine, tooLong, closedOr, askedLine}
 use Rattle.lines.specs.declared.scan.Span.{Span}
 use Rattle.lines.specs.declared.scan.Span.the-variants.{Nothing as NoLine, Line}
 use Rattle.lines.specs.declared.scan.Asked.the-variants.{Refused as NotAsked, Line as AskedLine}
@@ -62,6 +63,23 @@ end-later s at h ne = rw (drop-cons s at 0 h, ne-eqb _ _ ne)
 pub end-none : (s : List ℕ) (at : ℕ) → length s ≤ at → firstEnd at (drop at s) ≡ Nothing
 unfolding firstEnd
 end-none s at h = rw (drop-of-length-le s h)
+
+end-append : (l r : List ℕ) (at : ℕ) → firstEnd at (l ++ r) ≡ onPlace (firstEnd at l) (firstEnd (at + length l) r) (λ e. At e)
+unfolding firstEnd
+end-append [] r at = let n : at + 0 ≡ at = omega arith in rw n
+end-append (b ∷ l) r at = go (eqb b 10) (end-append l r (suc at))
+  where
+    go : (t : Bool) → firstEnd (suc at) (l ++ r) ≡ onPlace (firstEnd (suc at) l) (firstEnd (suc at + length l) r) (λ e. At e) →
+        cond t (At at) (firstEnd (suc at) (l ++ r)) ≡ onPlace (cond t (At at) (firstEnd (suc at) l)) (firstEnd (at + suc (length l)) r) (λ e. At e)
+    go true ih = refl
+    go false ih = let n : at + suc (length l) ≡ suc at + length l = omega arith in rw n ih
+
+-- in the k bytes from the place on, or else behind them
+pub end-split : (s : List ℕ) (at k : ℕ) → at + k ≤ length s →
+    firstEnd at (drop at s) ≡ onPlace (firstEnd at (take k (drop at s))) (firstEnd (at + k) (drop (at + k) s)) (λ e. At e)
+end-split s at k h =
+    let n : length (take k (drop at s)) ≡ k = length-take-le k (drop at s) (simp length-drop (omega arith)) in
+    ap (firstEnd at) (sym (take-append-drop k (drop at s))) ∙ end-append (take k (drop at s)) (drop k (drop at s)) at ∙ rw (n, drop-drop k at s)
 
 -- no place is a place
 pub nowhere : {A : Type 0} {n : ℕ} → Nothing ≡ At n → A

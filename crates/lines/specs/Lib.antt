@@ -1,4 +1,5 @@
 pub mod Places
+pub mod Blocks
 pub mod Numbers
 pub mod Lines
 pub mod Layout

@@ -2,6 +2,7 @@
 // then what its values must be. A line's answer is an enum: its values and the place behind it, or the number of its refusal.
 pub mod scan; // places, words, line ends; the part that holds a line
 pub mod number; // numbers of any length
+mod block; // eight bytes at a time
 
 use crate::number::Field;
 use crate::number::Range;

@@ -1,4 +1,7 @@
 // Places in a text, and its lines: paper 01, "The sheet", the part that holds a line.
+use crate::block::block_at;
+use crate::block::first_hit;
+use crate::block::hits_of;
 use knapsack::Refusal;
 use knapsack::Verdict;
 ghost use mathlib.Core.Path.{_≡_};
@@ -26,8 +29,8 @@ pub enum Asked {
     Line(usize, usize),
 }
 
-// The first byte 10 from a place on.
-pub fn first_line_end(s: &[u8], from: usize) -> Place
+// The first byte 10 from a place on, a byte at a time: for the last bytes, which fill no block.
+fn line_end_in_tail(s: &[u8], from: usize) -> Place
     ensures { λ r. ⌜ r ≡ firstEnd from (drop from (now (s .entry))) ⌝ }
 {
     let mut at = from;
@@ -38,6 +41,24 @@ pub fn first_line_end(s: &[u8], from: usize) -> Place
         at += 1;
     }
     Place::Nothing
+}
+
+// The first byte 10 from a place on. Up to the last seven bytes it goes a block at a time; the test by a difference cannot overflow.
+pub fn first_line_end(s: &[u8], from: usize) -> Place
+    ensures { λ r. ⌜ r ≡ firstEnd from (drop from (now (s .entry))) ⌝ }
+{
+    if s.len() < from {
+        return Place::Nothing;
+    }
+    let mut at = from;
+    while 8 <= s.len() - at {
+        let m = hits_of(block_at(s, at));
+        if m != 0 {
+            return Place::At(at + first_hit(m));
+        }
+        at += 8;
+    }
+    line_end_in_tail(s, at)
 }
 
 // The place behind a byte, if it stands at the place.

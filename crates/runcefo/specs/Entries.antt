@@ -2,6 +2,9 @@
 --   toldNumber v       the number of a refusal, 0 where there is none
 --   toldLine v         the line of a refusal, 0 where there is none
 --   lengthOf w         how long the text is that was handed over, 0 where none was
+--   listedVerdict w    what is told of a text, as a verdict
+--   saved s b          the verdict of rewriting the sheet s into the buffer b: that of s, or refusal 11 where b is shorter
+--   left s b           the buffer afterwards: the sheet and the bytes behind it, or the buffer as it was
 --   StepsAs v m n      n steps are those of the search for the record m with that verdict; 0 where it is refused
 --   Steps r n          n steps are those of the search for what was read
 --   replyText s a      the text of an answer to the sheet
@@ -14,7 +17,7 @@ use Rattle.knapsack.specs.declared.Verdict.{Verdict}
 use Rattle.knapsack.specs.declared.Verdict.the-variants.{Accepted, Refused}
 use Rattle.text.specs.declared.Listed.{Listed}
 use Rattle.text.specs.declared.Listed.the-variants.{Written, Refused as NotWritten}
-use Rattle.text.specs.Buffer.{told, filled}
+use Rattle.text.specs.Buffer.{noted, told, filled}
 use Rattle.listing.specs.Printing.{printed}
 use Rattle.model.specs.declared.Model.{Model}
 use Rattle.model.specs.Records.{plainOf}
@@ -23,6 +26,7 @@ use Rattle.planner.specs.Outcomes.{Solves}
 use Rattle.replies.specs.Replies.{Answered}
 use Rattle.sheet.specs.declared.Reading.{Reading}
 use Rattle.sheet.specs.Reading.{readSheet}
+use Rattle.writer.specs.Writing.{onAccepted}
 
 abbrev pub toldNumber : Verdict → ℕ
 toldNumber Accepted = 0
@@ -35,6 +39,16 @@ toldLine (Refused f) = f .line
 abbrev pub lengthOf : Listed → ℕ
 lengthOf (Written n) = n
 lengthOf (NotWritten f) = 0
+
+abbrev pub listedVerdict : Listed → Verdict
+listedVerdict (Written n) = Accepted
+listedVerdict (NotWritten f) = Refused f
+
+abbrev pub saved : List ℕ → List ℕ → Verdict
+saved s b = listedVerdict (onAccepted (readSheet s .verdict) noted (told s b))
+
+abbrev pub left : List ℕ → List ℕ → List ℕ
+left s b = onAccepted (readSheet s .verdict) (λ f. b) (filled s b)
 
 abbrev pub StepsAs : Verdict → Model → ℕ → Type 0
 StepsAs Accepted m n = (r : Solved) × (Solves (plainOf m) r × (n ≡ r .steps))

@@ -10,11 +10,12 @@ use sheet::read;
 use text::Listed;
 use text::ROOM;
 use text::hand_over;
+use writer::rewrite_sheet;
 ghost use mathlib.Core.Path.{_≡_};
 ghost use Rattle.knapsack.specs.declared.Verdict.the-variants.{Accepted};
 ghost use Rattle.model.specs.Records.{plainOf, FiguresInRange};
 ghost use Rattle.sheet.specs.Reading.{readSheet};
-ghost use Rattle.runcefo.specs.Entries.{toldNumber, toldLine, lengthOf, Plans, Steps};
+ghost use Rattle.runcefo.specs.Entries.{toldNumber, toldLine, lengthOf, listedVerdict, Plans, Steps, saved, left};
 
 // 01's number of a refusal, 0 where there is none.
 fn told_number(v: Verdict) -> u64
@@ -43,6 +44,16 @@ fn length_of(w: Listed) -> usize
     match w {
         Listed::Written(n) => n,
         Listed::Refused(_) => 0,
+    }
+}
+
+// What is told of a text, as a verdict: a text that was handed over is accepted.
+fn listed_verdict(w: Listed) -> Verdict
+    ensures { λ r. ⌜ r ≡ listedVerdict w ⌝ }
+{
+    match w {
+        Listed::Written(_) => Verdict::Accepted,
+        Listed::Refused(f) => Verdict::Refused(f),
     }
 }
 
@@ -78,6 +89,20 @@ pub extern "C" fn charge_read(sheet: &[u8], line: &mut u64) -> u64
 {
     let r = read(sheet);
     let v = r.verdict;
+    *line = told_line(v);
+    told_number(v)
+}
+
+// A sheet is read, and the sheet of what was read put at the start of a lent buffer, as long as it was: 0. A refusal's number, with its line,
+// and no byte changes, where it is refused or, refusal 11, the buffer is shorter.
+#[no_mangle]
+pub extern "C" fn charge_write(sheet: &[u8], out: &mut [u8], line: &mut u64) -> u64
+    ensures { λ r. ⌜ r ≡ toldNumber (saved (now (sheet .entry)) (now (out .entry))) ⌝ }
+    ensures { λ r. ⌜ now (line .exit) ≡ toldLine (saved (now (sheet .entry)) (now (out .entry))) ⌝ }
+    ensures { λ r. ⌜ now (out .exit) ≡ left (now (sheet .entry)) (now (out .entry)) ⌝ }
+{
+    let w = rewrite_sheet(sheet, out);
+    let v = listed_verdict(w);
     *line = told_line(v);
     told_number(v)
 }

@@ -27,20 +27,20 @@ use Rattle.sheet.proofs.Making.{upto-length, bounds-few}
 
 -- ---- lines
 
-number-short : (n : ℕ) (z : ℤ) → n < 1000000000 → outside n z ≡ false → length (integer z) ≤ 10
+pub number-short : (n : ℕ) (z : ℤ) → n < 1000000000 → outside n z ≡ false → length (integer z) ≤ 10
 number-short n z h e = integer-length 8 z (omega (arith, ltb-false n (natAbs z) e))
 
 heading-short : (w : List ℕ) (n : ℕ) → length w ≡ 5 → n ≤ 16 → length (headingText w n) ≤ 16
 heading-short w n e h = simp length-append (omega (arith, decimal-length 8 n (omega arith)))
 
-item-short : (i : Item) → badFigure i ≡ false → length (itemText i) ≤ 24
+pub item-short : (i : Item) → badFigure i ≡ false → length (itemText i) ≤ 24
 item-short i h =
     let b = bare-of i h in
     let w = number-short 1000 (i .weight) (omega arith) (b .weight) in
     let c = number-short 10000 (i .price) (omega arith) (b .price) in
     simp length-append (omega arith)
 
-bound-short : (b : Bounding) → b .number ≤ 16 → outside 10000 (b .bound) ≡ false → length (boundText b) ≤ 22
+pub bound-short : (b : Bounding) → b .number ≤ 16 → outside 10000 (b .bound) ≡ false → length (boundText b) ≤ 22
 bound-short b h f =
     let n = decimal-length 8 (b .number) (omega arith) in
     let v = number-short 10000 (b .bound) (omega arith) f in

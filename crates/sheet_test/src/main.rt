@@ -1,9 +1,11 @@
 // Reads sheets from standard input and prints what the reader gives for each, and the part that holds one of its lines.
 // The input is a row of records: four digits, the sheet's length; three digits, a line's number; the sheet; each behind a blank, and a byte 10.
+// The writer has to give the very bytes of each sheet that is accepted.
 // Good sheets, every refusal at every place, two faults on one line, long numbers, bytes that are no text, 4,096 and 4,097 bytes.
 use knapsack::Refusal;
 use knapsack::Verdict;
 use libc::STDIN_FILENO;
+use text::Listed;
 use trials::print::print;
 use trials::print::print_field;
 use trials::print::print_number;
@@ -16,6 +18,30 @@ fn print_refusal(refusal: Refusal) {
     print_field(refusal.line);
 }
 
+fn same_bytes(a: &[u8], b: &[u8]) -> bool {
+    let mut i: usize = 0;
+    while i < a.len() {
+        if b.len() <= i {
+            return false;
+        }
+        if a[i] != b[i] {
+            return false;
+        }
+        i += 1;
+    }
+    true
+}
+
+// Whether the writer gives the very bytes for what was read.
+fn comes_back(sheet: &[u8]) -> bool {
+    let mut buffer = io::large_buffer();
+    let told = writer::rewrite_sheet(sheet, &mut buffer);
+    match told {
+        Listed::Written(n) => n == sheet.len() && same_bytes(sheet, &buffer),
+        Listed::Refused(_) => false,
+    }
+}
+
 fn print_reading(sheet: &[u8]) {
     let r = sheet::read(sheet);
     let verdict = r.verdict;
@@ -24,6 +50,9 @@ fn print_reading(sheet: &[u8]) {
         Verdict::Accepted => {
             print(b" accepted ");
             print_problem(model);
+            if !comes_back(sheet) {
+                print(b" and is not written so");
+            }
         }
         Verdict::Refused(refusal) => print_refusal(refusal),
     }

@@ -1,0 +1,58 @@
+-- `writer::put_item` meets its contract: the mark, the weight and the price.
+use native.Mathlib.Omega.{arith}
+use mir.Syntax.{w64}
+use mir.Val.{SFits}
+use mir.Facts.{toZ-ofZ}
+use Rattle.text.proofs.Buffers.{puts}
+use Rattle.sheet.proofs.Lengths.{item-short}
+use borrow.Author.Needs.{needs}
+use Rattle.writer.proofs.put_item.Statement.{statement}
+use Rattle.writer.proofs.put_item.Tie as tie
+
+figures-fit : (c : tie.After-mark-byte) →
+    SFits w64 (c .before .before .before .before .before .args .i .weight) × SFits w64 (c .before .before .before .before .before .args .i .price)
+figures-fit c = (search needs, search needs)
+
+mark-byte-requires : tie.Need-mark-byte-requires
+mark-byte-requires c κs = search needs
+
+put-byte-requires : tie.Need-put-byte-requires
+put-byte-requires c κs = search needs
+
+put-byte-requires-2 : tie.Need-put-byte-requires-2
+put-byte-requires-2 c κs = search needs
+
+put-integer-requires : tie.Need-put-integer-requires
+put-integer-requires c κs = search needs
+
+put-integer-requires-2 : tie.Need-put-integer-requires-2
+put-integer-requires-2 c κs = search needs
+
+same-length : tie.Need-same-length
+same-length c = search needs
+
+returns : tie.Need-returns
+returns c =
+    let p = c .before .before in
+    let w = p .before .before .before .before in
+    let b = w .before .before .before .before in
+    let m = b .before .before .before .before in
+    let k = m .before in
+    let s = k .before .before .before .before .before in
+    let h = figures-fit k in
+    let f = puts (omega arith) (puts (omega arith) (m .put-byte .ensures) (b .put-byte2 .ensures))
+    (puts (omega arith) (w .put-integer .ensures) (p .put-integer2 .ensures)) in
+    let g = rw (k .mark-byte .ensures, toZ-ofZ (h .0), toZ-ofZ (h .1)) at f in
+    record { short = item-short (s .args .i) (s .pre .1); next = g .next; bytes = g .bytes }
+
+pub put-item-spec : {M : Type 1} → statement M
+put-item-spec =
+    tie.close
+    (tie.spec
+    mark-byte-requires
+    put-byte-requires
+    put-byte-requires-2
+    put-integer-requires
+    put-integer-requires-2
+    same-length
+    returns)

@@ -1,0 +1,49 @@
+-- `writer::put_sheet` meets its contract: the sections, one behind the other.
+use native.Mathlib.Omega.{arith}
+use mir.Syntax.{w64}
+use mir.Val.{SFits}
+use mir.Facts.{toZ-ofZ}
+use Rattle.text.proofs.Buffers.{puts}
+use Rattle.sheet.specs.Printing.{printing}
+use borrow.Author.Needs.{needs}
+use Rattle.writer.proofs.put_sheet.Statement.{statement}
+use Rattle.writer.proofs.put_sheet.Tie as tie
+
+capacity-fits : (c : tie.After-put-limit) → SFits w64 (c .before .before .before .before .args .m .capacity)
+capacity-fits c = search needs
+
+put-limit-requires : tie.Need-put-limit-requires
+put-limit-requires c κs = search needs
+
+put-items-requires : tie.Need-put-items-requires
+put-items-requires c κs = search needs
+
+put-side-requires : tie.Need-put-side-requires
+put-side-requires c κs = search needs
+
+put-side-requires-2 : tie.Need-put-side-requires-2
+put-side-requires-2 c κs = search needs
+
+same-length : tie.Need-same-length
+same-length c = search needs
+
+returns : tie.Need-returns
+unfolding printing
+returns c =
+    let u = c .before .before in
+    let l = u .before .before .before .before in
+    let i = l .before .before .before .before in
+    let b = i .before .before .before .before in
+    let f = puts (omega arith) (i .put-items .ensures) (puts (omega arith) (l .put-side .ensures) (u .put-side2 .ensures)) in
+    rw (toZ-ofZ (capacity-fits b)) at (puts (omega arith) (b .put-limit .ensures) f)
+
+pub put-sheet-spec : {M : Type 1} → statement M
+put-sheet-spec =
+    tie.close
+    (tie.spec
+    put-limit-requires
+    put-items-requires
+    put-side-requires
+    put-side-requires-2
+    same-length
+    returns)

@@ -1,0 +1,35 @@
+-- `writer::put_side` meets its contract: the heading and the lines.
+use native.Mathlib.Omega.{arith}
+use Rattle.text.proofs.Buffers.{puts}
+use borrow.Author.Needs.{needs}
+use Rattle.writer.proofs.put_side.Statement.{statement}
+use Rattle.writer.proofs.put_side.Tie as tie
+
+count-bounds-requires : tie.Need-count-bounds-requires
+count-bounds-requires c κs = search needs
+
+put-side-heading-requires : tie.Need-put-side-heading-requires
+put-side-heading-requires c κs = search needs
+
+put-bound-lines-requires : tie.Need-put-bound-lines-requires
+put-bound-lines-requires c κs = search needs
+
+same-length : tie.Need-same-length
+same-length c = search needs
+
+returns : tie.Need-returns
+returns c =
+    let l = c .before .before in
+    let h = l .before .before .before .before in
+    let n = h .before .before in
+    puts (omega arith) (rw (n .count-bounds .ensures) at (h .put-side-heading .ensures)) (l .put-bound-lines .ensures)
+
+pub put-side-spec : {M : Type 1} → statement M
+put-side-spec =
+    tie.close
+    (tie.spec
+    count-bounds-requires
+    put-side-heading-requires
+    put-bound-lines-requires
+    same-length
+    returns)

@@ -1,0 +1,305 @@
+// Tries the writer: write, read, write. What was written is read again as the same problem, and what was read is written as the same bytes;
+// a buffer of just the sheet's length is enough, a byte less is refusal 11 and changes nothing, and behind a sheet the bytes stay.
+//   drawn      records from the seeds that are printed, with rubbish beyond the count
+//   longest    the longest sheet there is
+//   refused    records out of range, also where the buffer is short
+// `disagreements` counts the records for which one of these fails.
+use knapsack::Bound;
+use knapsack::Item;
+use knapsack::Mark;
+use knapsack::Verdict;
+use model::Model;
+use model::setters;
+use sheet::Reading;
+use text::Listed;
+use trials::count::one_more;
+use trials::count::print_count;
+use trials::draw::Spans;
+use trials::draw::drawn_problem;
+use trials::draw::small;
+use trials::make;
+use trials::print::print;
+use trials::print::print_field;
+ghost use mathlib.Core.Path.{_≡_};
+ghost use lib.ListN.{length};
+
+// A buffer of '#', of which the first bytes were lent, and what was told.
+struct Kept {
+    bytes: [u8; 1500],
+    told: Listed,
+}
+
+fn hashes() -> [u8; 1500]
+    ensures { λ r. ⌜ length r ≡ 1500 ⌝ }
+{
+    [b'#'; 1500]
+}
+
+fn write_in_part(m: Model, out: &mut [u8], size: usize) -> Listed {
+    if out.len() < size {
+        return writer::write_sheet(m, out);
+    }
+    writer::write_sheet(m, &mut out[..size])
+}
+
+fn written(m: Model, size: usize) -> Kept {
+    let mut bytes = hashes();
+    let told = write_in_part(m, &mut bytes, size);
+    Kept {
+        bytes: bytes,
+        told: told,
+    }
+}
+
+// ---- comparing
+
+fn same_from(a: &[u8], b: &[u8], from: usize) -> bool {
+    let mut i = from;
+    while i < a.len() {
+        if b.len() <= i {
+            return false;
+        }
+        if a[i] != b[i] {
+            return false;
+        }
+        i += 1;
+    }
+    true
+}
+
+fn same_bytes(k: Kept, o: Kept) -> bool {
+    let a = k.bytes;
+    let b = o.bytes;
+    same_from(&a, &b, 0)
+}
+
+// From a place on nothing was written.
+fn untouched(k: Kept, from: usize) -> bool {
+    let a = k.bytes;
+    let b = hashes();
+    same_from(&a, &b, from)
+}
+
+fn is_written(k: Kept, n: usize) -> bool {
+    let t = k.told;
+    match t {
+        Listed::Written(l) => l == n,
+        Listed::Refused(_) => false,
+    }
+}
+
+fn is_refused(k: Kept, number: u64) -> bool {
+    let t = k.told;
+    match t {
+        Listed::Written(_) => false,
+        Listed::Refused(f) => f.number == number && f.line == 0,
+    }
+}
+
+fn length_of(k: Kept) -> usize {
+    let t = k.told;
+    match t {
+        Listed::Written(l) => l,
+        Listed::Refused(_) => 0,
+    }
+}
+
+fn is_continuous(m: Mark) -> bool {
+    match m {
+        Mark::Integer => false,
+        Mark::Continuous => true,
+    }
+}
+
+fn same_bound(a: Bound, b: Bound) -> bool {
+    match a {
+        Bound::Absent => knapsack::is_absent(b),
+        Bound::At(v) => match b {
+            Bound::Absent => false,
+            Bound::At(w) => v == w,
+        },
+    }
+}
+
+fn same_item(x: Item, y: Item) -> bool {
+    let m = x.mark;
+    let n = y.mark;
+    if is_continuous(m) != is_continuous(n) {
+        return false;
+    }
+    if x.weight != y.weight || x.price != y.price {
+        return false;
+    }
+    let l = x.lower;
+    let u = x.upper;
+    let k = y.lower;
+    let v = y.upper;
+    same_bound(l, k) && same_bound(u, v)
+}
+
+// The item that the reader leaves at a place: the record's, or a blank one beyond the count.
+fn item_read(m: Model, k: usize) -> Item {
+    if k < m.count && k < 16 {
+        return m.items[k];
+    }
+    knapsack::blank_item()
+}
+
+// Whether o is m as the reader fills it.
+fn is_same(m: Model, o: Model) -> bool {
+    if m.count != o.count || m.capacity != o.capacity {
+        return false;
+    }
+    let mut k: usize = 0;
+    while k < 16 {
+        let y = o.items[k];
+        if !same_item(item_read(m, k), y) {
+            return false;
+        }
+        k += 1;
+    }
+    true
+}
+
+// ---- write, read, write
+
+fn read_first(s: &[u8], n: usize) -> Reading {
+    if s.len() < n {
+        return sheet::read(s);
+    }
+    sheet::read(&s[..n])
+}
+
+// What was written is read as the same problem, and what was read is written as the same bytes.
+fn comes_back(m: Model, k: Kept) -> bool {
+    let bytes = k.bytes;
+    let n = length_of(k);
+    let r = read_first(&bytes, n);
+    let v = r.verdict;
+    let o = r.model;
+    match v {
+        Verdict::Accepted => is_same(m, o) && same_bytes(k, written(o, 1500)),
+        Verdict::Refused(_) => false,
+    }
+}
+
+// Buffers of just the sheet's length, and of a byte less.
+fn fits(m: Model, k: Kept) -> bool {
+    let n = length_of(k);
+    if n == 0 {
+        return false;
+    }
+    let exact = written(m, n);
+    let short = written(m, n - 1);
+    is_written(exact, n) && same_bytes(k, exact) && is_refused(short, 11) && untouched(short, 0)
+}
+
+fn holds(m: Model) -> bool {
+    let k = written(m, 1500);
+    untouched(k, length_of(k)) && comes_back(m, k) && fits(m, k)
+}
+
+// ---- drawn records
+
+// Out of range, with bounds that cross: no entry looks at it beyond the count.
+fn rubbish() -> Item {
+    make::held(5000, -70000, 1, -1)
+}
+
+fn print_drawn(seed: u64, problems: u64, n: usize, s: Spans) {
+    let mut state = seed;
+    let mut wrong: u64 = 0;
+    let mut k: u64 = 0;
+    while k < problems {
+        let d = drawn_problem(state, n, s);
+        let m = d.problem;
+        state = d.state;
+        wrong = one_more(wrong, !holds(with_rubbish(m)));
+        k += 1;
+    }
+    print_count(b"drawn, seed ", seed);
+    print_count(b", problems ", problems);
+    print_count(b", items ", n as u64);
+    print_count(b"; disagreements ", wrong);
+    print(b"\n");
+}
+
+// The last place is rubbish where it is no item.
+fn with_rubbish(m: Model) -> Model {
+    if m.count < 16 {
+        return setters::with_item(m, 15, rubbish());
+    }
+    m
+}
+
+// Figures over the whole of their ranges.
+fn wide(absent: u64) -> Spans {
+    Spans {
+        weight: 1000,
+        price: 10000,
+        bound: 10000,
+        capacity: 10000,
+        unit: 10000,
+        absent: absent,
+        loose: 2,
+    }
+}
+
+// ---- chosen records
+
+fn print_told(k: Kept) {
+    let t = k.told;
+    match t {
+        Listed::Written(n) => {
+            print(b" written");
+            print_field(n as u64);
+        }
+        Listed::Refused(f) => {
+            print(b" refused");
+            print_field(f.number);
+            print_field(f.line);
+        }
+    }
+}
+
+fn show(name: &[u8], m: Model) {
+    print(name);
+    print(b":");
+    let k = written(m, 1500);
+    print_told(k);
+    if holds(m) {
+        print(b", comes back");
+    }
+    print(b"; in no bytes:");
+    print_told(written(m, 0));
+    print(b"\n");
+}
+
+fn all_places(x: Item) -> [Item; 16] {
+    [x; 16]
+}
+
+fn show_chosen() {
+    let x = make::held(-1000, -10000, -10000, -10000);
+    show(b"longest", make::record_of(-100000000, 16, all_places(x)));
+    let free = make::free(0, 0);
+    show(b"shortest", make::record_of(0, 1, all_places(free)));
+    show(b"refused, count 0", make::record_of(0, 0, all_places(x)));
+    show(b"refused, count 17", make::record_of(0, 17, all_places(x)));
+    show(
+        b"refused, capacity",
+        make::record_of(100000001, 1, all_places(x)),
+    );
+    show(b"refused, figures", make::one(0, rubbish()));
+    show(b"bounds that cross", make::one(0, make::held(1, 1, 1, 0)));
+}
+
+fn main() {
+    print_drawn(1, 200, 1, small(1, 2));
+    print_drawn(2, 200, 3, small(2, 2));
+    print_drawn(3, 200, 5, wide(0));
+    print_drawn(4, 200, 11, wide(2));
+    print_drawn(5, 200, 16, wide(1));
+    print_drawn(6, 100, 16, wide(0));
+    show_chosen();
+}
