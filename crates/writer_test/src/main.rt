@@ -242,6 +242,7 @@ fn wide(absent: u64) -> Spans {
         unit: 10000,
         absent: absent,
         loose: 2,
+        crossing: 1,
     }
 }
 
