@@ -1,16 +1,28 @@
-// Reads sheets from standard input and prints what the reader gives for each, and the part that holds one of its lines.
-// The input is a row of records: four digits, the sheet's length; three digits, a line's number; the sheet; each behind a blank, and a byte 10.
-// The writer has to give the very bytes of each sheet that is accepted.
+// Writes records as sheets, edits what was written, and prints what the reader gives for each, and the part that holds one of its lines.
+// A row of the input is a record, `record b n / W a c lower upper / ..`, or a sheet of the record above it: the number of the line to show,
+// and edits (edits.rt) that name parts of the sheet, so that the rows know nothing of the layout around them. Without a number the line
+// of the last edit is shown. The writer has to give the very bytes of each sheet that is accepted.
 // Good sheets, every refusal at every place, two faults on one line, long numbers, bytes that are no text, 4,096 and 4,097 bytes.
+mod edits; // a written sheet, edited
+
+use crate::edits::byte_at;
+use crate::edits::edited;
+use crate::edits::find;
+use crate::edits::past;
 use knapsack::Refusal;
 use knapsack::Verdict;
 use libc::STDIN_FILENO;
 use text::Listed;
+use trials::count::one_more;
+use trials::make::record_of;
 use trials::print::print;
 use trials::print::print_field;
 use trials::print::print_number;
 use trials::print::print_problem;
-ghost use Prim.Native.Nat.{_≤_};
+use trials::read::Number;
+use trials::read::places;
+use trials::read::read_items;
+use trials::read::read_number;
 
 fn print_refusal(refusal: Refusal) {
     print(b" refused");
@@ -78,49 +90,84 @@ fn report(k: u64, sheet: &[u8], line: u64) {
     print_line(sheet, line);
 }
 
-fn digit(b: u8) -> u64
-    ensures { λ r. ⌜ r ≤ 9 ⌝ }
-{
-    if b < 48 {
-        return 0;
-    }
-    if 57 < b {
-        return 0;
-    }
-    (b - 48) as u64
+// The first n bytes.
+fn first(s: &[u8], n: usize) -> &[u8] {
+    if s.len() < n { &s[0..0] } else { &s[..n] }
 }
 
-fn three_digits(a: u8, b: u8, c: u8) -> u64
-    ensures { λ r. ⌜ r ≤ 999 ⌝ }
-{
-    100 * digit(a) + 10 * digit(b) + digit(c)
+// Writes the record of the row at a place.
+fn written(s: &[u8], at: usize, out: &mut [u8]) -> usize {
+    let capacity = read_number(s, find(s, at, b' '));
+    let count = read_number(s, capacity.at);
+    let items = read_items(s, count.at, count.size);
+    let list = items.list;
+    let told = writer::write_sheet(record_of(capacity.value, places(count.size), list), out);
+    match told {
+        Listed::Written(n) => n,
+        Listed::Refused(_) => 0,
+    }
 }
 
-// One record; whether there was one.
-fn record(k: u64) -> bool {
-    let mut head = [0u8; 9];
-    let got = io::read_full(STDIN_FILENO, &mut head);
-    if got < 9 {
-        return false;
-    }
-    let length = 10 * three_digits(head[0], head[1], head[2]) + digit(head[3]);
-    let n = length as usize;
-    let line = three_digits(head[5], head[6], head[7]);
+fn line_shown(at: usize, given: Number, last: u64) -> u64 {
+    if given.at == at { last } else { given.size }
+}
+
+// A row at a place, with edits of a sheet.
+fn report_edited(k: u64, s: &[u8], at: usize, sheet: &[u8]) {
+    let mut out = io::large_buffer();
+    let given = read_number(s, at);
+    let e = edited(s, given.at, sheet, &mut out);
+    report(k, first(&out, e.len), line_shown(at, given, e.line));
+}
+
+fn sheet_row(k: u64, s: &[u8], at: usize, record: usize) {
     let mut buffer = io::large_buffer();
-    io::read_full(STDIN_FILENO, &mut buffer[..n]);
-    report(k, &buffer[..n], line);
-    let mut end = [0u8; 1];
-    io::read_full(STDIN_FILENO, &mut end);
-    true
+    let n = written(s, record, &mut buffer);
+    report_edited(k, s, at, first(&buffer, n));
+}
+
+// The rows up to a place: the number of the next sheet, and the place of the last record.
+struct Rows {
+    k: u64,
+    at: usize,
+    record: usize,
+}
+
+fn one_row(s: &[u8], r: Rows) -> Rows {
+    let next = past(s, find(s, r.at, b'\n'));
+    if byte_at(s, r.at) == b'r' {
+        return Rows {
+            k: r.k,
+            at: next,
+            record: r.at,
+        };
+    }
+    sheet_row(r.k, s, r.at, r.record);
+    Rows {
+        k: one_more(r.k, true),
+        at: next,
+        record: r.record,
+    }
+}
+
+fn all_rows(s: &[u8]) {
+    let mut r = Rows {
+        k: 1,
+        at: 0,
+        record: 0,
+    };
+    let mut k: usize = 0;
+    while k < s.len() {
+        if s.len() <= r.at {
+            return;
+        }
+        r = one_row(s, r);
+        k += 1;
+    }
 }
 
 fn main() {
-    let mut k: u64 = 1;
-    while k < 1000 {
-        if record(k) {
-            k += 1;
-        } else {
-            return;
-        }
-    }
+    let mut buffer = io::large_buffer();
+    let n = io::read_full(STDIN_FILENO, &mut buffer);
+    all_rows(&buffer[..n]);
 }

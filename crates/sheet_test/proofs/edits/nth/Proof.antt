@@ -1,19 +1,23 @@
-use Prim.Native.Nat.{_≤_, _-_}
+-- `sheet_test::edits::nth` ends.
+use Prim.Native.Nat.{_-_}
 use borrow.Author.Needs.{needs}
-use Rattle.sheet_test.proofs.main.Statement.{statement}
-use Rattle.sheet_test.proofs.main.Tie as tie
+use Rattle.sheet_test.proofs.edits.nth.Statement.{statement}
+use Rattle.sheet_test.proofs.edits.nth.Tie as tie
 
 abbrev Inv-loop : tie.InvT-loop
-Inv-loop k₀ k = k ≤ 1000
+Inv-loop s from b n at₀ k₀ at k = Unit {0}
 
 abbrev μ-loop : tie.MeasureT-loop
-μ-loop k₀ k = 1000 - k
+μ-loop s from b n at₀ k₀ at k = n - k
 
 loop-holds : tie.Need-loop-holds Inv-loop μ-loop
 loop-holds c = search needs
 
-record-requires : tie.Need-record-requires Inv-loop μ-loop
-record-requires c κs = search needs
+find-requires : tie.Need-find-requires Inv-loop μ-loop
+find-requires c κs = search needs
+
+past-requires : tie.Need-past-requires Inv-loop μ-loop
+past-requires c κs = search needs
 
 add-k : tie.Need-add-k Inv-loop μ-loop
 add-k c = search needs
@@ -27,19 +31,16 @@ loop-again c = search needs
 returns : tie.Need-returns Inv-loop μ-loop
 returns c = search needs
 
-returns-2 : tie.Need-returns-2 Inv-loop μ-loop
-returns-2 c = search needs
-
-pub main-spec : {M : Type 1} → statement M
-main-spec =
+pub nth-spec : {M : Type 1} → statement M
+nth-spec =
     tie.close
     (tie.spec
     Inv-loop
     μ-loop
     loop-holds
-    record-requires
+    find-requires
+    past-requires
     add-k
     loop-less
     loop-again
-    returns
-    returns-2)
+    returns)
