@@ -31,7 +31,8 @@ pub over-stepped : (s : Instance) (D : ℕ) (x : Point) (N d : ℕ → ℤ) (t :
 over-stepped s D x N d t h k l = over-+ (h k l) (over-int D (pos t *ℤ d k))
 
 pub sum-stepped : (n D : ℕ) (a N d : ℕ → ℤ) (t : ℕ) → sum n (λ k. a k *ℤ steppedᴰ D N d t k) ≡ sum n (λ k. a k *ℤ N k) +ℤ pos (t * D) *ℤ sum n (λ k. a k *ℤ d k)
-sum-stepped n D a N d t = sum-cong n _ _ (λ k l. apart (a k) (N k) (d k)) ∙ sum-lin n (pos 1) (pos (t * D)) (λ k. a k *ℤ N k) (λ k. a k *ℤ d k) ∙ one (sum n (λ k. a k *ℤ N k)) (sum n (λ k. a k *ℤ d k))
+sum-stepped n D a N d t = sum-cong n _ _ (λ k l. apart (a k) (N k) (d k)) ∙ sum-lin n (pos 1) (pos (t * D)) (λ k. a k *ℤ N k) (λ k. a k *ℤ d k) ∙
+    one (sum n (λ k. a k *ℤ N k)) (sum n (λ k. a k *ℤ d k))
   where
     apart : (a n d : ℤ) → a *ℤ (n +ℤ (pos t *ℤ d) *ℤ pos D) ≡ pos 1 *ℤ (a *ℤ n) +ℤ pos (t * D) *ℤ (a *ℤ d)
     apart = split3 _ (λ a b c e f g. simp zed (omega arith))
@@ -60,7 +61,8 @@ ray-stays s D N d r p t = record {
     above = lo (s .item k .lower) (N k) (d k) (r .down k l) (≤ℤ-or-< (pos 0) (d k)) (p .keeps k l .above);
     below = up (s .item k .upper) (N k) (d k) (r .up k l) (≤ℤ-or-< (d k) (pos 0)) (p .keeps k l .below);
   };
-  fits = rw (sum-stepped (s .count) D (weights s) N d t) (lighter (weighsᴰ s N) (s .capacity *ℤ pos D) (sum (s .count) (λ k. weights s k *ℤ d k)) (t * D) (p .fits) (r .light));
+  fits = rw (sum-stepped (s .count) D (weights s) N d t) (lighter (weighsᴰ s N) (s .capacity *ℤ pos D) (sum (s .count) (λ k. weights s k *ℤ d k)) (t * D)
+      (p .fits) (r .light));
 }
   where
     lighter : (w b x : ℤ) (m : ℕ) → w ≤ℤ b → x ≤ℤ pos 0 → (w +ℤ pos m *ℤ x) ≤ℤ b
@@ -82,7 +84,8 @@ ray-stays s D N d r p t = record {
     up (At u) n d f (inl c) h = fall (u *ℤ pos D) n d c h
     up (At u) n d f (inr c) h = subst (λ b. KeepsUpperᴰ D b (n +ℤ (pos t *ℤ d) *ℤ pos D)) (sym (f c)) tt
 
-pub ray-unbounded : (s : Instance) (x : Point) (d : ℕ → ℤ) (i j : ℕ) → i < s .count → j < s .count → d i ≢ pos 0 → d j ≢ pos 0 → ((k : ℕ) → k ≢ i → k ≢ j → d k ≡ pos 0) → Ray s d → Feasible s x → Unbounded s x d
+pub ray-unbounded : (s : Instance) (x : Point) (d : ℕ → ℤ) (i j : ℕ) → i < s .count → j < s .count → d i ≢ pos 0 → d j ≢ pos 0 →
+    ((k : ℕ) → k ≢ i → k ≢ j → d k ≡ pos 0) → Ray s d → Feasible s x → Unbounded s x d
 ray-unbounded s x d i j li lj di dj rest r p = record {
   i = i;
   j = j;
@@ -92,7 +95,8 @@ ray-unbounded s x d i j li lj di dj rest r p = record {
   j-moves = dj;
   others = rest;
   from = p;
-  stays = λ t. bridge-feasible s D (stepped x d t) (steppedᴰ D N d t) D≥1 (over-stepped s D x N d t reads) .1 (ray-stays s D N d r (bridge-feasible s D x N D≥1 reads .0 p) t);
+  stays = λ t. bridge-feasible s D (stepped x d t) (steppedᴰ D N d t) D≥1 (over-stepped s D x N d t reads) .1
+      (ray-stays s D N d r (bridge-feasible s D x N D≥1 reads .0 p) t);
   rises = λ t. over-< D≥1 (over-worth s D x N d t reads) (over-worth s D x N d (suc t) reads) (more D t D≥1 (valueᴰ s N) (valueᴰ s d) (r .gain));
 }
   where

@@ -97,7 +97,12 @@ diff : (B a c : ℕ) → (a - c) + (c - a) ≤ B → (a ≤ B + c) × (c ≤ B +
 diff B a c h = (omega arith, omega arith)
 
 back : (B D e : ℕ) (i : Item) (n : ℤ) → AroundAt B (i .lower) → AroundAt B (i .upper) → Within D i n → B * D < natAbs n → B * D + e ≤ natAbs n → Back D e i n
-back B D e i (pos m) al au k h h′ = record { free = free (i .upper) au (k .below); inside = record { above = lo (i .lower) al; below = up (i .upper) (k .below) }; nearer = near }
+back B D e i (pos m) al au k h h′ = record {
+  free = free (i .upper) au (k .below);
+  inside =
+      record { above = lo (i .lower) al; below = up (i .upper) (k .below) };
+  nearer = near;
+}
   where
     over : (b : ℤ) → natAbs b ≤ B → pos m ≤ℤ (b *ℤ pos D) → ⊥
     over = split _ (λ a c. simp zed (λ r f. omega (arith, mul-le-mul-right D (diff B a c r .0))))
@@ -122,7 +127,12 @@ back B D e i (pos m) al au k h h′ = record { free = free (i .upper) au (k .bel
 
     near : natAbs ((pos m +ℤ negℤ (pos e)) -ℤ pos 0) + e ≤ natAbs (pos m -ℤ pos 0)
     near = simp zed (omega arith)
-back B D e i (negsuc m) al au k h h′ = record { free = free (i .lower) al (k .above); inside = record { above = lo (i .lower) (k .above); below = up (i .upper) au }; nearer = near }
+back B D e i (negsuc m) al au k h h′ = record {
+  free = free (i .lower) al (k .above);
+  inside =
+      record { above = lo (i .lower) (k .above); below = up (i .upper) au };
+  nearer = near;
+}
   where
     over : (b : ℤ) → natAbs b ≤ B → (b *ℤ pos D) ≤ℤ negsuc m → ⊥
     over = split _ (λ a c. simp zed (λ r f. omega (arith, mul-le-mul-right D (diff B a c r .1))))
@@ -240,14 +250,16 @@ module _ (A : ℕ) (B : ℕ → ℕ) (C : ℕ) (s : Instance) (R : ℕ → ℕ) 
   Next N = (N′ : ℕ → ℤ) × Feasibleᴰ s D N′ × (valueᴰ s N ≤ℤ valueᴰ s N′) × (size N′ < size N)
 
   -- one item goes back
-  ease : (N : ℕ → ℤ) → Feasibleᴰ s D N → (i : ℕ) → i < s .count → (e : ℕ) → 1 ≤ e → (b : Back D e (s .item i) (N i)) → KeepsMarkᴰ D (s .item i .mark) (N i +ℤ turn (way (N i)) (negℤ (pos e)))
+  ease : (N : ℕ → ℤ) → Feasibleᴰ s D N → (i : ℕ) → i < s .count → (e : ℕ) → 1 ≤ e → (b : Back D e (s .item i) (N i)) →
+      KeepsMarkᴰ D (s .item i .mark) (N i +ℤ turn (way (N i)) (negℤ (pos e)))
       → (weighsᴰ s N -ℤ turn (way (N i)) (weights s i) *ℤ pos e) ≤ℤ (s .capacity *ℤ pos D) → turn (way (N i)) (prices s i) ≤ℤ pos 0 → Next N
   unfolding size
   ease N p i li e e≥1 b m room loss = (
     bump N i r,
     record {
       keeps = each-bump (λ k. Keepsᴰ D (s .item k)) N i r (s .count) (p .keeps) (record { marked = m; above = b .inside .above; below = b .inside .below });
-      fits = rw (sum-bump (s .count) (weights s) N i r li, turn-mul (way (N i)) (weights s i) (negℤ (pos e))) (less (weighsᴰ s N) (turn (way (N i)) (weights s i)) (s .capacity *ℤ pos D) room);
+      fits = rw (sum-bump (s .count) (weights s) N i r li, turn-mul (way (N i)) (weights s i) (negℤ (pos e)))
+          (less (weighsᴰ s N) (turn (way (N i)) (weights s i)) (s .capacity *ℤ pos D) room);
     },
     rw (sum-bump (s .count) (prices s) N i r li, turn-mul (way (N i)) (prices s i) (negℤ (pos e))) (more (valueᴰ s N) (turn (way (N i)) (prices s i)) loss),
     omega (arith, far-bump (s .count) (λ k. pos 0) N i r e li (b .nearer), e≥1),
@@ -263,16 +275,21 @@ module _ (A : ℕ) (B : ℕ → ℕ) (C : ℕ) (s : Instance) (R : ℕ → ℕ) 
       more = split2 _ (λ a b c f. simp zed (λ h. omega (arith, mul-le-mul-left e h)))
 
   -- a heavy item goes back, and a light one to the same weight
-  swap : (N : ℕ → ℤ) → Feasibleᴰ s D N → (i j : ℕ) → i < s .count → j < s .count → j ≢ i → (b : Back D (natAbs (weights s j) * D) (s .item i) (N i)) → (e : Back D (natAbs (weights s i) * D) (s .item j) (N j))
+  swap : (N : ℕ → ℤ) → Feasibleᴰ s D N → (i j : ℕ) → i < s .count → j < s .count → j ≢ i → (b : Back D (natAbs (weights s j) * D) (s .item i) (N i)) →
+      (e : Back D (natAbs (weights s i) * D) (s .item j) (N j))
       → pos 0 <ℤ turn (way (N i)) (weights s i) → pos 0 <ℤ turn (way (N i)) (prices s i) → turn (way (N j)) (weights s j) <ℤ pos 0 → Next N
   unfolding size
   swap N p i j li lj ne b e hw hp lw = (
     shift D N i r j t,
     record {
-      keeps = keeps-shift s D N i j r t li lj ne (p .keeps) (rw (units D (natAbs (weights s j)) (way (N i))) (b .inside)) (rw (units D (natAbs (weights s i)) (way (N j))) (e .inside));
-      fits = rw (sum-shift (s .count) D (weights s) N i j r t li lj, effect (weights s)) (same (weighsᴰ s N) (s .capacity *ℤ pos D) (turn (way (N i)) (weights s i)) (turn (way (N j)) (weights s j)) (p .fits));
+      keeps = keeps-shift s D N i j r t li lj ne (p .keeps) (rw (units D (natAbs (weights s j)) (way (N i))) (b .inside))
+          (rw (units D (natAbs (weights s i)) (way (N j))) (e .inside));
+      fits = rw (sum-shift (s .count) D (weights s) N i j r t li lj, effect (weights s))
+          (same (weighsᴰ s N) (s .capacity *ℤ pos D) (turn (way (N i)) (weights s i)) (turn (way (N j)) (weights s j)) (p .fits));
     },
-    rw (sum-shift (s .count) D (prices s) N i j r t li lj, effect (prices s)) (more (valueᴰ s N) _ (opp (turn (way (N i)) (prices s i)) (turn (way (N j)) (prices s j)) (turn (way (N i)) (weights s i)) (turn (way (N j)) (weights s j)) (nr .two i j li lj (way (N i)) (way (N j)) (b .free) (e .free) hw hp lw))),
+    rw (sum-shift (s .count) D (prices s) N i j r t li lj, effect (prices s))
+        (more (valueᴰ s N) _ (opp (turn (way (N i)) (prices s i)) (turn (way (N j)) (prices s j)) (turn (way (N i)) (weights s i))
+        (turn (way (N j)) (weights s j)) (nr .two i j li lj (way (N i)) (way (N j)) (b .free) (e .free) hw hp lw))),
     omega (arith, first, second, mul-le-mul (1≤ (turn (way (N j)) (weights s j)) (natAbs (weights s j)) lw uj) D≥1),
   )
     where
@@ -285,7 +302,8 @@ module _ (A : ℕ) (B : ℕ → ℕ) (C : ℕ) (s : Instance) (R : ℕ → ℕ) 
       uj : pos (natAbs (weights s j)) ≡ negℤ (turn (way (N j)) (weights s j))
       uj = abs-dn (way (N j)) (weights s j) lw
 
-      effect : (a : ℕ → ℤ) → a i *ℤ r +ℤ a j *ℤ t ≡ turn (way (N i)) (a i) *ℤ negℤ (negℤ (turn (way (N j)) (weights s j))) +ℤ turn (way (N j)) (a j) *ℤ negℤ (turn (way (N i)) (weights s i))
+      effect : (a : ℕ → ℤ) → a i *ℤ r +ℤ a j *ℤ t ≡ turn (way (N i)) (a i) *ℤ negℤ (negℤ (turn (way (N j)) (weights s j))) +ℤ turn (way (N j)) (a j) *ℤ negℤ
+          (turn (way (N i)) (weights s i))
       effect a = ap₂ _+ℤ_ (turn-mul (way (N i)) (a i) (negℤ (pos (natAbs (weights s j)))) ∙ ap (λ z. turn (way (N i)) (a i) *ℤ negℤ z) uj)
           (turn-mul (way (N j)) (a j) (negℤ (pos (natAbs (weights s i)))) ∙ ap (λ z. turn (way (N j)) (a j) *ℤ negℤ z) (abs-up (way (N i)) (weights s i) hw))
 
@@ -305,7 +323,8 @@ module _ (A : ℕ) (B : ℕ → ℕ) (C : ℕ) (s : Instance) (R : ℕ → ℕ) 
       first = far-bump (s .count) (λ k. pos 0) N i (r *ℤ pos D) (natAbs (weights s j) * D) li (rw (units D (natAbs (weights s j)) (way (N i))) (b .nearer))
 
       second : far (s .count) (λ k. pos 0) (shift D N i r j t) + natAbs (weights s i) * D ≤ far (s .count) (λ k. pos 0) (bump N i (r *ℤ pos D))
-      second = far-bump (s .count) (λ k. pos 0) (bump N i (r *ℤ pos D)) j (t *ℤ pos D) (natAbs (weights s i) * D) lj (rw (bump-other N i (r *ℤ pos D) j ne, units D (natAbs (weights s i)) (way (N j))) (e .nearer))
+      second = far-bump (s .count) (λ k. pos 0) (bump N i (r *ℤ pos D)) j (t *ℤ pos D) (natAbs (weights s i) * D) lj
+          (rw (bump-other N i (r *ℤ pos D) j ne, units D (natAbs (weights s i)) (way (N j))) (e .nearer))
 
   -- ---- where no move is left
 
@@ -318,7 +337,8 @@ module _ (A : ℕ) (B : ℕ → ℕ) (C : ℕ) (s : Instance) (R : ℕ → ℕ) 
 
   held : (N : ℕ → ℤ) (k : ℕ) → k < s .count → Held N k → natAbs (weights s k *ℤ N k) ≤ C * D + T * D + A * D → natAbs (N k) ≤ R k * D
   held N k i (inl h) l = omega (arith, mul-le-mul-right D (q .far k i))
-  held N k i (inr h) l = le-of-mul-le-mul-left {k = natAbs (weights s k)} (omega (arith, natAbs-mul (weights s k) (N k), mul-le-mul-right D (q .enough k i h))) h
+  held N k i (inr h) l = le-of-mul-le-mul-left {k = natAbs (weights s k)}
+      (omega (arith, natAbs-mul (weights s k) (N k), mul-le-mul-right D (q .enough k i h))) h
 
   limits : (l : ℤ) → natAbs l ≤ C → ((l *ℤ pos D) ≤ℤ pos (C * D)) × (negℤ (pos (C * D)) ≤ℤ (l *ℤ pos D))
   limits = split _ (λ a b. simp zed (λ h. (omega (arith, mul-le-mul-right D (one a b h)), omega (arith, mul-le-mul-right D (one b a (swp a b h))))))
@@ -340,7 +360,8 @@ module _ (A : ℕ) (B : ℕ → ℕ) (C : ℕ) (s : Instance) (R : ℕ → ℕ) 
       turned n = sym (out n)
 
   one-term : (k : ℕ) → k < s .count → G k * D ≤ T * D
-  one-term k l = below (G k * D) (T * D) (subst (λ z. pos (G k * D) ≤ℤ z) (ap₂ _+ℤ_ all-terms (none (s .count)) ∙ plain (T * D)) (part-of-sum (s .count) (λ j. pos (G j * D)) (λ j. 0) (λ j m. least (G j * D)) k l))
+  one-term k l = below (G k * D) (T * D) (subst (λ z. pos (G k * D) ≤ℤ z) (ap₂ _+ℤ_ all-terms (none (s .count)) ∙ plain (T * D))
+      (part-of-sum (s .count) (λ j. pos (G j * D)) (λ j. 0) (λ j m. least (G j * D)) k l))
     where
       below : (m n : ℕ) → pos m ≤ℤ pos n → m ≤ n
       below m n = simp zed (omega arith)
@@ -356,20 +377,26 @@ module _ (A : ℕ) (B : ℕ → ℕ) (C : ℕ) (s : Instance) (R : ℕ → ℕ) 
       least n = simp zed (omega arith)
 
   near-low : (N : ℕ → ℤ) → Feasibleᴰ s D N → Each (s .count) (Held N) → Each (s .count) (λ k. negℤ (pos (G k * D)) ≤ℤ (weights s k *ℤ N k)) → Near N
-  near-low N p h low k l = held N k l (h k l) (fin (G k * D) (T * D) (one-term k l) (weights s k *ℤ N k) (weighsᴰ s N) (s .capacity *ℤ pos D) (p .fits) (limits (s .capacity) (g .limited) .0) (low k l)
+  near-low N p h low k l = held N k l (h k l) (fin (G k * D) (T * D) (one-term k l) (weights s k *ℤ N k) (weighsᴰ s N) (s .capacity *ℤ pos D) (p .fits)
+      (limits (s .capacity) (g .limited) .0) (low k l)
       (subst (λ z. (weights s k *ℤ N k) ≤ℤ (weighsᴰ s N +ℤ z)) all-terms (part-of-sum (s .count) (λ j. weights s j *ℤ N j) (λ j. G j * D) low k l)))
     where
       fin : (m t : ℕ) → m ≤ t → (y w l : ℤ) → w ≤ℤ l → l ≤ℤ pos (C * D) → negℤ (pos m) ≤ℤ y → y ≤ℤ (w +ℤ pos t) → natAbs y ≤ C * D + t + A * D
       fin m t i = split3 _ (λ a b c e f g. simp zed (omega arith))
 
-  near-high : (N : ℕ → ℤ) → Each (s .count) (Held N) → Each (s .count) (λ k. (weights s k *ℤ N k) ≤ℤ pos (G k * D)) → (s .capacity *ℤ pos D) ≤ℤ (weighsᴰ s N +ℤ pos (A * D)) → Near N
-  near-high N h high full k l = held N k l (h k l) (fin (G k * D) (T * D) (one-term k l) (weights s k *ℤ N k) (weighsᴰ s N) (s .capacity *ℤ pos D) full (limits (s .capacity) (g .limited) .1) (high k l)
-      (rw (sum-scale (s .count) (negsuc 0) (λ j. weights s j *ℤ N j)) at (subst (λ z. (negsuc 0 *ℤ (weights s k *ℤ N k)) ≤ℤ (sum (s .count) (λ j. negsuc 0 *ℤ (weights s j *ℤ N j)) +ℤ z)) all-terms (part-of-sum (s .count) (λ j. negsuc 0 *ℤ (weights s j *ℤ N j)) (λ j. G j * D) (λ j m. flip (G j * D) (weights s j *ℤ N j) (high j m)) k l))))
+  near-high : (N : ℕ → ℤ) → Each (s .count) (Held N) → Each (s .count) (λ k. (weights s k *ℤ N k) ≤ℤ pos (G k * D)) →
+      (s .capacity *ℤ pos D) ≤ℤ (weighsᴰ s N +ℤ pos (A * D)) → Near N
+  near-high N h high full k l = held N k l (h k l) (fin (G k * D) (T * D) (one-term k l) (weights s k *ℤ N k) (weighsᴰ s N) (s .capacity *ℤ pos D) full
+      (limits (s .capacity) (g .limited) .1) (high k l)
+      (rw (sum-scale (s .count) (negsuc 0) (λ j. weights s j *ℤ N j)) at
+      (subst (λ z. (negsuc 0 *ℤ (weights s k *ℤ N k)) ≤ℤ (sum (s .count) (λ j. negsuc 0 *ℤ (weights s j *ℤ N j)) +ℤ z)) all-terms
+      (part-of-sum (s .count) (λ j. negsuc 0 *ℤ (weights s j *ℤ N j)) (λ j. G j * D) (λ j m. flip (G j * D) (weights s j *ℤ N j) (high j m)) k l))))
     where
       flip : (m : ℕ) (y : ℤ) → y ≤ℤ pos m → negℤ (pos m) ≤ℤ (negsuc 0 *ℤ y)
       flip m = split _ (λ a b. simp zed (omega arith))
 
-      fin : (m t : ℕ) → m ≤ t → (y w l : ℤ) → l ≤ℤ (w +ℤ pos (A * D)) → negℤ (pos (C * D)) ≤ℤ l → y ≤ℤ pos m → (negsuc 0 *ℤ y) ≤ℤ (negsuc 0 *ℤ w +ℤ pos t) → natAbs y ≤ C * D + t + A * D
+      fin : (m t : ℕ) → m ≤ t → (y w l : ℤ) → l ≤ℤ (w +ℤ pos (A * D)) → negℤ (pos (C * D)) ≤ℤ l → y ≤ℤ pos m → (negsuc 0 *ℤ y) ≤ℤ (negsuc 0 *ℤ w +ℤ pos t) →
+          natAbs y ≤ C * D + t + A * D
       fin m t i = split3 _ (λ a b c e f g. simp zed (omega arith))
 
   -- a term beyond G: an amount beyond F
@@ -391,15 +418,23 @@ module _ (A : ℕ) (B : ℕ → ℕ) (C : ℕ) (s : Instance) (R : ℕ → ℕ) 
       b≤ = mul-le-mul-right D (q .near k l)
 
       over : (m d : ℕ) (a b n : ℤ) → m * D ≤ d → natAbs a ≤ m → natAbs b ≤ m → (a *ℤ pos D) ≤ℤ n → n ≤ℤ (b *ℤ pos D) → d < natAbs n → ⊥
-      over m d = split3 _ (λ a b c e f g. simp zed (λ h u v x y z. omega (arith, mul-le-mul-right D (diff m a b u .0), mul-le-mul-right D (diff m a b u .1), mul-le-mul-right D (diff m c e v .0), mul-le-mul-right D (diff m c e v .1))))
+      over m d = split3 _ (λ a b c e f g. simp zed (λ h u v x y z. omega (
+        arith,
+        mul-le-mul-right D (diff m a b u .0),
+        mul-le-mul-right D (diff m a b u .1),
+        mul-le-mul-right D (diff m c e v .0),
+        mul-le-mul-right D (diff m c e v .1),
+      )))
 
-      go : (x y : Bound) → s .item k .lower ≡ x → s .item k .upper ≡ y → AroundAt (B k) x → AroundAt (B k) y → KeepsLowerᴰ D x n → KeepsUpperᴰ D y n → Open (s .item k)
+      go : (x y : Bound) → s .item k .lower ≡ x → s .item k .upper ≡ y → AroundAt (B k) x → AroundAt (B k) y → KeepsLowerᴰ D x n → KeepsUpperᴰ D y n →
+          Open (s .item k)
       go Absent y e h ax ay kx ky = inl e
       go (At x) Absent e h ax ay kx ky = inr h
       go (At x) (At y) e h ax ay kx ky = absurd (over (B k) (F k * D) x y n b≤ ax ay kx ky f)
 
   step : (N : ℕ → ℤ) → Feasibleᴰ s D N → Near N ⊎ Next N
-  step N p = idle (find (s .count) (λ k. (F k * D < natAbs (N k)) × (weights s k ≡ pos 0)) (Held N) (λ k. rests (F k) (weights s k) (decLt (F k * D) (natAbs (N k)))))
+  step N p = idle (find (s .count) (λ k. (F k * D < natAbs (N k)) × (weights s k ≡ pos 0)) (Held N)
+      (λ k. rests (F k) (weights s k) (decLt (F k * D) (natAbs (N k)))))
     where
       rests : (f : ℕ) (a : ℤ) → {n : ℕ} → Dec (f * D < n) → ((f * D < n) × (a ≡ pos 0)) ⊎ ((n ≤ f * D) ⊎ (1 ≤ natAbs a))
       rests f a (no h) = inr (inl (omega arith))
@@ -415,18 +450,21 @@ module _ (A : ℕ) (B : ℕ → ℕ) (C : ℕ) (s : Instance) (R : ℕ → ℕ) 
       opens k l f = open-far k (N k) l (within (p .keeps k l)) f
 
       away : (u k : ℕ) → k < s .count → u ≤ A → F k * D < natAbs (N k) → Back D (u * D) (s .item k) (N k)
-      away u k l h f = let o = q .back-far k l (opens k l f) in back (B k) D (u * D) (s .item k) (N k) (g .lowers k l) (g .uppers k l) (within (p .keeps k l)) (omega (arith, mul-le-mul-right D o)) (omega (arith, mul-le-mul-right D h, mul-le-mul-right D o))
+      away u k l h f = let o = q .back-far k l (opens k l f) in back (B k) D (u * D) (s .item k) (N k) (g .lowers k l) (g .uppers k l)
+          (within (p .keeps k l)) (omega (arith, mul-le-mul-right D o)) (omega (arith, mul-le-mul-right D h, mul-le-mul-right D o))
 
       -- one unit back, of an item that weighs something
       unit : (k : ℕ) → k < s .count → 1 ≤ natAbs (weights s k) → F k * D < natAbs (N k) → Back D D (s .item k) (N k)
-      unit k l h f = let o = q .back-far k l (opens k l f) in back (B k) D D (s .item k) (N k) (g .lowers k l) (g .uppers k l) (within (p .keeps k l)) (omega (arith, mul-le-mul-right D o)) (omega (arith, mul-le-mul-right D h, mul-le-mul-right D (g .light k l (opens k l f)), mul-le-mul-right D o))
+      unit k l h f = let o = q .back-far k l (opens k l f) in back (B k) D D (s .item k) (N k) (g .lowers k l) (g .uppers k l) (within (p .keeps k l))
+          (omega (arith, mul-le-mul-right D o)) (omega (arith, mul-le-mul-right D h, mul-le-mul-right D (g .light k l (opens k l f)), mul-le-mul-right D o))
 
       whole : (k : ℕ) → k < s .count → KeepsMarkᴰ D (s .item k .mark) (N k +ℤ turn (way (N k)) (negℤ (pos D)))
       whole k l = rw (one-unit D (way (N k))) at (mark-step D (s .item k .mark) (N k) (turn (way (N k)) (negℤ (pos 1))) (p .keeps k l .marked))
 
       -- an item that weighs nothing goes back to F
       rest : (k : ℕ) → k < s .count → F k * D < natAbs (N k) → Back D (natAbs (N k) - F k * D) (s .item k) (N k)
-      rest k l f = back (B k) D (natAbs (N k) - F k * D) (s .item k) (N k) (g .lowers k l) (g .uppers k l) (within (p .keeps k l)) (omega (arith, mul-le-mul-right D (q .near k l))) (omega (arith, mul-le-mul-right D (q .near k l)))
+      rest k l f = back (B k) D (natAbs (N k) - F k * D) (s .item k) (N k) (g .lowers k l) (g .uppers k l) (within (p .keeps k l))
+          (omega (arith, mul-le-mul-right D (q .near k l))) (omega (arith, mul-le-mul-right D (q .near k l)))
 
       y : ℕ → ℤ
       y k = weights s k *ℤ N k
@@ -438,13 +476,21 @@ module _ (A : ℕ) (B : ℕ → ℕ) (C : ℕ) (s : Instance) (R : ℕ → ℕ) 
       Low k = y k <ℤ negℤ (pos (G k * D))
 
       high-far : (k : ℕ) → k < s .count → High k → (F k * D < natAbs (N k)) × (pos 0 <ℤ turn (way (N k)) (weights s k))
-      high-far k l h = (beyond (natAbs (weights s k)) (F k) (natAbs (N k)) (rw (natAbs-mul (weights s k) (N k)) at (size-of (G k * D) (y k) h)) (decLt (F k * D) (natAbs (N k))), sign-up (turn (way (N k)) (weights s k)) (natAbs (N k)) (G k * D) (rw (ahead (weights s k) (N k)) at h))
+      high-far k l h = (
+        beyond (natAbs (weights s k)) (F k) (natAbs (N k)) (rw (natAbs-mul (weights s k) (N k)) at (size-of (G k * D) (y k) h))
+            (decLt (F k * D) (natAbs (N k))),
+        sign-up (turn (way (N k)) (weights s k)) (natAbs (N k)) (G k * D) (rw (ahead (weights s k) (N k)) at h),
+      )
         where
           size-of : (m : ℕ) (y : ℤ) → pos m <ℤ y → m < natAbs y
           size-of m = split _ (λ a b. simp zed (omega arith))
 
       low-far : (k : ℕ) → k < s .count → Low k → (F k * D < natAbs (N k)) × (turn (way (N k)) (weights s k) <ℤ pos 0)
-      low-far k l h = (beyond (natAbs (weights s k)) (F k) (natAbs (N k)) (rw (natAbs-mul (weights s k) (N k)) at (size-of (G k * D) (y k) h)) (decLt (F k * D) (natAbs (N k))), sign-dn (turn (way (N k)) (weights s k)) (natAbs (N k)) (G k * D) (rw (ahead (weights s k) (N k)) at h))
+      low-far k l h = (
+        beyond (natAbs (weights s k)) (F k) (natAbs (N k)) (rw (natAbs-mul (weights s k) (N k)) at (size-of (G k * D) (y k) h))
+            (decLt (F k * D) (natAbs (N k))),
+        sign-dn (turn (way (N k)) (weights s k)) (natAbs (N k)) (G k * D) (rw (ahead (weights s k) (N k)) at h),
+      )
         where
           size-of : (m : ℕ) (y : ℤ) → y <ℤ negℤ (pos m) → m < natAbs y
           size-of m = split _ (λ a b. simp zed (omega arith))
@@ -459,11 +505,14 @@ module _ (A : ℕ) (B : ℕ → ℕ) (C : ℕ) (s : Instance) (R : ℕ → ℕ) 
       room : (e : ℕ) (w l x : ℤ) → w ≤ℤ l → pos 0 ≤ℤ x → (w -ℤ x *ℤ pos e) ≤ℤ l
       room e = split3 _ (λ a b c d f g. simp zed (λ h k. omega (arith, mul-le-mul-right e k)))
 
-      swapped : (i j : ℕ) → i < s .count → j < s .count → High i → Low j → (turn (way (N i)) (prices s i) ≤ℤ pos 0) ⊎ (pos 0 <ℤ turn (way (N i)) (prices s i)) → Next N
+      swapped : (i j : ℕ) → i < s .count → j < s .count → High i → Low j →
+          (turn (way (N i)) (prices s i) ≤ℤ pos 0) ⊎ (pos 0 <ℤ turn (way (N i)) (prices s i)) → Next N
       swapped i j li lj hi hj (inl c) = let fi = high-far i li hi in
-          ease N p i li D D≥1 (unit i li (some-up (way (N i)) (weights s i) (fi .1)) (fi .0)) (whole i li) (room D (weighsᴰ s N) (s .capacity *ℤ pos D) (turn (way (N i)) (weights s i)) (p .fits) (weak< _ _ (fi .1))) c
+          ease N p i li D D≥1 (unit i li (some-up (way (N i)) (weights s i) (fi .1)) (fi .0)) (whole i li)
+          (room D (weighsᴰ s N) (s .capacity *ℤ pos D) (turn (way (N i)) (weights s i)) (p .fits) (weak< _ _ (fi .1))) c
       swapped i j li lj hi hj (inr c) = let fi = high-far i li hi in let fj = low-far j lj hj in
-          swap N p i j li lj (apart i j hi hj) (away (natAbs (weights s j)) i li (g .light j lj (opens j lj (fj .0))) (fi .0)) (away (natAbs (weights s i)) j lj (g .light i li (opens i li (fi .0))) (fj .0)) (fi .1) c (fj .1)
+          swap N p i j li lj (apart i j hi hj) (away (natAbs (weights s j)) i li (g .light j lj (opens j lj (fj .0))) (fi .0))
+          (away (natAbs (weights s i)) j lj (g .light i li (opens i li (fi .0))) (fj .0)) (fi .1) c (fj .1)
 
       full : (w : Way) (a x l : ℤ) → natAbs a ≤ A → l <ℤ (x -ℤ turn w a *ℤ pos D) → l ≤ℤ (x +ℤ pos (A * D))
       full fore a x l = go a x l
@@ -482,11 +531,15 @@ module _ (A : ℕ) (B : ℕ → ℕ) (C : ℕ) (s : Instance) (R : ℕ → ℕ) 
           go = split3 _ (λ a b c e f g. simp zed (λ h k. omega (arith, mul-le-mul-right D (one a b h))))
 
       slack : (j : ℕ) → j < s .count → Low j → Each (s .count) (Held N) → Each (s .count) (λ k. y k ≤ℤ pos (G k * D))
-          → ((weighsᴰ s N -ℤ turn (way (N j)) (weights s j) *ℤ pos D) ≤ℤ (s .capacity *ℤ pos D)) ⊎ ((s .capacity *ℤ pos D) <ℤ (weighsᴰ s N -ℤ turn (way (N j)) (weights s j) *ℤ pos D)) → Near N ⊎ Next N
-      slack j lj hj h high (inl r) = let fj = low-far j lj hj in let b = unit j lj (some-dn (way (N j)) (weights s j) (fj .1)) (fj .0) in inr (ease N p j lj D D≥1 b (whole j lj) r (nr .one j lj (way (N j)) (b .free) (weak< _ _ (fj .1))))
-      slack j lj hj h high (inr f) = inl (near-high N h high (full (way (N j)) (weights s j) (weighsᴰ s N) (s .capacity *ℤ pos D) (g .light j lj (opens j lj (low-far j lj hj .0))) f))
+          → ((weighsᴰ s N -ℤ turn (way (N j)) (weights s j) *ℤ pos D) ≤ℤ (s .capacity *ℤ pos D)) ⊎
+          ((s .capacity *ℤ pos D) <ℤ (weighsᴰ s N -ℤ turn (way (N j)) (weights s j) *ℤ pos D)) → Near N ⊎ Next N
+      slack j lj hj h high (inl r) = let fj = low-far j lj hj in let b = unit j lj (some-dn (way (N j)) (weights s j) (fj .1)) (fj .0) in
+          inr (ease N p j lj D D≥1 b (whole j lj) r (nr .one j lj (way (N j)) (b .free) (weak< _ _ (fj .1))))
+      slack j lj hj h high (inr f) = inl (near-high N h high (full (way (N j)) (weights s j) (weighsᴰ s N) (s .capacity *ℤ pos D)
+          (g .light j lj (opens j lj (low-far j lj hj .0))) f))
 
-      highs : (j : ℕ) → j < s .count → Low j → Each (s .count) (Held N) → ((k : ℕ) × (k < s .count) × High k) ⊎ Each (s .count) (λ k. y k ≤ℤ pos (G k * D)) → Near N ⊎ Next N
+      highs : (j : ℕ) → j < s .count → Low j → Each (s .count) (Held N) → ((k : ℕ) × (k < s .count) × High k) ⊎ Each (s .count) (λ k. y k ≤ℤ pos (G k * D)) →
+          Near N ⊎ Next N
       highs j lj hj h (inl (i, li, hi)) = inr (swapped i j li lj hi hj (≤ℤ-or-< (turn (way (N i)) (prices s i)) (pos 0)))
       highs j lj hj h (inr high) = slack j lj hj h high (≤ℤ-or-< (weighsᴰ s N -ℤ turn (way (N j)) (weights s j) *ℤ pos D) (s .capacity *ℤ pos D))
 
@@ -500,7 +553,9 @@ module _ (A : ℕ) (B : ℕ → ℕ) (C : ℕ) (s : Instance) (R : ℕ → ℕ) 
 
       idle : ((k : ℕ) × (k < s .count) × ((F k * D < natAbs (N k)) × (weights s k ≡ pos 0))) ⊎ Each (s .count) (Held N) → Near N ⊎ Next N
       idle (inl (k, l, (f, z))) = let b = rest k l f in let o = still (way (N k)) (weights s k) z in
-          inr (ease N p k l (natAbs (N k) - F k * D) (omega arith) b (resting D (F k) (s .item k .mark) (N k) f) (room (natAbs (N k) - F k * D) (weighsᴰ s N) (s .capacity *ℤ pos D) (turn (way (N k)) (weights s k)) (p .fits) (≤ℤ-reflexive (sym o))) (nr .one k l (way (N k)) (b .free) (≤ℤ-reflexive o)))
+          inr (ease N p k l (natAbs (N k) - F k * D) (omega arith) b (resting D (F k) (s .item k .mark) (N k) f)
+          (room (natAbs (N k) - F k * D) (weighsᴰ s N) (s .capacity *ℤ pos D) (turn (way (N k)) (weights s k)) (p .fits) (≤ℤ-reflexive (sym o)))
+          (nr .one k l (way (N k)) (b .free) (≤ℤ-reflexive o)))
       idle (inr h) = lows h (find (s .count) Low (λ k. negℤ (pos (G k * D)) ≤ℤ y k) (λ k. other (≤ℤ-or-< (negℤ (pos (G k * D))) (y k))))
 
   -- THE REACH: every feasible point has one of no lower value within R
@@ -523,7 +578,8 @@ abbrev pub shutAt : (ℕ → ℕ) → Instance → Instance
 shutAt R s = boxed s (lowersAt R s) (uppersAt R s)
 
 pub into-shut-at : (R : ℕ → ℕ) (s : Instance) (D : ℕ) (N : ℕ → ℤ) → Feasibleᴰ s D N → Each (s .count) (λ k. natAbs (N k) ≤ R k * D) → Feasibleᴰ (shutAt R s) D N
-into-shut-at R s D N p h = into-box s (lowersAt R s) (uppersAt R s) D N p (λ k l. (lo (R k) (s .item k .lower) (N k) (p .keeps k l .above) (h k l), up (R k) (s .item k .upper) (N k) (p .keeps k l .below) (h k l)))
+into-shut-at R s D N p h = into-box s (lowersAt R s) (uppersAt R s) D N p
+    (λ k l. (lo (R k) (s .item k .lower) (N k) (p .keeps k l .above) (h k l), up (R k) (s .item k .upper) (N k) (p .keeps k l .below) (h k l)))
   where
     lo′ : (r : ℕ) (n : ℤ) → natAbs n ≤ r * D → (negℤ (pos r) *ℤ pos D) ≤ℤ n
     lo′ r = split _ (λ a b. simp zed (omega arith))
@@ -540,7 +596,14 @@ into-shut-at R s D N p h = into-box s (lowersAt R s) (uppersAt R s) D N p (λ k 
     up r (At b) n k h = k
 
 pub out-of-shut-at : (R : ℕ → ℕ) (s : Instance) (D : ℕ) (N : ℕ → ℤ) → Feasibleᴰ (shutAt R s) D N → Feasibleᴰ s D N
-out-of-shut-at R s D N p = record { keeps = λ k l. record { marked = p .keeps k l .marked; above = lo (R k) (s .item k .lower) (N k) (p .keeps k l .above); below = up (R k) (s .item k .upper) (N k) (p .keeps k l .below) }; fits = p .fits }
+out-of-shut-at R s D N p = record {
+  keeps = λ k l. record {
+    marked = p .keeps k l .marked;
+    above = lo (R k) (s .item k .lower) (N k) (p .keeps k l .above);
+    below = up (R k) (s .item k .upper) (N k) (p .keeps k l .below);
+  };
+  fits = p .fits;
+}
   where
     lo : (r : ℕ) (b : Bound) (n : ℤ) → KeepsLowerᴰ D (closed b (negℤ (pos r))) n → KeepsLowerᴰ D b n
     lo r Absent n k = tt
@@ -551,18 +614,27 @@ out-of-shut-at R s D N p = record { keeps = λ k l. record { marked = p .keeps k
     up r (At b) n k = k
 
 -- every feasible point of s has one of no lower value in shutAt R s
-pub reach-within : {A : ℕ} {B : ℕ → ℕ} {C : ℕ} {R : ℕ → ℕ} (s : Instance) → RangesAt A B C s → Reaches A B C s R → NoRay s → (D : ℕ) → 1 ≤ D → (N : ℕ → ℤ) → Feasibleᴰ s D N
+pub reach-within : {A : ℕ} {B : ℕ → ℕ} {C : ℕ} {R : ℕ → ℕ} (s : Instance) → RangesAt A B C s → Reaches A B C s R → NoRay s → (D : ℕ) → 1 ≤ D → (N : ℕ → ℤ) →
+    Feasibleᴰ s D N
     → (N′ : ℕ → ℤ) × Feasibleᴰ (shutAt R s) D N′ × (valueᴰ s N ≤ℤ valueᴰ s N′)
 reach-within {A} {B} {C} {R} s g e nr D d N p = let r = reach A B C s R e D d g nr N p in (r .0, into-shut-at R s D (r .0) (r .1) (r .2), r .3)
 
-pub reach-at-most-at : {A : ℕ} {B : ℕ → ℕ} {C : ℕ} {R : ℕ → ℕ} (s : Instance) → RangesAt A B C s → Reaches A B C s R → NoRay s → (W : ℤ) (E : ℕ) → AtMost (shutAt R s) W E → AtMost s W E
-reach-at-most-at s g e nr W E a D N d p = let r = reach-within s g e nr D d N p in ≤ℤ-trans (times-≤ E (valueᴰ s N) (valueᴰ s (r .0)) (r .2)) (a D (r .0) d (r .1))
+pub reach-at-most-at : {A : ℕ} {B : ℕ → ℕ} {C : ℕ} {R : ℕ → ℕ} (s : Instance) → RangesAt A B C s → Reaches A B C s R → NoRay s → (W : ℤ) (E : ℕ) →
+    AtMost (shutAt R s) W E → AtMost s W E
+reach-at-most-at s g e nr W E a D N d p = let r = reach-within s g e nr D d N p in
+    ≤ℤ-trans (times-≤ E (valueᴰ s N) (valueᴰ s (r .0)) (r .2)) (a D (r .0) d (r .1))
 
-pub reach-empty-at : {A : ℕ} {B : ℕ → ℕ} {C : ℕ} {R : ℕ → ℕ} (s : Instance) → RangesAt A B C s → Reaches A B C s R → NoRay s → ((D : ℕ) (N : ℕ → ℤ) → 1 ≤ D → ¬ Feasibleᴰ (shutAt R s) D N) → (D : ℕ) (N : ℕ → ℤ) → 1 ≤ D → ¬ Feasibleᴰ s D N
+pub reach-empty-at : {A : ℕ} {B : ℕ → ℕ} {C : ℕ} {R : ℕ → ℕ} (s : Instance) → RangesAt A B C s → Reaches A B C s R → NoRay s →
+    ((D : ℕ) (N : ℕ → ℤ) → 1 ≤ D → ¬ Feasibleᴰ (shutAt R s) D N) → (D : ℕ) (N : ℕ → ℤ) → 1 ≤ D → ¬ Feasibleᴰ s D N
 reach-empty-at s g e nr h D N d p = let r = reach-within s g e nr D d N p in h D (r .0) d (r .1)
 
-pub reach-optimal-at : {A : ℕ} {B : ℕ → ℕ} {C : ℕ} {R : ℕ → ℕ} (s : Instance) → RangesAt A B C s → Reaches A B C s R → NoRay s → (E : ℕ) (M : ℕ → ℤ) → Optimalᴰ (shutAt R s) E M → Optimalᴰ s E M
-reach-optimal-at {R = R} s g e nr E M b = record { feasible = out-of-shut-at R s E M (b .feasible); highest = reach-at-most-at s g e nr (valueᴰ s M) E (b .highest) }
+pub reach-optimal-at : {A : ℕ} {B : ℕ → ℕ} {C : ℕ} {R : ℕ → ℕ} (s : Instance) → RangesAt A B C s → Reaches A B C s R → NoRay s → (E : ℕ) (M : ℕ → ℤ) →
+    Optimalᴰ (shutAt R s) E M → Optimalᴰ s E M
+reach-optimal-at {R = R} s g e nr E M b = record {
+  feasible = out-of-shut-at R s E M (b .feasible);
+  highest =
+      reach-at-most-at s g e nr (valueᴰ s M) E (b .highest);
+}
 
 -- ---- at the limits of the format, ±300,000,000
 

@@ -3,7 +3,7 @@
 -- word-more, word-not, word-done: afterWord, a byte of the word at a time.
 -- end-here, end-later, end-none: firstEnd, a byte of the text at a time; end-within: where it stands.
 -- end-split: firstEnd, some bytes of the text at a time.
--- end-first, end-nowhere: what firstEnd means.
+-- end-first, end-nowhere (end theorems): what firstEnd means.
 -- ends-before, ends-past, ends-none: how many bytes 10 there are before a place, by the first one.
 -- closed-last, closed-more, closed-none: closedLine, a line at a time; closed-within, asked-within: where it stands.
 use mathlib.Core.Path.{_≡_, refl, sym, ap, _∙_}

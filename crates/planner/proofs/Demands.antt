@@ -1,5 +1,5 @@
 -- What the planner owes, in paper 01's words (knapsack, specs/Demands).
--- solved-demands: the answer of `solve` keeps every demand. `solve` takes each problem in range and ends, so for each of them exactly one of
+-- solved-demands (end theorem): the answer of `solve` keeps every demand. `solve` takes each problem in range and ends, so for each of them exactly one of
 -- optimal, infeasible and unbounded holds, by `one-of-three`.
 use Rattle.knapsack.proofs.Demands.{demands}
 use Rattle.knapsack.specs.Demands.{Demands}

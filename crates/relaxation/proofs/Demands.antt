@@ -1,5 +1,5 @@
 -- What the relaxation's entry owes, in paper 01's words. Its answer owes what `demands` says (knapsack, proofs/Demands).
--- same-items: the lent list holds the same items afterwards, whether its problem is accepted or not.
+-- same-items (end theorem): the lent list holds the same items afterwards, whether its problem is accepted or not.
 use mathlib.Core.List.{List}
 use mathlib.Core.Path.{_≡_, refl}
 use Prim.Native.Nat.{ℕ}
