@@ -25,8 +25,11 @@
 --   countedBy n       one more, as long as it fits
 --   Stepped s p q r   a step from q to r
 --   origin            the path that a search begins from;  Begun s q: a search at its first place
---   After s p n q     q after n steps from the first place on; each counts one
---   EndsAfter s p r   r is where a search ends, with the steps that it took
+--   GoodBest s b      the incumbent, if there is one, is a place of the box that was tried, with its value
+--   Underway s p q    what a search relies on to go on from q
+--   Ran s p q n r     n steps lead from q to r
+--   RunsFor s p q n r r is where a search stops that goes on from q for at most n steps
+--   Stops s p n r     the same from the first place on; the steps told are those taken
 use mathlib.Core.Path.{_≡_}
 use mathlib.Core.Bool.{Bool, true, false, cond}
 use mathlib.Core.List.{List}
@@ -41,7 +44,7 @@ use Rattle.arith.specs.Limits.{mostRoom}
 use Rattle.arith.specs.Within.{Within}
 use Rattle.arith.specs.Mixed.{Proper}
 use Rattle.arith.specs.declared.Mixed.{Mixed}
-use Rattle.greedy.specs.Fill.{at}
+use Rattle.greedy.specs.Fill.{at, fill, bound}
 use Rattle.greedy.specs.declared.Ends.{Ends}
 use Rattle.greedy.specs.declared.Fill.{Fill}
 use Rattle.greedy.specs.Sized.{Sized}
@@ -234,13 +237,36 @@ pub record Begun (s : Setting) (q : State) : Type 0 where
   pub top : q .from ≡ 0
   pub going : q .done ≡ false
 
--- q after n steps
-unfoldable pub After : Setting → Pairs → ℕ → State → Type 0
-After s p zero q = Begun s q
-After s p (suc n) r = (q : State) × (After s p n q × ((q .done ≡ false) × Stepped s p q r))
+-- the incumbent's place is in the box and feasible, and its value is that place's
+pub record GoodBest (s : Setting) (b : Incumbent) : Type 0 where
+  pub proper : ProperBest b
+  pub inside : b .found ≡ true → Inside s (at (b .place))
+  pub roomy : b .found ≡ true → pos 0 ≤ℤ fill (s .cols) (fixedBy s (at (b .place)) (s .levels)) .room
+  pub value-is : b .found ≡ true → b .value ≡ bound (s .cols) (fill (s .cols) (fixedBy s (at (b .place)) (s .levels)))
 
--- r is where a search ends
-pub record EndsAfter (s : Setting) (p : Pairs) (r : State) : Type 0 where
+-- what a search relies on to go on
+pub record Underway (s : Setting) (p : Pairs) (q : State) : Type 0 where
+  pub ready : Ready s p
+  pub started : Started s (q .path)
+  pub good : GoodBest s (q .best)
+  pub from-in : q .from ≤ s .levels
+  pub passed : Passed s p (q .path) (q .best) (q .from)
+
+-- n steps from q to r
+unfoldable pub Ran : Setting → Pairs → State → ℕ → State → Type 0
+Ran s p q zero r = r ≡ q
+Ran s p q (suc n) r = (o : State) × (Ran s p q n o × ((o .done ≡ false) × Stepped s p o r))
+
+-- a search that goes on from q stops at its end, or after n steps
+pub record RunsFor (s : Setting) (p : Pairs) (q : State) (n : ℕ) (r : State) : Type 0 where
   pub count : ℕ
-  pub after : After s p count r
-  pub over : r .done ≡ true
+  pub ran : Ran s p q count r
+  pub few : count ≤ n
+  pub stops : (r .done ≡ true) ⊎ (count ≡ n)
+
+-- the same from the first place on, with the steps counted
+pub record Stops (s : Setting) (p : Pairs) (n : ℕ) (r : State) : Type 0 where
+  pub start : State
+  pub begun : Begun s start
+  pub runs : RunsFor s p start n r
+  pub steps-are : r .steps ≡ runs .count

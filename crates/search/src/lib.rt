@@ -32,9 +32,9 @@ ghost use Rattle.lattice.specs.Lattice.{Tame};
 ghost use Rattle.setting.specs.Box.{InsideTo};
 ghost use Rattle.search.specs.Search.{bySide, mixedBound, mixedBy, hopelessBy, cutBy, Stays, Removable, Reflects, FirstPaired};
 ghost use Rattle.setting.specs.Ready.{StrideBoundInRange, ReadySetting, Ready};
-ghost use Rattle.search.specs.Searched.{Searched};
+ghost use Rattle.search.specs.Searched.{Searches};
 ghost use Rattle.search.specs.Steps.{Dived, MixedBoundInRange, MixedInRange, HopelessInRange, BoxInRange, Tries, Unpaired, Looks, Looked, nobody};
-ghost use Rattle.search.specs.Steps.{LongPath, movedAt, freshBy, countedBy, Stepped, EndsAfter};
+ghost use Rattle.search.specs.Steps.{LongPath, movedAt, freshBy, countedBy, Stepped, Begun, Underway, RunsFor};
 
 // The best place so far, and its value.
 pub struct Incumbent {
@@ -417,24 +417,47 @@ pub fn step(s: Setting, p: Pairs, q: State) -> State
     }
 }
 
-// The search from its first place on: the best place of the box, or that there is none, and how many steps that ended.
-pub fn run(s: Setting, p: Pairs) -> State
-    requires { ⌜ Ready s p ⌝ }
-    ensures { λ r. ⌜ Searched s (r .best) × EndsAfter s p r ⌝ }
+// The search at its first place: every level at its start.
+pub fn start(s: Setting) -> State
+    requires { ⌜ ReadySetting s ⌝ }
+    ensures { λ r. ⌜ Begun s r ⌝ }
 {
     let zero = Path {
         place: [0; 16],
         starts: [0; 16],
     };
-    let mut q = State {
+    State {
         path: dive(s, zero, 0),
         best: no_incumbent(),
         steps: 0,
         from: 0,
         done: false,
-    };
-    while !q.done {
-        q = step(s, p, q);
     }
-    q
+}
+
+// The search from q on: to its end, or for n steps.
+pub fn run_for(s: Setting, p: Pairs, q: State, n: u64) -> State
+    requires { ⌜ Underway s p q ⌝ }
+    ensures { λ r. ⌜ RunsFor s p q n r ⌝ }
+{
+    let mut t = q;
+    let mut left = n;
+    while 0 < left {
+        if t.done {
+            return t;
+        }
+        t = step(s, p, t);
+        left -= 1;
+    }
+    t
+}
+
+// The search from its first place on, for at most so many steps. At its end: the best place of the box, or that there is none. Before that the
+// incumbent is the best of the places tried.
+pub fn run(s: Setting, p: Pairs, most: u64) -> State
+    requires { ⌜ Ready s p ⌝ }
+    ensures { λ r. ⌜ Searches s p most r ⌝ }
+{
+    let q = start(s);
+    run_for(s, p, q, most)
 }

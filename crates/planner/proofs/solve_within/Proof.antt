@@ -1,5 +1,6 @@
--- `planner::solve` meets its contract: bounds that cross leave no point; else what answers the presolved problem answers the problem.
+-- `planner::solve_within` meets its contract: bounds that cross leave no point; else what answers the presolved problem answers the problem.
 use mathlib.Core.Path.{_≡_, refl, sym, _∙_}
+use native.Mathlib.Omega.{arith}
 use borrow.Author.Needs.{needs}
 use Rattle.knapsack.specs.Ranges.{InRange}
 use Rattle.model.proofs.Records.{plain-in-range}
@@ -7,8 +8,8 @@ use Rattle.model.proofs.Crossings.{uncrossed, crossed-infeasible}
 use Rattle.presolve.proofs.Answers.{answers-presolved}
 use Rattle.presolve.proofs.Presolves.{presolved-presolves}
 use Rattle.presolve.specs.Presolve.{presolved}
-use Rattle.planner.proofs.solve.Statement.{statement}
-use Rattle.planner.proofs.solve.Tie as tie
+use Rattle.planner.proofs.solve_within.Statement.{statement}
+use Rattle.planner.proofs.solve_within.Tie as tie
 
 some-crosses-requires : tie.Need-some-crosses-requires
 some-crosses-requires c κs = c .pre .few-items
@@ -16,8 +17,8 @@ some-crosses-requires c κs = c .pre .few-items
 no-point-requires : tie.Need-no-point-requires
 no-point-requires c κs = search needs
 
-with-steps-requires : tie.Need-with-steps-requires
-with-steps-requires c κs = search needs
+with-work-requires : tie.Need-with-work-requires
+with-work-requires c κs = search needs
 
 -- where no bounds cross the problem is in range
 ranged : (c : tie.Else1) → InRange (c .before .before .args .p)
@@ -35,7 +36,12 @@ returns c =
     let x = a .before .before in
     let p = x .before .args .p in
     let crosses = sym (x .some-crosses .ensures) ∙ a .before .if1 .taken in
-    rw (c .with-steps .ensures, a .no-point .ensures) (record { answers = (crossed-infeasible p crosses, refl); counts = refl })
+    rw (c .with-work .ensures, a .no-point .ensures) (record {
+      answers = (crossed-infeasible p crosses, refl);
+      counts = refl;
+      few-steps = omega arith;
+      few-cells = omega arith;
+    })
 
 returns-2 : tie.Need-returns-2
 returns-2 c =
@@ -45,15 +51,17 @@ returns-2 c =
     record {
       answers = answers-presolved p (presolved p) (presolved-presolves p (ranged (q .before))) (c .decide .result .answer) (d .answers);
       counts = d .counts;
+      few-steps = d .few-steps;
+      few-cells = d .few-cells;
     }
 
-pub solve-spec : {M : Type 1} → statement M
-solve-spec =
+pub solve-within-spec : {M : Type 1} → statement M
+solve-within-spec =
     tie.close
     (tie.spec
     some-crosses-requires
     no-point-requires
-    with-steps-requires
+    with-work-requires
     returns
     presolve-requires
     decide-requires
