@@ -11,8 +11,8 @@
 --   Walked most p n   n steps were taken by the search of p that may take `most`
 --   CountsAs most k p n, Counts most p a n
 --                     n steps were taken for an answer of that kind, for the answer a
---   Decides most p r  r is the answer of p, with the steps of its search, at most so many;  SolvesWithin most p r: with those of the presolved problem
---   Solves p r        the same for at most 1,000 steps
+--   SolvesWithin most p r
+--                     r is the answer of p, with the steps of its search, at most so many;  Solves p r: at most 1,000
 use mathlib.Core.Path.{_≡_}
 use mathlib.Core.Bool.{Bool}
 use mathlib.Core.List.{List}
@@ -36,7 +36,6 @@ use Rattle.knapsack.specs.declared.Problem.{Problem}
 use Rattle.prepare.specs.Pairs.{PairsOf}
 use Rattle.prepare.specs.Narrowing.{spanOf}
 use Rattle.prepare.specs.Prepared.{PreparedAt}
-use Rattle.presolve.specs.Presolve.{presolved}
 use Rattle.setting.specs.declared.Pairs.{Pairs}
 use Rattle.setting.specs.declared.Setting.{Setting}
 use Rattle.search.specs.declared.Incumbent.{Incumbent}
@@ -117,16 +116,9 @@ CountsAs most (kind.Refused f) p n = ⊥
 abbrev pub Counts : ℕ → Problem → Answer → ℕ → Type 0
 Counts most p a n = CountsAs most (a .kind) p n
 
-pub record Decides (most : ℕ) (p : Problem) (r : Solved) : Type 0 where
-  pub answers : Answers (instanceOf p) (r .answer)
-  pub counts : Counts most p (r .answer) (r .steps)
-  pub few-steps : r .steps ≤ most
-  pub few-cells : r .cells ≤ mostCells
-
--- the search is that of the presolved problem
 pub record SolvesWithin (most : ℕ) (p : Problem) (r : Solved) : Type 0 where
   pub answers : Answers (instanceOf p) (r .answer)
-  pub counts : Counts most (presolved p) (r .answer) (r .steps)
+  pub counts : Counts most p (r .answer) (r .steps)
   pub few-steps : r .steps ≤ most
   pub few-cells : r .cells ≤ mostCells
 

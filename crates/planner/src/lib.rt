@@ -20,7 +20,6 @@ use prepare::narrowed;
 use prepare::pairs_of;
 use prepare::prepare;
 use prepare::reach_of;
-use presolve::presolve;
 use rays::find_ray;
 use search::Incumbent;
 use search::run;
@@ -42,7 +41,7 @@ ghost use Rattle.search.specs.Steps.{GoodBest};
 ghost use Rattle.setting.specs.Ready.{ReadySetting, Ready};
 ghost use Rattle.setting.specs.Box.{Inside};
 ghost use Rattle.settling.specs.Settling.{Settles};
-ghost use Rattle.planner.specs.Outcomes.{Joinable, Cornered, Best, BestPlace, Decides, SolvesWithin, Solves};
+ghost use Rattle.planner.specs.Outcomes.{Joinable, Cornered, Best, BestPlace, SolvesWithin, Solves};
 
 // How many steps a search may take before the scales answer. Nearly all searches end before; one that has not may take for ever.
 pub const STEPS: u64 = 1000;
@@ -178,7 +177,7 @@ fn with_work(a: Answer, steps: u64, cells: u64) -> Solved
 // where it has a ray; else there is a best place, for the lightest point is feasible: see proofs/Outcomes (must-find).
 fn decide(p: Problem, most: u64) -> Solved
     requires { ⌜ InRange p ⌝ }
-    ensures { λ r. ⌜ Decides most p r ⌝ }
+    ensures { λ r. ⌜ SolvesWithin most p r ⌝ }
 {
     let s = prepare(p);
     let f = begin(s.cols, s.ends);
@@ -201,7 +200,7 @@ fn decide(p: Problem, most: u64) -> Solved
 }
 
 // The answer of a problem whose figures are in range, by a search of at most so many steps. Where bounds cross it is infeasible, even if there is a
-// ray: see model's proofs/Crossings (crossed-infeasible). Else it is that of the problem with its parallel items fixed.
+// ray: see model's proofs/Crossings (crossed-infeasible).
 pub fn solve_within(p: Problem, most: u64) -> Solved
     requires { ⌜ FiguresInRange p ⌝ }
     ensures { λ r. ⌜ SolvesWithin most p r ⌝ }
@@ -210,8 +209,7 @@ pub fn solve_within(p: Problem, most: u64) -> Solved
         let none = no_point(Kind::Infeasible);
         return with_work(none, 0, 0);
     }
-    let q = presolve(p);
-    decide(q, most)
+    decide(p, most)
 }
 
 pub fn solve(p: Problem) -> Solved
