@@ -31,7 +31,6 @@ use Rattle.knapsack.specs.declared.Bound.{Bound}
 use Rattle.knapsack.specs.declared.Item.{Item}
 use Rattle.knapsack.specs.declared.Problem.{Problem}
 use Rattle.greedy.specs.Fill.{at, weightOf}
-use Rattle.setting.specs.Ready.{RateBounded}
 use Rattle.setting.specs.Box.{levelAt}
 use Rattle.setting.specs.declared.Setting.{Setting}
 use Rattle.prepare.specs.Figures.{endOr}
@@ -337,15 +336,15 @@ module _ (p : Problem) (range : InRange p) (s t : Setting) (q : Prepared p s) (n
   ends-at xs f k x h e g = e ∙ ap₂ (λ (a y : ℤ). clampTo (spanBy (reachOf p) a) y) (q .weights k h) g
 
   pub narrowed-prepared : PreparedAt (spanOf p) p t
-  narrowed-prepared = made t (n .cols) (n .level) (n .levels) (n .lattice) (n .strides) (n .lo) (n .hi) (n .low) (n .high) (n .lengths)
+  narrowed-prepared = made t (n .cols) (n .level) (n .levels) (n .lattice) (n .lo) (n .hi) (n .low) (n .high) (n .lengths)
     where
-      made : (t : Setting) → t .cols ≡ s .cols → t .level ≡ s .level → t .levels ≡ s .levels → t .lattice ≡ s .lattice → t .strides ≡ s .strides
+      made : (t : Setting) → t .cols ≡ s .cols → t .level ≡ s .level → t .levels ≡ s .levels → t .lattice ≡ s .lattice
           → ((k : ℕ) → k < 16 → at (t .ends .lo) k ≡ clampTo (S k) (at (s .ends .lo) k))
           → ((k : ℕ) → k < 16 → at (t .ends .hi) k ≡ clampTo (S k) (at (s .ends .hi) k))
           → ((d : ℕ) → d < s .levels → at (t .low) d ≡ at (t .ends .lo) (levelAt s d))
           → ((d : ℕ) → d < s .levels → at (t .high) d ≡ at (t .ends .hi) (levelAt s d))
           → (length (t .ends .lo) ≡ 16) × (length (t .ends .hi) ≡ 16) → PreparedAt (spanOf p) p t
-      made t ec el en ea ez lo hi low high long = record {
+      made t ec el en ea lo hi low high long = record {
         count = rw ec (q .count);
         capacity = rw ec (q .capacity);
         weights = rw ec (q .weights);
@@ -380,13 +379,6 @@ module _ (p : Problem) (range : InRange p) (s t : Setting) (q : Prepared p s) (n
                     lo k y ∙ ap (clampTo (S k)) (c .fixed k x (rw (el, en) at f)) ∙ sym (hi k y);
                 on = rw (ec, el, en, ea) (c .on);
               };
-          strides-in = rw ez (q .ready .strides-in);
-          strides-hold = λ nz.
-              let z = q .ready .strides-hold (rw ez at nz) in
-              record {
-                multiples = rw (ec, el, en, ez) (z .multiples);
-                rate-bounded = λ k h f. kept k (rw ec at h) (z .rate-bounded k (rw ec at h) (rw (el, en) at f));
-              };
         };
         marked = record { integer = rw (el, en) (q .marked .integer); level = rw (ec, el, en) (q .marked .level) };
         arranged = record {
@@ -396,14 +388,8 @@ module _ (p : Problem) (range : InRange p) (s t : Setting) (q : Prepared p s) (n
           sorted = rw (ec, el) (q .arranged .sorted);
           leads = rw (el, en) (q .arranged .leads);
           latticing = rw (el, en, ea) (q .arranged .latticing);
-          strides-of = rw (ec, ez) (q .arranged .strides-of);
         };
       }
-        where
-          kept : (k : ℕ) → k < s .cols .count → (at (s .ends .lo) k ≡ at (s .ends .hi) k) ⊎ RateBounded (s .cols) (s .strides) k
-              → (at (t .ends .lo) k ≡ at (t .ends .hi) k) ⊎ RateBounded (t .cols) (t .strides) k
-          kept k h (inl e) = let y : k < 16 = omega (arith, q .count, range .few-items) in inl (lo k y ∙ ap (clampTo (S k)) e ∙ sym (hi k y))
-          kept k h (inr e) = inr (rw (ec, ez) e)
 
 -- ---- what the box weighs
 

@@ -117,7 +117,7 @@ module _ (s : Setting) (r : ReadySetting s) (long : Long (s .ends)) where
       pub settles-verdict : (w : Settled) → LookedAs s ps t b r′ w → Settles (orderOf s) w (at (t .place)) (SettledAt s marks b′)
       settles-verdict (Run d) (e, c) =
           λ y bx run. rw (kept-best e) (cut-settles s r long marks m (at (t .place)) (started .inside) d b (c .level-in) (g .proper)
-          (subst (λ v. cutBy (s .cols) (s .strides) (latticeAt (s .lattice) d) (runEnds s (at (t .place)) v d) b ≡ true) (started .starts d (c .level-in))
+          (subst (λ v. cutBy (s .cols) (latticeAt (s .lattice) d) (runEnds s (at (t .place)) v d) b ≡ true) (started .starts d (c .level-in))
           (c .cut)) y run)
       settles-verdict (Prefix n) (inl h) = λ y bx a. rw (h .tries .best-is)
           (tried-settles s r long marks m (at (t .place)) (started .inside) (t .place) b (g .proper) y (subst (λ k. Agree k (at (t .place)) y) (h .all) a))

@@ -1,8 +1,7 @@
 -- What the parts of a step ask and give.
 --   LongPath p        the lists of a path have a place for each level
 --   Dived s j p r     r is p with the levels from j on at their starts
---   MixedBoundInRange, MixedInRange, HopelessInRange
---                     what the bound by strides, its comparison, and the three cuts of a filling ask
+--   HopelessInRange   what the cuts of a filling ask
 --   Started s t       the path's place is in the box, and its starts are the place's
 --   ProperBest b      an incumbent's value can be compared
 --   BoxInRange c e b  columns, box and incumbent are in their ranges, and the box in order
@@ -57,7 +56,6 @@ use Rattle.places.specs.declared.Settled.{Settled}
 use Rattle.places.specs.declared.Settled.the-variants.{Run, Prefix}
 use Rattle.places.specs.Moves.{pastOf}
 use Rattle.setting.specs.declared.Setting.{Setting}
-use Rattle.setting.specs.declared.StrideBound.{StrideBound}
 use Rattle.setting.specs.declared.Pairs.{Pairs}
 use Rattle.search.specs.declared.Incumbent.{Incumbent}
 use Rattle.search.specs.declared.Path.{Path}
@@ -66,7 +64,7 @@ use Rattle.search.specs.declared.State.{State}
 use Rattle.search.specs.declared.Comparison.{Comparison}
 use Rattle.setting.specs.Box.{fixedBy, Long, Inside}
 use Rattle.search.specs.Search.{startBy, runEnds, cutBy, betterBy, triedBy, Applies}
-use Rattle.setting.specs.Ready.{StrideBoundInRange, ReadySetting, Ready}
+use Rattle.setting.specs.Ready.{ReadySetting, Ready}
 
 -- ---- going down
 
@@ -84,22 +82,10 @@ pub record Dived (s : Setting) (j : ℕ) (p r : Path) : Type 0 where
 -- ---- looking
 
 -- what a filling that ends at an item of that weight and price promises can be compared
-pub record MixedBoundInRange (m : StrideBound) (f : Fill) (size rate : ℤ) : Type 0 where
-  pub strides-in : StrideBoundInRange m
-  pub stride≥1 : pos 0 <ℤ m .stride
+pub record HopelessInRange (l : Lattice) (f : Fill) (size rate : ℤ) (b : Mixed) : Type 0 where
   pub steep : Steep (record { worth = f .worth; rate = rate; size = size })
-  pub room≥0 : pos 0 ≤ℤ f .room
-  pub room-in : Within mostRoom (f .room)
-
-pub record MixedInRange (m : StrideBound) (f : Fill) (size rate : ℤ) (b : Mixed) : Type 0 where
-  pub strides-in : StrideBoundInRange m
-  pub steep : Steep (record { worth = f .worth; rate = rate; size = size })
-  pub room≥0 : pos 0 ≤ℤ f .room
   pub room-in : Within mostRoom (f .room)
   pub proper : Proper b
-
-pub record HopelessInRange (m : StrideBound) (l : Lattice) (f : Fill) (size rate : ℤ) (b : Mixed) : Type 0 where
-  pub mixed-in : MixedInRange m f size rate b
   pub tame : Tame l
 
 -- the path's place is in the box, and its starts are the place's
@@ -120,7 +106,7 @@ pub record BoxInRange (c : Columns) (e : Ends) (b : Incumbent) : Type 0 where
 
 -- the run of level d is cut
 abbrev pub cutAt : Setting → Path → Incumbent → ℕ → Bool
-cutAt s t b d = cutBy (s .cols) (s .strides) (latticeAt (s .lattice) d) (runEnds s (at (t .place)) (at (t .starts) d) d) b
+cutAt s t b d = cutBy (s .cols) (latticeAt (s .lattice) d) (runEnds s (at (t .place)) (at (t .starts) d) d) b
 
 -- the levels above d settle nothing
 pub record Passed (s : Setting) (p : Pairs) (t : Path) (b : Incumbent) (d : ℕ) : Type 0 where
