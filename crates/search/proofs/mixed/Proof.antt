@@ -44,6 +44,8 @@ S c = c .before .before .before .before .before .before .before .before .before 
 
 returns-2 : tie.Need-returns-2
 returns-2 c =
+    let at-if2 = c .before .before .before .before .before in
+    let start = at-if2 .before .before .before in
     let s = c .before .before .before .before .before .before .before .before .before .before .before in
     let t = rw (
       toZ-ofZ (s .fits .rate),
@@ -53,7 +55,7 @@ returns-2 c =
       within-back tt (own-in s),
       within-back tt (own-rate-in s),
     ) at (c .if3 .taken) in
-    rw (strides (c .before .before .before .before .before .before .before .before), le-ltb _ _ (c .before .before .before .before .before .if2 .left), t)
+    rw (strides start, le-ltb _ _ (at-if2 .if2 .left), t)
 
 worth-less : (c : tie.Else3) → ltZ (S c .args .rate *ℤ S c .args .m .size) (S c .args .m .rate *ℤ S c .args .size) ≡ false
 worth-less c =

@@ -19,14 +19,18 @@ use Rattle.prepare.proofs.StridesTrue.{stride-small}
 use Rattle.prepare.proofs.stride.stride_bound.Statement.{statement}
 use Rattle.prepare.proofs.stride.stride_bound.Tie as tie
 
-up : (c : tie.After-stride-of) → toZ w64 (c .stride-of .result) ≡ pos (strideOf (c .before .before .before .before .before .args .p)
-    (c .before .before .before .before .before .args .p .count))
+up : (c : tie.After-stride-of) →
+    let s = c .before .before .before .before .before in
+    toZ w64 (c .stride-of .result) ≡ pos (strideOf (s .args .p)
+    (s .args .p .count))
 up c =
     let s = c .before .before .before .before .before in
     let b = stride-small (s .args .p) (s .pre .0) (s .args .p .count) (omega arith) in
     rw (c .stride-of .ensures) (toZ-pos w64 (omega (arith, b)))
 
-rank<16 : (c : tie.Then2) → c .before .before .before .before .leading .result < 16
+rank<16 : (c : tie.Then2) →
+    let at-leading = c .before .before .before .before in
+    at-leading .leading .result < 16
 rank<16 c =
     let s = c .before .before .before .before .before .before in
     omega (arith, c .if2 .taken, s .pre .1 .live .most, s .pre .0 .few-items)
