@@ -41,10 +41,11 @@ returns-2 c =
 returns-3 : tie.Need-returns-3
 unfolding headingLine
 returns-3 c =
+    let at-after-byte = c .before .before .before .before in
     let k = c .before .before .before .before .before in
     rw (
       sym (k .before .before .before .after-word .ensures) ∙ k .before .w .given .1,
-      sym (c .before .before .before .before .after-byte .ensures) ∙ c .before .before .p .given .1,
+      sym (at-after-byte .after-byte .ensures) ∙ c .before .before .p .given .1,
     )
     (c .closed-number .ensures)
 

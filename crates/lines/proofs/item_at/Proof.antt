@@ -22,7 +22,9 @@ returns c = rw (sym (c .before .before .item-form .ensures) ∙ c .enum-told .gi
 
 returns-2 : tie.Need-returns-2
 unfolding itemRead
-returns-2 c = rw (sym (c .before .before .before .before .item-form .ensures) ∙ c .before .before .l .given .1) (c .item-of .ensures)
+returns-2 c =
+    let at-item-form = c .before .before .before .before in
+    rw (sym (at-item-form .item-form .ensures) ∙ c .before .before .l .given .1) (c .item-of .ensures)
 
 pub item-at-spec : {M : Type 1} → statement M
 item-at-spec =

@@ -45,7 +45,9 @@ find-ray-requires : tie.Need-find-ray-requires
 find-ray-requires c κs = search needs
 
 unbounded-requires : tie.Need-unbounded-requires
-unbounded-requires c κs = c .before .before .before .before .before .before .before .prepare .ensures .ready .sized
+unbounded-requires c κs =
+    let at-prepare = c .before .before .before .before .before .before .before in
+    at-prepare .prepare .ensures .ready .sized
 
 with-work-requires-2 : tie.Need-with-work-requires-2
 with-work-requires-2 c κs = search needs
@@ -135,7 +137,9 @@ with-work-requires-3 : tie.Need-with-work-requires-3
 with-work-requires-3 c κs = search needs
 
 -- the search's own count
-walked : (n : tie.After-best-place) → let s = Prep (n .before .before .before .before) .before in
+walked : (n : tie.After-best-place) →
+    let start = n .before .before .before .before in
+    let s = Prep start .before in
     Walked (s .args .most) (s .args .p) (n .best-place .result .steps)
 unfolding Prep
 walked n = record {

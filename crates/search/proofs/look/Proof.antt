@@ -210,9 +210,11 @@ cut-requires c κs =
 
 -- the levels above settle nothing
 passed : (l : tie.At-loop Inv-loop μ-loop) (d : ℕ) → d ≤ l .loop .d → Passed (Of l .args .t1) (Of l .args .p) (Of l .args .t) (Of l .args .best) d
-passed l d h = record {
+passed l d h =
+    let at-first-paired = l .before .before .before .before in
+    record {
   uncut = λ i g. l .loop .inv .1 .1 .1 i (omega arith);
-  unpaired = λ i g. l .before .before .before .before .first-paired .ensures .before i (omega (arith, l .loop .inv .1 .1 .0));
+  unpaired = λ i g. at-first-paired .first-paired .ensures .before i (omega (arith, l .loop .inv .1 .1 .0));
 }
 
 -- whether the run of the level is cut
@@ -227,12 +229,15 @@ cut-is c =
 
 returns : tie.Need-returns Inv-loop μ-loop
 returns c =
-    let i = Round (c .before .before .before .before) in
+    let s = c .before .before .before .before in
+    let i = Round s in
     let l = i .before in
     (refl, record { level-in = i .loop-test .taken; passed = passed l (l .loop .d) (omega arith); cut = sym (cut-is (c .before)) ∙ c .if1 .taken })
 
 add-t50 : tie.Need-add-t50 Inv-loop μ-loop
-add-t50 c = record { fits = omega (arith, d<16 (Round (c .before .before .before .before .before))) }
+add-t50 c =
+    let s = c .before .before .before .before .before in
+    record { fits = omega (arith, d<16 (Round s)) }
 
 -- the level that a pair discards
 returns-2 : tie.Need-returns-2 Inv-loop μ-loop
