@@ -1,5 +1,5 @@
 use mathlib.Core.Path.{sym, ap, _∙_}
-use Rattle.lines.specs.declared.number.Field.the-variants.{Number}
+use Rattle.lines.specs.declared.number.Figure.the-variants.{Number}
 use borrow.Author.Needs.{needs}
 use Rattle.lines.proofs.number.number.Statement.{statement}
 use Rattle.lines.proofs.number.number.Tie as tie
