@@ -19,9 +19,10 @@ static void *run(void *arg) {
     const uint8_t *s = (const uint8_t *)c->sheet;
     static uint8_t out[CHARGE_ROOM];
     uint64_t line;
+    size_t written;
     switch (c->entry) {
     case 'p':
-        charge_plan(s, strlen(c->sheet), out, sizeof out);
+        charge_plan(s, strlen(c->sheet), out, sizeof out, &written, &line);
         break;
     case 'r':
         charge_read(s, strlen(c->sheet), &line);

@@ -48,14 +48,20 @@ fn check_first(problem: &Problem, text: &str) -> Result<(), String> {
     }
 }
 
-/// Lent buffers that just do and just do not hold the text.
-fn check_buffers(sheet: &[u8], text: &str) -> Result<(), String> {
+/// Lent buffers that just do and just do not hold the text; a refusal leaves both alone.
+fn check_buffers(sheet: &[u8], expected: Reply, text: &str) -> Result<(), String> {
     let mut tight = vec![7; text.len()];
     let mut short = vec![7; text.len() - 1];
-    if ours::plan_into(sheet, &mut tight) != text.len() || tight != text.as_bytes() {
+    let (told, told_short) = (ours::plan_into(sheet, &mut tight), ours::plan_into(sheet, &mut short));
+    let is_left = |b: &[u8]| b.iter().all(|&x| x == 7);
+    let (is_told, is_told_short) = match expected {
+        Reply::Refused(f) => (told == Err((f.number, f.line)) && is_left(&tight), told_short == told),
+        _ => (told == Ok(text.len()) && tight == text.as_bytes(), told_short == Err((11, 0))),
+    };
+    if !is_told {
         return Err("a buffer of the text's length".into());
     }
-    if ours::plan_into(sheet, &mut short) != 0 || short.iter().any(|&b| b != 7) {
+    if !is_told_short || !is_left(&short) {
         return Err("a buffer that is too short".into());
     }
     Ok(())
@@ -80,7 +86,7 @@ fn compare_sheet(sheet: &[u8], limit: u64, counts: &mut Counts) -> Result<(), St
     check(problem.as_ref().ok(), expected, &text)
         .and_then(|_| in_order.map_or(Ok(()), |p| check_first(p, &text)))
         .and_then(|_| check_verdict(sheet, expected))
-        .and_then(|_| if twin.is_none_or(|t| t.steps < 1000) { check_buffers(sheet, &text) } else { Ok(()) })
+        .and_then(|_| if twin.is_none_or(|t| t.steps < 1000) { check_buffers(sheet, expected, &text) } else { Ok(()) })
         .map_err(|what| format!("{what}; expected {expected:?}, ours is\n{text}"))
 }
 

@@ -5,7 +5,7 @@ use crate::twin::{Rules, SEARCH_ONLY};
 extern "C" {
     fn charge_room() -> usize;
     fn charge_read(sheet: *const u8, len: usize, line: *mut u64) -> u64;
-    fn charge_plan(sheet: *const u8, len: usize, out: *mut u8, room: usize) -> usize;
+    fn charge_plan(sheet: *const u8, len: usize, out: *mut u8, room: usize, written: *mut usize, line: *mut u64) -> u64;
     fn charge_steps(sheet: *const u8, len: usize) -> u64;
 }
 
@@ -30,15 +30,22 @@ pub fn read(sheet: &[u8]) -> (u64, u64) {
     (number, line)
 }
 
-/// The reply at the start of `out`, and its length; 0 if `out` is too short.
-pub fn plan_into(sheet: &[u8], out: &mut [u8]) -> usize {
-    unsafe { charge_plan(sheet.as_ptr(), sheet.len(), out.as_mut_ptr(), out.len()) }
+/// The reply at the start of `out`, and its length; or number and line of a refusal, 11 if `out` is too short.
+pub fn plan_into(sheet: &[u8], out: &mut [u8]) -> Result<usize, (u64, u64)> {
+    let (mut written, mut line) = (0, 0);
+    match unsafe { charge_plan(sheet.as_ptr(), sheet.len(), out.as_mut_ptr(), out.len(), &mut written, &mut line) } {
+        0 => Ok(written),
+        number => Err((number, line)),
+    }
 }
 
+/// What `charge` prints.
 pub fn plan(sheet: &[u8]) -> String {
     let mut out = vec![0; room()];
-    let n = plan_into(sheet, &mut out);
-    String::from_utf8_lossy(&out[..n]).into_owned()
+    match plan_into(sheet, &mut out) {
+        Ok(n) => String::from_utf8_lossy(&out[..n]).into_owned(),
+        Err((number, line)) => format!("refused {number} {line}\n"),
+    }
 }
 
 /// The one place that asks for the work of a call. No entry tells cells yet.

@@ -8,6 +8,7 @@ use mathlib.Core.Bool.{Bool, true, false, cond}
 use mathlib.Core.List.{List}
 use mathlib.Core.Logic.{_≢_, _⊎_, inl, inr}
 use Prim.Native.Nat.{ℕ, _+_, _*_, _≤_, _<_}
+use native.Mathlib.Decide.{ℕ-discrete}
 use native.Mathlib.Omega.{arith}
 use lib.Dec.{ltb, eqb}
 use lib.IntN.{ℤ, pos, natAbs, _+ℤ_, _-ℤ_, _*ℤ_}
@@ -241,6 +242,18 @@ module _ (p : Problem) (range : InRange p) (s : Setting) (q : PreparedAt (spanOf
           go (inl x) = absurd (n (ap (λ (z : Fraction). z .q) (shows k l) ∙ ap (λ z. lowest z D .q) x ∙ lowest-whole (stand (s .cols) e (f .at) k) D D≥1))
           go (inr x) = x
 
+      -- its divisor is its weight
+      heavy : (k : ℕ) → k < p .count → amountAt a k .q ≢ 1 → D ≡ natAbs (weights J k)
+      heavy k l n =
+          parts-critical (s .cols) f (q .ready .ordered) k (in-near k l) (critical k l n .0) (critical k l n .1) ∙ ap natAbs (q .weights k l)
+
+      weightless : (k : ℕ) → k < p .count → weights J k ≡ pos 0 → amountAt a k .q ≡ 1
+      weightless k l e = go (ℕ-discrete (amountAt a k .q) 1)
+        where
+          go : Dec (amountAt a k .q ≡ 1) → amountAt a k .q ≡ 1
+          go (yes o) = o
+          go (no n) = let z : D ≡ 0 = heavy k l n ∙ ap natAbs e in absurd (omega (arith, D≥1))
+
       shown : Shown J (amountAt a)
       shown = record {
         small = λ k l. rw (shows k l) (lowest-small (N k) D D≥1 (amount-small k l));
@@ -248,9 +261,8 @@ module _ (p : Problem) (range : InRange p) (s : Setting) (q : PreparedAt (spanOf
         lowest = λ k l. rw (shows k l) (lowest-coprime (N k) D D≥1);
         single = λ j k l m nj nk. sym (q .ready .ordered .item-rank j (in-near j l)) ∙ ap (itemOf d) (critical j l nj .0 ∙ sym (critical k m nk .0))
             ∙ q .ready .ordered .item-rank k (in-near k m);
-        divides = λ k l n. subst₂ Divides (ap (λ (z : Fraction). z .q) (sym (shows k l)))
-            (parts-critical (s .cols) f (q .ready .ordered) k (in-near k l) (critical k l n .0) (critical k l n .1) ∙ ap natAbs (q .weights k l))
-            (lowest-divides (N k) D D≥1);
+        divides = λ k l n. subst₂ Divides (ap (λ (z : Fraction). z .q) (sym (shows k l))) (heavy k l n) (lowest-divides (N k) D D≥1);
+        weightless = weightless;
         beyond = λ k l. h .point-is .beyond k (omega (arith, q .count));
       }
 

@@ -4,12 +4,11 @@
 use knapsack::Verdict;
 use model::plain_of;
 use planner::solve;
-use replies::reply_to;
+use replies::list_sheet;
 use sheet::Reading;
 use sheet::read;
 use text::Listed;
 use text::ROOM;
-use text::hand_over;
 use writer::rewrite_sheet;
 ghost use mathlib.Core.Path.{_≡_};
 ghost use Rattle.knapsack.specs.declared.Verdict.the-variants.{Accepted};
@@ -107,17 +106,17 @@ pub extern "C" fn charge_write(sheet: &[u8], out: &mut [u8], line: &mut u64) -> 
     told_number(v)
 }
 
-// What `charge` prints for a sheet, at the start of a lent buffer, and its length. 0, and no byte changes, where the buffer is shorter
-// (refusal 11): no reply is empty.
+// What `charge` prints for an accepted sheet, at the start of a lent buffer: 0, and written gets its length. A refusal's number, with its line
+// and length 0, and no byte changes, where the sheet is refused or, refusal 11, the buffer is shorter than the text.
 #[no_mangle]
-pub extern "C" fn charge_plan(sheet: &[u8], out: &mut [u8]) -> usize
-    ensures { λ r. ⌜ Plans (now (sheet .entry)) (now (out .entry)) (now (out .exit)) r ⌝ }
+pub extern "C" fn charge_plan(sheet: &[u8], out: &mut [u8], written: &mut usize, line: &mut u64) -> u64
+    ensures { λ r. ⌜ Plans (now (sheet .entry)) (now (out .entry)) (now (out .exit)) (now (written .exit)) (now (line .exit)) r ⌝ }
 {
-    let t = reply_to(sheet);
-    let bytes = t.bytes;
-    let len = t.len;
-    let w = hand_over(&bytes[..len], out);
-    length_of(w)
+    let w = list_sheet(sheet, out);
+    let v = listed_verdict(w);
+    *written = length_of(w);
+    *line = told_line(v);
+    told_number(v)
 }
 
 // The steps of the search for a sheet; none where it is refused, or where no search is needed.

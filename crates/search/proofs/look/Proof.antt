@@ -246,7 +246,8 @@ returns-2 c =
     let i = Round (after-by-side2-by-else1 e) in
     let l = i .before in
     let s = Of l in
-    let f = l .before .before .before .before .first-paired in
+    let paired = l .before .before .before .before in
+    let f = paired .first-paired in
     let q = c .if2 .taken in
     inr (
       refl,
@@ -297,11 +298,12 @@ loop-again c =
     let i = Round b in
     let l = i .before in
     let s = Of l in
+    let read = b .before .before .before .before .before .before in
     let x = at (s .args .t .place) (l .loop .d) in
     let k = levelAt (s .args .t1) (l .loop .d) in (
       omega (arith, i .loop-test .taken),
       (
-        rw (add-one, back x (b .before .before .before .before .before .before .a .given))
+        rw (add-one, back x (read .a .given))
             (rewritten (l .loop .e) k (toZ w64 (ofZ w64 (b .before .before .by-side .result))) (toZ w64 (ofZ w64 (b .by-side2 .result))) x
             ∙ ap (λ e. spanned e k x x) (l .loop .inv .1 .0)),
         (omega (arith, l .loop .inv .1 .1 .0, c .if2 .left), λ j h. still u j (omega arith) (ℕ-discrete j (l .loop .d))),

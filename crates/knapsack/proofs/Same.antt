@@ -1,15 +1,32 @@
--- Two instances that agree at the items of the problem have the same answers: the places beyond the count play no part (same-answers).
-use mathlib.Core.Path.{_≡_, ap, _∙_, subst, subst₂}
+-- The places beyond the count play no part.
+--   Same s t     the instances agree at the items of the problem
+-- same-sym: so they do the other way round. same-relaxed: so do their relaxations. same-answers: they have the same answers.
+use mathlib.Core.Path.{_≡_, sym, ap, _∙_, subst, subst₂}
 use Prim.Native.Nat.{ℕ, _<_}
 use native.Mathlib.Omega.{arith}
 use lib.IntN.{ℤ}
 use Rattle.arith.proofs.Fractions.{total-cong}
 use Rattle.arith.specs.Fractions.{int, _·ᶠ_, _≤ᶠ_, total}
+use Rattle.arith.specs.Sum.{Each}
 use Rattle.knapsack.proofs.Serve.{Serves, serve-answers}
 use Rattle.knapsack.specs.declared.Answer.{Answer}
 use Rattle.knapsack.specs.declared.Item.{Item}
-use Rattle.knapsack.specs.Meaning.{Instance, Point, Keeps, value, Feasible, Answers}
-use Rattle.prepare.proofs.Box.{Same, same-sym}
+use Rattle.knapsack.specs.declared.Mark.the-variants.{Continuous}
+use Rattle.knapsack.specs.Meaning.{Instance, Point, Keeps, value, Feasible, relaxed, Answers}
+
+pub record Same (s t : Instance) : Type 0 where
+  pub capacity : s .capacity ≡ t .capacity
+  pub count : s .count ≡ t .count
+  pub items : Each (s .count) (λ k. s .item k ≡ t .item k)
+
+pub same-sym : (s t : Instance) → Same s t → Same t s
+same-sym s t e = record { capacity = sym (e .capacity); count = sym (e .count); items = λ k h. sym (e .items k (omega (arith, e .count))) }
+
+pub same-relaxed : (s t : Instance) → Same s t → Same (relaxed s) (relaxed t)
+same-relaxed s t e = record { capacity = e .capacity; count = e .count; items = λ k h. ap loose (e .items k h) }
+  where
+    loose : Item → Item
+    loose i = record { mark = Continuous; weight = i .weight; price = i .price; lower = i .lower; upper = i .upper }
 
 module _ (s t : Instance) (e : Same s t) where
   in-s : (k : ℕ) → k < t .count → k < s .count
