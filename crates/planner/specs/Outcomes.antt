@@ -6,7 +6,6 @@
 --                     the box of the place x, its filling, and its value
 --   Best s x a        a shows the relaxation of the place x and its value in lowest terms, and no steps
 --   standing s f x    the incumbent that the place x is
---   mostCells         the most cells that the scales write for a problem
 --   BestPlace s p n r r is the best place of the box, with the steps of a search that may take n
 --   Walked most p n   n steps were taken by the search of p that may take `most`
 --   CountsAs most k p n, Counts most p a n
@@ -16,14 +15,13 @@
 use mathlib.Core.Path.{_≡_}
 use mathlib.Core.Bool.{Bool}
 use mathlib.Core.List.{List}
-use Prim.Native.Nat.{ℕ, _*_, _≤_}
+use Prim.Native.Nat.{ℕ, _≤_}
 use lib.IntN.{ℤ, pos, _*ℤ_}
 use lib.ListN.{replicate}
 use Rattle.arith.specs.Within.{Within}
 use Rattle.arith.specs.Gcd.{lowest}
 use Rattle.arith.specs.declared.Mixed.{Mixed}
 use Rattle.arith.proofs.Mixes.{over}
-use Rattle.fillings.specs.Runs.{runCells}
 use Rattle.greedy.specs.Amounts.{Amounts}
 use Rattle.greedy.specs.declared.Ends.{Ends}
 use Rattle.greedy.specs.declared.Fill.{Fill}
@@ -43,6 +41,7 @@ use Rattle.search.specs.declared.State.{State}
 use Rattle.setting.specs.Box.{fixedBy}
 use Rattle.search.specs.Searched.{Searched}
 use Rattle.search.specs.Steps.{Stops}
+use Rattle.settling.specs.Settling.{mostCells}
 use Rattle.planner.specs.declared.Found.{Found}
 use Rattle.planner.specs.declared.Solved.{Solved}
 
@@ -82,9 +81,6 @@ pub record Best (s : Setting) (x : List ℤ) (a : Answer) : Type 0 where
 -- an incumbent at x
 abbrev pub standing : Setting → Bool → List ℤ → Incumbent
 standing s f x = record { found = f; place = x; value = valueAt s x }
-
-abbrev pub mostCells : ℕ
-mostCells = 33 * runCells
 
 -- the place is best in the box, or there is none; the steps are those of a search that may take n, and the cells few
 pub record BestPlace (s : Setting) (p : Pairs) (n : ℕ) (r : Found) : Type 0 where
