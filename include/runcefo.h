@@ -8,7 +8,7 @@
    Overlap     What is written (`out`, `written`, `line`) overlaps nothing else that is handed over.
    Threads     There is no state between calls: any number of threads may call at the same time, on buffers of their own.
    Heap        None is used, and nothing is read or written but what is handed over. Of the C library only memcpy, memmove and memset are needed.
-   Stack       37,480 bytes were measured (`bench/run stack`); CHARGE_STACK is a safe figure.
+   Stack       39,480 bytes were measured (`bench/run stack`); CHARGE_STACK is a safe figure.
    Time        Every call ends. A search may take long: charge_steps counts its steps; most sheets take less than a thousand. */
 #ifndef RUNCEFO_H
 #define RUNCEFO_H
@@ -42,7 +42,8 @@ enum charge_refusal {
 extern "C" {
 #endif
 
-/* How many bytes hold every reply: CHARGE_ROOM of the library that is linked. charge_plan never tells CHARGE_SHORT_BUFFER of so many (proved). */
+/* How many bytes hold every reply: CHARGE_ROOM of the library that is linked. charge_plan never tells
+   CHARGE_SHORT_BUFFER of so many (`room-holds` in crates/runcefo, proofs/Replies). */
 size_t charge_room(void);
 
 /* A sheet's verdict, one of charge_refusal; *line gets the refusal's line, or 0. */

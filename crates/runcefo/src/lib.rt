@@ -11,6 +11,7 @@ use text::ROOM;
 use writer::rewrite_sheet;
 ghost use mathlib.Core.Path.{_≡_};
 ghost use Rattle.knapsack.specs.declared.Verdict.the-variants.{Accepted};
+ghost use Rattle.listing.specs.Printing.{room};
 ghost use Rattle.model.specs.Records.{plainOf, FiguresInRange};
 ghost use Rattle.sheet.specs.Reading.{readSheet};
 ghost use Rattle.runcefo.specs.Entries.{toldNumber, toldLine, lengthOf, listedVerdict, Plans, Steps, Cells, saved, left};
@@ -87,10 +88,10 @@ fn work_for(sheet: &[u8]) -> Work
     work_of(r)
 }
 
-// How many bytes hold every reply.
+// How many bytes hold every reply (proofs/Replies, room-holds).
 #[no_mangle]
 pub extern "C" fn charge_room() -> usize
-    ensures { λ r. ⌜ r ≡ 1440 ⌝ }
+    ensures { λ r. ⌜ r ≡ room ⌝ }
 {
     ROOM
 }
