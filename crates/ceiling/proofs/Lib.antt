@@ -1,0 +1,12 @@
+pub mod Loss
+pub mod Pieces
+pub mod Bounded
+pub mod Attained
+pub mod Rooms
+pub mod Order
+pub mod Covering
+pub mod Lists
+pub mod Ranges
+pub mod Framing
+pub mod Shallow
+pub mod Limits

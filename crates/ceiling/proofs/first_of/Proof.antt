@@ -1,0 +1,102 @@
+-- `ceiling::first_of` meets its contract.
+use borrow.Author.Needs.{needs}
+use native.Mathlib.Omega.{arith}
+use mathlib.Core.Path.{_≡_, refl, sym, ap, _∙_, subst}
+use Prim.Native.Nat.{ℕ, _+_, _-_}
+use lib.IntN.{ℤ, pos}
+use lib.Signed.{_≤ℤ_, _<ℤ_}
+use Rattle.arith.proofs.Integers.{split, zed}
+use Rattle.scales.specs.Filling.{Bounds}
+use Rattle.fillings.specs.Ranges.{itemsIn}
+use Rattle.fillings.specs.Runs.{FirstAt}
+use Rattle.arith.proofs.Parts.{impossible}
+use Rattle.ceiling.proofs.Lists.{pieces-fair, pieces-keyable, listing-items}
+use Rattle.ceiling.proofs.Order.{floor-bounds, first-none, first-point}
+use Rattle.ceiling.proofs.Rooms.{roomless}
+use Rattle.ceiling.proofs.Lists.{pieces-narrow}
+use lib.ListN.{length}
+use Rattle.ceiling.proofs.first_of.Statement.{statement}
+use Rattle.ceiling.proofs.first_of.Tie as tie
+use Rattle.fillings.proofs.first_filling.Reads as first-filling-reads
+
+above : (n : ℕ) (x : ℤ) → pos (n + 1) ≤ℤ x → pos n <ℤ x
+above n = split _ (λ a b. simp zed (omega arith))
+
+room-of-requires : tie.Need-room-of-requires
+room-of-requires c κs = search needs
+
+pieces-of-requires : tie.Need-pieces-of-requires
+pieces-of-requires c κs = search needs
+
+add-first-filling : tie.Need-add-first-filling
+add-first-filling c = search needs
+
+first-filling-requires : tie.Need-first-filling-requires
+first-filling-requires c κs =
+    let s = c .before .before .before .before .before in
+    let a = s .args in
+    let z = s .pre .0 in
+    let m = c .before .before .before .room-of in
+    let fits = c .before .before .if1 .taken in
+    let ps = c .before .pieces-of in
+    let bound = floor-bounds (a .p) (a .q) (a .cols) (a .ends) (a .scale) (a .cut) (z .0 .columns .few) (z .1 .0 .scale≥1) (z .1 .1 .0) (z .1 .1 .1) (m .result .left) (m .ensures .left-is fits) (ps .result) (ps .ensures) (a .r) (s .pre .1 .0 .1 .1) in (
+      (
+        pieces-fair (ps .ensures) (z .0) (z .1 .0 .scale-in) (m .ensures .small),
+        (
+          omega arith,
+          (
+            omega (arith, s .pre .1 .0 .1 .0),
+            (pieces-keyable (ps .ensures) (z .0 .ends) (s .pre .1 .0 .0) (a .r + 1) (omega (arith, s .pre .1 .0 .1 .0)), λ y w f. omega (arith, bound y w f)),
+          ),
+        ),
+      ),
+      s .pre .1 .1,
+    )
+
+same-length : tie.Need-same-length
+same-length c = search needs
+
+returns : tie.Need-returns
+returns c =
+    let s = c .before .before .before .before .before .before .before .before in
+    let a = s .args in
+    let z = s .pre .0 in
+    let m = c .before .before .before .before .before .before .room-of in
+    let fits = c .before .before .before .before .before .if1 .taken in
+    let ps = c .before .before .before .before .pieces-of in
+    let r = c .before .before .first-filling in
+    let same : (a .r + 1) - 1 ≡ a .r = omega arith in
+    record {
+      few = r .ensures .few;
+      found = λ i. first-point (a .p) (a .q) (a .cols) (a .ends) (a .scale) (a .cut) (z .0 .columns .few) (z .1 .0 .scale≥1) (z .1 .1 .0) (z .1 .1 .1) (m .result .left) (m .ensures .left-is fits) (ps .result) (ps .ensures) (a .r) (r .result) (subst (λ n. FirstAt (ps .result) (m .result .left) n (r .result .amounts)) same (r .ensures .found i));
+      small = λ i k l. let h = r .ensures .found i in omega (arith, h .shown k l, h .within k (omega (arith, ps .ensures .weights .long)), pieces-narrow (ps .ensures) (z .0 .ends) (s .pre .1 .0 .0) k l);
+      none = λ i. first-none (a .p) (a .q) (a .cols) (a .ends) (a .scale) (a .cut) (z .0 .columns .few) (z .1 .0 .scale≥1) (z .1 .1 .0) (z .1 .1 .1) (m .result .left) (m .ensures .left-is fits) (ps .result) (ps .ensures) (a .r) (r .ensures .none i);
+    }
+
+nowhere-requires : tie.Need-nowhere-requires
+nowhere-requires c κs = search needs
+
+returns-2 : tie.Need-returns-2
+returns-2 c =
+    let s = c .before .before .before .before in
+    let a = s .args in
+    let n = c .nowhere .ensures in
+    record {
+      few = omega (arith, n .1);
+      found = λ i. absurd (impossible (sym (n .0) ∙ i));
+      small = λ i. absurd (impossible (sym (n .0) ∙ i));
+      none = λ i M pt. above (a .r) _ (roomless (a .p) (a .q) (a .cols) (a .ends) (a .scale) (a .cut) (a .r + 1) (s .pre .0 .1 .0 .scale≥1) (c .before .before .room-of .ensures .none (c .before .if1 .left)) .floor M pt);
+    }
+
+pub first-of-spec : {M : Type 1} → statement M
+first-of-spec =
+    tie.close
+    (tie.spec
+    room-of-requires
+    pieces-of-requires
+    add-first-filling
+    first-filling-requires
+    same-length
+    returns
+    nowhere-requires
+    returns-2)

@@ -1,0 +1,56 @@
+-- `ceiling::frame_of` meets its contract.
+use borrow.Author.Needs.{needs}
+use native.Mathlib.Omega.{arith}
+use mathlib.Core.Path.{_≡_, ap₂, _∙_}
+use lib.Dec.{lit<}
+use lib.IntN.{natAbs, _-ℤ_}
+use Rattle.arith.specs.Within.{Within}
+use Rattle.arith.proofs.Parts.{within-more, within-sub, within-sfits, within-back}
+use Rattle.ceiling.proofs.frame_of.Statement.{statement}
+use Rattle.ceiling.proofs.frame_of.Tie as tie
+use Rattle.arith.proofs.magnitude.Reads as magnitude-reads
+
+wide : (c : tie.After-top-of) → Within 200000000000000000 (c .before .before .before .before .args .top -ℤ c .top-of .result)
+wide c = within-sub (c .before .before .before .before .pre .1 .1) (c .top-of .ensures .1)
+
+cut-of-requires : tie.Need-cut-of-requires
+cut-of-requires c κs = search needs
+
+scale-of-requires : tie.Need-scale-of-requires
+scale-of-requires c κs = search needs
+
+framed-requires : tie.Need-framed-requires
+framed-requires c κs = search needs
+
+top-of-requires : tie.Need-top-of-requires
+top-of-requires c κs = search needs
+
+sub-magnitude : tie.Need-sub-magnitude
+sub-magnitude c = let s = c .before .before .before .before in rw (within-back tt (s .pre .1 .1), within-back tt (c .top-of .ensures .1)) (within-sfits (lit< tt) (wide c))
+
+magnitude-requires : tie.Need-magnitude-requires
+magnitude-requires c κs = let s = c .before .before .before .before in rw (within-back tt (s .pre .1 .1), within-back tt (c .top-of .ensures .1), within-back tt (wide c)) (within-more (omega arith) (wide c))
+
+returns : tie.Need-returns
+returns c =
+    let s = c .before .before .before .before .before in
+    let t = c .before .top-of in
+    let m = rw (within-back tt (s .pre .1 .1), within-back tt (t .ensures .1), within-back tt (wide (c .before))) at (c .magnitude .ensures) in
+    record {
+      cut-is = c .before .before .before .before .cut-of .ensures;
+      scale-is = c .before .before .before .scale-of .ensures;
+      ends-are = c .before .before .framed .ensures;
+      less-is = m ∙ ap₂ (λ x y. natAbs (x -ℤ y)) (s .pre .1 .0) (t .ensures .0);
+    }
+
+pub frame-of-spec : {M : Type 1} → statement M
+frame-of-spec =
+    tie.close
+    (tie.spec
+    cut-of-requires
+    scale-of-requires
+    framed-requires
+    top-of-requires
+    sub-magnitude
+    magnitude-requires
+    returns)

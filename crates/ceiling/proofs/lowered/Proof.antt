@@ -1,0 +1,109 @@
+-- `ceiling::lowered` meets its contract.
+use native.Mathlib.Omega.{arith}
+use mathlib.Core.Path.{_≡_, refl, sym, subst}
+use mathlib.Core.Logic.{inl, inr}
+use Prim.Native.Nat.{_+_, _*_, _-_, _/_, _≤_, _<_}
+use Rattle.arith.proofs.Parts.{within-back}
+use Rattle.ceiling.specs.Frames.{scaleOf, FrameBound, Counted}
+use Rattle.ceiling.proofs.Framing.{scale-in, cap-small, cap-least, below-cap, lowered-counted, lowered-new, lowered-old}
+use borrow.Author.Needs.{needs}
+use mathlib.Core.Bool.{true}
+use Rattle.ceiling.specs.Least.{Lowered}
+use native.Mathlib.Nat.{mul-le-mul}
+use Rattle.ceiling.proofs.lowered.Statement.{statement}
+use Rattle.ceiling.proofs.lowered.Tie as tie
+
+scale-is : (c : tie.After-scale-of) → c .scale-of .result ≡ scaleOf (c .before .before .args .cols) (c .before .before .args .t)
+scale-is c = c .scale-of .ensures
+
+scale-small : (c : tie.After-scale-of) → (1 ≤ c .scale-of .result) × (c .scale-of .result ≤ 1000)
+scale-small c = let s = c .before .before in rw (scale-is c) (scale-in (s .args .cols) (s .args .t) (s .pre .0 .0 .sized .columns))
+
+small : (c : tie.After-scale-of) → let b = c .before .before .args .best .lost in c .scale-of .result * b .num + (b .den - 1) ≤ 10000000000999
+small c = let s = c .before .before in cap-small (c .scale-of .result) (s .args .best .lost .num) (s .args .best .lost .den) (scale-small c .1) (s .pre .1 .0)
+
+capped : (c : tie.After-scale-of) → let b = c .before .before .args .best .lost in (c .scale-of .result * b .num + (b .den - 1)) / b .den ≤ 10000000000
+capped c = let s = c .before .before in cap-least (c .scale-of .result) (s .args .best .lost .num) (s .args .best .lost .den) (scale-small c .1) (s .pre .1 .0)
+
+scale-of-requires : tie.Need-scale-of-requires
+scale-of-requires c κs = c .before .pre .0 .0 .sized .columns
+
+mul-cap : tie.Need-mul-cap
+mul-cap c = omega (arith, small c)
+
+sub-cap : tie.Need-sub-cap
+sub-cap c = c .before .before .pre .1 .0 .some
+
+add-cap : tie.Need-add-cap
+add-cap c = omega (arith, small c)
+
+div-cap : tie.Need-div-cap
+div-cap c = c .before .before .pre .1 .0 .some
+
+frame-floor-requires : tie.Need-frame-floor-requires
+frame-floor-requires c κs =
+    let s = c .before .before .before in
+    rw (within-back tt (s .pre .0 .1 .1)) (s .pre .0, record { cap-in = capped (c .before); long = s .pre .1 .1 .1 })
+
+add-written : tie.Need-add-written
+add-written c = omega (arith, c .before .before .before .before .before .before .before .before .pre .1 .1 .0, c .before .before .before .before .frame-floor .ensures .few)
+
+same-length : tie.Need-same-length
+same-length c = search needs
+
+returns : tie.Need-returns
+returns c =
+    let s = c .before .before .before .before .before .before .before .before .before .before in
+    let a = s .args in
+    let n = a .best .lost .num in
+    let d = a .best .lost .den in
+    let f = c .before .before .before .before .before .before .frame-floor in
+    let i = scale-is (c .before .before .before .before .before .before .before .before) in
+    let z = scale-in (a .cols) (a .t) (s .pre .0 .0 .sized .columns) in
+    let under = subst (λ x. f .result .least < (x * n + (d - 1)) / d) i (c .if1 .taken) in
+    let less = below-cap (a .p) (a .q) (a .cols) (a .ends) (a .whole) (a .t) n d (f .result .least) (s .pre .1 .0) (f .ensures .floor) under in
+    subst (λ x. Lowered (a .p) (a .q) (a .cols) (a .ends) (a .whole) (a .t) (a .best) (record { lost = record { num = f .result .least; den = x }; found = true; at = a .t; any = true; written = a .best .written + f .result .written })) (sym i)
+    (record {
+      counted = lowered-counted (a .p) (a .q) (a .cols) (a .ends) (a .whole) (a .t) n d (f .result .least) (s .pre .1 .0) (f .ensures .floor) z under;
+      lower = omega (arith, less);
+      bound = lowered-new (a .p) (a .q) (a .cols) (a .ends) (a .whole) (a .t) n d (f .result .least) (s .pre .1 .0) (f .ensures .floor);
+      exact = inr (record { found = refl; at-is = refl; den-is = refl; deep = omega (arith, c .if1 .taken, capped (c .before .before .before .before .before .before .before .before)); floor = f .ensures .floor; attained = f .ensures .attained (c .if1 .taken) });
+      any = refl;
+      few = omega (arith, f .ensures .few);
+    })
+
+same-length-2 : tie.Need-same-length-2
+same-length-2 c = search needs
+
+returns-2 : tie.Need-returns-2
+returns-2 c =
+    let s = c .before .before .before .before .before .before .before .before .before .before .before in
+    let a = s .args in
+    let n = a .best .lost .num in
+    let d = a .best .lost .den in
+    let f = c .before .before .before .before .before .before .before .frame-floor in
+    let i = scale-is (c .before .before .before .before .before .before .before .before .before) in
+    record {
+      counted = s .pre .1 .0;
+      lower = omega arith;
+      bound = lowered-old (a .p) (a .q) (a .cols) (a .ends) (a .whole) (a .t) n d (f .result .least) (s .pre .1 .0) (f .ensures .floor) (subst (λ x. (x * n + (d - 1)) / d ≤ f .result .least) i (omega (arith, c .before .if1 .left)));
+      exact = inl (refl, (refl, refl));
+      any = refl;
+      few = omega (arith, f .ensures .few);
+    }
+
+pub lowered-spec : {M : Type 1} → statement M
+lowered-spec =
+    tie.close
+    (tie.spec
+    scale-of-requires
+    mul-cap
+    sub-cap
+    add-cap
+    div-cap
+    frame-floor-requires
+    add-written
+    same-length
+    returns
+    same-length-2
+    returns-2)

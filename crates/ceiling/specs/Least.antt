@@ -1,0 +1,150 @@
+-- What the code says of losses, of frames and of the least loss.
+--   HasRoom c e r                   r is the room that is left where every item weighs least, or says that there is none
+--   Floored p q c e E cut cap r     r is at most what any point loses, and at most cap; below cap some point loses just that
+--   Agree, Earlier, NotAfter        the order of points over one divisor: by the first item that differs
+--   FirstPoint .. r N               N is the first of the points that lose r
+--   Firsts p q c e E cut r s        s shows the pieces of the first point that loses r, or says that none does
+--   IsFrame p q c e w t f           f is frame t
+--   FrameFloored .. t cap r         the same as Floored, of frame t
+--   Same b r                        the loss stays
+--   AtFrame .. t r                  the loss of r is the least of frame t
+--   Lowered .. t b r                r is the least of b and frame t;  Considered: where the frame can be needed
+--   Found .. r                      the loss of r is that of its frame, which cuts no whole item
+--   LeastLoss p q c e w known r     r is the least of what is known and all frames
+--   Placed n f xs                   a list of 16 amounts, of which the first n are those of f
+--   FirstIn .. t r place            place shows the first point of frame t that loses r
+--   FrameFirst .. t r s             s shows it, or says that there is none
+use mathlib.Core.Path.{_≡_}
+use mathlib.Core.Bool.{Bool, true, false}
+use mathlib.Core.List.{List}
+use mathlib.Core.Logic.{_≢_, _⊎_}
+use Prim.Native.Nat.{ℕ, _+_, _*_, _≤_, _<_}
+use lib.IntN.{ℤ, pos, natAbs, _-ℤ_, _*ℤ_}
+use lib.ListN.{length}
+use lib.Signed.{_≤ℤ_, _<ℤ_}
+use Rattle.scales.specs.declared.Cost.{Cost}
+use Rattle.fillings.specs.declared.First.{First}
+use Rattle.fillings.specs.Ranges.{num}
+use Rattle.fillings.specs.Runs.{runCells}
+use Rattle.greedy.specs.declared.Columns.{Columns}
+use Rattle.greedy.specs.declared.Ends.{Ends}
+use Rattle.greedy.specs.Fill.{at, itemOf}
+use Rattle.ceiling.specs.declared.Room.{Room}
+use Rattle.ceiling.specs.declared.Frame.{Frame}
+use Rattle.ceiling.specs.declared.Lost.{Lost}
+use Rattle.ceiling.specs.declared.Least.{Least}
+use Rattle.ceiling.specs.declared.Seen.{Seen}
+use Rattle.ceiling.specs.Loss.{topOf, lossOf, Point, Floor, Attained}
+use Rattle.ceiling.specs.Pieces.{amountOf, roomBy}
+use Rattle.ceiling.specs.Frames.{wholeAt, cutOf, scaleOf, Framed, Usable, FrameEnds, FrameBound, FrameFloor, FrameAttained, Ceiling, Counted}
+
+pub record HasRoom (c : Columns) (e : Ends) (r : Room) : Type 0 where
+  pub left-is : r .fits ≡ true → pos (r .left) ≡ roomBy c e
+  pub small : r .left ≤ 4800100000000
+  pub none : r .fits ≡ false → roomBy c e <ℤ pos 0
+
+pub record Floored (p q : ℕ) (c : Columns) (e : Ends) (E cut cap : ℕ) (r : Cost) : Type 0 where
+  pub few : r .written ≤ runCells
+  pub capped : r .least ≤ cap
+  pub floor : Floor p q c e E cut (r .least)
+  pub attained : r .least < cap → Attained p q c e E cut (r .least)
+
+-- ---- the order of points
+
+abbrev pub Agree : ℕ → (x y : ℕ → ℤ) → Type 0
+Agree n x y = (j : ℕ) → j < n → x j ≡ y j
+
+pub record Earlier (n : ℕ) (x y : ℕ → ℤ) : Type 0 where
+  pub place : ℕ
+  pub below : place < n
+  pub same : (j : ℕ) → j < place → x j ≡ y j
+  pub less : x place <ℤ y place
+
+abbrev pub NotAfter : ℕ → (x y : ℕ → ℤ) → Type 0
+NotAfter n x y = Agree n x y ⊎ Earlier n x y
+
+pub record FirstPoint (p q : ℕ) (c : Columns) (e : Ends) (E cut r : ℕ) (N : ℕ → ℤ) : Type 0 where
+  pub is-point : Point c e E cut N
+  pub loses : lossOf p q c e E N ≡ pos r
+  pub first : (M : ℕ → ℤ) → Point c e E cut M → lossOf p q c e E M ≡ pos r → NotAfter (c .count) N M
+
+pub record Firsts (p q : ℕ) (c : Columns) (e : Ends) (E cut r : ℕ) (s : First) : Type 0 where
+  pub few : s .written ≤ 16 * runCells
+  pub found : s .found ≡ true → FirstPoint p q c e E cut r (amountOf c e E cut (num (s .amounts)))
+  pub small : s .found ≡ true → (k : ℕ) → k < 16 → num (s .amounts) k ≤ 900000000
+  pub none : s .found ≡ false → (M : ℕ → ℤ) → Point c e E cut M → pos r <ℤ lossOf p q c e E M
+
+-- ---- frames
+
+pub record IsFrame (p q : ℕ) (c : Columns) (e : Ends) (w : List Bool) (t : ℕ) (f : Frame) : Type 0 where
+  pub cut-is : f .cut ≡ cutOf c t
+  pub scale-is : f .scale ≡ scaleOf c t
+  pub ends-are : FrameEnds c e w t (f .ends)
+  pub less-is : f .less ≡ natAbs (topOf p q c e -ℤ topOf p q c (f .ends))
+
+pub record FrameFloored (p q : ℕ) (c : Columns) (e : Ends) (w : List Bool) (t cap : ℕ) (r : Cost) : Type 0 where
+  pub few : r .written ≤ runCells
+  pub capped : r .least ≤ cap
+  pub floor : FrameFloor p q c e w t (r .least)
+  pub attained : r .least < cap → FrameAttained p q c e w t (r .least)
+
+-- ---- the least loss
+
+abbrev pub Same : Least → Least → Type 0
+Same b r = (r .lost ≡ b .lost) × ((r .found ≡ b .found) × (r .at ≡ b .at))
+
+pub record AtFrame (p q : ℕ) (c : Columns) (e : Ends) (w : List Bool) (t : ℕ) (r : Least) : Type 0 where
+  pub found : r .found ≡ true
+  pub at-is : r .at ≡ t
+  pub den-is : r .lost .den ≡ scaleOf c t
+  pub deep : r .lost .num < 10000000000
+  pub floor : FrameFloor p q c e w t (r .lost .num)
+  pub attained : FrameAttained p q c e w t (r .lost .num)
+
+pub record Lowered (p q : ℕ) (c : Columns) (e : Ends) (w : List Bool) (t : ℕ) (b r : Least) : Type 0 where
+  pub counted : Counted (r .lost .num) (r .lost .den)
+  pub lower : r .lost .num * b .lost .den ≤ b .lost .num * r .lost .den
+  pub bound : FrameBound p q c e w (r .lost .num) (r .lost .den) t
+  pub exact : Same b r ⊎ AtFrame p q c e w t r
+  pub any : r .any ≡ true
+  pub few : r .written ≤ b .written + runCells
+
+pub record Considered (p q : ℕ) (c : Columns) (e : Ends) (w : List Bool) (t : ℕ) (b r : Least) : Type 0 where
+  pub counted : Counted (r .lost .num) (r .lost .den)
+  pub lower : r .lost .num * b .lost .den ≤ b .lost .num * r .lost .den
+  pub bound : Usable c e w t → FrameBound p q c e w (r .lost .num) (r .lost .den) t
+  pub exact : Same b r ⊎ (Usable c e w t × AtFrame p q c e w t r)
+  pub any : (Usable c e w t × (r .any ≡ true)) ⊎ ((Usable c e w t → ⊥) × (r .any ≡ b .any))
+  pub few : r .written ≤ b .written + runCells
+
+-- the frame of the loss, which cuts no whole item
+pub record Found (p q : ℕ) (c : Columns) (e : Ends) (w : List Bool) (r : Least) : Type 0 where
+  pub at-in : r .at ≤ c .live
+  pub loose : r .at < c .live → wholeAt w (itemOf c (r .at)) ≡ false
+  pub frame : AtFrame p q c e w (r .at) r
+
+pub record LeastLoss (p q : ℕ) (c : Columns) (e : Ends) (w : List Bool) (known : Lost) (r : Least) : Type 0 where
+  pub counted : Counted (r .lost .num) (r .lost .den)
+  pub ceiling : Ceiling p q c e w (r .lost .num) (r .lost .den)
+  pub exact : ((r .found ≡ false) × (r .lost ≡ known)) ⊎ Found p q c e w r
+  pub few : r .written ≤ 17 * runCells
+
+-- the first n amounts are those of f
+pub record Placed (n : ℕ) (f : ℕ → ℤ) (xs : List ℤ) : Type 0 where
+  pub long : length xs ≡ 16
+  pub each : (k : ℕ) → k < n → at xs k ≡ f k
+
+-- the first point of frame t that loses r, by its amounts but for the item cut
+pub record FirstIn (p q : ℕ) (c : Columns) (e : Ends) (w : List Bool) (t r : ℕ) (place : List ℤ) : Type 0 where
+  pub ends : Ends
+  pub framed : Framed c e w t ends
+  pub point : ℕ → ℤ
+  pub is-point : Point c ends (scaleOf c t) (cutOf c t) point
+  pub loses : lossOf p q c e (scaleOf c t) point ≡ pos r
+  pub first : (M : ℕ → ℤ) → Point c ends (scaleOf c t) (cutOf c t) M → lossOf p q c e (scaleOf c t) M ≡ pos r → NotAfter (c .count) point M
+  pub shown : (k : ℕ) → k < c .count → k ≢ cutOf c t → point k ≡ at place k *ℤ pos (scaleOf c t)
+
+pub record FrameFirst (p q : ℕ) (c : Columns) (e : Ends) (w : List Bool) (t r : ℕ) (s : Seen) : Type 0 where
+  pub few : s .written ≤ 16 * runCells
+  pub found : s .found ≡ true → FirstIn p q c e w t r (s .place)
+  pub none : s .found ≡ false → (e′ : Ends) → Framed c e w t e′ → (M : ℕ → ℤ) → Point c e′ (scaleOf c t) (cutOf c t) M → pos r <ℤ lossOf p q c e (scaleOf c t) M

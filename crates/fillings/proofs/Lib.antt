@@ -1,0 +1,9 @@
+pub mod Keys
+pub mod Lists
+pub mod Boxes
+pub mod Narrow
+pub mod Groups
+pub mod Costs
+pub mod Runs
+pub mod Asked
+pub mod Foremost

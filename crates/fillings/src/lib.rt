@@ -1,0 +1,566 @@
+// Fillings of a capacity at least cost, and the first of them. A load has 17 parts, of which the last is the slack. Amounts that alone cost too much
+// are taken out before the scales look for the least cost. Which of the fillings that have it comes first is read off a key that is added to the
+// costs: the amounts of some parts as digits of one number.
+use scales::Cost;
+use scales::least_cost;
+ghost use mathlib.Core.Path.{_≡_};
+ghost use Prim.Native.Nat.{ℕ, suc, _+_, _-_, _*_, _/_, _%_, _^_, _≤_, _<_, min};
+ghost use Rattle.scales.specs.Filling.{load, sum, Bounds, Least};
+ghost use lib.ListN.{length};
+ghost use Rattle.fillings.specs.Keys.{keys, digits, radix};
+ghost use Rattle.fillings.specs.Ranges.{num, flag, itemsIn, Among, offsetAt, offsetOf, boxed, nearWide, nearLow, nearWideOf, nearLowOf, Made, Narrows, Fair};
+ghost use Rattle.fillings.specs.Runs.{Grouped, Gathers, inGroup, keyedBy, takenKey, leftKey, keyedTaken, keyedLeft, fixedLow, fixedWide, Fixable, Fixes, runCells, Begins, LeastKeyed, Decodes, Runs, Whole, Keyable, FirstOf};
+
+// The parts of a load, and for each whether its amount falls where more of it is taken.
+pub struct Parts {
+    pub weight: [u64; 17],
+    pub range: [u64; 17],
+    pub taken: [u64; 17],
+    pub left: [u64; 17],
+    pub falls: [bool; 17],
+}
+
+// The amounts from low on, and wide more.
+pub struct Ranges {
+    pub low: [u64; 17],
+    pub wide: [u64; 17],
+}
+
+// The parts before `to`, from one on, and how many keys they have.
+pub struct Group {
+    pub to: usize,
+    pub base: u64,
+}
+
+// The least cost, the ranges that are left for it, with the parts before `to` fixed, and how many cells were written.
+pub struct Run {
+    pub cost: u64,
+    pub ranges: Ranges,
+    pub to: usize,
+    pub written: u64,
+}
+
+// The amounts of the first filling, if there is one, and how many cells were written.
+pub struct First {
+    pub found: bool,
+    pub amounts: [u64; 17],
+    pub written: u64,
+}
+
+// No cap is above this: two costs below it can be added.
+const HIGHEST: u64 = 9223372036854775807;
+
+fn lesser(a: u64, b: u64) -> u64
+    ensures { λ r. ⌜ r ≡ min a b ⌝ }
+{
+    if a < b { a } else { b }
+}
+
+// ---- what is left of a cap
+
+// A cap less what so many units cost; 0 if that is no less.
+fn less_units(cap: u64, cost: u64, units: u64) -> u64
+    ensures { λ r. ⌜ r ≡ cap - cost * units ⌝ }
+{
+    if cost == 0 {
+        return cap;
+    }
+    if cap / cost < units {
+        0
+    } else {
+        cap - cost * units
+    }
+}
+
+// Less what part k costs at least.
+fn less_part(p: Parts, r: Ranges, k: usize, cap: u64) -> u64
+    requires { ⌜ Among p r × (k < 17) ⌝ }
+    ensures { λ n. ⌜ n ≡ cap - offsetAt p r k ⌝ }
+{
+    let a = r.low[k];
+    let w = r.wide[k];
+    let t = p.taken[k];
+    let l = p.left[k];
+    let u = p.range[k];
+    less_units(less_units(cap, t, a), l, u - a - w)
+}
+
+fn remaining(p: Parts, r: Ranges, cap: u64) -> u64
+    requires { ⌜ Fair p × Among p r ⌝ }
+    ensures { λ n. ⌜ n ≡ cap - offsetOf p r ⌝ }
+{
+    let mut left = cap;
+    let mut k: usize = 0;
+    while k < 17 {
+        left = less_part(p, r, k, left);
+        k += 1;
+    }
+    left
+}
+
+// What the least amounts weigh.
+fn low_load(p: Parts, r: Ranges) -> u64
+    requires { ⌜ Fair p × Among p r ⌝ }
+    ensures { λ n. ⌜ n ≡ load (itemsIn p) (num (r .low)) ⌝ }
+{
+    let mut sum: u64 = 0;
+    let mut k: usize = 0;
+    while k < 17 {
+        let w = p.weight[k];
+        let a = r.low[k];
+        sum += w * a;
+        k += 1;
+    }
+    sum
+}
+
+// ---- amounts that alone cost too much are taken out
+
+fn near_wide(left: u64, t: u64, l: u64, wide: u64) -> u64
+    requires { ⌜ 1 ≤ left ⌝ }
+    ensures { λ n. ⌜ n ≡ nearWide left t l wide ⌝ }
+{
+    if l == 0 {
+        if t == 0 {
+            wide
+        } else {
+            lesser(wide, (left - 1) / t)
+        }
+    } else {
+        if t == 0 {
+            lesser(wide, (left - 1) / l)
+        } else {
+            wide
+        }
+    }
+}
+
+fn near_low(left: u64, t: u64, l: u64, low: u64, wide: u64) -> u64
+    requires { ⌜ (1 ≤ left) × (low + wide < 2 ^ 64) ⌝ }
+    ensures { λ n. ⌜ n ≡ nearLow left t l low wide ⌝ }
+{
+    if t == 0 {
+        let n = near_wide(left, t, l, wide);
+        low + (wide - n)
+    } else {
+        low
+    }
+}
+
+fn near_wide_at(p: Parts, r: Ranges, left: u64, k: usize) -> u64
+    requires { ⌜ (1 ≤ left) × (k < 17) ⌝ }
+    ensures { λ n. ⌜ n ≡ nearWideOf left p r k ⌝ }
+{
+    let t = p.taken[k];
+    let l = p.left[k];
+    let w = r.wide[k];
+    near_wide(left, t, l, w)
+}
+
+fn near_low_at(p: Parts, r: Ranges, left: u64, k: usize) -> u64
+    requires { ⌜ (1 ≤ left) × ((k < 17) × (Fair p × Among p r)) ⌝ }
+    ensures { λ n. ⌜ n ≡ nearLowOf left p r k ⌝ }
+{
+    let t = p.taken[k];
+    let l = p.left[k];
+    let a = r.low[k];
+    let w = r.wide[k];
+    near_low(left, t, l, a, w)
+}
+
+fn near_wides(p: Parts, r: Ranges, left: u64) -> [u64; 17]
+    requires { ⌜ 1 ≤ left ⌝ }
+    ensures { λ xs. ⌜ Made 17 (nearWideOf left p r) xs ⌝ }
+{
+    let mut to = [0; 17];
+    let mut k: usize = 0;
+    while k < 17 {
+        to[k] = near_wide_at(p, r, left, k);
+        k += 1;
+    }
+    to
+}
+
+fn near_lows(p: Parts, r: Ranges, left: u64) -> [u64; 17]
+    requires { ⌜ (1 ≤ left) × (Fair p × Among p r) ⌝ }
+    ensures { λ xs. ⌜ Made 17 (nearLowOf left p r) xs ⌝ }
+{
+    let mut to = [0; 17];
+    let mut k: usize = 0;
+    while k < 17 {
+        to[k] = near_low_at(p, r, left, k);
+        k += 1;
+    }
+    to
+}
+
+fn narrowed(p: Parts, r: Ranges, left: u64) -> Ranges
+    requires { ⌜ (1 ≤ left) × (Fair p × Among p r) ⌝ }
+    ensures { λ n. ⌜ Narrows p left r n ⌝ }
+{
+    let low = near_lows(p, r, left);
+    let wide = near_wides(p, r, left);
+    Ranges {
+        low: low,
+        wide: wide,
+    }
+}
+
+// ---- keys
+
+// The parts from one on, before the end, as many as costs up to left have room for in their keys.
+fn group_of(wide: [u64; 17], from: usize, end: usize, left: u64) -> Group
+    requires { ⌜ (1 ≤ left) × ((left < 2 ^ 63) × (end ≤ 17)) ⌝ }
+    ensures { λ g. ⌜ Grouped wide from end left g ⌝ }
+{
+    let mut to = from;
+    let mut base: u64 = 1;
+    while to < end {
+        let w = wide[to];
+        if HIGHEST / (left * base) <= w {
+            return Group { to: to, base: base };
+        }
+        base = base * (w + 1);
+        to += 1;
+    }
+    Group { to: to, base: base }
+}
+
+// What a unit of each part is worth in the key.
+fn radices(wide: [u64; 17], from: usize, to: usize, base: u64) -> [u64; 17]
+    requires { ⌜ (from ≤ to) × ((to ≤ 17) × (base ≡ keys (num wide) from (to - from))) ⌝ }
+    ensures { λ xs. ⌜ Made 17 (radix (num wide) from to) xs ⌝ }
+{
+    let mut list = [0; 17];
+    let mut b = base;
+    let mut k = from;
+    while k < to {
+        let w = wide[k];
+        b = b / (w + 1);
+        list[k] = b;
+        k += 1;
+    }
+    list
+}
+
+// The digits of a key.
+fn digits_of(wide: [u64; 17], from: usize, to: usize, base: u64, key: u64) -> [u64; 17]
+    requires { ⌜ (from ≤ to) × ((to ≤ 17) × (base ≡ keys (num wide) from (to - from))) ⌝ }
+    ensures { λ xs. ⌜ Made 17 (digits (num wide) from (to - from) key) xs ⌝ }
+{
+    let mut list = [0; 17];
+    let mut b = base;
+    let mut rest = key;
+    let mut k = from;
+    while k < to {
+        let w = wide[k];
+        b = b / (w + 1);
+        list[k] = rest / b;
+        rest = rest % b;
+        k += 1;
+    }
+    list
+}
+
+// A cost in units of base, with a added, at most cap.
+fn keyed(cap: u64, left: u64, base: u64, cost: u64, a: u64) -> u64
+    requires { ⌜ (left * base < 2 ^ 63) × (a < 2 ^ 63) ⌝ }
+    ensures { λ n. ⌜ n ≡ keyedBy cap left base cost a ⌝ }
+{
+    let c = lesser(left, cost);
+    lesser(cap, c * base + a)
+}
+
+fn taken_key(falls: bool, a: u64) -> u64
+    ensures { λ n. ⌜ n ≡ takenKey falls a ⌝ }
+{
+    if falls { 0 } else { a }
+}
+
+fn left_key(falls: bool, a: u64) -> u64
+    ensures { λ n. ⌜ n ≡ leftKey falls a ⌝ }
+{
+    if falls { a } else { 0 }
+}
+
+fn keyed_taken_at(p: Parts, cap: u64, left: u64, base: u64, rad: [u64; 17], k: usize) -> u64
+    requires { ⌜ (left * base < 2 ^ 63) × ((k < 17) × (num rad k < 2 ^ 63)) ⌝ }
+    ensures { λ n. ⌜ n ≡ keyedTaken p cap left base rad k ⌝ }
+{
+    let c = p.taken[k];
+    let f = p.falls[k];
+    let a = rad[k];
+    keyed(cap, left, base, c, taken_key(f, a))
+}
+
+fn keyed_left_at(p: Parts, cap: u64, left: u64, base: u64, rad: [u64; 17], k: usize) -> u64
+    requires { ⌜ (left * base < 2 ^ 63) × ((k < 17) × (num rad k < 2 ^ 63)) ⌝ }
+    ensures { λ n. ⌜ n ≡ keyedLeft p cap left base rad k ⌝ }
+{
+    let c = p.left[k];
+    let f = p.falls[k];
+    let a = rad[k];
+    keyed(cap, left, base, c, left_key(f, a))
+}
+
+fn keyed_takens(p: Parts, cap: u64, left: u64, base: u64, rad: [u64; 17]) -> [u64; 17]
+    requires { ⌜ (left * base < 2 ^ 63) × ((k : ℕ) → k < 17 → num rad k < 2 ^ 63) ⌝ }
+    ensures { λ xs. ⌜ Made 17 (keyedTaken p cap left base rad) xs ⌝ }
+{
+    let mut to = [0; 17];
+    let mut k: usize = 0;
+    while k < 17 {
+        to[k] = keyed_taken_at(p, cap, left, base, rad, k);
+        k += 1;
+    }
+    to
+}
+
+fn keyed_lefts(p: Parts, cap: u64, left: u64, base: u64, rad: [u64; 17]) -> [u64; 17]
+    requires { ⌜ (left * base < 2 ^ 63) × ((k : ℕ) → k < 17 → num rad k < 2 ^ 63) ⌝ }
+    ensures { λ xs. ⌜ Made 17 (keyedLeft p cap left base rad) xs ⌝ }
+{
+    let mut to = [0; 17];
+    let mut k: usize = 0;
+    while k < 17 {
+        to[k] = keyed_left_at(p, cap, left, base, rad, k);
+        k += 1;
+    }
+    to
+}
+
+// ---- amounts that are known
+
+fn is_in_group(from: usize, to: usize, k: usize) -> bool
+    ensures { λ b. ⌜ b ≡ inGroup from to k ⌝ }
+{
+    if k < from { false } else { k < to }
+}
+
+fn fixed_low_at(p: Parts, r: Ranges, from: usize, to: usize, ds: [u64; 17], k: usize) -> u64
+    requires { ⌜ (k < 17) × ((num (r .low) k + num (r .wide) k < 2 ^ 64) × (num ds k ≤ num (r .wide) k)) ⌝ }
+    ensures { λ n. ⌜ n ≡ fixedLow p r from to ds k ⌝ }
+{
+    let a = r.low[k];
+    let w = r.wide[k];
+    let d = ds[k];
+    let f = p.falls[k];
+    if is_in_group(from, to, k) {
+        if f { a + (w - d) } else { a + d }
+    } else {
+        a
+    }
+}
+
+fn fixed_wide_at(r: Ranges, from: usize, to: usize, k: usize) -> u64
+    requires { ⌜ k < 17 ⌝ }
+    ensures { λ n. ⌜ n ≡ fixedWide r from to k ⌝ }
+{
+    let w = r.wide[k];
+    if is_in_group(from, to, k) { 0 } else { w }
+}
+
+fn fixed_lows(p: Parts, r: Ranges, from: usize, to: usize, ds: [u64; 17]) -> [u64; 17]
+    requires { ⌜ Fixable r ds ⌝ }
+    ensures { λ xs. ⌜ Made 17 (fixedLow p r from to ds) xs ⌝ }
+{
+    let mut list = [0; 17];
+    let mut k: usize = 0;
+    while k < 17 {
+        list[k] = fixed_low_at(p, r, from, to, ds, k);
+        k += 1;
+    }
+    list
+}
+
+fn fixed_wides(r: Ranges, from: usize, to: usize) -> [u64; 17]
+    ensures { λ xs. ⌜ Made 17 (fixedWide r from to) xs ⌝ }
+{
+    let mut list = [0; 17];
+    let mut k: usize = 0;
+    while k < 17 {
+        list[k] = fixed_wide_at(r, from, to, k);
+        k += 1;
+    }
+    list
+}
+
+// The parts from one on, before `to`, fixed at digits.
+fn fixed(p: Parts, r: Ranges, from: usize, to: usize, ds: [u64; 17]) -> Ranges
+    requires { ⌜ Fixable r ds ⌝ }
+    ensures { λ n. ⌜ Fixes p from to ds r n ⌝ }
+{
+    let low = fixed_lows(p, r, from, to, ds);
+    let wide = fixed_wides(r, from, to);
+    Ranges {
+        low: low,
+        wide: wide,
+    }
+}
+
+// ---- runs
+
+// Nothing that costs less than the cap.
+fn nothing(r: Ranges, cap: u64, from: usize, written: u64) -> Run
+    ensures { λ n. ⌜ n ≡ record { cost = cap; ranges = r; to = from; written = written } ⌝ }
+{
+    Run {
+        cost: cap,
+        ranges: r,
+        to: from,
+        written: written,
+    }
+}
+
+// The least cost with the keys of a group, from the least amounts on.
+fn least_keyed(
+    p: Parts,
+    r: Ranges,
+    from: usize,
+    left: u64,
+    room: u64,
+    g: Group,
+    cells: &mut [u64],
+) -> Cost
+    requires { ⌜ Fair p × (Among p r × ((length (r .wide) ≡ 17) × Gathers (r .wide) from left g)) ⌝ }
+    requires { ⌜ 65535 ≤ length (now cells) ⌝ }
+    ensures { λ c. ⌜ LeastKeyed p r from left room g c ⌝ }
+{
+    let wide = r.wide;
+    let ws = p.weight;
+    let to = g.to;
+    let base = g.base;
+    let rad = radices(wide, from, to, base);
+    let most = left * base;
+    let ts = keyed_takens(p, most, left, base, rad);
+    let ls = keyed_lefts(p, most, left, base, rad);
+    least_cost(&ws, &wide, &ts, &ls, room, most, cells)
+}
+
+// The ranges with a group fixed at the digits of a key.
+fn decoded(p: Parts, r: Ranges, from: usize, left: u64, g: Group, key: u64) -> Ranges
+    requires { ⌜ Fair p × (Among p r × (Gathers (r .wide) from left g × (key < g .base))) ⌝ }
+    ensures { λ n. ⌜ Decodes p r from g key n ⌝ }
+{
+    let wide = r.wide;
+    let to = g.to;
+    let base = g.base;
+    let ds = digits_of(wide, from, to, base, key);
+    fixed(p, r, from, to, ds)
+}
+
+// The same where the offset leaves something of the cap, and the least amounts some room.
+fn keyed_run(
+    p: Parts,
+    r: Ranges,
+    capacity: u64,
+    room: u64,
+    cap: u64,
+    left: u64,
+    from: usize,
+    end: usize,
+    cells: &mut [u64],
+) -> Run
+    requires { ⌜ Begins p r capacity cap from end left room ⌝ }
+    requires { ⌜ 65535 ≤ length (now cells) ⌝ }
+    ensures { λ n. ⌜ Runs p r capacity cap from end n ⌝ }
+{
+    let wide = r.wide;
+    let g = group_of(wide, from, end, left);
+    let c = least_keyed(p, r, from, left, room, g, cells);
+    let least = c.least;
+    let base = g.base;
+    if least == left * base {
+        return nothing(r, cap, from, c.written);
+    }
+    let ranges = decoded(p, r, from, left, g, least % base);
+    Run {
+        cost: cap - left + least / base,
+        ranges: ranges,
+        to: g.to,
+        written: c.written,
+    }
+}
+
+// The least cost of a filling within the ranges, at most cap; of the fillings that have it, the first amounts of some parts from one on.
+fn run_over(
+    p: Parts,
+    r: Ranges,
+    capacity: u64,
+    cap: u64,
+    from: usize,
+    end: usize,
+    cells: &mut [u64],
+) -> Run
+    requires { ⌜ Fair p × (Among p r × ((from ≤ end) × ((end ≤ 16) × (cap < 2 ^ 63)))) ⌝ }
+    requires { ⌜ 65535 ≤ length (now cells) ⌝ }
+    ensures { λ n. ⌜ Runs p r capacity cap from end n ⌝ }
+{
+    let left = remaining(p, r, cap);
+    if left == 0 {
+        return nothing(r, cap, from, 0);
+    }
+    let n = narrowed(p, r, left);
+    let low = low_load(p, n);
+    if capacity < low {
+        return nothing(r, cap, from, 0);
+    }
+    keyed_run(p, n, capacity, capacity - low, cap, left, from, end, cells)
+}
+
+fn whole_of(p: Parts) -> Ranges
+    ensures { λ r. ⌜ Whole p r ⌝ }
+{
+    let wide = p.range;
+    let low = [0; 17];
+    Ranges {
+        low: low,
+        wide: wide,
+    }
+}
+
+// The least cost of filling the capacity, at most cap.
+pub fn least_filling(p: Parts, capacity: u64, cap: u64, cells: &mut [u64]) -> Cost
+    requires { ⌜ Fair p × (cap < 2 ^ 63) ⌝ }
+    requires { ⌜ 65535 ≤ length (now cells) ⌝ }
+    ensures { λ r. ⌜ Least cap (itemsIn p) capacity (r .least) × (r .written ≤ runCells) ⌝ }
+{
+    let r = whole_of(p);
+    let n = run_over(p, r, capacity, cap, 0, 0, cells);
+    Cost {
+        least: n.cost,
+        written: n.written,
+    }
+}
+
+// The first filling that costs less than cap, where none costs less than cap - 1: by the first part whose amount differs.
+pub fn first_filling(p: Parts, capacity: u64, cap: u64, cells: &mut [u64]) -> First
+    requires { ⌜ Fair p × ((1 ≤ cap) × ((cap < 2 ^ 63) × (Keyable p cap × Bounds (itemsIn p) capacity (cap - 1)))) ⌝ }
+    requires { ⌜ 65535 ≤ length (now cells) ⌝ }
+    ensures { λ r. ⌜ FirstOf p capacity cap r ⌝ }
+{
+    let mut r = whole_of(p);
+    let mut written: u64 = 0;
+    let mut from: usize = 0;
+    while from < 16 {
+        let n = run_over(p, r, capacity, cap, from, 16, cells);
+        written += n.written;
+        if n.cost == cap {
+            let amounts = r.low;
+            return First {
+                found: false,
+                amounts: amounts,
+                written: written,
+            };
+        }
+        let ranges = n.ranges;
+        r = ranges;
+        from = n.to;
+    }
+    let amounts = r.low;
+    First {
+        found: true,
+        amounts: amounts,
+        written: written,
+    }
+}

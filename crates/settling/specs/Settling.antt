@@ -1,0 +1,73 @@
+-- An optimal place of a box, whatever a search has found.
+--   Boxes c e level n         columns and ends of a box, in order; the first n items of `level` are its levels
+--   Levels c level n marks    the integer items are those of the levels
+--   Fixes e level n P f       the ends f are those of e with the levels fixed at P
+--   Between e level n P       the place P is between the ends
+--   Tried c e level n P v     P is feasible, and v what its filling is worth
+--   BestAt c e marks f        the filling of the ends f is one, and worth its bound
+--   Best c e level n P        the filling of P is an optimal point of the box
+--   Settles c e level n r     the place of r is best, or nothing in the box is feasible
+use mathlib.Core.Path.{_≡_}
+use mathlib.Core.Bool.{true, false}
+use mathlib.Core.List.{List}
+use mathlib.Core.Logic.{_≢_}
+use Prim.Native.Nat.{ℕ, _*_, _≤_, _<_}
+use lib.IntN.{ℤ, pos}
+use lib.Signed.{_≤ℤ_}
+use Rattle.arith.specs.Mixed.{Proper}
+use Rattle.arith.specs.declared.Mixed.{Mixed}
+use Rattle.arith.proofs.Mixes.{over}
+use Rattle.knapsack.specs.declared.Mark.{Mark}
+use Rattle.knapsack.specs.declared.Mark.the-variants.{Integer}
+use Rattle.knapsack.proofs.Common.{valueᴰ, Feasibleᴰ, Optimalᴰ}
+use Rattle.fillings.specs.Runs.{runCells}
+use Rattle.greedy.specs.declared.Columns.{Columns}
+use Rattle.greedy.specs.declared.Ends.{Ends}
+use Rattle.greedy.specs.Fill.{at, place, fill, bound, solution}
+use Rattle.greedy.specs.Ordered.{Ordered}
+use Rattle.greedy.specs.Sized.{Sized}
+use Rattle.greedy.proofs.Relaxed.{boxOf, InOrder}
+use Rattle.ceiling.specs.Sizes.{Spanned}
+use Rattle.settling.specs.declared.Settled.{Settled}
+
+pub record Boxes (c : Columns) (e : Ends) (level : List ℕ) (n : ℕ) : Type 0 where
+  pub sized : Sized c e
+  pub ordered : Ordered c
+  pub in-order : InOrder c e
+  pub spanned : Spanned c e
+  pub few : n ≤ 16
+  pub level-in : (d : ℕ) → d < n → place level d < c .count
+
+pub record Levels (c : Columns) (level : List ℕ) (n : ℕ) (marks : ℕ → Mark) : Type 0 where
+  pub integer : (d : ℕ) → d < n → marks (place level d) ≡ Integer
+  pub of : (k : ℕ) → k < c .count → marks k ≡ Integer → (d : ℕ) × (d < n) × (place level d ≡ k)
+
+pub record Fixes (e : Ends) (level : List ℕ) (n : ℕ) (P : ℕ → ℤ) (f : Ends) : Type 0 where
+  pub own : (d : ℕ) → d < n → (at (f .lo) (place level d) ≡ P d) × (at (f .hi) (place level d) ≡ P d)
+  pub other : (k : ℕ) → ((d : ℕ) → d < n → place level d ≢ k) → (at (f .lo) k ≡ at (e .lo) k) × (at (f .hi) k ≡ at (e .hi) k)
+
+abbrev pub Between : Ends → List ℕ → ℕ → (ℕ → ℤ) → Type 0
+Between e level n P = (d : ℕ) → d < n → (at (e .lo) (place level d) ≤ℤ P d) × (P d ≤ℤ at (e .hi) (place level d))
+
+pub record Tried (c : Columns) (e : Ends) (level : List ℕ) (n : ℕ) (P : ℕ → ℤ) (v : Mixed) : Type 0 where
+  pub between : Between e level n P
+  pub ends : Ends
+  pub fixes : Fixes e level n P ends
+  pub roomy : pos 0 ≤ℤ fill c ends .room
+  pub value-is : v ≡ bound c (fill c ends)
+  pub proper : Proper v
+
+-- the filling of the ends f is an optimal point of the box, and worth its bound
+pub record BestAt (c : Columns) (e : Ends) (marks : ℕ → Mark) (f : Ends) : Type 0 where
+  pub roomy : pos 0 ≤ℤ fill c f .room
+  pub optimal : Optimalᴰ (boxOf c e marks) (bound c (fill c f) .parts) (solution c f (fill c f))
+  pub value-is : valueᴰ (boxOf c e marks) (solution c f (fill c f)) ≡ over (bound c (fill c f))
+
+pub record Best (c : Columns) (e : Ends) (level : List ℕ) (n : ℕ) (P : ℕ → ℤ) : Type 0 where
+  pub between : Between e level n P
+  pub best : (f : Ends) → Fixes e level n P f → (marks : ℕ → Mark) → Levels c level n marks → BestAt c e marks f
+
+pub record Settles (c : Columns) (e : Ends) (level : List ℕ) (n : ℕ) (r : Settled) : Type 0 where
+  pub few : r .written ≤ 33 * runCells
+  pub found : r .found ≡ true → Best c e level n (at (r .place))
+  pub none : r .found ≡ false → (marks : ℕ → Mark) (D : ℕ) (N : ℕ → ℤ) → 1 ≤ D → ¬ Feasibleᴰ (boxOf c e marks) D N

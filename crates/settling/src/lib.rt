@@ -1,0 +1,83 @@
+// What is left of a search that has not ended: an optimal place of its box, in bounded time. Paper 01, "The problem": a best point is owed for every
+// problem that has one, however long a search would take. The place is the incumbent's if no loss is less than its own, else the first point of the
+// frame that loses least.
+use arith::Mixed;
+use ceiling::ceiling;
+use ceiling::first_of_frame;
+use ceiling::wholes;
+use greedy::Columns;
+use greedy::Ends;
+use greedy::fill_up;
+ghost use mathlib.Core.Path.{_≡_};
+ghost use mathlib.Core.Bool.{true, false};
+ghost use Prim.Native.Nat.{ℕ, _≤_, _<_};
+ghost use lib.ListN.{length};
+ghost use Rattle.greedy.specs.Fill.{at, place};
+ghost use Rattle.ceiling.specs.Least.{Placed};
+ghost use Rattle.settling.specs.Settling.{Boxes, Tried, Settles};
+
+// An optimal place by level, if anything in the box is feasible; and how many cells were written.
+pub struct Settled {
+    pub found: bool,
+    pub place: [i64; 16],
+    pub written: u64,
+}
+
+// The amounts of the first n levels.
+fn by_level(xs: [i64; 16], level: [usize; 16], n: usize) -> [i64; 16]
+    requires { ⌜ (n ≤ 16) × ((d : ℕ) → d < n → place level d < 16) ⌝ }
+    ensures { λ r. ⌜ Placed n (λ d. at xs (place level d)) r ⌝ }
+{
+    let mut to = [0; 16];
+    let mut d: usize = 0;
+    while d < n {
+        let k = level[d];
+        let x = xs[k];
+        to[d] = x;
+        d += 1;
+    }
+    to
+}
+
+// An optimal place of the box. The first `levels` items of `level` are the integer ones; if known, `x` is a feasible place and `value` what its
+// filling is worth.
+pub fn settle(
+    cols: Columns,
+    ends: Ends,
+    level: [usize; 16],
+    levels: usize,
+    known: bool,
+    x: [i64; 16],
+    value: Mixed,
+    cells: &mut [u64],
+) -> Settled
+    requires { ⌜ Boxes cols ends level levels × (known ≡ true → Tried cols ends level levels (at x) value) ⌝ }
+    requires { ⌜ 65535 ≤ length (now cells) ⌝ }
+    ensures { λ r. ⌜ Settles cols ends level levels r ⌝ }
+{
+    let f = fill_up(cols, ends);
+    if f.room < 0 {
+        return Settled {
+            found: false,
+            place: x,
+            written: 0,
+        };
+    }
+    let whole = wholes(level, levels);
+    let b = ceiling(cols, ends, whole, known, value, cells);
+    if b.found {
+        let s = first_of_frame(cols, ends, whole, b.p, b.q, b.at, b.top, b.lost.num, cells);
+        let first = s.place;
+        let y = by_level(first, level, levels);
+        return Settled {
+            found: true,
+            place: y,
+            written: b.written + s.written,
+        };
+    }
+    Settled {
+        found: true,
+        place: x,
+        written: b.written,
+    }
+}
