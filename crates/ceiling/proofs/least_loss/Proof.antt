@@ -37,7 +37,7 @@ considered-requires c κs =
     let t = c .before .before .before .before .top-of in
     rw (within-back tt (t .ensures .1)) (
       (s .pre .0, (t .ensures .0, (t .ensures .1, c .before .loop-test .taken))),
-      (l .inv .1 .1 .counted, (omega (arith, l .inv .1 .1 .few, c .before .loop-test .taken, s .pre .0 .sized .columns .live-few), omega (arith, l .inv .1 .0, s .pre .1 .1))),
+      (l .inv .1 .1 .counted, (omega (arith, l .inv .1 .1 .few, c .before .loop-test .taken, s .pre .0 .sized .columns .live-few), omega (arith, l .inv .1 .0, s .pre .1 .1 .0))),
     )
 
 add-t : tie.Need-add-t Inv-loop μ-loop
@@ -63,7 +63,7 @@ returns c =
     let z = s .pre .0 in
     let t : l .t ≡ a .cols .live = omega (arith, c .before .loop-test .left, l .inv .0) in
     let known = ap (λ (b : Least). b .lost) (c .before .before .before .unlowered .ensures) in
-    subst (λ k. LeastLoss (a .p) (a .q) (a .cols) (a .ends) (a .whole) k (l .best)) known (sofar-any (l .inv .1 .1) t (z .sized .columns) (z .ordered) (z .in-order) (c .if1 .taken))
+    subst (λ k. LeastLoss (a .p) (a .q) (a .cols) (a .ends) (a .whole) k (l .best)) known (sofar-any (l .inv .1 .1) t (z .sized .columns) (s .pre .1 .1 .1) (z .in-order) (c .if1 .taken))
 
 lowered-requires : tie.Need-lowered-requires Inv-loop μ-loop
 lowered-requires c κs =
@@ -72,7 +72,7 @@ lowered-requires c κs =
     let t = c .before .before .before .before .before .top-of in
     rw (within-back tt (t .ensures .1)) (
       (s .pre .0, (t .ensures .0, t .ensures .1)),
-      (l .inv .1 .1 .counted, (omega (arith, l .inv .1 .1 .few, l .inv .0, s .pre .0 .sized .columns .live-few), omega (arith, l .inv .1 .0, s .pre .1 .1))),
+      (l .inv .1 .1 .counted, (omega (arith, l .inv .1 .1 .few, l .inv .0, s .pre .0 .sized .columns .live-few), omega (arith, l .inv .1 .0, s .pre .1 .1 .0))),
     )
 
 same-length-2 : tie.Need-same-length-2 Inv-loop μ-loop
@@ -87,7 +87,7 @@ returns-2 c =
     let r = c .before .before .lowered in
     let t : l .t ≡ a .cols .live = omega (arith, c .before .before .before .before .before .loop-test .left, l .inv .0) in
     let known = ap (λ (b : Least). b .lost) (c .before .before .before .before .before .before .before .unlowered .ensures) in
-    subst (λ k. LeastLoss (a .p) (a .q) (a .cols) (a .ends) (a .whole) k (r .result)) known (sofar-done (l .inv .1 .1) (r .result) t (z .sized .columns) (z .ordered) (z .in-order) (r .ensures))
+    subst (λ k. LeastLoss (a .p) (a .q) (a .cols) (a .ends) (a .whole) k (r .result)) known (sofar-done (l .inv .1 .1) (r .result) t (z .sized .columns) (s .pre .1 .1 .1) (z .in-order) (r .ensures))
 
 pub least-loss-spec : {M : Type 1} → statement M
 least-loss-spec =
