@@ -1,9 +1,8 @@
 -- The planner's first best point. End theorems: first-point, first-is-foremost, tied-closes.
 --   Closes R s c e marks   the box of the columns c and the ends e is s with item k's absent bounds at ±R k
---   Leader c e marks       a feasible point of the box that leads those of all frames
 --   FirstAt s c e marks f  the filling of f is the first best point of s, within the box, and worth its bound
 -- tied-closes: putting the columns into the order of Tied leaves the box.
--- first-point: where s has no ray and every lower bound is present, the filling at a leader's integer amounts is the first best point of s.
+-- first-point: where s has no ray and every lower bound is present, the first best point of the box is that of s.
 -- first-is-foremost: so what shows it is Optimal and Foremost.
 use mathlib.Core.Path.{_≡_, sym, _∙_, subst}
 use mathlib.Core.Logic.{_↔_}
@@ -22,7 +21,6 @@ use Rattle.knapsack.proofs.Reach.{NoRay, RangesAt, Reaches, shutAt}
 use Rattle.knapsack.specs.Meaning.{Instance, Point, Optimal}
 use Rattle.knapsack.specs.declared.Bound.the-variants.{At}
 use Rattle.knapsack.specs.declared.Mark.{Mark}
-use Rattle.knapsack.specs.declared.Mark.the-variants.{Integer}
 use Rattle.foremost.specs.Foremost.{Foremost, AllLower}
 use Rattle.foremost.specs.Order.{TiedOf}
 use Rattle.foremost.specs.Tied.{Tied, Rated}
@@ -30,22 +28,14 @@ use Rattle.foremost.proofs.Foremost.{Foremostᴰ, foremost-alike}
 use Rattle.foremost.proofs.Shut.{reach-foremost}
 use Rattle.foremost.proofs.Filling.{parts, filling}
 use Rattle.foremost.proofs.Worth.{filling-worth}
-use Rattle.foremost.proofs.Covering.{fill-some}
 use Rattle.foremost.proofs.Choices.{Choice}
-use Rattle.foremost.proofs.Frames.{LeadsFrames, choice-order, choice-in, choice-parts, foremost-of-frames, completed}
+use Rattle.foremost.proofs.Frames.{choice-parts}
 use Rattle.foremost.proofs.Points.{bridge-foremost}
 
 pub record Closes (R : ℕ → ℕ) (s : Instance) (c : Columns) (e : Ends) (marks : ℕ → Mark) : Type 0 where
   pub order : InOrder c e
   pub count : c .count ≡ s .count
   pub same : (D : ℕ) (N : ℕ → ℤ) → (Feasibleᴰ (boxOf c e marks) D N ↔ Feasibleᴰ (shutAt R s) D N) × (valueᴰ (boxOf c e marks) N ≡ valueᴰ (shutAt R s) N)
-
-pub record Leader (c : Columns) (e : Ends) (marks : ℕ → Mark) : Type 0 where
-  pub divisor : ℕ
-  pub point : ℕ → ℤ
-  pub some : 1 ≤ divisor
-  pub feasible : Feasibleᴰ (boxOf c e marks) divisor point
-  pub leads : LeadsFrames c e marks divisor point
 
 pub record FirstAt (s : Instance) (c : Columns) (e : Ends) (marks : ℕ → Mark) (f : Ends) : Type 0 where
   pub divisor : 1 ≤ parts c f
@@ -80,19 +70,8 @@ tied-closes {R} s c r e marks t h = record {
 -- ---- the theorem
 
 module _ {A : ℕ} {B : ℕ → ℕ} {C : ℕ} {R : ℕ → ℕ} (s : Instance) (g : RangesAt A B C s) (reach : Reaches A B C s R) (nr : NoRay s) (low : AllLower s)
-    (c : Columns) (e : Ends) (marks : ℕ → Mark) (o : Tied c) (rated : Rated c) (h : Closes R s c e marks) (z : Leader c e marks) (f : Ends)
-    (ch : Choice c e marks f)
-    (at-place : (k : ℕ) → k < c .count → marks k ≡ Integer → z .point k ≡ at (f .lo) k *ℤ pos (z .divisor)) where
-  best : Foremostᴰ (boxOf c e marks) (z .divisor) (z .point)
-  best = foremost-of-frames c e marks o (h .order) (z .divisor) (z .point) (z .some) (z .feasible) (z .leads)
-
-  has-room : pos 0 ≤ℤ fill c f .room
-  has-room = fill-some c f marks o (choice-order c e marks (h .order) f ch) (z .divisor) (z .point) (z .some)
-      (choice-in c e marks (h .order) f ch (z .divisor) (z .point) at-place (z .feasible))
-
-  in-box : Foremostᴰ (boxOf c e marks) (parts c f) (filling c f)
-  in-box = completed c e marks o (h .order) (z .divisor) (z .point) (z .some) best f ch at-place
-
+    (c : Columns) (e : Ends) (marks : ℕ → Mark) (o : Tied c) (rated : Rated c) (h : Closes R s c e marks) (f : Ends) (ch : Choice c e marks f)
+    (has-room : pos 0 ≤ℤ fill c f .room) (in-box : Foremostᴰ (boxOf c e marks) (parts c f) (filling c f)) where
   some-parts : 1 ≤ parts c f
   some-parts = choice-parts c e marks (h .order) f ch o has-room
 

@@ -3,6 +3,7 @@
 --   frameEnd c e w t x k   an end of item k in frame t, where x is that of the box; w says which items are whole
 --   PointOf c f E cut X    X / E keeps the ends f and the capacity, and is whole but for the item cut
 -- frame-within: End theorem. A point of frame t keeps its ends.  within-frame: End theorem. And what keeps them is a point of the frame.
+-- is-loss: a loss n / d over the divisor E.
 -- frame-leads: End theorem. The first point of the frame that loses the least, n / d = r / scaleAt c t, leads the frame.
 -- frame-none: End theorem. Where the frame has none, one of another frame leads it.  frame-floor: End theorem. None loses less.
 -- frame-apart: End theorem. And it does where n / d is no such fraction.
@@ -52,7 +53,7 @@ loss-is n d E r x h i k = times-≡-back d x (pos r) h (go n d E r x i k)
     go : (n d E r : ℕ) (x : ℤ) → d * r ≡ n * E → pos d *ℤ x ≡ pos n *ℤ pos E → x *ℤ pos d ≡ pos r *ℤ pos d
     go n d E r = split _ (λ a b. simp zed (omega arith))
 
-is-loss : (n d E r : ℕ) (x : ℤ) → d * r ≡ n * E → x ≡ pos r → pos d *ℤ x ≡ pos n *ℤ pos E
+pub is-loss : (n d E r : ℕ) (x : ℤ) → d * r ≡ n * E → x ≡ pos r → pos d *ℤ x ≡ pos n *ℤ pos E
 is-loss n d E r = split _ (λ a b. simp zed (λ h k. omega (arith, ap (λ (m : ℕ). d * m) k)))
 
 floor-is : (n d E r : ℕ) (x : ℤ) → 1 ≤ d → d * r ≡ n * E → (pos n *ℤ pos E) ≤ℤ (pos d *ℤ x) → pos r ≤ℤ x

@@ -7,7 +7,6 @@
 --   LeadsFrame, LeadsFrames   a point leads those of a frame, and those of all frames
 -- choice-frame: the filling of every choice is a point of a frame.
 -- foremost-of-frames: so a feasible point that leads those of all frames is the first best point of the box.
--- completed: and so is the filling at its integer amounts.
 -- by-mark: a mark is one of two.  scale-some: a divisor is not 0.
 -- frame-trans: what leads a point that leads a frame leads the frame, so that the first of the frames' first points leads all.
 -- choice-order, choice-out, choice-in, choice-first, choice-parts, choice-point: what a choice's ends, box and filling are.
@@ -32,9 +31,8 @@ use Rattle.knapsack.specs.declared.Mark.{Mark}
 use Rattle.knapsack.specs.declared.Mark.the-variants.{Integer, Continuous}
 use Rattle.foremost.specs.Tied.{Tied}
 use Rattle.foremost.proofs.Foremost.{Foremostᴰ}
-use Rattle.foremost.proofs.Leads.{Leads, leads-trans, leads-foremost, foremost-leads}
+use Rattle.foremost.proofs.Leads.{Leads, leads-trans}
 use Rattle.foremost.proofs.Filling.{parts, filling, parts-by, parts-some, fill-stops, fill-foremost}
-use Rattle.foremost.proofs.Covering.{fill-some}
 use Rattle.foremost.proofs.Choices.{Choice, foremost-of-choices}
 
 abbrev pub scaleAt : Columns → ℕ → ℕ
@@ -165,24 +163,6 @@ module _ (c : Columns) (e : Ends) (marks : ℕ → Mark) where
     foremost-of-frames F Z d p h = foremost-of-choices c e marks o b F d Z p (λ f ch room.
         subst (λ q. Leads v (c .count) F Z q (filling c f)) (sym (scale-is c e marks b f ch o room))
         (h (fill c f .at) (choice-frame c e marks b f ch o room) (filling c f) (choice-point c e marks b f ch o room)))
-
-    -- the filling at its integer amounts
-    pub completed : (F : ℕ) (Z : ℕ → ℤ) → 1 ≤ F → Foremostᴰ (boxOf c e marks) F Z → (f : Ends) → Choice c e marks f
-        → ((k : ℕ) → k < c .count → marks k ≡ Integer → Z k ≡ at (f .lo) k *ℤ pos F) → Foremostᴰ (boxOf c e marks) (parts c f) (filling c f)
-    completed F Z d z f ch at-place = leads-foremost (boxOf c e marks) (parts c f) (filling c f)
-        (choice-out c e marks b f ch (parts c f) (filling c f) (best .optimal .feasible))
-        (λ D N p q. leads-trans v (c .count) Z N (filling c f) p d (choice-parts c e marks b f ch o room)
-        (foremost-leads (boxOf c f marks) (parts c f) (filling c f) best F Z d inside)
-        (foremost-leads (boxOf c e marks) F Z z D N p q))
-      where
-        inside : Feasibleᴰ (boxOf c f marks) F Z
-        inside = choice-in c e marks b f ch F Z at-place (z .optimal .feasible)
-
-        room : pos 0 ≤ℤ fill c f .room
-        room = fill-some c f marks o (choice-order c e marks b f ch) F Z d inside
-
-        best : Foremostᴰ (boxOf c f marks) (parts c f) (filling c f)
-        best = choice-first c e marks b f ch o room
 
   -- ---- frame after frame
 

@@ -4,8 +4,6 @@
 -- loses-worth: of two points the one that loses just n / d is worth no less than one that loses that or more.  loses-as-much: if no more, both lose as much.
 -- loss-leads: End theorem. A point that loses just n / d leads a frame of points that lose that or more, if it comes after none that loses as much.
 -- loss-none: End theorem. It leads a frame of points that lose more.
---   Attains                a point of a frame that loses just n / d
--- frame-attains: End theorem. Where some feasible point loses just n / d, and none less, there is one.
 use mathlib.Core.Path.{_≡_, sym, ap, _∙_, subst}
 use Prim.Native.Nat.{ℕ, _*_, _≤_}
 use native.Mathlib.Omega.{arith}
@@ -15,16 +13,11 @@ use lib.Signed.{_≤ℤ_}
 use Rattle.arith.proofs.Integers.{split, split2, split3, zed, ≤ℤ-antisym, times-≤, times-≤-back}
 use Rattle.greedy.specs.declared.Columns.{Columns}
 use Rattle.greedy.specs.declared.Ends.{Ends}
-use Rattle.greedy.specs.Fill.{fill}
-use Rattle.greedy.proofs.Relaxed.{boxOf, InOrder}
-use Rattle.knapsack.proofs.Common.{valueᴰ, Feasibleᴰ}
+use Rattle.greedy.proofs.Relaxed.{boxOf}
+use Rattle.knapsack.proofs.Common.{valueᴰ}
 use Rattle.knapsack.specs.declared.Mark.{Mark}
 use Rattle.foremost.proofs.Earlier.{NoLater}
-use Rattle.foremost.specs.Tied.{Tied}
-use Rattle.foremost.proofs.Filling.{parts, filling}
-use Rattle.foremost.proofs.Covering.{Completion, covering}
-use Rattle.foremost.proofs.Choices.{Choice, completion-choice}
-use Rattle.foremost.proofs.Frames.{Frame, FramePoint, scaleAt, LeadsFrame, scale-is, choice-frame, choice-point}
+use Rattle.foremost.proofs.Frames.{FramePoint, scaleAt, LeadsFrame}
 
 abbrev pub lossBy : ℤ → ℕ → ((ℕ → ℤ) → ℤ) → ℕ → (ℕ → ℤ) → ℤ
 lossBy T q v E X = T *ℤ pos E -ℤ pos q *ℤ v X
@@ -83,30 +76,3 @@ module _ (c : Columns) (e : Ends) (marks : ℕ → Mark) (T : ℤ) (q n d : ℕ)
 
   pub loss-none : ((X : ℕ → ℤ) → FramePoint c e marks t X → LosesJust T q (valueᴰ (boxOf c e marks)) n d (scaleAt c t) X → ⊥) → LeadsFrame c e marks F Z t
   loss-none h = loss-leads (λ X p k. absurd (h X p k))
-
--- where some feasible point loses just n / d, and none less, some frame has such a point
-module _ (c : Columns) (e : Ends) (marks : ℕ → Mark) (o : Tied c) (b : InOrder c e) (T : ℤ) (q n d : ℕ) (q≥1 : 1 ≤ q) (d≥1 : 1 ≤ d)
-    (all : (E : ℕ) (X : ℕ → ℤ) → 1 ≤ E → Feasibleᴰ (boxOf c e marks) E X → LosesMore T q (valueᴰ (boxOf c e marks)) n d E X) where
-  pub record Attains : Type 0 where
-    pub rank : ℕ
-    pub frame : Frame c e marks rank
-    pub point : ℕ → ℤ
-    pub in-frame : FramePoint c e marks rank point
-    pub loses : LosesJust T q (valueᴰ (boxOf c e marks)) n d (scaleAt c rank) point
-
-  pub frame-attains : (D : ℕ) (N : ℕ → ℤ) → 1 ≤ D → Feasibleᴰ (boxOf c e marks) D N → LosesJust T q (valueᴰ (boxOf c e marks)) n d D N → Attains
-  frame-attains D N D≥1 p just = go (covering c e marks o b D D≥1 N p)
-    where
-      go : Completion c e marks D N → Attains
-      go v = record {
-        rank = fill c (v .ends) .at;
-        frame = choice-frame c e marks b (v .ends) ch o (v .room);
-        point = filling c (v .ends);
-        in-frame = choice-point c e marks b (v .ends) ch o (v .room);
-        loses = subst (λ E. LosesJust T q (valueᴰ (boxOf c e marks)) n d E (filling c (v .ends))) (scale-is c e marks b (v .ends) ch o (v .room))
-            (loses-as-much T q (valueᴰ (boxOf c e marks)) n d q≥1 d≥1 D (parts c (v .ends)) N (filling c (v .ends)) just D≥1
-            (all (parts c (v .ends)) (filling c (v .ends)) (v .divisor) (v .feasible)) (v .leads .worth));
-      }
-        where
-          ch : Choice c e marks (v .ends)
-          ch = completion-choice c e marks D N D≥1 p v

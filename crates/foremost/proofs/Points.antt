@@ -1,5 +1,5 @@
 -- The order of points, each amount with its own divisor, and the first best point, by those over a common divisor.
--- bridge-earlier, earlier-bridge: the two orders are the same.
+-- bridge-earlier, earlier-bridge, bridge-agree, agree-bridge: the two orders are the same.
 -- bridge-foremost: so the first best point over a common divisor is Optimal and Foremost.
 -- neither-same: points neither of which comes before the other are the same.  foremost-same: so an optimal point that is Foremost is the only one.
 use mathlib.Core.Path.{_≡_, sym, subst}
@@ -59,6 +59,9 @@ module _ (n D E : ℕ) (x y : Point) (N M : ℕ → ℤ) (d : 1 ≤ D) (e : 1 �
       same = λ j l. let m : j < n = omega (arith, b .below) in over-≈ (left j m) (right j m) both (b .same j l);
       less = over-< both (left (b .place) (b .below)) (right (b .place) (b .below)) (b .less);
     }
+
+    pub bridge-agree : ((k : ℕ) → k < n → x k ≈ᶠ y k) → Agree n (λ k. N k *ℤ pos E) (λ k. M k *ℤ pos D)
+    bridge-agree a k l = over-≈-back both (left k l) (right k l) (a k l)
 
     pub agree-bridge : Agree n (λ k. N k *ℤ pos E) (λ k. M k *ℤ pos D) → (k : ℕ) → k < n → x k ≈ᶠ y k
     agree-bridge a k l = over-≈ (left k l) (right k l) both (a k l)

@@ -1,0 +1,5 @@
+pub mod Order
+pub mod Places
+pub mod Shown
+pub mod Worth
+pub mod Leading
