@@ -49,7 +49,8 @@ amount-in E l u f s o h = go s (natAbs (u -ℤ l)) (abs-pos (u -ℤ l) (gap l u 
     up : (l u : ℤ) (W f : ℕ) → u -ℤ l ≡ pos W → f ≤ W * E → ((l *ℤ pos E) ≤ℤ (l *ℤ pos E +ℤ pos f)) × ((l *ℤ pos E +ℤ pos f) ≤ℤ (u *ℤ pos E))
     up = split2 _ (λ a b c e W f. simp zed (λ i h. (omega arith, omega (arith, ap (λ (n : ℕ). n * E) i))))
 
-    go : (s : Bool) (W : ℕ) → u -ℤ l ≡ pos W → f ≤ W * E → ((l *ℤ pos E) ≤ℤ cond s (u *ℤ pos E -ℤ pos f) (l *ℤ pos E +ℤ pos f)) × (cond s (u *ℤ pos E -ℤ pos f) (l *ℤ pos E +ℤ pos f) ≤ℤ (u *ℤ pos E))
+    go : (s : Bool) (W : ℕ) → u -ℤ l ≡ pos W → f ≤ W * E → ((l *ℤ pos E) ≤ℤ cond s (u *ℤ pos E -ℤ pos f) (l *ℤ pos E +ℤ pos f)) ×
+        (cond s (u *ℤ pos E -ℤ pos f) (l *ℤ pos E +ℤ pos f) ≤ℤ (u *ℤ pos E))
     go true W i h = down l u W f i h
     go false W i h = up l u W f i h
 
@@ -113,7 +114,8 @@ module _ (E : ℕ) (a r l u : ℤ) (E≥1 : 1 ≤ E) (o : l ≤ℤ u) (y : ℕ) 
       go true = ap (λ (n : ℕ). natAbs r * n) rest-is
       go false = ap (λ (n : ℕ). natAbs r * n) far-is
 
-module _ (p q : ℕ) (c : Columns) (e : Ends) (E cut : ℕ) (few : c .count ≤ 16) (E≥1 : 1 ≤ E) (cut-size : cut < c .count → natAbs (weightOf c cut) ≡ E) (o : InOrder c e)
+module _ (p q : ℕ) (c : Columns) (e : Ends) (E cut : ℕ) (few : c .count ≤ 16) (E≥1 : 1 ≤ E) (cut-size : cut < c .count →
+    natAbs (weightOf c cut) ≡ E) (o : InOrder c e)
     (room : ℕ) (room-is : pos room ≡ roomBy c e) (ps : Parts) (b : Pieces p q c e E cut room (c .count) ps)
     (y : ℕ → ℕ) (within : filling.Within (itemsIn ps) y) (fills : filling.load (itemsIn ps) y ≡ room) where
   abbrev n : ℕ
@@ -125,9 +127,12 @@ module _ (p q : ℕ) (c : Columns) (e : Ends) (E cut : ℕ) (few : c .count ≤ 
   made : (k : ℕ) → k < n → Made (eqb k cut) E (weightOf c k) (scoreOf p q c k) (at (e .lo) k) (at (e .hi) k) (y k) (N k)
   made k l = go (ℕ-discrete k cut) (omega (arith, within k (omega (arith, b .weights .long)), b .ranges .items k l))
     where
-      go : Dec (k ≡ cut) → y k ≤ spanOf e E cut k → Made (eqb k cut) E (weightOf c k) (scoreOf p q c k) (at (e .lo) k) (at (e .hi) k) (y k) (amountBy (eqb k cut) E (weightOf c k) (at (e .lo) k) (at (e .hi) k) (y k))
-      go (yes i) m = rw (eq-eqb k cut i) (made-cut E (weightOf c k) (scoreOf p q c k) (at (e .lo) k) (at (e .hi) k) E≥1 (o k l) (y k) (ap (λ j. natAbs (weightOf c j)) i ∙ cut-size (omega arith)) (rw (eq-eqb k cut i) at m))
-      go (no i) m = rw (ne-eqb k cut i) (made-whole E (weightOf c k) (scoreOf p q c k) (at (e .lo) k) (at (e .hi) k) E≥1 (o k l) (y k) (rw (ne-eqb k cut i) at m))
+      go : Dec (k ≡ cut) → y k ≤ spanOf e E cut k → Made (eqb k cut) E (weightOf c k) (scoreOf p q c k) (at (e .lo) k) (at (e .hi) k) (y k)
+          (amountBy (eqb k cut) E (weightOf c k) (at (e .lo) k) (at (e .hi) k) (y k))
+      go (yes i) m = rw (eq-eqb k cut i) (made-cut E (weightOf c k) (scoreOf p q c k) (at (e .lo) k) (at (e .hi) k) E≥1 (o k l) (y k)
+          (ap (λ j. natAbs (weightOf c j)) i ∙ cut-size (omega arith)) (rw (eq-eqb k cut i) at m))
+      go (no i) m = rw (ne-eqb k cut i) (made-whole E (weightOf c k) (scoreOf p q c k) (at (e .lo) k) (at (e .hi) k) E≥1 (o k l) (y k)
+          (rw (ne-eqb k cut i) at m))
 
   whole : (k : ℕ) → k ≢ cut → (x : ℤ) × (N k ≡ x *ℤ pos E)
   whole k i = rw (ne-eqb k cut i) (go (ltZ (weightOf c k) (pos 0)))
@@ -152,20 +157,24 @@ module _ (p q : ℕ) (c : Columns) (e : Ends) (E cut : ℕ) (few : c .count ≤ 
   room-filled : loaded + y 16 ≡ room
   unfolding loaded
   room-filled = sym (over-all (λ j. num (ps .weight) j * y j) (λ k l m. rw (b .weights .none k l m) (omega arith))
-      ∙ ap₂ _+_ (cong-sum n (λ j. num (ps .weight) j * y j) (λ k. sizeOf c cut k * y k) (λ k l. ap (λ (m : ℕ). m * y k) (b .weights .items k l))) (ap (λ (m : ℕ). m * y 16) (b .weights .last) ∙ omega arith))
+      ∙ ap₂ _+_ (cong-sum n (λ j. num (ps .weight) j * y j) (λ k. sizeOf c cut k * y k) (λ k l. ap (λ (m : ℕ). m * y k) (b .weights .items k l)))
+      (ap (λ (m : ℕ). m * y 16) (b .weights .last) ∙ omega arith))
       ∙ fills
 
   abbrev spent : ℕ → ℕ
   spent k = takenOf p q c E cut k * y k + leftOf p q c E cut k * (spanOf e E cut k - y k)
 
   cost-is : filling.sum n spent + (E * p) * y 16 ≡ filling.cost (itemsIn ps) y
-  cost-is = sym (over-all (λ j. num (ps .taken) j * y j + num (ps .left) j * (num (ps .range) j - y j)) (λ k l m. rw (b .takens .none k l m, b .lefts .none k l m) (omega arith))
-      ∙ ap₂ _+_ (cong-sum n (λ j. num (ps .taken) j * y j + num (ps .left) j * (num (ps .range) j - y j)) spent (λ k l. rw (b .takens .items k l, b .lefts .items k l, b .ranges .items k l)))
+  cost-is = sym (over-all (λ j. num (ps .taken) j * y j + num (ps .left) j * (num (ps .range) j - y j))
+      (λ k l m. rw (b .takens .none k l m, b .lefts .none k l m) (omega arith))
+      ∙ ap₂ _+_ (cong-sum n (λ j. num (ps .taken) j * y j + num (ps .left) j * (num (ps .range) j - y j)) spent
+      (λ k l. rw (b .takens .items k l, b .lefts .items k l, b .ranges .items k l)))
       (rw (b .takens .last, b .lefts .last) (omega arith)))
 
   -- what each item loses
   term-is : (k : ℕ) → k < n → term p q c e E N k ≡ pos (spent k)
-  term-is k l = made k l .lose ∙ ap pos (sym (go (heavyBy (weightOf c k) (scoreOf p q c k)) (costBy (eqb k cut) E (scoreOf p q c k)) (y k) (spanOf e E cut k - y k)))
+  term-is k l = made k l .lose ∙ ap pos (sym (go (heavyBy (weightOf c k) (scoreOf p q c k)) (costBy (eqb k cut) E (scoreOf p q c k)) (y k)
+      (spanOf e E cut k - y k)))
     where
       go : (v : Bool) (m a d : ℕ) → cond v 0 m * a + cond v m 0 * d ≡ m * cond v d a
       go true m a d = omega arith
@@ -176,7 +185,8 @@ module _ (p q : ℕ) (c : Columns) (e : Ends) (E cut : ℕ) (few : c .count ≤ 
   loaded-is = ap (λ z. z *ℤ pos E) (pos-sum n (λ k. sizeOf c cut k * y k))
       ∙ swap (sum n (λ k. pos (sizeOf c cut k * y k)))
       ∙ sym (sum-scale n (pos E) (λ k. pos (sizeOf c cut k * y k)))
-      ∙ sum-cong n (λ k. pos E *ℤ pos (sizeOf c cut k * y k)) (λ k. weightOf c k *ℤ (N k -ℤ footOf c e k *ℤ pos E)) (λ k l. sym (swap (pos (sizeOf c cut k * y k))) ∙ made k l .weigh ∙ out (weightOf c k) (N k) (footOf c e k))
+      ∙ sum-cong n (λ k. pos E *ℤ pos (sizeOf c cut k * y k)) (λ k. weightOf c k *ℤ (N k -ℤ footOf c e k *ℤ pos E))
+      (λ k l. sym (swap (pos (sizeOf c cut k * y k))) ∙ made k l .weigh ∙ out (weightOf c k) (N k) (footOf c e k))
       ∙ sum-diff n (weightOf c) N (λ k. footOf c e k *ℤ pos E)
       ∙ ap (λ z. weighOf c N -ℤ z) (sum-times n (weightOf c) (footOf c e) E)
     where
@@ -201,7 +211,8 @@ module _ (p q : ℕ) (c : Columns) (e : Ends) (E cut : ℕ) (few : c .count ≤ 
 
   pub made-loses : lossOf p q c e E N ≡ pos (filling.cost (itemsIn ps) y)
   made-loses = loss-is p q c e E N
-      ∙ ap₂ _+ℤ_ (sum-cong n (term p q c e E N) (λ k. pos (spent k)) (λ k l. term-is k l) ∙ sym (pos-sum n spent)) (ap (λ z. pos p *ℤ z) (sym slack-is) ∙ priced (y 16))
+      ∙ ap₂ _+ℤ_ (sum-cong n (term p q c e E N) (λ k. pos (spent k)) (λ k l. term-is k l) ∙ sym (pos-sum n spent))
+      (ap (λ z. pos p *ℤ z) (sym slack-is) ∙ priced (y 16))
       ∙ plus (filling.sum n spent) ((E * p) * y 16)
       ∙ ap pos cost-is
     where
@@ -214,7 +225,8 @@ module _ (p q : ℕ) (c : Columns) (e : Ends) (E cut : ℕ) (few : c .count ≤ 
   pub made-point : Point c e E cut N
   made-point = record { above = λ k l. made k l .above; below = λ k l. made k l .below; fits = fits; whole = λ k l i. whole k i }
 
-module _ (p q : ℕ) (c : Columns) (e : Ends) (E cut : ℕ) (few : c .count ≤ 16) (E≥1 : 1 ≤ E) (cut-size : cut < c .count → natAbs (weightOf c cut) ≡ E) (o : InOrder c e)
+module _ (p q : ℕ) (c : Columns) (e : Ends) (E cut : ℕ) (few : c .count ≤ 16) (E≥1 : 1 ≤ E) (cut-size : cut < c .count →
+    natAbs (weightOf c cut) ≡ E) (o : InOrder c e)
     (room : ℕ) (room-is : pos room ≡ roomBy c e) (ps : Parts) (b : Pieces p q c e E cut room (c .count) ps) where
   pub attained : (r : ℕ) → filling.Reached (itemsIn ps) room r → Attained p q c e E cut r
   attained r h = record {

@@ -60,7 +60,8 @@ record IsCount (p q : ℕ) (c : Columns) (e : Ends) (E cut : ℕ) (N : ℕ → �
   pub costs : pos (takenOf p q c E cut k * y + leftOf p q c E cut k * (spanOf e E cut k - y)) ≡ term p q c e E N k
   pub makes : N k ≡ amountBy (eqb k cut) E (weightOf c k) (at (e .lo) k) (at (e .hi) k) y
 
-is-count : (p q : ℕ) (c : Columns) (e : Ends) (E cut : ℕ) (N : ℕ → ℤ) (k : ℕ) (t : Counted (eqb k cut) E (weightOf c k) (scoreOf p q c k) (at (e .lo) k) (at (e .hi) k) (N k)) → IsCount p q c e E cut N k (t .units)
+is-count : (p q : ℕ) (c : Columns) (e : Ends) (E cut : ℕ) (N : ℕ → ℤ) (k : ℕ)
+    (t : Counted (eqb k cut) E (weightOf c k) (scoreOf p q c k) (at (e .lo) k) (at (e .hi) k) (N k)) → IsCount p q c e E cut N k (t .units)
 is-count p q c e E cut N k t = record { inside = t .inside; weigh = t .weigh; costs = t .costs; makes = t .makes }
 
 module _ (p q : ℕ) (c : Columns) (e : Ends) (E cut : ℕ) (few : c .count ≤ 16) (E≥1 : 1 ≤ E) (cut-size : cut < c .count → natAbs (weightOf c cut) ≡ E)
@@ -75,8 +76,10 @@ module _ (p q : ℕ) (c : Columns) (e : Ends) (E cut : ℕ) (few : c .count ≤ 
       a = apart E (at (e .lo) k) (at (e .hi) k) (N k) (pt .above k l) (pt .below k l) E≥1 (weightOf c k) (scoreOf p q c k)
 
       go : Dec (k ≡ cut) → Counted (eqb k cut) E (weightOf c k) (scoreOf p q c k) (at (e .lo) k) (at (e .hi) k) (N k)
-      go (yes h) = rw (eq-eqb k cut h) (count-cut E (weightOf c k) (scoreOf p q c k) (at (e .lo) k) (at (e .hi) k) (N k) (ap (λ i. natAbs (weightOf c i)) h ∙ cut-size (omega arith)) a)
-      go (no h) = rw (ne-eqb k cut h) (let w = pt .whole k l h in count-whole E (weightOf c k) (scoreOf p q c k) (at (e .lo) k) (at (e .hi) k) (N k) E≥1 (w .0) (w .1) a)
+      go (yes h) = rw (eq-eqb k cut h) (count-cut E (weightOf c k) (scoreOf p q c k) (at (e .lo) k) (at (e .hi) k) (N k)
+          (ap (λ i. natAbs (weightOf c i)) h ∙ cut-size (omega arith)) a)
+      go (no h) = rw (ne-eqb k cut h) (let w = pt .whole k l h in
+          count-whole E (weightOf c k) (scoreOf p q c k) (at (e .lo) k) (at (e .hi) k) (N k) E≥1 (w .0) (w .1) a)
 
   unitsBy : (k : ℕ) → Dec (k < n) → ℕ
   unitsBy k (yes l) = counted k l .units
@@ -110,7 +113,8 @@ module _ (p q : ℕ) (c : Columns) (e : Ends) (E cut : ℕ) (few : c .count ≤ 
   loaded-is = ap (λ z. z *ℤ pos E) (pos-sum n (λ k. sizeOf c cut k * units k))
       ∙ swap (sum n (λ k. pos (sizeOf c cut k * units k)))
       ∙ sym (sum-scale n (pos E) (λ k. pos (sizeOf c cut k * units k)))
-      ∙ sum-cong n (λ k. pos E *ℤ pos (sizeOf c cut k * units k)) (λ k. weightOf c k *ℤ (N k -ℤ footOf c e k *ℤ pos E)) (λ k l. sym (swap (pos (sizeOf c cut k * units k))) ∙ units-item k l .weigh ∙ out (weightOf c k) (N k) (footOf c e k))
+      ∙ sum-cong n (λ k. pos E *ℤ pos (sizeOf c cut k * units k)) (λ k. weightOf c k *ℤ (N k -ℤ footOf c e k *ℤ pos E))
+      (λ k l. sym (swap (pos (sizeOf c cut k * units k))) ∙ units-item k l .weigh ∙ out (weightOf c k) (N k) (footOf c e k))
       ∙ sum-diff n (weightOf c) N (λ k. footOf c e k *ℤ pos E)
       ∙ ap (λ z. weighOf c N -ℤ z) (sum-times n (weightOf c) (footOf c e) E)
     where
@@ -142,7 +146,8 @@ module _ (p q : ℕ) (c : Columns) (e : Ends) (E cut : ℕ) (few : c .count ≤ 
     -- what is left of the capacity
     slack-is : pos slack *ℤ pos E ≡ c .capacity *ℤ pos E -ℤ weighOf c N
     unfolding slack
-    slack-is = close (weighOf c N) (sum n (λ k. weightOf c k *ℤ footOf c e k)) (c .capacity) loaded room (room - loaded) loaded-is room-is (omega (arith, fits-room))
+    slack-is = close (weighOf c N) (sum n (λ k. weightOf c k *ℤ footOf c e k)) (c .capacity) loaded room (room - loaded) loaded-is room-is
+        (omega (arith, fits-room))
       where
         close : (W F B : ℤ) (m n s : ℕ) → pos m *ℤ pos E ≡ W -ℤ F *ℤ pos E → pos n ≡ B -ℤ F → m + s ≡ n → pos s *ℤ pos E ≡ B *ℤ pos E -ℤ W
         close W F B m n s i j k = fin (pos m *ℤ pos E) W (F *ℤ pos E) (B *ℤ pos E) (pos s *ℤ pos E) i (ring (pos m) (pos s) (pos n) B F (plus m s n k) j)
@@ -206,21 +211,25 @@ module _ (p q : ℕ) (c : Columns) (e : Ends) (E cut : ℕ) (few : c .count ≤ 
       pub way-fills : filling.load I way ≡ room
       unfolding loaded slack
       way-fills = over-all (λ j. num (ps .weight) j * way j) (λ k l m. rw (b .weights .none k l m) (omega arith))
-          ∙ ap₂ _+_ (cong-sum n (λ j. num (ps .weight) j * way j) (λ k. sizeOf c cut k * units k) (λ k l. ap₂ _*_ (b .weights .items k l) (way-item k (omega arith)))) (ap₂ _*_ (b .weights .last) way-slack)
+          ∙ ap₂ _+_ (cong-sum n (λ j. num (ps .weight) j * way j) (λ k. sizeOf c cut k * units k)
+          (λ k l. ap₂ _*_ (b .weights .items k l) (way-item k (omega arith)))) (ap₂ _*_ (b .weights .last) way-slack)
           ∙ omega (arith, fits-room)
 
       abbrev spent : ℕ → ℕ
       spent k = takenOf p q c E cut k * units k + leftOf p q c E cut k * (spanOf e E cut k - units k)
 
       cost-is : filling.cost I way ≡ filling.sum n spent + (E * p) * slack
-      cost-is = over-all (λ j. num (ps .taken) j * way j + num (ps .left) j * (num (ps .range) j - way j)) (λ k l m. rw (b .takens .none k l m, b .lefts .none k l m) (omega arith))
-          ∙ ap₂ _+_ (cong-sum n (λ j. num (ps .taken) j * way j + num (ps .left) j * (num (ps .range) j - way j)) spent (λ k l. rw (b .takens .items k l, b .lefts .items k l, b .ranges .items k l, way-item k (omega arith))))
+      cost-is = over-all (λ j. num (ps .taken) j * way j + num (ps .left) j * (num (ps .range) j - way j))
+          (λ k l m. rw (b .takens .none k l m, b .lefts .none k l m) (omega arith))
+          ∙ ap₂ _+_ (cong-sum n (λ j. num (ps .taken) j * way j + num (ps .left) j * (num (ps .range) j - way j)) spent
+          (λ k l. rw (b .takens .items k l, b .lefts .items k l, b .ranges .items k l, way-item k (omega arith))))
           (rw (b .takens .last, b .lefts .last, way-slack) (omega arith))
 
       -- it costs just what the point loses
       pub way-costs : pos (filling.cost I way) ≡ lossOf p q c e E N
       way-costs = ap pos cost-is ∙ plus (filling.sum n spent) ((E * p) * slack)
-          ∙ ap₂ _+ℤ_ (pos-sum n spent ∙ sum-cong n (λ k. pos (spent k)) (term p q c e E N) (λ k l. units-item k l .costs)) (priced E p slack ∙ ap (λ z. pos p *ℤ z) slack-is)
+          ∙ ap₂ _+ℤ_ (pos-sum n spent ∙ sum-cong n (λ k. pos (spent k)) (term p q c e E N) (λ k l. units-item k l .costs))
+          (priced E p slack ∙ ap (λ z. pos p *ℤ z) slack-is)
           ∙ sym (loss-is p q c e E N)
         where
           plus : (m n : ℕ) → pos (m + n) ≡ pos m +ℤ pos n

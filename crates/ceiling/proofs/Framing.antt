@@ -38,7 +38,8 @@ use Rattle.ceiling.specs.declared.Lost.{Lost}
 use Rattle.ceiling.specs.declared.Least.{Least}
 use Rattle.ceiling.specs.Loss.{scoreOf, goodOf, valueOf, weighOf, topOf, lossOf, Point, Floor, Attained}
 use Rattle.ceiling.specs.Sizes.{Modest, Cut, Narrow, Spanned}
-use Rattle.ceiling.specs.Frames.{Altered, wholeAt, cutOf, scaleOf, frameBy, frameLo, frameHi, frameEndBy, Framed, Usable, Loses, FrameBound, Unmarked, FrameEnds, FrameFloor, FrameAttained, Counted, Ranked, Ready, Ceiling}
+use Rattle.ceiling.specs.Frames.{Altered, wholeAt, cutOf, scaleOf, frameBy, frameLo, frameHi, frameEndBy, Framed, Usable, Loses, FrameBound, Unmarked}
+use Rattle.ceiling.specs.Frames.{FrameEnds, FrameFloor, FrameAttained, Counted, Ranked, Ready, Ceiling}
 use Rattle.ceiling.specs.Least.{FirstPoint, IsFrame, Same, AtFrame, Lowered, Considered, Found, LeastLoss, FirstIn}
 use Rattle.ceiling.specs.Pieces.{amountOf, wholeOf}
 use Rattle.ceiling.proofs.Loss.{good-above}
@@ -58,7 +59,9 @@ cond-in false l u x y h k = k
 
 module _ (c : Columns) (e : Ends) (w : List Bool) (t : ℕ) (o : InOrder c e) where
   stand-in : (k : ℕ) → k < c .count → In (at (e .lo) k) (at (e .hi) k) (stand c e t k)
-  stand-in k l = cond-in (ltb (rankOf c k) t) L U _ _ (cond-in (ltZ (weightOf c k) (pos 0)) L U L U at-l at-u) (cond-in (ltZ (pos 0) (weightOf c k)) L U _ _ at-l (cond-in (ltZ (weightOf c k) (pos 0)) L U _ _ at-u (cond-in (ltZ (pos 0) (priceOf c k)) L U U L at-u at-l)))
+  stand-in k l = cond-in (ltb (rankOf c k) t) L U _ _ (cond-in (ltZ (weightOf c k) (pos 0)) L U L U at-l at-u)
+      (cond-in (ltZ (pos 0) (weightOf c k)) L U _ _ at-l (cond-in (ltZ (weightOf c k) (pos 0)) L U _ _ at-u
+      (cond-in (ltZ (pos 0) (priceOf c k)) L U U L at-u at-l)))
     where
       L : ℤ
       L = at (e .lo) k
@@ -80,7 +83,8 @@ module _ (c : Columns) (e : Ends) (w : List Bool) (t : ℕ) (o : InOrder c e) wh
   frame-order false true x y z h = h
   frame-order false false x y z h = ≤ℤ-refl z
 
-  pub framed-made : (cut : ℕ) (lo hi : List ℤ) → Sized c e → cut ≡ cutOf c t → Altered (c .count) (frameEndBy c e w cut t (e .lo)) (e .lo) lo → Altered (c .count) (frameEndBy c e w cut t (e .hi)) (e .hi) hi
+  pub framed-made : (cut : ℕ) (lo hi : List ℤ) → Sized c e → cut ≡ cutOf c t → Altered (c .count) (frameEndBy c e w cut t (e .lo)) (e .lo) lo →
+      Altered (c .count) (frameEndBy c e w cut t (e .hi)) (e .hi) hi
       → FrameEnds c e w t (record { lo = lo; hi = hi })
   framed-made cut lo hi z h al ah = record {
     framed = record {
@@ -91,7 +95,8 @@ module _ (c : Columns) (e : Ends) (w : List Bool) (t : ℕ) (o : InOrder c e) wh
       lo-in = altered-within al (λ k l. small (wholeAt w k) (eqb k cut) (at (e .lo) k) k (z .ends .lo-in k)) (z .ends .lo-in);
       hi-in = altered-within ah (λ k l. small (wholeAt w k) (eqb k cut) (at (e .hi) k) k (z .ends .hi-in k)) (z .ends .hi-in);
     };
-    ordered = λ k l. subst₂ _≤ℤ_ (sym (al .first k l)) (sym (ah .first k l)) (frame-order (wholeAt w k) (eqb k cut) (at (e .lo) k) (at (e .hi) k) (stand c e t k) (o k l));
+    ordered = λ k l. subst₂ _≤ℤ_ (sym (al .first k l)) (sym (ah .first k l))
+        (frame-order (wholeAt w k) (eqb k cut) (at (e .lo) k) (at (e .hi) k) (stand c e t k) (o k l));
   }
     where
       small : (b s : Bool) (x : ℤ) (k : ℕ) → Within 300000000 x → Within 300000000 (frameBy b s x (stand c e t k))
@@ -102,12 +107,15 @@ module _ (c : Columns) (e : Ends) (w : List Bool) (t : ℕ) (o : InOrder c e) wh
   module _ (p q : ℕ) (e′ : Ends) (fr : Framed c e w t e′) where
     top-below : topOf p q c e′ ≤ℤ topOf p q c e
     unfolding topOf
-    top-below = +ℤ-mono (≤ℤ-refl (pos p *ℤ c .capacity)) (sum-mono (c .count) (λ k. scoreOf p q c k *ℤ goodOf p q c e′ k) (λ k. scoreOf p q c k *ℤ goodOf p q c e k) (λ k l. each k l))
+    top-below = +ℤ-mono (≤ℤ-refl (pos p *ℤ c .capacity)) (sum-mono (c .count) (λ k. scoreOf p q c k *ℤ goodOf p q c e′ k)
+        (λ k. scoreOf p q c k *ℤ goodOf p q c e k) (λ k l. each k l))
       where
         inside : (k : ℕ) → k < c .count → In (at (e .lo) k) (at (e .hi) k) (goodOf p q c e′ k)
         inside k l = cond-in (ltZ (pos 0) (scoreOf p q c k)) (at (e .lo) k) (at (e .hi) k) (at (e′ .hi) k) (at (e′ .lo) k)
-            (subst (λ x. In (at (e .lo) k) (at (e .hi) k) x) (sym (fr .high k l)) (frame-in (wholeAt w k) (eqb k (cutOf c t)) (at (e .hi) k) k l (o k l, ≤ℤ-refl (at (e .hi) k))))
-            (subst (λ x. In (at (e .lo) k) (at (e .hi) k) x) (sym (fr .low k l)) (frame-in (wholeAt w k) (eqb k (cutOf c t)) (at (e .lo) k) k l (≤ℤ-refl (at (e .lo) k), o k l)))
+            (subst (λ x. In (at (e .lo) k) (at (e .hi) k) x) (sym (fr .high k l))
+            (frame-in (wholeAt w k) (eqb k (cutOf c t)) (at (e .hi) k) k l (o k l, ≤ℤ-refl (at (e .hi) k))))
+            (subst (λ x. In (at (e .lo) k) (at (e .hi) k) x) (sym (fr .low k l))
+            (frame-in (wholeAt w k) (eqb k (cutOf c t)) (at (e .lo) k) k l (≤ℤ-refl (at (e .lo) k), o k l)))
 
         one-l : (x y : ℤ) → x ≤ℤ y → (x *ℤ pos 1) ≤ℤ y
         one-l = split2 _ (λ a b c e. simp zed (omega arith))
@@ -119,7 +127,8 @@ module _ (c : Columns) (e : Ends) (w : List Bool) (t : ℕ) (o : InOrder c e) wh
         close = split3 _ (λ a b c e f g. simp zed (omega arith))
 
         each : (k : ℕ) → k < c .count → (scoreOf p q c k *ℤ goodOf p q c e′ k) ≤ℤ (scoreOf p q c k *ℤ goodOf p q c e k)
-        each k l = close (scoreOf p q c k) (goodOf p q c e k) (goodOf p q c e′ k) (good-above 1 (scoreOf p q c k) (at (e .lo) k) (at (e .hi) k) (goodOf p q c e′ k) (one-l _ _ (inside k l .0)) (one-u _ _ (inside k l .1)))
+        each k l = close (scoreOf p q c k) (goodOf p q c e k) (goodOf p q c e′ k)
+            (good-above 1 (scoreOf p q c k) (at (e .lo) k) (at (e .hi) k) (goodOf p q c e′ k) (one-l _ _ (inside k l .0)) (one-u _ _ (inside k l .1)))
 
     -- what the frame itself loses
     pub frame-less : pos (natAbs (topOf p q c e -ℤ topOf p q c e′)) ≡ topOf p q c e -ℤ topOf p q c e′
@@ -129,7 +138,8 @@ module _ (c : Columns) (e : Ends) (w : List Bool) (t : ℕ) (o : InOrder c e) wh
         gap = split2 _ (λ a b c e. simp zed (omega arith))
 
     -- with it, a bound of the losses within the frame's own ends is one of those in the box
-    pub frame-floor : (r d m : ℕ) → Floor p q c e′ (scaleOf c t) (cutOf c t) r → d ≡ natAbs (topOf p q c e -ℤ topOf p q c e′) → m ≤ scaleOf c t * d + r → FrameFloor p q c e w t m
+    pub frame-floor : (r d m : ℕ) → Floor p q c e′ (scaleOf c t) (cutOf c t) r → d ≡ natAbs (topOf p q c e -ℤ topOf p q c e′) → m ≤ scaleOf c t * d + r →
+        FrameFloor p q c e w t m
     unfolding lossOf
     frame-floor r d m f h k = record { floor = λ e″ fr″ M pt. go M (f .floor M (move e″ fr″ M pt)) }
       where
@@ -154,7 +164,8 @@ module _ (c : Columns) (e : Ends) (w : List Bool) (t : ℕ) (o : InOrder c e) wh
         go M j = close m r d E (topOf p q c e) (topOf p q c e′) (pos q *ℤ valueOf c M) k less-is j
 
     -- with it, a point of the frame's own ends loses in the box
-    pub frame-attained : (r d m : ℕ) → Attained p q c e′ (scaleOf c t) (cutOf c t) r → d ≡ natAbs (topOf p q c e -ℤ topOf p q c e′) → m ≡ scaleOf c t * d + r → FrameAttained p q c e w t m
+    pub frame-attained : (r d m : ℕ) → Attained p q c e′ (scaleOf c t) (cutOf c t) r → d ≡ natAbs (topOf p q c e -ℤ topOf p q c e′) → m ≡ scaleOf c t * d + r →
+        FrameAttained p q c e w t m
     unfolding lossOf
     frame-attained r d m a h k = record {
       ends = e′;
@@ -168,13 +179,16 @@ module _ (c : Columns) (e : Ends) (w : List Bool) (t : ℕ) (o : InOrder c e) wh
         close m r d E = split3 _ (λ a b x y u z h. simp zed (λ i j. omega (arith, ap (λ (n : ℕ). n * E) i)))
 
   -- a point of a frame that does not cut a whole item is feasible
-  pub frame-feasible : (e′ : Ends) (M : ℕ → ℤ) → Framed c e w t e′ → Point c e′ (scaleOf c t) (cutOf c t) M → ((k : ℕ) → k < c .count → wholeAt w k ≡ true → k ≢ cutOf c t)
+  pub frame-feasible : (e′ : Ends) (M : ℕ → ℤ) → Framed c e w t e′ → Point c e′ (scaleOf c t) (cutOf c t) M →
+      ((k : ℕ) → k < c .count → wholeAt w k ≡ true → k ≢ cutOf c t)
       → (marks : ℕ → Mark) → Unmarked c w marks → Feasibleᴰ (boxOf c e marks) (scaleOf c t) M
   frame-feasible e′ M fr pt ne marks u = record {
     keeps = λ k l. record {
       marked = mark k l (marks k) (marks k) refl (u k l);
-      above = ≤ℤ-trans (times-≤ E _ _ (subst (λ x. at (e .lo) k ≤ℤ x) (sym (fr .low k l)) (frame-in (wholeAt w k) (eqb k (cutOf c t)) (at (e .lo) k) k l (≤ℤ-refl (at (e .lo) k), o k l) .0))) (pt .above k l);
-      below = ≤ℤ-trans (pt .below k l) (times-≤ E _ _ (subst (λ x. x ≤ℤ at (e .hi) k) (sym (fr .high k l)) (frame-in (wholeAt w k) (eqb k (cutOf c t)) (at (e .hi) k) k l (o k l, ≤ℤ-refl (at (e .hi) k)) .1)));
+      above = ≤ℤ-trans (times-≤ E _ _ (subst (λ x. at (e .lo) k ≤ℤ x) (sym (fr .low k l))
+          (frame-in (wholeAt w k) (eqb k (cutOf c t)) (at (e .lo) k) k l (≤ℤ-refl (at (e .lo) k), o k l) .0))) (pt .above k l);
+      below = ≤ℤ-trans (pt .below k l) (times-≤ E _ _ (subst (λ x. x ≤ℤ at (e .hi) k) (sym (fr .high k l))
+          (frame-in (wholeAt w k) (eqb k (cutOf c t)) (at (e .hi) k) k l (o k l, ≤ℤ-refl (at (e .hi) k)) .1)));
     };
     fits = pt .fits;
   }
@@ -187,7 +201,8 @@ module _ (c : Columns) (e : Ends) (w : List Bool) (t : ℕ) (o : InOrder c e) wh
       mark k l Continuous x i h = tt
 
 -- a frame that can be needed cuts no whole item, nor does the last one
-pub loose-cut : (c : Columns) (w : List Bool) (t : ℕ) → c .count ≤ 16 → t ≤ c .live → (t < c .live → wholeAt w (itemOf c t) ≡ false) → (k : ℕ) → k < c .count → wholeAt w k ≡ true → k ≢ cutOf c t
+pub loose-cut : (c : Columns) (w : List Bool) (t : ℕ) → c .count ≤ 16 → t ≤ c .live → (t < c .live → wholeAt w (itemOf c t) ≡ false) → (k : ℕ) → k < c .count →
+    wholeAt w k ≡ true → k ≢ cutOf c t
 loose-cut c w t few t-in loose k l h e = go (ltb t (c .live)) refl e
   where
     go : (b : Bool) → ltb t (c .live) ≡ b → k ≡ cond b (itemOf c t) 16 → ⊥
@@ -199,7 +214,8 @@ loose-cut c w t few t-in loose k l h e = go (ltb t (c .live)) refl e
 
 -- ---- sizes
 
-scale-by : (c : Columns) (t : ℕ) (b : Bool) → SizedColumns c → ltb t (c .live) ≡ b → (1 ≤ cond b (natAbs (at (c .size) t)) 1) × (cond b (natAbs (at (c .size) t)) 1 ≤ 1000)
+scale-by : (c : Columns) (t : ℕ) (b : Bool) → SizedColumns c → ltb t (c .live) ≡ b → (1 ≤ cond b (natAbs (at (c .size) t)) 1) ×
+    (cond b (natAbs (at (c .size) t)) 1 ≤ 1000)
 scale-by c t true z h = (z .live-sizes t (ltb-true t (c .live) h), within-abs (at (c .size) t) (z .sizes-in t))
 scale-by c t false z h = (omega arith, omega arith)
 
@@ -212,7 +228,8 @@ ordered-ranked c o = record { item-in = o .item-in; live-in = o .live-in; sizes 
 pub cut-is : (c : Columns) (t : ℕ) → SizedColumns c → Ranked c → Cut c (scaleOf c t) (cutOf c t)
 cut-is c t z o = go (ltb t (c .live)) refl
   where
-    go : (b : Bool) → ltb t (c .live) ≡ b → cond b (itemOf c t) 16 < c .count → natAbs (weightOf c (cond b (itemOf c t) 16)) ≡ cond b (natAbs (at (c .size) t)) 1
+    go : (b : Bool) → ltb t (c .live) ≡ b → cond b (itemOf c t) 16 < c .count →
+        natAbs (weightOf c (cond b (itemOf c t) 16)) ≡ cond b (natAbs (at (c .size) t)) 1
     go true h l = sym (ap natAbs (o .sizes t (ltb-true t (c .live) h)))
     go false h l = absurd (omega (arith, z .few))
 
@@ -241,21 +258,25 @@ module _ {p q : ℕ} {c : Columns} {e : Ends} {w : List Bool} {t : ℕ} {f : Fra
 
   -- losses within the frame's ends, as losses in the box
   pub of-floor : (m n : ℕ) → Floor p q c (f .ends) (f .scale) (f .cut) m → n ≤ f .scale * f .less + m → FrameFloor p q c e w t n
-  of-floor m n fl l = frame-floor c e w t (r .in-order) p q (f .ends) (h .ends-are .framed) m (f .less) n (subst₂ (λ x y. Floor p q c (f .ends) x y m) (h .scale-is) (h .cut-is) fl) (h .less-is) (subst (λ x. n ≤ x * f .less + m) (h .scale-is) l)
+  of-floor m n fl l = frame-floor c e w t (r .in-order) p q (f .ends) (h .ends-are .framed) m (f .less) n
+      (subst₂ (λ x y. Floor p q c (f .ends) x y m) (h .scale-is) (h .cut-is) fl) (h .less-is) (subst (λ x. n ≤ x * f .less + m) (h .scale-is) l)
 
   pub of-attained : (m n : ℕ) → Attained p q c (f .ends) (f .scale) (f .cut) m → n ≡ f .scale * f .less + m → FrameAttained p q c e w t n
-  of-attained m n a l = frame-attained c e w t (r .in-order) p q (f .ends) (h .ends-are .framed) m (f .less) n (subst₂ (λ x y. Attained p q c (f .ends) x y m) (h .scale-is) (h .cut-is) a) (h .less-is) (subst (λ x. n ≡ x * f .less + m) (h .scale-is) l)
+  of-attained m n a l = frame-attained c e w t (r .in-order) p q (f .ends) (h .ends-are .framed) m (f .less) n
+      (subst₂ (λ x y. Attained p q c (f .ends) x y m) (h .scale-is) (h .cut-is) a) (h .less-is) (subst (λ x. n ≡ x * f .less + m) (h .scale-is) l)
 
   -- what a point loses in the box and within the frame's ends
   frame-loss : (M : ℕ → ℤ) → lossOf p q c e (f .scale) M ≡ lossOf p q c (f .ends) (f .scale) M +ℤ pos (f .scale * f .less)
   unfolding lossOf
-  frame-loss M = go (f .less) (f .scale) (topOf p q c e) (topOf p q c (f .ends)) (pos q *ℤ valueOf c M) (ap pos (h .less-is) ∙ frame-less c e w t (r .in-order) p q (f .ends) (h .ends-are .framed))
+  frame-loss M = go (f .less) (f .scale) (topOf p q c e) (topOf p q c (f .ends)) (pos q *ℤ valueOf c M)
+      (ap pos (h .less-is) ∙ frame-less c e w t (r .in-order) p q (f .ends) (h .ends-are .framed))
     where
       go : (d E : ℕ) (T S v : ℤ) → pos d ≡ T -ℤ S → T *ℤ pos E -ℤ v ≡ (S *ℤ pos E -ℤ v) +ℤ pos (E * d)
       go d E = split3 _ (λ a b x y u z. simp zed (λ i. omega (arith, ap (λ (n : ℕ). n * E) i)))
 
   pub frame-narrow : Spanned c e → Narrow (f .ends) (f .scale) (f .cut) (c .count)
-  frame-narrow s l = subst₂ (λ x y. f .scale * natAbs (x -ℤ y) ≤ 900000000) (sym high) (sym low) (subst (λ n. n * natAbs (at (e .hi) (f .cut) -ℤ at (e .lo) (f .cut)) ≤ 900000000) (frame-cut l) (s (f .cut) l))
+  frame-narrow s l = subst₂ (λ x y. f .scale * natAbs (x -ℤ y) ≤ 900000000) (sym high) (sym low)
+      (subst (λ n. n * natAbs (at (e .hi) (f .cut) -ℤ at (e .lo) (f .cut)) ≤ 900000000) (frame-cut l) (s (f .cut) l))
     where
       keeps : (b : Bool) (x y : ℤ) → frameBy b (eqb (f .cut) (cutOf c t)) x y ≡ x
       keeps b x y = rw (eq-eqb (f .cut) (cutOf c t) (h .cut-is)) (pick b)
@@ -288,32 +309,44 @@ module _ {p q : ℕ} {c : Columns} {e : Ends} {w : List Bool} {t : ℕ} {f : Fra
 
     -- a bound of the frame's losses within its ends
     pub own-floor : off ≤ m → FrameFloor p q c e w t m → Floor p q c (f .ends) (f .scale) (f .cut) (m - off)
-    own-floor l fl = record { floor = λ N pt. less (m - off) off (lossOf p q c (f .ends) (f .scale) N) (subst (λ z. pos m ≤ℤ z) (frame-loss N) (subst (λ x. pos m ≤ℤ lossOf p q c e x N) (sym (h .scale-is)) (fl .floor (f .ends) (h .ends-are .framed) N (box-point N pt)))) (omega arith) }
+    own-floor l fl = record {
+      floor = λ N pt. less (m - off) off (lossOf p q c (f .ends) (f .scale) N)
+          (subst (λ z. pos m ≤ℤ z) (frame-loss N) (subst (λ x. pos m ≤ℤ lossOf p q c e x N) (sym (h .scale-is))
+          (fl .floor (f .ends) (h .ends-are .framed) N (box-point N pt)))) (omega arith);
+    }
       where
         less : (x y : ℕ) (z : ℤ) → pos m ≤ℤ (z +ℤ pos y) → m ≡ x + y → pos x ≤ℤ z
         less x y = split _ (λ a b. simp zed (omega arith))
 
     -- no point loses less than the frame itself
     pub own-none : m < off → (e′ : Ends) → Framed c e w t e′ → (M : ℕ → ℤ) → Point c e′ (scaleOf c t) (cutOf c t) M → pos m <ℤ lossOf p q c e (scaleOf c t) M
-    own-none l e′ fr M pt = subst (λ x. pos m <ℤ lossOf p q c e x M) (h .scale-is) (subst (λ z. pos m <ℤ z) (sym (frame-loss M)) (more off (lossOf p q c (f .ends) (f .scale) M) (floor-zero p q c (f .ends) (f .scale) (f .cut) .floor M (own-point e′ M fr pt)) l))
+    own-none l e′ fr M pt = subst (λ x. pos m <ℤ lossOf p q c e x M) (h .scale-is)
+        (subst (λ z. pos m <ℤ z) (sym (frame-loss M)) (more off (lossOf p q c (f .ends) (f .scale) M)
+        (floor-zero p q c (f .ends) (f .scale) (f .cut) .floor M (own-point e′ M fr pt)) l))
       where
         more : (y : ℕ) (z : ℤ) → pos 0 ≤ℤ z → m < y → pos m <ℤ (z +ℤ pos y)
         more y = split _ (λ a b. simp zed (omega arith))
 
-    pub own-later : off ≤ m → ((M : ℕ → ℤ) → Point c (f .ends) (f .scale) (f .cut) M → pos (m - off) <ℤ lossOf p q c (f .ends) (f .scale) M) → (e′ : Ends) → Framed c e w t e′ → (M : ℕ → ℤ) → Point c e′ (scaleOf c t) (cutOf c t) M → pos m <ℤ lossOf p q c e (scaleOf c t) M
-    own-later l n e′ fr M pt = subst (λ x. pos m <ℤ lossOf p q c e x M) (h .scale-is) (subst (λ z. pos m <ℤ z) (sym (frame-loss M)) (more (m - off) off (lossOf p q c (f .ends) (f .scale) M) (n M (own-point e′ M fr pt)) (omega arith)))
+    pub own-later : off ≤ m → ((M : ℕ → ℤ) → Point c (f .ends) (f .scale) (f .cut) M → pos (m - off) <ℤ lossOf p q c (f .ends) (f .scale) M) → (e′ : Ends) →
+        Framed c e w t e′ → (M : ℕ → ℤ) → Point c e′ (scaleOf c t) (cutOf c t) M → pos m <ℤ lossOf p q c e (scaleOf c t) M
+    own-later l n e′ fr M pt = subst (λ x. pos m <ℤ lossOf p q c e x M) (h .scale-is)
+        (subst (λ z. pos m <ℤ z) (sym (frame-loss M)) (more (m - off) off (lossOf p q c (f .ends) (f .scale) M) (n M (own-point e′ M fr pt)) (omega arith)))
       where
         more : (x y : ℕ) (z : ℤ) → pos x <ℤ z → m ≡ x + y → pos m <ℤ (z +ℤ pos y)
         more x y = split _ (λ a b. simp zed (omega arith))
 
-    pub own-first : off ≤ m → (ys : ℕ → ℕ) (place : List ℤ) → FirstPoint p q c (f .ends) (f .scale) (f .cut) (m - off) (amountOf c (f .ends) (f .scale) (f .cut) ys) → ((k : ℕ) → k < 16 → at place k ≡ wholeOf c (f .ends) ys k) → FirstIn p q c e w t m place
+    pub own-first : off ≤ m → (ys : ℕ → ℕ) (place : List ℤ) →
+        FirstPoint p q c (f .ends) (f .scale) (f .cut) (m - off) (amountOf c (f .ends) (f .scale) (f .cut) ys) →
+        ((k : ℕ) → k < 16 → at place k ≡ wholeOf c (f .ends) ys k) → FirstIn p q c e w t m place
     own-first l ys place g made = record {
       ends = f .ends;
       framed = h .ends-are .framed;
       point = N;
       is-point = box-point N (g .is-point);
-      loses = subst (λ x. lossOf p q c e x N ≡ pos m) (h .scale-is) (frame-loss N ∙ ap (λ z. z +ℤ pos off) (g .loses) ∙ plus (m - off) off ∙ ap pos (omega arith));
-      first = λ M pt i. g .first M (subst₂ (λ x y. Point c (f .ends) x y M) (sym (h .scale-is)) (sym (h .cut-is)) pt) (same M (subst (λ x. lossOf p q c e x M ≡ pos m) (sym (h .scale-is)) i));
+      loses = subst (λ x. lossOf p q c e x N ≡ pos m) (h .scale-is) (frame-loss N ∙ ap (λ z. z +ℤ pos off) (g .loses) ∙
+          plus (m - off) off ∙ ap pos (omega arith));
+      first = λ M pt i. g .first M (subst₂ (λ x y. Point c (f .ends) x y M) (sym (h .scale-is)) (sym (h .cut-is)) pt)
+          (same M (subst (λ x. lossOf p q c e x M ≡ pos m) (sym (h .scale-is)) i));
       shown = λ k i ne. shown k i (λ j. ne (j ∙ h .cut-is));
     }
       where
@@ -330,9 +363,11 @@ module _ {p q : ℕ} {c : Columns} {e : Ends} {w : List Bool} {t : ℕ} {f : Fra
             minus = split _ (λ a b x y. simp zed (omega arith))
 
         shown : (k : ℕ) → k < c .count → k ≢ f .cut → N k ≡ at place k *ℤ pos (scaleOf c t)
-        shown k i ne = rw (made k (omega (arith, r .sized .columns .few)), ne-eqb k (f .cut) ne, ← h .scale-is) (whole (ltZ (weightOf c k) (pos 0)) (at (f .ends .lo) k) (at (f .ends .hi) k) (ys k))
+        shown k i ne = rw (made k (omega (arith, r .sized .columns .few)), ne-eqb k (f .cut) ne, ← h .scale-is)
+            (whole (ltZ (weightOf c k) (pos 0)) (at (f .ends .lo) k) (at (f .ends .hi) k) (ys k))
           where
-            whole : (s : Bool) (x y : ℤ) (n : ℕ) → cond s (y *ℤ pos (f .scale) -ℤ pos (n * f .scale)) (x *ℤ pos (f .scale) +ℤ pos (n * f .scale)) ≡ cond s (y -ℤ pos n) (x +ℤ pos n) *ℤ pos (f .scale)
+            whole : (s : Bool) (x y : ℤ) (n : ℕ) → cond s (y *ℤ pos (f .scale) -ℤ pos (n * f .scale)) (x *ℤ pos (f .scale) +ℤ pos (n * f .scale)) ≡ cond s
+                (y -ℤ pos n) (x +ℤ pos n) *ℤ pos (f .scale)
             whole true x y n = dn y n
               where
                 dn : (y : ℤ) (n : ℕ) → y *ℤ pos (f .scale) -ℤ pos (n * f .scale) ≡ (y -ℤ pos n) *ℤ pos (f .scale)
@@ -369,7 +404,12 @@ module _ (p q : ℕ) (c : Columns) (e : Ends) (w : List Bool) (t n d r : ℕ) (k
   below-cap h = omega (arith, le-div-iff-mul-le {k = d} {x = suc r} {y = E * n + (d - 1)} (k .some) .0 h, k .some)
 
   pub lowered-counted : (1 ≤ E) × (E ≤ 1000) → r < cap → Counted r E
-  lowered-counted s h = record { few = s .1; some = s .0; small = le-of-mul-le-mul-right {k = d} (omega (arith, below-cap h, mul-le-mul-left E (k .small))) (k .some) }
+  lowered-counted s h = record {
+    few = s .1;
+    some = s .0;
+    small = le-of-mul-le-mul-right {k = d}
+        (omega (arith, below-cap h, mul-le-mul-left E (k .small))) (k .some);
+  }
 
   pub lowered-new : FrameBound p q c e w r E t
   unfolding Loses
@@ -392,7 +432,8 @@ module _ (p q : ℕ) (c : Columns) (e : Ends) (w : List Bool) (t n d r : ℕ) (k
           go E n d r = split _ (λ a b k. simp zed (λ h. omega (arith, mul-le-mul-left d h)))
 
 -- a lesser loss bounds what a greater one does
-pub bound-lower : (p q : ℕ) (c : Columns) (e : Ends) (w : List Bool) (t n d n′ d′ : ℕ) → 1 ≤ d → n′ * d ≤ n * d′ → FrameBound p q c e w n d t → FrameBound p q c e w n′ d′ t
+pub bound-lower : (p q : ℕ) (c : Columns) (e : Ends) (w : List Bool) (t n d n′ d′ : ℕ) → 1 ≤ d → n′ * d ≤ n * d′ → FrameBound p q c e w n d t →
+    FrameBound p q c e w n′ d′ t
 unfolding Loses
 bound-lower p q c e w t n d n′ d′ h k f = record { bound = λ e′ fr M pt. go (scaleOf c t) (lossOf p q c e (scaleOf c t) M) (f .bound e′ fr M pt) }
   where
@@ -411,7 +452,8 @@ pub record Latest (c : Columns) (e : Ends) (w : List Bool) (t u : ℕ) : Type 0 
   pub others : (s : ℕ) → u < s → s < t → Usable c e w s → ⊥
 
 -- a point of the last frame is one of the latest frame that can be needed
-module _ (p q : ℕ) (c : Columns) (e : Ends) (w : List Bool) (n d u : ℕ) (z : SizedColumns c) (o : Ordered c) (b : InOrder c e) (h : Latest c e w (c .live) u) (f : FrameBound p q c e w n d u) where
+module _ (p q : ℕ) (c : Columns) (e : Ends) (w : List Bool) (n d u : ℕ) (z : SizedColumns c) (o : Ordered c) (b : InOrder c e) (h : Latest c e w (c .live) u)
+    (f : FrameBound p q c e w n d u) where
   abbrev S : ℕ
   S = scaleOf c u
 
@@ -469,7 +511,8 @@ module _ (p q : ℕ) (c : Columns) (e : Ends) (w : List Bool) (n d u : ℕ) (z :
       go : Dec (rankOf c k < u) → Dec (rankOf c k < c .live) → stand c e u k ≡ stand c e (c .live) k
       go (yes m) e′ = rw (lt-ltb (rankOf c k) u m, lt-ltb (rankOf c k) (c .live) (omega (arith, h .before)))
       go (no m) (no m′) = rw (le-ltb (rankOf c k) u (omega arith), le-ltb (rankOf c k) (c .live) (omega arith))
-      go (no m) (yes m′) = rw (le-ltb (rankOf c k) u (omega arith), lt-ltb (rankOf c k) (c .live) m′) (one (at (e .lo) k) (at (e .hi) k) (weightOf c k) (priceOf c k) (fixed (omega (arith, not-u)) m′))
+      go (no m) (yes m′) = rw (le-ltb (rankOf c k) u (omega arith), lt-ltb (rankOf c k) (c .live) m′)
+          (one (at (e .lo) k) (at (e .hi) k) (weightOf c k) (priceOf c k) (fixed (omega (arith, not-u)) m′))
 
   module _ (e′ : Ends) (fr : Framed c e w (c .live) e′) (M : ℕ → ℤ) (pt : Point c e′ (scaleOf c (c .live)) (cutOf c (c .live)) M) where
     above-1 : (k : ℕ) → k < c .count → at (e′ .lo) k ≤ℤ M k
@@ -500,17 +543,25 @@ module _ (p q : ℕ) (c : Columns) (e : Ends) (w : List Bool) (n d u : ℕ) (z :
         inside : (at (e .lo) k ≤ℤ stand c e (c .live) k) × (stand c e (c .live) k ≤ℤ at (e .hi) k)
         inside = stand-in c e w (c .live) b k l
 
-        go : (s : Bool) → wholeAt w k ≡ s → Dec (k ≡ J) → (frameBy s (eqb k (cutOf c u)) (at (e .lo) k) (stand c e u k) ≤ℤ at (e′ .lo) k) × (at (e′ .hi) k ≤ℤ frameBy s (eqb k (cutOf c u)) (at (e .hi) k) (stand c e u k))
+        go : (s : Bool) → wholeAt w k ≡ s → Dec (k ≡ J) → (frameBy s (eqb k (cutOf c u)) (at (e .lo) k) (stand c e u k) ≤ℤ at (e′ .lo) k) ×
+            (at (e′ .hi) k ≤ℤ frameBy s (eqb k (cutOf c u)) (at (e .hi) k) (stand c e u k))
         go true i g = (rw (lo-is true i) (≤ℤ-refl (at (e .lo) k)), rw (hi-is true i) (≤ℤ-refl (at (e .hi) k)))
-        go false i (yes g) = (rw (lo-is false i, eq-eqb k (cutOf c u) (g ∙ sym cut-u)) (inside .0), rw (hi-is false i, eq-eqb k (cutOf c u) (g ∙ sym cut-u)) (inside .1))
-        go false i (no g) = (rw (lo-is false i, ne-eqb k (cutOf c u) (λ v. g (v ∙ cut-u)), same-stand k l i g) (≤ℤ-refl (stand c e (c .live) k)), rw (hi-is false i, ne-eqb k (cutOf c u) (λ v. g (v ∙ cut-u)), same-stand k l i g) (≤ℤ-refl (stand c e (c .live) k)))
+        go false i (yes g) = (
+          rw (lo-is false i, eq-eqb k (cutOf c u) (g ∙ sym cut-u)) (inside .0),
+          rw (hi-is false i, eq-eqb k (cutOf c u) (g ∙ sym cut-u)) (inside .1),
+        )
+        go false i (no g) = (
+          rw (lo-is false i, ne-eqb k (cutOf c u) (λ v. g (v ∙ cut-u)), same-stand k l i g) (≤ℤ-refl (stand c e (c .live) k)),
+          rw (hi-is false i, ne-eqb k (cutOf c u) (λ v. g (v ∙ cut-u)), same-stand k l i g) (≤ℤ-refl (stand c e (c .live) k)),
+        )
 
     point-u : Point c (framedEnds c e w u) S (cutOf c u) M′
     unfolding M′
     point-u = record {
       above = λ k l. rw (framed-ends c e w u (z .few) .low k l) (times-≤ S _ _ (≤ℤ-trans (ends-in k l .0) (above-1 k l)));
       below = λ k l. rw (framed-ends c e w u (z .few) .high k l) (times-≤ S _ _ (≤ℤ-trans (below-1 k l) (ends-in k l .1)));
-      fits = subst (λ x. x ≤ℤ (c .capacity *ℤ pos S)) (sym (sum-times (c .count) (weightOf c) M S)) (times-≤ S _ _ (subst (λ x. weighOf c M ≤ℤ x) (one-more (c .capacity)) (subst (λ m. weighOf c M ≤ℤ (c .capacity *ℤ pos m)) scale-last (pt .fits))));
+      fits = subst (λ x. x ≤ℤ (c .capacity *ℤ pos S)) (sym (sum-times (c .count) (weightOf c) M S))
+          (times-≤ S _ _ (subst (λ x. weighOf c M ≤ℤ x) (one-more (c .capacity)) (subst (λ m. weighOf c M ≤ℤ (c .capacity *ℤ pos m)) scale-last (pt .fits))));
       whole = λ k l ne. (M k, refl);
     }
       where
@@ -526,7 +577,8 @@ module _ (p q : ℕ) (c : Columns) (e : Ends) (w : List Bool) (n d u : ℕ) (z :
 
     pub last-loses : Loses p q c e n d (scaleOf c (c .live)) M
     unfolding Loses
-    last-loses = rw scale-last (back (lossOf p q c e 1 M) (subst (λ x. (pos n *ℤ pos S) ≤ℤ (pos d *ℤ x)) loss-times (f .bound _ (framed-ends c e w u (z .few)) M′ point-u)))
+    last-loses = rw scale-last (back (lossOf p q c e 1 M) (subst (λ x. (pos n *ℤ pos S) ≤ℤ (pos d *ℤ x)) loss-times
+        (f .bound _ (framed-ends c e w u (z .few)) M′ point-u)))
       where
         back : (x : ℤ) → (pos n *ℤ pos S) ≤ℤ (pos d *ℤ (x *ℤ pos S)) → (pos n *ℤ pos 1) ≤ℤ (pos d *ℤ x)
         back x i = times-≤-back S _ _ S≥1 (turn x i)
@@ -550,8 +602,15 @@ pub record Sofar (p q : ℕ) (c : Columns) (e : Ends) (w : List Bool) (known : L
   pub latest : b .any ≡ true → (u : ℕ) × Latest c e w t u
   pub few : b .written ≤ t * runCells
 
-pub sofar-first : (p q : ℕ) (c : Columns) (e : Ends) (w : List Bool) (known : Lost) → Counted (known .num) (known .den) → Sofar p q c e w known 0 (record { lost = known; found = false; at = 0; any = false; written = 0 })
-sofar-first p q c e w known k = record { counted = k; bounds = λ s l u. absurd (omega arith); exact = inl (refl, refl); latest = λ h. absurd (impossible h); few = omega arith }
+pub sofar-first : (p q : ℕ) (c : Columns) (e : Ends) (w : List Bool) (known : Lost) → Counted (known .num) (known .den) →
+    Sofar p q c e w known 0 (record { lost = known; found = false; at = 0; any = false; written = 0 })
+sofar-first p q c e w known k = record {
+  counted = k;
+  bounds = λ s l u. absurd (omega arith);
+  exact = inl (refl, refl);
+  latest = λ h. absurd (impossible h);
+  few = omega arith;
+}
 
 -- a frame that is found stays found while the loss stays
 stay : {p q : ℕ} {c : Columns} {e : Ends} {w : List Bool} {known : Lost} {b r : Least} → Same b r → Exact p q c e w known b → Exact p q c e w known r
@@ -559,7 +618,14 @@ stay (i, (j, k)) (inl (g, h)) = inl (j ∙ g, i ∙ h)
 stay {p} {q} {c} {e} {w} {known} {b} {r} (i, (j, k)) (inr f) = inr (record {
   at-in = rw k (f .at-in);
   loose = rw k (f .loose);
-  frame = subst (λ x. AtFrame p q c e w x r) (sym k) (record { found = j ∙ f .frame .found; at-is = k; den-is = ap (λ (x : Lost). x .den) i ∙ f .frame .den-is; deep = rw i (f .frame .deep); floor = rw i (f .frame .floor); attained = rw i (f .frame .attained) });
+  frame = subst (λ x. AtFrame p q c e w x r) (sym k) (record {
+    found = j ∙ f .frame .found;
+    at-is = k;
+    den-is = ap (λ (x : Lost). x .den) i ∙ f .frame .den-is;
+    deep = rw i (f .frame .deep);
+    floor = rw i (f .frame .floor);
+    attained = rw i (f .frame .attained);
+  });
 })
 
 module _ {p q : ℕ} {c : Columns} {e : Ends} {w : List Bool} {known : Lost} {t : ℕ} {b : Least} (h : Sofar p q c e w known t b) where
@@ -574,15 +640,21 @@ module _ {p q : ℕ} {c : Columns} {e : Ends} {w : List Bool} {known : Lost} {t 
     where
       bounds : (s : ℕ) → s < t + 1 → Usable c e w s → Dec (s ≡ t) → FrameBound p q c e w (r .lost .num) (r .lost .den) s
       bounds s i u (yes j) = subst (λ m. FrameBound p q c e w (r .lost .num) (r .lost .den) m) (sym j) (k .bound (subst (λ m. Usable c e w m) j u))
-      bounds s i u (no j) = bound-lower p q c e w s (b .lost .num) (b .lost .den) (r .lost .num) (r .lost .den) (h .counted .some) (k .lower) (h .bounds s (omega arith) u)
+      bounds s i u (no j) = bound-lower p q c e w s (b .lost .num) (b .lost .den) (r .lost .num) (r .lost .den) (h .counted .some) (k .lower)
+          (h .bounds s (omega arith) u)
 
       exact : Same b r ⊎ (Usable c e w t × AtFrame p q c e w t r) → Exact p q c e w known r
       exact (inl i) = stay i (h .exact)
-      exact (inr (u, f)) = inr (record { at-in = omega (arith, f .at-is); loose = λ m. rw (f .at-is) (u .loose); frame = subst (λ x. AtFrame p q c e w x r) (sym (f .at-is)) f })
+      exact (inr (u, f)) = inr (record {
+        at-in = omega (arith, f .at-is);
+        loose = λ m. rw (f .at-is) (u .loose);
+        frame = subst (λ x. AtFrame p q c e w x r) (sym (f .at-is)) f;
+      })
 
       latest : r .any ≡ true → (Usable c e w t × (r .any ≡ true)) ⊎ ((Usable c e w t → ⊥) × (r .any ≡ b .any)) → (u : ℕ) × Latest c e w (t + 1) u
       latest i (inl (u, j)) = (t, record { before = omega arith; usable = u; others = λ s m n v. absurd (omega arith) })
-      latest i (inr (no-use, j)) = let v = h .latest (sym j ∙ i) in (v .0, record { before = omega (arith, v .1 .before); usable = v .1 .usable; others = λ s m n x. others s m n x (ℕ-discrete s t) })
+      latest i (inr (no-use, j)) = let v = h .latest (sym j ∙ i) in
+          (v .0, record { before = omega (arith, v .1 .before); usable = v .1 .usable; others = λ s m n x. others s m n x (ℕ-discrete s t) })
         where
           others : (s : ℕ) → h .latest (sym j ∙ i) .0 < s → s < t + 1 → Usable c e w s → Dec (s ≡ t) → ⊥
           others s m n x (yes g) = no-use (subst (λ y. Usable c e w y) g x)
@@ -592,7 +664,9 @@ module _ {p q : ℕ} {c : Columns} {e : Ends} {w : List Bool} {known : Lost} {t 
   pub sofar-any : t ≡ c .live → SizedColumns c → Ordered c → InOrder c e → b .any ≡ true → LeastLoss p q c e w known b
   sofar-any i z o ord any = record {
     counted = h .counted;
-    ceiling = ceiling-of p q c e w (b .lost .num) (b .lost .den) o ord (z .few) (λ s m u. h .bounds s (omega arith) u) (last-bound p q c e w (b .lost .num) (b .lost .den) (v .0) z o ord (subst (λ m. Latest c e w m (v .0)) i (v .1)) (h .bounds (v .0) (v .1 .before) (v .1 .usable)));
+    ceiling = ceiling-of p q c e w (b .lost .num) (b .lost .den) o ord (z .few) (λ s m u. h .bounds s (omega arith) u)
+        (last-bound p q c e w (b .lost .num) (b .lost .den) (v .0) z o ord (subst (λ m. Latest c e w m (v .0)) i (v .1))
+        (h .bounds (v .0) (v .1 .before) (v .1 .usable)));
     exact = h .exact;
     few = omega (arith, h .few, z .live-few);
   }
@@ -605,11 +679,16 @@ module _ {p q : ℕ} {c : Columns} {e : Ends} {w : List Bool} {known : Lost} {t 
   sofar-done r i z o ord l = record {
     counted = l .counted;
     ceiling = ceiling-of p q c e w (r .lost .num) (r .lost .den) o ord (z .few)
-        (λ s m u. bound-lower p q c e w s (b .lost .num) (b .lost .den) (r .lost .num) (r .lost .den) (h .counted .some) (l .lower) (h .bounds s (omega arith) u)) (l .bound);
+        (λ s m u. bound-lower p q c e w s (b .lost .num) (b .lost .den) (r .lost .num) (r .lost .den) (h .counted .some) (l .lower)
+        (h .bounds s (omega arith) u)) (l .bound);
     exact = exact (l .exact);
     few = omega (arith, l .few, h .few, z .live-few);
   }
     where
       exact : Same b r ⊎ AtFrame p q c e w (c .live) r → Exact p q c e w known r
       exact (inl j) = stay j (h .exact)
-      exact (inr f) = inr (record { at-in = omega (arith, f .at-is); loose = λ m. absurd (omega (arith, f .at-is)); frame = subst (λ x. AtFrame p q c e w x r) (sym (f .at-is)) f })
+      exact (inr f) = inr (record {
+        at-in = omega (arith, f .at-is);
+        loose = λ m. absurd (omega (arith, f .at-is));
+        frame = subst (λ x. AtFrame p q c e w x r) (sym (f .at-is)) f;
+      })

@@ -51,7 +51,8 @@ part-none h = record { counted = h .1 .0; parts-are = λ i. off (h .0) i; num-is
 pub known-none : {top : ℤ} {q : ℕ} {w : ℤ} {part parts : ℕ} {k : Known} → Deep k → KnownLoss top q w part parts k
 known-none h = record { counted = h .1 .0; parts-are = λ i. off (h .0) i; num-is = λ i. off (h .0) i; deep = λ i. h .1 .1 }
 
-pub part-made : (n q part parts : ℕ) → n ≤ 10000000 → part < parts → parts ≤ 1000 → q * part ≤ n * parts → PartLoss n q part parts (record { lost = record { num = n * parts - q * part; den = parts }; exact = true })
+pub part-made : (n q part parts : ℕ) → n ≤ 10000000 → part < parts → parts ≤ 1000 → q * part ≤ n * parts →
+    PartLoss n q part parts (record { lost = record { num = n * parts - q * part; den = parts }; exact = true })
 part-made n q part parts h k l m = record {
   counted = record { few = l; some = omega arith; small = omega (arith, mul-le-mul-right parts h) };
   parts-are = λ i. refl;
@@ -59,8 +60,14 @@ part-made n q part parts h k l m = record {
   deep = λ i. absurd (impossible (sym i));
 }
 
-pub known-made : (top : ℤ) (q : ℕ) (w : ℤ) (part parts m : ℕ) (k : Known) → pos m ≡ top -ℤ pos q *ℤ w → PartLoss m q part parts k → KnownLoss top q w part parts k
-known-made top q w part parts m k e h = record { counted = h .counted; parts-are = h .parts-are; num-is = λ i. go top w (k .lost .num) e (h .num-is i); deep = h .deep }
+pub known-made : (top : ℤ) (q : ℕ) (w : ℤ) (part parts m : ℕ) (k : Known) → pos m ≡ top -ℤ pos q *ℤ w → PartLoss m q part parts k →
+    KnownLoss top q w part parts k
+known-made top q w part parts m k e h = record {
+  counted = h .counted;
+  parts-are = h .parts-are;
+  num-is = λ i. go top w (k .lost .num) e (h .num-is i);
+  deep = h .deep;
+}
   where
     go : (top w : ℤ) (n : ℕ) → pos m ≡ top -ℤ pos q *ℤ w → n + q * part ≡ m * parts → pos n ≡ top *ℤ pos parts -ℤ pos q *ℤ (w *ℤ pos parts +ℤ pos part)
     go top w n i j = close (top -ℤ pos q *ℤ w) n (sym i) j ∙ ring top w
@@ -77,8 +84,11 @@ known-made top q w part parts m k e h = record { counted = h .counted; parts-are
 -- ---- the bound
 
 -- the value that was known
-same-value : (s : Instance) (top : ℤ) (q n d : ℕ) (v : Mixed) → 1 ≤ q → d ≡ v .parts → pos n ≡ top *ℤ pos (v .parts) -ℤ pos q *ℤ over v → AtMost s (top *ℤ pos d -ℤ pos n) (q * d) → AtMost s (over v) (v .parts)
-same-value s top q n d v h e i m D N d≥1 f = times-≤-back q _ _ h (≤ℤ-trans (≤ℤ-reflexive (left (valueᴰ s N) (v .parts))) (≤ℤ-trans (subst₂ (λ x y. (valueᴰ s N *ℤ pos (q * x)) ≤ℤ ((top *ℤ pos x -ℤ y) *ℤ pos D)) e i (m D N d≥1 f)) (≤ℤ-reflexive (right (top *ℤ pos (v .parts)) (over v)))))
+same-value : (s : Instance) (top : ℤ) (q n d : ℕ) (v : Mixed) → 1 ≤ q → d ≡ v .parts → pos n ≡ top *ℤ pos (v .parts) -ℤ pos q *ℤ over v →
+    AtMost s (top *ℤ pos d -ℤ pos n) (q * d) → AtMost s (over v) (v .parts)
+same-value s top q n d v h e i m D N d≥1 f = times-≤-back q _ _ h
+    (≤ℤ-trans (≤ℤ-reflexive (left (valueᴰ s N) (v .parts))) (≤ℤ-trans
+    (subst₂ (λ x y. (valueᴰ s N *ℤ pos (q * x)) ≤ℤ ((top *ℤ pos x -ℤ y) *ℤ pos D)) e i (m D N d≥1 f)) (≤ℤ-reflexive (right (top *ℤ pos (v .parts)) (over v)))))
   where
     left : (x : ℤ) (p : ℕ) → (x *ℤ pos p) *ℤ pos q ≡ x *ℤ pos (q * p)
     left = split _ (λ a b p. simp zed (omega arith))
@@ -87,7 +97,8 @@ same-value s top q n d v h e i m D N d≥1 f = times-≤-back q _ _ h (≤ℤ-tr
     right = split2 _ (λ a b c e. simp zed (omega arith))
 
 -- the exact loss of a value, or the deepest one, which is not the least
-pub bounded-made : (p q : ℕ) (c : Columns) (e : Ends) (w : List Bool) (known : Bool) (v : Mixed) (k : Known) (top : ℤ) (r : Least) → p ≤ 10000 → q ≤ 1000 → 1 ≤ q → top ≡ topOf p q c e → Within 100000000000000000 top
+pub bounded-made : (p q : ℕ) (c : Columns) (e : Ends) (w : List Bool) (known : Bool) (v : Mixed) (k : Known) (top : ℤ) (r : Least) → p ≤ 10000 → q ≤ 1000 →
+    1 ≤ q → top ≡ topOf p q c e → Within 100000000000000000 top
     → KnownBy top q known (v .whole) (v .part) (v .parts) k → LeastLoss p q c e w (k .lost) r → Shallow p q c e
     → Bounded c e w known v (record { top = top; p = p; q = q; lost = r .lost; found = r .found; at = r .at; written = r .written })
 bounded-made p q c e w known v k top r p-in q-in q≥1 t top-in h l low = record {
@@ -103,9 +114,11 @@ bounded-made p q c e w known v k top r p-in q-in q≥1 t top-in h l low = record
 }
   where
     most : (marks : ℕ → Mark) → Marked c w marks → AtMost (boxOf c e marks) (top *ℤ pos (r .lost .den) -ℤ pos (r .lost .num)) (q * r .lost .den)
-    most marks m = subst (λ x. AtMost (boxOf c e marks) (x *ℤ pos (r .lost .den) -ℤ pos (r .lost .num)) (q * r .lost .den)) (sym t) (at-most p q c e w (r .lost .num) (r .lost .den) (l .ceiling) marks m)
+    most marks m = subst (λ x. AtMost (boxOf c e marks) (x *ℤ pos (r .lost .den) -ℤ pos (r .lost .num)) (q * r .lost .den)) (sym t)
+        (at-most p q c e w (r .lost .num) (r .lost .den) (l .ceiling) marks m)
 
-    kept : r .found ≡ false → ((r .found ≡ false) × (r .lost ≡ k .lost)) ⊎ Found p q c e w r → (known ≡ true) × ((marks : ℕ → Mark) → Marked c w marks → AtMost (boxOf c e marks) (over v) (v .parts))
+    kept : r .found ≡ false → ((r .found ≡ false) × (r .lost ≡ k .lost)) ⊎ Found p q c e w r →
+        (known ≡ true) × ((marks : ℕ → Mark) → Marked c w marks → AtMost (boxOf c e marks) (over v) (v .parts))
     kept i (inr f) = absurd (impossible (sym i ∙ f .frame .found))
     kept i (inl (j, same)) = go (k .exact) refl
       where
@@ -116,12 +129,24 @@ bounded-made p q c e w known v k top r p-in q-in q≥1 t top-in h l low = record
         den-is = ap (λ (x : Lost). x .den) same
 
         go : (x : Bool) → k .exact ≡ x → (known ≡ true) × ((marks : ℕ → Mark) → Marked c w marks → AtMost (boxOf c e marks) (over v) (v .parts))
-        go true y = (h .told y, λ marks m. same-value (boxOf c e marks) top q (r .lost .num) (r .lost .den) v q≥1 (den-is ∙ h .loss .parts-are y) (ap pos num-is ∙ h .loss .num-is y) (most marks m))
+        go true y = (
+          h .told y,
+          λ marks m. same-value (boxOf c e marks) top q (r .lost .num) (r .lost .den) v q≥1 (den-is ∙ h .loss .parts-are y)
+              (ap pos num-is ∙ h .loss .num-is y) (most marks m),
+        )
         go false y = absurd (too-deep p q c e w low (r .lost .num) (r .lost .den) (num-is ∙ h .loss .deep y .0) (den-is ∙ h .loss .deep y .1) (l .ceiling))
 
-    found : r .found ≡ true → ((r .found ≡ false) × (r .lost ≡ k .lost)) ⊎ Found p q c e w r → BestFrame c e w (record { top = top; p = p; q = q; lost = r .lost; found = r .found; at = r .at; written = r .written })
+    found : r .found ≡ true → ((r .found ≡ false) × (r .lost ≡ k .lost)) ⊎ Found p q c e w r →
+        BestFrame c e w (record { top = top; p = p; q = q; lost = r .lost; found = r .found; at = r .at; written = r .written })
     found i (inl (j, same)) = absurd (impossible (sym j ∙ i))
-    found i (inr f) = record { at-in = f .at-in; loose = f .loose; den-is = f .frame .den-is; deep = f .frame .deep; floor = f .frame .floor; attained = f .frame .attained }
+    found i (inr f) = record {
+      at-in = f .at-in;
+      loose = f .loose;
+      den-is = f .frame .den-is;
+      deep = f .frame .deep;
+      floor = f .frame .floor;
+      attained = f .frame .attained;
+    }
 
 -- ---- levels
 
@@ -133,8 +158,13 @@ levelled-first levels = record { long = refl; level = λ k h. absurd (impossible
     none (suc n) zero = refl
     none (suc n) (suc k) = none n k
 
-pub levelled-step : {levels : List ℕ} {d : ℕ} {w : List Bool} → place levels d < 16 → Levelled levels d w → Levelled levels (d + 1) (set w (place levels d) true)
-levelled-step {levels} {d} {w} l h = record { long = length-set w (place levels d) true ∙ h .long; level = λ k i. go k i (ℕ-discrete k (place levels d)); marked = λ j m. mark j m (ℕ-discrete (place levels j) (place levels d)) }
+pub levelled-step : {levels : List ℕ} {d : ℕ} {w : List Bool} → place levels d < 16 → Levelled levels d w →
+    Levelled levels (d + 1) (set w (place levels d) true)
+levelled-step {levels} {d} {w} l h = record {
+  long = length-set w (place levels d) true ∙ h .long;
+  level = λ k i. go k i (ℕ-discrete k (place levels d));
+  marked = λ j m. mark j m (ℕ-discrete (place levels j) (place levels d));
+}
   where
     go : (k : ℕ) → wholeAt (set w (place levels d) true) k ≡ true → Dec (k ≡ place levels d) → (j : ℕ) × (j < d + 1) × (place levels j ≡ k)
     go k i (yes e) = (d, omega arith, sym e)
@@ -151,9 +181,11 @@ pub levelled-done : {levels : List ℕ} {d n : ℕ} {w : List Bool} → d ≡ n 
 levelled-done {levels} {d} {n} {w} e h = subst (λ m. Levelled levels m w) e h
 
 -- where the levels hold integer items, the whole ones are marked
-pub levels-marked : (c : Columns) (levels : List ℕ) (n : ℕ) (w : List Bool) (marks : ℕ → Mark) → Levelled levels n w → ((d : ℕ) → d < n → marks (place levels d) ≡ Integer) → Marked c w marks
+pub levels-marked : (c : Columns) (levels : List ℕ) (n : ℕ) (w : List Bool) (marks : ℕ → Mark) → Levelled levels n w →
+    ((d : ℕ) → d < n → marks (place levels d) ≡ Integer) → Marked c w marks
 levels-marked c levels n w marks h m k l i = let d = h .level k i in sym (ap marks (d .2)) ∙ m (d .0) (d .1)
 
 -- and where they hold all of them, only the whole ones are
-pub levels-unmarked : (c : Columns) (levels : List ℕ) (n : ℕ) (w : List Bool) (marks : ℕ → Mark) → Levelled levels n w → ((k : ℕ) → k < c .count → marks k ≡ Integer → (d : ℕ) × (d < n) × (place levels d ≡ k)) → Unmarked c w marks
+pub levels-unmarked : (c : Columns) (levels : List ℕ) (n : ℕ) (w : List Bool) (marks : ℕ → Mark) → Levelled levels n w →
+    ((k : ℕ) → k < c .count → marks k ≡ Integer → (d : ℕ) × (d < n) × (place levels d ≡ k)) → Unmarked c w marks
 levels-unmarked c levels n w marks h m k l i = let d = m k l i in subst (λ j. wholeAt w j ≡ true) (d .2) (h .marked (d .0) (d .1))

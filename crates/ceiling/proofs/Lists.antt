@@ -1,5 +1,6 @@
 -- Lists of pieces and of ends, as the code makes them.
--- listing-first, -step, -done: a list of numbers that is being made;  flags-first, -step, -done: one of tests;  altered-first, -step, -done: one of ends; placed-first,
+-- listing-first, -step, -done: a list of numbers that is being made;  flags-first, -step, -done: one of tests;  altered-first, -step, -done: one of ends;
+-- placed-first,
 -- -step, -done: one of amounts.
 -- pieces-fair, pieces-narrow, pieces-keyable: the pieces are what the fillings ask for.
 use mathlib.Core.Path.{_≡_, refl, sym, subst, _∙_}
@@ -126,12 +127,14 @@ span-narrow : (b : Bool) (E : ℕ) (l u : ℤ) → Within 300000000 l → Within
 span-narrow true E l u wl wu h = h refl
 span-narrow false E l u wl wu h = omega (arith, within-abs (u -ℤ l) (within-sub wu wl))
 
-module _ {p q : ℕ} {c : Columns} {e : Ends} {E cut room m : ℕ} {ps : Parts} (h : Pieces p q c e E cut room m ps) (z : SizedEnds e) (narrow : cut < m → E * natAbs (at (e .hi) cut -ℤ at (e .lo) cut) ≤ 900000000) where
+module _ {p q : ℕ} {c : Columns} {e : Ends} {E cut room m : ℕ} {ps : Parts} (h : Pieces p q c e E cut room m ps) (z : SizedEnds e) (narrow : cut < m →
+    E * natAbs (at (e .hi) cut -ℤ at (e .lo) cut) ≤ 900000000) where
   pub pieces-narrow : (j : ℕ) → j < 16 → num (ps .range) j ≤ 900000000
   pieces-narrow j l = listing-items (h .ranges) 900000000 few j l
     where
       few : (k : ℕ) → k < m → spanOf e E cut k ≤ 900000000
-      few k i = span-narrow (eqb k cut) E (at (e .lo) k) (at (e .hi) k) (z .lo-in k) (z .hi-in k) (λ b. let q = eqb-true k cut b in subst (λ n. E * natAbs (at (e .hi) n -ℤ at (e .lo) n) ≤ 900000000) (sym q) (narrow (subst (λ n. n < m) q i)))
+      few k i = span-narrow (eqb k cut) E (at (e .lo) k) (at (e .hi) k) (z .lo-in k) (z .hi-in k) (λ b. let q = eqb-true k cut b in
+          subst (λ n. E * natAbs (at (e .hi) n -ℤ at (e .lo) n) ≤ 900000000) (sym q) (narrow (subst (λ n. n < m) q i)))
 
   pub pieces-keyable : (cap : ℕ) → cap ≤ 10000000000 → Keyable ps cap
   pieces-keyable cap small j l = omega (arith, mul-le-mul small (up (num (ps .range) j) (pieces-narrow j l)))
@@ -161,7 +164,8 @@ altered-step f m v {old} {xs} l e h = record {
 pub altered-done : {m n : ℕ} {f : ℕ → ℤ} {old xs : List ℤ} → m ≡ n → Altered m f old xs → Altered n f old xs
 altered-done {m} {n} {f} {old} {xs} e h = subst (λ i. Altered i f old xs) e h
 
-pub altered-within : {n b : ℕ} {f : ℕ → ℤ} {old xs : List ℤ} → Altered n f old xs → ((k : ℕ) → k < n → Within b (f k)) → ((k : ℕ) → Within b (at old k)) → (k : ℕ) → Within b (at xs k)
+pub altered-within : {n b : ℕ} {f : ℕ → ℤ} {old xs : List ℤ} → Altered n f old xs → ((k : ℕ) → k < n → Within b (f k)) → ((k : ℕ) → Within b (at old k)) →
+    (k : ℕ) → Within b (at xs k)
 altered-within {n} {b} {f} {old} {xs} h new same k = go (decLt k n)
   where
     go : Dec (k < n) → Within b (at xs k)

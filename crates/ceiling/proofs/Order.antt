@@ -44,25 +44,32 @@ amount-less b E a l u y z h k = go (ltZ a (pos 0)) k
     dn : (x : ℤ) (m n : ℕ) → m < n → (x -ℤ pos n) <ℤ (x -ℤ pos m)
     dn = split _ (λ a b m n. simp zed (omega arith))
 
-    go : (s : Bool) → runs.lessBy s y z → cond s (u *ℤ pos E -ℤ pos (y * cond b 1 E)) (l *ℤ pos E +ℤ pos (y * cond b 1 E)) <ℤ cond s (u *ℤ pos E -ℤ pos (z * cond b 1 E)) (l *ℤ pos E +ℤ pos (z * cond b 1 E))
+    go : (s : Bool) → runs.lessBy s y z → cond s (u *ℤ pos E -ℤ pos (y * cond b 1 E)) (l *ℤ pos E +ℤ pos (y * cond b 1 E)) <ℤ cond s
+        (u *ℤ pos E -ℤ pos (z * cond b 1 E)) (l *ℤ pos E +ℤ pos (z * cond b 1 E))
     go true i = dn (u *ℤ pos E) (z * cond b 1 E) (y * cond b 1 E) (step 0 z y (cond b 1 E) (some b) i)
     go false i = up (l *ℤ pos E) (y * cond b 1 E) (z * cond b 1 E) (step 0 y z (cond b 1 E) (some b) i)
 
-module _ (p q : ℕ) (c : Columns) (e : Ends) (E cut : ℕ) (few : c .count ≤ 16) (E≥1 : 1 ≤ E) (cut-size : cut < c .count → natAbs (weightOf c cut) ≡ E) (o : InOrder c e)
+module _ (p q : ℕ) (c : Columns) (e : Ends) (E cut : ℕ) (few : c .count ≤ 16) (E≥1 : 1 ≤ E) (cut-size : cut < c .count →
+    natAbs (weightOf c cut) ≡ E) (o : InOrder c e)
     (room : ℕ) (room-is : pos room ≡ roomBy c e) (ps : Parts) (b : Pieces p q c e E cut room (c .count) ps) (r : ℕ) where
   abbrev n : ℕ
   n = c .count
 
   -- a bound of losses is one of costs
   pub floor-bounds : Floor p q c e E cut r → filling.Bounds (itemsIn ps) room r
-  floor-bounds f y w fl = back r (filling.cost (itemsIn ps) y) (subst (λ z. pos r ≤ℤ z) (made-loses p q c e E cut few E≥1 cut-size o room room-is ps b y w fl) (f .floor (amountOf c e E cut y) (made-point p q c e E cut few E≥1 cut-size o room room-is ps b y w fl)))
+  floor-bounds f y w fl = back r (filling.cost (itemsIn ps) y)
+      (subst (λ z. pos r ≤ℤ z) (made-loses p q c e E cut few E≥1 cut-size o room room-is ps b y w fl)
+      (f .floor (amountOf c e E cut y) (made-point p q c e E cut few E≥1 cut-size o room room-is ps b y w fl)))
     where
       back : (m n : ℕ) → pos m ≤ℤ pos n → m ≤ n
       back m n = simp zed (omega arith)
 
   -- no filling that costs so little, no point
-  pub first-none : ((y : ℕ → ℕ) → filling.Within (itemsIn ps) y → filling.load (itemsIn ps) y ≡ room → r + 1 ≤ filling.cost (itemsIn ps) y) → (M : ℕ → ℤ) → Point c e E cut M → pos r <ℤ lossOf p q c e E M
-  first-none h M pt = subst (λ z. pos r <ℤ z) (way-costs p q c e E cut few E≥1 cut-size M pt room room-is ps b) (up r _ (h (way p q c e E cut few E≥1 cut-size M pt room room-is) (way-within p q c e E cut few E≥1 cut-size M pt room room-is ps b) (way-fills p q c e E cut few E≥1 cut-size M pt room room-is ps b)))
+  pub first-none : ((y : ℕ → ℕ) → filling.Within (itemsIn ps) y → filling.load (itemsIn ps) y ≡ room → r + 1 ≤ filling.cost (itemsIn ps) y) → (M : ℕ → ℤ) →
+      Point c e E cut M → pos r <ℤ lossOf p q c e E M
+  first-none h M pt = subst (λ z. pos r <ℤ z) (way-costs p q c e E cut few E≥1 cut-size M pt room room-is ps b)
+      (up r _ (h (way p q c e E cut few E≥1 cut-size M pt room room-is) (way-within p q c e E cut few E≥1 cut-size M pt room room-is ps b)
+      (way-fills p q c e E cut few E≥1 cut-size M pt room room-is ps b)))
     where
       up : (m n : ℕ) → m + 1 ≤ n → pos m <ℤ pos n
       up m n h = simp zed (omega arith)
@@ -81,7 +88,8 @@ module _ (p q : ℕ) (c : Columns) (e : Ends) (E cut : ℕ) (few : c .count ≤ 
     N-point = made-point p q c e E cut few E≥1 cut-size o room room-is ps b y (h .within) (h .fills)
 
     -- an amount that is earlier by its pieces
-    earlier : (M : ℕ → ℤ) (z : ℕ → ℕ) → filling.Within (itemsIn ps) z → ((k : ℕ) → k < n → M k ≡ amountOf c e E cut z k) → runs.Earlier ps 16 y z → Earlier n (amountOf c e E cut y) M
+    earlier : (M : ℕ → ℤ) (z : ℕ → ℕ) → filling.Within (itemsIn ps) z → ((k : ℕ) → k < n → M k ≡ amountOf c e E cut z k) → runs.Earlier ps 16 y z →
+        Earlier n (amountOf c e E cut y) M
     earlier M z w makes i = go (decLt (i .place) n)
       where
         j : ℕ
@@ -92,7 +100,9 @@ module _ (p q : ℕ) (c : Columns) (e : Ends) (E cut : ℕ) (few : c .count ≤ 
           place = j;
           below = l;
           same = λ k m. ap (amountBy (eqb k cut) E (weightOf c k) (at (e .lo) k) (at (e .hi) k)) (i .same k m) ∙ sym (makes k (omega arith));
-          less = subst (λ v. amountOf c e E cut y j <ℤ v) (sym (makes j l)) (amount-less (eqb j cut) E (weightOf c j) (at (e .lo) j) (at (e .hi) j) (y j) (z j) E≥1 (subst (λ v. runs.lessBy v (y j) (z j)) (b .falls .items j l) (i .less)));
+          less = subst (λ v. amountOf c e E cut y j <ℤ v) (sym (makes j l))
+              (amount-less (eqb j cut) E (weightOf c j) (at (e .lo) j) (at (e .hi) j) (y j) (z j) E≥1
+              (subst (λ v. runs.lessBy v (y j) (z j)) (b .falls .items j l) (i .less)));
         }
         go (no l) = absurd (none (flag (ps .falls) j) (h .within j j-in) (w j j-in) (i .less))
           where
@@ -108,7 +118,8 @@ module _ (p q : ℕ) (c : Columns) (e : Ends) (E cut : ℕ) (few : c .count ≤ 
 
     loss-same : lossOf p q c e E N ≡ lossOf p q c e E (amountOf c e E cut y)
     unfolding lossOf
-    loss-same = ap (λ v. topOf p q c e *ℤ pos E -ℤ pos q *ℤ v) (sum-cong n (λ k. priceOf c k *ℤ N k) (λ k. priceOf c k *ℤ amountOf c e E cut y k) (λ k l. ap (λ z. priceOf c k *ℤ z) (same k l)))
+    loss-same = ap (λ v. topOf p q c e *ℤ pos E -ℤ pos q *ℤ v)
+        (sum-cong n (λ k. priceOf c k *ℤ N k) (λ k. priceOf c k *ℤ amountOf c e E cut y k) (λ k l. ap (λ z. priceOf c k *ℤ z) (same k l)))
 
     pub first-point : FirstPoint p q c e E cut r N
     first-point = record {
@@ -126,7 +137,8 @@ module _ (p q : ℕ) (c : Columns) (e : Ends) (E cut : ℕ) (few : c .count ≤ 
         weigh-same = sum-cong n (λ k. weightOf c k *ℤ N k) (λ k. weightOf c k *ℤ amountOf c e E cut y k) (λ k l. ap (λ z. weightOf c k *ℤ z) (same k l))
 
         first : (M : ℕ → ℤ) → Point c e E cut M → lossOf p q c e E M ≡ pos r → NotAfter n N M
-        first M pt l = go (h .first z w (way-fills p q c e E cut few E≥1 cut-size M pt room room-is ps b) (inj (filling.cost (itemsIn ps) z) r (way-costs p q c e E cut few E≥1 cut-size M pt room room-is ps b ∙ l)))
+        first M pt l = go (h .first z w (way-fills p q c e E cut few E≥1 cut-size M pt room room-is ps b)
+            (inj (filling.cost (itemsIn ps) z) r (way-costs p q c e E cut few E≥1 cut-size M pt room room-is ps b ∙ l)))
           where
             z : ℕ → ℕ
             z = way p q c e E cut few E≥1 cut-size M pt room room-is
@@ -141,5 +153,12 @@ module _ (p q : ℕ) (c : Columns) (e : Ends) (E cut : ℕ) (few : c .count ≤ 
             inj m n = simp zed (omega arith)
 
             go : ((j : ℕ) → j < 16 → y j ≡ z j) ⊎ runs.Earlier ps 16 y z → NotAfter n N M
-            go (inl i) = inl (λ k l. same k l ∙ ap (amountBy (eqb k cut) E (weightOf c k) (at (e .lo) k) (at (e .hi) k)) (i k (omega (arith, few))) ∙ sym (makes k l))
-            go (inr i) = let v = earlier M z w makes i in inr (record { place = v .place; below = v .below; same = λ k m. same k (omega (arith, v .below)) ∙ v .same k m; less = subst (λ x. x <ℤ M (v .place)) (sym (same (v .place) (v .below))) (v .less) })
+            go (inl i) = inl (λ k l. same k l ∙ ap (amountBy (eqb k cut) E (weightOf c k) (at (e .lo) k) (at (e .hi) k))
+                (i k (omega (arith, few))) ∙ sym (makes k l))
+            go (inr i) = let v = earlier M z w makes i in inr
+                (record {
+                  place = v .place;
+                  below = v .below;
+                  same = λ k m. same k (omega (arith, v .below)) ∙ v .same k m;
+                  less = subst (λ x. x <ℤ M (v .place)) (sym (same (v .place) (v .below))) (v .less);
+                })

@@ -62,7 +62,8 @@ module _ (E : ℕ) (l u x : ℤ) (low : (l *ℤ pos E) ≤ℤ x) (high : x ≤�
       gap = split2 _ (λ a b c e. simp zed (omega arith))
 
   both-is : d + g ≡ natAbs (u -ℤ l) * E
-  both-is = go (x -ℤ l *ℤ pos E) (u *ℤ pos E -ℤ x) ((u -ℤ l) *ℤ pos E) d g (natAbs (u -ℤ l) * E) d-is g-is (abs-pos ((u -ℤ l) *ℤ pos E) nonneg ∙ ap pos (natAbs-times (u -ℤ l) E)) (add x l u)
+  both-is = go (x -ℤ l *ℤ pos E) (u *ℤ pos E -ℤ x) ((u -ℤ l) *ℤ pos E) d g (natAbs (u -ℤ l) * E) d-is g-is
+      (abs-pos ((u -ℤ l) *ℤ pos E) nonneg ∙ ap pos (natAbs-times (u -ℤ l) E)) (add x l u)
     where
       add : (x l u : ℤ) → (x -ℤ l *ℤ pos E) +ℤ (u *ℤ pos E -ℤ x) ≡ (u -ℤ l) *ℤ pos E
       add = split3 _ (λ a b c e f g. simp zed (omega arith))
@@ -146,15 +147,28 @@ module _ (E : ℕ) (l u x : ℤ) (low : (l *ℤ pos E) ≤ℤ x) (high : x ≤�
   pub apart : (a r : ℤ) → Apart E a r l u x
   apart a r = go (ltZ a (pos 0)) (ltZ (pos 0) r) refl refl
     where
-      made : (s t : Bool) → ltZ a (pos 0) ≡ s → ltZ (pos 0) r ≡ t → (far rest : ℕ) → far + rest ≡ natAbs (u -ℤ l) * E → a *ℤ x -ℤ (a *ℤ cond s u l) *ℤ pos E ≡ pos (natAbs a * far)
-          → r *ℤ (cond t u l *ℤ pos E -ℤ x) ≡ pos (natAbs r * cond (cond s (not t) t) rest far) → ((z : ℤ) → x ≡ z *ℤ pos E → (y : ℕ) × (far ≡ y * E)) → x ≡ cond s (u *ℤ pos E -ℤ pos far) (l *ℤ pos E +ℤ pos far) → ((f : ℕ) → x ≡ cond s (u *ℤ pos E -ℤ pos f) (l *ℤ pos E +ℤ pos f) → far ≡ f) → Apart E a r l u x
-      made s t es et far rest b w c v i o = record { far = far; rest = rest; both = b; weigh = rw es w; lose = rw (et, es) c; even = v; x-is = rw es i; far-is = λ f h. o f (rw es at h) }
+      made : (s t : Bool) → ltZ a (pos 0) ≡ s → ltZ (pos 0) r ≡ t → (far rest : ℕ) → far + rest ≡ natAbs (u -ℤ l) * E →
+          a *ℤ x -ℤ (a *ℤ cond s u l) *ℤ pos E ≡ pos (natAbs a * far)
+          → r *ℤ (cond t u l *ℤ pos E -ℤ x) ≡ pos (natAbs r * cond (cond s (not t) t) rest far) → ((z : ℤ) → x ≡ z *ℤ pos E → (y : ℕ) × (far ≡ y * E)) →
+          x ≡ cond s (u *ℤ pos E -ℤ pos far) (l *ℤ pos E +ℤ pos far) →
+          ((f : ℕ) → x ≡ cond s (u *ℤ pos E -ℤ pos f) (l *ℤ pos E +ℤ pos f) → far ≡ f) → Apart E a r l u x
+      made s t es et far rest b w c v i o = record {
+        far = far;
+        rest = rest;
+        both = b;
+        weigh = rw es w;
+        lose = rw (et, es) c;
+        even = v;
+        x-is = rw es i;
+        far-is = λ f h. o f (rw es at h);
+      }
 
       go : (s t : Bool) → ltZ a (pos 0) ≡ s → ltZ (pos 0) r ≡ t → Apart E a r l u x
       go false false es et = made false false es et d g both-is (weigh-up a (no-lt es)) (lose-dn r (no-lt et)) even-up up-is far-up
       go false true es et = made false true es et d g both-is (weigh-up a (no-lt es)) (lose-up r (weak _ _ (yes-lt et))) even-up up-is far-up
       go true false es et = made true false es et g d (omega (arith, both-is)) (weigh-dn a (weak _ _ (yes-lt es))) (lose-dn r (no-lt et)) even-dn dn-is far-dn
-      go true true es et = made true true es et g d (omega (arith, both-is)) (weigh-dn a (weak _ _ (yes-lt es))) (lose-up r (weak _ _ (yes-lt et))) even-dn dn-is far-dn
+      go true true es et = made true true es et g d (omega (arith, both-is)) (weigh-dn a (weak _ _ (yes-lt es)))
+          (lose-up r (weak _ _ (yes-lt et))) even-dn dn-is far-dn
 
 -- an amount as a number of pieces
 pub record Counted (b : Bool) (E : ℕ) (a r l u x : ℤ) : Type 0 where

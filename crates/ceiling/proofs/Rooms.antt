@@ -43,7 +43,8 @@ foot-light a c l u = go (ltZ (pos 0) a) (ltZ a (pos 0)) refl refl
     go false false h k = zero-is a l (cond (ltZ (pos 0) c) u l) (no-lt h) (no-lt k)
 
 pub room-begun : (c : Columns) (e : Ends) → begun c e .room ≡ roomBy c e
-room-begun c e = ap (λ z. c .capacity -ℤ z) (sum-cong (c .count) (λ k. weightOf c k *ℤ lightOf c e k) (λ k. weightOf c k *ℤ footOf c e k) (λ k l. sym (foot-light (weightOf c k) (priceOf c k) (at (e .lo) k) (at (e .hi) k))))
+room-begun c e = ap (λ z. c .capacity -ℤ z) (sum-cong (c .count) (λ k. weightOf c k *ℤ lightOf c e k) (λ k. weightOf c k *ℤ footOf c e k)
+    (λ k l. sym (foot-light (weightOf c k) (priceOf c k) (at (e .lo) k) (at (e .hi) k))))
 
 pub room-in : (c : Columns) (e : Ends) → Sized c e → Within 4800100000000 (begun c e .room)
 room-in c e z = within-sub (z .columns .capacity-in) (corner-weight-within c e z (c .count) (z .columns .few))
@@ -56,13 +57,15 @@ roomless p q c e E cut r h k = record { floor = λ N pt. absurd (none N pt) }
     F = sum (c .count) (λ j. weightOf c j *ℤ footOf c e j)
 
     least : (N : ℕ → ℤ) → Point c e E cut N → (F *ℤ pos E) ≤ℤ weighOf c N
-    least N pt = subst (λ z. z ≤ℤ weighOf c N) (sum-times (c .count) (weightOf c) (footOf c e) E) (sum-mono (c .count) (λ j. weightOf c j *ℤ (footOf c e j *ℤ pos E)) (λ j. weightOf c j *ℤ N j) (λ j l. light j l))
+    least N pt = subst (λ z. z ≤ℤ weighOf c N) (sum-times (c .count) (weightOf c) (footOf c e) E)
+        (sum-mono (c .count) (λ j. weightOf c j *ℤ (footOf c e j *ℤ pos E)) (λ j. weightOf c j *ℤ N j) (λ j l. light j l))
       where
         turn : (a f x : ℤ) (n : ℕ) → a *ℤ x -ℤ (a *ℤ f) *ℤ pos E ≡ pos n → (a *ℤ (f *ℤ pos E)) ≤ℤ (a *ℤ x)
         turn = split3 _ (λ a b c e f g n. simp zed (omega arith))
 
         light : (j : ℕ) → j < c .count → (weightOf c j *ℤ (footOf c e j *ℤ pos E)) ≤ℤ (weightOf c j *ℤ N j)
-        light j l = let a = apart E (at (e .lo) j) (at (e .hi) j) (N j) (pt .above j l) (pt .below j l) h (weightOf c j) (scoreOf p q c j) in turn (weightOf c j) (footOf c e j) (N j) _ (a .weigh)
+        light j l = let a = apart E (at (e .lo) j) (at (e .hi) j) (N j) (pt .above j l) (pt .below j l) h (weightOf c j) (scoreOf p q c j) in
+            turn (weightOf c j) (footOf c e j) (N j) _ (a .weigh)
 
     none : (N : ℕ → ℤ) → Point c e E cut N → ⊥
     none N pt = clash E h (c .capacity) F (weighOf c N) k (least N pt) (pt .fits)
@@ -75,7 +78,11 @@ roomless p q c e E cut r h k = record { floor = λ N pt. absurd (none N pt) }
 
 -- nothing is lost below 0
 pub floor-zero : (p q : ℕ) (c : Columns) (e : Ends) (E cut : ℕ) → Floor p q c e E cut 0
-floor-zero p q c e E cut = record { floor = λ N pt. rw (loss-is p q c e E N) (+ℤ-mono {x = pos 0} (sum≥0 (c .count) (term p q c e E N) (λ k l. terms≥0 p q c e E N (pt .above) (pt .below) (pt .fits) k l)) (slack≥0 p q c e E N (pt .above) (pt .below) (pt .fits))) }
+floor-zero p q c e E cut = record {
+  floor = λ N pt. rw (loss-is p q c e E N)
+      (+ℤ-mono {x = pos 0} (sum≥0 (c .count) (term p q c e E N) (λ k l. terms≥0 p q c e E N (pt .above) (pt .below) (pt .fits) k l))
+      (slack≥0 p q c e E N (pt .above) (pt .below) (pt .fits)));
+}
   where
     sum≥0 : (n : ℕ) (f : ℕ → ℤ) → ((k : ℕ) → k < n → pos 0 ≤ℤ f k) → pos 0 ≤ℤ sum n f
     sum≥0 zero f h = ≤ℤ-refl (pos 0)

@@ -40,7 +40,9 @@ pub record Shallow (p q : ℕ) (c : Columns) (e : Ends) : Type 0 where
 -- the deepest loss is not the least
 pub too-deep : (p q : ℕ) (c : Columns) (e : Ends) (w : List Bool) → Shallow p q c e → (n d : ℕ) → n ≡ 10000000 → d ≡ 1 → Ceiling p q c e w n d → ⊥
 unfolding Loses
-too-deep p q c e w s n d i j h = clash (lossOf p q c e 1 (s .point)) (s .little) (subst₂ (λ x y. (pos x *ℤ pos 1) ≤ℤ (pos y *ℤ lossOf p q c e 1 (s .point))) i j (h .all (λ k. Integer) (λ k l m. refl) 1 (s .point) (omega arith) (s .feasible (λ k. Integer))))
+too-deep p q c e w s n d i j h = clash (lossOf p q c e 1 (s .point)) (s .little)
+    (subst₂ (λ x y. (pos x *ℤ pos 1) ≤ℤ (pos y *ℤ lossOf p q c e 1 (s .point))) i j
+    (h .all (λ k. Integer) (λ k l m. refl) 1 (s .point) (omega arith) (s .feasible (λ k. Integer))))
   where
     clash : (x : ℤ) → x <ℤ pos 10000000 → (pos 10000000 *ℤ pos 1) ≤ℤ (pos 1 *ℤ x) → ⊥
     clash = split _ (λ a b. simp zed (omega arith))
@@ -65,8 +67,13 @@ module _ (p q : ℕ) (c : Columns) (e : Ends) where
       ring : (b v w : ℤ) → pos p *ℤ b +ℤ (pos q *ℤ v -ℤ pos p *ℤ w) ≡ pos q *ℤ v +ℤ pos p *ℤ (b -ℤ w)
       ring = split3 _ (λ a b c e f g. simp zed (omega arith))
 
-  keeps-whole : (marks : ℕ → Mark) (N : ℕ → ℤ) → ((k : ℕ) → k < c .count → (at (e .lo) k ≤ℤ N k) × (N k ≤ℤ at (e .hi) k)) → (k : ℕ) → k < c .count → Keepsᴰ 1 (boxOf c e marks .item k) (N k)
-  keeps-whole marks N h k l = record { marked = mark (marks k); above = subst (λ x. x ≤ℤ N k) (sym (one (at (e .lo) k))) (h k l .0); below = subst (λ x. N k ≤ℤ x) (sym (one (at (e .hi) k))) (h k l .1) }
+  keeps-whole : (marks : ℕ → Mark) (N : ℕ → ℤ) → ((k : ℕ) → k < c .count → (at (e .lo) k ≤ℤ N k) × (N k ≤ℤ at (e .hi) k)) → (k : ℕ) → k < c .count →
+      Keepsᴰ 1 (boxOf c e marks .item k) (N k)
+  keeps-whole marks N h k l = record {
+    marked = mark (marks k);
+    above = subst (λ x. x ≤ℤ N k) (sym (one (at (e .lo) k))) (h k l .0);
+    below = subst (λ x. N k ≤ℤ x) (sym (one (at (e .hi) k))) (h k l .1);
+  }
     where
       one : (x : ℤ) → x *ℤ pos 1 ≡ x
       one = split _ (λ a b. simp zed (omega arith))
@@ -117,7 +124,8 @@ best-end raised a c l u up idle = subst (λ s. s *ℤ goodEnd s l u ≡ s *ℤ c
     neg-low : (c : ℤ) → negℤ c ≤ℤ pos 0 → pos 0 ≤ℤ c
     neg-low = split _ (λ x y. simp zed (omega arith))
 
-    go : (b : Bool) → (b ≡ true → (a ≢ pos 0) × (pos 0 <ℤ timesSign a c)) → (b ≡ false → Idle a c) → c *ℤ goodEnd c l u ≡ c *ℤ cond b (heaviest a l u) (lightest a c l u)
+    go : (b : Bool) → (b ≡ true → (a ≢ pos 0) × (pos 0 <ℤ timesSign a c)) → (b ≡ false → Idle a c) →
+        c *ℤ goodEnd c l u ≡ c *ℤ cond b (heaviest a l u) (lightest a c l u)
     go true f g = heavy (≤ℤ-or-< (pos 0) a)
       where
         heavy : (pos 0 ≤ℤ a) ⊎ (a <ℤ pos 0) → c *ℤ goodEnd c l u ≡ c *ℤ heaviest a l u
@@ -206,7 +214,8 @@ module _ (c : Columns) (e : Ends) (o : Ordered c) (b : InOrder c e) (room≥0 : 
             go (no m) = omega (arith, all)
 
         live : rankOf c k < c .live → (weightOf c k ≢ pos 0) × (pos 0 <ℤ timesSign (weightOf c k) (priceOf c k))
-        live m = subst (λ i. (weightOf c i ≢ pos 0) × (pos 0 <ℤ timesSign (weightOf c i) (priceOf c i))) (o .item-rank k l) (o .live-weight (rankOf c k) m, o .live-rate (rankOf c k) m)
+        live m = subst (λ i. (weightOf c i ≢ pos 0) × (pos 0 <ℤ timesSign (weightOf c i) (priceOf c i))) (o .item-rank k l)
+            (o .live-weight (rankOf c k) m, o .live-rate (rankOf c k) m)
 
         dead : c .live ≤ rankOf c k → Idle (weightOf c k) (priceOf c k)
         dead m = subst (λ i. Idle (weightOf c i) (priceOf c i)) (o .item-rank k l) (o .idle (rankOf c k) m (o .rank-in k l))
@@ -229,7 +238,9 @@ module _ (c : Columns) (e : Ends) (o : Ordered c) (b : InOrder c e) (room≥0 : 
             go = split3 _ (λ a b c e f g. simp zed (omega arith))
 
         none : (pos 0 *ℤ c .capacity +ℤ sum (c .count) (λ k. scoreOf 0 1 c k *ℤ goodOf 0 1 c e k)) *ℤ pos 1 -ℤ pos 1 *ℤ valueOf c S ≡ pos 0
-        none = ap (λ z. (pos 0 *ℤ c .capacity +ℤ z) *ℤ pos 1 -ℤ pos 1 *ℤ valueOf c S) (sum-cong (c .count) (λ k. scoreOf 0 1 c k *ℤ goodOf 0 1 c e k) (λ k. priceOf c k *ℤ S k) (λ k l. ends-best k l ∙ ap (λ z. z *ℤ S k) (plain (weightOf c k) (priceOf c k)))) ∙ ring (c .capacity) (valueOf c S)
+        none = ap (λ z. (pos 0 *ℤ c .capacity +ℤ z) *ℤ pos 1 -ℤ pos 1 *ℤ valueOf c S)
+            (sum-cong (c .count) (λ k. scoreOf 0 1 c k *ℤ goodOf 0 1 c e k) (λ k. priceOf c k *ℤ S k)
+            (λ k l. ends-best k l ∙ ap (λ z. z *ℤ S k) (plain (weightOf c k) (priceOf c k)))) ∙ ring (c .capacity) (valueOf c S)
           where
             plain : (a c : ℤ) → scoreBy 0 1 a c ≡ c
             plain = split2 _ (λ x y v w. simp zed (omega arith))
@@ -238,7 +249,8 @@ module _ (c : Columns) (e : Ends) (o : Ordered c) (b : InOrder c e) (room≥0 : 
             ring = split2 _ (λ a b c e. simp zed (omega arith))
 
   -- the critical item takes whole units
-  module _ (l : t < c .live) (short : f .room <ℤ (at (c .size) t *ℤ width c e t)) (p q : ℕ) (p-is : at (c .rate) t ≡ pos p) (q-is : at (c .size) t ≡ pos q) (p-in : p ≤ 10000) (q-in : q ≤ 1000) (q≥1 : 1 ≤ q) where
+  module _ (l : t < c .live) (short : f .room <ℤ (at (c .size) t *ℤ width c e t)) (p q : ℕ) (p-is : at (c .rate) t ≡ pos p) (q-is : at (c .size) t ≡ pos q)
+      (p-in : p ≤ 10000) (q-in : q ≤ 1000) (q≥1 : 1 ≤ q) where
     abbrev k* : ℕ
     k* = itemOf c t
 
@@ -299,14 +311,16 @@ module _ (c : Columns) (e : Ends) (o : Ordered c) (b : InOrder c e) (room≥0 : 
 
     weighs-is : weighOf c N ≡ weighOf c S +ℤ pos (q * m)
     unfolding N a
-    weighs-is = sum-bump (c .count) (weightOf c) S k* (unit (weightOf c k*) *ℤ pos m) k-in ∙ ap (λ z. weighOf c S +ℤ z) (unit-weight (weightOf c k*) ∙ ap (λ (n : ℕ). pos (n * m)) (inj (natAbs (weightOf c k*)) q (sym weight-abs)))
+    weighs-is = sum-bump (c .count) (weightOf c) S k* (unit (weightOf c k*) *ℤ pos m) k-in ∙
+        ap (λ z. weighOf c S +ℤ z) (unit-weight (weightOf c k*) ∙ ap (λ (n : ℕ). pos (n * m)) (inj (natAbs (weightOf c k*)) q (sym weight-abs)))
       where
         inj : (x y : ℕ) → pos x ≡ pos y → x ≡ y
         inj x y = simp zed (omega arith)
 
     value-is : valueOf c N ≡ f .worth +ℤ pos (p * m)
     unfolding N a S
-    value-is = sum-bump (c .count) (priceOf c) S k* (unit (weightOf c k*) *ℤ pos m) k-in ∙ ap₂ _+ℤ_ (good .worth-is) (unit-price (weightOf c k*) (priceOf c k*) ∙ ap (λ z. z *ℤ pos m) (sym rate-abs) ∙ both p m)
+    value-is = sum-bump (c .count) (priceOf c) S k* (unit (weightOf c k*) *ℤ pos m) k-in ∙
+        ap₂ _+ℤ_ (good .worth-is) (unit-price (weightOf c k*) (priceOf c k*) ∙ ap (λ z. z *ℤ pos m) (sym rate-abs) ∙ both p m)
       where
         both : (x y : ℕ) → pos x *ℤ pos y ≡ pos (x * y)
         both x y = simp zed (omega arith)
@@ -321,16 +335,22 @@ module _ (c : Columns) (e : Ends) (o : Ordered c) (b : InOrder c e) (room≥0 : 
     -- no end promises more than the relaxation
     top-most : topOf p q c e ≤ℤ (pos q *ℤ f .worth +ℤ pos p *ℤ pos R)
     unfolding G
-    top-most = subst (λ z. z ≤ℤ (pos q *ℤ f .worth +ℤ pos p *ℤ pos R)) (sym (top-is p q c e)) (close (valueOf c (G p q c e)) (weighOf c (G p q c e)) (f .worth) (c .capacity)
-        (subst₂ (λ x y. (x *ℤ (valueOf c (G p q c e) -ℤ f .worth *ℤ pos 1)) ≤ℤ (y *ℤ (weighOf c (G p q c e) -ℤ (c .capacity -ℤ f .room) *ℤ pos 1))) q-is p-is slope-at))
+    top-most = subst (λ z. z ≤ℤ (pos q *ℤ f .worth +ℤ pos p *ℤ pos R)) (sym (top-is p q c e))
+        (close (valueOf c (G p q c e)) (weighOf c (G p q c e)) (f .worth) (c .capacity)
+        (subst₂ (λ x y. (x *ℤ (valueOf c (G p q c e) -ℤ f .worth *ℤ pos 1)) ≤ℤ (y *ℤ (weighOf c (G p q c e) -ℤ (c .capacity -ℤ f .room) *ℤ pos 1))) q-is p-is
+        slope-at))
       where
-        slope-at : (at (c .size) t *ℤ (valueOf c (G p q c e) -ℤ f .worth *ℤ pos 1)) ≤ℤ (at (c .rate) t *ℤ (weighOf c (G p q c e) -ℤ (c .capacity -ℤ f .room) *ℤ pos 1))
-        slope-at = fill-slope c e marks o b f good l short 1 (G p q c e) (keeps-whole p q c e marks (G p q c e) (λ k i. good-in (scoreOf p q c k) (at (e .lo) k) (at (e .hi) k) (b k i)))
+        slope-at : (at (c .size) t *ℤ (valueOf c (G p q c e) -ℤ f .worth *ℤ pos 1)) ≤ℤ
+            (at (c .rate) t *ℤ (weighOf c (G p q c e) -ℤ (c .capacity -ℤ f .room) *ℤ pos 1))
+        slope-at = fill-slope c e marks o b f good l short 1 (G p q c e)
+            (keeps-whole p q c e marks (G p q c e) (λ k i. good-in (scoreOf p q c k) (at (e .lo) k) (at (e .hi) k) (b k i)))
 
-        close : (v w x y : ℤ) → (pos q *ℤ (v -ℤ x *ℤ pos 1)) ≤ℤ (pos p *ℤ (w -ℤ (y -ℤ f .room) *ℤ pos 1)) → (pos q *ℤ v +ℤ pos p *ℤ (y -ℤ w)) ≤ℤ (pos q *ℤ x +ℤ pos p *ℤ pos R)
+        close : (v w x y : ℤ) → (pos q *ℤ (v -ℤ x *ℤ pos 1)) ≤ℤ (pos p *ℤ (w -ℤ (y -ℤ f .room) *ℤ pos 1)) →
+            (pos q *ℤ v +ℤ pos p *ℤ (y -ℤ w)) ≤ℤ (pos q *ℤ x +ℤ pos p *ℤ pos R)
         close v w x y h = fin v w x y (subst (λ r. (pos q *ℤ (v -ℤ x *ℤ pos 1)) ≤ℤ (pos p *ℤ (w -ℤ (y -ℤ r) *ℤ pos 1))) room-is h)
           where
-            fin : (v w x y : ℤ) → (pos q *ℤ (v -ℤ x *ℤ pos 1)) ≤ℤ (pos p *ℤ (w -ℤ (y -ℤ pos R) *ℤ pos 1)) → (pos q *ℤ v +ℤ pos p *ℤ (y -ℤ w)) ≤ℤ (pos q *ℤ x +ℤ pos p *ℤ pos R)
+            fin : (v w x y : ℤ) → (pos q *ℤ (v -ℤ x *ℤ pos 1)) ≤ℤ (pos p *ℤ (w -ℤ (y -ℤ pos R) *ℤ pos 1)) →
+                (pos q *ℤ v +ℤ pos p *ℤ (y -ℤ w)) ≤ℤ (pos q *ℤ x +ℤ pos p *ℤ pos R)
             fin = split4 _ (λ a b c e f g h i. simp zed (omega arith))
 
     -- within the ends
@@ -376,7 +396,8 @@ module _ (c : Columns) (e : Ends) (o : Ordered c) (b : InOrder c e) (room≥0 : 
         widths : f .room <ℤ (pos q *ℤ (at (e .hi) k* -ℤ at (e .lo) k*))
         widths = subst (λ z. f .room <ℤ (z *ℤ (at (e .hi) k* -ℤ at (e .lo) k*))) q-is short
 
-        go : (w : ℤ) → w ≢ pos 0 → (at (e .lo) k* ≤ℤ (lightest w (priceOf c k*) (at (e .lo) k*) (at (e .hi) k*) +ℤ unit w *ℤ pos m)) × ((lightest w (priceOf c k*) (at (e .lo) k*) (at (e .hi) k*) +ℤ unit w *ℤ pos m) ≤ℤ at (e .hi) k*)
+        go : (w : ℤ) → w ≢ pos 0 → (at (e .lo) k* ≤ℤ (lightest w (priceOf c k*) (at (e .lo) k*) (at (e .hi) k*) +ℤ unit w *ℤ pos m)) ×
+            ((lightest w (priceOf c k*) (at (e .lo) k*) (at (e .hi) k*) +ℤ unit w *ℤ pos m) ≤ℤ at (e .hi) k*)
         go (pos zero) ne = absurd (ne refl)
         go (pos (suc n)) ne = rw (lt-yes (up n)) (up-end (at (e .lo) k*) (at (e .hi) k*) (fewer (at (e .lo) k*) (at (e .hi) k*) (b k* k-in) widths))
           where
@@ -446,12 +467,15 @@ module _ (c : Columns) (e : Ends) (o : Ordered c) (b : InOrder c e) (room≥0 : 
                 fin = split2 _ (λ a b c e x y z. simp zed (omega arith))
 
   -- the critical item's price, or none
-  pub shallow : (p q : ℕ) → p ≡ cond (ltb t (c .live)) (natAbs (at (c .rate) t)) 0 → q ≡ cond (ltb t (c .live)) (natAbs (at (c .size) t)) 1 → p ≤ 10000 → q ≤ 1000 → 1 ≤ q → Shallow p q c e
+  pub shallow : (p q : ℕ) → p ≡ cond (ltb t (c .live)) (natAbs (at (c .rate) t)) 0 → q ≡ cond (ltb t (c .live)) (natAbs (at (c .size) t)) 1 → p ≤ 10000 →
+      q ≤ 1000 → 1 ≤ q → Shallow p q c e
   shallow p q p-is q-is p-in q-in q≥1 = go (stopped .why)
     where
       go : (t ≡ c .live) ⊎ ((t < c .live) × (f .room <ℤ (at (c .size) t *ℤ width c e t))) → Shallow p q c e
-      go (inl h) = subst₂ (λ x y. Shallow x y c e) (sym (p-is ∙ rw (le-ltb t (c .live) (omega arith)))) (sym (q-is ∙ rw (le-ltb t (c .live) (omega arith)))) (shallow-all h)
-      go (inr (l, short)) = shallow-critical l short p q (pos-is (at (c .rate) t) p (less _ (subst (λ z. pos 0 <ℤ z) (sym (o .rates t l)) (o .live-rate t l))) (p-is ∙ rw (lt-ltb t (c .live) l))) (pos-is (at (c .size) t) q (size-up (o .sizes t l)) (q-is ∙ rw (lt-ltb t (c .live) l))) p-in q-in q≥1
+      go (inl h) = subst₂ (λ x y. Shallow x y c e) (sym (p-is ∙ rw (le-ltb t (c .live) (omega arith))))
+          (sym (q-is ∙ rw (le-ltb t (c .live) (omega arith)))) (shallow-all h)
+      go (inr (l, short)) = shallow-critical l short p q (pos-is (at (c .rate) t) p (less _ (subst (λ z. pos 0 <ℤ z) (sym (o .rates t l)) (o .live-rate t l)))
+          (p-is ∙ rw (lt-ltb t (c .live) l))) (pos-is (at (c .size) t) q (size-up (o .sizes t l)) (q-is ∙ rw (lt-ltb t (c .live) l))) p-in q-in q≥1
         where
           less : (z : ℤ) → pos 0 <ℤ z → pos 0 ≤ℤ z
           less = split _ (λ a b. simp zed (omega arith))

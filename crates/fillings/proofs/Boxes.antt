@@ -41,7 +41,8 @@ module _ (p : Parts) (r : Ranges) (long : length (p .weight) ≡ 17) (among : Am
     whole-within j l = omega (arith, h .up j (in-17 j l), h .few j (in-17 j l), among j (in-17 j l))
 
     pub shifted-load : load (itemsIn p) y ≡ load (itemsIn p) (num (r .low)) + load (boxed p r) z
-    shifted-load = sum-cong (length (p .weight)) _ (λ j. num (p .weight) j * num (r .low) j + num (p .weight) j * z j) (λ j l. one (num (p .weight) j) (y j) (num (r .low) j) (z j) (h .up j (in-17 j l)))
+    shifted-load = sum-cong (length (p .weight)) _ (λ j. num (p .weight) j * num (r .low) j + num (p .weight) j * z j)
+        (λ j l. one (num (p .weight) j) (y j) (num (r .low) j) (z j) (h .up j (in-17 j l)))
         ∙ sum-add (length (p .weight)) (λ j. num (p .weight) j * num (r .low) j) (λ j. num (p .weight) j * z j)
       where
         one : (w y a z : ℕ) → y ≡ a + z → w * y ≡ w * a + w * z
@@ -50,7 +51,8 @@ module _ (p : Parts) (r : Ranges) (long : length (p .weight) ≡ 17) (among : Am
     pub shifted-cost : cost (itemsIn p) y ≡ offsetOf p r + cost (boxed p r) z
     unfolding offsetOf
     shifted-cost = sum-cong (length (p .weight)) _ (λ j. offsetAt p r j + (num (p .taken) j * z j + num (p .left) j * (num (r .wide) j - z j)))
-        (λ j l. one (num (p .taken) j) (num (p .left) j) (num (p .range) j) (y j) (num (r .low) j) (z j) (num (r .wide) j) (h .up j (in-17 j l)) (h .few j (in-17 j l)) (among j (in-17 j l)))
+        (λ j l. one (num (p .taken) j) (num (p .left) j) (num (p .range) j) (y j) (num (r .low) j) (z j) (num (r .wide) j) (h .up j (in-17 j l))
+        (h .few j (in-17 j l)) (among j (in-17 j l)))
         ∙ sum-add (length (p .weight)) (offsetAt p r) (λ j. num (p .taken) j * z j + num (p .left) j * (num (r .wide) j - z j))
       where
         one : (t l u y a z w : ℕ) → y ≡ a + z → z ≤ w → a + w ≤ u → t * y + l * (u - y) ≡ (t * a + l * (u - (a + w))) + (t * z + l * (w - z))

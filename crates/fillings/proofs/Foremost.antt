@@ -30,11 +30,17 @@ inside-within p r long a y h j l = let m : j < 17 = omega (arith, long) in omega
 among-less : (p : Parts) (r r′ : Ranges) → Among p r → ((y : ℕ → ℕ) → Inside r′ y → Inside r y) → Among p r′
 among-less p r r′ a h j l = omega (arith, a j l, h (λ i. num (r′ .low) i + num (r′ .wide) i) (λ i m. (omega arith, omega arith)) j l .1)
 
-pub whole-least : (p : Parts) (r : Ranges) (C cap : ℕ) (n : Run) → length (p .weight) ≡ 17 → Whole p r → Runs p r C cap 0 0 n → Least cap (itemsIn p) C (n .cost)
+pub whole-least : (p : Parts) (r : Ranges) (C cap : ℕ) (n : Run) → length (p .weight) ≡ 17 → Whole p r → Runs p r C cap 0 0 n →
+    Least cap (itemsIn p) C (n .cost)
 whole-least p r C cap n long w h = record {
   capped = h .capped;
   bounds = λ y i f. h .bounds y (whole-inside p r long w y i) f;
-  reached = λ l. let v = h .reached l in record { amounts = v .amounts; within = inside-within p r long (whole-among p r w) (v .amounts) (h .among l (v .amounts) (v .inside)); fills = v .fills; costs = v .costs };
+  reached = λ l. let v = h .reached l in record {
+    amounts = v .amounts;
+    within = inside-within p r long (whole-among p r w) (v .amounts) (h .among l (v .amounts) (v .inside));
+    fills = v .fills;
+    costs = v .costs;
+  };
 }
 
 pub record Sought (p : Parts) (C c : ℕ) (r : Ranges) (f : ℕ) : Type 0 where
@@ -78,7 +84,13 @@ module _ (p : Parts) (C cap : ℕ) (long : length (p .weight) ≡ 17) (cap≥1 :
 
       cost-is : n .cost ≡ c
       cost-is = let v = h .reached found in
-          omega (arith, found, v .costs, least (v .amounts) (inside-within p r long (s .among) (v .amounts) (h .among found (v .amounts) (v .inside))) (v .fills))
+          omega (
+            arith,
+            found,
+            v .costs,
+            least (v .amounts) (inside-within p r long (s .among) (v .amounts)
+                (h .among found (v .amounts) (v .inside))) (v .fills),
+          )
 
       pub sought-more : f < 16 → Keyable p cap → f < n .to
       sought-more l k = h .some found l (omega (arith, k f l, times cap (num (r .wide) f) (num (p .range) f) (omega (arith, s .among f (omega arith)))))
@@ -110,7 +122,8 @@ module _ (p : Parts) (C cap : ℕ) (long : length (p .weight) ≡ 17) (cap≥1 :
               let high = h .among found (λ i. num (n .ranges .low) i + num (n .ranges .wide) i) (λ i v. (omega arith, omega arith)) j q in
               omega (arith, low .0, low .1, high .0, high .1, s .fixed j m)
 
-          kept : (y : ℕ → ℕ) → Fills p C y → cost (itemsIn p) y ≡ c → Inside r y ⊎ ((a : ℕ → ℕ) → Inside r a → Earlier p f a y) → Inside (n .ranges) y ⊎ ((a : ℕ → ℕ) → Inside (n .ranges) a → Earlier p (n .to) a y)
+          kept : (y : ℕ → ℕ) → Fills p C y → cost (itemsIn p) y ≡ c → Inside r y ⊎ ((a : ℕ → ℕ) → Inside r a → Earlier p f a y) →
+              Inside (n .ranges) y ⊎ ((a : ℕ → ℕ) → Inside (n .ranges) a → Earlier p (n .to) a y)
           kept y fl e (inr g) = inr (λ a i. earlier-more (h .end .0) (g a (h .among found a i)))
           kept y fl e (inl i) = go (h .first found y i fl (e ∙ sym cost-is))
             where

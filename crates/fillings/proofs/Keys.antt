@@ -82,7 +82,8 @@ keys-last r k zero = rw (here k) (omega arith)
   where
     here : (k : ℕ) → k + 0 ≡ k
     here k = omega arith
-keys-last r k (suc n) = ap (λ z. suc (r k) * z) (keys-last r (suc k) n) ∙ times (suc (r k)) (keys r (suc k) n) (suc (r (suc k + n))) ∙ ap (λ i. (suc (r k) * keys r (suc k) n) * suc (r i)) (there k n)
+keys-last r k (suc n) = ap (λ z. suc (r k) * z) (keys-last r (suc k) n) ∙ times (suc (r k)) (keys r (suc k) n) (suc (r (suc k + n))) ∙
+    ap (λ i. (suc (r k) * keys r (suc k) n) * suc (r i)) (there k n)
   where
     there : (k n : ℕ) → suc k + n ≡ k + suc n
     there k n = omega arith
@@ -97,7 +98,11 @@ keys-first r k n = refl
 pub key-below : (r d : ℕ → ℕ) (k n : ℕ) → Digits r d k n → key r d k n < keys r k n
 unfolding keys key
 key-below r d k zero h = omega arith
-key-below r d k (suc n) h = omega (arith, key-below r d (suc k) n (digits-tail r d k n h), mul-le-mul-right (keys r (suc k) n) (h k (omega arith) (omega arith)))
+key-below r d k (suc n) h = omega (
+  arith,
+  key-below r d (suc k) n (digits-tail r d k n h),
+  mul-le-mul-right (keys r (suc k) n) (h k (omega arith) (omega arith)),
+)
 
 pub same-key : (r d e : ℕ → ℕ) (k n : ℕ) → Same d e k n → key r d k n ≡ key r e k n
 unfolding key
@@ -109,9 +114,20 @@ unfolding key
 sooner-key r d e k zero h s = absurd (omega (arith, s .from, s .below))
 sooner-key r d e k (suc n) h s = go (ℕ-discrete (s .place) k) (λ t. sooner-key r d e (suc k) n (digits-tail r d k n h) t)
   where
-    go : Dec (s .place ≡ k) → (Sooner d e (suc k) n → key r d (suc k) n < key r e (suc k) n) → d k * keys r (suc k) n + key r d (suc k) n < e k * keys r (suc k) n + key r e (suc k) n
+    go : Dec (s .place ≡ k) → (Sooner d e (suc k) n → key r d (suc k) n < key r e (suc k) n) →
+        d k * keys r (suc k) n + key r d (suc k) n < e k * keys r (suc k) n + key r e (suc k) n
     go (yes q) ih = omega (arith, key-below r d (suc k) n (digits-tail r d k n h), mul-le-mul-right (keys r (suc k) n) (subst (λ j. d j < e j) q (s .less)))
-    go (no q) ih = rw (s .same k (omega arith) (omega (arith, s .from))) (omega (arith, ih (record { place = s .place; from = omega (arith, s .from); below = omega (arith, s .below); same = λ j l m. s .same j (omega arith) m; less = s .less })))
+    go (no q) ih = rw (s .same k (omega arith) (omega (arith, s .from)))
+        (omega (
+          arith,
+          ih (record {
+            place = s .place;
+            from = omega (arith, s .from);
+            below = omega (arith, s .below);
+            same = λ j l m. s .same j (omega arith) m;
+            less = s .less;
+          }),
+        ))
 
 pub data Order (d e : ℕ → ℕ) (k n : ℕ) : Type 0 where
   sooner : Sooner d e k n → Order d e k n
@@ -181,7 +197,13 @@ digits-in r k (suc n) x h j l m = go (ℕ-discrete j k) (λ i o p. digits-in r (
 pub digits-key : (r : ℕ → ℕ) (k n x : ℕ) → x < keys r k n → key r (digits r k n x) k n ≡ x
 unfolding keys key
 digits-key r k zero x h = omega arith
-digits-key r k (suc n) x h = rw (digits-first r k n x, same-key r (digits r k (suc n) x) (digits r (suc k) n (x % keys r (suc k) n)) (suc k) n (λ j l m. digits-rest r k n x j (omega arith)), digits-key r (suc k) n (x % keys r (suc k) n) (mod-lt x (keys-some r (suc k) n))) (div-add-mod' x (keys r (suc k) n))
+digits-key r k (suc n) x h = rw (
+  digits-first r k n x,
+  same-key r (digits r k (suc n) x) (digits r (suc k) n (x % keys r (suc k) n)) (suc k) n
+      (λ j l m. digits-rest r k n x j (omega arith)),
+  digits-key r (suc k) n (x % keys r (suc k) n) (mod-lt x (keys-some r (suc k) n)),
+)
+    (div-add-mod' x (keys r (suc k) n))
 
 -- the digits of a key are those that it was made of
 pub key-digits : (r d : ℕ → ℕ) (k n : ℕ) → Digits r d k n → Same (digits r k n (key r d k n)) d k n
@@ -232,7 +254,8 @@ sum-key r d g t zero k e h = ap (λ i. sum i g) (none k t e) ∙ plain (sum k g)
 
     plain : (x : ℕ) → x ≡ x + 0
     plain x = omega arith
-sum-key r d g t (suc n) k e h = let a : suc k + n ≡ t = omega arith in omega (arith, sum-key r d g t n (suc k) a (λ j m l f. h j m (omega arith) f), h k n (omega arith) a)
+sum-key r d g t (suc n) k e h = let a : suc k + n ≡ t = omega arith in
+    omega (arith, sum-key r d g t n (suc k) a (λ j m l f. h j m (omega arith) f), h k n (omega arith) a)
 
 pub key-sum : (r d : ℕ → ℕ) (f n p : ℕ) → f + n ≤ p → sum p (λ j. radix r f (f + n) j * d j) ≡ key r d f n
 key-sum r d f n p l = sum-to p (f + n) g after l ∙ omega (arith, sum-key r d g (f + n) n f refl inside, sum-none f g before)
@@ -264,7 +287,8 @@ radix-at r f t j h l = rw (add-one j, le-ltb j f h, lt-ltb j t l)
 pub digits-next : (r : ℕ → ℕ) (k t x : ℕ) → k < t → digits r k (t - k) x k ≡ x / keys r (k + 1) (t - (k + 1))
 digits-next r k t x h = rw (add-one k) (ap (λ n. digits r k n x k) (more k t h) ∙ digits-first r k (t - suc k) x)
 
-pub digits-tail-of : (r : ℕ → ℕ) (k t x j : ℕ) → k < t → k + 1 ≤ j → digits r k (t - k) x j ≡ digits r (k + 1) (t - (k + 1)) (x % keys r (k + 1) (t - (k + 1))) j
+pub digits-tail-of : (r : ℕ → ℕ) (k t x j : ℕ) → k < t → k + 1 ≤ j →
+    digits r k (t - k) x j ≡ digits r (k + 1) (t - (k + 1)) (x % keys r (k + 1) (t - (k + 1))) j
 digits-tail-of r k t x j h l = rw (add-one k) (ap (λ n. digits r k n x j) (more k t h) ∙ digits-rest r k (t - suc k) x j (omega arith))
 
 pub digits-before : (r : ℕ → ℕ) (k n x j : ℕ) → j < k → digits r k n x j ≡ 0

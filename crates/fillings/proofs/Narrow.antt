@@ -73,7 +73,8 @@ module _ (left t l low wide : ℕ) where
 
       go : (a : Bool) → eqb l 0 ≡ a → (b : Bool) → eqb t 0 ≡ b
           → t * cond b (low + (wide - cond a (cond b wide (min wide m)) (cond b (min wide n) wide))) low
-          + l * (u - (cond b (low + (wide - cond a (cond b wide (min wide m)) (cond b (min wide n) wide))) low + cond a (cond b wide (min wide m)) (cond b (min wide n) wide))) ≡ t * low + l * (u - (low + wide))
+          + l * (u - (cond b (low + (wide - cond a (cond b wide (min wide m)) (cond b (min wide n) wide))) low + cond a (cond b wide (min wide m))
+          (cond b (min wide n) wide))) ≡ t * low + l * (u - (low + wide))
       go true e true f = ap₂ (λ (x y : ℕ). x + l * y) (none (low + (wide - wide)) low (eqb-true t 0 f)) (whole wide 0 (omega arith))
       go true e false f = free (u - (low + min wide m)) (u - (low + wide)) (eqb-true l 0 e)
       go false e true f = ap₂ (λ (x y : ℕ). x + l * y) (none (low + (wide - min wide n)) low (eqb-true t 0 f)) (whole (min wide n) 0 (below n))
@@ -88,7 +89,8 @@ module _ (left t l low wide : ℕ) where
 
       go : (a : Bool) → eqb l 0 ≡ a → (b : Bool) → eqb t 0 ≡ b
           → (cond b (low + (wide - cond a (cond b wide (min wide ((left - 1) / t))) (cond b (min wide ((left - 1) / l)) wide))) low ≤ low + z)
-          × (low + z ≤ cond b (low + (wide - cond a (cond b wide (min wide ((left - 1) / t))) (cond b (min wide ((left - 1) / l)) wide))) low + cond a (cond b wide (min wide ((left - 1) / t))) (cond b (min wide ((left - 1) / l)) wide))
+          × (low + z ≤ cond b (low + (wide - cond a (cond b wide (min wide ((left - 1) / t))) (cond b (min wide ((left - 1) / l)) wide))) low + cond a
+          (cond b wide (min wide ((left - 1) / t))) (cond b (min wide ((left - 1) / l)) wide))
       go true e true f = (omega arith, omega arith)
       go true e false f = (omega arith, top ((left - 1) / t) (few t z (eqb-false t 0 f) (omega arith)))
         where
@@ -104,22 +106,27 @@ module _ (left t l low wide : ℕ) where
 
 module _ (p : Parts) (r r′ : Ranges) (left : ℕ) (long : length (p .weight) ≡ 17) (among : Among p r) (n : Narrows p left r r′) where
   pub near-among : Among p r′
-  near-among j l = rw (n .lows .each j l, n .wides .each j l) (omega (arith, among j l, at-most left (num (p .taken) j) (num (p .left) j) (num (r .low) j) (num (r .wide) j)))
+  near-among j l = rw (n .lows .each j l, n .wides .each j l)
+      (omega (arith, among j l, at-most left (num (p .taken) j) (num (p .left) j) (num (r .low) j) (num (r .wide) j)))
 
   pub near-wide-in : (j : ℕ) → j < 17 → num (r′ .wide) j ≤ num (r .wide) j
   near-wide-in j l = rw (n .wides .each j l) (near-within left (num (p .taken) j) (num (p .left) j) (num (r .wide) j))
 
   pub near-inside : (y : ℕ → ℕ) → Inside r′ y → Inside r y
-  near-inside y h j l = let a = rw (n .lows .each j l) at (h j l .0) in let b = rw (n .lows .each j l, n .wides .each j l) at (h j l .1) in
-      (omega (arith, at-least left (num (p .taken) j) (num (p .left) j) (num (r .low) j) (num (r .wide) j)), omega (arith, at-most left (num (p .taken) j) (num (p .left) j) (num (r .low) j) (num (r .wide) j)))
+  near-inside y h j l = let a = rw (n .lows .each j l) at (h j l .0) in let b = rw (n .lows .each j l, n .wides .each j l) at (h j l .1) in (
+    omega (arith, at-least left (num (p .taken) j) (num (p .left) j) (num (r .low) j) (num (r .wide) j)),
+    omega (arith, at-most left (num (p .taken) j) (num (p .left) j) (num (r .low) j) (num (r .wide) j)),
+  )
 
   pub near-offset : offsetOf p r′ ≡ offsetOf p r
   unfolding offsetOf
   near-offset = sum-cong (length (p .weight)) (offsetAt p r′) (offsetAt p r) (λ j l. let m : j < 17 = omega (arith, long) in
-      rw (n .lows .each j m, n .wides .each j m) (offset-same left (num (p .taken) j) (num (p .left) j) (num (r .low) j) (num (r .wide) j) (num (p .range) j) (among j m)))
+      rw (n .lows .each j m, n .wides .each j m) (offset-same left (num (p .taken) j) (num (p .left) j) (num (r .low) j) (num (r .wide) j)
+      (num (p .range) j) (among j m)))
 
   pub near-keeps : (y : ℕ → ℕ) → Inside r y → cost (itemsIn p) y < offsetOf p r + left → Inside r′ y
-  near-keeps y h k j l = rw (n .lows .each j l, n .wides .each j l) (rw (← s .up j l) at (keeps left (num (p .taken) j) (num (p .left) j) (num (r .low) j) (num (r .wide) j) (z j) (s .few j l) own))
+  near-keeps y h k j l = rw (n .lows .each j l, n .wides .each j l)
+      (rw (← s .up j l) at (keeps left (num (p .taken) j) (num (p .left) j) (num (r .low) j) (num (r .wide) j) (z j) (s .few j l) own))
     where
       z : ℕ → ℕ
       z = fromLow r y
@@ -128,4 +135,8 @@ module _ (p : Parts) (r r′ : Ranges) (left : ℕ) (long : length (p .weight) �
       s = shifted-of r y h
 
       own : num (p .taken) j * z j + num (p .left) j * (num (r .wide) j - z j) < left
-      own = omega (arith, shifted-cost p r long among y z s, sum-part (length (p .weight)) (λ i. num (p .taken) i * z i + num (p .left) i * (num (r .wide) i - z i)) j (omega (arith, long)))
+      own = omega (
+        arith,
+        shifted-cost p r long among y z s,
+        sum-part (length (p .weight)) (λ i. num (p .taken) i * z i + num (p .left) i * (num (r .wide) i - z i)) j (omega (arith, long)),
+      )

@@ -21,7 +21,8 @@ use Rattle.fillings.specs.declared.Run.{Run}
 use Rattle.scales.specs.declared.Cost.{Cost}
 use Rattle.fillings.specs.Keys.{keys, key, digits, radix}
 use Rattle.fillings.specs.Ranges.{num, flag, itemsIn, Inside, Among, offsetOf, boxed, Made, Narrows}
-use Rattle.fillings.specs.Runs.{Grouped, inGroup, keyedTaken, keyedLeft, Fixes, lessBy, Earlier, Fills, Filling, runCells, Begins, LeastKeyed, Decodes, Runs}
+use Rattle.fillings.specs.Runs.{Grouped, inGroup, keyedTaken, keyedLeft, Fixes, lessBy, Earlier, Fills, Filling, runCells, Begins, LeastKeyed, Decodes}
+use Rattle.fillings.specs.Runs.{Runs}
 use Rattle.fillings.proofs.Keys.{Digits, Same, Sooner, keys-some, key-below, key-≤, key-digits, digits-in, digits-key, key-sum}
 use Rattle.fillings.proofs.Costs as costs
 use Rattle.fillings.proofs.Boxes.{Shifted, fromLow, shifted-of, shifted-to, shifted-inside, shifted-within, shifted-load, shifted-cost}
@@ -45,7 +46,8 @@ runs-none p r C cap f e w few h = record {
 
 -- ---- within the narrowed ranges
 
-pub runs-wider : (p : Parts) (r r′ : Ranges) (C cap f e left : ℕ) (n : Run) → length (p .weight) ≡ 17 → Among p r → f ≤ e → e ≤ 17 → left ≡ cap - offsetOf p r → 1 ≤ left → Narrows p left r r′
+pub runs-wider : (p : Parts) (r r′ : Ranges) (C cap f e left : ℕ) (n : Run) → length (p .weight) ≡ 17 → Among p r → f ≤ e → e ≤ 17 → left ≡ cap - offsetOf p r →
+    1 ≤ left → Narrows p left r r′
     → Runs p r′ C cap f e n → Runs p r C cap f e n
 runs-wider p r r′ C cap f e left n long among fe e-in left-is left≥1 near h = record {
   few = h .few;
@@ -72,7 +74,8 @@ runs-wider p r r′ C cap f e left n long among fe e-in left-is left≥1 near h 
 -- ---- by keys
 
 module _ (p : Parts) (r : Ranges) (long : length (p .weight) ≡ 17) (among : Among p r) (C cap f e left room : ℕ) (fe : f ≤ e) (e-in : e ≤ 17)
-    (left-is : left ≡ cap - offsetOf p r) (left≥1 : 1 ≤ left) (room-is : load (itemsIn p) (num (r .low)) + room ≡ C) (g : Group) (grouped : Grouped (r .wide) f e left g)
+    (left-is : left ≡ cap - offsetOf p r) (left≥1 : 1 ≤ left) (room-is : load (itemsIn p) (num (r .low)) + room ≡ C) (g : Group)
+    (grouped : Grouped (r .wide) f e left g)
     (rad ts ls : List ℕ) (rads : Made 17 (radix (num (r .wide)) f (g .to)) rad) (takens : Made 17 (keyedTaken p (left * g .base) left (g .base) rad) ts)
     (lefts : Made 17 (keyedLeft p (left * g .base) left (g .base) rad) ls) where
   abbrev N : ℕ
@@ -137,7 +140,8 @@ module _ (p : Parts) (r : Ranges) (long : length (p .weight) ≡ 17) (among : Am
     -- the sum of keys
     sum-is : costs.keySum (num (p .taken)) (num (p .left)) u (num rad) b left base z N ≡ keyOf z
     unfolding keyOf digit
-    sum-is = sum-cong N _ (λ j. radix u f (f + m) j * digit z j) (λ j l. ap (λ (n : ℕ). n * digit z j) (rads .each j (in-17 j l) ∙ ap (λ t. radix u f t j) (sym to-is)))
+    sum-is = sum-cong N _ (λ j. radix u f (f + m) j * digit z j)
+        (λ j l. ap (λ (n : ℕ). n * digit z j) (rads .each j (in-17 j l) ∙ ap (λ t. radix u f t j) (sym to-is)))
         ∙ key-sum u (digit z) f m N (omega (arith, to-is, to-in, long))
 
     -- the costs of the scales are those with keys
@@ -236,7 +240,8 @@ module _ (p : Parts) (r : Ranges) (long : length (p .weight) ≡ 17) (among : Am
       unfolding amount
       amount-in j i k = go (b j) (D-in j i (omega (arith, to-is)))
         where
-          go : (c : Bool) → D j ≤ u j → (num (r .low) j ≤ num (r .low) j + cond c (u j - D j) (D j)) × (num (r .low) j + cond c (u j - D j) (D j) ≤ num (r .low) j + u j)
+          go : (c : Bool) → D j ≤ u j → (num (r .low) j ≤ num (r .low) j + cond c (u j - D j) (D j)) ×
+              (num (r .low) j + cond c (u j - D j) (D j) ≤ num (r .low) j + u j)
           go true h = (omega arith, omega arith)
           go false h = (omega arith, omega arith)
 
@@ -279,13 +284,15 @@ module _ (p : Parts) (r : Ranges) (long : length (p .weight) ≡ 17) (among : Am
           go (free v w) = (omega (arith, s .up j l), omega (arith, s .up j l, s .few j l))
 
       -- digits that are sooner: earlier
-      sooner-earlier : (y : ℕ → ℕ) (x : ℕ → ℕ) → Shifted r y x → Sooner D (digit x) f m → (a : ℕ → ℕ) → Inside r′ a → ((j : ℕ) → j < f → a j ≡ y j) → Earlier p to a y
+      sooner-earlier : (y : ℕ → ℕ) (x : ℕ → ℕ) → Shifted r y x → Sooner D (digit x) f m → (a : ℕ → ℕ) → Inside r′ a →
+          ((j : ℕ) → j < f → a j ≡ y j) → Earlier p to a y
       unfolding digit
       sooner-earlier y x s o a i before = record {
         place = q;
         below = q-in;
         same = λ j k. agree j k (decLt j f);
-        less = subst (λ v. lessBy (b q) v (y q)) (sym (decoded a i q (o .from) q-in)) (subst (λ v. lessBy (b q) (amount q) v) (sym (s .up q q-17)) (from-higher q (x q) (s .few q q-17) (o .less)));
+        less = subst (λ v. lessBy (b q) v (y q)) (sym (decoded a i q (o .from) q-in))
+            (subst (λ v. lessBy (b q) (amount q) v) (sym (s .up q q-17)) (from-higher q (x q) (s .few q q-17) (o .less)));
       }
         where
           q : ℕ
@@ -310,7 +317,8 @@ module _ (p : Parts) (r : Ranges) (long : length (p .weight) ≡ 17) (among : Am
 
       split₀ : (c / base ≡ cost (boxed p r) z₀) × (c % base ≡ keyOf z₀)
       unfolding z₀
-      split₀ = costs.split-cost c (cost (boxed p r) z₀) base (keyOf z₀) (key-small z₀ (way .within)) (sym (way .costs) ∙ cost-exact z₀ (way .within) (omega (arith, way .costs)))
+      split₀ = costs.split-cost c (cost (boxed p r) z₀) base (keyOf z₀) (key-small z₀ (way .within))
+          (sym (way .costs) ∙ cost-exact z₀ (way .within) (omega (arith, way .costs)))
 
       y₀ : ℕ → ℕ
       y₀ j = num (r .low) j + z₀ j
@@ -332,7 +340,8 @@ module _ (p : Parts) (r : Ranges) (long : length (p .weight) ≡ 17) (among : Am
         costs = shifted-cost p r long among y₀ z₀ s₀ ∙ omega (arith, split₀ .0);
       }
 
-      first : (y : ℕ → ℕ) → Inside r y → Fills p C y → cost I y ≡ offsetOf p r + c / base → Inside r′ y ⊎ ((a : ℕ → ℕ) → Inside r′ a → ((j : ℕ) → j < f → a j ≡ y j) → Earlier p to a y)
+      first : (y : ℕ → ℕ) → Inside r y → Fills p C y → cost I y ≡ offsetOf p r + c / base →
+          Inside r′ y ⊎ ((a : ℕ → ℕ) → Inside r′ a → ((j : ℕ) → j < f → a j ≡ y j) → Earlier p to a y)
       unfolding D keyOf
       first y i fl k = go (key-≤ u D (digit x) f m D-in (digits-low x (w y i fl)) (omega (arith, digits-key u f m (c % base) rest-in, key-least y i fl k)))
         where
@@ -380,15 +389,19 @@ module _ (p : Parts) (r : Ranges) (long : length (p .weight) ≡ 17) (among : Am
 
 -- ---- as the code has it
 
-module _ {p : Parts} {r : Ranges} {C cap f e left room : ℕ} {g : Group} {c : Cost} (b : Begins p r C cap f e left room) (h : Grouped (r .wide) f e left g) (k : LeastKeyed p r f left room g c) where
+module _ {p : Parts} {r : Ranges} {C cap f e left room : ℕ} {g : Group} {c : Cost} (b : Begins p r C cap f e left room) (h : Grouped (r .wide) f e left g)
+    (k : LeastKeyed p r f left room g c) where
   pub keyed-none : c .least ≡ left * g .base → Runs p r C cap f e (record { cost = cap; ranges = r; to = f; written = c .written })
-  keyed-none is = runs-none p r C cap f e (c .written) (k .few) (none-made p r (b .fair .long) (b .among) C cap f e left room (b .start) (omega (arith, b .end)) (b .left-is) (b .left≥1) (b .room-is) g h
+  keyed-none is = runs-none p r C cap f e (c .written) (k .few)
+      (none-made p r (b .fair .long) (b .among) C cap f e left room (b .start) (omega (arith, b .end)) (b .left-is) (b .left≥1) (b .room-is) g h
       (k .rad) (k .ts) (k .ls) (k .rads) (k .takens) (k .lefts) (c .least) (k .least) is)
 
   pub keyed-made : {r′ : Ranges} → (c .least ≡ left * g .base → ⊥) → Decodes p r f g (c .least % g .base) r′
       → Runs p r C cap f e (record { cost = (cap - left) + c .least / g .base; ranges = r′; to = g .to; written = c .written })
-  keyed-made {r′} ne d = runs-made p r (b .fair .long) (b .among) C cap f e left room (b .start) (omega (arith, b .end)) (b .left-is) (b .left≥1) (b .room-is) g h
-      (k .rad) (k .ts) (k .ls) (k .rads) (k .takens) (k .lefts) (c .least) (k .least) (omega (arith, k .least .capped)) (d .ds) (d .read) r′ (d .fixes) _ (c .written) (k .few) refl
+  keyed-made {r′} ne d = runs-made p r (b .fair .long) (b .among) C cap f e left room (b .start) (omega (arith, b .end)) (b .left-is)
+      (b .left≥1) (b .room-is) g h
+      (k .rad) (k .ts) (k .ls) (k .rads) (k .takens) (k .lefts) (c .least) (k .least) (omega (arith, k .least .capped)) (d .ds) (d .read) r′ (d .fixes) _
+      (c .written) (k .few) refl
 
   pub quotient-small : c .least / g .base ≤ left * g .base
   quotient-small = omega (arith, div-le-self (c .least) (g .base), k .least .capped)

@@ -5,7 +5,7 @@
 --   Among p r              the ranges r are within those of the parts
 --   offsetAt p r k         what part k costs at least, within r;  offsetOf p r: all parts together
 --   boxed p r              the parts with the ranges of r alone, amounts counted from low on
---   nearWide, nearLow      the amounts of a part that alone cost less than left
+--   nearWide, nearLow      the amounts of a part that alone cost less than left;  nearWideOf, nearLowOf: of part k
 --   Made n f xs            a list of 17 numbers, of which the first n are those of f
 --   Narrows p left r r′    the ranges r′ are those of r near the cheaper ends
 --   Fair p                 17 parts, light enough for the cells, with ranges that can be counted

@@ -4,7 +4,8 @@
 --   Gathers wide f left g      what is used of a group
 --   inGroup f t k              part k is one of f to t - 1
 --   keyedBy cap left base c a  the cost c counted in units of base, with a added, at most cap
---   takenKey, leftKey          the costs of a unit of a part, taken or left, with its share of the key
+--   takenKey, leftKey          the share of a unit in the key, if it is taken and if it is left
+--   keyedTaken, keyedLeft      the costs of a unit of part k, taken or left, with that share
 --   fixedLow, fixedWide        the ranges with the amounts of a group fixed at digits: from below, or from above where the amount falls
 --   Fixable r ds               the digits ds are within the ranges r
 --   Fixes p f t d r r′         the ranges r′ are those

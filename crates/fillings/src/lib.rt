@@ -8,8 +8,11 @@ ghost use Prim.Native.Nat.{ℕ, suc, _+_, _-_, _*_, _/_, _%_, _^_, _≤_, _<_, m
 ghost use Rattle.scales.specs.Filling.{load, sum, Bounds, Least};
 ghost use lib.ListN.{length};
 ghost use Rattle.fillings.specs.Keys.{keys, digits, radix};
-ghost use Rattle.fillings.specs.Ranges.{num, flag, itemsIn, Among, offsetAt, offsetOf, boxed, nearWide, nearLow, nearWideOf, nearLowOf, Made, Narrows, Fair};
-ghost use Rattle.fillings.specs.Runs.{Grouped, Gathers, inGroup, keyedBy, takenKey, leftKey, keyedTaken, keyedLeft, fixedLow, fixedWide, Fixable, Fixes, runCells, Begins, LeastKeyed, Decodes, Runs, Whole, Keyable, FirstOf};
+ghost use Rattle.fillings.specs.Ranges.{num, flag, itemsIn, Among, offsetAt, offsetOf, boxed, nearWide, nearLow};
+ghost use Rattle.fillings.specs.Ranges.{nearWideOf, nearLowOf, Made, Narrows, Fair};
+ghost use Rattle.fillings.specs.Runs.{Grouped, Gathers, inGroup, keyedBy, takenKey, leftKey, keyedTaken, keyedLeft};
+ghost use Rattle.fillings.specs.Runs.{fixedLow, fixedWide, Fixable, Fixes, runCells, Begins, LeastKeyed, Decodes, Runs};
+ghost use Rattle.fillings.specs.Runs.{Whole, Keyable, FirstOf};
 
 // The parts of a load, and for each whether its amount falls where more of it is taken.
 pub struct Parts {

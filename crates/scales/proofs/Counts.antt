@@ -62,12 +62,19 @@ cells-most cap (suc s) I n K W h k =
       cells-most cap s (next cap I) (halfOf (liveAt I (I .count) n) K) (K / 2) W h (half-most (liveAt I (I .count) n) W K live),
     )
 
-pub written-most : (cap : ℕ) (I : Items) (C n k W : ℕ) → Takes cap I C n → sum (I .count) (I .weight) ≤ W → ((j : ℕ) → j < I .count → I .range j < 2 ^ k) → n ≤ k * mostOf (I .count) W
+pub written-most : (cap : ℕ) (I : Items) (C n k W : ℕ) → Takes cap I C n → sum (I .count) (I .weight) ≤ W → ((j : ℕ) → j < I .count → I .range j < 2 ^ k) →
+    n ≤ k * mostOf (I .count) W
 written-most cap I C n k W t h r =
-    omega (arith, t .written, cells-most cap (t .scales) I 1 C W h (omega arith), mul-le-mul-right (mostOf (I .count) W) (t .soonest k (λ j l. rest-small k (I .range j) (r j l))))
+    omega (
+      arith,
+      t .written,
+      cells-most cap (t .scales) I 1 C W h (omega arith),
+      mul-le-mul-right (mostOf (I .count) W) (t .soonest k (λ j l. rest-small k (I .range j) (r j l))),
+    )
 
 -- the work of a call on 16 items that weigh up to 1,000 and a slack: for each binary digit of the greatest range at most 2,208,173 cells
-pub call-most : (cap : ℕ) (I : Items) (C n k : ℕ) → Takes cap I C n → I .count ≤ 17 → sum (I .count) (I .weight) ≤ 16001 → ((j : ℕ) → j < I .count → I .range j < 2 ^ k)
+pub call-most : (cap : ℕ) (I : Items) (C n k : ℕ) → Takes cap I C n → I .count ≤ 17 → sum (I .count) (I .weight) ≤ 16001 →
+    ((j : ℕ) → j < I .count → I .range j < 2 ^ k)
     → n ≤ k * 2208173
 call-most cap I C n k t few w r = omega (arith, written-most cap I C n k 16001 t w r, mul-le-mul-left k (one (I .count) few))
   where

@@ -33,13 +33,15 @@ unfolding restAt costAt
 scaled-zero cap I = refl
 
 -- one scale is done first
-least-step : (cap i k n : ℕ) (I : Items) (T : Table) (K : ℕ) → n ≡ suc k → least cap n (scaled cap i I) T K ≡ least cap k (scaled cap (suc i) I) (halve (K % 2) (fill cap (scaled cap i I) (I .count) T)) (K / 2)
+least-step : (cap i k n : ℕ) (I : Items) (T : Table) (K : ℕ) → n ≡ suc k →
+    least cap n (scaled cap i I) T K ≡ least cap k (scaled cap (suc i) I) (halve (K % 2) (fill cap (scaled cap i I) (I .count) T)) (K / 2)
 unfolding least restAt costAt
 least-step cap i k n I T K e = rw e
 
 -- and counted
 cells-step : (cap i k n live : ℕ) (I : Items) (m K : ℕ) → n ≡ suc k
-    → cellsOf cap n (scaled cap i I) m K ≡ (fillCells (scaled cap i I) (I .count) m + halfOf (liveAt (scaled cap i I) (I .count) m) K) + cellsOf cap k (scaled cap (suc i) I) (halfOf (liveAt (scaled cap i I) (I .count) m) K) (K / 2)
+    → cellsOf cap n (scaled cap i I) m K ≡ (fillCells (scaled cap i I) (I .count) m + halfOf (liveAt (scaled cap i I) (I .count) m) K) + cellsOf cap k
+    (scaled cap (suc i) I) (halfOf (liveAt (scaled cap i I) (I .count) m) K) (K / 2)
 unfolding cellsOf restAt costAt
 cells-step cap i k n live I m K e = rw e
 
@@ -72,17 +74,20 @@ module _ {cap scales C : ℕ} {I : Items} {room W : ℕ} where
         inside = omega arith;
         few = omega (arith, s .few);
         same = t .same ∙ s .same;
-        below = rw (t .table) (halve-below cap (rest % 2) (fill cap (scaled cap i I) (I .count) (at cap n cells)) (fill-below cap (scaled cap i I) (I .count) (at cap n cells) (s .below)));
+        below = rw (t .table) (halve-below cap (rest % 2) (fill cap (scaled cap i I) (I .count) (at cap n cells))
+            (fill-below cap (scaled cap i I) (I .count) (at cap n cells) (s .below)));
         answer = rw (t .table, add-one i) (sym (least-step cap i k (scales - i) I (at cap n cells) rest (omega arith)) ∙ s .answer);
         counted = rw (add-one i) (omega (arith, rw (← a, ← b, ← e) at step, s .counted));
       }
 
-  pub scaling-done : {n written rest i : ℕ} {cells : List ℕ} → scales ≤ i → Scaling cap scales C I room W n written rest i cells → at cap n cells rest ≡ least cap scales I (start cap) C
+  pub scaling-done : {n written rest i : ℕ} {cells : List ℕ} → scales ≤ i → Scaling cap scales C I room W n written rest i cells →
+      at cap n cells rest ≡ least cap scales I (start cap) C
   unfolding least
   scaling-done {n} {written} {rest} {i} {cells} l s = let e : scales - i ≡ 0 = omega arith in rw e at (s .answer)
 
 -- what is written fits
-pub written-small : {cap scales C : ℕ} {I : Items} {room W n written rest i : ℕ} {cells : List ℕ} → scales ≤ 64 → I .count ≤ 17 → 4 * W < 65536 → sum (I .count) (I .weight) ≤ W
+pub written-small : {cap scales C : ℕ} {I : Items} {room W n written rest i : ℕ} {cells : List ℕ} → scales ≤ 64 → I .count ≤ 17 → 4 * W < 65536 →
+    sum (I .count) (I .weight) ≤ W
     → Scaling cap scales C I room W n written rest i cells → written ≤ 10000000000
 written-small {cap} {scales} {C} {I} {room} {W} {n} {written} {rest} {i} {cells} few count light w s =
     let most = cells-most cap scales I 1 C W w (omega arith) in
@@ -92,11 +97,14 @@ written-small {cap} {scales} {C} {I} {room} {W} {n} {written} {rest} {i} {cells}
     one : (m W : ℕ) → m ≤ 17 → 4 * W + 1 ≤ 65536 → mostOf m W ≤ 2293760
     one m W h k = omega (arith, mul-le-mul h k)
 
-pub written-done : {cap scales C : ℕ} {I : Items} {room W n written rest i : ℕ} {cells : List ℕ} → scales ≤ i → Scaling cap scales C I room W n written rest i cells → written ≡ cellsOf cap scales I 1 C
+pub written-done : {cap scales C : ℕ} {I : Items} {room W n written rest i : ℕ} {cells : List ℕ} → scales ≤ i →
+    Scaling cap scales C I room W n written rest i cells → written ≡ cellsOf cap scales I 1 C
 unfolding cellsOf
-written-done {cap} {scales} {C} {I} {room} {W} {n} {written} {rest} {i} {cells} l s = let e : scales - i ≡ 0 = omega arith in omega (arith, rw e at (s .counted))
+written-done {cap} {scales} {C} {I} {room} {W} {n} {written} {rest} {i} {cells} l s = let e : scales - i ≡ 0 = omega arith in
+    omega (arith, rw e at (s .counted))
 
 pub least-below : (cap n : ℕ) (I : Items) (T : Table) (K : ℕ) → Below cap T → least cap n I T K ≤ cap
 unfolding least
 least-below cap zero I T K h = h K
-least-below cap (suc n) I T K h = least-below cap n (next cap I) (halve (K % 2) (fill cap I (I .count) T)) (K / 2) (halve-below cap (K % 2) (fill cap I (I .count) T) (fill-below cap I (I .count) T h))
+least-below cap (suc n) I T K h = least-below cap n (next cap I) (halve (K % 2) (fill cap I (I .count) T)) (K / 2)
+    (halve-below cap (K % 2) (fill cap I (I .count) T) (fill-below cap I (I .count) T h))

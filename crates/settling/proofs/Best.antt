@@ -1,5 +1,6 @@
 -- Why a place is best: a feasible point that nothing beats has its whole amounts, and its filling is worth no less.
 -- best-of: of such a point. kept-best: of an incumbent that nothing beats. found-best: of the first point of the frame that loses least.
+-- most-cells (end theorem): the most cells of `Settles` are those of 33 runs.
 use mathlib.Core.Path.{_≡_, refl, sym, ap, _∙_, subst, subst₂}
 use mathlib.Core.Bool.{Bool, true, false}
 use mathlib.Core.List.{List}
@@ -30,7 +31,8 @@ use Rattle.ceiling.specs.declared.Seen.{Seen}
 use Rattle.ceiling.specs.Bound.{BestFrame, Bounded}
 use Rattle.ceiling.proofs.Framing.{scale-in, frame-feasible, loose-cut}
 use Rattle.ceiling.proofs.Limits.{levels-marked, levels-unmarked}
-use Rattle.settling.specs.Settling.{Boxes, Levels, Fixes, Between, Tried, BestAt, Best}
+use Rattle.fillings.specs.Runs.{runCells}
+use Rattle.settling.specs.Settling.{Boxes, Levels, Fixes, Between, Tried, BestAt, Best, mostCells}
 
 -- ---- levels
 
@@ -274,3 +276,8 @@ module _ (c : Columns) (e : Ends) (level : List ℕ) (n : ℕ) (bx : Boxes c e l
 
             right : (x : ℤ) (D : ℕ) → (pos (r .q) *ℤ x) *ℤ pos D ≡ (x *ℤ pos D) *ℤ pos (r .q)
             right = split _ (λ a b D. simp zed (omega arith))
+
+-- ---- how much is written
+
+pub most-cells : mostCells ≡ 33 * runCells
+most-cells = refl

@@ -6,12 +6,13 @@
 --   Tried c e level n P v     P is feasible, and v what its filling is worth
 --   BestAt c e marks f        the filling of the ends f is one, and worth its bound
 --   Best c e level n P        the filling of P is an optimal point of the box
---   Settles c e level n r     the place of r is best, or nothing in the box is feasible
+--   mostCells                 the most cells that are written for any box: those of 33 runs
+--   Settles c e level n r     the place of r is best, or nothing in the box is feasible; and few cells were written for it
 use mathlib.Core.Path.{_≡_}
 use mathlib.Core.Bool.{true, false}
 use mathlib.Core.List.{List}
 use mathlib.Core.Logic.{_≢_}
-use Prim.Native.Nat.{ℕ, _*_, _≤_, _<_}
+use Prim.Native.Nat.{ℕ, _≤_, _<_}
 use lib.IntN.{ℤ, pos}
 use lib.Signed.{_≤ℤ_}
 use Rattle.arith.specs.Mixed.{Proper}
@@ -20,7 +21,6 @@ use Rattle.arith.proofs.Mixes.{over}
 use Rattle.knapsack.specs.declared.Mark.{Mark}
 use Rattle.knapsack.specs.declared.Mark.the-variants.{Integer}
 use Rattle.knapsack.proofs.Common.{valueᴰ, Feasibleᴰ, Optimalᴰ}
-use Rattle.fillings.specs.Runs.{runCells}
 use Rattle.greedy.specs.declared.Columns.{Columns}
 use Rattle.greedy.specs.declared.Ends.{Ends}
 use Rattle.greedy.specs.Fill.{at, place, fill, bound, solution}
@@ -67,7 +67,11 @@ pub record Best (c : Columns) (e : Ends) (level : List ℕ) (n : ℕ) (P : ℕ �
   pub between : Between e level n P
   pub best : (f : Ends) → Fixes e level n P f → (marks : ℕ → Mark) → Levels c level n marks → BestAt c e marks f
 
+-- one run for each of 17 frames, and one for each of 16 groups of keys (proofs/Best, most-cells)
+abbrev pub mostCells : ℕ
+mostCells = 3133397487
+
 pub record Settles (c : Columns) (e : Ends) (level : List ℕ) (n : ℕ) (r : Settled) : Type 0 where
-  pub few : r .written ≤ 33 * runCells
+  pub few : r .written ≤ mostCells
   pub found : r .found ≡ true → Best c e level n (at (r .place))
   pub none : r .found ≡ false → (marks : ℕ → Mark) (D : ℕ) (N : ℕ → ℤ) → 1 ≤ D → ¬ Feasibleᴰ (boxOf c e marks) D N

@@ -17,7 +17,8 @@ top-of-requires c κs = search needs
 
 known-loss-requires : tie.Need-known-loss-requires
 known-loss-requires c κs =
-    let s = c .before .before .before .before in
+    let h = c .before .before .before in
+    let s = h .before in
     let t = c .before .top-of in
     rw (within-back tt (t .ensures .1)) (t .ensures .1, (c .before .before .price-of .ensures .q-in, λ i. let v = s .pre .0 .1 .1 .1 .1 i in (v .low, v .few)))
 
@@ -42,16 +43,24 @@ same-length c = search needs
 
 returns : tie.Need-returns
 returns c =
-    let s = c .before .before .before .before .before .before .before .before .before .before in
+    let h = c .before .before .before in
+    let kl = h .before .before in
+    let st = kl .before in
+    let to = st .before in
+    let po = to .before in
+    let s = po .before .before in
     let a = s .args in
     let z = s .pre .0 in
-    let pr = c .before .before .before .before .before .before .before .before .price-of in
-    let t = c .before .before .before .before .before .before .before .top-of in
-    let k = c .before .before .before .before .before .known-loss in
-    let r = c .before .before .before .least-loss in
-    let low = shallow (a .cols) (a .ends) (z .1 .0) (z .1 .1 .0) (z .1 .1 .1 .0) (pr .result .p) (pr .result .q) (pr .ensures .p-is) (pr .ensures .q-is) (pr .ensures .p-in) (pr .ensures .q-in) (pr .ensures .q≥1) in
-    rw (within-back tt (t .ensures .1)) (bounded-made (pr .result .p) (pr .result .q) (a .cols) (a .ends) (a .whole) (a .known) (a .value) (k .result) (t .result) (r .result)
-    (pr .ensures .p-in) (pr .ensures .q-in) (pr .ensures .q≥1) (t .ensures .0) (t .ensures .1) (rw (back (a .value .whole) (c .before .before .before .before .before .before .struct-told .given .0 .1), within-back tt (t .ensures .1)) at (k .ensures)) (r .ensures) low)
+    let pr = po .price-of in
+    let t = to .top-of in
+    let k = kl .known-loss in
+    let r = h .least-loss in
+    let low = shallow (a .cols) (a .ends) (z .1 .0) (z .1 .1 .0) (z .1 .1 .1 .0) (pr .result .p) (pr .result .q) (pr .ensures .p-is) (pr .ensures .q-is)
+    (pr .ensures .p-in) (pr .ensures .q-in) (pr .ensures .q≥1) in
+    rw (within-back tt (t .ensures .1)) (bounded-made (pr .result .p) (pr .result .q) (a .cols) (a .ends) (a .whole) (a .known) (a .value)
+    (k .result) (t .result) (r .result)
+    (pr .ensures .p-in) (pr .ensures .q-in) (pr .ensures .q≥1) (t .ensures .0) (t .ensures .1)
+    (rw (back (a .value .whole) (st .struct-told .given .0 .1), within-back tt (t .ensures .1)) at (k .ensures)) (r .ensures) low)
 
 pub ceiling-spec : {M : Type 1} → statement M
 ceiling-spec =

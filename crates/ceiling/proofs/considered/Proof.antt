@@ -13,16 +13,22 @@ is-usable-requires : tie.Need-is-usable-requires
 is-usable-requires c κs = let s = c .before in let r = s .pre .0 .0 in (r .sized, (r .ranked, (r .in-order, s .pre .0 .1 .1 .1)))
 
 lowered-requires : tie.Need-lowered-requires
-lowered-requires c κs = let s = c .before .before .before .before in rw (within-back tt (s .pre .0 .1 .1 .0)) ((s .pre .0 .0, (s .pre .0 .1 .0, s .pre .0 .1 .1 .0)), s .pre .1)
+lowered-requires c κs =
+    let h = c .before .before .before in
+    let s = h .before in
+    rw (within-back tt (s .pre .0 .1 .1 .0)) ((s .pre .0 .0, (s .pre .0 .1 .0, s .pre .0 .1 .1 .0)), s .pre .1)
 
 same-length : tie.Need-same-length
 same-length c = search needs
 
 returns : tie.Need-returns
 returns c =
-    let s = c .before .before .before .before .before .before .before in
+    let h = c .before .before .before in
+    let i = h .before in
+    let iu = i .before in
+    let s = iu .before .before in
     let r = c .before .before .lowered .ensures in
-    let u = c .before .before .before .before .before .is-usable .ensures .1 (c .before .before .before .before .if1 .taken) in
+    let u = iu .is-usable .ensures .1 (i .if1 .taken) in
     record { counted = r .counted; lower = r .lower; bound = λ v. r .bound; exact = with-use u (r .exact); any = inl (u, r .any); few = r .few }
   where
     with-use : {A B C : Type 0} → B → A ⊎ C → A ⊎ (B × C)
@@ -33,7 +39,14 @@ returns-2 : tie.Need-returns-2
 returns-2 c =
     let s = c .before .before .before in
     let no = c .before .is-usable .ensures .0 (c .if1 .left) in
-    record { counted = s .pre .1 .0; lower = omega arith; bound = λ u. absurd (no u); exact = inl (refl, (refl, refl)); any = inr (no, refl); few = omega arith }
+    record {
+      counted = s .pre .1 .0;
+      lower = omega arith;
+      bound = λ u. absurd (no u);
+      exact = inl (refl, (refl, refl));
+      any = inr (no, refl);
+      few = omega arith;
+    }
 
 pub considered-spec : {M : Type 1} → statement M
 considered-spec =

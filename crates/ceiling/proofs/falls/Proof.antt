@@ -28,7 +28,11 @@ loop-less : tie.Need-loop-less Inv-loop μ-loop
 loop-less c = omega arith
 
 loop-again : tie.Need-loop-again Inv-loop μ-loop
-loop-again c = (omega arith, flags-step _ (c .before .before .loop .k) (c .falls-at .result) (omega (arith, c .before .before .before .pre .few)) (c .falls-at .ensures) (c .before .before .loop .inv .1))
+loop-again c = (
+  omega arith,
+  flags-step _ (c .before .before .loop .k) (c .falls-at .result) (omega (arith, c .before .before .before .pre .few))
+      (c .falls-at .ensures) (c .before .before .loop .inv .1),
+)
 
 returns : tie.Need-returns Inv-loop μ-loop
 returns c = flags-done (omega arith) (c .before .loop .inv .1)

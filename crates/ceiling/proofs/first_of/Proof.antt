@@ -33,13 +33,15 @@ add-first-filling c = search needs
 
 first-filling-requires : tie.Need-first-filling-requires
 first-filling-requires c κs =
-    let s = c .before .before .before .before .before in
+    let h = c .before .before .before in
+    let s = h .before .before in
     let a = s .args in
     let z = s .pre .0 in
-    let m = c .before .before .before .room-of in
+    let m = h .room-of in
     let fits = c .before .before .if1 .taken in
     let ps = c .before .pieces-of in
-    let bound = floor-bounds (a .p) (a .q) (a .cols) (a .ends) (a .scale) (a .cut) (z .0 .columns .few) (z .1 .0 .scale≥1) (z .1 .1 .0) (z .1 .1 .1) (m .result .left) (m .ensures .left-is fits) (ps .result) (ps .ensures) (a .r) (s .pre .1 .0 .1 .1) in (
+    let bound = floor-bounds (a .p) (a .q) (a .cols) (a .ends) (a .scale) (a .cut) (z .0 .columns .few) (z .1 .0 .scale≥1) (z .1 .1 .0) (z .1 .1 .1)
+    (m .result .left) (m .ensures .left-is fits) (ps .result) (ps .ensures) (a .r) (s .pre .1 .0 .1 .1) in (
       (
         pieces-fair (ps .ensures) (z .0) (z .1 .0 .scale-in) (m .ensures .small),
         (
@@ -58,19 +60,31 @@ same-length c = search needs
 
 returns : tie.Need-returns
 returns c =
-    let s = c .before .before .before .before .before .before .before .before in
+    let g = c .before .before .before in
+    let po = g .before in
+    let e = po .before in
+    let ro = e .before in
+    let s = ro .before .before in
     let a = s .args in
     let z = s .pre .0 in
-    let m = c .before .before .before .before .before .before .room-of in
-    let fits = c .before .before .before .before .before .if1 .taken in
-    let ps = c .before .before .before .before .pieces-of in
+    let m = ro .room-of in
+    let fits = e .if1 .taken in
+    let ps = po .pieces-of in
     let r = c .before .before .first-filling in
     let same : (a .r + 1) - 1 ≡ a .r = omega arith in
     record {
       few = r .ensures .few;
-      found = λ i. first-point (a .p) (a .q) (a .cols) (a .ends) (a .scale) (a .cut) (z .0 .columns .few) (z .1 .0 .scale≥1) (z .1 .1 .0) (z .1 .1 .1) (m .result .left) (m .ensures .left-is fits) (ps .result) (ps .ensures) (a .r) (r .result) (subst (λ n. FirstAt (ps .result) (m .result .left) n (r .result .amounts)) same (r .ensures .found i));
-      small = λ i k l. let h = r .ensures .found i in omega (arith, h .shown k l, h .within k (omega (arith, ps .ensures .weights .long)), pieces-narrow (ps .ensures) (z .0 .ends) (s .pre .1 .0 .0) k l);
-      none = λ i. first-none (a .p) (a .q) (a .cols) (a .ends) (a .scale) (a .cut) (z .0 .columns .few) (z .1 .0 .scale≥1) (z .1 .1 .0) (z .1 .1 .1) (m .result .left) (m .ensures .left-is fits) (ps .result) (ps .ensures) (a .r) (r .ensures .none i);
+      found = λ i. first-point (a .p) (a .q) (a .cols) (a .ends) (a .scale) (a .cut) (z .0 .columns .few) (z .1 .0 .scale≥1) (z .1 .1 .0) (z .1 .1 .1)
+          (m .result .left) (m .ensures .left-is fits) (ps .result) (ps .ensures) (a .r) (r .result)
+          (subst (λ n. FirstAt (ps .result) (m .result .left) n (r .result .amounts)) same (r .ensures .found i));
+      small = λ i k l. let h = r .ensures .found i in omega (
+        arith,
+        h .shown k l,
+        h .within k (omega (arith, ps .ensures .weights .long)),
+        pieces-narrow (ps .ensures) (z .0 .ends) (s .pre .1 .0 .0) k l,
+      );
+      none = λ i. first-none (a .p) (a .q) (a .cols) (a .ends) (a .scale) (a .cut) (z .0 .columns .few) (z .1 .0 .scale≥1) (z .1 .1 .0) (z .1 .1 .1)
+          (m .result .left) (m .ensures .left-is fits) (ps .result) (ps .ensures) (a .r) (r .ensures .none i);
     }
 
 nowhere-requires : tie.Need-nowhere-requires
@@ -78,14 +92,16 @@ nowhere-requires c κs = search needs
 
 returns-2 : tie.Need-returns-2
 returns-2 c =
-    let s = c .before .before .before .before in
+    let h = c .before .before .before in
+    let s = h .before in
     let a = s .args in
     let n = c .nowhere .ensures in
     record {
       few = omega (arith, n .1);
       found = λ i. absurd (impossible (sym (n .0) ∙ i));
       small = λ i. absurd (impossible (sym (n .0) ∙ i));
-      none = λ i M pt. above (a .r) _ (roomless (a .p) (a .q) (a .cols) (a .ends) (a .scale) (a .cut) (a .r + 1) (s .pre .0 .1 .0 .scale≥1) (c .before .before .room-of .ensures .none (c .before .if1 .left)) .floor M pt);
+      none = λ i M pt. above (a .r) _ (roomless (a .p) (a .q) (a .cols) (a .ends) (a .scale) (a .cut) (a .r + 1) (s .pre .0 .1 .0 .scale≥1)
+          (c .before .before .room-of .ensures .none (c .before .if1 .left)) .floor M pt);
     }
 
 pub first-of-spec : {M : Type 1} → statement M

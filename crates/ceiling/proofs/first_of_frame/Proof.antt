@@ -18,7 +18,8 @@ beyond : (r E d : ℕ) → 1 ≤ E → r / E < d → r < E * d
 beyond r E d h k = omega (arith, lt-div-mul-add {a = r} {b = E} h, mul-le-mul-right E k)
 
 off-in : (c : tie.Else1) → c .before .frame-of .result .scale * c .before .frame-of .result .less ≤ c .before .before .before .args .r
-off-in c = let m = c .before in let s = m .before .before in still (s .args .r) (m .frame-of .result .scale) (m .frame-of .result .less) (frame-scale (frame m) (s .pre .0 .0) .0) (λ h. omega (arith, c .if1 .left))
+off-in c = let m = c .before in let s = m .before .before in
+    still (s .args .r) (m .frame-of .result .scale) (m .frame-of .result .less) (frame-scale (frame m) (s .pre .0 .0) .0) (λ h. omega (arith, c .if1 .left))
 
 frame-of-requires : tie.Need-frame-of-requires
 frame-of-requires c κs = search needs
@@ -39,7 +40,8 @@ returns c =
     record {
       few = omega (arith, u .1);
       found = λ i. absurd (impossible (sym (u .0) ∙ i));
-      none = λ i. own-none (frame m) (s .pre .0 .0) (a .r) (beyond (a .r) (f .scale) (f .less) (frame-scale (frame m) (s .pre .0 .0) .0) (c .before .if1 .taken));
+      none = λ i. own-none (frame m) (s .pre .0 .0) (a .r) (beyond (a .r) (f .scale) (f .less) (frame-scale (frame m) (s .pre .0 .0) .0)
+          (c .before .if1 .taken));
     }
 
 mul-off : tie.Need-mul-off
@@ -55,14 +57,23 @@ first-of-requires c κs =
     let s = m .before .before in
     let a = s .args in (
       (frame-sized (frame m) (s .pre .0 .0), (frame-modest (frame m) (s .pre .0 .0), (frame-cut (frame m) (s .pre .0 .0), frame m .ends-are .ordered))),
-      ((frame-narrow (frame m) (s .pre .0 .0) (s .pre .0 .1 .1 .1), (omega (arith, s .pre .1 .0), own-floor (frame m) (s .pre .0 .0) (a .r) (off-in e) (s .pre .1 .1 .0))), s .pre .1 .1 .1),
+      (
+        (
+          frame-narrow (frame m) (s .pre .0 .0) (s .pre .0 .1 .1 .1),
+          (omega (arith, s .pre .1 .0), own-floor (frame m) (s .pre .0 .0) (a .r) (off-in e) (s .pre .1 .1 .0)),
+        ),
+        s .pre .1 .1 .1,
+      ),
     )
 
 made-requires : tie.Need-made-requires
 made-requires c κs =
-    let m = c .before .before .before .before .before .before .before .before in
+    let h = c .before .before .before in
+    let f = h .before in
+    let e = f .before .before .before in
+    let m = e .before in
     let s = m .before .before in
-    let g = c .before .before .before .before .first-of in
+    let g = f .first-of in
     (frame-sized (frame m) (s .pre .0 .0), g .ensures .small (c .before .if2 .taken))
 
 same-length : tie.Need-same-length
@@ -70,14 +81,17 @@ same-length c = search needs
 
 returns-2 : tie.Need-returns-2
 returns-2 c =
-    let e = c .before .before .before .before .before .before .before .before in
+    let h = c .before .before .before in
+    let f = h .before .before in
+    let e = f .before .before .before in
     let m = e .before in
     let s = m .before .before in
     let a = s .args in
-    let g = c .before .before .before .before .before .first-of in
+    let g = f .first-of in
     record {
       few = g .ensures .few;
-      found = λ i. own-first (frame m) (s .pre .0 .0) (a .r) (off-in e) (num (g .result .amounts)) (c .made .result) (g .ensures .found (c .before .before .if2 .taken)) (c .made .ensures .each);
+      found = λ i. own-first (frame m) (s .pre .0 .0) (a .r) (off-in e) (num (g .result .amounts)) (c .made .result)
+          (g .ensures .found (c .before .before .if2 .taken)) (c .made .ensures .each);
       none = λ i. absurd (impossible (sym i));
     }
 
@@ -89,11 +103,13 @@ same-length-2 c = search needs
 
 returns-3 : tie.Need-returns-3
 returns-3 c =
-    let e = c .before .before .before .before .before .before .before in
+    let h = c .before .before .before in
+    let f = h .before in
+    let e = f .before .before .before in
     let m = e .before in
     let s = m .before .before in
     let a = s .args in
-    let g = c .before .before .before .before .first-of in
+    let g = f .first-of in
     let u = c .unseen2 .ensures in
     record {
       few = omega (arith, u .1, g .ensures .few);

@@ -18,8 +18,9 @@ pieces-of-requires c κs = search needs
 
 least-filling-requires : tie.Need-least-filling-requires
 least-filling-requires c κs =
-    let s = c .before .before .before .before .before in
-    let r = c .before .before .before .room-of .ensures in
+    let h = c .before .before .before in
+    let s = h .before .before in
+    let r = h .room-of .ensures in
     ((pieces-fair (c .before .pieces-of .ensures) (s .pre .0 .0) (s .pre .0 .1 .0 .scale-in) (r .small), omega (arith, s .pre .1 .cap-in)), s .pre .1 .long)
 
 same-length : tie.Need-same-length
@@ -27,18 +28,26 @@ same-length c = search needs
 
 returns : tie.Need-returns
 returns c =
-    let s = c .before .before .before .before .before .before .before .before in
+    let h = c .before .before .before in
+    let po = h .before in
+    let g = po .before in
+    let ro = g .before in
+    let s = ro .before .before in
     let a = s .args in
     let z = s .pre .0 in
-    let m = c .before .before .before .before .before .before .room-of in
-    let fits = c .before .before .before .before .before .if1 .taken in
-    let ps = c .before .before .before .before .pieces-of in
+    let m = ro .room-of in
+    let fits = g .if1 .taken in
+    let ps = po .pieces-of in
     let r = c .before .before .least-filling in
     record {
       few = r .ensures .1;
       capped = r .ensures .0 .capped;
-      floor = record { floor = λ N pt. bounds-loss (a .p) (a .q) (a .cols) (a .ends) (a .scale) (a .cut) (z .0 .columns .few) (z .1 .0 .scale≥1) (z .1 .1 .0) N pt (m .result .left) (m .ensures .left-is fits) (ps .result) (ps .ensures) (r .result .least) (r .ensures .0 .bounds) };
-      attained = λ i. attained (a .p) (a .q) (a .cols) (a .ends) (a .scale) (a .cut) (z .0 .columns .few) (z .1 .0 .scale≥1) (z .1 .1 .0) (z .1 .1 .1) (m .result .left) (m .ensures .left-is fits) (ps .result) (ps .ensures) (r .result .least) (r .ensures .0 .reached i);
+      floor = record {
+        floor = λ N pt. bounds-loss (a .p) (a .q) (a .cols) (a .ends) (a .scale) (a .cut) (z .0 .columns .few) (z .1 .0 .scale≥1) (z .1 .1 .0) N
+            pt (m .result .left) (m .ensures .left-is fits) (ps .result) (ps .ensures) (r .result .least) (r .ensures .0 .bounds);
+      };
+      attained = λ i. attained (a .p) (a .q) (a .cols) (a .ends) (a .scale) (a .cut) (z .0 .columns .few) (z .1 .0 .scale≥1) (z .1 .1 .0) (z .1 .1 .1)
+          (m .result .left) (m .ensures .left-is fits) (ps .result) (ps .ensures) (r .result .least) (r .ensures .0 .reached i);
     }
 
 returns-2 : tie.Need-returns-2
@@ -48,7 +57,8 @@ returns-2 c =
     record {
       few = omega arith;
       capped = omega arith;
-      floor = roomless (a .p) (a .q) (a .cols) (a .ends) (a .scale) (a .cut) (a .cap) (s .pre .0 .1 .0 .scale≥1) (c .before .room-of .ensures .none (c .if1 .left));
+      floor = roomless (a .p) (a .q) (a .cols) (a .ends) (a .scale) (a .cut) (a .cap) (s .pre .0 .1 .0 .scale≥1)
+          (c .before .room-of .ensures .none (c .if1 .left));
       attained = λ i. absurd (omega arith);
     }
 

@@ -13,7 +13,8 @@ frame : (c : tie.After-frame-of) → let a = c .before .before .args in IsFrame 
 frame c = c .frame-of .ensures
 
 off : (c : tie.Else1) → c .before .frame-of .result .scale * c .before .frame-of .result .less ≤ c .before .before .before .args .cap
-off c = let m = c .before in let s = m .before .before in still (s .args .cap) (m .frame-of .result .scale) (m .frame-of .result .less) (frame-scale (frame m) (s .pre .0 .0) .0) (λ h. omega (arith, c .if1 .left))
+off c = let m = c .before in let s = m .before .before in still (s .args .cap) (m .frame-of .result .scale) (m .frame-of .result .less)
+    (frame-scale (frame m) (s .pre .0 .0) .0) (λ h. omega (arith, c .if1 .left))
 
 frame-of-requires : tie.Need-frame-of-requires
 frame-of-requires c κs = let s = c .before in rw (within-back tt (s .pre .0 .1 .1)) (s .pre .0)
@@ -30,7 +31,8 @@ returns c =
     record {
       few = omega arith;
       capped = omega arith;
-      floor = of-floor (frame m) (s .pre .0 .0) 0 (a .cap) (floor-zero (a .p) (a .q) (a .cols) (f .ends) (f .scale) (f .cut)) (past (a .cap) (f .scale) (f .less) (frame-scale (frame m) (s .pre .0 .0) .0) (omega (arith, c .if1 .taken)));
+      floor = of-floor (frame m) (s .pre .0 .0) 0 (a .cap) (floor-zero (a .p) (a .q) (a .cols) (f .ends) (f .scale) (f .cut))
+          (past (a .cap) (f .scale) (f .less) (frame-scale (frame m) (s .pre .0 .0) .0) (omega (arith, c .if1 .taken)));
       attained = λ i. absurd (omega arith);
     }
 
@@ -43,24 +45,28 @@ sub-floor-of c = off c
 floor-of-requires : tie.Need-floor-of-requires
 floor-of-requires c κs =
     let m = c .before .before in
-    let s = m .before .before in
-    ((frame-sized (frame m) (s .pre .0 .0), (frame-modest (frame m) (s .pre .0 .0), (frame-cut (frame m) (s .pre .0 .0), frame m .ends-are .ordered))), record { cap-in = omega (arith, s .pre .1 .cap-in); long = s .pre .1 .long })
+    let s = m .before .before in (
+      (frame-sized (frame m) (s .pre .0 .0), (frame-modest (frame m) (s .pre .0 .0), (frame-cut (frame m) (s .pre .0 .0), frame m .ends-are .ordered))),
+      record { cap-in = omega (arith, s .pre .1 .cap-in); long = s .pre .1 .long },
+    )
 
 add-t15 : tie.Need-add-t15
 add-t15 c =
-    let e = c .before .before .before .before .before in
+    let h = c .before .before .before in
+    let e = h .before .before in
     let s = e .before .before .before in
-    omega (arith, off e, c .before .before .before .floor-of .ensures .capped, s .pre .1 .cap-in)
+    omega (arith, off e, h .floor-of .ensures .capped, s .pre .1 .cap-in)
 
 same-length : tie.Need-same-length
 same-length c = search needs
 
 returns-2 : tie.Need-returns-2
 returns-2 c =
-    let e = c .before .before .before .before .before in
+    let h = c .before .before .before in
+    let e = h .before .before in
     let m = e .before in
     let s = m .before .before in
-    let r = c .before .before .before .floor-of in
+    let r = h .floor-of in
     record {
       few = r .ensures .few;
       capped = omega (arith, off e, r .ensures .capped);

@@ -37,16 +37,30 @@ returns c = (λ i u. impossible (sym (u .loose) ∙ c .if1 .taken), λ i. absurd
 
 returns-2 : tie.Need-returns-2
 returns-2 c =
-    let s = c .before .before .before .before .before in
+    let h = c .before .before .before in
+    let s = h .before .before in
     let k = itemOf (s .args .t1) (s .args .t) in
-    let z = s .pre .0 .ends in
-    (λ i u. impossible (sym i), λ i. record { loose = c .before .if1 .left; free = λ g. apart (at (s .args .t2 .lo) k) (at (s .args .t2 .hi) k) (yes-lt (rw (within-back tt (z .lo-in k), within-back tt (z .hi-in k)) at (c .if2 .taken))) g })
+    let z = s .pre .0 .ends in (
+      λ i u. impossible (sym i),
+      λ i. record {
+        loose = c .before .if1 .left;
+        free = λ g. apart (at (s .args .t2 .lo) k) (at (s .args .t2 .hi) k)
+            (yes-lt (rw (within-back tt (z .lo-in k), within-back tt (z .hi-in k)) at (c .if2 .taken))) g;
+      },
+    )
   where
     apart : (x y : ℤ) → x <ℤ y → x ≡ y → ⊥
     apart = split2 _ (λ a b c e. simp zed (omega arith))
 
 returns-3 : tie.Need-returns-3
-returns-3 c = (λ i u. let s = c .before .before .before .before .before in let k = itemOf (s .args .t1) (s .args .t) in let z = s .pre .0 .ends in u .free (≤ℤ-antisym (s .pre .1 .1 .0 k (s .pre .1 .0 .item-in (s .args .t) (omega (arith, s .pre .1 .1 .1, s .pre .1 .0 .live-in)))) (no-lt (rw (within-back tt (z .lo-in k), within-back tt (z .hi-in k)) at (c .if2 .left)))), λ i. absurd (impossible i))
+returns-3 c =
+    let h = c .before .before .before in
+    let s = h .before .before in (
+      λ i u. let k = itemOf (s .args .t1) (s .args .t) in let z = s .pre .0 .ends in
+          u .free (≤ℤ-antisym (s .pre .1 .1 .0 k (s .pre .1 .0 .item-in (s .args .t) (omega (arith, s .pre .1 .1 .1, s .pre .1 .0 .live-in))))
+          (no-lt (rw (within-back tt (z .lo-in k), within-back tt (z .hi-in k)) at (c .if2 .left)))),
+      λ i. absurd (impossible i),
+    )
 
 pub is-usable-spec : {M : Type 1} → statement M
 is-usable-spec =

@@ -12,10 +12,17 @@ is-small-requires : tie.Need-is-small-requires
 is-small-requires c κs = search needs
 
 near-loss-requires : tie.Need-near-loss-requires
-near-loss-requires c κs = let s = c .before .before .before in rw (within-back tt (s .pre .0), toZ-ofZ (s .fits .w)) (s .pre .0, (s .pre .1 .0, (rw (toZ-ofZ (s .fits .w)) at (c .before .is-small .ensures (c .if2 .taken)), s .pre .1 .1 (c .before .before .if1 .taken))))
+near-loss-requires c κs = let s = c .before .before .before in
+    rw (within-back tt (s .pre .0), toZ-ofZ (s .fits .w)) (
+      s .pre .0,
+      (s .pre .1 .0, (rw (toZ-ofZ (s .fits .w)) at (c .before .is-small .ensures (c .if2 .taken)), s .pre .1 .1 (c .before .before .if1 .taken))),
+    )
 
 returns : tie.Need-returns
-returns c = let s = c .before .before .before .before in record { loss = rw (within-back tt (s .pre .0), toZ-ofZ (s .fits .w)) at (c .near-loss .ensures); told = λ e. c .before .before .before .if1 .taken }
+returns c =
+    let h = c .before .before .before in
+    let s = h .before in
+    record { loss = rw (within-back tt (s .pre .0), toZ-ofZ (s .fits .w)) at (c .near-loss .ensures); told = λ e. h .if1 .taken }
 
 deepest-requires : tie.Need-deepest-requires
 deepest-requires c κs = search needs

@@ -27,49 +27,78 @@ unlowered-requires c κs = search needs
 loop-holds : tie.Need-loop-holds Inv-loop μ-loop
 loop-holds c =
     let s = c .before .before .before in
-    let a = s .args in
-    (omega arith, (refl, subst (λ b. Sofar (a .p) (a .q) (a .cols) (a .ends) (a .whole) (b .lost) 0 b) (sym (c .unlowered .ensures)) (sofar-first (a .p) (a .q) (a .cols) (a .ends) (a .whole) (a .known) (s .pre .1 .0))))
+    let a = s .args in (
+      omega arith,
+      (
+        refl,
+        subst (λ b. Sofar (a .p) (a .q) (a .cols) (a .ends) (a .whole) (b .lost) 0 b) (sym (c .unlowered .ensures))
+            (sofar-first (a .p) (a .q) (a .cols) (a .ends) (a .whole) (a .known) (s .pre .1 .0)),
+      ),
+    )
 
 considered-requires : tie.Need-considered-requires Inv-loop μ-loop
 considered-requires c κs =
-    let s = c .before .before .before .before .before .before in
+    let h = c .before .before .before in
+    let to = h .before in
+    let s = to .before .before in
     let l = c .before .before .loop in
-    let t = c .before .before .before .before .top-of in
+    let t = to .top-of in
     rw (within-back tt (t .ensures .1)) (
       (s .pre .0, (t .ensures .0, (t .ensures .1, c .before .loop-test .taken))),
-      (l .inv .1 .1 .counted, (omega (arith, l .inv .1 .1 .few, c .before .loop-test .taken, s .pre .0 .sized .columns .live-few), omega (arith, l .inv .1 .0, s .pre .1 .1 .0))),
+      (
+        l .inv .1 .1 .counted,
+        (
+          omega (arith, l .inv .1 .1 .few, c .before .loop-test .taken, s .pre .0 .sized .columns .live-few),
+          omega (arith, l .inv .1 .0, s .pre .1 .1 .0),
+        ),
+      ),
     )
 
 add-t : tie.Need-add-t Inv-loop μ-loop
-add-t c = omega (arith, c .before .before .before .before .loop-test .taken, c .before .before .before .before .before .before .before .before .before .pre .0 .sized .columns .live-few)
+add-t c =
+    let h = c .before .before .before in
+    let t = h .before in
+    let g = t .before .before .before in
+    let s = g .before .before in
+    omega (arith, t .loop-test .taken, s .pre .0 .sized .columns .live-few)
 
 loop-less : tie.Need-loop-less Inv-loop μ-loop
-loop-less c = omega (arith, c .before .before .before .before .loop-test .taken)
+loop-less c =
+    let h = c .before .before .before in
+    let t = h .before in
+    omega (arith, t .loop-test .taken)
 
 loop-again : tie.Need-loop-again Inv-loop μ-loop
 loop-again c =
-    let l = c .before .before .before .before .before .loop in
+    let h = c .before .before .before in
+    let t = h .before in
+    let w = t .before in
+    let l = w .loop in
     let r = c .before .before .considered in
-    (omega (arith, c .before .before .before .before .loop-test .taken), (search needs, sofar-step (l .inv .1 .1) (r .result) (c .before .before .before .before .loop-test .taken) (r .ensures)))
+    (omega (arith, t .loop-test .taken), (search needs, sofar-step (l .inv .1 .1) (r .result) (t .loop-test .taken) (r .ensures)))
 
 same-length : tie.Need-same-length Inv-loop μ-loop
 same-length c = c .before .before .loop .inv .1 .0
 
 returns : tie.Need-returns Inv-loop μ-loop
 returns c =
-    let s = c .before .before .before .before .before .before in
+    let h = c .before .before .before in
+    let s = h .before .before .before in
     let a = s .args in
     let l = c .before .before .loop in
     let z = s .pre .0 in
     let t : l .t ≡ a .cols .live = omega (arith, c .before .loop-test .left, l .inv .0) in
-    let known = ap (λ (b : Least). b .lost) (c .before .before .before .unlowered .ensures) in
-    subst (λ k. LeastLoss (a .p) (a .q) (a .cols) (a .ends) (a .whole) k (l .best)) known (sofar-any (l .inv .1 .1) t (z .sized .columns) (s .pre .1 .1 .1) (z .in-order) (c .if1 .taken))
+    let known = ap (λ (b : Least). b .lost) (h .unlowered .ensures) in
+    subst (λ k. LeastLoss (a .p) (a .q) (a .cols) (a .ends) (a .whole) k (l .best)) known
+    (sofar-any (l .inv .1 .1) t (z .sized .columns) (s .pre .1 .1 .1) (z .in-order) (c .if1 .taken))
 
 lowered-requires : tie.Need-lowered-requires Inv-loop μ-loop
 lowered-requires c κs =
-    let s = c .before .before .before .before .before .before .before in
-    let l = c .before .before .before .loop in
-    let t = c .before .before .before .before .before .top-of in
+    let h = c .before .before .before in
+    let to = h .before .before in
+    let s = to .before .before in
+    let l = h .loop in
+    let t = to .top-of in
     rw (within-back tt (t .ensures .1)) (
       (s .pre .0, (t .ensures .0, t .ensures .1)),
       (l .inv .1 .1 .counted, (omega (arith, l .inv .1 .1 .few, l .inv .0, s .pre .0 .sized .columns .live-few), omega (arith, l .inv .1 .0, s .pre .1 .1 .0))),
@@ -80,14 +109,19 @@ same-length-2 c = search needs
 
 returns-2 : tie.Need-returns-2 Inv-loop μ-loop
 returns-2 c =
-    let s = c .before .before .before .before .before .before .before .before .before .before in
+    let h = c .before .before .before in
+    let tested = h .before .before in
+    let w = tested .before in
+    let u = w .before in
+    let s = u .before .before .before in
     let a = s .args in
-    let l = c .before .before .before .before .before .before .loop in
+    let l = w .loop in
     let z = s .pre .0 in
     let r = c .before .before .lowered in
-    let t : l .t ≡ a .cols .live = omega (arith, c .before .before .before .before .before .loop-test .left, l .inv .0) in
-    let known = ap (λ (b : Least). b .lost) (c .before .before .before .before .before .before .before .unlowered .ensures) in
-    subst (λ k. LeastLoss (a .p) (a .q) (a .cols) (a .ends) (a .whole) k (r .result)) known (sofar-done (l .inv .1 .1) (r .result) t (z .sized .columns) (s .pre .1 .1 .1) (z .in-order) (r .ensures))
+    let t : l .t ≡ a .cols .live = omega (arith, tested .loop-test .left, l .inv .0) in
+    let known = ap (λ (b : Least). b .lost) (u .unlowered .ensures) in
+    subst (λ k. LeastLoss (a .p) (a .q) (a .cols) (a .ends) (a .whole) k (r .result)) known
+    (sofar-done (l .inv .1 .1) (r .result) t (z .sized .columns) (s .pre .1 .1 .1) (z .in-order) (r .ensures))
 
 pub least-loss-spec : {M : Type 1} → statement M
 least-loss-spec =

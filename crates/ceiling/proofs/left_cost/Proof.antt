@@ -18,7 +18,8 @@ is-heavy-requires : tie.Need-is-heavy-requires
 is-heavy-requires c κs = search needs
 
 returns : tie.Need-returns
-returns c = let s = c .before .before .before in let h : heavyBy (s .args .a) (s .args .r) ≡ true = sym (heavy (c .before)) ∙ c .if1 .taken in rw h (rw (within-back tt (s .pre .1)) at (c .before .before .cost .ensures))
+returns c = let s = c .before .before .before in let h : heavyBy (s .args .a) (s .args .r) ≡ true = sym (heavy (c .before)) ∙ c .if1 .taken in
+    rw h (rw (within-back tt (s .pre .1)) at (c .before .before .cost .ensures))
 
 returns-2 : tie.Need-returns-2
 returns-2 c = let s = c .before .before .before in let h : heavyBy (s .args .a) (s .args .r) ≡ false = sym (heavy (c .before)) ∙ c .if1 .left in rw h (refl)

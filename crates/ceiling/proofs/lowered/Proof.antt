@@ -46,28 +46,45 @@ frame-floor-requires c κs =
     rw (within-back tt (s .pre .0 .1 .1)) (s .pre .0, record { cap-in = capped (c .before); long = s .pre .1 .1 .1 })
 
 add-written : tie.Need-add-written
-add-written c = omega (arith, c .before .before .before .before .before .before .before .before .pre .1 .1 .0, c .before .before .before .before .frame-floor .ensures .few)
+add-written c =
+    let h = c .before .before .before in
+    let f = h .before in
+    let g = f .before .before .before in
+    let s = g .before in
+    omega (arith, s .pre .1 .1 .0, f .frame-floor .ensures .few)
 
 same-length : tie.Need-same-length
 same-length c = search needs
 
 returns : tie.Need-returns
 returns c =
-    let s = c .before .before .before .before .before .before .before .before .before .before in
+    let h = c .before .before .before in
+    let ff = h .before .before .before in
+    let g = ff .before .before in
+    let s = g .before .before in
     let a = s .args in
     let n = a .best .lost .num in
     let d = a .best .lost .den in
-    let f = c .before .before .before .before .before .before .frame-floor in
-    let i = scale-is (c .before .before .before .before .before .before .before .before) in
+    let f = ff .frame-floor in
+    let i = scale-is (g) in
     let z = scale-in (a .cols) (a .t) (s .pre .0 .0 .sized .columns) in
     let under = subst (λ x. f .result .least < (x * n + (d - 1)) / d) i (c .if1 .taken) in
     let less = below-cap (a .p) (a .q) (a .cols) (a .ends) (a .whole) (a .t) n d (f .result .least) (s .pre .1 .0) (f .ensures .floor) under in
-    subst (λ x. Lowered (a .p) (a .q) (a .cols) (a .ends) (a .whole) (a .t) (a .best) (record { lost = record { num = f .result .least; den = x }; found = true; at = a .t; any = true; written = a .best .written + f .result .written })) (sym i)
+    subst (λ x. Lowered (a .p) (a .q) (a .cols) (a .ends) (a .whole) (a .t) (a .best)
+    (record { lost = record { num = f .result .least; den = x }; found = true; at = a .t; any = true; written = a .best .written + f .result .written }))
+    (sym i)
     (record {
       counted = lowered-counted (a .p) (a .q) (a .cols) (a .ends) (a .whole) (a .t) n d (f .result .least) (s .pre .1 .0) (f .ensures .floor) z under;
       lower = omega (arith, less);
       bound = lowered-new (a .p) (a .q) (a .cols) (a .ends) (a .whole) (a .t) n d (f .result .least) (s .pre .1 .0) (f .ensures .floor);
-      exact = inr (record { found = refl; at-is = refl; den-is = refl; deep = omega (arith, c .if1 .taken, capped (c .before .before .before .before .before .before .before .before)); floor = f .ensures .floor; attained = f .ensures .attained (c .if1 .taken) });
+      exact = inr (record {
+        found = refl;
+        at-is = refl;
+        den-is = refl;
+        deep = omega (arith, c .if1 .taken, capped (g));
+        floor = f .ensures .floor;
+        attained = f .ensures .attained (c .if1 .taken);
+      });
       any = refl;
       few = omega (arith, f .ensures .few);
     })
@@ -77,16 +94,21 @@ same-length-2 c = search needs
 
 returns-2 : tie.Need-returns-2
 returns-2 c =
-    let s = c .before .before .before .before .before .before .before .before .before .before .before in
+    let h = c .before .before .before in
+    let g = h .before .before .before in
+    let ff = g .before in
+    let e = ff .before .before in
+    let s = e .before .before in
     let a = s .args in
     let n = a .best .lost .num in
     let d = a .best .lost .den in
-    let f = c .before .before .before .before .before .before .before .frame-floor in
-    let i = scale-is (c .before .before .before .before .before .before .before .before .before) in
+    let f = ff .frame-floor in
+    let i = scale-is (e) in
     record {
       counted = s .pre .1 .0;
       lower = omega arith;
-      bound = lowered-old (a .p) (a .q) (a .cols) (a .ends) (a .whole) (a .t) n d (f .result .least) (s .pre .1 .0) (f .ensures .floor) (subst (λ x. (x * n + (d - 1)) / d ≤ f .result .least) i (omega (arith, c .before .if1 .left)));
+      bound = lowered-old (a .p) (a .q) (a .cols) (a .ends) (a .whole) (a .t) n d (f .result .least) (s .pre .1 .0) (f .ensures .floor)
+          (subst (λ x. (x * n + (d - 1)) / d ≤ f .result .least) i (omega (arith, c .before .if1 .left)));
       exact = inl (refl, (refl, refl));
       any = refl;
       few = omega (arith, f .ensures .few);

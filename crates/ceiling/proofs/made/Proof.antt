@@ -35,7 +35,11 @@ loop-less : tie.Need-loop-less Inv-loop μ-loop
 loop-less c = omega arith
 
 loop-again : tie.Need-loop-again Inv-loop μ-loop
-loop-again c = (omega arith, placed-step _ (c .before .before .loop .k) _ (omega arith) (back (c .made-at .result) (c .made-at .ok) ∙ c .made-at .ensures) (c .before .before .loop .inv .1))
+loop-again c = (
+  omega arith,
+  placed-step _ (c .before .before .loop .k) _ (omega arith) (back (c .made-at .result) (c .made-at .ok) ∙ c .made-at .ensures)
+      (c .before .before .loop .inv .1),
+)
 
 returns : tie.Need-returns Inv-loop μ-loop
 returns c = placed-done (omega arith) (c .before .loop .inv .1)

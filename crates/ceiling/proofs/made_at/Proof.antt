@@ -31,14 +31,20 @@ array-read-y : tie.Need-array-read-y
 array-read-y c = search needs
 
 made-of-requires : tie.Need-made-of-requires
-made-of-requires c κs = let s = c .before .before .before in let z = s .pre .0 .ends in rw (within-back tt (z .lo-in (s .args .k)), within-back tt (z .hi-in (s .args .k))) (z .lo-in (s .args .k), (z .hi-in (s .args .k), s .pre .1 .1))
+made-of-requires c κs = let s = c .before .before .before in let z = s .pre .0 .ends in
+    rw (within-back tt (z .lo-in (s .args .k)), within-back tt (z .hi-in (s .args .k))) (z .lo-in (s .args .k), (z .hi-in (s .args .k), s .pre .1 .1))
 
 returns : tie.Need-returns
 returns c =
-    let s = c .before .before .before .before in
+    let h = c .before .before .before in
+    let s = h .before in
     let z = s .pre .0 in
     let k = s .args .k in
-    back (c .made-of .result) (c .made-of .ok) ∙ (rw (within-back tt (z .columns .weights-in k), within-back tt (z .ends .lo-in k), within-back tt (z .ends .hi-in k)) at (c .made-of .ensures))
+    back (c .made-of .result) (c .made-of .ok) ∙ (rw (
+      within-back tt (z .columns .weights-in k),
+      within-back tt (z .ends .lo-in k),
+      within-back tt (z .ends .hi-in k),
+    ) at (c .made-of .ensures))
 
 pub made-at-spec : {M : Type 1} → statement M
 made-at-spec =

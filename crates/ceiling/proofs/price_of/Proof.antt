@@ -17,7 +17,8 @@ element-copy-out-magnitude : tie.Need-element-copy-out-magnitude
 element-copy-out-magnitude c = search needs
 
 magnitude-requires : tie.Need-magnitude-requires
-magnitude-requires c κs = let s = c .before .before .before in let u = c .before .before .fill-up .result .at in rw (within-back tt (s .pre .columns .rates-in u)) (within-more (omega arith) (s .pre .columns .rates-in u))
+magnitude-requires c κs = let s = c .before .before .before in let u = c .before .before .fill-up .result .at in
+    rw (within-back tt (s .pre .columns .rates-in u)) (within-more (omega arith) (s .pre .columns .rates-in u))
 
 mul-magnitude-2 : tie.Need-mul-magnitude-2
 mul-magnitude-2 c = search needs
@@ -26,11 +27,16 @@ element-copy-out-magnitude-2 : tie.Need-element-copy-out-magnitude-2
 element-copy-out-magnitude-2 c = search needs
 
 magnitude-requires-2 : tie.Need-magnitude-requires-2
-magnitude-requires-2 c κs = let s = c .before .before .before .before .before in let u = c .before .before .before .before .fill-up .result .at in rw (within-back tt (s .pre .columns .sizes-in u)) (within-more (omega arith) (s .pre .columns .sizes-in u))
+magnitude-requires-2 c κs =
+    let h = c .before .before .before in
+    let f = h .before in
+    let s = f .before in
+    let u = f .fill-up .result .at in rw (within-back tt (s .pre .columns .sizes-in u)) (within-more (omega arith) (s .pre .columns .sizes-in u))
 
 returns : tie.Need-returns
 returns c =
-    let i = c .before .before .before .before in
+    let h = c .before .before .before in
+    let i = h .before in
     let s = i .before .before in
     let z = s .pre .columns in
     let f = i .before .fill-up in

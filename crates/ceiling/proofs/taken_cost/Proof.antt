@@ -21,7 +21,8 @@ returns : tie.Need-returns
 returns c = let s = c .before .before .before in let h : heavyBy (s .args .a) (s .args .r) ≡ true = sym (heavy (c .before)) ∙ c .if1 .taken in rw h (refl)
 
 returns-2 : tie.Need-returns-2
-returns-2 c = let s = c .before .before .before in let h : heavyBy (s .args .a) (s .args .r) ≡ false = sym (heavy (c .before)) ∙ c .if1 .left in rw h (rw (within-back tt (s .pre .1)) at (c .before .before .cost .ensures))
+returns-2 c = let s = c .before .before .before in let h : heavyBy (s .args .a) (s .args .r) ≡ false = sym (heavy (c .before)) ∙ c .if1 .left in
+    rw h (rw (within-back tt (s .pre .1)) at (c .before .before .cost .ensures))
 
 pub taken-cost-spec : {M : Type 1} → statement M
 taken-cost-spec =

@@ -34,7 +34,11 @@ loop-less : tie.Need-loop-less Inv-loop μ-loop
 loop-less c = omega (arith, c .loop-test .taken)
 
 loop-again : tie.Need-loop-again Inv-loop μ-loop
-loop-again c = (omega (arith, c .loop-test .taken), levelled-step (c .before .before .pre .1 (c .before .loop .d) (c .loop-test .taken)) (c .before .loop .inv .1))
+loop-again c = (
+  omega (arith, c .loop-test .taken),
+  levelled-step (c .before .before .pre .1 (c .before .loop .d) (c .loop-test .taken))
+      (c .before .loop .inv .1),
+)
 
 returns : tie.Need-returns Inv-loop μ-loop
 returns c = let l = c .before .loop in levelled-done (omega (arith, c .loop-test .left, l .inv .0)) (l .inv .1)

@@ -10,13 +10,17 @@ use Rattle.fillings.proofs.digits_of.Statement.{statement}
 use Rattle.fillings.proofs.digits_of.Tie as tie
 
 abbrev Inv-loop : tie.InvT-loop
-Inv-loop from to base key wide list₀ b₀ rest₀ k₀ list b rest k = ((from ≤ k) × ((k ≤ to) × (Left wide base to k b × Read wide from to key k rest))) × Begun k (digits (num wide) from (to - from) key) list
+Inv-loop from to base key wide list₀ b₀ rest₀ k₀ list b rest k = ((from ≤ k) × ((k ≤ to) × (Left wide base to k b × Read wide from to key k rest))) ×
+    Begun k (digits (num wide) from (to - from) key) list
 
 abbrev μ-loop : tie.MeasureT-loop
 μ-loop from to base key wide list₀ b₀ rest₀ k₀ list b rest k = to - k
 
 loop-holds : tie.Need-loop-holds Inv-loop μ-loop
-loop-holds c = ((omega arith, (c .pre .0, (left-first (c .pre .1 .1), read-first))), begun-first _ (c .args .from) (λ j l. digits-before _ (c .args .from) (c .args .to - c .args .from) (c .args .key) j l))
+loop-holds c = (
+  (omega arith, (c .pre .0, (left-first (c .pre .1 .1), read-first))),
+  begun-first _ (c .args .from) (λ j l. digits-before _ (c .args .from) (c .args .to - c .args .from) (c .args .key) j l),
+)
 
 mul-w : tie.Need-mul-w Inv-loop μ-loop
 mul-w c = omega arith

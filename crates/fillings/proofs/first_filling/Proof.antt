@@ -11,7 +11,8 @@ use Rattle.fillings.proofs.first_filling.Statement.{statement}
 use Rattle.fillings.proofs.first_filling.Tie as tie
 
 abbrev Inv-loop : tie.InvT-loop
-Inv-loop p capacity cap cells₀ r₀ written₀ from₀ cells r written from = ((length cells ≡ length cells₀) × (written ≤ from * runCells)) × Sought p capacity (cap - 1) r from
+Inv-loop p capacity cap cells₀ r₀ written₀ from₀ cells r written from = ((length cells ≡ length cells₀) × (written ≤ from * runCells)) ×
+    Sought p capacity (cap - 1) r from
 
 abbrev μ-loop : tie.MeasureT-loop
 μ-loop p capacity cap cells₀ r₀ written₀ from₀ cells r written from = 16 - from
@@ -20,19 +21,26 @@ whole-of-requires : tie.Need-whole-of-requires Inv-loop μ-loop
 whole-of-requires c κs = search needs
 
 loop-holds : tie.Need-loop-holds Inv-loop μ-loop
-loop-holds c = let s = c .before .before in ((refl, omega arith), sought-first (s .args .p) (s .args .capacity) (s .args .cap) (s .pre .0 .0 .long) (s .pre .0 .1 .0) (s .pre .0 .1 .1 .1 .1) (c .whole-of .result) (c .whole-of .ensures))
+loop-holds c = let s = c .before .before in (
+  (refl, omega arith),
+  sought-first (s .args .p) (s .args .capacity) (s .args .cap) (s .pre .0 .0 .long)
+      (s .pre .0 .1 .0) (s .pre .0 .1 .1 .1 .1) (c .whole-of .result) (c .whole-of .ensures),
+)
 
 run-over-requires : tie.Need-run-over-requires Inv-loop μ-loop
 run-over-requires c κs =
-    let s = c .before .before .before .before .before in
+    let h = c .before .before .before in
+    let s = h .before .before in
     let l = c .before .before .loop in
     let x = s .pre .0 in
     ((x .0, (l .inv .1 .among, (l .inv .1 .inside, (omega arith, x .1 .1 .0)))), omega (arith, l .inv .0 .0, s .pre .1))
 
 add-written : tie.Need-add-written Inv-loop μ-loop
 add-written c =
-    let l = c .before .before .before .before .before .before .loop in
-    let n = c .before .before .before .run-over in
+    let h = c .before .before .before in
+    let w = h .before .before .before in
+    let l = w .loop in
+    let n = h .run-over in
     omega (arith, l .inv .0 .1, n .ensures .few, l .inv .1 .inside)
 
 same-length : tie.Need-same-length Inv-loop μ-loop
@@ -40,44 +48,68 @@ same-length c = search needs
 
 returns : tie.Need-returns Inv-loop μ-loop
 returns c =
-    let s = c .before .before .before .before .before .before .before .before .before .before .before .before in
-    let l = c .before .before .before .before .before .before .before .before .before .loop in
-    let n = c .before .before .before .before .before .before .run-over in
+    let h = c .before .before .before in
+    let ro = h .before .before .before in
+    let t = ro .before .before in
+    let w = t .before in
+    let s = w .before .before .before in
+    let l = w .loop in
+    let n = ro .run-over in
     let x = s .pre .0 in
     record {
-      few = omega (arith, l .inv .0 .1, n .ensures .few, c .before .before .before .before .before .before .before .before .loop-test .taken);
+      few = omega (arith, l .inv .0 .1, n .ensures .few, t .loop-test .taken);
       found = λ e. absurd (let z : _≡_ {A = ℕ} 0 1 = cc in omega arith);
-      none = λ e. sought-none (s .args .p) (s .args .capacity) (s .args .cap) (x .0 .long) (x .1 .0) (x .1 .1 .1 .1) (l .r) (l .from) (l .inv .1) (n .result) (n .ensures) (c .before .if1 .taken);
+      none = λ e. sought-none (s .args .p) (s .args .capacity) (s .args .cap) (x .0 .long) (x .1 .0) (x .1 .1 .1 .1) (l .r) (l .from) (l .inv .1) (n .result)
+          (n .ensures) (c .before .if1 .taken);
     }
 
 loop-less : tie.Need-loop-less Inv-loop μ-loop
 loop-less c =
-    let s = c .before .before .before .before .before .before .before .before .before .before .before .before in
-    let l = c .before .before .before .before .before .before .before .before .before .loop in
-    let n = c .before .before .before .before .before .before .run-over in
+    let h = c .before .before .before in
+    let ro = h .before .before .before in
+    let t = ro .before .before in
+    let w = t .before in
+    let s = w .before .before .before in
+    let l = w .loop in
+    let n = ro .run-over in
     let x = s .pre .0 in
-    omega (arith, c .before .before .before .before .before .before .before .before .loop-test .taken, sought-more (s .args .p) (s .args .capacity) (s .args .cap) (x .0 .long) (x .1 .0) (x .1 .1 .1 .1) (l .r) (l .from) (l .inv .1) (n .result) (n .ensures) (c .before .if1 .left) (c .before .before .before .before .before .before .before .before .loop-test .taken) (x .1 .1 .1 .0))
+    omega (
+      arith,
+      t .loop-test .taken,
+      sought-more (s .args .p) (s .args .capacity) (s .args .cap) (x .0 .long) (x .1 .0) (x .1 .1 .1 .1) (l .r) (l .from)
+          (l .inv .1) (n .result) (n .ensures) (c .before .if1 .left) (t .loop-test .taken) (x .1 .1 .1 .0),
+    )
 
 loop-again : tie.Need-loop-again Inv-loop μ-loop
 loop-again c =
-    let s = c .before .before .before .before .before .before .before .before .before .before .before .before in
-    let l = c .before .before .before .before .before .before .before .before .before .loop in
-    let n = c .before .before .before .before .before .before .run-over in
+    let h = c .before .before .before in
+    let ro = h .before .before .before in
+    let t = ro .before .before in
+    let w = t .before in
+    let s = w .before .before .before in
+    let l = w .loop in
+    let n = ro .run-over in
     let x = s .pre .0 in
-    let more = sought-more (s .args .p) (s .args .capacity) (s .args .cap) (x .0 .long) (x .1 .0) (x .1 .1 .1 .1) (l .r) (l .from) (l .inv .1) (n .result) (n .ensures) (c .before .if1 .left) (c .before .before .before .before .before .before .before .before .loop-test .taken) (x .1 .1 .1 .0) in
-    ((search needs, omega (arith, l .inv .0 .1, n .ensures .few)), sought-step (s .args .p) (s .args .capacity) (s .args .cap) (x .0 .long) (x .1 .0) (x .1 .1 .1 .1) (l .r) (l .from) (l .inv .1) (n .result) (n .ensures) (c .before .if1 .left) more)
+    let more = sought-more (s .args .p) (s .args .capacity) (s .args .cap) (x .0 .long) (x .1 .0) (x .1 .1 .1 .1) (l .r) (l .from) (l .inv .1) (n .result)
+    (n .ensures) (c .before .if1 .left) (t .loop-test .taken) (x .1 .1 .1 .0) in (
+      (search needs, omega (arith, l .inv .0 .1, n .ensures .few)),
+      sought-step (s .args .p) (s .args .capacity) (s .args .cap) (x .0 .long) (x .1 .0)
+          (x .1 .1 .1 .1) (l .r) (l .from) (l .inv .1) (n .result) (n .ensures) (c .before .if1 .left) more,
+    )
 
 same-length-2 : tie.Need-same-length-2 Inv-loop μ-loop
 same-length-2 c = c .before .before .loop .inv .0 .0
 
 returns-2 : tie.Need-returns-2 Inv-loop μ-loop
 returns-2 c =
-    let s = c .before .before .before .before .before in
+    let h = c .before .before .before in
+    let s = h .before .before in
     let l = c .before .before .loop in
     let x = s .pre .0 in
     record {
       few = omega (arith, l .inv .0 .1, l .inv .1 .inside);
-      found = λ e. sought-done (s .args .p) (s .args .capacity) (s .args .cap) (x .0 .long) (x .1 .0) (x .1 .1 .1 .1) (l .r) (l .from) (omega (arith, c .before .loop-test .left)) (l .inv .1);
+      found = λ e. sought-done (s .args .p) (s .args .capacity) (s .args .cap) (x .0 .long) (x .1 .0) (x .1 .1 .1 .1) (l .r) (l .from)
+          (omega (arith, c .before .loop-test .left)) (l .inv .1);
       none = λ e. absurd (let z : _≡_ {A = ℕ} 0 1 = cc in omega arith);
     }
 

@@ -8,7 +8,11 @@ use Rattle.fillings.proofs.keyed.Statement.{statement}
 use Rattle.fillings.proofs.keyed.Tie as tie
 
 small : (c : tie.After-lesser) → c .lesser .result * c .before .args .base < 9223372036854775808
-small c = omega (arith, mul-le-mul-right (c .before .args .base) (below (c .before .args .left) (c .before .args .cost) (c .lesser .result) (c .lesser .ensures)))
+small c = omega (
+  arith,
+  mul-le-mul-right (c .before .args .base)
+      (below (c .before .args .left) (c .before .args .cost) (c .lesser .result) (c .lesser .ensures)),
+)
   where
     below : (a b n : ℕ) → n ≡ min a b → n ≤ a
     below a b n e = omega arith

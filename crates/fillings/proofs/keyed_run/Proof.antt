@@ -14,7 +14,8 @@ group-of-requires c κs = search needs
 
 least-keyed-requires : tie.Need-least-keyed-requires
 least-keyed-requires c κs =
-    let s = c .before .before .before .before in
+    let h = c .before .before .before in
+    let s = h .before in
     let b = s .pre .0 in
     ((b .fair, (b .among, (b .wide-long, gathers (b .left≥1) (b .start) (b .end) (c .before .group-of .ensures)))), s .pre .1)
 
@@ -29,38 +30,56 @@ same-length c = search needs
 
 returns : tie.Need-returns
 returns c =
-    let s = c .before .before .before .before .before .before .before .before .before in
-    subst (λ n. Runs (s .args .p) (s .args .r) (s .args .capacity) (s .args .cap) (s .args .from) (s .args .end) n) (sym (c .nothing .ensures)) (keyed-none (s .pre .0) (c .before .before .before .before .before .before .group-of .ensures) (c .before .before .before .before .least-keyed .ensures) (c .before .if1 .taken))
+    let h = c .before .before .before in
+    let l = h .before in
+    let g = l .before .before in
+    let s = g .before .before .before in
+    subst (λ n. Runs (s .args .p) (s .args .r) (s .args .capacity) (s .args .cap) (s .args .from) (s .args .end) n) (sym (c .nothing .ensures))
+    (keyed-none (s .pre .0) (g .group-of .ensures) (l .least-keyed .ensures) (c .before .if1 .taken))
 
 rem-decoded : tie.Need-rem-decoded
-rem-decoded c = base-some (c .before .before .before .before .before .group-of .ensures)
+rem-decoded c =
+    let h = c .before .before .before in
+    let g = h .before .before in
+    base-some (g .group-of .ensures)
 
 decoded-requires : tie.Need-decoded-requires
 decoded-requires c κs =
-    let s = c .before .before .before .before .before .before .before .before in
+    let h = c .before .before .before in
+    let go = h .before .before in
+    let s = go .before .before .before in
     let b = s .pre .0 in
-    let g = c .before .before .before .before .before .group-of in
-    (b .fair, (b .among, (gathers (b .left≥1) (b .start) (b .end) (g .ensures), mod-lt (c .before .before .before .least-keyed .result .least) (base-some (g .ensures)))))
+    let g = go .group-of in
+    (b .fair, (b .among, (gathers (b .left≥1) (b .start) (b .end) (g .ensures), mod-lt (h .least-keyed .result .least) (base-some (g .ensures)))))
 
 sub-t18 : tie.Need-sub-t18
 sub-t18 c = search needs
 
 div-t20 : tie.Need-div-t20
-div-t20 c = base-some (c .before .before .before .before .before .before .group-of .ensures)
+div-t20 c =
+    let h = c .before .before .before in
+    let g = h .before .before .before in
+    base-some (g .group-of .ensures)
 
 add-t21 : tie.Need-add-t21
 add-t21 c =
-    let s = c .before .before .before .before .before .before .before .before .before in
-    let g = c .before .before .before .before .before .before .group-of .ensures in
-    omega (arith, g .small, quotient-small (s .pre .0) g (c .before .before .before .before .least-keyed .ensures), s .pre .0 .cap-in)
+    let h = c .before .before .before in
+    let l = h .before in
+    let go = l .before .before in
+    let s = go .before .before .before in
+    let g = go .group-of .ensures in
+    omega (arith, g .small, quotient-small (s .pre .0) g (l .least-keyed .ensures), s .pre .0 .cap-in)
 
 same-length-2 : tie.Need-same-length-2
 same-length-2 c = search needs
 
 returns-2 : tie.Need-returns-2
 returns-2 c =
-    let s = c .before .before .before .before .before .before .before .before .before in
-    keyed-made (s .pre .0) (c .before .before .before .before .before .before .group-of .ensures) (c .before .before .before .before .least-keyed .ensures) (c .before .if1 .left) (c .decoded .ensures)
+    let h = c .before .before .before in
+    let l = h .before in
+    let g = l .before .before in
+    let s = g .before .before .before in
+    keyed-made (s .pre .0) (g .group-of .ensures) (l .least-keyed .ensures) (c .before .if1 .left) (c .decoded .ensures)
 
 pub keyed-run-spec : {M : Type 1} → statement M
 keyed-run-spec =

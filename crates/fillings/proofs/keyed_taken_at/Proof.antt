@@ -32,7 +32,10 @@ taken-key-requires : tie.Need-taken-key-requires
 taken-key-requires c κs = search needs
 
 keyed-requires : tie.Need-keyed-requires
-keyed-requires c κs = let s = c .before .before .before in (s .pre .0, small (flag (s .args .t1 .falls) (s .args .k)) _ _ (c .taken-key .ensures) (s .pre .1 .1))
+keyed-requires c κs = let s = c .before .before .before in (
+  s .pre .0,
+  small (flag (s .args .t1 .falls) (s .args .k)) _ _ (c .taken-key .ensures) (s .pre .1 .1),
+)
 
 returns : tie.Need-returns
 returns c = search needs

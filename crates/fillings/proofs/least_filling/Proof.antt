@@ -20,8 +20,10 @@ same-length c = search needs
 
 returns : tie.Need-returns
 returns c =
-    let s = c .before .before .before .before .before .before in
-    let w = c .before .before .before .before .whole-of in
+    let h = c .before .before .before in
+    let wo = h .before in
+    let s = wo .before .before in
+    let w = wo .whole-of in
     let n = c .before .before .run-over in
     (whole-least (s .args .p) (w .result) (s .args .capacity) (s .args .cap) (n .result) (s .pre .0 .0 .long) (w .ensures) (n .ensures), n .ensures .few)
 

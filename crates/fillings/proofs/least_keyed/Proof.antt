@@ -13,10 +13,24 @@ mul-most : tie.Need-mul-most
 mul-most c = search needs
 
 keyed-takens-requires : tie.Need-keyed-takens-requires
-keyed-takens-requires c κs = let s = c .before .before .before .before in let g = s .pre .0 .1 .1 .1 in (g .small, radices-small (s .args .r .wide) (c .radices .result) (s .args .from) (s .args .left) (s .args .g) g (c .radices .ensures))
+keyed-takens-requires c κs =
+    let h = c .before .before .before in
+    let s = h .before in
+    let g = s .pre .0 .1 .1 .1 in (
+      g .small,
+      radices-small (s .args .r .wide) (c .radices .result) (s .args .from) (s .args .left) (s .args .g)
+          g (c .radices .ensures),
+    )
 
 keyed-lefts-requires : tie.Need-keyed-lefts-requires
-keyed-lefts-requires c κs = let s = c .before .before .before .before .before in let g = s .pre .0 .1 .1 .1 in (g .small, radices-small (s .args .r .wide) (c .before .radices .result) (s .args .from) (s .args .left) (s .args .g) g (c .before .radices .ensures))
+keyed-lefts-requires c κs =
+    let h = c .before .before .before in
+    let s = h .before .before in
+    let g = s .pre .0 .1 .1 .1 in (
+      g .small,
+      radices-small (s .args .r .wide) (c .before .radices .result) (s .args .from) (s .args .left) (s .args .g) g
+          (c .before .radices .ensures),
+    )
 
 slice-aggregate-least-cost : tie.Need-slice-aggregate-least-cost
 slice-aggregate-least-cost c = search needs
@@ -32,27 +46,41 @@ slice-aggregate-least-cost-4 c = search needs
 
 least-cost-requires : tie.Need-least-cost-requires
 least-cost-requires c κs =
-    let s = c .before .before .before .before .before .before .before .before .before .before .before in
+    let h = c .before .before .before in
+    let k = h .before .before in
+    let kt = k .before in
+    let e = kt .before in
+    let b = e .before .before .before in
+    let s = b .before in
     let x = s .pre .0 in
-    let m = c .before .before .before .before .before .keyed-lefts in
-    (listed (s .args .p) (s .args .r) (s .args .from) (s .args .left) (s .args .g) (c .before .before .before .before .before .before .before .radices .result) (c .before .before .before .before .before .before .keyed-takens .result) (m .result) (x .0) (x .1 .1 .0) (x .1 .1 .1) (c .before .before .before .before .before .before .keyed-takens .ensures) (m .ensures), omega (arith, x .0 .light))
+    let m = k .keyed-lefts in (
+      listed (s .args .p) (s .args .r) (s .args .from) (s .args .left) (s .args .g) (e .radices .result) (kt .keyed-takens .result) (m .result) (x .0)
+          (x .1 .1 .0) (x .1 .1 .1) (kt .keyed-takens .ensures) (m .ensures),
+      omega (arith, x .0 .light),
+    )
 
 same-length : tie.Need-same-length
 same-length c = search needs
 
 returns : tie.Need-returns
 returns c =
-    let s = c .before .before .before .before .before .before .before .before .before .before .before .before .before .before in
+    let h = c .before .before .before in
+    let g = h .before .before .before in
+    let k = g .before .before in
+    let kt = k .before in
+    let e = kt .before in
+    let b = e .before .before .before in
+    let s = b .before in
     let x = s .pre .0 in
     let l = c .before .before .least-cost in
     record {
-      few = written-few (s .args .p) (s .args .r) (c .before .before .before .before .before .before .before .before .before .keyed-takens .result) (c .before .before .before .before .before .before .before .before .keyed-lefts .result) _ _ (l .result .written) (x .0) (x .1 .0) (l .ensures .1);
-      rad = c .before .before .before .before .before .before .before .before .before .before .radices .result;
-      ts = c .before .before .before .before .before .before .before .before .before .keyed-takens .result;
-      ls = c .before .before .before .before .before .before .before .before .keyed-lefts .result;
-      rads = c .before .before .before .before .before .before .before .before .before .before .radices .ensures;
-      takens = c .before .before .before .before .before .before .before .before .before .keyed-takens .ensures;
-      lefts = c .before .before .before .before .before .before .before .before .keyed-lefts .ensures;
+      few = written-few (s .args .p) (s .args .r) (kt .keyed-takens .result) (k .keyed-lefts .result) _ _ (l .result .written) (x .0) (x .1 .0) (l .ensures .1);
+      rad = e .radices .result;
+      ts = kt .keyed-takens .result;
+      ls = k .keyed-lefts .result;
+      rads = e .radices .ensures;
+      takens = kt .keyed-takens .ensures;
+      lefts = k .keyed-lefts .ensures;
       least = l .ensures .0;
     }
 

@@ -47,18 +47,28 @@ less-units-requires : tie.Need-less-units-requires
 less-units-requires c κs = search needs
 
 sub-less-units : tie.Need-sub-less-units
-sub-less-units c = let s = c .before .before .before .before .before .before in omega (arith, s .pre .0 (s .args .k) (s .pre .1))
+sub-less-units c =
+    let h = c .before .before .before in
+    let s = h .before .before .before in
+    omega (arith, s .pre .0 (s .args .k) (s .pre .1))
 
 sub-less-units-2 : tie.Need-sub-less-units-2
-sub-less-units-2 c = let s = c .before .before .before .before .before .before in omega (arith, s .pre .0 (s .args .k) (s .pre .1))
+sub-less-units-2 c =
+    let h = c .before .before .before in
+    let s = h .before .before .before in
+    omega (arith, s .pre .0 (s .args .k) (s .pre .1))
 
 less-units-requires-2 : tie.Need-less-units-requires-2
 less-units-requires-2 c κs = search needs
 
 returns : tie.Need-returns
 returns c =
-    let s = c .before .before .before .before .before .before .before .args in
-    join (s .cap) (num (s .t1 .taken) (s .k)) (num (s .t2 .low) (s .k)) (num (s .t1 .left) (s .k)) (num (s .t1 .range) (s .k)) (num (s .t2 .wide) (s .k)) _ _ (c .before .less-units .ensures) (c .less-units2 .ensures)
+    let h = c .before .before .before in
+    let g = h .before .before .before in
+    let start = g .before in
+    let s = start .args in
+    join (s .cap) (num (s .t1 .taken) (s .k)) (num (s .t2 .low) (s .k)) (num (s .t1 .left) (s .k)) (num (s .t1 .range) (s .k)) (num (s .t2 .wide) (s .k)) _ _
+    (c .before .less-units .ensures) (c .less-units2 .ensures)
 
 pub less-part-spec : {M : Type 1} → statement M
 less-part-spec =

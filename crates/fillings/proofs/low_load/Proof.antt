@@ -18,11 +18,12 @@ abbrev μ-loop : tie.MeasureT-loop
 μ-loop p r sum₀ k₀ sum k = 17 - k
 
 -- what a part weighs
-term : (c : tie.After-a Inv-loop μ-loop)
-    → num (c .before .before .before .before .args .t1 .weight) (c .before .before .before .loop .k) * num (c .before .before .before .before .args .t2 .low) (c .before .before .before .loop .k) ≤ 150000000000000000
+term : (c : tie.After-a Inv-loop μ-loop) → let l = c .before .before .before in let s = l .before .args in
+    num (s .t1 .weight) (l .loop .k) * num (s .t2 .low) (l .loop .k) ≤ 150000000000000000
 term c =
-    let s = c .before .before .before .before in
-    let k = c .before .before .before .loop .k in
+    let h = c .before .before .before in
+    let s = h .before in
+    let k = h .loop .k in
     let f = s .pre .0 in
     let w = sum-part (length (s .args .t1 .weight)) (num (s .args .t1 .weight)) k (omega (arith, f .long)) in
     let a : num (s .args .t2 .low) k ≤ 8796093022208 = omega (arith, s .pre .1 k (omega arith), f .ranges-in k (omega arith)) in
@@ -58,9 +59,12 @@ loop-less c = omega arith
 
 loop-again : tie.Need-loop-again Inv-loop μ-loop
 loop-again c =
-    let s = c .before .before .before .before .args in
-    let k = c .before .before .before .loop .k in
-    let e : filling.sum (k + 1) (λ j. num (s .t1 .weight) j * num (s .t2 .low) j) ≡ filling.sum k (λ j. num (s .t1 .weight) j * num (s .t2 .low) j) + num (s .t1 .weight) k * num (s .t2 .low) k = rw add-one in
+    let h = c .before .before .before in
+    let start = h .before in
+    let s = start .args in
+    let k = h .loop .k in
+    let e : filling.sum (k + 1) (λ j. num (s .t1 .weight) j * num (s .t2 .low) j) ≡ filling.sum k (λ j. num (s .t1 .weight) j * num (s .t2 .low) j) + num
+    (s .t1 .weight) k * num (s .t2 .low) k = rw add-one in
     ((omega arith, omega (arith, term c)), omega (arith, e))
 
 returns : tie.Need-returns Inv-loop μ-loop

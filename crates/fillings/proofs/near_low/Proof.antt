@@ -18,7 +18,8 @@ add-result : tie.Need-add-result
 add-result c = search needs
 
 returns : tie.Need-returns
-returns c = let s = c .before .before .args in rw (eq-eqb (s .t) 0 (c .before .if1 .taken)) (ap (λ (n : ℕ). s .low + (s .wide - n)) (rw (eq-eqb (s .t) 0 (c .before .if1 .taken)) at (c .near-wide .ensures)))
+returns c = let s = c .before .before .args in rw (eq-eqb (s .t) 0 (c .before .if1 .taken))
+    (ap (λ (n : ℕ). s .low + (s .wide - n)) (rw (eq-eqb (s .t) 0 (c .before .if1 .taken)) at (c .near-wide .ensures)))
 
 returns-2 : tie.Need-returns-2
 returns-2 c = let s = c .before .args in rw (ne-eqb (s .t) 0 (c .if1 .left))

@@ -29,7 +29,10 @@ element-copy-out-w : tie.Need-element-copy-out-w
 element-copy-out-w c = search needs
 
 near-low-requires : tie.Need-near-low-requires
-near-low-requires c κs = let s = c .before .before .before .before in (s .pre .0, omega (arith, s .pre .1 .1 .0 .ranges-in (s .args .k) (s .pre .1 .0), s .pre .1 .1 .1 (s .args .k) (s .pre .1 .0)))
+near-low-requires c κs =
+    let h = c .before .before .before in
+    let s = h .before in
+    (s .pre .0, omega (arith, s .pre .1 .1 .0 .ranges-in (s .args .k) (s .pre .1 .0), s .pre .1 .1 .1 (s .args .k) (s .pre .1 .0)))
 
 returns : tie.Need-returns
 returns c = search needs

@@ -28,10 +28,16 @@ returns : tie.Need-returns
 returns c = let s = c .before .before .args in rw (eq-eqb (s .l) 0 (c .before .if1 .taken), eq-eqb (s .t) 0 (c .if2 .taken))
 
 returns-2 : tie.Need-returns-2
-returns-2 c = let s = c .before .before .before .args in rw (eq-eqb (s .l) 0 (c .before .before .if1 .taken), ne-eqb (s .t) 0 (c .before .if2 .left)) (c .lesser .ensures)
+returns-2 c = let s = c .before .before .before .args in rw (
+  eq-eqb (s .l) 0 (c .before .before .if1 .taken),
+  ne-eqb (s .t) 0 (c .before .if2 .left),
+) (c .lesser .ensures)
 
 returns-3 : tie.Need-returns-3
-returns-3 c = let s = c .before .before .before .args in rw (ne-eqb (s .l) 0 (c .before .before .if1 .left), eq-eqb (s .t) 0 (c .before .if3 .taken)) (c .lesser2 .ensures)
+returns-3 c = let s = c .before .before .before .args in rw (
+  ne-eqb (s .l) 0 (c .before .before .if1 .left),
+  eq-eqb (s .t) 0 (c .before .if3 .taken),
+) (c .lesser2 .ensures)
 
 returns-4 : tie.Need-returns-4
 returns-4 c = let s = c .before .before .args in rw (ne-eqb (s .l) 0 (c .before .if1 .left), ne-eqb (s .t) 0 (c .if3 .left))

@@ -17,7 +17,10 @@ abbrev μ-loop : tie.MeasureT-loop
 μ-loop from to base wide list₀ b₀ k₀ list b k = to - k
 
 loop-holds : tie.Need-loop-holds Inv-loop μ-loop
-loop-holds c = let s = c in ((omega arith, (s .pre .0, left-first (s .pre .1 .1))), begun-first _ (s .args .from) (λ j l. radix-before _ (s .args .from) (s .args .to) j l))
+loop-holds c = let s = c in (
+  (omega arith, (s .pre .0, left-first (s .pre .1 .1))),
+  begun-first _ (s .args .from) (λ j l. radix-before _ (s .args .from) (s .args .to) j l),
+)
 
 mul-w : tie.Need-mul-w Inv-loop μ-loop
 mul-w c = omega arith
@@ -47,8 +50,11 @@ loop-again : tie.Need-loop-again Inv-loop μ-loop
 loop-again c =
     let s = c .before .before .args in
     let l = c .before .loop in
-    let q = left-next (l .inv .0 .1 .1) (omega arith) in
-    ((omega arith, (omega arith, q)), begun-step _ (l .k) _ (omega arith) (q .is ∙ sym (radix-at (num (s .t1)) (s .from) (s .to) (l .k) (l .inv .0 .0) (omega arith))) (l .inv .1))
+    let q = left-next (l .inv .0 .1 .1) (omega arith) in (
+      (omega arith, (omega arith, q)),
+      begun-step _ (l .k) _ (omega arith)
+          (q .is ∙ sym (radix-at (num (s .t1)) (s .from) (s .to) (l .k) (l .inv .0 .0) (omega arith))) (l .inv .1),
+    )
 
 returns : tie.Need-returns Inv-loop μ-loop
 returns c =

@@ -19,7 +19,8 @@ use Rattle.fillings.proofs.run_over.Statement.{statement}
 use Rattle.fillings.proofs.run_over.Tie as tie
 
 -- what costs less than the cap is within the narrowed ranges, so not lighter than their least amounts
-too-heavy : (p : Parts) (r n : Ranges) (C cap left : ℕ) → length (p .weight) ≡ 17 → Among p r → left ≡ cap - offsetOf p r → 1 ≤ left → Narrows p left r n → C < load (itemsIn p) (num (n .low))
+too-heavy : (p : Parts) (r n : Ranges) (C cap left : ℕ) → length (p .weight) ≡ 17 → Among p r → left ≡ cap - offsetOf p r → 1 ≤ left → Narrows p left r n →
+    C < load (itemsIn p) (num (n .low))
     → (y : ℕ → ℕ) → Inside r y → Fills p C y → cap ≤ cost (itemsIn p) y
 too-heavy p r n C cap left long among left-is left≥1 near h y i f = go (decLt (cost (itemsIn p) y) cap)
   where
@@ -35,38 +36,49 @@ nothing-requires c κs = search needs
 
 returns : tie.Need-returns
 returns c =
-    let s = c .before .before .before .before in
+    let h = c .before .before .before in
+    let s = h .before in
     let a = s .args in
     let x = s .pre .0 in
-    subst (λ n. Runs (a .p) (a .r) (a .capacity) (a .cap) (a .from) (a .end) n) (sym (c .nothing .ensures)) (runs-none (a .p) (a .r) (a .capacity) (a .cap) (a .from) (a .end) 0 (omega arith)
+    subst (λ n. Runs (a .p) (a .r) (a .capacity) (a .cap) (a .from) (a .end) n) (sym (c .nothing .ensures))
+    (runs-none (a .p) (a .r) (a .capacity) (a .cap) (a .from) (a .end) 0 (omega arith)
     (λ y i f. omega (arith, offset-least (a .p) (a .r) (x .0 .long) (x .1 .0) y i, c .before .before .remaining .ensures)))
 
 narrowed-requires : tie.Need-narrowed-requires
 narrowed-requires c κs = search needs
 
 low-load-requires : tie.Need-low-load-requires
-low-load-requires c κs = let s = c .before .before .before .before in let x = s .pre .0 in (x .0, near-among (s .args .p) (s .args .r) (c .narrowed .result) _ (x .0 .long) (x .1 .0) (c .narrowed .ensures))
+low-load-requires c κs =
+    let h = c .before .before .before in
+    let s = h .before in
+    let x = s .pre .0 in (x .0, near-among (s .args .p) (s .args .r) (c .narrowed .result) _ (x .0 .long) (x .1 .0) (c .narrowed .ensures))
 
 nothing-requires-2 : tie.Need-nothing-requires-2
 nothing-requires-2 c κs = search needs
 
 returns-2 : tie.Need-returns-2
 returns-2 c =
-    let s = c .before .before .before .before .before .before .before in
+    let h = c .before .before .before in
+    let g = h .before .before in
+    let s = g .before .before in
     let a = s .args in
     let x = s .pre .0 in
-    let m = c .before .before .before .before .before .remaining in
-    let n = c .before .before .before .narrowed in
-    subst (λ n. Runs (a .p) (a .r) (a .capacity) (a .cap) (a .from) (a .end) n) (sym (c .nothing2 .ensures)) (runs-none (a .p) (a .r) (a .capacity) (a .cap) (a .from) (a .end) 0 (omega arith)
-    (too-heavy (a .p) (a .r) (n .result) (a .capacity) (a .cap) (m .result) (x .0 .long) (x .1 .0) (m .ensures) (omega arith) (n .ensures) (omega (arith, c .before .before .low-load .ensures))))
+    let m = g .remaining in
+    let n = h .narrowed in
+    subst (λ n. Runs (a .p) (a .r) (a .capacity) (a .cap) (a .from) (a .end) n) (sym (c .nothing2 .ensures))
+    (runs-none (a .p) (a .r) (a .capacity) (a .cap) (a .from) (a .end) 0 (omega arith)
+    (too-heavy (a .p) (a .r) (n .result) (a .capacity) (a .cap) (m .result) (x .0 .long) (x .1 .0) (m .ensures) (omega arith) (n .ensures)
+    (omega (arith, c .before .before .low-load .ensures))))
 
 keyed-run-requires : tie.Need-keyed-run-requires
 keyed-run-requires c κs =
-    let s = c .before .before .before .before .before .before .before in
+    let h = c .before .before .before in
+    let g = h .before .before in
+    let s = g .before .before in
     let a = s .args in
     let x = s .pre .0 in
-    let m = c .before .before .before .before .before .remaining in
-    let n = c .before .before .before .narrowed in (
+    let m = g .remaining in
+    let n = h .narrowed in (
       record {
         fair = x .0;
         among = near-among (a .p) (a .r) (n .result) _ (x .0 .long) (x .1 .0) (n .ensures);
@@ -86,12 +98,17 @@ same-length c = search needs
 
 returns-3 : tie.Need-returns-3
 returns-3 c =
-    let s = c .before .before .before .before .before .before .before .before .before .before in
+    let h = c .before .before .before in
+    let g = h .before .before .before in
+    let i = g .before in
+    let e = i .before in
+    let s = e .before .before in
     let a = s .args in
     let x = s .pre .0 in
-    let m = c .before .before .before .before .before .before .before .before .remaining in
-    let n = c .before .before .before .before .before .before .narrowed in
-    runs-wider (a .p) (a .r) (n .result) (a .capacity) (a .cap) (a .from) (a .end) (m .result) (c .before .before .keyed-run .result) (x .0 .long) (x .1 .0) (x .1 .1 .0) (omega (arith, x .1 .1 .1 .0)) (m .ensures) (omega (arith, c .before .before .before .before .before .before .before .if1 .left)) (n .ensures) (c .before .before .keyed-run .ensures)
+    let m = e .remaining in
+    let n = g .narrowed in
+    runs-wider (a .p) (a .r) (n .result) (a .capacity) (a .cap) (a .from) (a .end) (m .result) (c .before .before .keyed-run .result) (x .0 .long) (x .1 .0)
+    (x .1 .1 .0) (omega (arith, x .1 .1 .1 .0)) (m .ensures) (omega (arith, i .if1 .left)) (n .ensures) (c .before .before .keyed-run .ensures)
 
 pub run-over-spec : {M : Type 1} → statement M
 run-over-spec =

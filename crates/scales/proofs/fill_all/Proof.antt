@@ -30,7 +30,9 @@ loop-holds c = ((omega arith, (refl, refl)), record { same = refl; table = refl 
 
 fill-item-requires : tie.Need-fill-item-requires Inv-loop μ-loop
 fill-item-requires c κs =
-    let s = c .before .before .before .before .before .before .before .before in
+    let h = c .before .before .before in
+    let g = h .before .before .before in
+    let s = g .before .before in
     let l = c .before .before .loop in
     let I = scaled (s .args .cap) (s .args .i) (itemsOf (s .args .ws .now) (s .args .us .now) (s .args .ts .now) (s .args .ls .now)) in
     let T = at (s .args .cap) (s .args .n) (s .args .cells .now) in
@@ -41,13 +43,16 @@ fill-item-requires c κs =
 
 add-written : tie.Need-add-written Inv-loop μ-loop
 add-written c =
-    let s = c .before .before .before .before .before .before .before .before .before .before .before .before in
-    let l = c .before .before .before .before .before .before .loop in
+    let h = c .before .before .before in
+    let w = h .before .before .before in
+    let g = w .before .before .before in
+    let s = g .before .before .before in
+    let l = w .loop in
     let I = scaled (s .args .cap) (s .args .i) (itemsOf (s .args .ws .now) (s .args .us .now) (s .args .ts .now) (s .args .ls .now)) in
     let more = sum-more (suc (l .j)) (length (s .args .ws .now)) (λ k. getD (s .args .ws .now) k 0) (omega arith) in
     let few : length (s .args .ws .now) ≤ 17 = s .pre .0 .few in
     let so-far = fill-most I (l .j) (s .args .n) 65536 (omega arith) in
-    let r = c .before .before .before .fill-item .ensures in
+    let r = h .fill-item .ensures in
     let live = live-most I (l .j) (s .args .n) in
     let here = pass-most (digit (restAt (s .args .i) (getD (s .args .us .now) (l .j) 0))) (getD (s .args .ws .now) (l .j) 0) (l .live) (omega arith) in
     omega (arith, r .written)
@@ -61,21 +66,29 @@ loop-less c = omega arith
 loop-again : tie.Need-loop-again Inv-loop μ-loop
 unfolding fill liveAt fillCells
 loop-again c =
-    let s = c .before .before .before .before .before .before .before .before .before .before .before .before in
-    let l = c .before .before .before .before .before .before .loop in
+    let h = c .before .before .before in
+    let w = h .before .before .before in
+    let g = w .before .before .before in
+    let s = g .before .before .before in
+    let l = w .loop in
     let I = scaled (s .args .cap) (s .args .i) (itemsOf (s .args .ws .now) (s .args .us .now) (s .args .ts .now) (s .args .ls .now)) in
-    let r = c .before .before .before .fill-item .ensures in
+    let r = h .fill-item .ensures in
     let here : l .live ≡ liveAt I (l .j) (s .args .n) = l .inv .0 .1 .0 in
-    let before : l .written ≡ fillCells I (l .j) (s .args .n) = l .inv .0 .1 .1 in
-    ((omega arith, (rw add-one (omega (arith, r .live, here)), rw add-one (ap₂ _+_ before (rw here at (r .written))))), rw add-one (shows-on (fillItem (s .args .cap) I (l .j)) (l .inv .1) (r .shows)))
+    let before : l .written ≡ fillCells I (l .j) (s .args .n) = l .inv .0 .1 .1 in (
+      (omega arith, (rw add-one (omega (arith, r .live, here)), rw add-one (ap₂ _+_ before (rw here at (r .written))))),
+      rw add-one (shows-on (fillItem (s .args .cap) I (l .j)) (l .inv .1) (r .shows)),
+    )
 
 same-length : tie.Need-same-length Inv-loop μ-loop
 same-length c = c .before .loop .inv .1 .same
 
 returns : tie.Need-returns Inv-loop μ-loop
 returns c =
+    let h = c .before .before .before in
+    let g = h .before .before .before in
+    let s = g .before in
     let l = c .before .loop in
-    let e : l .j ≡ length (c .before .before .before .before .before .before .before .args .ws .now) = omega arith in
+    let e : l .j ≡ length (s .args .ws .now) = omega arith in
     record { live = rw e at (l .inv .0 .1 .0); written = rw e at (l .inv .0 .1 .1); shows = rw e at (l .inv .1) }
 
 pub fill-all-spec : {M : Type 1} → statement M

@@ -38,7 +38,12 @@ shared-slice-read-cost-at : tie.Need-shared-slice-read-cost-at
 shared-slice-read-cost-at c = search needs
 
 cost-at-requires : tie.Need-cost-at-requires
-cost-at-requires c κs = let s = c .before .before .before .before .before .before .before .before .before .before .before in (s .pre .0 .taken (s .args .j) (s .pre .1 .0), s .pre .0 .small)
+cost-at-requires c κs =
+    let h = c .before .before .before in
+    let g = h .before .before .before in
+    let e = g .before .before .before in
+    let s = e .before .before in
+    (s .pre .0 .taken (s .args .j) (s .pre .1 .0), s .pre .0 .small)
 
 mul-cost-at-2 : tie.Need-mul-cost-at-2
 mul-cost-at-2 c = search needs
@@ -47,29 +52,48 @@ shared-slice-read-cost-at-2 : tie.Need-shared-slice-read-cost-at-2
 shared-slice-read-cost-at-2 c = search needs
 
 cost-at-requires-2 : tie.Need-cost-at-requires-2
-cost-at-requires-2 c κs = let s = c .before .before .before .before .before .before .before .before .before .before .before .before .before in (s .pre .0 .left (s .args .j) (s .pre .1 .0), s .pre .0 .small)
+cost-at-requires-2 c κs =
+    let h = c .before .before .before in
+    let g = h .before .before .before in
+    let e = g .before .before .before in
+    let b = e .before .before .before in
+    let s = b .before in
+    (s .pre .0 .left (s .args .j) (s .pre .1 .0), s .pre .0 .small)
 
 pass-times-requires : tie.Need-pass-times-requires
 pass-times-requires c κs =
-    let s = c .before .before .before .before .before .before .before .before .before .before .before .before .before .before .before in
-    let d = c .before .before .before .before .before .digit-of in
-    let w = c .before .before .before .before .before .before .before .before .index in
+    let h = c .before .before .before in
+    let o = h .before .before in
+    let g = o .before .before .before in
+    let e = g .before .before .before in
+    let k = e .before .before .before in
+    let s = k .before in
+    let d = o .digit-of in
+    let w = g .index in
     let l = s .pre .0 in
     let two : d .result * w .result ≤ 2 * w .result = mul-le-mul-right (w .result) (omega (arith, d .ensures)) in
     let a = cost-below (s .args .cap) (s .args .i) (getD (s .args .ts .now) (s .args .j) 0) (l .taken (s .args .j) (s .pre .1 .0)) in
-    let b = cost-below (s .args .cap) (s .args .i) (getD (s .args .ls .now) (s .args .j) 0) (l .left (s .args .j) (s .pre .1 .0)) in
-    (record { small = l .small; taken = rw (c .before .before .before .cost-at .ensures) a; left = rw (c .before .cost-at2 .ensures) b }, (s .pre .1 .1 .0, (omega (arith, d .ensures), (omega (arith, two, w .ensures), omega (arith, two, w .ensures)))))
+    let b = cost-below (s .args .cap) (s .args .i) (getD (s .args .ls .now) (s .args .j) 0) (l .left (s .args .j) (s .pre .1 .0)) in (
+      record { small = l .small; taken = rw (h .cost-at .ensures) a; left = rw (c .before .cost-at2 .ensures) b },
+      (s .pre .1 .1 .0, (omega (arith, d .ensures), (omega (arith, two, w .ensures), omega (arith, two, w .ensures)))),
+    )
 
 same-length : tie.Need-same-length
 same-length c = search needs
 
 returns : tie.Need-returns
 returns c =
-    let r = c .before .before .before .before .before .before .before .before .before .rest-at .ensures in
-    let d = c .before .before .before .before .before .before .before .before .digit-of .ensures ∙ ap digit r in
-    let w = c .before .before .before .before .before .before .before .before .before .before .before .index .ensures in
-    let a = c .before .before .before .before .before .before .cost-at .ensures in
-    let b = c .before .before .before .before .cost-at2 .ensures in
+    let h = c .before .before .before in
+    let ca = h .before in
+    let g = ca .before .before in
+    let o = g .before .before in
+    let ra = o .before in
+    let i = ra .before .before in
+    let r = ra .rest-at .ensures in
+    let d = o .digit-of .ensures ∙ ap digit r in
+    let w = i .index .ensures in
+    let a = g .cost-at .ensures in
+    let b = ca .cost-at2 .ensures in
     let p = c .before .before .pass-times .ensures in
     record { live = rw (d, w) at (p .0 .0); written = rw (d, w) at (p .0 .1); shows = rw (d, w, a, b) at (p .1) }
 

@@ -13,7 +13,9 @@ scales-of-all-requires c κs = search needs
 
 solve-requires : tie.Need-solve-requires
 solve-requires c κs =
-    let s = c .before .before .before .before .before .before .before in
+    let h = c .before .before .before in
+    let g = h .before .before .before in
+    let s = g .before in
     ((s .pre .0, c .before .scales-of-all .ensures .few), s .pre .1)
 
 same-length : tie.Need-same-length
@@ -21,10 +23,13 @@ same-length c = search needs
 
 returns : tie.Need-returns
 returns c =
-    let s = c .before .before .before .before .before .before .before .before .before .before in
+    let g = c .before .before .before in
+    let soa = g .before in
+    let e = soa .before .before .before in
+    let s = e .before .before .before in
     let cap = s .args .cap in
     let C = s .args .capacity in
-    let n = c .before .before .before .before .scales-of-all in
+    let n = soa .scales-of-all in
     let I = itemsOf (s .args .ws .now) (s .args .us .now) (s .args .ts .now) (s .args .ls .now) in
     let done : Done (n .result) I = λ j l. n .ensures .done j (omega (arith, s .pre .0 .ranges)) in
     let r = c .before .before .solve .ensures in (

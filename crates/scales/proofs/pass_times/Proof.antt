@@ -26,7 +26,8 @@ loop-holds c = ((omega arith, (omega arith, refl)), record { same = refl; table 
 
 pass-over-requires : tie.Need-pass-over-requires Inv-loop μ-loop
 pass-over-requires c κs =
-    let s = c .before .before .before .before in
+    let h = c .before .before .before in
+    let s = h .before in
     let l = c .before .before .loop in
     let m : (l .k + 1) * s .args .w ≤ s .args .d * s .args .w = mul-le-mul-right (s .args .w) (omega arith) in
     let T = at (s .args .cap) (s .args .n) (s .args .cells .now) in
@@ -35,15 +36,19 @@ pass-over-requires c κs =
 
 add-live : tie.Need-add-live Inv-loop μ-loop
 add-live c =
-    let s = c .before .before .before .before .before .before .before in
-    let l = c .before .before .before .before .before .loop in
+    let h = c .before .before .before in
+    let at-loop = h .before .before in
+    let s = at-loop .before .before in
+    let l = at-loop .loop in
     let m : (l .k + 1) * s .args .w ≤ s .args .d * s .args .w = mul-le-mul-right (s .args .w) (omega arith) in
     omega arith
 
 add-written : tie.Need-add-written Inv-loop μ-loop
 add-written c =
-    let s = c .before .before .before .before .before .before .before in
-    let l = c .before .before .before .before .before .loop in
+    let h = c .before .before .before in
+    let at-loop = h .before .before in
+    let s = at-loop .before .before in
+    let l = at-loop .loop in
     let m : (l .k + 1) * s .args .w ≤ s .args .d * s .args .w = mul-le-mul-right (s .args .w) (omega arith) in
     omega (arith, pass-most (l .k) (s .args .w) (s .args .n) (omega arith))
 
@@ -56,8 +61,10 @@ loop-less c = omega arith
 loop-again : tie.Need-loop-again Inv-loop μ-loop
 unfolding passes passCells
 loop-again c =
-    let s = c .before .before .before .before .before .before .before in
-    let l = c .before .before .before .before .before .loop in
+    let h = c .before .before .before in
+    let at-loop = h .before .before in
+    let s = at-loop .before .before in
+    let l = at-loop .loop in
     let shows = shows-on (pass (s .args .cap) (s .args .w) (s .args .a) (s .args .b)) (l .inv .1) (c .before .before .pass-over .ensures) in
     ((omega arith, (omega arith, rw add-one (omega arith))), rw add-one shows)
 

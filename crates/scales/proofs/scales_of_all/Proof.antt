@@ -12,7 +12,8 @@ use Rattle.scales.proofs.scales_of_all.Tie as tie
 
 abbrev Inv-loop : tie.InvT-loop
 Inv-loop us most₀ j₀ most j =
-    ((j ≤ length us) × ((most ≤ 64) × ((k : ℕ) → k < j → restAt most (getD us k 0) ≡ 0))) × ((s : ℕ) → ((k : ℕ) → k < j → restAt s (getD us k 0) ≡ 0) → most ≤ s)
+    ((j ≤ length us) × ((most ≤ 64) × ((k : ℕ) → k < j → restAt most (getD us k 0) ≡ 0))) ×
+    ((s : ℕ) → ((k : ℕ) → k < j → restAt s (getD us k 0) ≡ 0) → most ≤ s)
 
 abbrev μ-loop : tie.MeasureT-loop
 μ-loop us most₀ j₀ most j = length us - j
@@ -40,8 +41,11 @@ loop-less c = omega arith
 
 loop-again : tie.Need-loop-again Inv-loop μ-loop
 loop-again c =
-    let l = c .before .before .before .before .loop in
-    let us = c .before .before .before .before .before .before .args .us .now in
+    let e = c .before .before .before in
+    let w = e .before in
+    let start = w .before .before in
+    let l = w .loop in
+    let us = start .args .us .now in
     let g = c .greater in
     let o = c .before .scales-of in (
       (

@@ -23,12 +23,16 @@ slice-write-cells c = omega arith
 
 loop-holds : tie.Need-loop-holds Inv-loop μ-loop
 loop-holds c =
-    let s = c .before .before .before .before .before .args in
+    let h = c .before .before .before in
+    let start = h .before .before in
+    let s = start .args in
     scaling-first (s .cells .now) (omega arith) (sym (length-set (s .cells .now) 0 0))
 
 fill-all-requires : tie.Need-fill-all-requires Inv-loop μ-loop
 fill-all-requires c κs =
-    let s = c .before .before .before .before .before .before .before .before in
+    let h = c .before .before .before in
+    let g = h .before .before .before in
+    let s = g .before .before in
     let l = c .before .before .loop in
     let r : length (l .cells) ≡ length (s .args .cells .now) = l .inv .same ∙ length-set (s .args .cells .now) 0 0 in
     let f : l .n ≤ 2 * total (s .args .ws .now) + 1 = l .inv .few in
@@ -40,20 +44,30 @@ index-requires c κs = search needs
 
 halve-cells-requires : tie.Need-halve-cells-requires Inv-loop μ-loop
 halve-cells-requires c κs =
-    let s = c .before .before .before .before .before .before .before .before .before .before .before .before .before in
-    let l = c .before .before .before .before .before .before .before .loop in
-    let a = c .before .before .before .before .fill-all .ensures in
+    let h = c .before .before .before in
+    let fa = h .before in
+    let w = fa .before .before .before in
+    let g = w .before .before .before in
+    let s = g .before .before .before in
+    let l = w .loop in
+    let a = fa .fill-all .ensures in
     let r : length (l .cells) ≡ length (s .args .cells .now) = l .inv .same ∙ length-set (s .args .cells .now) 0 0 in
     let f : l .n ≤ 2 * total (s .args .ws .now) + 1 = l .inv .few in
-    let live = live-most (scaled (s .args .cap) (l .i) (itemsOf (s .args .ws .now) (s .args .us .now) (s .args .ts .now) (s .args .ls .now))) (length (s .args .ws .now)) (l .n) in
+    let live = live-most (scaled (s .args .cap) (l .i) (itemsOf (s .args .ws .now) (s .args .us .now) (s .args .ts .now) (s .args .ls .now)))
+    (length (s .args .ws .now)) (l .n) in
     (omega (arith, a .live, a .shows .same), omega (arith, c .before .index .ensures))
 
 add-written : tie.Need-add-written Inv-loop μ-loop
 add-written c =
-    let s = c .before .before .before .before .before .before .before .before .before .before .before .before .before .before .before .before .before in
-    let l = c .before .before .before .before .before .before .before .before .before .before .before .loop in
-    let a = c .before .before .before .before .before .before .before .before .fill-all .ensures in
-    let h = c .before .before .before .halve-cells .ensures in
+    let g = c .before .before .before in
+    let e = g .before .before .before in
+    let fa = e .before .before in
+    let w = fa .before .before .before in
+    let b = w .before .before .before in
+    let s = b .before .before .before in
+    let l = w .loop in
+    let a = fa .fill-all .ensures in
+    let h = g .halve-cells .ensures in
     let I = scaled (s .args .cap) (l .i) (itemsOf (s .args .ws .now) (s .args .us .now) (s .args .ts .now) (s .args .ls .now)) in
     let f : l .n ≤ 2 * total (s .args .ws .now) + 1 = l .inv .few in
     let light : 4 * total (s .args .ws .now) < 65536 = s .pre .0 .0 .light in
@@ -64,10 +78,15 @@ add-written c =
 
 add-written-2 : tie.Need-add-written-2 Inv-loop μ-loop
 add-written-2 c =
-    let s = c .before .before .before .before .before .before .before .before .before .before .before .before .before .before .before .before .before in
-    let l = c .before .before .before .before .before .before .before .before .before .before .before .loop in
-    let a = c .before .before .before .before .before .before .before .before .fill-all .ensures in
-    let h = c .before .before .before .halve-cells .ensures in
+    let g = c .before .before .before in
+    let e = g .before .before .before in
+    let fa = e .before .before in
+    let w = fa .before .before .before in
+    let b = w .before .before .before in
+    let s = b .before .before .before in
+    let l = w .loop in
+    let a = fa .fill-all .ensures in
+    let h = g .halve-cells .ensures in
     let I = scaled (s .args .cap) (l .i) (itemsOf (s .args .ws .now) (s .args .us .now) (s .args .ts .now) (s .args .ls .now)) in
     let f : l .n ≤ 2 * total (s .args .ws .now) + 1 = l .inv .few in
     let light : 4 * total (s .args .ws .now) < 65536 = s .pre .0 .0 .light in
@@ -85,11 +104,16 @@ loop-less c = omega arith
 
 loop-again : tie.Need-loop-again Inv-loop μ-loop
 loop-again c =
-    let s = c .before .before .before .before .before .before .before .before .before .before .before .before .before .before .before .before .before in
-    let l = c .before .before .before .before .before .before .before .before .before .before .before .loop in
-    let a = c .before .before .before .before .before .before .before .before .fill-all in
-    let e = c .before .before .before .before .before .index .ensures in
-    let h = c .before .before .before .halve-cells in
+    let g = c .before .before .before in
+    let b = g .before .before in
+    let f = b .before .before .before in
+    let w = f .before .before .before in
+    let d = w .before .before .before in
+    let s = d .before .before .before in
+    let l = w .loop in
+    let a = f .fill-all in
+    let e = b .index .ensures in
+    let h = g .halve-cells in
     let I = scaled (s .args .cap) (l .i) (itemsOf (s .args .ws .now) (s .args .us .now) (s .args .ts .now) (s .args .ls .now)) in
     let live = live-most I (length (s .args .ws .now)) (l .n) in
     scaling-step (a .result .n) (a .result .written) (h .result) (omega arith) (omega (arith, a .ensures .live)) (omega arith)
@@ -100,20 +124,28 @@ index-requires-2 c κs = search needs
 
 look-requires : tie.Need-look-requires Inv-loop μ-loop
 look-requires c κs =
-    let s = c .before .before .before .before .before .before .before .before .before in
-    let l = c .before .before .before .loop in
+    let h = c .before .before .before in
+    let g = h .before .before .before in
+    let s = g .before .before .before in
+    let l = h .loop in
     let r : length (l .cells) ≡ length (s .args .cells .now) = l .inv .same ∙ length-set (s .args .cells .now) 0 0 in
     let f : l .n ≤ 2 * total (s .args .ws .now) + 1 = l .inv .few in
     omega arith
 
 same-length : tie.Need-same-length Inv-loop μ-loop
 same-length c =
-    let s = c .before .before .before .before .before .before .before .before .before .before .args in
-    c .before .before .before .before .loop .inv .same ∙ length-set (s .cells .now) 0 0
+    let h = c .before .before .before in
+    let w = h .before in
+    let g = w .before .before .before in
+    let start = g .before .before .before in
+    let s = start .args in
+    w .loop .inv .same ∙ length-set (s .cells .now) 0 0
 
 returns : tie.Need-returns Inv-loop μ-loop
 returns c =
-    let l = c .before .before .before .before .loop in
+    let h = c .before .before .before in
+    let w = h .before in
+    let l = w .loop in
     (c .look .ensures ∙ rw (c .before .before .index2 .ensures) (scaling-done (omega arith) (l .inv)), written-done (omega arith) (l .inv))
 
 pub solve-spec : {M : Type 1} → statement M

@@ -26,7 +26,9 @@ use Rattle.greedy.proofs.fill_up.Reads as fill-up-reads
 
 -- the start of the function, from where its box is filled
 abbrev entry : tie.After-struct-told → tie.Start
-entry c = c .before .before .before .before
+entry c =
+    let h = c .before .before .before in
+    h .before
 
 box : (c : tie.After-struct-told) → let a = entry c .args in Boxes (a .cols) (a .ends) (a .level) (a .levels)
 box c = entry c .pre .0 .0
@@ -79,8 +81,9 @@ first-of-frame-requires : tie.Need-first-of-frame-requires
 first-of-frame-requires c κs =
     let t = c .before .before in
     let m = t .before .before .before in
-    let s = entry (m .before .before .before .before) in
-    let x = box (m .before .before .before .before) in
+    let e = m .before .before .before in
+    let s = entry (e .before) in
+    let x = box (e .before) in
     let b = bounded m in
     let f = best-frame t in
     rw (within-back tt (b .top-in)) (
@@ -92,7 +95,11 @@ first-of-frame-requires c κs =
     )
 
 by-level-requires : tie.Need-by-level-requires
-by-level-requires c κs = let e = c .before .before .before .before .before .before .before .before .before .before .before .before in
+by-level-requires c κs =
+    let h = c .before .before .before in
+    let g = h .before .before .before in
+    let b = g .before .before .before in
+    let e = b .before .before .before in
     (box (e .before) .few, level-in e)
 
 add-t20 : tie.Need-add-t20
@@ -103,12 +110,14 @@ same-length c = search needs
 
 returns-2 : tie.Need-returns-2
 returns-2 c =
-    let t = c .before .before .before .before .before .before .before .before .before in
+    let h = c .before .before .before in
+    let f = h .before .before .before in
+    let t = f .before .before .before in
     let m = t .before .before .before in
     let e = m .before .before .before in
     let a = entry (e .before) .args in
     let w = m .before .before .wholes in
-    let g = c .before .before .before .before .before .before .first-of-frame in
+    let g = f .first-of-frame in
     let y = c .before .before .by-level in
     let b = bounded m in
     let some = found-some (a .cols) (a .ends) (a .level) (a .levels) (box (e .before)) (w .result) (w .ensures) (a .known) (a .value) (m .ceiling .result) b
