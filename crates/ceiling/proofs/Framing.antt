@@ -1,7 +1,8 @@
 -- Frames as the code makes them, and the losses of their points.
 -- framed-made: the ends of a frame. frame-floor: a bound of a frame's losses, with what the frame itself loses. frame-attained: a point that has just
 -- so much. frame-feasible: a point of a frame is feasible in the box; loose-cut: where no whole item is cut.
--- ordered-ranked: an order by price per weight is an order.  frame-scale, frame-sized, frame-modest, frame-cut, of-floor, of-attained, frame-narrow: a frame as the code has it.
+-- ordered-ranked: an order by price per weight is an order.
+-- frame-scale, frame-sized, frame-modest, frame-cut, of-floor, of-attained, frame-narrow: a frame as the code has it.
 -- own-floor, own-none, own-later, own-first: the first of its points that lose so much.
 -- lowered-counted, lowered-new, lowered-old: the least so far.  last-bound: the latest frame that can be needed stands for the last one.
 --   Sofar p q c e w known t b   b is the least of what is known and the frames before t that can be needed

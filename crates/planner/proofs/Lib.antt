@@ -1,4 +1,5 @@
 pub mod Terms
 pub mod Values
 pub mod Outcomes
+pub mod Scales
 pub mod Demands

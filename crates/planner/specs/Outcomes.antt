@@ -5,19 +5,25 @@
 --   boxAt, fillAt, valueAt s x
 --                     the box of the place x, its filling, and its value
 --   Best s x a        a shows the relaxation of the place x and its value in lowest terms, and no steps
---   Walked p n        n steps were taken by the search of p
---   CountsAs k p n, Counts p a n
+--   standing s f x    the incumbent that the place x is
+--   mostCells         the most cells that the scales write for a problem
+--   BestPlace s p n r r is the best place of the box, with the steps of a search that may take n
+--   Walked most p n   n steps were taken by the search of p that may take `most`
+--   CountsAs most k p n, Counts most p a n
 --                     n steps were taken for an answer of that kind, for the answer a
---   Decides p r       r is the answer of p, with the steps of its search;  Solves p r: with those of the presolved problem
+--   SolvesWithin most p r
+--                     r is the answer of p, with the steps of its search, at most so many;  Solves p r: at most 1,000
 use mathlib.Core.Path.{_≡_}
+use mathlib.Core.Bool.{Bool}
 use mathlib.Core.List.{List}
-use Prim.Native.Nat.{ℕ, _≤_}
+use Prim.Native.Nat.{ℕ, _*_, _≤_}
 use lib.IntN.{ℤ, pos, _*ℤ_}
 use lib.ListN.{replicate}
 use Rattle.arith.specs.Within.{Within}
 use Rattle.arith.specs.Gcd.{lowest}
 use Rattle.arith.specs.declared.Mixed.{Mixed}
 use Rattle.arith.proofs.Mixes.{over}
+use Rattle.fillings.specs.Runs.{runCells}
 use Rattle.greedy.specs.Amounts.{Amounts}
 use Rattle.greedy.specs.declared.Ends.{Ends}
 use Rattle.greedy.specs.declared.Fill.{Fill}
@@ -30,12 +36,14 @@ use Rattle.knapsack.specs.declared.Problem.{Problem}
 use Rattle.prepare.specs.Pairs.{PairsOf}
 use Rattle.prepare.specs.Narrowing.{spanOf}
 use Rattle.prepare.specs.Prepared.{PreparedAt}
-use Rattle.presolve.specs.Presolve.{presolved}
 use Rattle.setting.specs.declared.Pairs.{Pairs}
 use Rattle.setting.specs.declared.Setting.{Setting}
+use Rattle.search.specs.declared.Incumbent.{Incumbent}
 use Rattle.search.specs.declared.State.{State}
 use Rattle.setting.specs.Box.{fixedBy}
-use Rattle.search.specs.Steps.{EndsAfter}
+use Rattle.search.specs.Searched.{Searched}
+use Rattle.search.specs.Steps.{Stops}
+use Rattle.planner.specs.declared.Found.{Found}
 use Rattle.planner.specs.declared.Solved.{Solved}
 
 pub record Joinable (v : Mixed) : Type 0 where
@@ -69,33 +77,50 @@ pub record Best (s : Setting) (x : List ℤ) (a : Answer) : Type 0 where
   pub steps-are : a .steps ≡ replicate 16 (pos 0)
   pub value-is : a .value ≡ lowest (over (valueAt s x)) (valueAt s x .parts)
 
+-- ---- the best place of a box
+
+-- an incumbent at x
+abbrev pub standing : Setting → Bool → List ℤ → Incumbent
+standing s f x = record { found = f; place = x; value = valueAt s x }
+
+abbrev pub mostCells : ℕ
+mostCells = 33 * runCells
+
+-- the place is best in the box, or there is none; the steps are those of a search that may take n, and the cells few
+pub record BestPlace (s : Setting) (p : Pairs) (n : ℕ) (r : Found) : Type 0 where
+  pub searched : Searched s (standing s (r .found) (r .place))
+  pub end : State
+  pub stops : Stops s p n end
+  pub steps-are : r .steps ≡ end .steps
+  pub few-cells : r .cells ≤ mostCells
+
 -- ---- the answer of a problem, and the steps of its search
 
--- n steps were taken by a search of p's own setting, narrowed to its items' spans
-pub record Walked (p : Problem) (n : ℕ) : Type 0 where
+-- n steps were taken by a search of p's own setting, narrowed to its items' spans, that may take `most`
+pub record Walked (most : ℕ) (p : Problem) (n : ℕ) : Type 0 where
   pub setting : Setting
   pub prepared : PreparedAt (spanOf p) p setting
   pub pairs : Pairs
   pub pairs-are : PairsOf p pairs
   pub end : State
-  pub ended : EndsAfter setting pairs end
+  pub stops : Stops setting pairs most end
   pub steps-are : n ≡ end .steps
 
 -- an optimum is searched for; no other answer is
-abbrev pub CountsAs : Kind → Problem → ℕ → Type 0
-CountsAs kind.Optimal p n = Walked p n
-CountsAs kind.Infeasible p n = n ≡ 0
-CountsAs kind.Unbounded p n = n ≡ 0
-CountsAs (kind.Refused f) p n = ⊥
+abbrev pub CountsAs : ℕ → Kind → Problem → ℕ → Type 0
+CountsAs most kind.Optimal p n = Walked most p n
+CountsAs most kind.Infeasible p n = n ≡ 0
+CountsAs most kind.Unbounded p n = n ≡ 0
+CountsAs most (kind.Refused f) p n = ⊥
 
-abbrev pub Counts : Problem → Answer → ℕ → Type 0
-Counts p a n = CountsAs (a .kind) p n
+abbrev pub Counts : ℕ → Problem → Answer → ℕ → Type 0
+Counts most p a n = CountsAs most (a .kind) p n
 
-pub record Decides (p : Problem) (r : Solved) : Type 0 where
+pub record SolvesWithin (most : ℕ) (p : Problem) (r : Solved) : Type 0 where
   pub answers : Answers (instanceOf p) (r .answer)
-  pub counts : Counts p (r .answer) (r .steps)
+  pub counts : Counts most p (r .answer) (r .steps)
+  pub few-steps : r .steps ≤ most
+  pub few-cells : r .cells ≤ mostCells
 
--- the search is that of the presolved problem
-pub record Solves (p : Problem) (r : Solved) : Type 0 where
-  pub answers : Answers (instanceOf p) (r .answer)
-  pub counts : Counts (presolved p) (r .answer) (r .steps)
+abbrev pub Solves : Problem → Solved → Type 0
+Solves p r = SolvesWithin 1000 p r

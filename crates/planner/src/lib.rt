@@ -20,11 +20,14 @@ use prepare::narrowed;
 use prepare::pairs_of;
 use prepare::prepare;
 use prepare::reach_of;
-use presolve::presolve;
 use rays::find_ray;
+use search::Incumbent;
 use search::run;
+use setting::Pairs;
 use setting::Setting;
 use setting::fixed;
+use settling::Settled;
+use settling::settle;
 ghost use mathlib.Core.Path.{_≡_};
 ghost use Rattle.arith.proofs.Mixes.{over};
 ghost use Rattle.greedy.specs.Fill.{at};
@@ -33,9 +36,15 @@ ghost use Rattle.knapsack.specs.Ranges.{InRange};
 ghost use Rattle.knapsack.specs.Meaning.{bare};
 ghost use Rattle.model.specs.Promises.{Planned};
 ghost use Rattle.model.specs.Records.{FiguresInRange};
-ghost use Rattle.setting.specs.Ready.{ReadySetting};
+ghost use Rattle.ceiling.specs.Sizes.{Spanned};
+ghost use Rattle.search.specs.Steps.{GoodBest};
+ghost use Rattle.setting.specs.Ready.{ReadySetting, Ready};
 ghost use Rattle.setting.specs.Box.{Inside};
-ghost use Rattle.planner.specs.Outcomes.{Joinable, Cornered, Best, Decides, Solves};
+ghost use Rattle.settling.specs.Settling.{Settles};
+ghost use Rattle.planner.specs.Outcomes.{Joinable, Cornered, Best, BestPlace, SolvesWithin, Solves};
+
+// How many steps a search may take before the scales answer. Nearly all searches end before; one that has not may take for ever.
+pub const STEPS: u64 = 1000;
 
 // A value as one number of parts.
 fn joined(v: Mixed) -> i64
@@ -99,72 +108,134 @@ fn optimal(s: Setting, x: [i64; 16]) -> Answer
     }
 }
 
-// An answer, and how many steps its search ended.
+// A place that is best, if the box holds one; the steps of its search, and the cells that the scales wrote.
+pub struct Found {
+    pub found: bool,
+    pub place: [i64; 16],
+    pub steps: u64,
+    pub cells: u64,
+}
+
+// What is left of a search whose incumbent is b, by scales. Their cells are lent from here, so that only a search that has not ended pays for them.
+fn settled(s: Setting, b: Incumbent) -> Settled
+    requires { ⌜ ReadySetting s × (Spanned (s .cols) (s .ends) × GoodBest s b) ⌝ }
+    ensures { λ r. ⌜ Settles (s .cols) (s .ends) (s .level) (s .levels) r ⌝ }
+{
+    let cols = s.cols;
+    let ends = s.ends;
+    let level = s.level;
+    let x = b.place;
+    let v = b.value;
+    let mut cells = [0u64; 65535];
+    settle(cols, ends, level, s.levels, b.found, x, v, &mut cells)
+}
+
+// The best place of the box: the search's, or where that has not ended after so many steps, the one that the scales find.
+fn best_place(s: Setting, p: Pairs, most: u64) -> Found
+    requires { ⌜ Ready s p × Spanned (s .cols) (s .ends) ⌝ }
+    ensures { λ r. ⌜ BestPlace s p most r ⌝ }
+{
+    let q = run(s, p, most);
+    let best = q.best;
+    if q.done {
+        let place = best.place;
+        return Found {
+            found: best.found,
+            place: place,
+            steps: q.steps,
+            cells: 0,
+        };
+    }
+    let t = settled(s, best);
+    let place = t.place;
+    Found {
+        found: t.found,
+        place: place,
+        steps: q.steps,
+        cells: t.written,
+    }
+}
+
+// An answer, how many steps its search took, and how many cells the scales wrote.
 pub struct Solved {
     pub answer: Answer,
     pub steps: u64,
+    pub cells: u64,
 }
 
-// The answer of a problem in range as it stands. No search is needed where its lightest point is too heavy, or where it has a ray; else one finds a
-// place, for the lightest point is feasible: see proofs/Outcomes (must-find).
-fn decide(p: Problem) -> Solved
+fn with_work(a: Answer, steps: u64, cells: u64) -> Solved
+    ensures { λ r. ⌜ r ≡ record { answer = a; steps = steps; cells = cells } ⌝ }
+{
+    Solved {
+        answer: a,
+        steps: steps,
+        cells: cells,
+    }
+}
+
+// The answer of a problem in range as it stands, by a search of at most so many steps. No search is needed where its lightest point is too heavy, or
+// where it has a ray; else there is a best place, for the lightest point is feasible: see proofs/Outcomes (must-find).
+fn decide(p: Problem, most: u64) -> Solved
     requires { ⌜ InRange p ⌝ }
-    ensures { λ r. ⌜ Decides p r ⌝ }
+    ensures { λ r. ⌜ SolvesWithin most p r ⌝ }
 {
     let s = prepare(p);
     let f = begin(s.cols, s.ends);
     if f.room < 0 {
         let a = no_point(Kind::Infeasible);
-        return with_steps(a, 0);
+        return with_work(a, 0, 0);
     }
     let ray = find_ray(p);
     if ray.found {
         let steps = ray.steps;
         let a = unbounded(s, steps);
-        return with_steps(a, 0);
+        return with_work(a, 0, 0);
     }
     let near = narrowed(s, reach_of(p));
     let pairs = pairs_of(p);
-    let q = run(near, pairs);
-    let best = q.best;
-    let place = best.place;
+    let b = best_place(near, pairs, most);
+    let place = b.place;
     let a = optimal(near, place);
-    with_steps(a, q.steps)
+    with_work(a, b.steps, b.cells)
 }
 
-fn with_steps(a: Answer, n: u64) -> Solved
-    ensures { λ r. ⌜ r ≡ record { answer = a; steps = n } ⌝ }
+// The answer of a problem whose figures are in range, by a search of at most so many steps. Where bounds cross it is infeasible, even if there is a
+// ray: see model's proofs/Crossings (crossed-infeasible).
+pub fn solve_within(p: Problem, most: u64) -> Solved
+    requires { ⌜ FiguresInRange p ⌝ }
+    ensures { λ r. ⌜ SolvesWithin most p r ⌝ }
 {
-    Solved {
-        answer: a,
-        steps: n,
+    if some_crosses(p) {
+        let none = no_point(Kind::Infeasible);
+        return with_work(none, 0, 0);
     }
+    decide(p, most)
 }
 
-// The answer of a problem whose figures are in range. Where bounds cross it is infeasible, even if there is a ray: see model's proofs/Crossings
-// (crossed-infeasible). Else it is that of the problem with its parallel items fixed.
 pub fn solve(p: Problem) -> Solved
     requires { ⌜ FiguresInRange p ⌝ }
     ensures { λ r. ⌜ Solves p r ⌝ }
 {
-    if some_crosses(p) {
-        let none = no_point(Kind::Infeasible);
-        return with_steps(none, 0);
+    solve_within(p, STEPS)
+}
+
+// The reply to any record, by a search of at most so many steps.
+pub fn plan_within(m: Model, most: u64) -> Answer
+    ensures { λ r. ⌜ Planned m r ⌝ }
+{
+    let v = check_model(m);
+    match v {
+        Verdict::Accepted => {
+            let r = solve_within(plain_of(m), most);
+            r.answer
+        }
+        Verdict::Refused(f) => no_point(Kind::Refused(f)),
     }
-    let q = presolve(p);
-    decide(q)
 }
 
 // The planner's reply to any record.
 pub fn plan(m: Model) -> Answer
     ensures { λ r. ⌜ Planned m r ⌝ }
 {
-    let v = check_model(m);
-    match v {
-        Verdict::Accepted => {
-            let r = solve(plain_of(m));
-            r.answer
-        }
-        Verdict::Refused(f) => no_point(Kind::Refused(f)),
-    }
+    plan_within(m, STEPS)
 }

@@ -1,12 +1,13 @@
 // Plans paper 01's rows and prints the replies; lists some in buffers that are a byte too short, just long enough, and longer; and
 // plans thousands of drawn small problems, each of which is also tried by plain enumeration (trials::outcome says when the two agree).
-// A problem on which they disagree is printed.
+// A problem on which they disagree is printed. Some are planned with no step of the search or one, so that the scales answer.
 mod rows; // paper 01's rows
 mod texts; // the text entry
 
 use knapsack::Answer;
 use model::Model;
-use planner::plan;
+use planner::STEPS;
+use planner::plan_within;
 use trials::draw::Spans;
 use trials::draw::drawn_problem;
 use trials::draw::small;
@@ -31,10 +32,10 @@ fn print_wrong(p: Model, a: Answer) {
 }
 
 // One problem more. Where bounds are absent, the best points of some are beyond the reach.
-fn tried(t: Tally, p: Model, n: usize, open: bool) -> Tally
+fn tried(t: Tally, p: Model, n: usize, open: bool, most: u64) -> Tally
     requires { ⌜ n ≤ 15 ⌝ }
 {
-    let a = plan(p);
+    let a = plan_within(p, most);
     let o = outcome_of(p, a, n, REACH, !open);
     if !o.agrees {
         print_wrong(p, a);
@@ -43,8 +44,8 @@ fn tried(t: Tally, p: Model, n: usize, open: bool) -> Tally
     tallied(t, k, o)
 }
 
-// What so many problems of n items each come to.
-fn tally_of(seed: u64, problems: u64, n: usize, z: Spans) -> Tally
+// What so many problems of n items each come to, in so many steps at most.
+fn tally_of(seed: u64, problems: u64, n: usize, z: Spans, most: u64) -> Tally
     requires { ⌜ n ≤ 15 ⌝ }
 {
     let open = z.absent > 0;
@@ -54,7 +55,7 @@ fn tally_of(seed: u64, problems: u64, n: usize, z: Spans) -> Tally
     while k < problems {
         let d = drawn_problem(state, n, z);
         let p = d.problem;
-        t = tried(t, p, n, open);
+        t = tried(t, p, n, open, most);
         state = d.state;
         k += 1;
     }
@@ -64,8 +65,15 @@ fn tally_of(seed: u64, problems: u64, n: usize, z: Spans) -> Tally
 fn drawn(name: &[u8], seed: u64, problems: u64, n: usize, z: Spans)
     requires { ⌜ n ≤ 15 ⌝ }
 {
-    let t = tally_of(seed, problems, n, z);
+    let t = tally_of(seed, problems, n, z, STEPS);
     print_tally(name, seed, problems, n, t);
+}
+
+fn drawn_within(name: &[u8], most: u64, seed: u64, n: usize, z: Spans)
+    requires { ⌜ n ≤ 15 ⌝ }
+{
+    let t = tally_of(seed, 1000, n, z, most);
+    print_tally(name, seed, 1000, n, t);
 }
 
 fn integer_problems() {
@@ -93,10 +101,31 @@ fn open_problems() {
     drawn(b"mixed, open", 27, 2000, 4, small(1, 2));
 }
 
+// No search: the scales have no incumbent.
+fn without_steps() {
+    drawn_within(b"no steps, integer", 0, 31, 2, small(0, 0));
+    drawn_within(b"no steps, integer", 0, 32, 4, small(0, 0));
+    drawn_within(b"no steps, mixed", 0, 33, 3, small(0, 2));
+    drawn_within(b"no steps, mixed", 0, 34, 4, small(0, 2));
+    drawn_within(b"no steps, integer, open", 0, 35, 3, small(1, 0));
+    drawn_within(b"no steps, mixed, open", 0, 36, 3, small(1, 2));
+}
+
+// One step: the first place is the incumbent, if it fits.
+fn with_one_step() {
+    drawn_within(b"one step, integer", 1, 41, 3, small(0, 0));
+    drawn_within(b"one step, integer", 1, 42, 4, small(0, 0));
+    drawn_within(b"one step, mixed", 1, 43, 4, small(0, 2));
+    drawn_within(b"one step, integer, open", 1, 44, 4, small(1, 0));
+    drawn_within(b"one step, mixed, open", 1, 45, 4, small(1, 2));
+}
+
 fn main() {
     rows::show_rows();
     texts::show_texts();
     integer_problems();
     mixed_problems();
     open_problems();
+    without_steps();
+    with_one_step();
 }

@@ -5,7 +5,6 @@ pub mod Lists
 pub mod Order
 pub mod Levels
 pub mod Lattices
-pub mod StridesTrue
 pub mod Ready
 pub mod Box
 pub mod Nearer

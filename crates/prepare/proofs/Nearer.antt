@@ -1,23 +1,24 @@
 -- A nearer box: what the reach of a problem covers, and that a narrowed setting is prepared at that reach.
 -- most-covers, most-small: the greatest weight and bound are at least each item's, and in range.
 -- reach-small, span-small: the reach and a span are within the general ones. near-optimal, near-empty: spans are enough.
+-- near-spanned: what an item weighs from end to end of that box is within 900,000,000.
 use mathlib.Core.Path.{_≡_, refl, sym, ap, ap₂, _∙_}
 use mathlib.Core.Bool.{Bool, true, false, cond}
 use mathlib.Core.List.{List}
 use mathlib.Core.Logic.{_⊎_, inl, inr}
 use Prim.Native.Nat.{ℕ, zero, suc, _+_, _*_, _/_, _≤_, _<_}
 use native.Mathlib.Decide.{decLt, ℕ-discrete}
-use native.Mathlib.Nat.{mul-le-mul, div-add-mod, div-le-self, mod-lt}
+use native.Mathlib.Nat.{mul-le-mul, mul-le-mul-left, mul-le-mul-right, div-add-mod, div-le-self, mod-lt}
 use native.Mathlib.Omega.{arith}
 use borrow.Author.Tests.{ltb-true, ltb-false}
 use lib.Dec.{ltb}
-use lib.IntN.{ℤ, pos, negℤ, natAbs, _+ℤ_}
+use lib.IntN.{ℤ, pos, negℤ, natAbs, _+ℤ_, _-ℤ_}
 use lib.ListN.{length, List·getD-eq-default}
 use lib.Signed.{_≤ℤ_, _<ℤ_, ≤ℤ-refl, ltZ}
 use Rattle.arith.specs.Limits.{farthest}
 use Rattle.arith.specs.Sum.{sum}
 use Rattle.arith.specs.Within.{Within}
-use Rattle.arith.proofs.Integers.{split, split2, zed, ≤ℤ-trans, ≤ℤ-antisym}
+use Rattle.arith.proofs.Integers.{split, split2, zed, natAbs-neg, ≤ℤ-trans, ≤ℤ-antisym}
 use Rattle.arith.proofs.Parts.{neg-within, abs-within}
 use Rattle.arith.proofs.Words.{yes-lt, no-lt, le-no}
 use Rattle.knapsack.proofs.Common.{Feasibleᴰ, Optimalᴰ}
@@ -30,7 +31,6 @@ use Rattle.knapsack.specs.declared.Bound.{Bound}
 use Rattle.knapsack.specs.declared.Item.{Item}
 use Rattle.knapsack.specs.declared.Problem.{Problem}
 use Rattle.greedy.specs.Fill.{at, weightOf}
-use Rattle.setting.specs.Ready.{RateBounded}
 use Rattle.setting.specs.Box.{levelAt}
 use Rattle.setting.specs.declared.Setting.{Setting}
 use Rattle.prepare.specs.Figures.{endOr}
@@ -336,15 +336,15 @@ module _ (p : Problem) (range : InRange p) (s t : Setting) (q : Prepared p s) (n
   ends-at xs f k x h e g = e ∙ ap₂ (λ (a y : ℤ). clampTo (spanBy (reachOf p) a) y) (q .weights k h) g
 
   pub narrowed-prepared : PreparedAt (spanOf p) p t
-  narrowed-prepared = made t (n .cols) (n .level) (n .levels) (n .lattice) (n .strides) (n .lo) (n .hi) (n .low) (n .high) (n .lengths)
+  narrowed-prepared = made t (n .cols) (n .level) (n .levels) (n .lattice) (n .lo) (n .hi) (n .low) (n .high) (n .lengths)
     where
-      made : (t : Setting) → t .cols ≡ s .cols → t .level ≡ s .level → t .levels ≡ s .levels → t .lattice ≡ s .lattice → t .strides ≡ s .strides
+      made : (t : Setting) → t .cols ≡ s .cols → t .level ≡ s .level → t .levels ≡ s .levels → t .lattice ≡ s .lattice
           → ((k : ℕ) → k < 16 → at (t .ends .lo) k ≡ clampTo (S k) (at (s .ends .lo) k))
           → ((k : ℕ) → k < 16 → at (t .ends .hi) k ≡ clampTo (S k) (at (s .ends .hi) k))
           → ((d : ℕ) → d < s .levels → at (t .low) d ≡ at (t .ends .lo) (levelAt s d))
           → ((d : ℕ) → d < s .levels → at (t .high) d ≡ at (t .ends .hi) (levelAt s d))
           → (length (t .ends .lo) ≡ 16) × (length (t .ends .hi) ≡ 16) → PreparedAt (spanOf p) p t
-      made t ec el en ea ez lo hi low high long = record {
+      made t ec el en ea lo hi low high long = record {
         count = rw ec (q .count);
         capacity = rw ec (q .capacity);
         weights = rw ec (q .weights);
@@ -379,13 +379,6 @@ module _ (p : Problem) (range : InRange p) (s t : Setting) (q : Prepared p s) (n
                     lo k y ∙ ap (clampTo (S k)) (c .fixed k x (rw (el, en) at f)) ∙ sym (hi k y);
                 on = rw (ec, el, en, ea) (c .on);
               };
-          strides-in = rw ez (q .ready .strides-in);
-          strides-hold = λ nz.
-              let z = q .ready .strides-hold (rw ez at nz) in
-              record {
-                multiples = rw (ec, el, en, ez) (z .multiples);
-                rate-bounded = λ k h f. kept k (rw ec at h) (z .rate-bounded k (rw ec at h) (rw (el, en) at f));
-              };
         };
         marked = record { integer = rw (el, en) (q .marked .integer); level = rw (ec, el, en) (q .marked .level) };
         arranged = record {
@@ -395,11 +388,35 @@ module _ (p : Problem) (range : InRange p) (s t : Setting) (q : Prepared p s) (n
           sorted = rw (ec, el) (q .arranged .sorted);
           leads = rw (el, en) (q .arranged .leads);
           latticing = rw (el, en, ea) (q .arranged .latticing);
-          strides-of = rw (ec, ez) (q .arranged .strides-of);
         };
       }
-        where
-          kept : (k : ℕ) → k < s .cols .count → (at (s .ends .lo) k ≡ at (s .ends .hi) k) ⊎ RateBounded (s .cols) (s .strides) k
-              → (at (t .ends .lo) k ≡ at (t .ends .hi) k) ⊎ RateBounded (t .cols) (t .strides) k
-          kept k h (inl e) = let y : k < 16 = omega (arith, q .count, range .few-items) in inl (lo k y ∙ ap (clampTo (S k)) e ∙ sym (hi k y))
-          kept k h (inr e) = inr (rw (ec, ez) e)
+
+-- ---- what the box weighs
+
+module _ (p : Problem) (range : InRange p) (s : Setting) (q : PreparedAt (spanOf p) p s) where
+  -- an end is a bound or the span away
+  end-small : (b : Bound) (n : ℕ) (x : ℤ) → BoundInRange b → natAbs x ≤ n → natAbs (endOr b x) ≤ 10000 + n
+  end-small Absent n x r h = omega (arith, h)
+  end-small (At v) n x r h = let k : natAbs v ≤ 10000 = r in omega (arith, k)
+
+  width-small : (m : ℕ) (l h : ℤ) → natAbs l ≤ m → natAbs h ≤ m → natAbs (h -ℤ l) ≤ 2 * m
+  width-small m = split2 _ (λ a b c d. simp zed (omega arith))
+
+  -- what the span of an item of weight a weighs
+  span-weighs : (r : Reach) → Small r → (a w : ℕ) → a ≤ 1000 → w ≤ 2 * (10000 + (r .amount + r .weight / larger 1 a + 1)) → a * w ≤ 900000000
+  span-weighs r z a w l h = go (r .amount) (r .weight) (r .weight / larger 1 a) (z .amount-in) (z .weight-in)
+      (omega (arith, mul-le-mul-right (r .weight / larger 1 a) (larger-right 1 a), div-add-mod (r .weight) (larger 1 a))) h
+    where
+      go : (m t n : ℕ) → m ≤ 11000 → t ≤ 280000000 → a * n ≤ t → w ≤ 2 * (10000 + (m + n + 1)) → a * w ≤ 900000000
+      go m t n hm ht hn hw = omega (arith, mul-le-mul-left a hw, mul-le-mul l hm, l, hn)
+
+  pub near-spanned : (k : ℕ) → k < s .cols .count → natAbs (weightOf (s .cols) k) * natAbs (at (s .ends .hi) k -ℤ at (s .ends .lo) k) ≤ 900000000
+  near-spanned k h =
+      let l : k < p .count = omega (arith, q .count) in
+      let i = range .items-in k l in
+      let x = endOr (itemAt p k .lower) (negℤ (pos (spanOf p k))) in
+      let y = endOr (itemAt p k .upper) (pos (spanOf p k)) in
+      let lo = end-small (itemAt p k .lower) (spanOf p k) (negℤ (pos (spanOf p k))) (i .lower-in) (omega (arith, natAbs-neg (pos (spanOf p k)))) in
+      let hi = end-small (itemAt p k .upper) (spanOf p k) (pos (spanOf p k)) (i .upper-in) (omega arith) in
+      rw (q .weights k l, q .lows k l, q .highs k l) (span-weighs (reachOf p) (reach-small p range) (natAbs (itemAt p k .weight)) (natAbs (y -ℤ x)) (i .weight-in)
+      (width-small (10000 + spanOf p k) x y lo hi))

@@ -18,7 +18,7 @@ use Rattle.knapsack.specs.declared.Bound.{Bound}
 use Rattle.knapsack.specs.declared.Problem.{Problem}
 use Rattle.ordering.specs.Ranking.{Sorted}
 use Rattle.lattice.specs.Lattice.{latticeAt}
-use Rattle.setting.specs.Ready.{Changes, Marked, RateBounded, StridesHold}
+use Rattle.setting.specs.Ready.{Changes, Marked}
 use Rattle.setting.specs.Box.{levelAt}
 use Rattle.setting.specs.declared.Setting.{Setting}
 use Rattle.prepare.proofs.Ranges.{low-within, high-within}
@@ -28,11 +28,9 @@ use Rattle.prepare.specs.declared.tables.Figure.the-variants.{Low, High}
 use Rattle.prepare.specs.declared.tables.Key.{Key}
 use Rattle.prepare.specs.declared.tables.Test.the-variants.{Level}
 use Rattle.prepare.specs.Prepared.{Columned, Boxed, criticalKey, Latticing, Prepared}
-use Rattle.prepare.specs.Strides.{StrideBoundOf}
 use Rattle.prepare.proofs.Lattices.{fixed-ends, LatticesTrue, lattices-true}
 use Rattle.prepare.proofs.Levels.{Tells, critical-tells, level-in, level-once, level-integer, level-of, is-integer}
 use Rattle.prepare.proofs.Lists.{tabled-below, tabled-within}
-use Rattle.prepare.proofs.StridesTrue.{StridesTrue, strides-true}
 use Rattle.prepare.proofs.Order.{weight-is, price-is, columns-ordered, columns-sized}
 
 -- ---- the box
@@ -78,7 +76,6 @@ pub record Made (p : Problem) (by : Key) (s : Setting) : Type 0 where
   pub lows : Tabled (s .levels) (λ u. figureOf Low (listed p (s .level) u)) (s .low)
   pub highs : Tabled (s .levels) (λ u. figureOf High (listed p (s .level) u)) (s .high)
   pub latticing : Latticing p (s .level) (s .levels) (s .lattice)
-  pub strides-of : StrideBoundOf p (s .cols) (s .strides)
 
 module _ (p : Problem) (r : InRange p) (by : Key) (s : Setting) (m : Made p by s) where
   tells : Tells by
@@ -118,9 +115,6 @@ module _ (p : Problem) (r : InRange p) (by : Key) (s : Setting) (m : Made p by s
   latticed : LatticesTrue p (s .level) (s .levels) (s .lattice)
   latticed = lattices-true p (s .level) (s .levels) (record { accepted = r; few = few; below = inside }) (s .lattice) (m .latticing)
 
-  hold : StridesTrue p (s .cols) (s .strides)
-  hold = strides-true p r (s .cols) (m .columned) (s .strides) (m .strides-of)
-
   changes : (d : ℕ) → d < s .levels → latticeAt (s .lattice) d .stride ≢ pos 0 → Changes s d
   changes d l nz = record {
     fixed = λ k h n. let j : k < p .count = omega (arith, m .columned .count) in
@@ -129,20 +123,6 @@ module _ (p : Problem) (r : InRange p) (by : Key) (s : Setting) (m : Made p by s
     on = λ j a b. rw (weight-is p (s .cols) r (m .columned) (levelAt s j) (inside j b), price-is p (s .cols) r (m .columned) (levelAt s j) (inside j b))
         (latticed .on d l nz j a b);
   }
-
-  -- continuous items are fixed or of bounded rate
-  strides-hold : s .strides .stride ≢ pos 0 → StridesHold s
-  strides-hold nz = record {
-    multiples = λ j h. let q =
-        hold .multiples nz (levelAt s j) (inside j h) (marked .integer j h) in (q .0, weight-is p (s .cols) r (m .columned) (levelAt s j) (inside j h) ∙ q .1);
-    rate-bounded = λ k h n. let j : k < p .count = omega (arith, m .columned .count) in go k j n (fixed (itemAt p k)) refl;
-  }
-    where
-      go : (k : ℕ) → k < p .count → ((j : ℕ) → j < s .levels → levelAt s j ≢ k) → (b : Bool) → fixed (itemAt p k) ≡ b
-          → (at (s .ends .lo) k ≡ at (s .ends .hi) k) ⊎ RateBounded (s .cols) (s .strides) k
-      go k j n true e = inl (low-is p r (s .ends) (m .boxed) k j ∙ fixed-ends (itemAt p k) (r .items-in k j .in-order) e (no-level k j n) ∙ sym
-          (high-is p r (s .ends) (m .boxed) k j))
-      go k j n false e = inr (hold .rate-bounded nz k j e)
 
   pub prepared : Prepared p s
   prepared = record {
@@ -163,8 +143,6 @@ module _ (p : Problem) (r : InRange p) (by : Key) (s : Setting) (m : Made p by s
       high-is = high-at;
       tame = latticed .tame;
       changes = changes;
-      strides-in = hold .in-range;
-      strides-hold = strides-hold;
     };
     marked = marked;
     arranged = record {
@@ -174,6 +152,5 @@ module _ (p : Problem) (r : InRange p) (by : Key) (s : Setting) (m : Made p by s
       sorted = subst (λ b. Sorted (λ k. keyOf b (itemAt p k)) (p .count) (s .level)) (m .by-is) (m .sorted);
       leads = m .leading;
       latticing = m .latticing;
-      strides-of = m .strides-of;
     };
   }

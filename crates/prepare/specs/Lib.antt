@@ -2,5 +2,4 @@ pub mod Figures
 pub mod Tables
 pub mod Prepared
 pub mod Narrowing
-pub mod Strides
 pub mod Pairs

@@ -86,7 +86,6 @@ pub record Narrowed (s : Setting) (r : Reach) (t : Setting) : Type 0 where
   pub level : t .level ≡ s .level
   pub levels : t .levels ≡ s .levels
   pub lattice : t .lattice ≡ s .lattice
-  pub strides : t .strides ≡ s .strides
   pub lo : (k : ℕ) → k < 16 → at (t .ends .lo) k ≡ clampTo (spanBy r (weightOf (s .cols) k)) (at (s .ends .lo) k)
   pub hi : (k : ℕ) → k < 16 → at (t .ends .hi) k ≡ clampTo (spanBy r (weightOf (s .cols) k)) (at (s .ends .hi) k)
   pub low : (d : ℕ) → d < s .levels → at (t .low) d ≡ at (t .ends .lo) (levelAt s d)

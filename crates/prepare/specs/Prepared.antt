@@ -8,7 +8,7 @@
 --   latticeBy p l n first d  the lattice of the items from level d on, or nothing where only the first items are fixed
 --   Latticing p l n r  r holds the lattices of the levels l: of what the items from a level on change; nothing is known where a
 --                    continuous item is free
---   Arranged p s     columns, levels, lattices and strides of s are those of p, with the levels in the order of branching
+--   Arranged p s     columns, levels and lattices of s are those of p, with the levels in the order of branching
 --   PreparedAt r p s the setting s is that of p, and in order; item k's absent bounds are r k away
 --   Prepared p s     the same at the farthest amount
 use mathlib.Core.Path.{_≡_}
@@ -37,7 +37,6 @@ use Rattle.prepare.specs.declared.tables.Figure.the-variants.{Weight, Pr
 use Rattle.prepare.specs.declared.tables.Key.the-variants.{Filling, Branching}
 use Rattle.prepare.specs.declared.tables.Key.{Key}
 use Rattle.prepare.specs.declared.tables.Test.the-variants.{Live, Level}
-use Rattle.prepare.specs.Strides.{StrideBoundOf}
 
 pub record Columned (p : Problem) (c : Columns) : Type 0 where
   pub count : c .count ≡ p .count
@@ -80,7 +79,6 @@ pub record Arranged (p : Problem) (s : Setting) : Type 0 where
   pub sorted : Sorted (λ k. keyOf (criticalKey (s .cols) (fill (s .cols) box)) (itemAt p k)) (p .count) (s .level)
   pub leads : Leading (p .count) (λ u. passes Level (listed p (s .level) u)) (s .levels)
   pub latticing : Latticing p (s .level) (s .levels) (s .lattice)
-  pub strides-of : StrideBoundOf p (s .cols) (s .strides)
 
 pub record PreparedAt (r : ℕ → ℕ) (p : Problem) (s : Setting) : Type 0 where
   pub count : s .cols .count ≡ p .count

@@ -12,7 +12,6 @@ pub use narrowing::narrowed;
 pub use narrowing::reach_of;
 pub use pairs::pairs_of;
 use setting::Setting;
-use stride::stride_bound;
 use tables::Figure;
 use tables::Key;
 use tables::Test;
@@ -31,7 +30,6 @@ ghost use Rattle.prepare.specs.Tables.{Listing};
 
 mod narrowing; // narrowing.rt: the nearer box of a search
 mod pairs; // pairs.rt: the table of domination pairs
-mod stride; // stride.rt: what continuous items can add
 mod tables; // tables.rt: arrays by item, by rank and by level, and the two orders
 
 // Of some items, without sign: the greatest weight of one that lacks a bound, and the greatest bound.
@@ -130,7 +128,6 @@ pub fn prepare(p: Problem) -> Setting
     let low = table(p, level, levels, Figure::Low);
     let high = table(p, level, levels, Figure::High);
     let lattice = lattices_of(p, level, levels);
-    let strides = stride_bound(p, cols);
     Setting {
         cols: cols,
         ends: ends,
@@ -139,6 +136,5 @@ pub fn prepare(p: Problem) -> Setting
         high: high,
         lattice: lattice,
         levels: levels,
-        strides: strides,
     }
 }

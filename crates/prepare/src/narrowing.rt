@@ -211,7 +211,6 @@ pub fn narrowed(s: Setting, r: Reach) -> Setting
     let low = by_level(lo, level, n);
     let high = by_level(hi, level, n);
     let lattice = s.lattice;
-    let strides = s.strides;
     Setting {
         cols: cols,
         ends: Ends { lo: lo, hi: hi },
@@ -220,6 +219,5 @@ pub fn narrowed(s: Setting, r: Reach) -> Setting
         high: high,
         lattice: lattice,
         levels: n,
-        strides: strides,
     }
 }

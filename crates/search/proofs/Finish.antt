@@ -1,20 +1,22 @@
 -- At the end every place is settled: the incumbent is optimal, or nothing is feasible.
---   GoodBest s b     the incumbent stands for a place of the box, and its value is that place's
 --   Covered s b q    every place is settled or still to come; at the end, all are settled
---   Going s q        both, and the path is the place's;  Fresh s p q: the levels above the one to look from settle nothing
--- tried-good, looked-good: a look keeps the one; settles-verdict, keeps-settled: what it settles, and that this stays.
--- going-first, going-on, fresh-on: it holds at first and after a step; going-less: which leaves fewer places.
+--   Fresh s p q      the levels above the one to look from settle nothing
+-- tried-good, looked-good: a look keeps the incumbent good; settles-verdict, keeps-settled: what it settles, and that this stays.
+-- underway-on, covered-on: a search can go on after a step, and every place is settled or still to come.
+-- going-less (end theorem): a step leaves fewer places, so that a search which goes on comes to its end.
+-- underway-first, covered-first: so it is at the first place; underway-ran, covered-ran: and after so many steps; ran-steps: which are counted.
 -- settled-point, none-feasible, found-feasible, found-value, found-optimal: what the end says; searched: all of it.
 use mathlib.Core.Path.{_≡_, refl, sym, ap, _∙_, subst, subst₂}
 use mathlib.Core.Bool.{Bool, true, false, cond}
 use mathlib.Core.List.{List}
 use mathlib.Core.Logic.{_⊎_, inl, inr}
 use mathlib.Core.Option.{Option, none, some}
-use Prim.Native.Nat.{ℕ, suc, _*_, _≤_, _<_}
+use Prim.Native.Nat.{ℕ, zero, suc, _+_, _*_, _≤_, _<_}
 use native.Mathlib.Omega.{arith}
 use native.Mathlib.Decide.{decLt}
 use lib.IntN.{ℤ, pos, _-ℤ_, _*ℤ_}
 use lib.Signed.{_≤ℤ_, _<ℤ_, ltZ}
+use borrow.Author.Tests.{lt-ltb}
 use Rattle.arith.specs.Sum.{Each}
 use Rattle.arith.specs.declared.Mixed.{Mixed}
 use Rattle.arith.proofs.Integers.{split, zed, ≤ℤ-trans, ≤ℤ-or-<, times-≤, times-≤-back}
@@ -46,7 +48,8 @@ use Rattle.setting.specs.Box.{levelAt, fixedBy, Inside, Long}
 use Rattle.search.specs.Search.{startBy, runEnds, cutBy, betters, triedBy}
 use Rattle.setting.specs.Ready.{ReadySetting, ReadyPairs, Ready, Marked}
 use Rattle.search.specs.Searched.{chosen, Searched}
-use Rattle.search.specs.Steps.{Started, ProperBest, BoxInRange, Passed, kept, LookedAs, Dived, nobody, MovedTo, freshBy, WentOn, Stepped}
+use Rattle.search.specs.Steps.{Started, BoxInRange, Passed, kept, LookedAs, nobody, MovedTo, freshBy, WentOn, countedBy, Stepped}
+use Rattle.search.specs.Steps.{Begun, GoodBest, Underway, Ran}
 use Rattle.search.proofs.Starts.{orderOf, order-laws}
 use Rattle.setting.proofs.Boxes.{fixed-order, fixed-level, fixed-other}
 use Rattle.greedy.proofs.Bounds.{bound-proper}
@@ -58,12 +61,6 @@ use Rattle.search.proofs.Settle.{cut-settles, pair-settles, tried-settl
 -- the box of a place, all levels fixed, and its filling
 abbrev pub placeEnds : Setting → List ℤ → Ends
 placeEnds s x = fixedBy s (at x) (s .levels)
-
-pub record GoodBest (s : Setting) (b : Incumbent) : Type 0 where
-  pub proper : ProperBest b
-  pub inside : b .found ≡ true → Inside s (at (b .place))
-  pub roomy : b .found ≡ true → pos 0 ≤ℤ fill (s .cols) (placeEnds s (b .place)) .room
-  pub value-is : b .found ≡ true → b .value ≡ bound (s .cols) (fill (s .cols) (placeEnds s (b .place)))
 
 module _ (s : Setting) (r : ReadySetting s) (long : Long (s .ends)) where
   pub tried-good : (x : List ℤ) (b : Incumbent) → Inside s (at x) → GoodBest s b → GoodBest s (triedBy (s .cols) (placeEnds s x) x b)
@@ -120,7 +117,7 @@ module _ (s : Setting) (r : ReadySetting s) (long : Long (s .ends)) where
       pub settles-verdict : (w : Settled) → LookedAs s ps t b r′ w → Settles (orderOf s) w (at (t .place)) (SettledAt s marks b′)
       settles-verdict (Run d) (e, c) =
           λ y bx run. rw (kept-best e) (cut-settles s r long marks m (at (t .place)) (started .inside) d b (c .level-in) (g .proper)
-          (subst (λ v. cutBy (s .cols) (s .strides) (latticeAt (s .lattice) d) (runEnds s (at (t .place)) v d) b ≡ true) (started .starts d (c .level-in))
+          (subst (λ v. cutBy (s .cols) (latticeAt (s .lattice) d) (runEnds s (at (t .place)) v d) b ≡ true) (started .starts d (c .level-in))
           (c .cut)) y run)
       settles-verdict (Prefix n) (inl h) = λ y bx a. rw (h .tries .best-is)
           (tried-settles s r long marks m (at (t .place)) (started .inside) (t .place) b (g .proper) y (subst (λ k. Agree k (at (t .place)) y) (h .all) a))
@@ -133,11 +130,6 @@ module _ (s : Setting) (r : ReadySetting s) (long : Long (s .ends)) where
 abbrev pub Covered : Setting → (ℕ → Mark) → State → Type 0
 Covered s marks q = (q .done ≡ false → Covers (orderOf s) (SettledAt s marks (q .best)) (at (q .path .place)))
     × (q .done ≡ true → All (orderOf s) (SettledAt s marks (q .best)))
-
-pub record Going (s : Setting) (q : State) : Type 0 where
-  pub started : Started s (q .path)
-  pub good : GoodBest s (q .best)
-  pub covered : (marks : ℕ → Mark) → Marked s marks → Covered s marks q
 
 -- the levels above the first that is to be looked at settle nothing
 pub record Fresh (s : Setting) (p : Pairs) (q : State) : Type 0 where
@@ -157,7 +149,10 @@ fresh-top s p q e = record {
 unfoldable pub left : Setting → State → ℕ
 left s q = cond (q .done) 0 (suc (μ (orderOf s) (at (q .path .place))))
 
-module _ (s : Setting) (ps : Pairs) (ready : Ready s ps) (q r : State) (g : Going s q) (on : q .done ≡ false) (st : Stepped s ps q r) where
+module _ (s : Setting) (ps : Pairs) (q r : State) (g : Underway s ps q) (on : q .done ≡ false) (st : Stepped s ps q r) where
+  abbrev ready : Ready s ps
+  ready = g .ready
+
   abbrev t : Path
   t = q .path
 
@@ -190,10 +185,10 @@ module _ (s : Setting) (ps : Pairs) (ready : Ready s ps) (q r : State) (g : Goin
   settles : (marks : ℕ → Mark) → Marked s marks → Settles (orderOf s) (st .verdict) (at (t .place)) (SettledAt s marks (r .best))
   settles marks m = settles-verdict s (ready .setting) long ps (ready .true-pairs) t (g .started) (q .best) after (g .good) marks m (st .verdict) (st .looked)
 
-  covers : (marks : ℕ → Mark) → Marked s marks → Covers (orderOf s) (SettledAt s marks (r .best)) (at (t .place))
-  covers marks m = covers-mono (orderOf s) (SettledAt s marks (q .best)) (SettledAt s marks (r .best)) (at (t .place))
+  covers : (marks : ℕ → Mark) → Marked s marks → Covered s marks q → Covers (orderOf s) (SettledAt s marks (r .best)) (at (t .place))
+  covers marks m c = covers-mono (orderOf s) (SettledAt s marks (q .best)) (SettledAt s marks (r .best)) (at (t .place))
       (λ y. keeps-settled s (ready .setting) long ps (ready .true-pairs) t (g .started) (q .best) after (g .good) marks m (st .verdict) (st .looked) y)
-      (g .covered marks m .0 on)
+      (c .0 on)
 
   no-end : true ≡ false → ⊥
   no-end h = impossible (sym h)
@@ -202,24 +197,13 @@ module _ (s : Setting) (ps : Pairs) (ready : Ready s ps) (q r : State) (g : Goin
   all (Run d) = λ y bx a. tt
   all (Prefix n) = λ y bx a. tt
 
-  pub going-on : Going s r
-  going-on = go lead went (λ S h c. goes S h c)
+  pub covered-on : (marks : ℕ → Mark) → Marked s marks → Covered s marks q → Covered s marks r
+  covered-on marks m c = go lead went (goes (SettledAt s marks (r .best)) (settles marks m) (covers marks m c))
     where
-      go : (o : Option (ℕ × ℤ)) → WentOn s q (st .better) o r → ((S : Place → Type 0) → Settles (orderOf s) (st .verdict) (at (t .place)) S → Covers (orderOf s)
-          S (at (t .place)) → Goes (orderOf s) S (at (t .place)) o (at (r .path .place))) → Going s r
-      go none (d, (same, top)) gs = record {
-        started = rw same (g .started);
-        good = good′;
-        covered = λ marks m. ((λ f. absurd (no-end (sym d ∙ f))), (λ f. gs (SettledAt s marks (r .best)) (settles marks m) (covers marks m)));
-      }
-      go (some (j, v)) (d, (turned, from)) gs = record {
-        started = record { long = long; inside = gs (λ y. Unit {0}) (all (st .verdict)) (λ y bx. inl tt) (moved j v turned) .1; starts = turned .starts };
-        good = good′;
-        covered = λ marks m. (
-          (λ f. gs (SettledAt s marks (r .best)) (settles marks m) (covers marks m) (moved j v turned) .0),
-          (λ f. absurd (no-end (sym f ∙ d))),
-        );
-      }
+      go : (o : Option (ℕ × ℤ)) → WentOn s q (st .better) o r → Goes (orderOf s) (SettledAt s marks (r .best)) (at (t .place)) o (at (r .path .place))
+          → Covered s marks r
+      go none (d, (same, top)) gs = ((λ f. absurd (no-end (sym d ∙ f))), (λ f. gs))
+      go (some (j, v)) (d, (turned, from)) gs = ((λ f. gs (moved j v turned) .0), (λ f. absurd (no-end (sym f ∙ d))))
 
   pub going-less : left s r < left s q
   unfolding left
@@ -230,7 +214,14 @@ module _ (s : Setting) (ps : Pairs) (ready : Ready s ps) (q r : State) (g : Goin
       go none (d, (same, top)) gs = rw d (omega arith)
       go (some (j, v)) (d, (turned, from)) gs = rw d (omega (arith, gs (moved j v turned) .2))
 
-  pub fresh-on : Fresh s ps r
+  started-on : Started s (r .path)
+  started-on = go lead went (goes (λ y. Unit {0}) (all (st .verdict)) (λ y bx. inl tt))
+    where
+      go : (o : Option (ℕ × ℤ)) → WentOn s q (st .better) o r → Goes (orderOf s) (λ y. Unit {0}) (at (t .place)) o (at (r .path .place)) → Started s (r .path)
+      go none (d, (same, top)) gs = rw same (g .started)
+      go (some (j, v)) (d, (turned, from)) gs = record { long = long; inside = gs (moved j v turned) .1; starts = turned .starts }
+
+  fresh-on : Fresh s ps r
   fresh-on = go lead went refl
     where
       kept-above : (j : ℕ) (v : ℤ) → MovedTo s t j v (r .path) → lead ≡ some (j, v) → (f : Bool) → st .better ≡ f → r .from ≡ freshBy f j → Fresh s ps r
@@ -245,6 +236,35 @@ module _ (s : Setting) (ps : Pairs) (ready : Ready s ps) (q r : State) (g : Goin
       go : (o : Option (ℕ × ℤ)) → WentOn s q (st .better) o r → lead ≡ o → Fresh s ps r
       go none (d, (same, top)) e = fresh-top s ps r top
       go (some (j, v)) (d, (turned, from)) e = kept-above j v turned e (st .better) refl from
+
+  pub underway-on : Underway s ps r
+  underway-on = record { ready = ready; started = started-on; good = good′; from-in = fresh-on .from-in; passed = fresh-on .passed }
+
+-- ---- after so many steps
+
+module _ (s : Setting) (ps : Pairs) (q : State) (u : Underway s ps q) where
+  pub underway-ran : (n : ℕ) (r : State) → Ran s ps q n r → Underway s ps r
+  unfolding Ran
+  underway-ran zero r h = rw h u
+  underway-ran (suc n) r (o, h) = underway-on s ps o r (underway-ran n o (h .0)) (h .1 .0) (h .1 .1)
+
+  pub covered-ran : (marks : ℕ → Mark) → Marked s marks → Covered s marks q → (n : ℕ) (r : State) → Ran s ps q n r → Covered s marks r
+  unfolding Ran
+  covered-ran marks m c zero r h = rw h c
+  covered-ran marks m c (suc n) r (o, h) =
+      covered-on s ps o r (underway-ran n o (h .0)) (h .1 .0) (h .1 .1) marks m (covered-ran marks m c n o (h .0))
+
+-- as many steps as fit are counted
+pub ran-steps : (s : Setting) (ps : Pairs) (q : State) (n : ℕ) (r : State) → q .steps + n ≤ 18446744073709551615 → Ran s ps q n r → r .steps ≡ q .steps + n
+unfolding Ran
+ran-steps s ps q zero r l h = rw h (omega arith)
+ran-steps s ps q (suc n) r l (o, h) =
+    let e = ran-steps s ps q n o (omega arith) (h .0) in
+    let m : o .steps < 18446744073709551615 = omega arith in
+    h .1 .1 .counted ∙ one (o .steps) m ∙ omega (arith, e)
+  where
+    one : (k : ℕ) → k < 18446744073709551615 → countedBy k ≡ k + 1
+    one k m = rw (lt-ltb k 18446744073709551615 m) refl
 
 -- ---- what the search comes to
 
@@ -377,34 +397,56 @@ module _ (s : Setting) (r : ReadySetting s) (long : Long (s .ends)) (marks : ℕ
           step D′ N′ (inl (q, h)) = inl h
           step D′ N′ (inr h) = inr h
 
-pub searched : (s : Setting) → ReadySetting s → (q : State) → Going s q → q .done ≡ true → Searched s (q .best)
-searched s r q g d = record {
-  inside = g .good .inside;
-  optimal = λ f marks m. found-optimal s r (g .started .long) marks m (q .best) (g .good) (g .covered marks m .1 d) f;
-  value-is = λ f marks m. found-value s r (g .started .long) marks m (q .best) (g .good) (g .covered marks m .1 d) f;
-  proper = g .good .proper;
-  roomy = g .good .roomy;
-  parts-are = g .good .value-is;
-  empty = λ f marks m. none-feasible s r (g .started .long) marks m (q .best) (g .good) (g .covered marks m .1 d) f;
-}
+pub searched : (s : Setting) (ps : Pairs) (q : State) → Underway s ps q → ((marks : ℕ → Mark) → Marked s marks → Covered s marks q) → q .done ≡ true
+    → Searched s (q .best)
+searched s ps q g covered d =
+    let r = g .ready .setting in
+    let long = g .started .long in
+    record {
+      inside = g .good .inside;
+      optimal = λ f marks m. found-optimal s r long marks m (q .best) (g .good) (covered marks m .1 d) f;
+      value-is = λ f marks m. found-value s r long marks m (q .best) (g .good) (covered marks m .1 d) f;
+      proper = g .good .proper;
+      roomy = λ f marks m. g .good .roomy f;
+      parts-are = g .good .value-is;
+      empty = λ f marks m. none-feasible s r long marks m (q .best) (g .good) (covered marks m .1 d) f;
+    }
 
 -- ---- the beginning
 
-pub going-first : (s : Setting) → ReadySetting s → Long (s .ends) → (p r : Path) (n : ℕ) → Dived s 0 p r
-    → Going s (record { path = r; best = nobody; steps = n; from = 0; done = false })
-going-first s ready long p r n d = record {
-  started = record { long = long; inside = inside; starts = λ i l. let h = d .filled i (omega arith) l in h .1 ∙ h .0 };
-  good = record {
-    proper = λ h. absurd (impossible h);
-    inside = λ h. absurd (impossible h);
-    roomy = λ h. absurd (impossible h);
-    value-is = λ h. absurd (impossible h);
-  };
-  covered = λ marks m. ((λ f. covers-first (order-laws s ready long) (SettledAt s marks nobody) (at (r .place)) starts), (λ f. absurd (impossible f)));
+-- no incumbent is a good one
+good-nobody : (s : Setting) → GoodBest s nobody
+good-nobody s = record {
+  proper = λ h. absurd (impossible h);
+  inside = λ h. absurd (impossible h);
+  roomy = λ h. absurd (impossible h);
+  value-is = λ h. absurd (impossible h);
 }
-  where
-    starts : Each (s .levels) (λ k. at (r .place) k ≡ startBy s (at (r .place)) k)
-    starts k l = d .filled k (omega arith) l .0
 
-    inside : Inside s (at (r .place))
-    inside = starts-box (order-laws s ready long) (at (r .place)) starts (s .levels) (omega arith)
+module _ (s : Setting) (ps : Pairs) (ready : Ready s ps) (long : Long (s .ends)) (q : State) (b : Begun s q) where
+  first-starts : Each (s .levels) (λ k. at (q .path .place) k ≡ startBy s (at (q .path .place)) k)
+  first-starts k l = b .first .filled k (omega arith) l .0
+
+  pub underway-first : Underway s ps q
+  underway-first =
+      let f = fresh-top s ps q (b .top) in
+      record {
+        ready = ready;
+        started = record {
+          long = long;
+          inside = starts-box (order-laws s (ready .setting) long) (at (q .path .place)) first-starts (s .levels) (omega arith);
+          starts = λ i l. let h = b .first .filled i (omega arith) l in h .1 ∙ h .0;
+        };
+        good = subst (GoodBest s) (sym (b .nothing)) (good-nobody s);
+        from-in = f .from-in;
+        passed = f .passed;
+      }
+
+  pub covered-first : (marks : ℕ → Mark) → Marked s marks → Covered s marks q
+  covered-first marks m = (
+    (λ f. covers-first (order-laws s (ready .setting) long) (SettledAt s marks (q .best)) (at (q .path .place)) first-starts),
+    (λ f. absurd (no (b .going) f)),
+  )
+    where
+      no : q .done ≡ false → q .done ≡ true → ⊥
+      no x y = impossible (sym x ∙ y)

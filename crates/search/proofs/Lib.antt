@@ -3,7 +3,6 @@ pub mod Dives
 pub mod Slopes
 pub mod Runs
 pub mod Cuts
-pub mod Mixing
 pub mod Settle
 pub mod Moving
 pub mod Finish

@@ -101,9 +101,9 @@ module _ (s : Setting) (p : Pairs) (t r : Path) (b : Incumbent) (j : ℕ) (v : �
 
   same-cut : (i : ℕ) → i < j → cutAt s r b i ≡ cutAt s t b i
   same-cut i l =
-      ap (λ e. cutBy (s .cols) (s .strides) (latticeAt (s .lattice) i) (runBox e (levelAt s i) (at (s .low) i) (at (s .high) i) (at (r .place) i)
+      ap (λ e. cutBy (s .cols) (latticeAt (s .lattice) i) (runBox e (levelAt s i) (at (s .low) i) (at (s .high) i) (at (r .place) i)
       (at (r .starts) i)) b) (fixed-cong s (at (r .place)) (at (t .place)) i (λ k m. h .above k (omega arith)))
-      ∙ ap₂ (λ (x y : ℤ). cutBy (s .cols) (s .strides) (latticeAt (s .lattice) i)
+      ∙ ap₂ (λ (x y : ℤ). cutBy (s .cols) (latticeAt (s .lattice) i)
       (runBox (fixedBy s (at (t .place)) i) (levelAt s i) (at (s .low) i) (at (s .high) i) x y) b) (h .above i l) (same-starts i l)
 
   same-pairs : (i : ℕ) → i < j → Applies s p (at (r .place)) i → Applies s p (at (t .place)) i

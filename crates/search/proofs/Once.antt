@@ -1,10 +1,10 @@
 -- A search has one end: what a look settles, a step and the states that follow from the first are determined.
--- looked-once, step-once, after-once: there is one verdict, one next state, one state after so many steps.
--- ends-once: and so one state in which the search ends, with one number of steps.
+-- looked-once, step-once, ran-once: there is one verdict, one next state, one state after so many steps.
+-- runs-once: and so one state in which a search of at most so many steps stops; stops-once: also from the first place on.
 use mathlib.Core.Path.{_≡_, refl, sym, ap, ap₂, _∙_, subst, subst₂}
 use mathlib.Core.Bool.{Bool, true, false}
 use mathlib.Core.List.{List, [], _∷_}
-use mathlib.Core.Logic.{inl, inr}
+use mathlib.Core.Logic.{_⊎_, inl, inr}
 use mathlib.Core.Option.{Option, none, some}
 use Prim.Native.Nat.{ℕ, zero, suc, _≤_, _<_}
 use native.Mathlib.Decide.{decLt, ℕ-discrete}
@@ -25,7 +25,7 @@ use Rattle.setting.specs.declared.Setting.{Setting}
 use Rattle.search.specs.declared.State.{State}
 use Rattle.search.specs.declared.Comparison.{Comparison}
 use Rattle.search.specs.Search.{startBy}
-use Rattle.search.specs.Steps.{LongPath, Dived, cutAt, Cut, Discarded, Tries, LookedAs, MovedTo, WentOn, Stepped, origin, Begun, After, EndsAfter}
+use Rattle.search.specs.Steps.{LongPath, Dived, cutAt, Cut, Discarded, Tries, LookedAs, MovedTo, WentOn, Stepped, origin, Begun, Ran, RunsFor, Stops}
 use Rattle.search.proofs.Starts.{start-cong}
 
 -- ---- lists with the same entries are equal
@@ -180,31 +180,43 @@ module _ (s : Setting) (p : Pairs) where
   begun-once q q′ h k = state-once q q′ (dived-once s 0 origin (q .path) (q′ .path) (h .first) (k .first)) (h .nothing ∙ sym (k .nothing))
       (h .no-steps ∙ sym (k .no-steps)) (h .top ∙ sym (k .top)) (h .going ∙ sym (k .going))
 
-  pub after-once : (n : ℕ) (q q′ : State) → After s p n q → After s p n q′ → q ≡ q′
-  unfolding After
-  after-once zero q q′ h k = begun-once q q′ h k
-  after-once (suc n) r r′ (q, h) (q′, k) = step-once q′ r r′ (subst (λ z. Stepped s p z r) (after-once n q q′ (h .0) (k .0)) (h .1 .1)) (k .1 .1)
+  pub ran-once : (q : State) (n : ℕ) (r r′ : State) → Ran s p q n r → Ran s p q n r′ → r ≡ r′
+  unfolding Ran
+  ran-once q zero r r′ h k = h ∙ sym k
+  ran-once q (suc n) r r′ (o, h) (o′, k) = step-once o′ r r′ (subst (λ z. Stepped s p z r) (ran-once q n o o′ (h .0) (k .0)) (h .1 .1)) (k .1 .1)
 
   -- before its last step a search goes on
-  earlier : (m n : ℕ) → n < m → (r : State) → After s p m r → (q : State) × (After s p n q × (q .done ≡ false))
-  unfolding After
-  earlier zero n l r h = absurd (omega arith)
-  earlier (suc m) n l r (q, h) = go (ℕ-discrete n m) (λ k. earlier m n k q (h .0))
+  earlier : (q : State) (m n : ℕ) → n < m → (r : State) → Ran s p q m r → (o : State) × (Ran s p q n o × (o .done ≡ false))
+  unfolding Ran
+  earlier q zero n l r h = absurd (omega arith)
+  earlier q (suc m) n l r (o, h) = go (ℕ-discrete n m) (λ k. earlier q m n k o (h .0))
     where
-      go : Dec (n ≡ m) → (n < m → (q : State) × (After s p n q × (q .done ≡ false))) → (q : State) × (After s p n q × (q .done ≡ false))
-      go (yes e) ih = (q, (subst (λ i. After s p i q) (sym e) (h .0), h .1 .0))
+      go : Dec (n ≡ m) → (n < m → (o : State) × (Ran s p q n o × (o .done ≡ false))) → (o : State) × (Ran s p q n o × (o .done ≡ false))
+      go (yes e) ih = (o, (subst (λ i. Ran s p q i o) (sym e) (h .0), h .1 .0))
       go (no e) ih = ih (omega (arith, e))
 
-  not-after : (n m : ℕ) → n < m → (r r′ : State) → After s p n r → r .done ≡ true → After s p m r′ → ⊥
-  not-after n m l r r′ h e k =
-      let q = earlier m n l r′ k in
-      impossible (sym (q .1 .1) ∙ ap (λ (x : State). x .done) (after-once n (q .0) r (q .1 .0) h) ∙ e)
+  not-after : (q : State) (n m : ℕ) → n < m → (r r′ : State) → Ran s p q n r → r .done ≡ true → Ran s p q m r′ → ⊥
+  not-after q n m l r r′ h e k =
+      let o = earlier q m n l r′ k in
+      impossible (sym (o .1 .1) ∙ ap (λ (x : State). x .done) (ran-once q n (o .0) r (o .1 .0) h) ∙ e)
 
-  -- End theorem: a search has one end, and one number of steps.
-  pub ends-once : (r r′ : State) → EndsAfter s p r → EndsAfter s p r′ → r ≡ r′
-  ends-once r r′ h k = go (order (h .count) (k .count))
+  -- a search that has stopped stops no later
+  no-later : (q : State) (n : ℕ) (r r′ : State) (h : RunsFor s p q n r) (k : RunsFor s p q n r′) → h .count < k .count → ⊥
+  no-later q n r r′ h k l = go (h .stops)
+    where
+      go : (r .done ≡ true) ⊎ (h .count ≡ n) → ⊥
+      go (inl e) = not-after q (h .count) (k .count) l r r′ (h .ran) e (k .ran)
+      go (inr e) = omega (arith, e, l, k .few)
+
+  pub runs-once : (q : State) (n : ℕ) (r r′ : State) → RunsFor s p q n r → RunsFor s p q n r′ → r ≡ r′
+  runs-once q n r r′ h k = go (order (h .count) (k .count))
     where
       go : Order (h .count) (k .count) → r ≡ r′
-      go (before l) = absurd (not-after (h .count) (k .count) l r r′ (h .after) (h .over) (k .after))
-      go (same e) = after-once (k .count) r r′ (subst (λ n. After s p n r) e (h .after)) (k .after)
-      go (after l) = absurd (not-after (k .count) (h .count) l r′ r (k .after) (k .over) (h .after))
+      go (before l) = absurd (no-later q n r r′ h k l)
+      go (same e) = ran-once q (k .count) r r′ (subst (λ i. Ran s p q i r) e (h .ran)) (k .ran)
+      go (after l) = absurd (no-later q n r′ r k h l)
+
+  -- End theorem: a search of at most n steps stops in one state, with one number of steps.
+  pub stops-once : (n : ℕ) (r r′ : State) → Stops s p n r → Stops s p n r′ → r ≡ r′
+  stops-once n r r′ h k =
+      runs-once (k .start) n r r′ (subst (λ q. RunsFor s p q n r) (begun-once (h .start) (k .start) (h .begun) (k .begun)) (h .runs)) (k .runs)

@@ -1,5 +1,5 @@
 -- Each verdict of a look settles what it covers.
--- cut-settles: a run whose relaxation is empty or no better than the incumbent, or whose lattice or strides have nothing better.
+-- cut-settles: a run whose relaxation is empty or no better than the incumbent, or whose lattice has nothing better.
 -- pair-settles: a prefix from which a domination pair can be taken away.
 -- tried-settles, tried-keeps: the place itself, and that what was settled stays so.
 use mathlib.Core.Path.{_≡_, refl, sym, ap, _∙_, subst, subst₂}
@@ -24,26 +24,23 @@ use Rattle.knapsack.proofs.Common.{valueᴰ, Feasibleᴰ}
 use Rattle.knapsack.proofs.Moves.{pair-discard}
 use Rattle.greedy.specs.declared.Ends.{Ends}
 use Rattle.greedy.specs.declared.Fill.{Fill}
-use Rattle.greedy.specs.Fill.{at, place, fill, width, bound}
+use Rattle.greedy.specs.Fill.{at, place, fill, bound}
 use Rattle.greedy.proofs.Relaxed.{boxOf, Stopped, fill-stopped, fill-empty, fill-bound}
-use Rattle.greedy.specs.Sized.{SizedFill}
 use Rattle.greedy.proofs.Sizes.{fill-sized}
 use Rattle.lattice.specs.Lattice.{latticeAt}
-use Rattle.lattice.proofs.Ranges.{nonzero}
 use Rattle.places.proofs.Places.{Agree, Run}
 use Rattle.setting.specs.declared.Setting.{Setting}
 use Rattle.setting.specs.declared.Pairs.{Pairs}
 use Rattle.search.specs.declared.Incumbent.{Incumbent}
 use Rattle.setting.specs.Box.{levelAt, fixedBy, Inside, Long}
-use Rattle.search.specs.Search.{startBy, runEnds, sparseBy, strideFill, mixedBound, mixedBy, mixedAt, cutBy, betters, triedBy, Applies}
+use Rattle.search.specs.Search.{startBy, runEnds, sparseBy, cutBy, betters, triedBy, Applies}
 use Rattle.setting.specs.Ready.{pairIndex, ReadySetting, ReadyPairs, TruePair, Marked}
 use Rattle.search.specs.Steps.{ProperBest, BoxInRange}
 use Rattle.search.proofs.Starts.{orderOf}
 use Rattle.setting.proofs.Boxes.{item<16}
-use Rattle.greedy.proofs.Bounds.{above-zero, shared-proper, bound-proper}
+use Rattle.greedy.proofs.Bounds.{bound-proper}
 use Rattle.search.proofs.Runs.{fixed-in-range, run-in-range}
 use Rattle.search.proofs.Cuts.{box, AtMostBest, Bettered, Settled, no-better, rebox, in-fixed, in-run, bounded, sparse-most}
-use Rattle.search.proofs.Mixing.{mixed-most}
 
 -- a value that betters an incumbent's is above what the incumbent is above
 passed-on : (d e f : ℕ) → 1 ≤ e → (x y z : ℤ) → (x *ℤ pos e) ≤ℤ (y *ℤ pos d) → (y *ℤ pos f) <ℤ (z *ℤ pos e) → (x *ℤ pos f) ≤ℤ (z *ℤ pos d)
@@ -55,9 +52,9 @@ whole-most n k D = split2 _ (λ a b c e. simp zed (λ h. omega (arith, mul-le-mu
 
 module _ (s : Setting) (r : ReadySetting s) (long : Long (s .ends)) (marks : ℕ → Mark) (m : Marked s marks) (P : ℕ → ℤ) (inside : Inside s P) where
   pub cut-settles : (d : ℕ) (b : Incumbent) → d < s .levels → ProperBest b
-      → cutBy (s .cols) (s .strides) (latticeAt (s .lattice) d) (runEnds s P (startBy s P d) d) b ≡ true → (y : ℕ → ℤ) → Run (orderOf s) d P y
+      → cutBy (s .cols) (latticeAt (s .lattice) d) (runEnds s P (startBy s P d) d) b ≡ true → (y : ℕ → ℤ) → Run (orderOf s) d P y
       → Settled s marks b y
-  unfolding cutBy mixedAt
+  unfolding cutBy
   cut-settles d b l proper h y run D N d≥1 p a = empty? (ltZ (f .room) (pos 0)) refl (subst (λ t. t ≡ true) refl h)
     where
       e : Ends
@@ -78,76 +75,32 @@ module _ (s : Setting) (r : ReadySetting s) (long : Long (s .ends)) (marks : ℕ
       v-proper : Proper v
       v-proper = bound-proper (s .cols) f (fill-sized (s .cols) e (j .sized))
 
-      -- what is told by strides
-      mixed-is : Stopped (s .cols) e marks (r .ordered) (j .in-order) f → pos 0 ≤ℤ f .room → b .found ≡ true
-          → mixedAt (s .cols) (s .strides) f (b .value) ≡ true → AtMostBest s marks b D N
-      mixed-is st room q k = live? (ltb (f .at) (s .cols .live)) refl k (st .why)
-        where
-          size : ℤ
-          size = at (s .cols .size) (f .at)
-
-          rate : ℤ
-          rate = at (s .cols .rate) (f .at)
-
-          bound₁ : Mixed
-          bound₁ = mixedBound (s .strides) f size rate
-
-          z : SizedFill (s .cols) f
-          z = fill-sized (s .cols) e (j .sized)
-
-          told : f .at < s .cols .live → f .room <ℤ (size *ℤ width (s .cols) e (f .at)) → pos 0 <ℤ s .strides .stride → f .at ≤ s .strides .rank
-              → (s .strides .rate *ℤ size) ≤ℤ (rate *ℤ s .strides .size) → lessMixed (b .value) bound₁ ≡ false → AtMostBest s marks b D N
-          told i short g late test h = no-better s marks b bound₁ D N q (proper q)
-              (shared-proper (strideFill (s .strides) f size rate) (natAbs (s .strides .size)) (natAbs (s .strides .rate))
-              (above-zero (s .strides .size) (r .strides-in .size≥1)) (within-abs (s .strides .size) (r .strides-in .size-in))) h
-              (mixed-most s r long marks m (r .strides-hold (nonzero (s .strides .stride) g)) D N d≥1 p y a P d l run (j .in-order)
-              late st i short z room g test)
-
-          test? : f .at < s .cols .live → f .room <ℤ (size *ℤ width (s .cols) e (f .at)) → (g late less t : Bool) → ltZ (pos 0) (s .strides .stride) ≡ g
-              → ltb (s .strides .rank) (f .at) ≡ late → ltZ (rate *ℤ s .strides .size) (s .strides .rate *ℤ size) ≡ less → lessMixed (b .value) bound₁ ≡ t
-              → cond g (cond late false (cond less false (not t))) false ≡ true → AtMostBest s marks b D N
-          test? i short true false false false x y w v h = told i short (yes-lt x) (omega (arith, ltb-false (s .strides .rank) (f .at) y)) (no-lt w) v
-          test? i short true false false true x y w v h = absurd (impossible h)
-          test? i short true false true t x y w v h = absurd (impossible h)
-          test? i short true true less t x y w v h = absurd (impossible h)
-          test? i short false late less t x y w v h = absurd (impossible h)
-
-          live? : (v : Bool) → ltb (f .at) (s .cols .live) ≡ v → cond v (mixedBy (s .strides) f size rate (b .value)) false ≡ true → (f .at ≡ s .cols .live)
-              ⊎ ((f .at < s .cols .live) × (f .room <ℤ (size *ℤ width (s .cols) e (f .at)))) → AtMostBest s marks b D N
-          live? false x h w = absurd (impossible h)
-          live? true x h (inl w) = absurd (omega (arith, ltb-true (f .at) (s .cols .live) x))
-          live? true x h (inr (i, short)) = test? i short (ltZ (pos 0) (s .strides .stride)) (ltb (s .strides .rank) (f .at))
-              (ltZ (rate *ℤ s .strides .size) (s .strides .rate *ℤ size)) (lessMixed (b .value) bound₁) refl refl refl refl h
-
-      -- where the run is sparse, and where it is not
-      sparse? : Stopped (s .cols) e marks (r .ordered) (j .in-order) f → pos 0 ≤ℤ f .room → b .found ≡ true → (t : Bool)
-          → sparseBy (s .cols) (latticeAt (s .lattice) d) f (b .value .whole) ≡ t → cond t true (mixedAt (s .cols) (s .strides) f (b .value)) ≡ true
-          → AtMostBest s marks b D N
-      sparse? st room q true x k = (
+      -- where the run is sparse
+      sparse : Stopped (s .cols) e marks (r .ordered) (j .in-order) f → b .found ≡ true
+          → sparseBy (s .cols) (latticeAt (s .lattice) d) f (b .value .whole) ≡ true → AtMostBest s marks b D N
+      sparse st q x = (
         q,
         whole-most (b .value .parts) (b .value .part) D (valueᴰ (box s marks) N) (b .value .whole)
             (sparse-most s r long marks m D N d≥1 p y a P d l run (j .in-order) st (fill-sized (s .cols) e (j .sized)) (b .value .whole) x),
       )
-      sparse? st room q false x k = mixed-is st room q k
 
       -- where the bound is no better, and where it is
-      better? : Stopped (s .cols) e marks (r .ordered) (j .in-order) f → pos 0 ≤ℤ f .room → b .found ≡ true → (t : Bool) → lessMixed (b .value) v ≡ t
-          → cond t (cond (sparseBy (s .cols) (latticeAt (s .lattice) d) f (b .value .whole)) true (mixedAt (s .cols) (s .strides) f (b .value))) true ≡ true
-          → AtMostBest s marks b D N ⊎ Bettered s marks D N
-      better? st room q false z k = inl (no-better s marks b v D N q (proper q) v-proper z (bounded s r long marks m D N d≥1 p y a P d l run (j .in-order) st))
-      better? st room q true z k = inl (sparse? st room q (sparseBy (s .cols) (latticeAt (s .lattice) d) f (b .value .whole)) refl k)
+      better? : Stopped (s .cols) e marks (r .ordered) (j .in-order) f → b .found ≡ true → (t : Bool) → lessMixed (b .value) v ≡ t
+          → cond t (sparseBy (s .cols) (latticeAt (s .lattice) d) f (b .value .whole)) true ≡ true → AtMostBest s marks b D N ⊎ Bettered s marks D N
+      better? st q false z k = inl (no-better s marks b v D N q (proper q) v-proper z (bounded s r long marks m D N d≥1 p y a P d l run (j .in-order) st))
+      better? st q true z k = inl (sparse st q k)
 
-      compared : Stopped (s .cols) e marks (r .ordered) (j .in-order) f → pos 0 ≤ℤ f .room → (t : Bool) → b .found ≡ t
-          → cond t (cond (lessMixed (b .value) v) (cond (sparseBy (s .cols) (latticeAt (s .lattice) d) f (b .value .whole)) true
-          (mixedAt (s .cols) (s .strides) f (b .value))) true) false ≡ true → AtMostBest s marks b D N ⊎ Bettered s marks D N
-      compared st room false q k = absurd (impossible k)
-      compared st room true q k = better? st room q (lessMixed (b .value) v) refl k
+      compared : Stopped (s .cols) e marks (r .ordered) (j .in-order) f → (t : Bool) → b .found ≡ t
+          → cond t (cond (lessMixed (b .value) v) (sparseBy (s .cols) (latticeAt (s .lattice) d) f (b .value .whole)) true) false ≡ true
+          → AtMostBest s marks b D N ⊎ Bettered s marks D N
+      compared st false q k = absurd (impossible k)
+      compared st true q k = better? st q (lessMixed (b .value) v) refl k
 
       empty? : (t : Bool) → ltZ (f .room) (pos 0) ≡ t → cond (ltZ (f .room) (pos 0)) true
-          (cond (b .found) (cond (lessMixed (b .value) v) (cond (sparseBy (s .cols) (latticeAt (s .lattice) d) f (b .value .whole)) true
-          (mixedAt (s .cols) (s .strides) f (b .value))) true) false) ≡ true → AtMostBest s marks b D N ⊎ Bettered s marks D N
+          (cond (b .found) (cond (lessMixed (b .value) v) (sparseBy (s .cols) (latticeAt (s .lattice) d) f (b .value .whole)) true) false) ≡ true
+          → AtMostBest s marks b D N ⊎ Bettered s marks D N
       empty? true q k = absurd (fill-empty (s .cols) e marks (r .ordered) (j .in-order) (yes-lt q) D N d≥1 in-e)
-      empty? false q k = compared (fill-stopped (s .cols) e marks (r .ordered) (j .in-order) (no-lt q)) (no-lt q) (b .found) refl (rw q at k)
+      empty? false q k = compared (fill-stopped (s .cols) e marks (r .ordered) (j .in-order) (no-lt q)) (b .found) refl (rw q at k)
 
   pub pair-settles : (ps : Pairs) → ReadyPairs (s .cols) ps → (d : ℕ) (b : Incumbent) → d < s .levels → Applies s ps P d → (y : ℕ → ℤ) → Agree (suc d) P y
       → Settled s marks b y

@@ -4,10 +4,8 @@
 --   runBox, runEnds     the box of P's run at level d, which starts at v: what is left of its segment there, and all below
 --   slopeOf c f         the critical item's price for its weight, from the whole amounts' worth on
 --   sparseBy c l f b    no value above b is found on the lattice l, within the room and the slope of the filling f
---   strideFill, mixedBound  integer items take whole strides of the room, continuous ones the rest: as a filling, and its value
---   mixedBy m f …       that makes no value above b;  mixedAt c m f b: where the filling f stops
---   hopelessBy m l f …  a filling promises no value above b, or none is found on the lattice or by strides
---   cutBy c m l e best  the box e holds nothing, or nothing better than the incumbent
+--   hopelessBy l f …    a filling promises no value above b, or none is found on the lattice
+--   cutBy c l e best    the box e holds nothing, or nothing better than the incumbent
 --   betters v best      the value v is better than the incumbent's
 --   betterBy c e best   the relaxation of e, a place with all levels fixed, is better than the incumbent
 --   triedBy c e x best  the better of the two, where the levels are fixed at x
@@ -25,7 +23,6 @@ use Prim.Native.Nat.{ℕ, _+_, _*_, _≤_, _<_}
 use lib.Dec.{ltb}
 use lib.IntN.{ℤ, pos, natAbs, _+ℤ_, _-ℤ_, _*ℤ_}
 use lib.Signed.{ltZ, _≤ℤ_}
-use Rattle.arith.specs.Division.{floorDiv, ceilDiv}
 use Rattle.arith.specs.Mixed.{lessMixed}
 use Rattle.arith.specs.declared.Mixed.{Mixed}
 use Rattle.greedy.specs.declared.Columns.{Columns}
@@ -36,7 +33,6 @@ use Rattle.lattice.specs.declared.Lattice.{Lattice}
 use Rattle.lattice.specs.declared.Slope.{Slope}
 use Rattle.lattice.specs.Lattice.{barrenBy}
 use Rattle.setting.specs.declared.Setting.{Setting}
-use Rattle.setting.specs.declared.StrideBound.{StrideBound}
 use Rattle.setting.specs.declared.Pairs.{Pairs}
 use Rattle.setting.specs.Box.{levelAt, spanned, fixedBy}
 use Rattle.setting.specs.Ready.{pairIndex}
@@ -62,40 +58,15 @@ slopeOf c f = record { worth = f .worth; rate = at (c .rate) (f .at); size = at 
 unfoldable pub sparseBy : Columns → Lattice → Fill → ℤ → Bool
 sparseBy c l f b = cond (ltb (f .at) (c .live)) (barrenBy l (slopeOf c f) (f .room) b) false
 
--- whole strides of the room at the price of an item of that weight, rounded up, and the rest at that of continuous items
-abbrev pub strideFill : StrideBound → Fill → ℤ → ℤ → Fill
-strideFill m f size rate =
-    record {
-      at = 0;
-      room = f .room -ℤ m .stride *ℤ floorDiv (f .room) (m .stride);
-      worth = f .worth +ℤ ceilDiv (rate *ℤ (m .stride *ℤ floorDiv (f .room) (m .stride))) size;
-    }
+-- no value above b is promised by a filling that ends at an item of that weight and price, or none is found on the lattice
+abbrev pub hopelessBy : Lattice → Fill → ℤ → ℤ → Mixed → Bool
+hopelessBy l f size rate b =
+    cond (lessMixed b (sharedBy f (natAbs size) (natAbs rate))) (barrenBy l (record { worth = f .worth; rate = rate; size = size }) (f .room) (b .whole)) true
 
-abbrev pub mixedBound : StrideBound → Fill → ℤ → ℤ → Mixed
-mixedBound m f size rate = sharedBy (strideFill m f size rate) (natAbs (m .size)) (natAbs (m .rate))
-
-abbrev pub mixedBy : StrideBound → Fill → ℤ → ℤ → Mixed → Bool
-mixedBy m f size rate b =
-    cond (ltZ (pos 0) (m .stride))
-    (cond (ltb (m .rank) (f .at)) false (cond (ltZ (rate *ℤ m .size) (m .rate *ℤ size)) false (not (lessMixed b (mixedBound m f size rate)))))
-    false
-
--- no value above b is promised by a filling that ends at an item of that weight and price, or none is found on the lattice or by strides
-abbrev pub hopelessBy : StrideBound → Lattice → Fill → ℤ → ℤ → Mixed → Bool
-hopelessBy m l f size rate b =
-    cond (lessMixed b (sharedBy f (natAbs size) (natAbs rate)))
-    (cond (barrenBy l (record { worth = f .worth; rate = rate; size = size }) (f .room) (b .whole)) true (mixedBy m f size rate b))
-    true
-
--- the same of a filling's own critical item
-unfoldable pub mixedAt : Columns → StrideBound → Fill → Mixed → Bool
-mixedAt c m f b = cond (ltb (f .at) (c .live)) (mixedBy m f (at (c .size) (f .at)) (at (c .rate) (f .at)) b) false
-
-unfoldable pub cutBy : Columns → StrideBound → Lattice → Ends → Incumbent → Bool
-cutBy c m l e best =
+unfoldable pub cutBy : Columns → Lattice → Ends → Incumbent → Bool
+cutBy c l e best =
     cond (ltZ (fill c e .room) (pos 0)) true
-    (cond (best .found) (cond (lessMixed (best .value) (bound c (fill c e)))
-    (cond (sparseBy c l (fill c e) (best .value .whole)) true (mixedAt c m (fill c e) (best .value))) true) false)
+    (cond (best .found) (cond (lessMixed (best .value) (bound c (fill c e))) (sparseBy c l (fill c e) (best .value .whole)) true) false)
 
 -- whether a value is better than the incumbent's
 abbrev pub betters : Mixed → Incumbent → Bool

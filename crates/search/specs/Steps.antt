@@ -1,8 +1,7 @@
 -- What the parts of a step ask and give.
 --   LongPath p        the lists of a path have a place for each level
 --   Dived s j p r     r is p with the levels from j on at their starts
---   MixedBoundInRange, MixedInRange, HopelessInRange
---                     what the bound by strides, its comparison, and the three cuts of a filling ask
+--   HopelessInRange   what the cuts of a filling ask
 --   Started s t       the path's place is in the box, and its starts are the place's
 --   ProperBest b      an incumbent's value can be compared
 --   BoxInRange c e b  columns, box and incumbent are in their ranges, and the box in order
@@ -25,8 +24,11 @@
 --   countedBy n       one more, as long as it fits
 --   Stepped s p q r   a step from q to r
 --   origin            the path that a search begins from;  Begun s q: a search at its first place
---   After s p n q     q after n steps from the first place on; each counts one
---   EndsAfter s p r   r is where a search ends, with the steps that it took
+--   GoodBest s b      the incumbent, if there is one, is a place of the box that was tried, with its value
+--   Underway s p q    what a search relies on to go on from q
+--   Ran s p q n r     n steps lead from q to r
+--   RunsFor s p q n r r is where a search stops that goes on from q for at most n steps
+--   Stops s p n r     the same from the first place on; the steps told are those taken
 use mathlib.Core.Path.{_≡_}
 use mathlib.Core.Bool.{Bool, true, false, cond}
 use mathlib.Core.List.{List}
@@ -41,7 +43,7 @@ use Rattle.arith.specs.Limits.{mostRoom}
 use Rattle.arith.specs.Within.{Within}
 use Rattle.arith.specs.Mixed.{Proper}
 use Rattle.arith.specs.declared.Mixed.{Mixed}
-use Rattle.greedy.specs.Fill.{at}
+use Rattle.greedy.specs.Fill.{at, fill, bound}
 use Rattle.greedy.specs.declared.Ends.{Ends}
 use Rattle.greedy.specs.declared.Fill.{Fill}
 use Rattle.greedy.specs.Sized.{Sized}
@@ -54,7 +56,6 @@ use Rattle.places.specs.declared.Settled.{Settled}
 use Rattle.places.specs.declared.Settled.the-variants.{Run, Prefix}
 use Rattle.places.specs.Moves.{pastOf}
 use Rattle.setting.specs.declared.Setting.{Setting}
-use Rattle.setting.specs.declared.StrideBound.{StrideBound}
 use Rattle.setting.specs.declared.Pairs.{Pairs}
 use Rattle.search.specs.declared.Incumbent.{Incumbent}
 use Rattle.search.specs.declared.Path.{Path}
@@ -63,7 +64,7 @@ use Rattle.search.specs.declared.State.{State}
 use Rattle.search.specs.declared.Comparison.{Comparison}
 use Rattle.setting.specs.Box.{fixedBy, Long, Inside}
 use Rattle.search.specs.Search.{startBy, runEnds, cutBy, betterBy, triedBy, Applies}
-use Rattle.setting.specs.Ready.{StrideBoundInRange, ReadySetting, Ready}
+use Rattle.setting.specs.Ready.{ReadySetting, Ready}
 
 -- ---- going down
 
@@ -81,22 +82,10 @@ pub record Dived (s : Setting) (j : ℕ) (p r : Path) : Type 0 where
 -- ---- looking
 
 -- what a filling that ends at an item of that weight and price promises can be compared
-pub record MixedBoundInRange (m : StrideBound) (f : Fill) (size rate : ℤ) : Type 0 where
-  pub strides-in : StrideBoundInRange m
-  pub stride≥1 : pos 0 <ℤ m .stride
+pub record HopelessInRange (l : Lattice) (f : Fill) (size rate : ℤ) (b : Mixed) : Type 0 where
   pub steep : Steep (record { worth = f .worth; rate = rate; size = size })
-  pub room≥0 : pos 0 ≤ℤ f .room
-  pub room-in : Within mostRoom (f .room)
-
-pub record MixedInRange (m : StrideBound) (f : Fill) (size rate : ℤ) (b : Mixed) : Type 0 where
-  pub strides-in : StrideBoundInRange m
-  pub steep : Steep (record { worth = f .worth; rate = rate; size = size })
-  pub room≥0 : pos 0 ≤ℤ f .room
   pub room-in : Within mostRoom (f .room)
   pub proper : Proper b
-
-pub record HopelessInRange (m : StrideBound) (l : Lattice) (f : Fill) (size rate : ℤ) (b : Mixed) : Type 0 where
-  pub mixed-in : MixedInRange m f size rate b
   pub tame : Tame l
 
 -- the path's place is in the box, and its starts are the place's
@@ -117,7 +106,7 @@ pub record BoxInRange (c : Columns) (e : Ends) (b : Incumbent) : Type 0 where
 
 -- the run of level d is cut
 abbrev pub cutAt : Setting → Path → Incumbent → ℕ → Bool
-cutAt s t b d = cutBy (s .cols) (s .strides) (latticeAt (s .lattice) d) (runEnds s (at (t .place)) (at (t .starts) d) d) b
+cutAt s t b d = cutBy (s .cols) (latticeAt (s .lattice) d) (runEnds s (at (t .place)) (at (t .starts) d) d) b
 
 -- the levels above d settle nothing
 pub record Passed (s : Setting) (p : Pairs) (t : Path) (b : Incumbent) (d : ℕ) : Type 0 where
@@ -234,13 +223,36 @@ pub record Begun (s : Setting) (q : State) : Type 0 where
   pub top : q .from ≡ 0
   pub going : q .done ≡ false
 
--- q after n steps
-unfoldable pub After : Setting → Pairs → ℕ → State → Type 0
-After s p zero q = Begun s q
-After s p (suc n) r = (q : State) × (After s p n q × ((q .done ≡ false) × Stepped s p q r))
+-- the incumbent's place is in the box and feasible, and its value is that place's
+pub record GoodBest (s : Setting) (b : Incumbent) : Type 0 where
+  pub proper : ProperBest b
+  pub inside : b .found ≡ true → Inside s (at (b .place))
+  pub roomy : b .found ≡ true → pos 0 ≤ℤ fill (s .cols) (fixedBy s (at (b .place)) (s .levels)) .room
+  pub value-is : b .found ≡ true → b .value ≡ bound (s .cols) (fill (s .cols) (fixedBy s (at (b .place)) (s .levels)))
 
--- r is where a search ends
-pub record EndsAfter (s : Setting) (p : Pairs) (r : State) : Type 0 where
+-- what a search relies on to go on
+pub record Underway (s : Setting) (p : Pairs) (q : State) : Type 0 where
+  pub ready : Ready s p
+  pub started : Started s (q .path)
+  pub good : GoodBest s (q .best)
+  pub from-in : q .from ≤ s .levels
+  pub passed : Passed s p (q .path) (q .best) (q .from)
+
+-- n steps from q to r
+unfoldable pub Ran : Setting → Pairs → State → ℕ → State → Type 0
+Ran s p q zero r = r ≡ q
+Ran s p q (suc n) r = (o : State) × (Ran s p q n o × ((o .done ≡ false) × Stepped s p o r))
+
+-- a search that goes on from q stops at its end, or after n steps
+pub record RunsFor (s : Setting) (p : Pairs) (q : State) (n : ℕ) (r : State) : Type 0 where
   pub count : ℕ
-  pub after : After s p count r
-  pub over : r .done ≡ true
+  pub ran : Ran s p q count r
+  pub few : count ≤ n
+  pub stops : (r .done ≡ true) ⊎ (count ≡ n)
+
+-- the same from the first place on, with the steps counted
+pub record Stops (s : Setting) (p : Pairs) (n : ℕ) (r : State) : Type 0 where
+  pub start : State
+  pub begun : Begun s start
+  pub runs : RunsFor s p start n r
+  pub steps-are : r .steps ≡ runs .count

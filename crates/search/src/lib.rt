@@ -2,8 +2,6 @@
 // sets aside a run of places from it on, with the lemma that allows it: see proofs/Settle. What a step gives depends on the place and the
 // incumbent alone; the state also says which levels are known to settle nothing, so that they are not looked at again.
 use arith::Mixed;
-use arith::ceil_div;
-use arith::floor_div;
 use arith::less;
 use arith::magnitude;
 use greedy::Columns;
@@ -21,7 +19,6 @@ use places::Settled;
 use places::past;
 use setting::Pairs;
 use setting::Setting;
-use setting::StrideBound;
 use setting::fixed_in;
 ghost use mathlib.Core.Path.{_≡_};
 ghost use Prim.Native.Nat.{_≤_, _<_};
@@ -30,11 +27,11 @@ ghost use Rattle.arith.specs.Within.{Within};
 ghost use Rattle.greedy.specs.Fill.{at, place};
 ghost use Rattle.lattice.specs.Lattice.{Tame};
 ghost use Rattle.setting.specs.Box.{InsideTo};
-ghost use Rattle.search.specs.Search.{bySide, mixedBound, mixedBy, hopelessBy, cutBy, Stays, Removable, Reflects, FirstPaired};
-ghost use Rattle.setting.specs.Ready.{StrideBoundInRange, ReadySetting, Ready};
-ghost use Rattle.search.specs.Searched.{Searched};
-ghost use Rattle.search.specs.Steps.{Dived, MixedBoundInRange, MixedInRange, HopelessInRange, BoxInRange, Tries, Unpaired, Looks, Looked, nobody};
-ghost use Rattle.search.specs.Steps.{LongPath, movedAt, freshBy, countedBy, Stepped, EndsAfter};
+ghost use Rattle.search.specs.Search.{bySide, hopelessBy, cutBy, Stays, Removable, Reflects, FirstPaired};
+ghost use Rattle.setting.specs.Ready.{ReadySetting, Ready};
+ghost use Rattle.search.specs.Searched.{Searches};
+ghost use Rattle.search.specs.Steps.{Dived, HopelessInRange, BoxInRange, Tries, Unpaired, Looks, Looked, nobody};
+ghost use Rattle.search.specs.Steps.{LongPath, movedAt, freshBy, countedBy, Stepped, Begun, Underway, RunsFor};
 
 // The best place so far, and its value.
 pub struct Incumbent {
@@ -98,45 +95,11 @@ pub fn dive(s: Setting, p: Path, j: usize) -> Path
     }
 }
 
-// What a filling that stops at an item of that weight and price is worth at most if integer items take whole strides of the room: what they
-// leave goes to continuous items.
-pub fn mixed_bound(m: StrideBound, f: Fill, size: i64, rate: i64) -> Mixed
-    requires { ⌜ MixedBoundInRange m f size rate ⌝ }
-    ensures { λ r. ⌜ r ≡ mixedBound m f size rate ⌝ }
-{
-    let r = f.room;
-    let w = m.stride * floor_div(r, m.stride);
-    let g = Fill {
-        at: 0,
-        room: r - w,
-        worth: f.worth + ceil_div(rate * w, size),
-    };
-    share(g, magnitude(m.size), magnitude(m.rate))
-}
-
-// Whether that is no more than b, where it says something: see proofs/Mixing (mixed-most).
-pub fn mixed(m: StrideBound, f: Fill, size: i64, rate: i64, b: Mixed) -> bool
-    requires { ⌜ MixedInRange m f size rate b ⌝ }
-    ensures { λ r. ⌜ r ≡ mixedBy m f size rate b ⌝ }
-{
-    if 0 < m.stride {
-        if m.rank < f.at {
-            return false;
-        }
-        if rate * m.size < m.rate * size {
-            return false;
-        }
-        let v = mixed_bound(m, f, size, rate);
-        return !less(b, v);
-    }
-    false
-}
-
 // Whether a filling that stops at an item of that weight and price promises no value above b, or the items can make none whatever it
-// promises: cut by relaxation, by lattice, see proofs/Cuts (sparse-most), and by strides.
-pub fn hopeless(m: StrideBound, l: Lattice, f: Fill, size: i64, rate: i64, b: Mixed) -> bool
-    requires { ⌜ HopelessInRange m l f size rate b ⌝ }
-    ensures { λ r. ⌜ r ≡ hopelessBy m l f size rate b ⌝ }
+// promises: cut by relaxation, and by lattice, see proofs/Cuts (sparse-most).
+pub fn hopeless(l: Lattice, f: Fill, size: i64, rate: i64, b: Mixed) -> bool
+    requires { ⌜ HopelessInRange l f size rate b ⌝ }
+    ensures { λ r. ⌜ r ≡ hopelessBy l f size rate b ⌝ }
 {
     let v = share(f, magnitude(size), magnitude(rate));
     if less(b, v) {
@@ -145,19 +108,16 @@ pub fn hopeless(m: StrideBound, l: Lattice, f: Fill, size: i64, rate: i64, b: Mi
             rate: rate,
             size: size,
         };
-        if barren(l, p, f.room, b.whole) {
-            return true;
-        }
-        return mixed(m, f, size, rate, b);
+        return barren(l, p, f.room, b.whole);
     }
     true
 }
 
 // Whether the box e holds nothing better than the incumbent: see proofs/Settle (cut-settles). The columns are large, and a struct is
 // copied at a call: so the critical item is read here.
-pub fn cut(c: Columns, m: StrideBound, l: Lattice, e: Ends, best: Incumbent) -> bool
-    requires { ⌜ BoxInRange c e best × (Tame l × StrideBoundInRange m) ⌝ }
-    ensures { λ r. ⌜ r ≡ cutBy c m l e best ⌝ }
+pub fn cut(c: Columns, l: Lattice, e: Ends, best: Incumbent) -> bool
+    requires { ⌜ BoxInRange c e best × Tame l ⌝ }
+    ensures { λ r. ⌜ r ≡ cutBy c l e best ⌝ }
 {
     let f = fill_up(c, e);
     if f.room < 0 {
@@ -170,7 +130,7 @@ pub fn cut(c: Columns, m: StrideBound, l: Lattice, e: Ends, best: Incumbent) -> 
         if u < n {
             let s = c.size[u];
             let p = c.rate[u];
-            return hopeless(m, l, f, s, p, b);
+            return hopeless(l, f, s, p, b);
         }
         let v = Mixed {
             whole: f.worth,
@@ -284,7 +244,6 @@ pub fn look(s: Setting, p: Pairs, t: Path, best: Incumbent, from: usize) -> Sigh
     let n = s.levels;
     let x = t.place;
     let v = t.starts;
-    let z = s.strides;
     let m = first_paired(s, p, x, from);
     let ends = s.ends;
     let level = s.level;
@@ -298,7 +257,7 @@ pub fn look(s: Setting, p: Pairs, t: Path, best: Incumbent, from: usize) -> Sigh
         let h = by_side(a, b, a, s.high[d]);
         e.lo[i] = l;
         e.hi[i] = h;
-        if cut(s.cols, z, s.lattice[d], e, best) {
+        if cut(s.cols, s.lattice[d], e, best) {
             return Sighting {
                 settled: Settled::Run(d),
                 best: best,
@@ -417,24 +376,47 @@ pub fn step(s: Setting, p: Pairs, q: State) -> State
     }
 }
 
-// The search from its first place on: the best place of the box, or that there is none, and how many steps that ended.
-pub fn run(s: Setting, p: Pairs) -> State
-    requires { ⌜ Ready s p ⌝ }
-    ensures { λ r. ⌜ Searched s (r .best) × EndsAfter s p r ⌝ }
+// The search at its first place: every level at its start.
+pub fn start(s: Setting) -> State
+    requires { ⌜ ReadySetting s ⌝ }
+    ensures { λ r. ⌜ Begun s r ⌝ }
 {
     let zero = Path {
         place: [0; 16],
         starts: [0; 16],
     };
-    let mut q = State {
+    State {
         path: dive(s, zero, 0),
         best: no_incumbent(),
         steps: 0,
         from: 0,
         done: false,
-    };
-    while !q.done {
-        q = step(s, p, q);
     }
-    q
+}
+
+// The search from q on: to its end, or for n steps.
+pub fn run_for(s: Setting, p: Pairs, q: State, n: u64) -> State
+    requires { ⌜ Underway s p q ⌝ }
+    ensures { λ r. ⌜ RunsFor s p q n r ⌝ }
+{
+    let mut t = q;
+    let mut left = n;
+    while 0 < left {
+        if t.done {
+            return t;
+        }
+        t = step(s, p, t);
+        left -= 1;
+    }
+    t
+}
+
+// The search from its first place on, for at most so many steps. At its end: the best place of the box, or that there is none. Before that the
+// incumbent is the best of the places tried.
+pub fn run(s: Setting, p: Pairs, most: u64) -> State
+    requires { ⌜ Ready s p ⌝ }
+    ensures { λ r. ⌜ Searches s p most r ⌝ }
+{
+    let q = start(s);
+    run_for(s, p, q, most)
 }

@@ -1,31 +1,25 @@
 -- What a search relies on.
 --   Changes s d        every item of no level is fixed, and what the levels from d on change is on d's lattice
---   RateBounded c m k  item k, free and continuous, comes no earlier and is no better for its weight than the stride bound m says
---   StridesHold s      the items of the levels weigh multiples of the stride, and every other one is fixed or of bounded rate
---   StrideBoundInRange m  the figures of a stride bound are in their ranges
---   ReadySetting s     the setting is in order: sizes, the order by price per weight, the levels, the lattices, the strides
+--   ReadySetting s     the setting is in order: sizes, the order by price per weight, the levels, the lattices
 --   pairIndex i j      where the steps of the pair of items i and j stand
 --   TruePair c p i j   taking the pair's steps away weighs no more and is worth more
 --   ReadyPairs c p     the pairs are true of the columns
 --   Ready s p          both
 --   Marked s marks     the integer items are those of the levels
 use mathlib.Core.Path.{_≡_}
-use mathlib.Core.Logic.{_≢_, _⊎_}
+use mathlib.Core.Logic.{_≢_}
 use Prim.Native.Nat.{ℕ, _+_, _*_, _≤_, _<_}
 use lib.IntN.{ℤ, pos, natAbs, _+ℤ_, _*ℤ_}
 use lib.Signed.{_≤ℤ_, _<ℤ_}
 use Rattle.knapsack.specs.declared.Mark.{Mark}
 use Rattle.knapsack.specs.declared.Mark.the-variants.{Integer}
-use Rattle.arith.specs.Signs.{timesSign}
-use Rattle.arith.specs.Within.{Within}
 use Rattle.greedy.specs.declared.Columns.{Columns}
-use Rattle.greedy.specs.Fill.{at, weightOf, priceOf, rankOf}
+use Rattle.greedy.specs.Fill.{at, weightOf, priceOf}
 use Rattle.greedy.specs.Sized.{Sized}
 use Rattle.greedy.specs.Ordered.{Ordered}
 use Rattle.greedy.proofs.Relaxed.{InOrder}
 use Rattle.lattice.specs.Lattice.{On, Tame, latticeAt}
 use Rattle.setting.specs.declared.Setting.{Setting}
-use Rattle.setting.specs.declared.StrideBound.{StrideBound}
 use Rattle.setting.specs.declared.Pairs.{Pairs}
 use Rattle.setting.specs.Box.{levelAt}
 
@@ -33,24 +27,6 @@ use Rattle.setting.specs.Box.{levelAt}
 pub record Changes (s : Setting) (d : ℕ) : Type 0 where
   pub fixed : (k : ℕ) → k < s .cols .count → ((j : ℕ) → j < s .levels → levelAt s j ≢ k) → at (s .ends .lo) k ≡ at (s .ends .hi) k
   pub on : (j : ℕ) → d ≤ j → j < s .levels → On (latticeAt (s .lattice) d) (weightOf (s .cols) (levelAt s j)) (priceOf (s .cols) (levelAt s j))
-
--- a free continuous item is at its light end, and no better for its weight than m says
-pub record RateBounded (c : Columns) (m : StrideBound) (k : ℕ) : Type 0 where
-  pub late : m .rank ≤ rankOf c k
-  pub cheap : (weightOf c k ≡ pos 0) ⊎ ((timesSign (weightOf c k) (priceOf c k) *ℤ m .size) ≤ℤ (m .rate *ℤ pos (natAbs (weightOf c k))))
-
--- every item of a level weighs a multiple of the stride, and every other one is fixed or of bounded rate
-pub record StridesHold (s : Setting) : Type 0 where
-  pub multiples : (j : ℕ) → j < s .levels → (q : ℤ) × (weightOf (s .cols) (levelAt s j) ≡ s .strides .stride *ℤ q)
-  pub rate-bounded : (k : ℕ) → k < s .cols .count → ((j : ℕ) → j < s .levels → levelAt s j ≢ k) → (at (s .ends .lo) k ≡ at (s .ends .hi) k)
-      ⊎ RateBounded (s .cols) (s .strides) k
-
-pub record StrideBoundInRange (m : StrideBound) : Type 0 where
-  pub stride-in : Within 1000 (m .stride)
-  pub rate-in : Within 10000 (m .rate)
-  pub rate≥0 : pos 0 ≤ℤ m .rate
-  pub size-in : Within 1000 (m .size)
-  pub size≥1 : pos 0 <ℤ m .size
 
 -- the steps of the pair of two items
 abbrev pub pairIndex : ℕ → ℕ → ℕ
@@ -72,8 +48,6 @@ pub record ReadySetting (s : Setting) : Type 0 where
   pub high-is : (d : ℕ) → d < s .levels → at (s .high) d ≡ at (s .ends .hi) (levelAt s d)
   pub tame : (d : ℕ) → d < 16 → Tame (latticeAt (s .lattice) d)
   pub changes : (d : ℕ) → d < s .levels → latticeAt (s .lattice) d .stride ≢ pos 0 → Changes s d
-  pub strides-in : StrideBoundInRange (s .strides)
-  pub strides-hold : s .strides .stride ≢ pos 0 → StridesHold s
 
 pub record ReadyPairs (c : Columns) (p : Pairs) : Type 0 where
   pub steps-in : (k : ℕ) → (natAbs (at (p .first) k) ≤ 1000) × (natAbs (at (p .second) k) ≤ 1000)

@@ -19,16 +19,6 @@ pub struct Setting {
     pub high: [i64; 16],
     pub lattice: [Lattice; 16],
     pub levels: usize,
-    pub strides: StrideBound,
-}
-
-// What continuous items can add to a filling: those that are free come at that rank or after, and none is worth more for its weight than
-// rate for size. Integer items weigh multiples of the stride. Stride 0: nothing is known.
-pub struct StrideBound {
-    pub stride: i64,
-    pub rank: usize,
-    pub rate: i64,
-    pub size: i64,
 }
 
 // The domination pairs (01: least pairs) of all pairs of items, at 16 i + j: the steps of i and of j; 0 where there is none. The numbers

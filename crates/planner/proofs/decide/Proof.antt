@@ -1,13 +1,14 @@
 -- `planner::decide` meets its contract.
 use mathlib.Core.Path.{_≡_, refl, subst}
 use mathlib.Core.Bool.{true}
+use native.Mathlib.Omega.{arith}
 use borrow.Author.Needs.{needs}
 use Rattle.arith.proofs.Parts.{within-back}
 use Rattle.arith.proofs.Words.{yes-lt, no-lt}
 use Rattle.prepare.specs.Narrowing.{spanOf, Narrowed}
 use Rattle.prepare.specs.Prepared.{PreparedAt}
-use Rattle.prepare.proofs.Nearer.{reach-small, narrowed-prepared}
-use Rattle.planner.specs.Outcomes.{Walked}
+use Rattle.prepare.proofs.Nearer.{reach-small, narrowed-prepared, near-spanned}
+use Rattle.planner.specs.Outcomes.{standing, Walked}
 use Rattle.planner.proofs.Outcomes.{infeasible-corner, corner-feasible-at, unbounded-corner, must-find, optimal-found}
 use Rattle.planner.proofs.Values.{begun-within}
 use Rattle.planner.proofs.decide.Statement.{statement}
@@ -22,8 +23,8 @@ begin-requires c κs = c .prepare .ensures .ready .sized
 no-point-requires : tie.Need-no-point-requires
 no-point-requires c κs = search needs
 
-with-steps-requires : tie.Need-with-steps-requires
-with-steps-requires c κs = search needs
+with-work-requires : tie.Need-with-work-requires
+with-work-requires c κs = search needs
 
 returns : tie.Need-returns
 returns c =
@@ -33,9 +34,11 @@ returns c =
     let q = a .prepare .ensures in
     let s = a .prepare .result in
     let t = rw (b .begin .ensures, within-back tt (begun-within (s .cols) (s .ends) (q .ready .sized))) at (h .before .if1 .taken) in
-    rw (c .with-steps .ensures, h .no-point .ensures) (record {
+    rw (c .with-work .ensures, h .no-point .ensures) (record {
       answers = infeasible-corner (a .before .args .p) (a .before .pre) s q (yes-lt t);
       counts = refl;
+      few-steps = omega arith;
+      few-cells = omega arith;
     })
 
 find-ray-requires : tie.Need-find-ray-requires
@@ -44,8 +47,8 @@ find-ray-requires c κs = search needs
 unbounded-requires : tie.Need-unbounded-requires
 unbounded-requires c κs = c .before .before .before .before .before .before .before .prepare .ensures .ready .sized
 
-with-steps-requires-2 : tie.Need-with-steps-requires-2
-with-steps-requires-2 c κs = search needs
+with-work-requires-2 : tie.Need-with-work-requires-2
+with-work-requires-2 c κs = search needs
 
 returns-2 : tie.Need-returns-2
 returns-2 c =
@@ -58,10 +61,12 @@ returns-2 c =
     let q = a .prepare .ensures in
     let s = a .prepare .result in
     let t = rw (b .begin .ensures, within-back tt (begun-within (s .cols) (s .ends) (q .ready .sized))) at (e .if1 .left) in
-    rw (c .with-steps2 .ensures) (record {
+    rw (c .with-work2 .ensures) (record {
       answers = unbounded-corner (a .before .args .p) (a .before .pre) s q (r .find-ray .result) (u .unbounded .result) (no-lt t) (r .find-ray .ensures)
           (t2 .if2 .taken) (u .unbounded .ensures);
       counts = rw (u .unbounded .ensures .kind-is) refl;
+      few-steps = omega arith;
+      few-cells = omega arith;
     })
 
 reach-of-requires : tie.Need-reach-of-requires
@@ -89,18 +94,22 @@ near c =
 pairs-of-requires : tie.Need-pairs-of-requires
 pairs-of-requires c κs = search needs
 
-run-requires : tie.Need-run-requires
+best-place-requires : tie.Need-best-place-requires
 unfolding Prep
-run-requires c κs =
+best-place-requires c κs =
     let n = c .before in
     let q = near n in
-    record {
-      setting = q .ready;
-      true-pairs = c .pairs-of .ensures .ready (n .narrowed .result .cols) (record { weights-agree = q .weights; prices-agree = q .prices });
-    }
+    let s = Prep (n .before .before) .before in
+    (
+      record {
+        setting = q .ready;
+        true-pairs = c .pairs-of .ensures .ready (n .narrowed .result .cols) (record { weights-agree = q .weights; prices-agree = q .prices });
+      },
+      near-spanned (s .args .p) (s .pre) (n .narrowed .result) q,
+    )
 
--- the search found a place
-found : (c : tie.After-run) → c .run .result .best .found ≡ true
+-- there is a best place
+found : (c : tie.After-best-place) → c .best-place .result .found ≡ true
 unfolding Prep
 found c =
     let w = c .before .before in
@@ -113,43 +122,49 @@ found c =
     let q = a .prepare .ensures in
     let t = rw (b .begin .ensures, within-back tt (begun-within (a .prepare .result .cols) (a .prepare .result .ends) (q .ready .sized))) at (e1 .if1 .left) in
     must-find (s .args .p) (s .pre) (w .narrowed .result) (near w) _ (corner-feasible-at (s .args .p) (s .pre) (a .prepare .result) q (no-lt t))
-    (r .find-ray .result) (c .run .result .best) (r .find-ray .ensures) (e2 .if2 .left) (c .run .ensures .0)
+    (r .find-ray .result) (standing (w .narrowed .result) (c .best-place .result .found) (c .best-place .result .place)) (r .find-ray .ensures)
+    (e2 .if2 .left) (c .best-place .ensures .searched)
 
 optimal-requires : tie.Need-optimal-requires
 unfolding Prep
 optimal-requires c κs =
-    let n = c .before .before in
-    (near (n .before .before) .ready, n .run .ensures .0 .inside (found n))
+    let n = c .before in
+    (near (n .before .before) .ready, n .best-place .ensures .searched .inside (found n))
 
-with-steps-requires-3 : tie.Need-with-steps-requires-3
-with-steps-requires-3 c κs = search needs
+with-work-requires-3 : tie.Need-with-work-requires-3
+with-work-requires-3 c κs = search needs
 
 -- the search's own count
-walked : (n : tie.After-run) → Walked (Prep (n .before .before .before .before) .before .args .p) (n .run .result .steps)
+walked : (n : tie.After-best-place) → let s = Prep (n .before .before .before .before) .before in
+    Walked (s .args .most) (s .args .p) (n .best-place .result .steps)
 unfolding Prep
 walked n = record {
   setting = n .before .before .narrowed .result;
   prepared = near (n .before .before);
   pairs = n .before .pairs-of .result;
   pairs-are = n .before .pairs-of .ensures;
-  end = n .run .result;
-  ended = n .run .ensures .1;
-  steps-are = refl;
+  end = n .best-place .ensures .end;
+  stops = n .best-place .ensures .stops;
+  steps-are = n .best-place .ensures .steps-are;
 }
 
 returns-3 : tie.Need-returns-3
 unfolding Prep
 returns-3 c =
     let o = c .before in
-    let n = o .before .before .before in
+    let n = o .before .before in
     let w = n .before .before in
     let e2 = w .before .before in
     let r = e2 .before in
     let s = Prep e2 .before in
-    rw (c .with-steps3 .ensures) (record {
-      answers = optimal-found (s .args .p) (s .pre) (w .narrowed .result) (near w) (n .run .result .best) (n .run .ensures .0) (found n) (o .optimal .result)
+    let b = n .best-place .ensures in
+    rw (c .with-work3 .ensures) (record {
+      answers = optimal-found (s .args .p) (s .pre) (w .narrowed .result) (near w)
+          (standing (w .narrowed .result) (n .best-place .result .found) (n .best-place .result .place)) (b .searched) (found n) (o .optimal .result)
           (o .optimal .ensures) (r .find-ray .result) (r .find-ray .ensures) (e2 .if2 .left);
       counts = rw (o .optimal .ensures .kind-is) (walked n);
+      few-steps = omega (arith, b .steps-are, b .stops .steps-are, b .stops .runs .few);
+      few-cells = b .few-cells;
     })
 
 pub decide-spec : {M : Type 1} → statement M
@@ -159,16 +174,16 @@ decide-spec =
     prepare-requires
     begin-requires
     no-point-requires
-    with-steps-requires
+    with-work-requires
     returns
     find-ray-requires
     unbounded-requires
-    with-steps-requires-2
+    with-work-requires-2
     returns-2
     reach-of-requires
     narrowed-requires
     pairs-of-requires
-    run-requires
+    best-place-requires
     optimal-requires
-    with-steps-requires-3
+    with-work-requires-3
     returns-3)

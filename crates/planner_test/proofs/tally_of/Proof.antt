@@ -5,10 +5,10 @@ use Rattle.planner_test.proofs.tally_of.Statement.{statement}
 use Rattle.planner_test.proofs.tally_of.Tie as tie
 
 abbrev Inv-loop : tie.InvT-loop
-Inv-loop seed problems n z «open» t₀ state₀ k₀ t state k = Unit {0}
+Inv-loop seed problems n z most «open» t₀ state₀ k₀ t state k = Unit {0}
 
 abbrev μ-loop : tie.MeasureT-loop
-μ-loop seed problems n z «open» t₀ state₀ k₀ t state k = problems - k
+μ-loop seed problems n z most «open» t₀ state₀ k₀ t state k = problems - k
 
 no-answers-requires : tie.Need-no-answers-requires Inv-loop μ-loop
 no-answers-requires c κs = search needs

@@ -65,14 +65,9 @@ table-requires-2 c κs = by-level (c .before)
 lattices-of-requires : tie.Need-lattices-of-requires
 lattices-of-requires c κs = by-level (c .before .before)
 
-stride-bound-requires : tie.Need-stride-bound-requires
-stride-bound-requires c κs =
-    let k = c .before .before .before .before .before .before .before in
-    (k .before .pre, k .columns .ensures)
-
 returns : tie.Need-returns
 returns c =
-    let l = c .before .before .before .before in
+    let l = c .before .before .before in
     let o = l .before in
     let b = o .before in
     let e = b .before in
@@ -84,10 +79,9 @@ returns c =
       by-is = b .branching .ensures;
       sorted = o .ranking-by .ensures;
       leading = l .leading .ensures;
-      lows = c .before .before .before .table .ensures;
-      highs = c .before .before .table2 .ensures;
-      latticing = c .before .lattices-of .ensures;
-      strides-of = c .stride-bound .ensures;
+      lows = c .before .before .table .ensures;
+      highs = c .before .table2 .ensures;
+      latticing = c .lattices-of .ensures;
     })
 
 pub prepare-spec : {M : Type 1} → statement M
@@ -102,5 +96,4 @@ prepare-spec =
     table-requires
     table-requires-2
     lattices-of-requires
-    stride-bound-requires
     returns)

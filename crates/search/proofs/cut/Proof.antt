@@ -8,11 +8,10 @@ use lib.Signed.{ltZ}
 use borrow.Author.Tests.{lt-ltb, le-ltb}
 use Rattle.arith.specs.Mixed.{lessMixed}
 use Rattle.arith.proofs.Parts.{within-back}
-use Rattle.arith.proofs.Words.{no-lt}
 use Rattle.greedy.specs.Fill.{fill, bound}
 use Rattle.greedy.specs.Sized.{SizedFill}
 use Rattle.greedy.proofs.Sizes.{fill-sized}
-use Rattle.search.specs.Search.{sparseBy, mixedAt, cutBy}
+use Rattle.search.specs.Search.{sparseBy, cutBy}
 use Rattle.search.proofs.Slopes.{steep}
 use borrow.Author.Needs.{needs}
 use Rattle.search.proofs.cut.Statement.{statement}
@@ -62,18 +61,14 @@ hopeless-requires c κs =
     let u = g .fill-up .result .at in
     rw (within-back tt (z .columns .sizes-in u), within-back tt (z .columns .rates-in u))
     (record {
-      mixed-in = record {
-        strides-in = s .pre .1 .1;
-        steep = steep (s .args .t1) (g .fill-up .result) (s .pre .0 .ordered) z (h .if3 .taken);
-        room≥0 = rw (g .fill-up .ensures) (no-lt (not-empty (h .before .before .before)));
-        room-in = z .room-in;
-        proper = s .pre .0 .proper (h .before .before .if2 .taken);
-      };
-      tame = s .pre .1 .0;
+      steep = steep (s .args .t1) (g .fill-up .result) (s .pre .0 .ordered) z (h .if3 .taken);
+      room-in = z .room-in;
+      proper = s .pre .0 .proper (h .before .before .if2 .taken);
+      tame = s .pre .1;
     })
 
 returns-2 : tie.Need-returns-2
-unfolding cutBy sparseBy mixedAt bound
+unfolding cutBy sparseBy bound
 returns-2 c =
     let h = c .before .before .before in
     let g = h .before .before .before .before .before .before in
@@ -95,7 +90,7 @@ turned true = refl
 turned false = refl
 
 returns-3 : tie.Need-returns-3
-unfolding cutBy sparseBy mixedAt bound
+unfolding cutBy sparseBy bound
 returns-3 c =
     let h = c .before .before in
     let g = h .before .before .before .before .before .before in

@@ -14,10 +14,10 @@ use Rattle.search.proofs.hopeless.Statement.{statement}
 use Rattle.search.proofs.hopeless.Tie as tie
 
 magnitude-requires : tie.Need-magnitude-requires
-magnitude-requires c κs = rw (toZ-ofZ (c .fits .size)) (within-more (omega arith) (c .pre .mixed-in .steep .size-in))
+magnitude-requires c κs = rw (toZ-ofZ (c .fits .size)) (within-more (omega arith) (c .pre .steep .size-in))
 
 magnitude-requires-2 : tie.Need-magnitude-requires-2
-magnitude-requires-2 c κs = rw (toZ-ofZ (c .before .fits .rate)) (within-more (omega arith) (c .before .pre .mixed-in .steep .rate-in))
+magnitude-requires-2 c κs = rw (toZ-ofZ (c .before .fits .rate)) (within-more (omega arith) (c .before .pre .steep .rate-in))
 
 size-is : (c : tie.After-magnitude) → c .magnitude .result ≡ natAbs (c .before .args .size)
 size-is c = rw (toZ-ofZ (c .before .fits .size)) at (c .magnitude .ensures)
@@ -27,16 +27,16 @@ rate-is c = rw (toZ-ofZ (c .before .before .fits .rate)) at (c .magnitude2 .ensu
 
 -- the size is at least 1
 size≥1 : (s : tie.Start) → 0 < natAbs (s .args .size)
-size≥1 s = above-zero (s .args .size) (s .pre .mixed-in .steep .size≥1)
+size≥1 s = above-zero (s .args .size) (s .pre .steep .size≥1)
 
 share-requires : tie.Need-share-requires
 share-requires c κs =
     let s = c .before .before in
     record {
-      room-in = s .pre .mixed-in .room-in;
-      worth-in = within-more (omega arith) (s .pre .mixed-in .steep .worth-in);
+      room-in = s .pre .room-in;
+      worth-in = within-more (omega arith) (s .pre .steep .worth-in);
       size-in = omega (arith, size-is (c .before), size≥1 s);
-      rate-in = omega (arith, rate-is c, within-abs (s .args .rate) (s .pre .mixed-in .steep .rate-in));
+      rate-in = omega (arith, rate-is c, within-abs (s .args .rate) (s .pre .steep .rate-in));
     }
 
 -- what is promised
@@ -47,9 +47,9 @@ promise c = c .share .ensures ∙ ap₂ (sharedBy (c .before .before .before .ar
 less-requires : tie.Need-less-requires
 less-requires c κs =
     let s = c .before .before .before in (
-      s .pre .mixed-in .proper,
+      s .pre .proper,
       rw (promise c) (shared-proper (s .args .f) (natAbs (s .args .size)) (natAbs (s .args .rate)) (size≥1 s)
-          (within-abs (s .args .size) (s .pre .mixed-in .steep .size-in))),
+          (within-abs (s .args .size) (s .pre .steep .size-in))),
     )
 
 -- the moments that are spoken of below
@@ -67,8 +67,8 @@ less-is c = c .less .ensures ∙ ap (lessMixed (start-by-less c .args .b)) (prom
 barren-requires : tie.Need-barren-requires
 barren-requires c κs =
     let s = c .before .before .before .before .before .before .before .before in
-    rw (within-back tt (s .pre .mixed-in .steep .worth-in), toZ-ofZ (s .fits .rate), toZ-ofZ (s .fits .size), within-back tt (s .pre .mixed-in .room-in))
-    (s .pre .tame, (s .pre .mixed-in .steep, s .pre .mixed-in .room-in))
+    rw (within-back tt (s .pre .steep .worth-in), toZ-ofZ (s .fits .rate), toZ-ofZ (s .fits .size), within-back tt (s .pre .room-in))
+    (s .pre .tame, (s .pre .steep, s .pre .room-in))
 
 barren-is : (c : tie.After-barren) → c .barren .result ≡ barrenBy (start-by-barren c .args .l)
     (record {
@@ -81,10 +81,10 @@ barren-is : (c : tie.After-barren) → c .barren .result ≡ barrenBy (start-by-
 barren-is c =
     let s = start-by-barren c in
     rw (
-      within-back tt (s .pre .mixed-in .steep .worth-in),
+      within-back tt (s .pre .steep .worth-in),
       toZ-ofZ (s .fits .rate),
       toZ-ofZ (s .fits .size),
-      within-back tt (s .pre .mixed-in .room-in),
+      within-back tt (s .pre .room-in),
       back (s .args .b .whole) (c .before .struct-told3 .given .0 .1),
     ) at (c .barren .ensures)
 
@@ -94,23 +94,10 @@ promised c = c .before .before .before .before
 
 returns : tie.Need-returns
 unfolding promised
-returns c = let h = promised (c .before) in rw (sym (less-is (h .before)) ∙ h .if1 .taken, sym (barren-is (c .before)) ∙ c .if2 .taken)
-
-mixed-requires : tie.Need-mixed-requires
-mixed-requires c κs = let s = c .before .before .before .before .before .before .before .before .before .before in
-    rw (toZ-ofZ (s .fits .size), toZ-ofZ (s .fits .rate)) (s .pre .mixed-in)
+returns c = let h = promised c in rw (sym (less-is (h .before)) ∙ h .if1 .taken) (barren-is c)
 
 returns-2 : tie.Need-returns-2
-unfolding promised
-returns-2 c =
-    let b = c .before .before in
-    let h = promised b in
-    let s = h .before .before .before .before .before in
-    let e = rw (toZ-ofZ (s .fits .size), toZ-ofZ (s .fits .rate)) at (c .mixed .ensures) in
-    rw (sym (less-is (h .before)) ∙ h .if1 .taken, sym (barren-is b) ∙ c .before .if2 .left) e
-
-returns-3 : tie.Need-returns-3
-returns-3 c = rw (sym (less-is (c .before)) ∙ c .if1 .left)
+returns-2 c = rw (sym (less-is (c .before)) ∙ c .if1 .left)
 
 pub hopeless-spec : {M : Type 1} → statement M
 hopeless-spec =
@@ -122,6 +109,4 @@ hopeless-spec =
     less-requires
     barren-requires
     returns
-    mixed-requires
-    returns-2
-    returns-3)
+    returns-2)

@@ -24,22 +24,22 @@ use Rattle.search.proofs.look.Statement.{statement}
 use Rattle.search.proofs.look.Tie as tie
 
 abbrev Inv-loop : tie.InvT-loop
-Inv-loop best from s n x v z m e₀ d₀ e d =
+Inv-loop best from s n x v m e₀ d₀ e d =
     (d ≤ n) × ((e ≡ fixedBy s (at x) d) × ((d ≤ m) × ((i : ℕ) → i < d → cutAt s (record { place = x; starts = v }) best i ≡ false)))
 
 abbrev μ-loop : tie.MeasureT-loop
-μ-loop best from s n x v z m e₀ d₀ e d = n - d
+μ-loop best from s n x v m e₀ d₀ e d = n - d
 
 -- what the function was given, at the loop
 abbrev Of : tie.At-loop Inv-loop μ-loop → tie.Start Inv-loop μ-loop
-Of l = l .before .before .before .before .before .before .before .before
+Of l = l .before .before .before .before .before .before .before
 
 d<16 : (c : tie.In-loop Inv-loop μ-loop) → c .before .loop .d < 16
 d<16 c = omega (arith, c .loop-test .taken, Of (c .before) .pre .ready .setting .few)
 
 first-paired-requires : tie.Need-first-paired-requires Inv-loop μ-loop
 first-paired-requires c κs =
-    let s = c .before .before .before in record {
+    let s = c .before .before in record {
       ready = s .pre .ready;
       inside = s .pre .started .inside;
       from-in = s .pre .from-in;
@@ -60,7 +60,7 @@ abbrev in-loop : tie.After-by-side Inv-loop μ-loop → tie.In-loop Inv-loop μ-
 in-loop c = c .before .before .before .before .before
 
 abbrev start : tie.After-first-paired Inv-loop μ-loop → tie.Start Inv-loop μ-loop
-start c = c .before .before .before .before
+start c = c .before .before .before
 
 -- no level above the first that is looked at is paired
 least : (c : tie.After-first-paired Inv-loop μ-loop) → start c .args .from ≤ c .first-paired .result
@@ -78,7 +78,7 @@ least c = go (decLt m (s .args .from))
 
 fixed-in-requires : tie.Need-fixed-in-requires Inv-loop μ-loop
 fixed-in-requires c κs =
-    let s = c .before .before .before .before .before .before in
+    let s = c .before .before .before .before .before in
     let r = s .pre .ready .setting in
     (omega (arith, s .pre .from-in, r .few), λ k h. item<16 (s .args .t1) r (s .pre .started .long) k (omega (arith, s .pre .from-in)))
 
@@ -205,7 +205,7 @@ cut-requires c κs =
     rw (run-is b) (
       run-in-range (s .args .t1) (s .pre .ready .setting) (s .pre .started .long) (at (s .args .t .place)) (s .pre .started .inside)
           (at (s .args .t .starts) (l .loop .d)) (l .loop .d) (s .args .best) (i .loop-test .taken) (s .pre .proper),
-      (s .pre .ready .setting .tame (l .loop .d) (d<16 i), s .pre .ready .setting .strides-in),
+      s .pre .ready .setting .tame (l .loop .d) (d<16 i),
     )
 
 -- the levels above settle nothing
@@ -223,7 +223,7 @@ cut-is c =
     let b = c .before .before .before in
     let l = Round b .before in
     let s = Of l in
-    c .cut .ensures ∙ ap (λ e. cutBy (s .args .t1 .cols) (s .args .t1 .strides) (latticeAt (s .args .t1 .lattice) (l .loop .d)) e (s .args .best)) (run-is b)
+    c .cut .ensures ∙ ap (λ e. cutBy (s .args .t1 .cols) (latticeAt (s .args .t1 .lattice) (l .loop .d)) e (s .args .best)) (run-is b)
 
 returns : tie.Need-returns Inv-loop μ-loop
 returns c =
@@ -231,8 +231,8 @@ returns c =
     let l = i .before in
     (refl, record { level-in = i .loop-test .taken; passed = passed l (l .loop .d) (omega arith); cut = sym (cut-is (c .before)) ∙ c .if1 .taken })
 
-add-t51 : tie.Need-add-t51 Inv-loop μ-loop
-add-t51 c = record { fits = omega (arith, d<16 (Round (c .before .before .before .before .before))) }
+add-t50 : tie.Need-add-t50 Inv-loop μ-loop
+add-t50 c = record { fits = omega (arith, d<16 (Round (c .before .before .before .before .before))) }
 
 -- the level that a pair discards
 returns-2 : tie.Need-returns-2 Inv-loop μ-loop
@@ -348,7 +348,7 @@ look-spec =
     element-copy-out-cut
     cut-requires
     returns
-    add-t51
+    add-t50
     returns-2
     mul-a-2
     element-set-from-a

@@ -1,94 +1,45 @@
--- `search::run` meets its contract: every place is settled or still to come, and places fall away.
-use mathlib.Core.Path.{_≡_, refl, sym}
-use mathlib.Core.Bool.{Bool, true, false, not}
-use Prim.Native.Nat.{ℕ, suc}
+-- `search::run` meets its contract: what holds at the first place holds where it stops.
+use mathlib.Core.Path.{_≡_, _∙_, ap}
+use Prim.Native.Nat.{_+_, _≤_}
 use native.Mathlib.Omega.{arith}
 use borrow.Author.Needs.{needs}
 use Rattle.setting.specs.Box.{Long}
-use Rattle.search.specs.Steps.{After}
-use Rattle.search.proofs.Finish.{Going, Fresh, fresh-top, left, going-first, going-on, going-less, fresh-on, searched}
+use Rattle.search.specs.Steps.{Underway}
+use Rattle.search.proofs.Finish.{underway-first, covered-first, underway-ran, covered-ran, ran-steps, searched}
 use Rattle.search.proofs.run.Statement.{statement}
 use Rattle.search.proofs.run.Tie as tie
 
-abbrev Inv-loop : tie.InvT-loop
-Inv-loop s p q₀ q = Going s q × (Fresh s p q × ((n : ℕ) × After s p n q))
+start-requires : tie.Need-start-requires
+start-requires c κs = c .pre .setting
 
-abbrev μ-loop : tie.MeasureT-loop
-μ-loop s p q₀ q = left s q
-
-long : (s : tie.Start Inv-loop μ-loop) → Long (s .args .s .ends)
+long : (s : tie.Start) → Long (s .args .s .ends)
 long s = record { lo-long = search needs; hi-long = search needs }
 
-dive-requires : tie.Need-dive-requires Inv-loop μ-loop
-dive-requires c κs = (c .pre .setting, (omega arith, λ d l. absurd (omega arith)))
+first : (c : tie.After-start) → Underway (c .before .args .s) (c .before .args .p) (c .start .result)
+first c = let s = c .before in underway-first (s .args .s) (s .args .p) (s .pre) (long s) (c .start .result) (c .start .ensures)
 
-no-incumbent-requires : tie.Need-no-incumbent-requires Inv-loop μ-loop
-no-incumbent-requires c κs = tt
+run-for-requires : tie.Need-run-for-requires
+run-for-requires c κs = first c
 
-loop-holds : tie.Need-loop-holds Inv-loop μ-loop
-unfolding After
-loop-holds c =
-    let s = c .before .before in
-    let d = c .before .dive in
-    rw (c .no-incumbent .ensures) (
-      going-first (s .args .s) (s .pre .setting) (long s) _ (d .result) 0 (d .ensures),
-      (fresh-top (s .args .s) (s .args .p) _ refl, (0, record { first = d .ensures; nothing = refl; no-steps = refl; top = refl; going = refl })),
-    )
-
-step-requires : tie.Need-step-requires Inv-loop μ-loop
-step-requires c κs =
-    let l = c .before .before in
-    let v = l .loop .inv in
+returns : tie.Need-returns
+returns c =
+    let b = c .before in
+    let s = b .before in
+    let q = b .start .result in
+    let e = c .run-for .ensures in
+    let fits : q .steps + e .count ≤ 18446744073709551615 = omega (arith, b .start .ensures .no-steps, e .few, s .fits .most) in
+    let u = underway-ran (s .args .s) (s .args .p) q (first b) (e .count) (c .run-for .result) (e .ran) in
     record {
-      ready = l .before .before .before .pre;
-      started = v .0 .started;
-      proper = v .0 .good .proper;
-      from-in = v .1 .0 .from-in;
-      passed = v .1 .0 .passed;
+      stops = record {
+        start = q;
+        begun = b .start .ensures;
+        runs = e;
+        steps-are = ran-steps (s .args .s) (s .args .p) q (e .count) (c .run-for .result) fits (e .ran) ∙ omega (arith, b .start .ensures .no-steps);
+      };
+      good = u .good;
+      searched = searched (s .args .s) (s .args .p) (c .run-for .result) u (λ marks m. covered-ran (s .args .s) (s .args .p) q (first b) marks m
+          (covered-first (s .args .s) (s .args .p) (s .pre) (long s) q (b .start .ensures) marks m) (e .count) (c .run-for .result) (e .ran));
     }
 
--- a test that is turned round
-not-true : (b : Bool) → not b ≡ true → b ≡ false
-not-true true h = sym h
-not-true false h = refl
-
-not-false : (b : Bool) → not b ≡ false → b ≡ true
-not-false true h = refl
-not-false false h = sym h
-
-on : (c : tie.Then1 Inv-loop μ-loop) → c .before .before .loop .q .done ≡ false
-on c = not-true (c .before .before .loop .q .done) (c .if1 .taken)
-
-loop-less : tie.Need-loop-less Inv-loop μ-loop
-loop-less c =
-    let t = c .before in
-    let l = t .before .before in
-    let s = l .before .before .before in
-    going-less (s .args .s) (s .args .p) (s .pre) (l .loop .q) (c .step .result) (l .loop .inv .0) (on t) (c .step .ensures)
-
-loop-again : tie.Need-loop-again Inv-loop μ-loop
-unfolding After
-loop-again c =
-    let t = c .before in
-    let l = t .before .before in
-    let s = l .before .before .before in
-    let g = l .loop .inv .0 in
-    let h = l .loop .inv .1 .1 in (
-      going-on (s .args .s) (s .args .p) (s .pre) (l .loop .q) (c .step .result) g (on t) (c .step .ensures),
-      (
-        fresh-on (s .args .s) (s .args .p) (s .pre) (l .loop .q) (c .step .result) g (on t) (c .step .ensures),
-        (suc (h .0), (l .loop .q, (h .1, (on t, c .step .ensures)))),
-      ),
-    )
-
-returns : tie.Need-returns Inv-loop μ-loop
-returns c =
-    let l = c .before .before in
-    let s = l .before .before .before in
-    let over = not-false (l .loop .q .done) (c .if1 .left) in (
-      searched (s .args .s) (s .pre .setting) (l .loop .q) (l .loop .inv .0) over,
-      record { count = l .loop .inv .1 .1 .0; after = l .loop .inv .1 .1 .1; over = over },
-    )
-
 pub run-spec : {M : Type 1} → statement M
-run-spec = tie.close (tie.spec Inv-loop μ-loop dive-requires no-incumbent-requires loop-holds step-requires loop-less loop-again returns)
+run-spec = tie.close (tie.spec start-requires run-for-requires returns)

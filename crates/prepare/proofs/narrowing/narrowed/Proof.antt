@@ -29,11 +29,10 @@ returns c = record {
   level = refl;
   levels = refl;
   lattice = refl;
-  strides = refl;
-  lo = c .before .before .before .before .before .clamped .ensures;
-  hi = c .before .before .before .before .clamped2 .ensures;
-  low = c .before .before .before .by-level .ensures;
-  high = c .before .before .by-level2 .ensures;
+  lo = c .before .before .before .before .clamped .ensures;
+  hi = c .before .before .before .clamped2 .ensures;
+  low = c .before .before .by-level .ensures;
+  high = c .before .by-level2 .ensures;
   lengths = (search needs, search needs);
 }
 

@@ -1,4 +1,4 @@
--- `planner::plan` meets its contract.
+-- `planner::plan_within` meets its contract.
 use mathlib.Core.Path.{_≡_, sym, _∙_, subst}
 use borrow.Author.Needs.{needs}
 use Rattle.knapsack.specs.Meaning.{instanceOf, Answers}
@@ -6,8 +6,8 @@ use Rattle.knapsack.specs.declared.Verdict.the-variants.{Accepted}
 use Rattle.model.specs.Promises.{RepliesAs}
 use Rattle.model.specs.Records.{plainOf, verdict}
 use Rattle.model.proofs.Records.{accepted}
-use Rattle.planner.proofs.plan.Statement.{statement}
-use Rattle.planner.proofs.plan.Tie as tie
+use Rattle.planner.proofs.plan_within.Statement.{statement}
+use Rattle.planner.proofs.plan_within.Tie as tie
 
 check-model-requires : tie.Need-check-model-requires
 check-model-requires c κs = search needs
@@ -22,8 +22,8 @@ plain-of-requires c κs = search needs
 taken : (e : tie.After-enum-told) → verdict (e .before .before .before .args .m) ≡ Accepted
 taken e = sym (e .before .before .check-model .ensures) ∙ e .enum-told .given .1
 
-solve-requires : tie.Need-solve-requires
-solve-requires c κs = rw (c .plain-of .ensures) (accepted _ (taken (c .before)))
+solve-within-requires : tie.Need-solve-within-requires
+solve-within-requires c κs = rw (c .plain-of .ensures) (accepted _ (taken (c .before)))
 
 enum-known-v : tie.Need-enum-known-v
 enum-known-v c = search needs
@@ -37,8 +37,8 @@ returns c =
     let p = r .before in
     let e = p .before in
     let m = e .before .before .before .args .m in
-    let answers : Answers (instanceOf (plainOf m)) (r .solve .result .answer) = rw (p .plain-of .ensures) at (r .solve .ensures .answers) in
-    subst (RepliesAs (instanceOf (plainOf m)) (r .solve .result .answer)) (sym (taken e)) answers
+    let answers : Answers (instanceOf (plainOf m)) (r .solve-within .result .answer) = rw (p .plain-of .ensures) at (r .solve-within .ensures .answers) in
+    subst (RepliesAs (instanceOf (plainOf m)) (r .solve-within .result .answer)) (sym (taken e)) answers
 
 returns-2 : tie.Need-returns-2
 returns-2 c =
@@ -47,14 +47,14 @@ returns-2 c =
     let is = sym (k .check-model .ensures) ∙ v .v .given .1 in
     subst (RepliesAs (instanceOf (plainOf (k .before .args .m))) (c .no-point .result)) (sym is) (c .no-point .ensures)
 
-pub plan-spec : {M : Type 1} → statement M
-plan-spec =
+pub plan-within-spec : {M : Type 1} → statement M
+plan-within-spec =
     tie.close
     (tie.spec
     check-model-requires
     enum-told
     plain-of-requires
-    solve-requires
+    solve-within-requires
     enum-known-v
     no-point-requires
     returns

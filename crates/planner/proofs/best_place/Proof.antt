@@ -1,0 +1,46 @@
+-- `planner::best_place` meets its contract: at its end the search's place is best, before it the one that the scales find.
+use mathlib.Core.Path.{refl}
+use native.Mathlib.Omega.{arith}
+use borrow.Author.Needs.{needs}
+use Rattle.setting.specs.Box.{Long}
+use Rattle.planner.proofs.Scales.{standing-searched, settled-searched}
+use Rattle.planner.proofs.best_place.Statement.{statement}
+use Rattle.planner.proofs.best_place.Tie as tie
+
+long : (s : tie.Start) → Long (s .args .s .ends)
+long s = record { lo-long = search needs; hi-long = search needs }
+
+run-requires : tie.Need-run-requires
+run-requires c κs = search needs
+
+returns : tie.Need-returns
+returns c =
+    let t = c .before in
+    let m = t .before .before in
+    let e = m .run .ensures in
+    record {
+      searched = standing-searched (m .before .args .s) (m .run .result .best) (e .searched (t .if1 .taken));
+      end = m .run .result;
+      stops = e .stops;
+      steps-are = refl;
+      few-cells = omega arith;
+    }
+
+settled-requires : tie.Need-settled-requires
+settled-requires c κs = let m = c .before .before in (m .before .pre .0 .setting, (m .before .pre .1, m .run .ensures .good))
+
+returns-2 : tie.Need-returns-2
+returns-2 c =
+    let t = c .before in
+    let m = t .before .before .before in
+    let s = m .before in
+    record {
+      searched = settled-searched (s .args .s) (s .pre .0 .setting) (long s) (t .settled .result) (t .settled .ensures);
+      end = m .run .result;
+      stops = m .run .ensures .stops;
+      steps-are = refl;
+      few-cells = t .settled .ensures .few;
+    }
+
+pub best-place-spec : {M : Type 1} → statement M
+best-place-spec = tie.close (tie.spec run-requires returns settled-requires returns-2)

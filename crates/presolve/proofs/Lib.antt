@@ -1,4 +1,0 @@
-pub mod Tests
-pub mod Exchange
-pub mod Presolves
-pub mod Answers
