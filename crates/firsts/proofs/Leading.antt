@@ -316,6 +316,7 @@ module _ (s : Setting) (c : Columns) (y : Tying s c) (l : Optimum) (g : IsLosing
 
 pub led-done : (s : Setting) (c : Columns) (y : Tying s c) (l : Optimum) (b : Lead) → Led s c l (c .live + 1) b → FirstBest s b
 led-done s c y l b h = record {
+  long = y .long;
   cols = c;
   tied = y .tied;
   place = h .place;

@@ -1,3 +1,4 @@
+pub mod Terms
 pub mod Order
 pub mod Places
 pub mod Shown

@@ -8,9 +8,7 @@ use Prim.Native.Nat.{ℕ, _*_, _≤_, _<_}
 use native.Mathlib.Omega.{arith}
 use native.Mathlib.Nat.{div-le-self, mul-le-mul-left, le-of-mul-le-mul-right}
 use lib.IntN.{ℤ, pos, natAbs, _*ℤ_}
-use Rattle.arith.specs.Fractions.{frac}
 use Rattle.arith.specs.Gcd.{gcdOf, lowest}
-use Rattle.arith.specs.Within.{Within}
 use Rattle.arith.specs.declared.Fraction.{Fraction}
 use Rattle.arith.proofs.Divisors.{lowest-den, lowest-value}
 use Rattle.arith.proofs.Fractions.{Over}
@@ -28,18 +26,16 @@ use Rattle.foremost.proofs.Earlier as order
 use Rattle.foremost.proofs.Filling.{parts, filling}
 use Rattle.foremost.proofs.Points.{bridge-earlier, bridge-agree}
 use Rattle.firsts.specs.Order.{pointIn, SmallFraction, Comparable, NoLater}
+use Rattle.firsts.proofs.Terms.{over-lowest}
 
 -- ---- lowest terms
-
-over-lowest : (n : ℤ) (q : ℕ) → 1 ≤ q → Over q (frac (lowest n q .p) (lowest n q .q)) n
-over-lowest n q h = record { eq = lowest-value n q h ∙ ap (λ (d : ℕ). n *ℤ pos d) (omega (arith, lowest-den n q h)) }
 
 lowest-few : (n : ℤ) (q : ℕ) → lowest n q .q ≤ q
 unfolding lowest
 lowest-few n q = div-le-self q (gcdOf (natAbs n) q)
 
-lowest-small : (n : ℤ) (q : ℕ) → 1 ≤ q → natAbs (lowest n q .p) ≤ natAbs n
-lowest-small n q h = le-of-mul-le-mul-right {k = q} (omega (arith, products, mul-le-mul-left (natAbs n) (lowest-few n q))) h
+lowest-less : (n : ℤ) (q : ℕ) → 1 ≤ q → natAbs (lowest n q .p) ≤ natAbs n
+lowest-less n q h = le-of-mul-le-mul-right {k = q} (omega (arith, products, mul-le-mul-left (natAbs n) (lowest-few n q))) h
   where
     products : natAbs (lowest n q .p) * q ≡ natAbs n * lowest n q .q
     products = sym (natAbs-mul (lowest n q .p) (pos q)) ∙ ap natAbs (lowest-value n q h) ∙ natAbs-mul n (pos (lowest n q .q))
@@ -60,7 +56,7 @@ module _ (c : Columns) (e : Ends) (z : Sized c e) where
 
     pub shown-small : Comparable (c .count) l
     shown-small k m = rw (h .counted k m) (record {
-      small = abs-within (lowest (filling c e k) (parts c e) .p) (omega (arith, lowest-small (filling c e k) (parts c e) (shown-parts .0),
+      small = abs-within (lowest (filling c e k) (parts c e) .p) (omega (arith, lowest-less (filling c e k) (parts c e) (shown-parts .0),
           within-abs (filling c e k) (numerator-within c e (fill c e) (parts c e) k (countable k (omega (arith, z .columns .few))))));
       some = lowest-den (filling c e k) (parts c e) (shown-parts .0);
       few = omega (arith, lowest-few (filling c e k) (parts c e), shown-parts .1);

@@ -125,6 +125,7 @@ pub record Led (s : Setting) (c : Columns) (l : Optimum) (t : ℕ) (b : Lead) : 
   pub few : b .written ≤ t * (16 * runCells)
 
 pub record FirstBest (s : Setting) (r : Lead) : Type 0 where
+  pub long : Long (s .ends)
   pub cols : Columns
   pub tied : TiedOf (s .cols) cols
   pub place : ℕ → ℤ
