@@ -54,8 +54,11 @@ size_t charge_plan(const uint8_t *sheet, size_t length, uint8_t *out, size_t roo
    CHARGE_ACCEPTED is told. Else no byte changes: the sheet's own refusal is told, then CHARGE_SHORT_BUFFER; *line gets its line, or 0. */
 uint64_t charge_write(const uint8_t *sheet, size_t length, uint8_t *out, size_t room, uint64_t *line);
 
-/* How many steps the search takes for a sheet; 0 if it is refused or needs no search. */
+/* How many steps the search takes for a sheet, at most 1,000 (proved); 0 if it is refused or needs no search. */
 uint64_t charge_steps(const uint8_t *sheet, size_t length);
+
+/* How many cells the scales write for a sheet, at most 3,133,397,487 (proved); 0 if its search ends, or if there is none. */
+uint64_t charge_cells(const uint8_t *sheet, size_t length);
 
 #ifdef __cplusplus
 }

@@ -6,7 +6,7 @@
 --                     the box of the place x, its filling, and its value
 --   Best s x a        a shows the relaxation of the place x and its value in lowest terms, and no steps
 --   standing s f x    the incumbent that the place x is
---   mostCells, mostWork   the most cells that the scales write for a best place, and for a problem
+--   mostWork          the most cells that the scales write for a problem: those of 305 runs
 --   BestPlace s p n r r is the best place of the box, with the steps of a search that may take n
 --   Walked most p n   n steps were taken by the search of p that may take `most`
 --   CountsAs most k p n, Counts most p a n
@@ -16,14 +16,13 @@
 use mathlib.Core.Path.{_≡_}
 use mathlib.Core.Bool.{Bool, true}
 use mathlib.Core.List.{List}
-use Prim.Native.Nat.{ℕ, _*_, _≤_}
+use Prim.Native.Nat.{ℕ, _≤_}
 use lib.IntN.{ℤ, pos, _*ℤ_}
 use lib.ListN.{replicate}
 use Rattle.arith.specs.Within.{Within}
 use Rattle.arith.specs.Gcd.{lowest}
 use Rattle.arith.specs.declared.Mixed.{Mixed}
 use Rattle.arith.proofs.Mixes.{over}
-use Rattle.fillings.specs.Runs.{runCells}
 use Rattle.firsts.specs.Leading.{OptimalAt}
 use Rattle.foremost.specs.Foremost.{ShownFirst}
 use Rattle.greedy.specs.Amounts.{Amounts}
@@ -45,6 +44,7 @@ use Rattle.search.specs.declared.State.{State}
 use Rattle.setting.specs.Box.{fixedBy}
 use Rattle.search.specs.Searched.{Searched}
 use Rattle.search.specs.Steps.{Stops}
+use Rattle.settling.specs.Settling.{mostCells}
 use Rattle.planner.specs.declared.Found.{Found}
 use Rattle.planner.specs.declared.Solved.{Solved}
 
@@ -85,12 +85,9 @@ pub record Best (s : Setting) (x : List ℤ) (a : Answer) : Type 0 where
 abbrev pub standing : Setting → Bool → List ℤ → Incumbent
 standing s f x = record { found = f; place = x; value = valueAt s x }
 
-abbrev pub mostCells : ℕ
-mostCells = 33 * runCells
-
--- with those for the first point
+-- the cells of a best place, and those of the first point: 33 runs and 272
 abbrev pub mostWork : ℕ
-mostWork = 305 * runCells
+mostWork = 28960188895
 
 -- the place is best in the box, or there is none; the steps are those of a search that may take n, and the cells few
 pub record BestPlace (s : Setting) (p : Pairs) (n : ℕ) (r : Found) : Type 0 where

@@ -5,8 +5,9 @@
 --   listedVerdict w    what is told of a text, as a verdict
 --   saved s b          the verdict of rewriting the sheet s into the buffer b: that of s, or refusal 11 where b is shorter
 --   left s b           the buffer afterwards: the sheet and the bytes behind it, or the buffer as it was
---   StepsAs v m n      n steps are those of the search for the record m with that verdict; 0 where it is refused
---   Steps r n          n steps are those of the search for what was read
+--   WorkAs f v m n     the work for the record m with that verdict is n, as f counts it; 0 where it is refused
+--   Steps r n, Cells r n
+--                      n steps are those of the search for what was read; n cells are those that the scales write for it
 --   replyText s a      the text of an answer to the sheet
 --   Plans s b c r      the buffer b becomes c, and r says so, for a true answer to the sheet s
 use mathlib.Core.Path.{_≡_}
@@ -50,12 +51,15 @@ saved s b = listedVerdict (onAccepted (readSheet s .verdict) noted (told s b))
 abbrev pub left : List ℕ → List ℕ → List ℕ
 left s b = onAccepted (readSheet s .verdict) (λ f. b) (filled s b)
 
-abbrev pub StepsAs : Verdict → Model → ℕ → Type 0
-StepsAs Accepted m n = (r : Solved) × (Solves (plainOf m) r × (n ≡ r .steps))
-StepsAs (Refused f) m n = n ≡ 0
+abbrev pub WorkAs : (Solved → ℕ) → Verdict → Model → ℕ → Type 0
+WorkAs f Accepted m n = (r : Solved) × (Solves (plainOf m) r × (n ≡ f r))
+WorkAs f (Refused g) m n = n ≡ 0
 
 abbrev pub Steps : Reading → ℕ → Type 0
-Steps r n = StepsAs (r .verdict) (r .model) n
+Steps r n = WorkAs (λ s. s .steps) (r .verdict) (r .model) n
+
+abbrev pub Cells : Reading → ℕ → Type 0
+Cells r n = WorkAs (λ s. s .cells) (r .verdict) (r .model) n
 
 -- the text of an answer to the sheet
 abbrev pub replyText : List ℕ → Answer → List ℕ

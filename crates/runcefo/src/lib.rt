@@ -1,5 +1,4 @@
-// Entries for programs in C and Rust, on bytes and numbers: a sheet's verdict, its reply in a lent buffer, and how many steps its search
-// takes. include/runcefo.h declares them. Paper 01, "The sheet" and "What `charge` prints". Nothing is asked of a caller but that each
+// Entries for programs in C and Rust, on bytes and numbers: a sheet's verdict, its reply in a lent buffer, and how much work it is. include/runcefo.h declares them. Paper 01, "The sheet" and "What `charge` prints". Nothing is asked of a caller but that each
 // pointer has as many bytes behind it as the length beside it says.
 use knapsack::Verdict;
 use model::plain_of;
@@ -15,7 +14,7 @@ ghost use mathlib.Core.Path.{_≡_};
 ghost use Rattle.knapsack.specs.declared.Verdict.the-variants.{Accepted};
 ghost use Rattle.model.specs.Records.{plainOf, FiguresInRange};
 ghost use Rattle.sheet.specs.Reading.{readSheet};
-ghost use Rattle.runcefo.specs.Entries.{toldNumber, toldLine, lengthOf, listedVerdict, Plans, Steps, saved, left};
+ghost use Rattle.runcefo.specs.Entries.{toldNumber, toldLine, lengthOf, listedVerdict, Plans, Steps, Cells, saved, left};
 
 // 01's number of a refusal, 0 where there is none.
 fn told_number(v: Verdict) -> u64
@@ -57,20 +56,36 @@ fn listed_verdict(w: Listed) -> Verdict
     }
 }
 
-// The steps of the search for what was read.
-fn steps_of(r: Reading) -> u64
+// The steps of a search, and the cells that the scales write where it has not ended.
+pub struct Work {
+    pub steps: u64,
+    pub cells: u64,
+}
+
+// The work for what was read.
+fn work_of(r: Reading) -> Work
     requires { ⌜ (r .verdict ≡ Accepted → FiguresInRange (plainOf (r .model))) ⌝ }
-    ensures { λ n. ⌜ Steps r n ⌝ }
+    ensures { λ w. ⌜ Steps r (w .steps) × Cells r (w .cells) ⌝ }
 {
     let v = r.verdict;
     let m = r.model;
     match v {
         Verdict::Accepted => {
             let q = solve(plain_of(m));
-            q.steps
+            Work {
+                steps: q.steps,
+                cells: q.cells,
+            }
         }
-        Verdict::Refused(_) => 0,
+        Verdict::Refused(_) => Work { steps: 0, cells: 0 },
     }
+}
+
+fn work_for(sheet: &[u8]) -> Work
+    ensures { λ w. ⌜ Steps (readSheet (now (sheet .entry))) (w .steps) × Cells (readSheet (now (sheet .entry))) (w .cells) ⌝ }
+{
+    let r = read(sheet);
+    work_of(r)
 }
 
 // How many bytes hold every reply.
@@ -125,6 +140,15 @@ pub extern "C" fn charge_plan(sheet: &[u8], out: &mut [u8]) -> usize
 pub extern "C" fn charge_steps(sheet: &[u8]) -> u64
     ensures { λ r. ⌜ Steps (readSheet (now (sheet .entry))) r ⌝ }
 {
-    let r = read(sheet);
-    steps_of(r)
+    let w = work_for(sheet);
+    w.steps
+}
+
+// The cells that the scales write for a sheet; none where its search ends, or where there is none.
+#[no_mangle]
+pub extern "C" fn charge_cells(sheet: &[u8]) -> u64
+    ensures { λ r. ⌜ Cells (readSheet (now (sheet .entry))) r ⌝ }
+{
+    let w = work_for(sheet);
+    w.cells
 }

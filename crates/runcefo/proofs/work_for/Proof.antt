@@ -1,4 +1,4 @@
--- `runcefo::charge_steps` meets its contract: an accepted sheet's figures are in range.
+-- `runcefo::work_for` meets its contract: an accepted sheet's figures are in range.
 use mathlib.Core.Path.{_≡_, ap, subst}
 use mathlib.Core.List.{List}
 use Prim.Native.Nat.{ℕ}
@@ -10,9 +10,9 @@ use Rattle.model.proofs.Records.{accepted}
 use Rattle.sheet.specs.declared.Reading.{Reading}
 use Rattle.sheet.specs.Reading.{readSheet}
 use Rattle.sheet.proofs.Sheets.{accepted-sheet}
-use Rattle.runcefo.specs.Entries.{Steps}
-use Rattle.runcefo.proofs.charge_steps.Statement.{statement}
-use Rattle.runcefo.proofs.charge_steps.Tie as tie
+use Rattle.runcefo.specs.Entries.{Steps, Cells}
+use Rattle.runcefo.proofs.work_for.Statement.{statement}
+use Rattle.runcefo.proofs.work_for.Tie as tie
 
 in-range : (s : List ℕ) → readSheet s .verdict ≡ Accepted → FiguresInRange (plainOf (readSheet s .model))
 in-range s h = let m = readSheet s .model in accepted m (accepted-sheet s m (ap (λ (v : Verdict). record { verdict = v; model = m }) h) .fair)
@@ -20,11 +20,11 @@ in-range s h = let m = readSheet s .model in accepted m (accepted-sheet s m (ap 
 read-requires : tie.Need-read-requires
 read-requires c κs = search needs
 
-steps-of-requires : tie.Need-steps-of-requires
-steps-of-requires c κs = rw (c .read .ensures) (in-range _)
+work-of-requires : tie.Need-work-of-requires
+work-of-requires c κs = rw (c .read .ensures) (in-range _)
 
 returns : tie.Need-returns
-returns c = subst (λ (x : Reading). Steps x (c .steps-of .result)) (c .before .read .ensures) (c .steps-of .ensures)
+returns c = subst (λ (x : Reading). Steps x (c .work-of .result .steps) × Cells x (c .work-of .result .cells)) (c .before .read .ensures) (c .work-of .ensures)
 
-pub charge-steps-spec : {M : Type 1} → statement M
-charge-steps-spec = tie.close (tie.spec read-requires steps-of-requires returns)
+pub work-for-spec : {M : Type 1} → statement M
+work-for-spec = tie.close (tie.spec read-requires work-of-requires returns)
