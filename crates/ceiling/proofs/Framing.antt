@@ -1,6 +1,7 @@
 -- Frames as the code makes them, and the losses of their points.
 -- framed-made: the ends of a frame. frame-floor: a bound of a frame's losses, with what the frame itself loses. frame-attained: a point that has just
 -- so much. frame-feasible: a point of a frame is feasible in the box; loose-cut: where no whole item is cut.
+-- ordered-ranked: an order by price per weight is an order.
 -- frame-scale, frame-sized, frame-modest, frame-cut, of-floor, of-attained, frame-narrow: a frame as the code has it.
 -- own-floor, own-none, own-later, own-first: the first of its points that lose so much.
 -- lowered-counted, lowered-new, lowered-old: the least so far.  last-bound: the latest frame that can be needed stands for the last one.
@@ -39,7 +40,7 @@ use Rattle.ceiling.specs.declared.Least.{Least}
 use Rattle.ceiling.specs.Loss.{scoreOf, goodOf, valueOf, weighOf, topOf, lossOf, Point, Floor, Attained}
 use Rattle.ceiling.specs.Sizes.{Modest, Cut, Narrow, Spanned}
 use Rattle.ceiling.specs.Frames.{Altered, wholeAt, cutOf, scaleOf, frameBy, frameLo, frameHi, frameEndBy, Framed, Usable, Loses, FrameBound, Unmarked}
-use Rattle.ceiling.specs.Frames.{FrameEnds, FrameFloor, FrameAttained, Counted, Ready, Ceiling}
+use Rattle.ceiling.specs.Frames.{FrameEnds, FrameFloor, FrameAttained, Counted, Ranked, Ready, Ceiling}
 use Rattle.ceiling.specs.Least.{FirstPoint, IsFrame, Same, AtFrame, Lowered, Considered, Found, LeastLoss, FirstIn}
 use Rattle.ceiling.specs.Pieces.{amountOf, wholeOf}
 use Rattle.ceiling.proofs.Loss.{good-above}
@@ -222,7 +223,10 @@ scale-by c t false z h = (omega arith, omega arith)
 pub scale-in : (c : Columns) (t : ℕ) → SizedColumns c → (1 ≤ scaleOf c t) × (scaleOf c t ≤ 1000)
 scale-in c t z = scale-by c t (ltb t (c .live)) z refl
 
-pub cut-is : (c : Columns) (t : ℕ) → SizedColumns c → Ordered c → Cut c (scaleOf c t) (cutOf c t)
+pub ordered-ranked : (c : Columns) → Ordered c → Ranked c
+ordered-ranked c o = record { item-in = o .item-in; live-in = o .live-in; sizes = o .sizes }
+
+pub cut-is : (c : Columns) (t : ℕ) → SizedColumns c → Ranked c → Cut c (scaleOf c t) (cutOf c t)
 cut-is c t z o = go (ltb t (c .live)) refl
   where
     go : (b : Bool) → ltb t (c .live) ≡ b → cond b (itemOf c t) 16 < c .count →
@@ -251,7 +255,7 @@ module _ {p q : ℕ} {c : Columns} {e : Ends} {w : List Bool} {t : ℕ} {f : Fra
   frame-modest = record { p-in = r .p-in; q-in = r .q-in; scale-in = frame-scale .1; scale≥1 = frame-scale .0 }
 
   pub frame-cut : Cut c (f .scale) (f .cut)
-  frame-cut = subst₂ (λ x y. Cut c x y) (sym (h .scale-is)) (sym (h .cut-is)) (cut-is c t (r .sized .columns) (r .ordered))
+  frame-cut = subst₂ (λ x y. Cut c x y) (sym (h .scale-is)) (sym (h .cut-is)) (cut-is c t (r .sized .columns) (r .ranked))
 
   -- losses within the frame's ends, as losses in the box
   pub of-floor : (m n : ℕ) → Floor p q c (f .ends) (f .scale) (f .cut) m → n ≤ f .scale * f .less + m → FrameFloor p q c e w t n

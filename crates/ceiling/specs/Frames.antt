@@ -16,7 +16,8 @@
 --   FrameEnds .. e′     the ends of a frame, in order
 --   FrameFloor .. t r   no point of frame t loses less than r / scale
 --   Counted n d         a loss that can be compared
---   Ready c e p q       what the driver relies on
+--   Ranked c            ranks have items, and the live ones their sizes
+--   Ready c e p q       what frames rely on
 --   Levelled l n w      the whole items are those of the first n levels
 use mathlib.Core.Path.{_≡_}
 use mathlib.Core.Bool.{Bool, true, false, cond}
@@ -33,7 +34,7 @@ use Rattle.knapsack.proofs.Common.{Feasibleᴰ}
 use Rattle.greedy.specs.declared.Columns.{Columns}
 use Rattle.greedy.specs.declared.Ends.{Ends}
 use Rattle.greedy.specs.Fill.{at, place, itemOf, stand}
-use Rattle.greedy.specs.Ordered.{Ordered}
+use Rattle.greedy.specs.Ordered.{weightAt}
 use Rattle.greedy.specs.Sized.{Sized, SizedEnds}
 use Rattle.greedy.proofs.Relaxed.{boxOf, InOrder}
 use Rattle.ceiling.specs.Loss.{lossOf, Point}
@@ -118,10 +119,16 @@ pub record Counted (n d : ℕ) : Type 0 where
   pub some : 1 ≤ d
   pub small : n ≤ 10000000 * d
 
--- what the driver relies on: columns in order, a box in order, and sizes
+-- ranks have items, and the live ones their sizes: any order of filling will do
+pub record Ranked (c : Columns) : Type 0 where
+  pub item-in : (u : ℕ) → u < c .count → itemOf c u < c .count
+  pub live-in : c .live ≤ c .count
+  pub sizes : (u : ℕ) → u < c .live → at (c .size) u ≡ pos (natAbs (weightAt c u))
+
+-- what frames rely on: ranks, a box in order, and sizes
 pub record Ready (c : Columns) (e : Ends) (p q : ℕ) : Type 0 where
   pub sized : Sized c e
-  pub ordered : Ordered c
+  pub ranked : Ranked c
   pub in-order : InOrder c e
   pub p-in : p ≤ 10000
   pub q-in : q ≤ 1000

@@ -31,7 +31,7 @@ ghost use Rattle.ceiling.specs.Loss.{scoreBy, scoreOf, goodEnd, goodOf, 
 ghost use Rattle.ceiling.specs.Pieces.{footBy, sizeBy, spanBy, costBy, heavyBy, takenBy, leftBy, sizeOf, spanOf, takenOf};
 ghost use Rattle.ceiling.specs.Pieces.{leftOf, fallsOf, wholeBy, wholeOf, Listing, Blank, Flags, Pieces};
 ghost use Rattle.ceiling.specs.Sizes.{Modest, Cut, Roomy, Narrow, Spanned};
-ghost use Rattle.ceiling.specs.Frames.{cutOf, scaleOf, frameBy, frameEndBy, Usable, Altered, FrameEnds, FrameFloor, Ready, Counted, Levelled};
+ghost use Rattle.ceiling.specs.Frames.{cutOf, scaleOf, frameBy, frameEndBy, Usable, Altered, FrameEnds, FrameFloor, Ranked, Ready, Counted, Levelled};
 ghost use Rattle.ceiling.specs.Least.{HasRoom, Floored, Firsts, IsFrame, FrameFloored, Lowered, Considered, LeastLoss, Placed, FrameFirst};
 ghost use Rattle.ceiling.specs.Bound.{Priced, PartLoss, KnownLoss, KnownBy, Bounded};
 
@@ -375,7 +375,7 @@ fn with_term(t: Total, r: i64, x: i64) -> Total
 }
 
 // What q times the value, and p times the room, come to at the good ends.
-fn top_of(cols: Columns, ends: Ends, p: u64, q: u64) -> i64
+pub fn top_of(cols: Columns, ends: Ends, p: u64, q: u64) -> i64
     requires { ⌜ Sized cols ends × ((p ≤ 10000) × (q ≤ 1000)) ⌝ }
     ensures { λ r. ⌜ (r ≡ topOf p q cols ends) × Within 100000000000000000 r ⌝ }
 {
@@ -405,7 +405,7 @@ fn cut_of(cols: Columns, t: usize) -> usize
 }
 
 // Into how many pieces it cuts a unit.
-fn scale_of(cols: Columns, t: usize) -> u64
+pub fn scale_of(cols: Columns, t: usize) -> u64
     requires { ⌜ SizedColumns cols ⌝ }
     ensures { λ r. ⌜ r ≡ scaleOf cols t ⌝ }
 {
@@ -558,8 +558,8 @@ fn frame_floor(
 }
 
 // Whether frame t can be needed: the item of rank t is neither whole nor fixed.
-fn is_usable(cols: Columns, ends: Ends, whole: [bool; 16], t: usize) -> bool
-    requires { ⌜ Sized cols ends × (Ordered cols × (InOrder cols ends × (t < cols .live))) ⌝ }
+pub fn is_usable(cols: Columns, ends: Ends, whole: [bool; 16], t: usize) -> bool
+    requires { ⌜ Sized cols ends × (Ranked cols × (InOrder cols ends × (t < cols .live))) ⌝ }
     ensures { λ r. ⌜ (r ≡ false → Usable cols ends whole t → ⊥) × (r ≡ true → Usable cols ends whole t) ⌝ }
 {
     let k = cols.order[t];
@@ -668,7 +668,7 @@ fn least_loss(
     cells: &mut [u64],
 ) -> Least
     requires { ⌜ Ready cols ends p q ⌝ }
-    requires { ⌜ Counted (known .num) (known .den) × (65535 ≤ length (now cells)) ⌝ }
+    requires { ⌜ Counted (known .num) (known .den) × ((65535 ≤ length (now cells)) × Ordered cols) ⌝ }
     ensures { λ r. ⌜ LeastLoss p q cols ends whole known r ⌝ }
 {
     let top = top_of(cols, ends, p, q);
@@ -726,7 +726,7 @@ pub struct Limit {
 const DEEPEST: u64 = 10000000;
 
 // The critical item's price for its weight; 0 / 1 if all items fit.
-fn price_of(cols: Columns, ends: Ends) -> Price
+pub fn price_of(cols: Columns, ends: Ends) -> Price
     requires { ⌜ Sized cols ends ⌝ }
     ensures { λ r. ⌜ Priced cols ends r ⌝ }
 {

@@ -8,7 +8,6 @@ use mathlib.Core.Bool.{Bool, true, false, cond}
 use mathlib.Core.List.{List}
 use mathlib.Core.Logic.{_≢_, _⊎_, inl, inr}
 use Prim.Native.Nat.{ℕ, _+_, _*_, _≤_, _<_}
-use native.Mathlib.Decide.{ℕ-discrete}
 use native.Mathlib.Omega.{arith}
 use lib.Dec.{ltb, eqb}
 use lib.IntN.{ℤ, pos, natAbs, _+ℤ_, _-ℤ_, _*ℤ_}
@@ -35,6 +34,7 @@ use Rattle.knapsack.specs.Ranges.{itemAt, InRange}
 use Rattle.knapsack.specs.Meaning.{Instance, instanceOf, amountAt, pointOf, weights, prices, Infeasible, Shown, bare, Answers}
 use Rattle.knapsack.specs.declared.Answer.{Answer}
 use Rattle.knapsack.specs.declared.Item.{Item}
+use Rattle.knapsack.specs.declared.Kind.{Kind}
 use Rattle.knapsack.specs.declared.Kind.the-variants as kind
 use Rattle.knapsack.specs.declared.Problem.{Problem}
 use Rattle.knapsack.proofs.Bridge.{Reads, bridge-optimal}
@@ -49,9 +49,16 @@ use Rattle.rays.proofs.Corner.{LightCorner, ranges-of, corner-feasible, corner-
 use Rattle.search.specs.declared.Incumbent.{Incumbent}
 use Rattle.setting.specs.declared.Setting.{Setting}
 use Rattle.search.specs.Searched.{Searched}
-use Rattle.setting.proofs.Boxes.{between}
 use Rattle.planner.specs.Outcomes.{unfilled, Cornered, boxAt, fillAt, valueAt, Best}
-use Rattle.planner.proofs.Terms.{over-lowest, lowest-one, lowest-whole, lowest-divides, lowest-small}
+use Rattle.firsts.proofs.Terms.{over-lowest, lowest-one}
+use Rattle.placed.proofs.Amounts.{ColumnsOf, near-zero, filling-shown}
+
+-- no other kind is optimal
+pub not-unbounded : (k : Kind) → k ≡ kind.Unbounded → k ≡ kind.Optimal → ⊥
+not-unbounded k e h = let z : _≡_ {A = ℕ} 0 1 = cc in omega arith
+
+pub not-infeasible : (k : Kind) → k ≡ kind.Infeasible → k ≡ kind.Optimal → ⊥
+not-infeasible k e h = let z : _≡_ {A = ℕ} 0 1 = cc in omega arith
 
 -- ---- the light end of an item
 
@@ -67,35 +74,6 @@ light-flat a c l u h = rw h (go (ltZ (pos 0) c))
     go : (b : Bool) → (cond b u l ≡ l) ⊎ (cond b u l ≡ u)
     go true = inr refl
     go false = inl refl
-
--- ---- amounts of a filling
-
--- an amount is whole, unless its item is the critical one
-whole-or-critical : (c : Columns) (e : Ends) (f : Fill) (q k : ℕ) → (numerator c e f q k ≡ stand c e (f .at) k *ℤ pos q)
-    ⊎ ((rankOf c k ≡ f .at) × (f .at < c .live))
-whole-or-critical c e f q k = go (ltb (f .at) (c .live)) (eqb (rankOf c k) (f .at)) refl refl
-  where
-    none : (x : ℤ) → x +ℤ pos 0 ≡ x
-    none = split _ (λ a b. simp zed (omega arith))
-
-    go : (b t : Bool) → ltb (f .at) (c .live) ≡ b → eqb (rankOf c k) (f .at) ≡ t
-        → (stand c e (f .at) k *ℤ pos q +ℤ cond b (cond t (unit (weightOf c k) *ℤ f .room) (pos 0)) (pos 0) ≡ stand c e (f .at) k *ℤ pos q)
-        ⊎ ((rankOf c k ≡ f .at) × (f .at < c .live))
-    go false t x y = inl (none (stand c e (f .at) k *ℤ pos q))
-    go true false x y = inl (none (stand c e (f .at) k *ℤ pos q))
-    go true true x y = inr (eqb-true (rankOf c k) (f .at) y, ltb-true (f .at) (c .live) x)
-
--- the divisor of a filling that ends at a live rank is that item's weight
-parts-critical : (c : Columns) (f : Fill) → Ordered c → (k : ℕ) → k < c .count → rankOf c k ≡ f .at → f .at < c .live → bound c f .parts ≡ natAbs (weightOf c k)
-unfolding bound
-parts-critical c f o k l r h =
-    rw (lt-ltb (f .at) (c .live) h, o .sizes (f .at) h) (ap (λ (j : ℕ). natAbs (weightOf c j)) (ap (itemOf c) (sym r) ∙ o .item-rank k l))
-
-near-zero : (l u n : ℤ) (q : ℕ) → Within farthest l → Within farthest u → (l *ℤ pos q) ≤ℤ n → n ≤ℤ (u *ℤ pos q) → natAbs n ≤ farthest * q
-near-zero l u n q hl hu low high = within-abs n (between (l *ℤ pos q) (u *ℤ pos q) n (within-mul hl own) (within-mul hu own) low high)
-  where
-    own : Within q (pos q)
-    own = abs-within (pos q) (omega arith)
 
 module _ (p : Problem) (range : InRange p) (s : Setting) (q : Prepared p s) where
   abbrev I : Instance
@@ -235,36 +213,11 @@ module _ (p : Problem) (range : InRange p) (s : Setting) (q : PreparedAt (spanOf
       reads : Reads J D (pointOf a) N
       reads k l = rw (shows k l) (over-lowest (N k) D D≥1)
 
-      critical : (k : ℕ) → k < p .count → amountAt a k .q ≢ 1 → (rankOf d k ≡ f .at) × (f .at < d .live)
-      critical k l n = go (whole-or-critical (s .cols) e f D k)
-        where
-          go : (N k ≡ stand (s .cols) e (f .at) k *ℤ pos D) ⊎ ((rankOf d k ≡ f .at) × (f .at < d .live)) → (rankOf d k ≡ f .at) × (f .at < d .live)
-          go (inl x) = absurd (n (ap (λ (z : Fraction). z .q) (shows k l) ∙ ap (λ z. lowest z D .q) x ∙ lowest-whole (stand (s .cols) e (f .at) k) D D≥1))
-          go (inr x) = x
-
-      -- its divisor is its weight
-      heavy : (k : ℕ) → k < p .count → amountAt a k .q ≢ 1 → D ≡ natAbs (weights J k)
-      heavy k l n =
-          parts-critical (s .cols) f (q .ready .ordered) k (in-near k l) (critical k l n .0) (critical k l n .1) ∙ ap natAbs (q .weights k l)
-
-      weightless : (k : ℕ) → k < p .count → weights J k ≡ pos 0 → amountAt a k .q ≡ 1
-      weightless k l e = go (ℕ-discrete (amountAt a k .q) 1)
-        where
-          go : Dec (amountAt a k .q ≡ 1) → amountAt a k .q ≡ 1
-          go (yes o) = o
-          go (no n) = let z : D ≡ 0 = heavy k l n ∙ ap natAbs e in absurd (omega (arith, D≥1))
+      columns-of : ColumnsOf J d
+      columns-of = record { count = q .count; own-weight = q .weights; item-rank = q .ready .ordered .item-rank; sizes = q .ready .ordered .sizes }
 
       shown : Shown J (amountAt a)
-      shown = record {
-        small = λ k l. rw (shows k l) (lowest-small (N k) D D≥1 (amount-small k l));
-        divisor = λ k l. rw (shows k l) (lowest-den (N k) D D≥1);
-        lowest = λ k l. rw (shows k l) (lowest-coprime (N k) D D≥1);
-        single = λ j k l m nj nk. sym (q .ready .ordered .item-rank j (in-near j l)) ∙ ap (itemOf d) (critical j l nj .0 ∙ sym (critical k m nk .0))
-            ∙ q .ready .ordered .item-rank k (in-near k m);
-        divides = λ k l n. subst₂ Divides (ap (λ (z : Fraction). z .q) (sym (shows k l))) (heavy k l n) (lowest-divides (N k) D D≥1);
-        weightless = weightless;
-        beyond = λ k l. h .point-is .beyond k (omega (arith, q .count));
-      }
+      shown = filling-shown J d columns-of e f D≥1 amount-small (amountAt a) shows (λ k l. h .point-is .beyond k (omega (arith, q .count)))
 
       pub optimal-found : (r : RayReply) → RayFound p r → r .found ≡ false → Answers J a
       optimal-found r ray n = rw (h .kind-is) (record {

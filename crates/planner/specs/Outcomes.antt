@@ -6,6 +6,7 @@
 --                     the box of the place x, its filling, and its value
 --   Best s x a        a shows the relaxation of the place x and its value in lowest terms, and no steps
 --   standing s f x    the incumbent that the place x is
+--   mostWork          the most cells that the scales write for a problem: those of 305 runs
 --   BestPlace s p n r r is the best place of the box, with the steps of a search that may take n
 --   Walked most p n   n steps were taken by the search of p that may take `most`
 --   CountsAs most k p n, Counts most p a n
@@ -13,7 +14,7 @@
 --   SolvesWithin most p r
 --                     r is the answer of p, with the steps of its search, at most so many;  Solves p r: at most 1,000
 use mathlib.Core.Path.{_≡_}
-use mathlib.Core.Bool.{Bool}
+use mathlib.Core.Bool.{Bool, true}
 use mathlib.Core.List.{List}
 use Prim.Native.Nat.{ℕ, _≤_}
 use lib.IntN.{ℤ, pos, _*ℤ_}
@@ -22,6 +23,8 @@ use Rattle.arith.specs.Within.{Within}
 use Rattle.arith.specs.Gcd.{lowest}
 use Rattle.arith.specs.declared.Mixed.{Mixed}
 use Rattle.arith.proofs.Mixes.{over}
+use Rattle.firsts.specs.Leading.{OptimalAt}
+use Rattle.foremost.specs.Foremost.{ShownFirst}
 use Rattle.greedy.specs.Amounts.{Amounts}
 use Rattle.greedy.specs.declared.Ends.{Ends}
 use Rattle.greedy.specs.declared.Fill.{Fill}
@@ -82,9 +85,14 @@ pub record Best (s : Setting) (x : List ℤ) (a : Answer) : Type 0 where
 abbrev pub standing : Setting → Bool → List ℤ → Incumbent
 standing s f x = record { found = f; place = x; value = valueAt s x }
 
+-- the cells of a best place, and those of the first point: 33 runs and 272
+abbrev pub mostWork : ℕ
+mostWork = 28960188895
+
 -- the place is best in the box, or there is none; the steps are those of a search that may take n, and the cells few
 pub record BestPlace (s : Setting) (p : Pairs) (n : ℕ) (r : Found) : Type 0 where
   pub searched : Searched s (standing s (r .found) (r .place))
+  pub at-place : r .found ≡ true → OptimalAt s (at (r .place))
   pub end : State
   pub stops : Stops s p n end
   pub steps-are : r .steps ≡ end .steps
@@ -114,9 +122,10 @@ Counts most p a n = CountsAs most (a .kind) p n
 
 pub record SolvesWithin (most : ℕ) (p : Problem) (r : Solved) : Type 0 where
   pub answers : Answers (instanceOf p) (r .answer)
+  pub first : ShownFirst (instanceOf p) (r .answer)
   pub counts : Counts most p (r .answer) (r .steps)
   pub few-steps : r .steps ≤ most
-  pub few-cells : r .cells ≤ mostCells
+  pub few-cells : r .cells ≤ mostWork
 
 abbrev pub Solves : Problem → Solved → Type 0
 Solves p r = SolvesWithin 1000 p r

@@ -16,6 +16,7 @@ use model::Model;
 use model::check_model;
 use model::plain_of;
 use model::some_crosses;
+use placed::shown_first;
 use prepare::narrowed;
 use prepare::pairs_of;
 use prepare::prepare;
@@ -196,7 +197,10 @@ fn decide(p: Problem, most: u64) -> Solved
     let b = best_place(near, pairs, most);
     let place = b.place;
     let a = optimal(near, place);
-    with_work(a, b.steps, b.cells)
+    let f = shown_first(p, near, place, a);
+    let first = f.answer;
+    let cells = b.cells + f.cells;
+    with_work(first, b.steps, cells)
 }
 
 // The answer of a problem whose figures are in range, by a search of at most so many steps. Where bounds cross it is infeasible, even if there is a

@@ -171,7 +171,7 @@ module _ (p : Problem) (range : InRange p) where
       either true = refl
       either false = refl
 
-  ranges : RangesAt A B (natAbs (p .capacity)) I
+  pub ranges : RangesAt A B (natAbs (p .capacity)) I
   ranges = record {
     light = λ k l o. rw (is-open k o) at (most-covers p (p .count) k l .weight);
     lowers = λ k l. around (itemAt p k .lower) (B k) (larger-left (boundSize (itemAt p k .lower)) (boundSize (itemAt p k .upper)));
@@ -202,7 +202,7 @@ module _ (p : Problem) (range : InRange p) where
   T : ℕ
   T = burdenOf p A (p .count)
 
-  reaches : Reaches A B (natAbs (p .capacity)) I (spanOf p)
+  pub reaches : Reaches A B (natAbs (p .capacity)) I (spanOf p)
   unfolding reachOf T
   reaches = record {
     lead = λ k. leadBy A (itemAt p k);

@@ -24,7 +24,7 @@ pub struct Settled {
 }
 
 // The amounts of the first n levels.
-fn by_level(xs: [i64; 16], level: [usize; 16], n: usize) -> [i64; 16]
+pub fn by_level(xs: [i64; 16], level: [usize; 16], n: usize) -> [i64; 16]
     requires { ⌜ (n ≤ 16) × ((d : ℕ) → d < n → place level d < 16) ⌝ }
     ensures { λ r. ⌜ Placed n (λ d. at xs (place level d)) r ⌝ }
 {

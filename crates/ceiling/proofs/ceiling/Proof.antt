@@ -3,6 +3,7 @@ use borrow.Author.Needs.{needs}
 use native.Mathlib.Omega.{arith}
 use Rattle.arith.proofs.Words.{back}
 use Rattle.arith.proofs.Parts.{within-back}
+use Rattle.ceiling.proofs.Framing.{ordered-ranked}
 use Rattle.ceiling.proofs.Shallow.{shallow}
 use Rattle.ceiling.proofs.Limits.{bounded-made}
 use Rattle.ceiling.proofs.ceiling.Statement.{statement}
@@ -22,7 +23,20 @@ known-loss-requires c κs =
     rw (within-back tt (t .ensures .1)) (t .ensures .1, (c .before .before .price-of .ensures .q-in, λ i. let v = s .pre .0 .1 .1 .1 .1 i in (v .low, v .few)))
 
 least-loss-requires : tie.Need-least-loss-requires
-least-loss-requires c κs = search needs
+least-loss-requires c κs =
+    let m = c .before .before .before in
+    let s = m .before .before .before in
+    let pr = m .before .price-of in
+    let z = s .pre .0 in (
+      record {
+        sized = z .0;
+        ranked = ordered-ranked (s .args .cols) (z .1 .0);
+        in-order = z .1 .1 .0;
+        p-in = pr .ensures .p-in;
+        q-in = pr .ensures .q-in;
+      },
+      (c .before .known-loss .ensures .loss .counted, (search needs, z .1 .0)),
+    )
 
 same-length : tie.Need-same-length
 same-length c = search needs

@@ -10,7 +10,7 @@ use Rattle.ceiling.proofs.considered.Statement.{statement}
 use Rattle.ceiling.proofs.considered.Tie as tie
 
 is-usable-requires : tie.Need-is-usable-requires
-is-usable-requires c κs = let s = c .before in let r = s .pre .0 .0 in (r .sized, (r .ordered, (r .in-order, s .pre .0 .1 .1 .1)))
+is-usable-requires c κs = let s = c .before in let r = s .pre .0 .0 in (r .sized, (r .ranked, (r .in-order, s .pre .0 .1 .1 .1)))
 
 lowered-requires : tie.Need-lowered-requires
 lowered-requires c κs =

@@ -49,7 +49,7 @@ considered-requires c κs =
         l .inv .1 .1 .counted,
         (
           omega (arith, l .inv .1 .1 .few, c .before .loop-test .taken, s .pre .0 .sized .columns .live-few),
-          omega (arith, l .inv .1 .0, s .pre .1 .1),
+          omega (arith, l .inv .1 .0, s .pre .1 .1 .0),
         ),
       ),
     )
@@ -90,7 +90,7 @@ returns c =
     let t : l .t ≡ a .cols .live = omega (arith, c .before .loop-test .left, l .inv .0) in
     let known = ap (λ (b : Least). b .lost) (h .unlowered .ensures) in
     subst (λ k. LeastLoss (a .p) (a .q) (a .cols) (a .ends) (a .whole) k (l .best)) known
-    (sofar-any (l .inv .1 .1) t (z .sized .columns) (z .ordered) (z .in-order) (c .if1 .taken))
+    (sofar-any (l .inv .1 .1) t (z .sized .columns) (s .pre .1 .1 .1) (z .in-order) (c .if1 .taken))
 
 lowered-requires : tie.Need-lowered-requires Inv-loop μ-loop
 lowered-requires c κs =
@@ -101,7 +101,7 @@ lowered-requires c κs =
     let t = to .top-of in
     rw (within-back tt (t .ensures .1)) (
       (s .pre .0, (t .ensures .0, t .ensures .1)),
-      (l .inv .1 .1 .counted, (omega (arith, l .inv .1 .1 .few, l .inv .0, s .pre .0 .sized .columns .live-few), omega (arith, l .inv .1 .0, s .pre .1 .1))),
+      (l .inv .1 .1 .counted, (omega (arith, l .inv .1 .1 .few, l .inv .0, s .pre .0 .sized .columns .live-few), omega (arith, l .inv .1 .0, s .pre .1 .1 .0))),
     )
 
 same-length-2 : tie.Need-same-length-2 Inv-loop μ-loop
@@ -121,7 +121,7 @@ returns-2 c =
     let t : l .t ≡ a .cols .live = omega (arith, tested .loop-test .left, l .inv .0) in
     let known = ap (λ (b : Least). b .lost) (u .unlowered .ensures) in
     subst (λ k. LeastLoss (a .p) (a .q) (a .cols) (a .ends) (a .whole) k (r .result)) known
-    (sofar-done (l .inv .1 .1) (r .result) t (z .sized .columns) (z .ordered) (z .in-order) (r .ensures))
+    (sofar-done (l .inv .1 .1) (r .result) t (z .sized .columns) (s .pre .1 .1 .1) (z .in-order) (r .ensures))
 
 pub least-loss-spec : {M : Type 1} → statement M
 least-loss-spec =

@@ -3,7 +3,8 @@ use mathlib.Core.Path.{refl}
 use native.Mathlib.Omega.{arith}
 use borrow.Author.Needs.{needs}
 use Rattle.setting.specs.Box.{Long}
-use Rattle.planner.proofs.Scales.{standing-searched, settled-searched}
+use Rattle.planner.specs.Outcomes.{standing}
+use Rattle.planner.proofs.Scales.{standing-searched, settled-searched, optimal-at}
 use Rattle.planner.proofs.best_place.Statement.{statement}
 use Rattle.planner.proofs.best_place.Tie as tie
 
@@ -18,8 +19,11 @@ returns c =
     let t = c .before in
     let m = t .before .before in
     let e = m .run .ensures in
+    let s = m .before in
+    let g = standing-searched (s .args .s) (m .run .result .best) (e .searched (t .if1 .taken)) in
     record {
-      searched = standing-searched (m .before .args .s) (m .run .result .best) (e .searched (t .if1 .taken));
+      searched = g;
+      at-place = optimal-at (s .args .s) (s .pre .0 .setting) (long s) (standing (s .args .s) (m .run .result .best .found) (m .run .result .best .place)) g;
       end = m .run .result;
       stops = e .stops;
       steps-are = refl;
@@ -34,8 +38,10 @@ returns-2 c =
     let t = c .before in
     let m = t .before .before .before in
     let s = m .before in
+    let g = settled-searched (s .args .s) (s .pre .0 .setting) (long s) (t .settled .result) (t .settled .ensures) in
     record {
-      searched = settled-searched (s .args .s) (s .pre .0 .setting) (long s) (t .settled .result) (t .settled .ensures);
+      searched = g;
+      at-place = optimal-at (s .args .s) (s .pre .0 .setting) (long s) (standing (s .args .s) (t .settled .result .found) (t .settled .result .place)) g;
       end = m .run .result;
       stops = m .run .ensures .stops;
       steps-are = refl;

@@ -1,15 +1,17 @@
 -- `planner::decide` meets its contract.
-use mathlib.Core.Path.{_≡_, refl, subst}
+use mathlib.Core.Path.{_≡_, refl, sym, subst}
 use mathlib.Core.Bool.{true}
 use native.Mathlib.Omega.{arith}
 use borrow.Author.Needs.{needs}
 use Rattle.arith.proofs.Parts.{within-back}
 use Rattle.arith.proofs.Words.{yes-lt, no-lt}
+use Rattle.knapsack.specs.Meaning.{instanceOf, AnswersAs, ShownOptimal}
+use Rattle.knapsack.specs.declared.Kind.the-variants as kind
 use Rattle.prepare.specs.Narrowing.{spanOf, Narrowed}
 use Rattle.prepare.specs.Prepared.{PreparedAt}
 use Rattle.prepare.proofs.Nearer.{reach-small, narrowed-prepared, near-spanned}
 use Rattle.planner.specs.Outcomes.{standing, Walked}
-use Rattle.planner.proofs.Outcomes.{infeasible-corner, corner-feasible-at, unbounded-corner, must-find, optimal-found}
+use Rattle.planner.proofs.Outcomes.{infeasible-corner, corner-feasible-at, unbounded-corner, must-find, optimal-found, not-unbounded, not-infeasible}
 use Rattle.planner.proofs.Values.{begun-within}
 use Rattle.planner.proofs.decide.Statement.{statement}
 use Rattle.planner.proofs.decide.Tie as tie
@@ -36,6 +38,7 @@ returns c =
     let t = rw (b .begin .ensures, within-back tt (begun-within (s .cols) (s .ends) (q .ready .sized))) at (h .before .if1 .taken) in
     rw (c .with-work .ensures, h .no-point .ensures) (record {
       answers = infeasible-corner (a .before .args .p) (a .before .pre) s q (yes-lt t);
+      first = λ low e. absurd (not-infeasible kind.Infeasible refl e);
       counts = refl;
       few-steps = omega arith;
       few-cells = omega arith;
@@ -66,6 +69,7 @@ returns-2 c =
     rw (c .with-work2 .ensures) (record {
       answers = unbounded-corner (a .before .args .p) (a .before .pre) s q (r .find-ray .result) (u .unbounded .result) (no-lt t) (r .find-ray .ensures)
           (t2 .if2 .taken) (u .unbounded .ensures);
+      first = λ low e. absurd (not-unbounded (u .unbounded .result .kind) (u .unbounded .ensures .kind-is) e);
       counts = rw (u .unbounded .ensures .kind-is) refl;
       few-steps = omega arith;
       few-cells = omega arith;
@@ -133,6 +137,42 @@ optimal-requires c κs =
     let n = c .before in
     (near (n .before .before) .ready, n .best-place .ensures .searched .inside (found n))
 
+-- the answer of the best place is an optimal one
+shown : (o : tie.After-optimal) → ShownOptimal (instanceOf (Prep (o .before .before .before .before .before .before) .before .args .p)) (o .optimal .result)
+unfolding Prep
+shown o =
+    let n = o .before .before in
+    let w = n .before .before in
+    let e2 = w .before .before in
+    let r = e2 .before in
+    let s = Prep e2 .before in
+    subst (AnswersAs (instanceOf (s .args .p)) (o .optimal .result)) (o .optimal .ensures .kind-is)
+    (optimal-found (s .args .p) (s .pre) (w .narrowed .result) (near w)
+    (standing (w .narrowed .result) (n .best-place .result .found) (n .best-place .result .place)) (n .best-place .ensures .searched) (found n)
+    (o .optimal .result) (o .optimal .ensures) (r .find-ray .result) (r .find-ray .ensures) (e2 .if2 .left))
+
+shown-first-requires : tie.Need-shown-first-requires
+unfolding Prep
+shown-first-requires c κs =
+    let n = c .before .before in
+    let w = n .before .before in
+    let e2 = w .before .before in
+    let s = Prep e2 .before in
+    record {
+      range = s .pre;
+      prepared = near w;
+      spanned = near-spanned (s .args .p) (s .pre) (w .narrowed .result) (near w);
+      no-ray = e2 .before .find-ray .ensures .none (e2 .if2 .left);
+      optimal-at = n .best-place .ensures .at-place (found n);
+      kind-is = c .optimal .ensures .kind-is;
+      shown = shown c;
+    }
+
+add-cells : tie.Need-add-cells
+add-cells c =
+    let f = c .before .before .before in
+    record { fits = omega (arith, f .before .before .before .best-place .ensures .few-cells, f .shown-first .ensures .few) }
+
 with-work-requires-3 : tie.Need-with-work-requires-3
 with-work-requires-3 c κs = search needs
 
@@ -155,20 +195,19 @@ walked n = record {
 returns-3 : tie.Need-returns-3
 unfolding Prep
 returns-3 c =
-    let o = c .before in
+    let f = c .before .before .before .before in
+    let o = f .before in
     let n = o .before .before in
-    let w = n .before .before in
-    let e2 = w .before .before in
-    let r = e2 .before in
-    let s = Prep e2 .before in
+    let s = Prep (n .before .before .before .before) .before in
     let b = n .best-place .ensures in
+    let z = f .shown-first .result in
+    let h = f .shown-first .ensures in
     rw (c .with-work3 .ensures) (record {
-      answers = optimal-found (s .args .p) (s .pre) (w .narrowed .result) (near w)
-          (standing (w .narrowed .result) (n .best-place .result .found) (n .best-place .result .place)) (b .searched) (found n) (o .optimal .result)
-          (o .optimal .ensures) (r .find-ray .result) (r .find-ray .ensures) (e2 .if2 .left);
-      counts = rw (o .optimal .ensures .kind-is) (walked n);
+      answers = subst (AnswersAs (instanceOf (s .args .p)) (z .answer)) (sym (h .kind-is)) (h .shown);
+      first = h .first;
+      counts = rw (h .kind-is) (walked n);
       few-steps = omega (arith, b .steps-are, b .stops .steps-are, b .stops .runs .few);
-      few-cells = b .few-cells;
+      few-cells = omega (arith, b .few-cells, h .few);
     })
 
 pub decide-spec : {M : Type 1} → statement M
@@ -189,5 +228,7 @@ decide-spec =
     pairs-of-requires
     best-place-requires
     optimal-requires
+    shown-first-requires
+    add-cells
     with-work-requires-3
     returns-3)

@@ -3,6 +3,8 @@ use mathlib.Core.Path.{_≡_, refl, sym, _∙_}
 use native.Mathlib.Omega.{arith}
 use borrow.Author.Needs.{needs}
 use Rattle.knapsack.specs.Ranges.{InRange}
+use Rattle.knapsack.specs.declared.Kind.the-variants as kind
+use Rattle.planner.proofs.Outcomes.{not-infeasible}
 use Rattle.model.proofs.Records.{plain-in-range}
 use Rattle.model.proofs.Crossings.{uncrossed, crossed-infeasible}
 use Rattle.planner.proofs.solve_within.Statement.{statement}
@@ -32,6 +34,7 @@ returns c =
     let crosses = sym (x .some-crosses .ensures) ∙ a .before .if1 .taken in
     rw (c .with-work .ensures, a .no-point .ensures) (record {
       answers = (crossed-infeasible p crosses, refl);
+      first = λ low e. absurd (not-infeasible kind.Infeasible refl e);
       counts = refl;
       few-steps = omega arith;
       few-cells = omega arith;

@@ -14,6 +14,7 @@ use Rattle.greedy.specs.declared.Fill.{Fill}
 use Rattle.greedy.specs.Fill.{at, fill, place}
 use Rattle.greedy.proofs.Relaxed.{fill-empty}
 use Rattle.ceiling.specs.Bound.{Bounded, BestFrame}
+use Rattle.ceiling.proofs.Framing.{ordered-ranked}
 use Rattle.settling.specs.Settling.{Boxes}
 use Rattle.settling.proofs.Best.{kept-best, found-some, found-best}
 use Rattle.settling.proofs.settle.Statement.{statement}
@@ -87,7 +88,7 @@ first-of-frame-requires c κs =
     let f = best-frame t in
     rw (within-back tt (b .top-in)) (
       (
-        record { sized = x .sized; ordered = x .ordered; in-order = x .in-order; p-in = b .p-in; q-in = b .q-in },
+        record { sized = x .sized; ranked = ordered-ranked (s .args .cols) (x .ordered); in-order = x .in-order; p-in = b .p-in; q-in = b .q-in },
         (b .top-is, (b .top-in, x .spanned)),
       ),
       (f .deep, (f .floor, search needs)),

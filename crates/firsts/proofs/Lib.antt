@@ -1,0 +1,6 @@
+pub mod Terms
+pub mod Order
+pub mod Places
+pub mod Shown
+pub mod Worth
+pub mod Leading

@@ -1,0 +1,143 @@
+-- `firsts::tried` meets its contract: the frame has no point that matters, or its first one is compared.
+use mathlib.Core.Path.{_≡_, refl, sym, ap, _∙_, subst}
+use Prim.Native.Nat.{_*_, _/_, _%_, _≤_, _<_}
+use native.Mathlib.Omega.{arith}
+use native.Mathlib.Nat.{mul-le-mul}
+use borrow.Author.Needs.{needs}
+use Rattle.arith.proofs.Parts.{within-back}
+use Rattle.greedy.specs.Fill.{at}
+use Rattle.ceiling.specs.Frames.{scaleOf}
+use Rattle.ceiling.proofs.Framing.{scale-in}
+use Rattle.firsts.specs.Leading.{endsAt}
+use Rattle.firsts.proofs.Places.{tied-sized, tied-ranked, tied-order, tied-spanned, place-sized}
+use Rattle.firsts.proofs.Shown.{shown-small}
+use Rattle.firsts.proofs.Leading.{frame-over, frame-few, floor-made, led-apart, led-none, led-sooner, seen-inside}
+use Rattle.firsts.proofs.tried.Statement.{statement}
+use Rattle.firsts.proofs.tried.Tie as tie
+
+scale-of-requires : tie.Need-scale-of-requires
+scale-of-requires c κs = search needs
+
+-- the scale, by the code and by the order of filling
+scale≤ : (c : tie.After-scale-of) → let s = c .before .before in c .scale-of .result ≤ 1000
+scale≤ c = let s = c .before .before in omega (arith, c .scale-of .ensures, scale-in (s .args .c) (s .args .t) (s .pre .0 .0 .tied .sized) .1)
+
+mul-m : tie.Need-mul-m
+mul-m c =
+    let s = c .before .before .before in
+    let g = s .pre .0 .1 .0 in
+    let h : s .args .l .num ≤ 10000000000 = omega (arith, g .small, g .den-in) in
+    record { fits = omega (arith, mul-le-mul (scale≤ (c .before)) h) }
+
+rem-if1 : tie.Need-rem-if1
+rem-if1 c = search needs
+
+returns : tie.Need-returns
+returns c =
+    let s = c .before .before .before .before in
+    let m = c .before .before in
+    let p = s .pre .0 in
+    led-apart (s .args .s) (s .args .c) (p .0) (s .args .l) (p .1 .0) (s .args .t) (s .args .b) (p .1 .1 .1)
+    (subst (λ e. 0 < (e * s .args .l .num) % s .args .l .den) (m .scale-of .ensures) (c .if1 .taken))
+
+div-first-of-frame : tie.Need-div-first-of-frame
+div-first-of-frame c = search needs
+
+-- what the frame is asked for
+over : (c : tie.Else1) → let s = c .before .before .before .before in
+    s .args .l .den * ((c .before .before .scale-of .result * s .args .l .num) / s .args .l .den) ≡ s .args .l .num * scaleOf (s .args .c) (s .args .t)
+over c =
+    let s = c .before .before .before .before in
+    let m = c .before .before in
+    frame-over (m .scale-of .result) (s .args .l .num) (s .args .l .den) (s .pre .0 .1 .0 .den≥1) (λ h. omega (arith, c .if1 .left))
+    ∙ ap (λ e. s .args .l .num * e) (m .scale-of .ensures)
+
+first-of-frame-requires : tie.Need-first-of-frame-requires
+first-of-frame-requires c κs =
+    let e = c .before .before .before in
+    let m = e .before .before in
+    let s = m .before .before in
+    let a = s .args in
+    let y = s .pre .0 .0 in
+    let g = s .pre .0 .1 .0 in
+    let r = (m .scale-of .result * a .l .num) / a .l .den in
+    rw (within-back tt (g .top-in)) (
+      (
+        record { sized = tied-sized (a .s) (a .c) y; ranked = tied-ranked (a .s) (a .c) y; in-order = tied-order (a .s) (a .c) y; p-in = g .p-in; q-in = g .q-in },
+        (g .top-is, (g .top-in, tied-spanned (a .s) (a .c) y)),
+      ),
+      (
+        frame-few (scaleOf (a .c) (a .t)) (a .l .num) (a .l .den) r (g .den≥1) (scale-in (a .c) (a .t) (y .tied .sized) .1) (g .small) (over e),
+        (
+          floor-made (a .s) (a .c) y (a .l) g (a .t) (a .b) (s .pre .0 .1 .1 .1) (a .whole) (s .pre .0 .1 .1 .0) (s .pre .1 .0) (s .pre .1 .1 .0) r (over e),
+          search needs,
+        ),
+      ),
+    )
+
+-- from where the frame was asked, back to its test and to the start
+abbrev asked : tie.After-first-of-frame → tie.Else1
+asked m = m .before .before .before .before
+
+abbrev entry : tie.After-first-of-frame → tie.Start
+entry m = asked m .before .before .before .before
+
+add-written : tie.Need-add-written
+add-written c =
+    let m = c .before .before .before .before in
+    let s = entry m in
+    record { fits = omega (arith, m .first-of-frame .ensures .few, s .pre .0 .1 .1 .1 .few, s .pre .1 .0, s .pre .0 .0 .tied .sized .live-few) }
+
+sooner-requires : tie.Need-sooner-requires
+sooner-requires c κs =
+    let m = c .before .before .before .before .before .before .before in
+    let s = entry m in
+    let a = s .args in
+    let y = s .pre .0 .0 in
+    let h = s .pre .0 .1 .1 .1 in (
+      y,
+      (
+        shown-small (a .c) (endsAt (a .s) (h .place)) (place-sized (a .s) (a .c) y (h .place) (h .inside)) (a .b .point) (h .shows),
+        seen-inside (a .s) (a .c) y (a .l) (s .pre .0 .1 .0) (a .t) (a .b) h (a .whole) (s .pre .0 .1 .1 .0) (s .pre .1 .0) (s .pre .1 .1 .0) _ (over (asked m))
+            (m .first-of-frame .result) (m .first-of-frame .ensures) (c .before .if2 .taken),
+      ),
+    )
+
+same-length : tie.Need-same-length
+same-length c = search needs
+
+returns-2 : tie.Need-returns-2
+returns-2 c =
+    let m = c .before .before .before .before .before .before .before .before in
+    let s = entry m in
+    let a = s .args in
+    led-sooner (a .s) (a .c) (s .pre .0 .0) (a .l) (s .pre .0 .1 .0) (a .t) (a .b) (s .pre .0 .1 .1 .1) (a .whole) (s .pre .0 .1 .1 .0) (s .pre .1 .0)
+    (s .pre .1 .1 .0) _ (over (asked m)) (m .first-of-frame .result) (m .first-of-frame .ensures) (c .before .before .if2 .taken) _ (c .sooner .ensures) refl
+
+same-length-2 : tie.Need-same-length-2
+same-length-2 c = search needs
+
+returns-3 : tie.Need-returns-3
+returns-3 c =
+    let m = c .before .before .before .before .before .before in
+    let s = entry m in
+    let a = s .args in
+    led-none (a .s) (a .c) (s .pre .0 .0) (a .l) (s .pre .0 .1 .0) (a .t) (a .b) (s .pre .0 .1 .1 .1) (a .whole) (s .pre .0 .1 .1 .0) (s .pre .1 .0)
+    (s .pre .1 .1 .0) _ (over (asked m)) (m .first-of-frame .result) (m .first-of-frame .ensures) (c .if2 .left) _ refl refl
+
+pub tried-spec : {M : Type 1} → statement M
+tried-spec =
+    tie.close
+    (tie.spec
+    scale-of-requires
+    mul-m
+    rem-if1
+    returns
+    div-first-of-frame
+    first-of-frame-requires
+    add-written
+    sooner-requires
+    same-length
+    returns-2
+    same-length-2
+    returns-3)

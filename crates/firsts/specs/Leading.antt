@@ -1,0 +1,136 @@
+-- How the first of the optimal points is found.
+--   Tying s c           a setting in order, and its columns in the order of filling of Tied
+--   endsAt s P          the box with all levels fixed at P
+--   Shows s c P l       l is the point of the filling at P
+--   Fills s c P r       r has it, and what it is worth
+--   OptimalAt s P       some optimal point has the integer amounts P
+--   IsWorth s c v       v is what an optimal point is worth
+--   Fair top q v        what v loses can be counted
+--   IsLosing s c l      l is what optimal points lose
+--   LossOf v l          that is the loss of v
+--   InsideBy s xs       the amounts xs by item are a place of the box
+--   Sooner s c x xs r   r is the first of x and of the filling at the place of xs
+--   Led s c l t b       b is an optimal point that leads those of the frames before t
+--   FirstBest s r       r is the optimal point that comes first
+use mathlib.Core.Path.{_≡_}
+use mathlib.Core.List.{List}
+use mathlib.Core.Logic.{_⊎_}
+use Prim.Native.Nat.{ℕ, _*_, _≤_, _<_}
+use lib.IntN.{ℤ, pos, _-ℤ_, _*ℤ_}
+use lib.Signed.{_≤ℤ_, _<ℤ_}
+use Rattle.arith.specs.Mixed.{Proper}
+use Rattle.arith.specs.Within.{Within}
+use Rattle.arith.specs.declared.Fraction.{Fraction}
+use Rattle.arith.specs.declared.Mixed.{Mixed}
+use Rattle.arith.proofs.Mixes.{over}
+use Rattle.knapsack.specs.declared.Mark.{Mark}
+use Rattle.knapsack.proofs.Common.{valueᴰ, Feasibleᴰ, Optimalᴰ}
+use Rattle.greedy.specs.declared.Columns.{Columns}
+use Rattle.greedy.specs.declared.Ends.{Ends}
+use Rattle.greedy.specs.Amounts.{Amounts}
+use Rattle.greedy.specs.Fill.{at, fill, bound}
+use Rattle.greedy.proofs.Relaxed.{boxOf}
+use Rattle.fillings.specs.Runs.{runCells}
+use Rattle.ceiling.specs.Loss.{topOf, valueOf}
+use Rattle.ceiling.specs.Sizes.{Spanned}
+use Rattle.foremost.specs.Order.{TiedOf}
+use Rattle.foremost.proofs.Filling.{parts, filling}
+use Rattle.foremost.proofs.Foremost.{Foremostᴰ}
+use Rattle.foremost.proofs.Frames.{Frame, LeadsFrame}
+use Rattle.foremost.proofs.Losses.{LosesJust, LosesMore}
+use Rattle.setting.specs.declared.Setting.{Setting}
+use Rattle.setting.specs.Box.{levelAt, fixedBy, Inside, Long}
+use Rattle.setting.specs.Ready.{ReadySetting, Marked}
+use Rattle.firsts.specs.Order.{pointIn, NoLater}
+use Rattle.firsts.specs.declared.Filled.{Filled}
+use Rattle.firsts.specs.declared.Optimum.{Optimum}
+use Rattle.firsts.specs.declared.Lead.{Lead}
+
+pub record Tying (s : Setting) (c : Columns) : Type 0 where
+  pub ready : ReadySetting s
+  pub long : Long (s .ends)
+  pub spanned : Spanned (s .cols) (s .ends)
+  pub tied : TiedOf (s .cols) c
+
+abbrev pub endsAt : Setting → (ℕ → ℤ) → Ends
+endsAt s P = fixedBy s P (s .levels)
+
+-- ---- fillings
+
+abbrev pub Shows : Setting → Columns → (ℕ → ℤ) → List Fraction → Type 0
+Shows s c P l = Amounts c (endsAt s P) (fill c (endsAt s P)) (parts c (endsAt s P)) l
+
+pub record Fills (s : Setting) (c : Columns) (P : ℕ → ℤ) (r : Filled) : Type 0 where
+  pub shows : Shows s c P (r .point)
+  pub value-is : r .value ≡ bound c (fill c (endsAt s P))
+
+-- ---- what optimal points are worth, and lose
+
+pub record OptimalAt (s : Setting) (P : ℕ → ℤ) : Type 0 where
+  pub inside : Inside s P
+  pub divisor : ℕ
+  pub point : ℕ → ℤ
+  pub some : 1 ≤ divisor
+  pub at-place : (d : ℕ) → d < s .levels → point (levelAt s d) ≡ P d *ℤ pos divisor
+  pub optimal : (marks : ℕ → Mark) → Marked s marks → Optimalᴰ (boxOf (s .cols) (s .ends) marks) divisor point
+
+pub record IsWorth (s : Setting) (c : Columns) (v : Mixed) : Type 0 where
+  pub proper : Proper v
+  pub point : ℕ → ℤ
+  pub value-is : valueOf c point ≡ over v
+  pub optimal : (marks : ℕ → Mark) → Marked s marks → Optimalᴰ (boxOf c (s .ends) marks) (v .parts) point
+
+-- what v loses of top at a price in parts of q is not below 0, and little
+pub record Fair (top : ℤ) (q : ℕ) (v : Mixed) : Type 0 where
+  pub above : pos 0 ≤ℤ (top *ℤ pos (v .parts) -ℤ pos q *ℤ over v)
+  pub below : (top *ℤ pos (v .parts) -ℤ pos q *ℤ over v) <ℤ pos (10000000 * v .parts)
+
+pub record IsLosing (s : Setting) (c : Columns) (l : Optimum) : Type 0 where
+  pub p-in : l .p ≤ 10000
+  pub q-in : l .q ≤ 1000
+  pub q≥1 : 1 ≤ l .q
+  pub top-is : l .top ≡ topOf (l .p) (l .q) c (s .ends)
+  pub top-in : Within 100000000000000000 (l .top)
+  pub den≥1 : 1 ≤ l .den
+  pub den-in : l .den ≤ 1000
+  pub small : l .num < 10000000 * l .den
+  pub all : (marks : ℕ → Mark) → Marked s marks → (E : ℕ) (X : ℕ → ℤ) → 1 ≤ E → Feasibleᴰ (boxOf c (s .ends) marks) E X
+      → LosesMore (l .top) (l .q) (valueᴰ (boxOf c (s .ends) marks)) (l .num) (l .den) E X
+
+pub record LossOf (v : Mixed) (l : Optimum) : Type 0 where
+  pub den-is : l .den ≡ v .parts
+  pub num-is : pos (l .num) ≡ l .top *ℤ pos (v .parts) -ℤ pos (l .q) *ℤ over v
+
+-- ---- the first of two, and of all frames
+
+abbrev pub InsideBy : Setting → List ℤ → Type 0
+InsideBy s xs = Inside s (λ d. at xs (levelAt s d))
+
+pub record Sooner (s : Setting) (c : Columns) (point : List Fraction) (xs : List ℤ) (r : List Fraction) : Type 0 where
+  pub place : ℕ → ℤ
+  pub same : (d : ℕ) → d < s .levels → place d ≡ at xs (levelAt s d)
+  pub other : List Fraction
+  pub shows : Shows s c place other
+  pub which : ((r ≡ point) × NoLater (c .count) (pointIn point) (pointIn other)) ⊎ ((r ≡ other) × NoLater (c .count) (pointIn other) (pointIn point))
+
+pub record Led (s : Setting) (c : Columns) (l : Optimum) (t : ℕ) (b : Lead) : Type 0 where
+  pub place : ℕ → ℤ
+  pub inside : Inside s place
+  pub room : pos 0 ≤ℤ fill c (endsAt s place) .room
+  pub shows : Shows s c place (b .point)
+  pub just : (marks : ℕ → Mark) → Marked s marks
+      → LosesJust (l .top) (l .q) (valueᴰ (boxOf c (s .ends) marks)) (l .num) (l .den) (parts c (endsAt s place)) (filling c (endsAt s place))
+  pub leads : (marks : ℕ → Mark) → Marked s marks → (u : ℕ) → u < t → Frame c (s .ends) marks u
+      → LeadsFrame c (s .ends) marks (parts c (endsAt s place)) (filling c (endsAt s place)) u
+  pub few : b .written ≤ t * (16 * runCells)
+
+pub record FirstBest (s : Setting) (r : Lead) : Type 0 where
+  pub long : Long (s .ends)
+  pub cols : Columns
+  pub tied : TiedOf (s .cols) cols
+  pub place : ℕ → ℤ
+  pub inside : Inside s place
+  pub room : pos 0 ≤ℤ fill cols (endsAt s place) .room
+  pub shows : Shows s cols place (r .point)
+  pub first : (marks : ℕ → Mark) → Marked s marks → Foremostᴰ (boxOf cols (s .ends) marks) (parts cols (endsAt s place)) (filling cols (endsAt s place))
+  pub few : r .written ≤ 272 * runCells

@@ -1,0 +1,3 @@
+pub mod Foremost
+pub mod Tied
+pub mod Order

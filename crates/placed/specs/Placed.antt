@@ -1,0 +1,41 @@
+-- The first best point of a problem, as an answer shows it.
+--   HasLower p b        b says whether every item has a lower bound
+--   Showable p s P a    a is an optimal answer of p; s is p prepared, and an optimal point of its box has the integer amounts P
+--   FirstShown p r      r is an optimal answer of p, by the point that comes first where every item has a lower bound
+use mathlib.Core.Path.{_≡_}
+use mathlib.Core.Bool.{Bool, true, false}
+use Prim.Native.Nat.{ℕ, _*_, _≤_}
+use lib.IntN.{ℤ}
+use Rattle.ceiling.specs.Sizes.{Spanned}
+use Rattle.fillings.specs.Runs.{runCells}
+use Rattle.firsts.specs.Leading.{OptimalAt}
+use Rattle.foremost.specs.Foremost.{AllLower, ShownFirst}
+use Rattle.knapsack.specs.Meaning.{instanceOf, ShownOptimal}
+use Rattle.knapsack.specs.Ranges.{InRange}
+use Rattle.knapsack.specs.declared.Answer.{Answer}
+use Rattle.knapsack.specs.declared.Kind.the-variants as kind
+use Rattle.knapsack.specs.declared.Problem.{Problem}
+use Rattle.knapsack.proofs.Reach.{NoRay}
+use Rattle.prepare.specs.Narrowing.{spanOf}
+use Rattle.prepare.specs.Prepared.{PreparedAt}
+use Rattle.setting.specs.declared.Setting.{Setting}
+use Rattle.placed.specs.declared.Placed.{Placed}
+
+pub record HasLower (p : Problem) (b : Bool) : Type 0 where
+  pub all : b ≡ true → AllLower (instanceOf p)
+  pub some : b ≡ false → ¬ AllLower (instanceOf p)
+
+pub record Showable (p : Problem) (s : Setting) (P : ℕ → ℤ) (a : Answer) : Type 0 where
+  pub range : InRange p
+  pub prepared : PreparedAt (spanOf p) p s
+  pub spanned : Spanned (s .cols) (s .ends)
+  pub no-ray : NoRay (instanceOf p)
+  pub optimal-at : OptimalAt s P
+  pub kind-is : a .kind ≡ kind.Optimal
+  pub shown : ShownOptimal (instanceOf p) a
+
+pub record FirstShown (p : Problem) (r : Placed) : Type 0 where
+  pub kind-is : r .answer .kind ≡ kind.Optimal
+  pub shown : ShownOptimal (instanceOf p) (r .answer)
+  pub first : ShownFirst (instanceOf p) (r .answer)
+  pub few : r .cells ≤ 272 * runCells
