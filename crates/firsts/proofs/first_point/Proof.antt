@@ -43,7 +43,8 @@ loss-of-requires c κs =
 
 wholes-requires : tie.Need-wholes-requires Inv-loop μ-loop
 wholes-requires c κs =
-    let r = c .before .before .before .before .before .pre .0 .0 in (r .few, λ d l. omega (arith, r .level-in d l, r .sized .columns .few))
+    let s = c .before .before .before .before .before in
+    let r = s .pre .0 .0 in (r .few, λ d l. omega (arith, r .level-in d l, r .sized .columns .few))
 
 lead-of-requires : tie.Need-lead-of-requires Inv-loop μ-loop
 lead-of-requires c κs = tt
@@ -86,10 +87,14 @@ add-t c =
     record { fits = omega (arith, l .loop-test .taken, t .tied .ensures .sized .live-few) }
 
 loop-less : tie.Need-loop-less Inv-loop μ-loop
-loop-less c = omega (arith, c .before .before .before .before .loop-test .taken)
+loop-less c =
+    let at-loop-test = c .before .before .before .before in
+    omega (arith, at-loop-test .loop-test .taken)
 
 loop-again : tie.Need-loop-again Inv-loop μ-loop
-loop-again c = (omega (arith, c .before .before .before .before .loop-test .taken), (search needs, c .before .before .considered .ensures))
+loop-again c =
+    let at-loop-test = c .before .before .before .before in
+    (omega (arith, at-loop-test .loop-test .taken), (search needs, c .before .before .considered .ensures))
 
 tried-requires : tie.Need-tried-requires Inv-loop μ-loop
 tried-requires c κs =

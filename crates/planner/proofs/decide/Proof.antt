@@ -138,7 +138,9 @@ optimal-requires c κs =
     (near (n .before .before) .ready, n .best-place .ensures .searched .inside (found n))
 
 -- the answer of the best place is an optimal one
-shown : (o : tie.After-optimal) → ShownOptimal (instanceOf (Prep (o .before .before .before .before .before .before) .before .args .p)) (o .optimal .result)
+shown : (o : tie.After-optimal) →
+    let s = o .before .before .before .before .before .before in
+    ShownOptimal (instanceOf (Prep (s) .before .args .p)) (o .optimal .result)
 unfolding Prep
 shown o =
     let n = o .before .before in
