@@ -44,6 +44,9 @@ pub const KINDS: [Kind; 10] = [
     ("long", 40, long),
 ];
 
+/// How many of the kinds, from the first on, have nothing but good sheets.
+pub const GOOD: usize = KINDS.len() - 2;
+
 pub fn kind(rng: &mut Rng) -> usize {
     let mut left = rng.between(0, KINDS.iter().map(|k| k.1).sum::<i64>() - 1);
     KINDS

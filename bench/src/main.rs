@@ -2,6 +2,7 @@
 
 mod check;
 mod compare;
+mod damage;
 mod draw;
 mod enumeration;
 mod families;
@@ -53,7 +54,7 @@ fn usage() -> ! {
 
 /// The commands that stand there; compare and speed if none does.
 fn commands(a: &mut Arguments) -> Vec<&'static str> {
-    let mut named = ["compare", "speed", "reading", "self", "hunt", "reply"].to_vec();
+    let mut named = ["compare", "damage", "speed", "reading", "self", "hunt", "reply"].to_vec();
     named.retain(|word| a.word(word));
     if named.is_empty() {
         named = vec!["compare", "speed"];
@@ -89,6 +90,7 @@ fn main() {
     for command in commands {
         good &= match command {
             "compare" => compare::compare(seed, sheets.unwrap_or(choose(5000, 120_000)), steps.unwrap_or(2_000_000)),
+            "damage" => damage::damage(seed),
             "speed" => speed::speed(&speed),
             "reading" => reading::reading(seed, choose(200, 2000)),
             "self" => trial::trial(seed, sheets.unwrap_or(choose(2000, 20_000))),
