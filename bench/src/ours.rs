@@ -12,7 +12,7 @@ extern "C" {
 /// What the proved planner does: the twin by these rules takes the same steps to the same text.
 pub const RULES: Rules = SEARCH_ONLY;
 
-/// The steps of a search, 0 if there is none; and the cells that the scales updated, if the planner tells them.
+/// The steps of a search, 0 if there is none; and the cells that the scales wrote, if the planner tells them.
 pub struct Work {
     pub steps: u64,
     pub cells: Option<u64>,
