@@ -8,9 +8,6 @@ pub struct Refusal {
     pub line: u64,
 }
 
-/// Whether our reader tells a wrong heading word (12) and what is no number (13) from other faults of form (paper 02, request 3).
-const TOLD_EXACTLY: bool = false;
-
 /// What a line has in a place.
 enum Place {
     Word(&'static [u8]),
@@ -30,7 +27,7 @@ impl Place {
     /// The number of a wrong field's refusal. A field that is missing is empty.
     fn fault(&self, field: &[u8]) -> u64 {
         match self {
-            _ if field.is_empty() || !TOLD_EXACTLY => 2,
+            _ if field.is_empty() => 2,
             Place::Word(_) => 12,
             Place::Mark => 2,
             Place::Number => 13,
