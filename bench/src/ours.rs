@@ -1,6 +1,6 @@
 //! The proved planner: the entries of `crates/runcefo`, as `include/runcefo.h` declares them.
 
-use crate::twin::{Rules, SEARCH_ONLY};
+use crate::twin::{Rules, WITH_SCALES};
 
 extern "C" {
     fn charge_room() -> usize;
@@ -10,7 +10,7 @@ extern "C" {
 }
 
 /// What the proved planner does: the twin by these rules takes the same steps to the same text.
-pub const RULES: Rules = SEARCH_ONLY;
+pub const RULES: Rules = Rules { presolve: true, strides: true, ..WITH_SCALES };
 
 /// The steps of a search, 0 if there is none; and the cells that the scales wrote, if the planner tells them.
 pub struct Work {
