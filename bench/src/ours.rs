@@ -10,7 +10,7 @@ extern "C" {
 }
 
 /// What the proved planner does: the twin by these rules takes the same steps to the same text.
-pub const RULES: Rules = Rules { strides: true, ..WITH_SCALES };
+pub const RULES: Rules = WITH_SCALES;
 
 /// The steps of a search, 0 if there is none; and the cells that the scales wrote, if the planner tells them.
 pub struct Work {

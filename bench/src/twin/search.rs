@@ -63,8 +63,7 @@ impl<'a> Search<'a> {
         let Some(best) = self.best else {
             return false;
         };
-        !less(best.value, self.s.bound(f))
-            || if self.s.free { self.s.off_strides(f, best.value) } else { self.s.off_lattice(f, d, best.value.whole) }
+        !less(best.value, self.s.bound(f)) || (!self.s.free && self.s.off_lattice(f, d, best.value.whole))
     }
 
     /// Whether a pair of level d and one above can be taken away from the place within the box.
