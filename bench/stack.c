@@ -29,6 +29,9 @@ static void *run(void *arg) {
     case 's':
         charge_steps(s, strlen(c->sheet));
         break;
+    case 'c':
+        charge_cells(s, strlen(c->sheet));
+        break;
     }
     return NULL;
 }
@@ -87,7 +90,7 @@ int main(void) {
     for (i = 0; i < n + 40; i++) {
         const char *sheet = i < n ? few[i] : crowd(text, (int)(i - n));
         const char *e;
-        for (e = "prs"; *e != '\0'; e++) {
+        for (e = "prsc"; *e != '\0'; e++) {
             size_t d = depth((struct call){*e, sheet}) - none;
             most = d > most ? d : most;
         }

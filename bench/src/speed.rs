@@ -95,7 +95,7 @@ fn measure(p: &Problem, o: &Options, row: &mut Row) {
     let is_deep = twin.cells >= DEEP;
     row.both = row.both.plus(Both {
         count: 1,
-        agree: (work.steps == twin.steps && work.cells.is_none_or(|c| c == twin.cells)) as usize,
+        agree: (work.steps == twin.steps && work.cells == twin.cells) as usize,
         same: (text == twin.text) as usize,
         seconds,
         deep_cells: if is_deep { twin.cells } else { 0 },
