@@ -11,12 +11,12 @@ use crate::twin;
 /// Whether our planner promises the best point that comes first, where every lower bound is present (paper 02, request 5).
 const FIRST: bool = false;
 
-/// How often each reply came: refused, infeasible, unbounded, best; and what was left out.
+/// How often each reply came: refused, infeasible, unbounded, best.
 #[derive(Clone, Copy, Default)]
 struct Counts {
     replies: [u64; 4],
-    left_out: u64,
     twin_agrees: u64,
+    by_scales: u64,
     differ: u64,
 }
 
@@ -67,21 +67,17 @@ fn check_buffers(sheet: &[u8], expected: Reply, text: &str) -> Result<(), String
     Ok(())
 }
 
-fn compare_sheet(sheet: &[u8], limit: u64, counts: &mut Counts) -> Result<(), String> {
+fn compare_sheet(sheet: &[u8], counts: &mut Counts) -> Result<(), String> {
     let problem = independent::read(sheet);
-    let twin = problem.as_ref().ok().map(|p| twin::plan(p, ours::RULES, limit));
-    if let Some(None) = twin {
-        counts.left_out += 1;
-        return Ok(());
-    }
+    let twin = problem.as_ref().ok().map(|p| twin::plan(p, ours::RULES));
     let expected = match &problem {
         Ok(p) => independent::plan(p),
         Err(f) => Reply::Refused(*f),
     };
     let text = ours::plan(sheet);
     counts.replies[column(expected)] += 1;
-    let twin = twin.flatten();
     counts.twin_agrees += twin.as_ref().is_some_and(|t| t.text == text) as u64;
+    counts.by_scales += twin.as_ref().is_some_and(|t| t.cells > 0) as u64;
     let in_order = problem.as_ref().ok().filter(|_| FIRST);
     check(problem.as_ref().ok(), expected, &text)
         .and_then(|_| in_order.map_or(Ok(()), |p| check_first(p, &text)))
@@ -91,7 +87,7 @@ fn compare_sheet(sheet: &[u8], limit: u64, counts: &mut Counts) -> Result<(), St
 }
 
 /// Whether no sheet differs.
-pub fn compare(seed: u64, count: u64, limit: u64) -> bool {
+pub fn compare(seed: u64, count: u64) -> bool {
     println!("Comparison with the independent planner: {count} sheets, seed {seed}");
     let mut rng = Rng(seed);
     let mut counts = [Counts::default(); KINDS.len()];
@@ -100,38 +96,32 @@ pub fn compare(seed: u64, count: u64, limit: u64) -> bool {
         progress.show(|| format!("{done} of {count} sheets compared, {} differ", counts.iter().map(|c| c.differ).sum::<u64>()));
         let k = kind(&mut rng);
         let sheet = KINDS[k].2(&mut rng);
-        if let Err(what) = compare_sheet(&sheet, limit, &mut counts[k]) {
+        if let Err(what) = compare_sheet(&sheet, &mut counts[k]) {
             counts[k].differ += 1;
             println!("sheet {done} differs: {what}for\n{}", String::from_utf8_lossy(&sheet));
         }
     }
-    show(&counts, limit);
+    show(&counts);
     println!();
     counts.iter().all(|c| c.differ == 0)
 }
 
-fn show(counts: &[Counts], limit: u64) {
-    println!(
-        "{:20} {:>8} {:>11} {:>10} {:>8} {:>9} {:>7}",
-        "kind", "refused", "infeasible", "unbounded", "best", "left out", "differ"
-    );
+fn show(counts: &[Counts]) {
+    println!("{:20} {:>8} {:>11} {:>10} {:>8} {:>7}", "kind", "refused", "infeasible", "unbounded", "best", "differ");
     let mut sum = Counts::default();
     for (c, k) in counts.iter().zip(KINDS) {
         row(k.0, c);
         (0..4).for_each(|i| sum.replies[i] += c.replies[i]);
-        sum.left_out += c.left_out;
         sum.differ += c.differ;
         sum.twin_agrees += c.twin_agrees;
+        sum.by_scales += c.by_scales;
     }
     row("all", &sum);
     let accepted: u64 = sum.replies[1..].iter().sum();
-    println!(
-        "Left out: more than {limit} steps of the search. The twin's text is ours on {} of {accepted} accepted sheets.",
-        sum.twin_agrees
-    );
+    println!("The twin's text is ours on {} of {accepted} accepted sheets; {} went to the scales.", sum.twin_agrees, sum.by_scales);
 }
 
 fn row(name: &str, c: &Counts) {
     let r = c.replies;
-    println!("{name:20} {:>8} {:>11} {:>10} {:>8} {:>9} {:>7}", r[0], r[1], r[2], r[3], c.left_out, c.differ);
+    println!("{name:20} {:>8} {:>11} {:>10} {:>8} {:>7}", r[0], r[1], r[2], r[3], c.differ);
 }
