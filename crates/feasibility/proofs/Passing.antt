@@ -3,17 +3,16 @@
 -- End theorems, of every answer that is Planned: best-passes: the check says yes to a best point, with the answer's value. start-passes: and to the
 -- start of an unbounded answer.
 use mathlib.Core.Path.{_≡_, refl, sym, ap, _∙_, subst}
-use mathlib.Core.List.{List, [], _∷_}
-use Prim.Native.Nat.{ℕ, zero, suc, _<_}
+use Prim.Native.Nat.{ℕ, _<_}
 use native.Mathlib.Omega.{arith}
 use lib.IntN.{ℤ}
-use lib.ListN.{length, getD}
+use lib.ListN.{length}
 use Rattle.arith.specs.Fractions.{frac, int, _·ᶠ_, _≤ᶠ_, _≈ᶠ_, total}
 use Rattle.arith.specs.Sum.{Each}
 use Rattle.arith.specs.declared.Fraction.{Fraction}
 use Rattle.arith.proofs.Fractions.{total-cong, ≤ᶠ-trans, ≤ᶠ-antisym, ≈ᶠ-≤, ≈ᶠ-≥}
 use Rattle.arith.proofs.Lowest.{same-fraction}
-use Rattle.knapsack.specs.Meaning.{Instance, Point, Keeps, weights, value, Feasible, Shown, nought, amountAt, pointOf, AnswersAs, ShownOptimal}
+use Rattle.knapsack.specs.Meaning.{Instance, Point, Keeps, weights, prices, value, Feasible, Shown, nought, amountAt, pointOf, AnswersAs, ShownOptimal}
 use Rattle.knapsack.specs.declared.Answer.{Answer}
 use Rattle.knapsack.specs.declared.Kind.{Kind}
 use Rattle.knapsack.specs.declared.Kind.the-variants as kind
@@ -24,7 +23,7 @@ use Rattle.model.specs.Promises.{RepliesAs, Planned}
 use Rattle.model.specs.Records.{plainOf, verdict}
 use Rattle.model.specs.declared.Model.{Model}
 use Rattle.model.proofs.Records.{accepted}
-use Rattle.model.proofs.Showing.{shown-few}
+use Rattle.model.proofs.Showing.{default, shown-few}
 use Rattle.feasibility.specs.declared.Candidate.{Candidate}
 use Rattle.feasibility.specs.declared.PointReply.the-variants as reply
 use Rattle.feasibility.specs.Amounts.{proposedAt}
@@ -48,12 +47,6 @@ module _ (s : Instance) (x y : Point) (e : Each (s .count) (λ k. x k ≡ y k)) 
 
 -- ---- amounts that are shown are good
 
--- at a place of the list every default gives its amount
-default : (l : List Fraction) (k : ℕ) (d e : Fraction) → k < length l → getD l k d ≡ getD l k e
-default [] k d e h = absurd (omega arith)
-default (x ∷ l) zero d e h = refl
-default (x ∷ l) (suc k) d e h = default l k d e (omega arith)
-
 module _ (m : Model) (a : Answer) (size : length (a .point) ≡ 16) (fair : verdict m ≡ Accepted) (shown : Shown (asked m) (amountAt a)) where
   same : (k : ℕ) → k < m .count → amountAt a k ≡ proposedAt (shownBy m a) k
   same k l = default (a .point) k nought _ (omega (arith, accepted m fair .few-items))
@@ -63,7 +56,12 @@ module _ (m : Model) (a : Answer) (size : length (a .point) ≡ 16) (fair : verd
     admissible = accepted m fair;
     counted = refl;
     amounts = record {
-      good = λ k l. rw (← same k l) (record { some = shown .divisor k l; few = shown-few (plainOf m) (amountAt a) (accepted m fair) shown k l; lowest = shown .lowest k l; near = shown .small k l });
+      good = λ k l. rw (← same k l) (record {
+        some = shown .divisor k l;
+        few = shown-few (plainOf m) (amountAt a) (accepted m fair) shown k l;
+        lowest = shown .lowest k l;
+        near = shown .small k l;
+      });
       single = λ j k l n g h. shown .single j k l n (whole j l g) (whole k n h);
     };
   }
@@ -83,14 +81,16 @@ module _ (m : Model) (a : Answer) (size : length (a .point) ≡ 16) (fair : verd
       let x = frac (v .p) (v .q) in
       let y = frac (a .value .p) (a .value .q) in
       let w = value (asked m) (pointOf a) in
-      let e : x ≈ᶠ w = subst (λ z. x ≈ᶠ z) (sym (same-total (asked m) (pointOf a) (proposedPoint (shownBy m a)) agree (λ k. asked m .item k .price))) (t .exact) in
+      let same = same-total (asked m) (pointOf a) (proposedPoint (shownBy m a)) agree (prices (asked m)) in
+      let e : x ≈ᶠ w = subst (λ z. x ≈ᶠ z) (sym same) (t .exact) in
       same-fraction v (a .value) (t .divisor) (o .divisor) (t .lowest) (o .lowest)
       (≤ᶠ-antisym x y (≤ᶠ-trans x w y (≈ᶠ-≤ x w e) (≈ᶠ-≥ y w (o .exact))) (≤ᶠ-trans y w x (≈ᶠ-≤ y w (o .exact)) (≈ᶠ-≥ x w e)))
 
 -- ---- every answer that is Planned
 
 -- an answer that is no refusal answers an accepted record
-answers : (m : Model) (a : Answer) (k : Kind) → Planned m a → a .kind ≡ k → ((f : Refusal) → k ≡ kind.Refused f → ⊥) → (verdict m ≡ Accepted) × AnswersAs (asked m) a k
+answers : (m : Model) (a : Answer) (k : Kind) → Planned m a → a .kind ≡ k → ((f : Refusal) → k ≡ kind.Refused f → ⊥) →
+    (verdict m ≡ Accepted) × AnswersAs (asked m) a k
 answers m a k p e n = go (verdict m) refl p
   where
     go : (v : Verdict) → verdict m ≡ v → RepliesAs (asked m) a v → (verdict m ≡ Accepted) × AnswersAs (asked m) a k

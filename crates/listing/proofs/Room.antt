@@ -4,14 +4,13 @@
 -- value-small: numerator and divisor of a value that is shown. item-short, lines-short, best-short: the lengths of lines.
 use mathlib.Core.Path.{_≡_, refl, sym, ap, _∙_, subst}
 use mathlib.Core.Bool.{Bool, true, false}
-use mathlib.Core.List.{List, [], _∷_}
 use mathlib.Core.Logic.{_⊎_, _≢_, inl, inr, ⊎-elim}
 use Prim.Native.Nat.{ℕ, zero, suc, _+_, _*_, _/_, _≤_, _<_, min}
 use native.Mathlib.Decide.{ℕ-discrete, decLt}
 use native.Mathlib.Nat.{mul-comm, mul-le-mul-right, le-of-mul-le-mul-right, div-eq-of-eq-mul-left}
 use native.Mathlib.Omega.{arith}
 use lib.IntN.{ℤ, pos, natAbs, _*ℤ_}
-use lib.ListN.{length, getD, length-append, List·getD-eq-default}
+use lib.ListN.{length, length-append, List·getD-eq-default}
 use Rattle.arith.specs.Fractions.{frac}
 use Rattle.arith.specs.Gcd.{Divides}
 use Rattle.arith.specs.Sum.{sum, Each}
@@ -32,7 +31,7 @@ use Rattle.model.specs.Promises.{RepliesAs, Planned}
 use Rattle.model.specs.Records.{plainOf, verdict, FiguresInRange}
 use Rattle.model.specs.declared.Model.{Model}
 use Rattle.model.proofs.Records.{accepted}
-use Rattle.model.proofs.Showing.{small-divisor, shown-few}
+use Rattle.model.proofs.Showing.{default, small-divisor, shown-few}
 use Rattle.text.proofs.Decimals.{decimal-length, integer-length}
 use Rattle.listing.specs.Printing.{bestLine, itemLine, amountAt as printedAmount, stepAt, itemLines, printedAs, printed, room}
 
@@ -129,7 +128,8 @@ module _ (p : Problem) (a : Answer) (range : FiguresInRange p) (shown : Shown (i
 
       divisor-small : Q ≤ D
       divisor-small =
-          ⊎-elim (λ z. absurd (omega (arith, d .some, z))) (λ h. h) (small-divisor Q D (gauss (natAbs P) Q D (omega (arith, d .some)) (o .lowest) (natAbs T, sizes)))
+          let e = gauss (natAbs P) Q D (omega (arith, d .some)) (o .lowest) (natAbs T, sizes) in
+          ⊎-elim (λ z. absurd (omega (arith, d .some, z))) (λ h. h) (small-divisor Q D e)
 
       numerator-small : natAbs P ≤ 160000000000000 * Q
       numerator-small = le-of-mul-le-mul-right {k = D} (go (p .count) (natAbs P) (natAbs T) Q D (range .few-items) sum-within sizes) (d .some)
@@ -180,12 +180,6 @@ lines-short steps a (suc n) l h =
     let i = item-short steps n (printedAmount a n) (stepAt a n) l (h n (omega arith)) in
     let r = lines-short steps a n (omega arith) (λ k m. h k (omega arith)) in
     omega (arith, length-append (itemLines steps a n) (itemLine steps n (printedAmount a n) (stepAt a n)), i, r)
-
--- at a place of the list every default gives its amount
-default : (l : List Fraction) (k : ℕ) (d e : Fraction) → k < length l → getD l k d ≡ getD l k e
-default [] k d e h = absurd (omega arith)
-default (x ∷ l) zero d e h = refl
-default (x ∷ l) (suc k) d e h = default l k d e (omega arith)
 
 printable : (p : Problem) (a : Answer) (steps : Bool) → FiguresInRange p → Shown (instanceOf p) (amountAt a) →
     ((k : ℕ) → k < p .count → steps ≡ true → natAbs (stepAt a k) ≤ 1000) → Each (p .count) (λ k. Printable steps (printedAmount a k) (stepAt a k))

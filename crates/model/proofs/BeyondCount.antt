@@ -41,7 +41,7 @@ module _ (m o : Model) (e : Same (asked m) (asked o)) where
       let c : m .count ≡ o .count = e .count in
       let b : m .capacity ≡ o .capacity = e .capacity in
       let i : someItem (held m) (itemAt m) badFigure ≡ someItem (held m) (itemAt o) badFigure =
-          some-same (held m) (itemAt m) (itemAt o) badFigure (λ k l. e .items k (omega (arith, held-few m))) in
+      some-same (held m) (itemAt m) (itemAt o) badFigure (λ k l. e .items k (omega (arith, held-few m))) in
       rw (i, c, b)
 
   replies-same : (s t : Instance) (a : Answer) (v w : Verdict) → Same s t → v ≡ w → RepliesAs s a v → RepliesAs t a w

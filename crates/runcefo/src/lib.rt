@@ -125,7 +125,12 @@ pub extern "C" fn charge_write(sheet: &[u8], out: &mut [u8], line: &mut u64) -> 
 // What `charge` prints for an accepted sheet, at the start of a lent buffer: 0, and written gets its length. A refusal's number, with its line
 // and length 0, and no byte changes, where the sheet is refused or, refusal 11, the buffer is shorter than the text.
 #[no_mangle]
-pub extern "C" fn charge_plan(sheet: &[u8], out: &mut [u8], written: &mut usize, line: &mut u64) -> u64
+pub extern "C" fn charge_plan(
+    sheet: &[u8],
+    out: &mut [u8],
+    written: &mut usize,
+    line: &mut u64,
+) -> u64
     ensures { λ r. ⌜ Plans (now (sheet .entry)) (now (out .entry)) (now (out .exit)) (now (written .exit)) (now (line .exit)) r ⌝ }
 {
     let w = list_sheet(sheet, out);

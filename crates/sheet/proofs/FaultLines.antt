@@ -1,7 +1,8 @@
 -- The line that a refusal tells is the line that `line_part` hands back, or there is none.
 --   Starts s k      a line begins at the place k: nothing stands before it, or a byte 10 just before it
 --   Faulty s f      the reading stopped where a line begins; f tells that line's number, and it is the line that is handed back for that number
--- refused-line (end theorem): so it is of every sheet that is refused; one that is too long is told with line 0.
+-- End theorems: refused-line: so it is of every sheet that is refused; one that is too long is told with line 0. part-closed, part-open: so `line_part` replies
+-- with that line, or with nothing if the sheet does not close it, as `check_line` says.
 -- line-from: the line behind as many line ends as stand before its start is that line. reached: where a reading can have come.
 use mathlib.Core.Path.{_≡_, refl, sym, ap, _∙_, subst}
 use mathlib.Core.Bool.{Bool, true, false, cond}
@@ -31,7 +32,7 @@ use Rattle.lines.specs.declared.Count.the-variants.{Fault, Lines}
 use Rattle.lines.specs.declared.scan.Place.{Place}
 use Rattle.lines.specs.declared.scan.Place.the-variants.{Nothing, At}
 use Rattle.lines.specs.declared.scan.Span.the-variants.{Nothing as NoLine, Line}
-use Rattle.lines.specs.Places.{onPlace, firstEnd, ends, lineAt, closedLine, refusalOn, closedOr, askedLine}
+use Rattle.lines.specs.Places.{onPlace, firstEnd, ends, lineAt, closedLine, refusalOn, closedOr, askedLine, bytesOf, linePart, verdictOf, checkLine}
 use Rattle.lines.specs.Numbers.{fromTo}
 use Rattle.lines.specs.Lines.{countAt}
 use Rattle.lines.specs.Layout.{headingText, markByte}
@@ -172,7 +173,8 @@ module _ {A : Type 0} (f : LineForm A) (Fits : Progress → A → Type 0) (laws 
 side-reached : (s : List ℕ) (side : Side) (p : Progress) → Reached s p → Reached s (boundsSection s side p)
 unfolding boundsSection
 side-reached s side p r =
-    section-reached (boundForm side) _ (bound-laws side) (λ b. line-closes (integer (pos (b .number))) (integer (b .bound) ∷ [])) s (wordOf side) 0 (p .model .count) (λ n. p .model) p (bytes side) r
+    section-reached (boundForm side) _ (bound-laws side) (λ b. line-closes (integer (pos (b .number))) (integer (b .bound) ∷ [])) s
+    (wordOf side) 0 (p .model .count) (λ n. p .model) p (bytes side) r
   where
     bytes : (side : Side) → Bytes (wordOf side)
     bytes Lower = (lit< tt, (lit< tt, (lit< tt, (lit< tt, (lit< tt, tt)))))
@@ -181,12 +183,14 @@ side-reached s side p r =
 limit-reached : (s : List ℕ) → Reached s (limitSection s)
 unfolding limitSection
 limit-reached s = section-reached limitForm _ limit-laws (λ b. line-closes (integer b) []) s limit 1 1 (λ n. emptyModel) (goesOn emptyModel 0 0)
-    (lit< tt, (lit< tt, (lit< tt, (lit< tt, (lit< tt, tt))))) (on (goesOn emptyModel 0 0) refl (record { within = omega arith; behind = λ h. absurd (omega arith) }))
+    (lit< tt, (lit< tt, (lit< tt, (lit< tt, (lit< tt, tt)))))
+    (on (goesOn emptyModel 0 0) refl (record { within = omega arith; behind = λ h. absurd (omega arith) }))
 
 head-reached : (s : List ℕ) → Reached s (headOf s)
 unfolding headOf itemsSection
 head-reached s = section-reached itemForm _ item-laws
-    (λ i. line-closes (markByte (i .mark) ∷ []) (integer (i .weight) ∷ integer (i .price) ∷ [])) s items 1 16 (λ n. withCount (limitSection s .model) n) (limitSection s)
+    (λ i. line-closes (markByte (i .mark) ∷ []) (integer (i .weight) ∷ integer (i .price) ∷ [])) s
+    items 1 16 (λ n. withCount (limitSection s .model) n) (limitSection s)
     (lit< tt, (lit< tt, (lit< tt, (lit< tt, (lit< tt, tt))))) (limit-reached s)
 
 upper-reached : (s : List ℕ) → Reached s (upperOf s)
@@ -197,7 +201,8 @@ whole-reached : (s : List ℕ) → Reached s (wholeOf s)
 unfolding wholeOf endOfSheet
 whole-reached s = onward-reached s (upperOf s) _ (upper-reached s) (λ v h. go (ltb (upperOf s .at) (length s)) v h)
   where
-    go : (b : Bool) → upperOf s .verdict ≡ Accepted → Starts s (met s (upperOf s .at)) → Reached s (cond b (refusedAt s refusal.form (upperOf s .at)) (upperOf s))
+    go : (b : Bool) → upperOf s .verdict ≡ Accepted → Starts s (met s (upperOf s .at)) →
+        Reached s (cond b (refusedAt s refusal.form (upperOf s .at)) (upperOf s))
     go true v h = off refusal.form (upperOf s .at) h
     go false v h = on (upperOf s) v h
 
@@ -220,7 +225,8 @@ faulty s n at short h =
       at = k;
       starts = h;
       line-is = ap (λ t. suc (ends t)) (met-take s at);
-      handed = rw (le-ltb 4096 (length s) short, ne-eqb (lineAt s at) 0 some, d) (ap (closedOr (lineAt s at)) (line-from s k h (ends (take at s)) 0 (omega arith) e));
+      handed = rw (le-ltb 4096 (length s) short, ne-eqb (lineAt s at) 0 some, d)
+          (ap (closedOr (lineAt s at)) (line-from s k h (ends (take at s)) 0 (omega arith) e));
     }
 
 pub refused-line : (s : List ℕ) (f : Refusal) → readSheet s .verdict ≡ Refused f → ((4096 < length s) × (f .line ≡ 0)) ⊎ Faulty s f
@@ -235,3 +241,14 @@ refused-line s f h = go (ltb 4096 (length s)) refl h
         (record { verdict = wholeOf s .verdict; model = wholeOf s .model }) .verdict ≡ Refused f → ((4096 < length s) × (f .line ≡ 0)) ⊎ Faulty s f
     go true e g = let z : refusalOn refusal.overlong 0 ≡ f = cc in inl (ltb-true 4096 (length s) e, sym (ap (λ (r : Refusal). r .line) z))
     go false e g = inr (of (wholeOf s) (ltb-false 4096 (length s) e) (whole-reached s) g)
+
+-- ---- in the words of the two entries: the part is the line, or there is none and the check says so
+
+module _ (s : List ℕ) (f : Refusal) (w : Faulty s f) where
+  pub part-closed : (e : ℕ) → firstEnd (w .at) (drop (w .at) s) ≡ At e →
+      (linePart s (f .line) ≡ take (e - w .at) (drop (w .at) s)) × (checkLine s (f .line) ≡ Accepted)
+  part-closed e h = let a = w .handed ∙ ap (λ p. closedOr (f .line) (onPlace p NoLine (λ e. Line (w .at) e))) h in (ap (bytesOf s) a, ap verdictOf a)
+
+  pub part-open : firstEnd (w .at) (drop (w .at) s) ≡ Nothing →
+      (linePart s (f .line) ≡ []) × (checkLine s (f .line) ≡ Refused (refusalOn refusal.form (f .line)))
+  part-open h = let a = w .handed ∙ ap (λ p. closedOr (f .line) (onPlace p NoLine (λ e. Line (w .at) e))) h in (ap (bytesOf s) a, ap verdictOf a)
