@@ -1,4 +1,5 @@
-// Entries for programs in C and Rust, on bytes and numbers: a sheet's verdict, its reply in a lent buffer, and how much work it is. include/runcefo.h declares them. Paper 01, "The sheet" and "What `charge` prints". Nothing is asked of a caller but that each
+// Entries for programs in C and Rust, on bytes and numbers: a sheet's verdict, its reply in a lent buffer, and how much work it is.
+// include/runcefo.h declares them. Paper 01, "The sheet" and "What `charge` prints". Nothing is asked of a caller but that each
 // pointer has as many bytes behind it as the length beside it says.
 use knapsack::Verdict;
 use model::plain_of;

@@ -31,7 +31,8 @@ with-work-requires c κs = search needs
 returns : tie.Need-returns
 returns c =
     let h = c .before in
-    let b = h .before .before .before .before in
+    let m = h .before .before in
+    let b = m .before .before in
     let a = b .before in
     let q = a .prepare .ensures in
     let s = a .prepare .result in
@@ -49,8 +50,9 @@ find-ray-requires c κs = search needs
 
 unbounded-requires : tie.Need-unbounded-requires
 unbounded-requires c κs =
-    let at-prepare = c .before .before .before .before .before .before .before in
-    at-prepare .prepare .ensures .ready .sized
+    let r = c .before .before .before in
+    let b = r .before .before .before in
+    b .before .prepare .ensures .ready .sized
 
 with-work-requires-2 : tie.Need-with-work-requires-2
 with-work-requires-2 c κs = search needs
@@ -105,8 +107,7 @@ unfolding Prep
 best-place-requires c κs =
     let n = c .before in
     let q = near n in
-    let s = Prep (n .before .before) .before in
-    (
+    let s = Prep (n .before .before) .before in (
       record {
         setting = q .ready;
         true-pairs = c .pairs-of .ensures .ready (n .narrowed .result .cols) (record { weights-agree = q .weights; prices-agree = q .prices });
@@ -179,9 +180,7 @@ with-work-requires-3 : tie.Need-with-work-requires-3
 with-work-requires-3 c κs = search needs
 
 -- the search's own count
-walked : (n : tie.After-best-place) →
-    let start = n .before .before .before .before in
-    let s = Prep start .before in
+walked : (n : tie.After-best-place) → let w = n .before .before in let s = Prep (w .before .before) .before in
     Walked (s .args .most) (s .args .p) (n .best-place .result .steps)
 unfolding Prep
 walked n = record {
