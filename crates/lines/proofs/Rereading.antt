@@ -32,7 +32,7 @@ use Rattle.lines.specs.declared.ItemRead.the-variants.{Read as ItemIs}
 use Rattle.lines.specs.declared.BoundField.the-variants.{In as Bounded}
 use Rattle.lines.specs.declared.BoundRead.the-variants.{Read as BoundIs}
 use Rattle.lines.specs.Places.{byteAt, afterByte, afterWord}
-use Rattle.lines.specs.Numbers.{isDigit, digitRun, numeral, signedOf, unsignedAt, numberAt, fromTo, ranged, fieldAt}
+use Rattle.lines.specs.Numbers.{isDigit, digitRun, numeral, signedOf, unsignedAt, numberAt, fromTo, only, ranged, fieldAt}
 use Rattle.lines.specs.Lines.{headingLine, numbersLine, markAt, weights, prices, itemLine, countAt, itemRead, boundField, boundRead}
 use Rattle.lines.specs.Layout.{headingText, numbersText, markByte, itemText, absentWord, boundWord, Bounding, boundText}
 use Rattle.lines.proofs.Numerals.{leading-yes, run-append}
@@ -175,7 +175,7 @@ pub bound-reads : (s : List ℕ) (at : ℕ) (b : Bounding) (l : List ℕ) → ba
 unfolding boundRead
 bound-reads s at b l f h =
     let k = b .number in
-    let due : ranged (fromTo k k) (pos k) ≡ In (pos k) = rw (le-ltb k k (omega arith)) in
-    let p = field-reads 32 (fromTo k k) s at (pos k) (boundWord (b .bound) ++ (10 ∷ l)) refl due (h ∙ simp append-assoc) in
+    let due : ranged (only k) (pos k) ≡ In (pos k) = rw (le-ltb k k (omega arith)) in
+    let p = field-reads 32 (only k) s at (pos k) (boundWord (b .bound) ++ (10 ∷ l)) refl due (h ∙ simp append-assoc) in
     let q = bound-field-reads s (p .0) (b .bound) l f (p .2) in
     (q .0, rw (p .1, q .1), q .2)

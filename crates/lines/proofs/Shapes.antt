@@ -33,7 +33,7 @@ use Rattle.lines.specs.declared.BoundRead.the-variants.{Fault as BoundFa
 use Rattle.model.specs.Refusals as refusal
 use Rattle.lines.specs.Places.{afterByte, afterWord, onPlace}
 use Rattle.lines.specs.Faults.{faultAt}
-use Rattle.lines.specs.Numbers.{Numeral, none, numeral, numberAt, fromTo, ranged, inRange, closedBy, fieldAt}
+use Rattle.lines.specs.Numbers.{Numeral, none, numeral, numberAt, fromTo, only, ranged, inRange, closedBy, fieldAt}
 use Rattle.lines.specs.Lines.{onField, headingLine, numbersLine, markAt, weights, withNumbers, marked, itemLine, itemOf, itemRead, countOf}
 use Rattle.lines.specs.Lines.{countAt, figured, boundField, boundOf, boundRead, prices}
 use Rattle.lines.specs.Layout.{absentWord}
@@ -217,17 +217,17 @@ bound-shape s at b end h = go (afterWord s at absentWord) refl h
 
 pub record BoundParts (k : ℕ) (s : List ℕ) (at : ℕ) (b : Bound) (end : ℕ) : Type 0 where
   pub next : ℕ
-  pub number : fieldAt 32 (fromTo k k) s at ≡ Number (In (pos k)) next
+  pub number : fieldAt 32 (only k) s at ≡ Number (In (pos k)) next
   pub bound : boundField s next ≡ Bounded b end
 
 pub bound-parts : (k : ℕ) (s : List ℕ) (at : ℕ) (b : Bound) (end : ℕ) → boundRead k s at ≡ BoundIs b end → BoundParts k s at b end
 unfolding boundRead
-bound-parts k s at b end h = go (fieldAt 32 (fromTo k k) s at) refl h
+bound-parts k s at b end h = go (fieldAt 32 (only k) s at) refl h
   where
     fault : {n : ℕ} → BoundFault n ≡ BoundIs b end → BoundParts k s at b end
     fault h = absurd (let z : _≡_ {A = ℕ} 0 1 = cc in omega arith)
 
-    last : (x : Ranged) (n : ℕ) → fieldAt 32 (fromTo k k) s at ≡ Number x n → (y : BoundField) → boundField s n ≡ y → boundOf y x ≡ BoundIs b end →
+    last : (x : Ranged) (n : ℕ) → fieldAt 32 (only k) s at ≡ Number x n → (y : BoundField) → boundField s n ≡ y → boundOf y x ≡ BoundIs b end →
         BoundParts k s at b end
     last x n e (NoBound j) f h = fault h
     last Out n e OutBound f h = fault h
@@ -236,12 +236,12 @@ bound-parts k s at b end h = go (fieldAt 32 (fromTo k k) s at) refl h
     last (In z) n e (Bounded c m) f h =
         let u : c ≡ b = cc in
         let v : m ≡ end = cc in
-        let q = field-range 32 (fromTo k k) s at z n e in
-        let o = between k k z (q .0) (q .1) in
+        let q = field-range 32 (only k) s at z n e in
+        let o = between _ _ z (q .0) (q .1) in
         let w : natAbs z ≡ k = omega (arith, o .1 .0, o .1 .1) in
         record { next = n; number = e ∙ ap (λ j. Number (In j) n) (o .0 ∙ ap pos w); bound = f ∙ rw (u, v) }
 
-    go : (x : Field) → fieldAt 32 (fromTo k k) s at ≡ x → onField x (λ e. BoundFault e) (λ x n. boundOf (boundField s n) x) ≡ BoundIs b end →
+    go : (x : Field) → fieldAt 32 (only k) s at ≡ x → onField x (λ e. BoundFault e) (λ x n. boundOf (boundField s n) x) ≡ BoundIs b end →
         BoundParts k s at b end
     go (Fault n) e h = fault h
     go (Number x n) e h = last x n e (boundField s n) refl h

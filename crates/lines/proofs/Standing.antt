@@ -35,7 +35,7 @@ use Rattle.lines.specs.declared.ItemRead.the-variants.{Read as ItemIs}
 use Rattle.lines.specs.declared.BoundField.the-variants.{In as Bounded}
 use Rattle.lines.specs.declared.BoundRead.the-variants.{Read as BoundIs}
 use Rattle.lines.specs.Places.{byteAt, afterByte, onPlace, afterWord}
-use Rattle.lines.specs.Numbers.{isLeading, digitRun, none, numeral, signedOf, unsignedAt, numberAt, fromTo, fieldAt}
+use Rattle.lines.specs.Numbers.{isLeading, digitRun, none, numeral, signedOf, unsignedAt, numberAt, fromTo, only, fieldAt}
 use Rattle.lines.specs.Lines.{numbersLine, markAt, weights, prices, countAt, itemRead, boundField, boundRead}
 use Rattle.lines.specs.Layout.{headingText, numbersText, markByte, itemText, absentWord, boundWord, bounding, boundText}
 use Rattle.lines.proofs.Places.{nowhere}
@@ -177,4 +177,4 @@ bound-field-has s at (Present v) n h = field-has 10 prices s at v n (lit< tt) (b
 pub bound-has : (k : ℕ) (s : List ℕ) (at : ℕ) (b : Bound) (n : ℕ) → boundRead k s at ≡ BoundIs b n → Has s at (boundText (bounding k b)) n
 bound-has k s at b n h =
     let p = bound-parts k s at b n h in
-    has-join (field-has 32 (fromTo k k) s at (pos k) (p .next) (lit< tt) (p .number)) (bound-field-has s (p .next) b n (p .bound))
+    has-join (field-has 32 (only k) s at (pos k) (p .next) (lit< tt) (p .number)) (bound-field-has s (p .next) b n (p .bound))

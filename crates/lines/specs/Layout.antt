@@ -1,4 +1,4 @@
--- The text of a sheet's lines. Paper 01, "The sheet"; fields and line ends are those of every text (crate text, specs/Layout).
+-- The text of a sheet's lines. Paper 01, "The sheet", and paper 02, request 6; fields and line ends are those of every text (crate text, specs/Layout).
 --   headingText w n    a section's first line
 --   numbersText x y    two numbers
 --   markByte m         `W` or `L`

@@ -1,4 +1,4 @@
--- The lines of a sheet. Paper 01, "The sheet" and "Refused, by place".
+-- The lines of a sheet. Paper 01, "The sheet" and "Refused, by place", and paper 02, requests 3 and 6.
 -- The form of a line, which gives the fault of its leftmost wrong field (specs/Faults), or its numbers by the ranges asked for:
 --   onField x a f           f of the number and the place behind it, or a of the field's fault
 --   headingLine w r s at    word and count
@@ -39,7 +39,7 @@ use Rattle.lines.specs.declared.BoundRead.{BoundRead}
 use Rattle.lines.specs.declared.BoundRead.the-variants.{Fault as BoundFault, Read as BoundIs}
 use Rattle.lines.specs.Places.{afterByte, afterWord, onPlace}
 use Rattle.lines.specs.Faults.{faultAt}
-use Rattle.lines.specs.Numbers.{fromTo, fieldAt}
+use Rattle.lines.specs.Numbers.{only, fieldAt}
 use Rattle.lines.specs.Layout.{absentWord}
 
 abbrev pub onField : {A : Type 0} → Field → (ℕ → A) → (Ranged → ℕ → A) → A
@@ -119,4 +119,4 @@ boundOf OutBound x = inTurn x (BoundFault refusal.figure)
 boundOf (Bounded b n) x = inTurn x (BoundIs b n)
 
 unfoldable pub boundRead : ℕ → List ℕ → ℕ → BoundRead
-boundRead k s at = onField (fieldAt 32 (fromTo k k) s at) (λ e. BoundFault e) (λ x n. boundOf (boundField s n) x)
+boundRead k s at = onField (fieldAt 32 (only k) s at) (λ e. BoundFault e) (λ x n. boundOf (boundField s n) x)

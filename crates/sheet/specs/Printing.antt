@@ -1,4 +1,5 @@
--- The sheet that paper 01 lays out for a record ("The sheet"): a sheet is accepted exactly if it is the printing of its record (proofs/Sheets.antt).
+-- The sheet that the papers lay out for a record (01, "The sheet"; 02, request 6): a sheet is accepted exactly if it is the printing of its record
+-- (proofs/Sheets.antt).
 -- Its lines are the forms' (specs/Reading.antt), so a reader and a writer share it. Lists of lines have the last in front, as a loop leaves them.
 --   upTo n f            f of the places below n
 --   sideOf side i       an item's bound

@@ -1,4 +1,4 @@
--- The reader. Paper 01, "The sheet" and "Refused, by place": the sheet's first fault in reading order, or its record.
+-- The reader. Paper 01, "The sheet" and "Refused, by place", and paper 02, requests 3 and 6: the sheet's first fault in reading order, or its record.
 --   limit, items, wordOf side    the heading words
 --   limits                       the range of the limit
 --   limitForm, itemForm, boundForm side    the kinds of line, which give what limitGives, itemGives, boundGives say
@@ -31,7 +31,7 @@ use Rattle.lines.specs.declared.ItemRead.the-variants.{Fault as ItemFault, Read
 use Rattle.lines.specs.declared.BoundRead.{BoundRead}
 use Rattle.lines.specs.declared.BoundRead.the-variants.{Fault as BoundFault, Read as BoundIs}
 use Rattle.lines.specs.Places.{refusalOn}
-use Rattle.lines.specs.Numbers.{fromTo, fieldAt}
+use Rattle.lines.specs.Numbers.{fromTo, only, fieldAt}
 use Rattle.lines.specs.Lines.{itemRead, boundRead}
 use Rattle.lines.specs.Layout.{itemText, Bounding, bounding, boundText}
 use Rattle.sheet.specs.declared.Progress.{Progress}
@@ -98,7 +98,7 @@ boundForm side = record {
 }
 
 unfoldable pub boundsSection : List ℕ → Side → Progress → Progress
-boundsSection s side p = sectionOf (boundForm side) (wordOf side) (fromTo (p .model .count) (p .model .count)) (λ n. p .model) s p
+boundsSection s side p = sectionOf (boundForm side) (wordOf side) (only (p .model .count)) (λ n. p .model) s p
 
 -- ---- behind the last section
 unfoldable pub endOfSheet : List ℕ → Progress → Progress

@@ -22,7 +22,7 @@ ghost use mathlib.Core.Path.{_≡_};
 ghost use Prim.Native.Nat.{suc, _+_, _≤_, _<_};
 ghost use Rattle.model.specs.Records.{emptyModel};
 ghost use Rattle.model.specs.Setters.{withItem, withBound};
-ghost use Rattle.lines.specs.Numbers.{fromTo};
+ghost use Rattle.lines.specs.Numbers.{only};
 ghost use Rattle.lines.specs.Lines.{countAt};
 ghost use Rattle.sheet.specs.Sections.{goesOn, stoppedBy, refusedAt, stepOf, linesOf};
 ghost use Rattle.sheet.specs.Reading.{wordOf, limitForm, itemForm, boundForm, limitSection, itemsSection, boundsSection, endOfSheet};
@@ -219,7 +219,7 @@ fn bound_lines(s: &[u8], side: Side, n: usize, p: Progress) -> Progress
 // The heading of a section of bounds, over n items.
 fn bounds_heading(s: &[u8], side: Side, at: usize, n: usize) -> Count
     requires { ⌜ n ≤ 16 ⌝ }
-    ensures { λ r. ⌜ r ≡ countAt (wordOf side) (fromTo n n) (now (s .entry)) at ⌝ }
+    ensures { λ r. ⌜ r ≡ countAt (wordOf side) (only n) (now (s .entry)) at ⌝ }
 {
     let due = n as i64;
     let range = Range { lo: due, hi: due };

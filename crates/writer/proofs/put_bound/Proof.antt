@@ -19,7 +19,8 @@ same-length c = search needs
 returns : tie.Need-returns
 returns c =
     let w = c .before .before in
-    let n = w .before .before .before .before in
+    let e = w .before .before in
+    let n = e .before .before in
     let s = n .before .before .before in
     let f = puts (omega arith) (n .put-natural .ensures) (w .put-bound-word .ensures) in
     record { short = bound-short (bounding (s .args .k) (s .args .b)) (s .pre .1 .0) (s .pre .1 .1); next = f .next; bytes = f .bytes }

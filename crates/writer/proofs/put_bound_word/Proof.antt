@@ -30,7 +30,8 @@ same-length c = search needs
 returns : tie.Need-returns
 returns c =
     let b = c .before .before in
-    let w = b .before .before .before .before in
+    let e = b .before .before in
+    let w = e .before .before in
     rw (w .before .before .before .enum-told .given .1) (roomier (omega arith) (puts (omega arith) (w .put-word .ensures) (b .put-byte .ensures)))
 
 same-length-2 : tie.Need-same-length-2
