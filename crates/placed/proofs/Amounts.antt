@@ -84,6 +84,7 @@ module _ (s : Instance) (c : Columns) (o : ColumnsOf s c) (e : Ends) (f : Fill) 
       lowest = λ k l. rw (shows k l) (lowest-coprime (numerator c e f D k) D D≥1);
       single = λ j k l m nj nk. sym (o .item-rank j (inner j l)) ∙ ap (itemOf c) (critical j l nj .0 ∙ sym (critical k m nk .0)) ∙ o .item-rank k (inner k m);
       divides = λ k l n. subst₂ Divides (ap (λ (z : Fraction). z .q) (sym (shows k l)))
-          (parts-critical c f (o .sizes) k (o .item-rank k (inner k l)) (critical k l n .0) (critical k l n .1) ∙ ap natAbs (o .own-weight k l)) (lowest-divides (numerator c e f D k) D D≥1);
+          (parts-critical c f (o .sizes) k (o .item-rank k (inner k l)) (critical k l n .0) (critical k l n .1) ∙ ap natAbs (o .own-weight k l))
+          (lowest-divides (numerator c e f D k) D D≥1);
       beyond = beyond;
     }
