@@ -60,7 +60,7 @@ uint64_t charge_write(const uint8_t *sheet, size_t length, uint8_t *out, size_t 
 /* How many steps the search takes for a sheet, at most 1,000 (proved); 0 if it is refused or needs no search. */
 uint64_t charge_steps(const uint8_t *sheet, size_t length);
 
-/* How many cells the scales write for a sheet, at most 3,133,397,487 (proved); 0 if its search ends, or if there is none. */
+/* How many cells the scales write for a sheet, at most 28,960,188,895 (proved); 0 if its search ends and no first point is owed. */
 uint64_t charge_cells(const uint8_t *sheet, size_t length);
 
 #ifdef __cplusplus

@@ -68,7 +68,8 @@ led-first s c y P b l lv x sh w = record {
   shows = sh;
   just = λ marks m. subst (λ d. LosesJust (l .top) (l .q) (valueᴰ (boxOf c (s .ends) marks)) (l .num) d (parts c (endsAt s P)) (filling c (endsAt s P)))
       (sym (lv .den-is)) (own (parts c (endsAt s P)) (l .q) (l .num) (l .top) (valueᴰ (boxOf c (s .ends) marks) (filling c (endsAt s P)))
-      (lv .num-is ∙ ap (λ z. l .top *ℤ pos (parts c (endsAt s P)) -ℤ pos (l .q) *ℤ z) (sym (filling-worth c (endsAt s P) marks (y .tied .tied) (y .tied .rated) (worth-room s c y P b)))));
+      (lv .num-is ∙ ap (λ z. l .top *ℤ pos (parts c (endsAt s P)) -ℤ pos (l .q) *ℤ z)
+      (sym (filling-worth c (endsAt s P) marks (y .tied .tied) (y .tied .rated) (worth-room s c y P b)))));
   leads = λ marks m u i. absurd (omega arith);
   few = omega arith;
 }
@@ -141,7 +142,8 @@ module _ (s : Setting) (c : Columns) (y : Tying s c) (l : Optimum) (g : IsLosing
   parts-in = let m = some-marks s in place-parts s c y (h .place) (h .inside) (m .0) (m .1) (h .room)
 
   -- points of a frame are feasible
-  frame-all : (marks : ℕ → Mark) → Marked s marks → (X : ℕ → ℤ) → FramePoint c e marks t X → LosesMore (l .top) (l .q) (worth marks) (l .num) (l .den) (scaleOf c t) X
+  frame-all : (marks : ℕ → Mark) → Marked s marks → (X : ℕ → ℤ) → FramePoint c e marks t X → LosesMore (l .top) (l .q) (worth marks) (l .num) (l .den)
+      (scaleOf c t) X
   frame-all marks m X x = g .all marks m (scaleOf c t) X (scale-in c t (y .tied .sized) .0) (x .feasible)
 
   pub led-apart : 0 < (scaleOf c t * l .num) % l .den → Led s c l (t + 1) b
@@ -181,7 +183,8 @@ module _ (s : Setting) (c : Columns) (y : Tying s c) (l : Optimum) (g : IsLosing
         where
           go : (marks (itemOf c t) ≡ Integer) ⊎ (marks (itemOf c t) ≡ Continuous) → marks (itemOf c t) ≡ Continuous
           go (inr k) = k
-          go (inl k) = absurd (impossible (sym (usable i .loose) ∙ unmarked marks m (itemOf c t) (y .tied .tied .item-in t (omega (arith, y .tied .tied .live-in))) k))
+          go (inl k) = absurd (impossible (sym (usable i .loose) ∙ unmarked marks m (itemOf c t)
+              (y .tied .tied .item-in t (omega (arith, y .tied .tied .live-in))) k))
 
       loss-same : (marks : ℕ → Mark) (X : ℕ → ℤ) → lossOf (l .p) (l .q) c e E X ≡ lossBy (l .top) (l .q) (worth marks) E X
       unfolding lossOf
@@ -197,14 +200,16 @@ module _ (s : Setting) (c : Columns) (y : Tying s c) (l : Optimum) (g : IsLosing
       pub floor-made : FrameFloor (l .p) (l .q) c e w t r
       floor-made = record {
         floor = λ e′ fr M p. subst (λ z. pos r ≤ℤ z) (sym (loss-same (some-marks s .0) M))
-            (frame-floor c e (some-marks s .0) (y .tied .tied) few (wholeAt w) (marked (some-marks s .0) (some-marks s .1)) (unmarked (some-marks s .0) (some-marks s .1))
+            (frame-floor c e (some-marks s .0) (y .tied .tied) few (wholeAt w) (marked (some-marks s .0) (some-marks s .1))
+            (unmarked (some-marks s .0) (some-marks s .1))
             t e′ (fr .low) (fr .high) (l .top) (l .q) (l .num) (l .den) r (g .q≥1) (g .den≥1) over (frame-all (some-marks s .0) (some-marks s .1))
             (tied-order s c y) (free (some-marks s .0) (some-marks s .1)) M (from e′ M p));
       }
 
       module _ (x : Seen) (q : FrameFirst (l .p) (l .q) c e w t r x) where
         pub led-none : x .found ≡ false → (z : Lead) → z .point ≡ b .point → z .written ≡ b .written + x .written → Led s c l (t + 1) z
-        led-none n z p i = kept z p (omega (arith, q .few)) (λ marks m fr. frame-none c e marks (y .tied .tied) few (wholeAt w) (marked marks m) (unmarked marks m)
+        led-none n z p i = kept z p (omega (arith, q .few)) (λ marks m fr. frame-none c e marks (y .tied .tied) few (wholeAt w) (marked marks m)
+            (unmarked marks m)
             t (framedEnds c e w t) (framed-ends c e w t few .low) (framed-ends c e w t few .high) (l .top) (l .q) (l .num) (l .den) r (g .q≥1) (g .den≥1) over
             (frame-all marks m) (parts c f) (filling c f) parts-in (h .just marks m)
             (λ M pt. subst (λ a. pos r <ℤ a) (loss-same marks M) (q .none n (framedEnds c e w t) (framed-ends c e w t few) M (to (framedEnds c e w t) M pt))))
@@ -240,7 +245,8 @@ module _ (s : Setting) (c : Columns) (y : Tying s c) (l : Optimum) (g : IsLosing
           -- it leads its frame
           leads-own : (marks : ℕ → Mark) → Marked s marks → LeadsFrame c e marks E Y t
           leads-own marks m = frame-leads c e marks (y .tied .tied) few (wholeAt w) (marked marks m) (unmarked marks m) t (first .ends) (first .framed .low)
-              (first .framed .high) (l .top) (l .q) (l .num) (l .den) r (g .q≥1) (g .den≥1) over (frame-all marks m) Y (sym (loss-same marks Y) ∙ first .loses)
+              (first .framed .high) (l .top) (l .q) (l .num) (l .den) r (g .q≥1) (g .den≥1) over (frame-all marks m) Y
+              (sym (loss-same marks Y) ∙ first .loses)
               (λ M p i. turn (first .first M (to (first .ends) M p) (loss-same marks M ∙ i)))
             where
               turn : {M : ℕ → ℤ} → least.NotAfter (c .count) Y M → order.NotAfter (c .count) Y M
@@ -280,7 +286,8 @@ module _ (s : Setting) (c : Columns) (y : Tying s c) (l : Optimum) (g : IsLosing
 
             just-new : (marks : ℕ → Mark) → Marked s marks → LosesJust (l .top) (l .q) (worth marks) (l .num) (l .den) (parts c f′) (filling c f′)
             just-new marks m = loses-as-much (l .top) (l .q) (worth marks) (l .num) (l .den) (g .q≥1) (g .den≥1) E (parts c f′) Y (filling c f′)
-                (is-loss (l .num) (l .den) E r (lossBy (l .top) (l .q) (worth marks) E Y) over (sym (loss-same marks Y) ∙ first .loses)) E≥1 (more-new marks m)
+                (is-loss (l .num) (l .den) E r (lossBy (l .top) (l .q) (worth marks) E Y) over (sym (loss-same marks Y) ∙ first .loses)) E≥1
+                (more-new marks m)
                 (over-own marks m .worth)
 
             pub led-sooner : Led s c l (t + 1) z
@@ -288,9 +295,11 @@ module _ (s : Setting) (c : Columns) (y : Tying s c) (l : Optimum) (g : IsLosing
               where
                 go : ((z .point ≡ b .point) × NoLater (c .count) (pointIn (b .point)) (pointIn (o .other)))
                     ⊎ ((z .point ≡ o .other) × NoLater (c .count) (pointIn (o .other)) (pointIn (b .point))) → Led s c l (t + 1) z
-                go (inl (i, n)) = kept z i (omega (arith, q .few, few-z)) (λ marks m fr. frame-trans c e marks (y .tied .tied) (parts c f) (parts c f′) (filling c f)
+                go (inl (i, n)) = kept z i (omega (arith, q .few, few-z)) (λ marks m fr. frame-trans c e marks (y .tied .tied) (parts c f) (parts c f′)
+                    (filling c f)
                     (filling c f′) t parts-in parts′ (record {
-                      worth = loses-worth (l .top) (l .q) (worth marks) (l .num) (l .den) (g .q≥1) (g .den≥1) (parts c f) (parts c f′) (filling c f) (filling c f′)
+                      worth = loses-worth (l .top) (l .q) (worth marks) (l .num) (l .den) (g .q≥1) (g .den≥1) (parts c f) (parts c f′) (filling c f)
+                          (filling c f′)
                           (h .just marks m) (more-new marks m);
                       sooner = λ k. no-later c f f′ (place-sized s c y (h .place) (h .inside)) (place-sized s c y P inside) (b .point) (o .other) (h .shows)
                           (o .shows) n;
@@ -303,7 +312,8 @@ module _ (s : Setting) (c : Columns) (y : Tying s c) (l : Optimum) (g : IsLosing
                   just = just-new;
                   leads = λ marks m. next (λ u. Frame c e marks u → LeadsFrame c e marks (parts c f′) (filling c f′) u)
                       (λ u j fr. frame-trans c e marks (y .tied .tied) (parts c f′) (parts c f) (filling c f′) (filling c f) u parts′ parts-in (record {
-                        worth = loses-worth (l .top) (l .q) (worth marks) (l .num) (l .den) (g .q≥1) (g .den≥1) (parts c f′) (parts c f) (filling c f′) (filling c f)
+                        worth = loses-worth (l .top) (l .q) (worth marks) (l .num) (l .den) (g .q≥1) (g .den≥1) (parts c f′) (parts c f) (filling c f′)
+                            (filling c f)
                             (just-new marks m) (more-old marks m);
                         sooner = λ k. no-later c f′ f (place-sized s c y P inside) (place-sized s c y (h .place) (h .inside)) (o .other) (b .point)
                             (o .shows) (h .shows) n;
@@ -324,7 +334,8 @@ led-done s c y l b h = record {
   room = h .room;
   shows = h .shows;
   first = λ marks m. foremost-of-frames c (s .ends) marks (y .tied .tied) (tied-order s c y) (parts c (endsAt s (h .place)))
-      (filling c (endsAt s (h .place))) (place-parts s c y (h .place) (h .inside) marks m (h .room)) (place-feasible s c y (h .place) (h .inside) marks m (h .room))
+      (filling c (endsAt s (h .place))) (place-parts s c y (h .place) (h .inside) marks m (h .room))
+      (place-feasible s c y (h .place) (h .inside) marks m (h .room))
       (λ t fr. h .leads marks m t (below marks fr) fr);
   few = omega (arith, h .few, y .tied .sized .live-few);
 }

@@ -13,8 +13,8 @@ use lib.Signed.{_≤ℤ_, _<ℤ_}
 use Rattle.arith.specs.Fractions.{Frac, frac, _<ᶠ_, _≈ᶠ_}
 use Rattle.arith.specs.declared.Fraction.{Fraction}
 use Rattle.arith.proofs.Integers.{≤ℤ-antisym}
-use Rattle.foremost.specs.Foremost.{Earlier}
 use Rattle.firsts.specs.Order.{amountIn, pointIn, SmallFraction}
+use Rattle.knapsack.specs.Meaning.{Earlier}
 
 abbrev pub Alike : List Fraction → List Fraction → ℕ → Type 0
 Alike x y k = (j : ℕ) → j < k → pointIn x j ≈ᶠ pointIn y j

@@ -57,7 +57,10 @@ markBy (inr x) = Continuous
 
 pub some-marks : (s : Setting) → (marks : ℕ → Mark) × Marked s marks
 unfolding markBy
-some-marks s = (λ k. markBy (find s (s .levels) k), record { integer = λ d l. own d l (find s (s .levels) (levelAt s d)); level = λ k l m. back k (find s (s .levels) k) m })
+some-marks s = (
+  λ k. markBy (find s (s .levels) k),
+  record { integer = λ d l. own d l (find s (s .levels) (levelAt s d)); level = λ k l m. back k (find s (s .levels) k) m },
+)
   where
     own : (d : ℕ) → d < s .levels → (r : Level s (s .levels) (levelAt s d) ⊎ ((i : ℕ) → i < s .levels → levelAt s i ≢ levelAt s d)) → markBy r ≡ Integer
     own d l (inl x) = refl
@@ -80,7 +83,8 @@ module _ (s : Setting) (c : Columns) (y : Tying s c) where
   tied-sized = record { columns = y .tied .sized; ends = y .ready .sized .ends }
 
   pub tied-spanned : Spanned c (s .ends)
-  tied-spanned k l = subst (λ w. natAbs (at w k) * natAbs (at (s .ends .hi) k -ℤ at (s .ends .lo) k) ≤ 900000000) (sym (y .tied .weight)) (y .spanned k (inner k l))
+  tied-spanned k l = subst (λ w. natAbs (at w k) * natAbs (at (s .ends .hi) k -ℤ at (s .ends .lo) k) ≤ 900000000) (sym (y .tied .weight))
+      (y .spanned k (inner k l))
 
   pub tied-ranked : Ranked c
   tied-ranked = record { item-in = y .tied .tied .item-in; live-in = y .tied .tied .live-in; sizes = y .tied .tied .sizes }

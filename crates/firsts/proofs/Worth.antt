@@ -77,7 +77,8 @@ unfolding lossOf topOf
 tied-loss c r e p q E N t = go (r .weight) (r .price) (r .count) (r .capacity) (t .weight) (t .price) (t .count) (t .capacity)
   where
     lossBy : List ℤ → List ℤ → ℕ → ℤ → ℤ
-    lossBy w v n b = (pos p *ℤ b +ℤ sum n (λ k. scoreBy p q (at w k) (at v k) *ℤ goodEnd (scoreBy p q (at w k) (at v k)) (at (e .lo) k) (at (e .hi) k))) *ℤ pos E
+    lossBy w v n b = (pos p *ℤ b +ℤ sum n (λ k. scoreBy p q (at w k) (at v k) *ℤ goodEnd (scoreBy p q (at w k) (at v k)) (at (e .lo) k)
+        (at (e .hi) k))) *ℤ pos E
         -ℤ pos q *ℤ sum n (λ k. at v k *ℤ N k)
 
     go : (w v : List ℤ) (n : ℕ) (b : ℤ) → w ≡ c .weight → v ≡ c .price → n ≡ c .count → b ≡ c .capacity
@@ -133,7 +134,8 @@ module _ (s : Setting) (c : Columns) (y : Tying s c) (v : Mixed) (b : IsWorth s 
       above = subst (λ z. pos 0 ≤ℤ (top *ℤ pos (v .parts) -ℤ pos q *ℤ z)) (b .value-is)
           (subst (λ z. pos 0 ≤ℤ z) (loss-of (v .parts) (b .point)) (loss≥0 p q c (s .ends) marks (v .parts) (b .point) feasible));
       below = less (v .parts) q top (valueOf c (little .point)) (over v) parts≥1
-          (subst (λ z. z <ℤ pos 10000000) (sym (tied-loss (s .cols) c (s .ends) p q 1 (little .point) (y .tied)) ∙ loss-of 1 (little .point)) (little .little))
+          (subst (λ z. z <ℤ pos 10000000) (sym (tied-loss (s .cols) c (s .ends) p q 1 (little .point) (y .tied)) ∙ loss-of 1 (little .point))
+          (little .little))
           (subst (λ z. (valueOf c (little .point) *ℤ pos (v .parts)) ≤ℤ (z *ℤ pos 1)) (b .value-is)
           (b .optimal marks marked .highest 1 (little .point) (omega arith)
           (subst (λ i. Feasibleᴰ i 1 (little .point)) (sym (tied-box (s .cols) c (s .ends) marks (y .tied))) (little .feasible marks))));
@@ -176,7 +178,8 @@ fits-made top q v q-in t pv f = go (top -ℤ pos q *ℤ v .whole) refl
     near t n h k = within-abs (t -ℤ pos n) (within-sub (abs-within t h) (abs-within (pos n) k))
 
     go : (z : ℤ) → top -ℤ pos q *ℤ v .whole ≡ z → Fits top q v
-    go (negsuc n) e = absurd (off n m (q * i) (omega (arith, pv .low)) (subst (λ x. pos 0 ≤ℤ x) (apart top (v .whole) q m i ∙ ap (λ x. x *ℤ pos m -ℤ pos (q * i)) e) (f .above)))
+    go (negsuc n) e = absurd (off n m (q * i) (omega (arith, pv .low)) (subst (λ x. pos 0 ≤ℤ x)
+        (apart top (v .whole) q m i ∙ ap (λ x. x *ℤ pos m -ℤ pos (q * i)) e) (f .above)))
       where
         off : (n m j : ℕ) → 1 ≤ m → pos 0 ≤ℤ (negsuc n *ℤ pos m -ℤ pos j) → ⊥
         off n m j h = simp zed (λ k. omega (arith, mul-le-mul-left (suc n) h))
@@ -184,7 +187,8 @@ fits-made top q v q-in t pv f = go (top -ℤ pos q *ℤ v .whole) refl
       whole = n;
       whole-is = sym e;
       small = small;
-      product = subst (λ x. Within 100000000010001000 x) (sym (back top (pos q *ℤ v .whole) n e)) (abs-within (top -ℤ pos n) (near top n (within-abs top t) small));
+      product = subst (λ x. Within 100000000010001000 x) (sym (back top (pos q *ℤ v .whole) n e))
+          (abs-within (top -ℤ pos n) (near top n (within-abs top t) small));
       part = part;
       num-is = num;
       num-in = under;

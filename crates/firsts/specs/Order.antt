@@ -13,8 +13,7 @@ use lib.ListN.{getD}
 use Rattle.arith.specs.Fractions.{frac, _≈ᶠ_}
 use Rattle.arith.specs.Within.{Within}
 use Rattle.arith.specs.declared.Fraction.{Fraction}
-use Rattle.knapsack.specs.Meaning.{Point, nought}
-use Rattle.foremost.specs.Foremost.{Earlier}
+use Rattle.knapsack.specs.Meaning.{Point, nought, Earlier}
 
 abbrev pub amountIn : List Fraction → ℕ → Fraction
 amountIn l k = getD l k nought

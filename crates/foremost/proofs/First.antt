@@ -18,10 +18,9 @@ use Rattle.greedy.proofs.Relaxed.{boxOf, InOrder}
 use Rattle.knapsack.proofs.Bridge.{Reads}
 use Rattle.knapsack.proofs.Common.{valueᴰ, Feasibleᴰ}
 use Rattle.knapsack.proofs.Reach.{NoRay, RangesAt, Reaches, shutAt}
-use Rattle.knapsack.specs.Meaning.{Instance, Point, Optimal}
+use Rattle.knapsack.specs.Meaning.{Instance, Point, Optimal, Foremost, AllLower}
 use Rattle.knapsack.specs.declared.Bound.the-variants.{At}
 use Rattle.knapsack.specs.declared.Mark.{Mark}
-use Rattle.foremost.specs.Foremost.{Foremost, AllLower}
 use Rattle.foremost.specs.Order.{TiedOf}
 use Rattle.foremost.specs.Tied.{Tied, Rated}
 use Rattle.foremost.proofs.Foremost.{Foremostᴰ, foremost-alike}

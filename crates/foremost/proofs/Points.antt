@@ -14,8 +14,7 @@ use Rattle.arith.proofs.Integers.{≤ℤ-or-<, ≤ℤ-antisym, ≤ℤ-reflexive
 use Rattle.arith.specs.Fractions.{Frac, _≤ᶠ_, _<ᶠ_, _≈ᶠ_}
 use Rattle.knapsack.proofs.Bridge.{Reads, bridge-feasible, bridge-optimal}
 use Rattle.knapsack.proofs.Common.{valueᴰ}
-use Rattle.knapsack.specs.Meaning.{Instance, Point, value, Optimal, prices}
-use Rattle.foremost.specs.Foremost.{Earlier, Foremost}
+use Rattle.knapsack.specs.Meaning.{Instance, Point, value, Optimal, prices, Earlier, Foremost}
 use Rattle.foremost.proofs.Earlier.{Earlierᴰ, Agree, Trichotomy, before, agree, after, trichotomy, not-after-not}
 use Rattle.foremost.proofs.Foremost.{Foremostᴰ}
 

@@ -13,10 +13,9 @@ use Rattle.arith.specs.Sum.{Each}
 use Rattle.knapsack.proofs.Common.{KeepsLowerᴰ, KeepsUpperᴰ, valueᴰ, Feasibleᴰ}
 use Rattle.knapsack.proofs.Reach.{Way, fore, aft, turn, Free, NoRay, AroundAt, RangesAt, Reaches, closed, shutAt, reach-within}
 use Rattle.knapsack.proofs.Reach.{reach-optimal-at}
-use Rattle.knapsack.specs.Meaning.{Instance, weights, prices}
+use Rattle.knapsack.specs.Meaning.{Instance, weights, prices, AllLower}
 use Rattle.knapsack.specs.declared.Bound.{Bound}
 use Rattle.knapsack.specs.declared.Bound.the-variants.{Absent, At}
-use Rattle.foremost.specs.Foremost.{AllLower}
 use Rattle.foremost.proofs.Earlier.{NoLater, NotAfter, not-after-trans, not-after-times}
 use Rattle.foremost.proofs.Foremost.{NoBetter, Foremostᴰ, priced, into-priced}
 use Rattle.foremost.proofs.Ghost.{power, place, ghost, Near, near-diff, ghost-first, most, most-is}

@@ -1,3 +1,2 @@
-pub mod Foremost
 pub mod Tied
 pub mod Order

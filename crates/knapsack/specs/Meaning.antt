@@ -6,6 +6,9 @@
 --   weighs s x        what x weighs;  value s x: what it is worth
 --   Feasible s x      x keeps marks, bounds and the capacity (01: permitted)
 --   Optimal s x       feasible, and no feasible point is worth more (01: best)
+--   Earlier n x y     x comes before y: least amount of item 1, then of item 2, and so on (02, request 5)
+--   Foremost s x      no optimal point comes before x
+--   AllLower s        every item has a lower bound
 --   Infeasible s      no point is feasible
 --   stepped x d t     x with the steps d taken t times
 --   Unbounded s x d   steps d on one or two items that keep x feasible and raise its value every time (01: whole steps)
@@ -15,6 +18,7 @@
 --   amountAt, pointOf, stepsOf   the amounts of an answer, its point, its steps
 --   ShownOptimal, ShownUnbounded, bare   an answer with a best point, with a ray, with no point
 --   Answers s a       the answer a is true of s;  AnswersAs: by its kind
+--   ShownFirst s a    where every item has a lower bound, a best point that a shows is the one that comes first
 --   StepFits, TwoSteps   steps on two items that are no longer than from bound to bound
 --   CostPair, LeastPair, NoPair, EqualPair   steps on two integer items that a search may take away (01: least pair, none, equal-value pair)
 use mathlib.Core.Path.{_≡_}
@@ -90,6 +94,19 @@ pub record Feasible (s : Instance) (x : Point) : Type 0 where
 pub record Optimal (s : Instance) (x : Point) : Type 0 where
   pub feasible : Feasible s x
   pub highest : (y : Point) → Feasible s y → value s y ≤ᶠ value s x
+
+-- less at some item, and equal at those before it
+pub record Earlier (n : ℕ) (x y : Point) : Type 0 where
+  pub place : ℕ
+  pub below : place < n
+  pub same : (j : ℕ) → j < place → x j ≈ᶠ y j
+  pub less : x place <ᶠ y place
+
+abbrev pub Foremost : Instance → Point → Type 0
+Foremost s x = (y : Point) → Optimal s y → ¬ Earlier (s .count) y x
+
+abbrev pub AllLower : Instance → Type 0
+AllLower s = (k : ℕ) → k < s .count → s .item k .lower ≢ Absent
 
 abbrev pub Infeasible : Instance → Type 0
 Infeasible s = (x : Point) → ¬ Feasible s x
@@ -174,6 +191,9 @@ AnswersAs s a (kind.Refused f) = ⊥
 
 abbrev pub Answers : Instance → Answer → Type 0
 Answers s a = AnswersAs s a (a .kind)
+
+abbrev pub ShownFirst : Instance → Answer → Type 0
+ShownFirst s a = AllLower s → a .kind ≡ kind.Optimal → Foremost s (pointOf a)
 
 -- ---- pairs of steps that a search may take away
 

@@ -1,7 +1,7 @@
 -- Why an answer shows the first best point of its problem.
 -- lower-first, -step, -found: item by item, whether every item has a lower bound.
 -- prepared-closes: the box of a prepared setting, at columns in the order of Tied, is the problem with its absent bounds closed.
--- first-shown: with the first point of that box an optimal answer shows the first best point.
+-- first-optimal, first-foremost: with the first point of that box an optimal answer shows the first best point.
 use mathlib.Core.Path.{_≡_, refl, sym, ap, _∙_, subst}
 use mathlib.Core.Bool.{Bool, true, false}
 use mathlib.Core.Logic.{_≢_}
@@ -18,7 +18,7 @@ use Rattle.greedy.specs.declared.Ends.{Ends}
 use Rattle.greedy.specs.Fill.{at, fill}
 use Rattle.greedy.specs.Sized.{Sized}
 use Rattle.knapsack.specs.Items.{isAbsent}
-use Rattle.knapsack.specs.Meaning.{Instance, instanceOf, Optimal, value, amountAt, pointOf, ShownOptimal}
+use Rattle.knapsack.specs.Meaning.{Instance, instanceOf, Optimal, value, amountAt, pointOf, ShownOptimal, Foremost, AllLower}
 use Rattle.knapsack.specs.Ranges.{itemAt}
 use Rattle.knapsack.specs.declared.Answer.{Answer}
 use Rattle.knapsack.specs.declared.Bound.{Bound}
@@ -32,7 +32,6 @@ use Rattle.prepare.specs.Prepared.{PreparedAt}
 use Rattle.prepare.proofs.Box.{box-is-shut}
 use Rattle.prepare.proofs.Nearer.{ranges, reaches}
 use Rattle.setting.specs.declared.Setting.{Setting}
-use Rattle.foremost.specs.Foremost.{Foremost, AllLower}
 use Rattle.foremost.specs.Order.{TiedOf}
 use Rattle.foremost.proofs.Filling.{parts, filling}
 use Rattle.foremost.proofs.First.{Closes, FirstAt, tied-closes, first-point, first-is-foremost}

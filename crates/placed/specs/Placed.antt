@@ -9,8 +9,7 @@ use lib.IntN.{ℤ}
 use Rattle.ceiling.specs.Sizes.{Spanned}
 use Rattle.fillings.specs.Runs.{runCells}
 use Rattle.firsts.specs.Leading.{OptimalAt}
-use Rattle.foremost.specs.Foremost.{AllLower, ShownFirst}
-use Rattle.knapsack.specs.Meaning.{instanceOf, ShownOptimal}
+use Rattle.knapsack.specs.Meaning.{instanceOf, ShownOptimal, AllLower, ShownFirst}
 use Rattle.knapsack.specs.Ranges.{InRange}
 use Rattle.knapsack.specs.declared.Answer.{Answer}
 use Rattle.knapsack.specs.declared.Kind.the-variants as kind

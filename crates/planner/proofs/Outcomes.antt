@@ -35,6 +35,7 @@ use Rattle.knapsack.specs.Meaning.{Instance, instanceOf, amountAt, pointOf, wei
 use Rattle.knapsack.specs.declared.Answer.{Answer}
 use Rattle.knapsack.specs.declared.Item.{Item}
 use Rattle.knapsack.specs.declared.Kind.{Kind}
+use Rattle.knapsack.specs.declared.Refusal.{Refusal}
 use Rattle.knapsack.specs.declared.Kind.the-variants as kind
 use Rattle.knapsack.specs.declared.Problem.{Problem}
 use Rattle.knapsack.proofs.Bridge.{Reads, bridge-optimal}
@@ -56,6 +57,9 @@ use Rattle.placed.proofs.Amounts.{ColumnsOf, near-zero, filling-shown}
 -- no other kind is optimal
 pub not-unbounded : (k : Kind) → k ≡ kind.Unbounded → k ≡ kind.Optimal → ⊥
 not-unbounded k e h = let z : _≡_ {A = ℕ} 0 1 = cc in omega arith
+
+pub not-refused : (k : Kind) (f : Refusal) → k ≡ kind.Refused f → k ≡ kind.Optimal → ⊥
+not-refused k f e h = let z : _≡_ {A = ℕ} 0 1 = cc in omega arith
 
 pub not-infeasible : (k : Kind) → k ≡ kind.Infeasible → k ≡ kind.Optimal → ⊥
 not-infeasible k e h = let z : _≡_ {A = ℕ} 0 1 = cc in omega arith

@@ -24,12 +24,11 @@ use Rattle.arith.specs.Gcd.{lowest}
 use Rattle.arith.specs.declared.Mixed.{Mixed}
 use Rattle.arith.proofs.Mixes.{over}
 use Rattle.firsts.specs.Leading.{OptimalAt}
-use Rattle.foremost.specs.Foremost.{ShownFirst}
 use Rattle.greedy.specs.Amounts.{Amounts}
 use Rattle.greedy.specs.declared.Ends.{Ends}
 use Rattle.greedy.specs.declared.Fill.{Fill}
 use Rattle.greedy.specs.Fill.{at, fill, bound}
-use Rattle.knapsack.specs.Meaning.{nought, instanceOf, Answers}
+use Rattle.knapsack.specs.Meaning.{nought, instanceOf, Answers, ShownFirst}
 use Rattle.knapsack.specs.declared.Answer.{Answer}
 use Rattle.knapsack.specs.declared.Kind.{Kind}
 use Rattle.knapsack.specs.declared.Kind.the-variants as kind

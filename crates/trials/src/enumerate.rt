@@ -20,20 +20,20 @@ pub struct Best {
 }
 
 // The amounts that an item takes: first, first + step, … so many.
-struct Choices {
-    first: i64,
-    step: i64,
-    number: u64,
+pub struct Choices {
+    pub first: i64,
+    pub step: i64,
+    pub number: u64,
 }
 
 // What is left of a point's number, and the weight and the value of its first items.
-struct Sums {
-    rest: u64,
-    weight: i64,
-    value: i64,
+pub struct Sums {
+    pub rest: u64,
+    pub weight: i64,
+    pub value: i64,
 }
 
-fn minus(a: i64, b: i64) -> i64 {
+pub fn minus(a: i64, b: i64) -> i64 {
     plus(a, times(b, -1))
 }
 
@@ -45,12 +45,12 @@ fn at(b: Bound) -> i64 {
     }
 }
 
-fn low(x: Item) -> i64 {
+pub fn low(x: Item) -> i64 {
     let l = x.lower;
     at(l)
 }
 
-fn high(x: Item) -> i64 {
+pub fn high(x: Item) -> i64 {
     let u = x.upper;
     at(u)
 }
@@ -73,7 +73,7 @@ fn no_choice() -> Choices {
 }
 
 // The filler is left out: it takes 0 for the time being.
-fn choices_of(x: Item, filler: bool) -> Choices {
+pub fn choices_of(x: Item, filler: bool) -> Choices {
     if filler {
         return Choices {
             first: 0,
@@ -111,7 +111,7 @@ fn scaled(n: u64, m: u64) -> u64 {
 }
 
 // How many points there are.
-fn points(p: Model, filler: usize, n: usize) -> u64
+pub fn points(p: Model, filler: usize, n: usize) -> u64
     requires { ⌜ n ≤ 16 ⌝ }
 {
     let items = p.items;
@@ -142,7 +142,7 @@ fn with_item(s: Sums, x: Item, filler: bool) -> Sums {
 }
 
 // The weight and the value of a point.
-fn sums_of(p: Model, filler: usize, n: usize, number: u64) -> Sums
+pub fn sums_of(p: Model, filler: usize, n: usize, number: u64) -> Sums
     requires { ⌜ n ≤ 16 ⌝ }
 {
     let items = p.items;
@@ -189,7 +189,7 @@ fn with_corner(best: Best, p: Model, s: Sums) -> Best {
     offered(best, s.value, 1)
 }
 
-fn between(a: i64, x: i64, b: i64) -> bool {
+pub fn between(a: i64, x: i64, b: i64) -> bool {
     if x < a {
         return false;
     }
@@ -247,7 +247,7 @@ fn with_points(start: Best, p: Model, filler: usize, n: usize) -> Best
     best
 }
 
-fn can_fill(x: Item) -> bool {
+pub fn can_fill(x: Item) -> bool {
     if is_continuous(x) {
         x.weight != 0
     } else {

@@ -51,7 +51,7 @@ fn with_shut(p: Model, k: usize, reach: i64) -> Model
     q
 }
 
-fn shut_problem(p: Model, n: usize, reach: i64) -> Model
+pub fn shut_problem(p: Model, n: usize, reach: i64) -> Model
     requires { ⌜ n ≤ 15 ⌝ }
 {
     let mut q = p;

@@ -87,14 +87,11 @@ add-t c =
     record { fits = omega (arith, l .loop-test .taken, t .tied .ensures .sized .live-few) }
 
 loop-less : tie.Need-loop-less Inv-loop μ-loop
-loop-less c =
-    let at-loop-test = c .before .before .before .before in
-    omega (arith, at-loop-test .loop-test .taken)
+loop-less c = let l = c .before .before .before .before in omega (arith, l .loop-test .taken)
 
 loop-again : tie.Need-loop-again Inv-loop μ-loop
 loop-again c =
-    let at-loop-test = c .before .before .before .before in
-    (omega (arith, at-loop-test .loop-test .taken), (search needs, c .before .before .considered .ensures))
+    let l = c .before .before .before .before in (omega (arith, l .loop-test .taken), (search needs, c .before .before .considered .ensures))
 
 tried-requires : tie.Need-tried-requires Inv-loop μ-loop
 tried-requires c κs =
@@ -105,7 +102,8 @@ tried-requires c κs =
     let s = t .before .before in
     let e : l .loop .t ≡ t .tied .result .live = omega (arith, c .before .loop-test .left, l .loop .inv .0) in
     (
-      (tying t, (o .loss-of .ensures .0, (w .wholes .ensures, subst (λ u. Led (s .args .s) (t .tied .result) (o .loss-of .result) u (l .loop .b)) e (l .loop .inv .1 .1)))),
+      (tying t, (o .loss-of .ensures .0, (w .wholes .ensures, subst (λ u. Led (s .args .s) (t .tied .result) (o .loss-of .result) u (l .loop .b)) e
+      (l .loop .inv .1 .1)))),
       (omega arith, ((λ h. absurd (omega arith)), omega (arith, l .loop .inv .1 .0, s .pre .1))),
     )
 

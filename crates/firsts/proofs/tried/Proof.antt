@@ -63,7 +63,13 @@ first-of-frame-requires c κs =
     let r = (m .scale-of .result * a .l .num) / a .l .den in
     rw (within-back tt (g .top-in)) (
       (
-        record { sized = tied-sized (a .s) (a .c) y; ranked = tied-ranked (a .s) (a .c) y; in-order = tied-order (a .s) (a .c) y; p-in = g .p-in; q-in = g .q-in },
+        record {
+          sized = tied-sized (a .s) (a .c) y;
+          ranked = tied-ranked (a .s) (a .c) y;
+          in-order = tied-order (a .s) (a .c) y;
+          p-in = g .p-in;
+          q-in = g .q-in;
+        },
         (g .top-is, (g .top-in, tied-spanned (a .s) (a .c) y)),
       ),
       (
@@ -100,7 +106,8 @@ sooner-requires c κs =
       y,
       (
         shown-small (a .c) (endsAt (a .s) (h .place)) (place-sized (a .s) (a .c) y (h .place) (h .inside)) (a .b .point) (h .shows),
-        seen-inside (a .s) (a .c) y (a .l) (s .pre .0 .1 .0) (a .t) (a .b) h (a .whole) (s .pre .0 .1 .1 .0) (s .pre .1 .0) (s .pre .1 .1 .0) _ (over (asked m))
+        seen-inside (a .s) (a .c) y (a .l) (s .pre .0 .1 .0) (a .t) (a .b) h (a .whole) (s .pre .0 .1 .1 .0) (s .pre .1 .0) (s .pre .1 .1 .0) _
+            (over (asked m))
             (m .first-of-frame .result) (m .first-of-frame .ensures) (c .before .if2 .taken),
       ),
     )

@@ -1,11 +1,13 @@
 -- `planner::plan_within` meets its contract.
-use mathlib.Core.Path.{_≡_, sym, _∙_, subst}
+use mathlib.Core.Path.{_≡_, sym, ap, _∙_, subst}
 use borrow.Author.Needs.{needs}
 use Rattle.knapsack.specs.Meaning.{instanceOf, Answers}
+use Rattle.knapsack.specs.declared.Answer.{Answer}
 use Rattle.knapsack.specs.declared.Verdict.the-variants.{Accepted}
 use Rattle.model.specs.Promises.{RepliesAs}
 use Rattle.model.specs.Records.{plainOf, verdict}
 use Rattle.model.proofs.Records.{accepted}
+use Rattle.planner.proofs.Outcomes.{not-refused}
 use Rattle.planner.proofs.plan_within.Statement.{statement}
 use Rattle.planner.proofs.plan_within.Tie as tie
 
@@ -38,14 +40,20 @@ returns c =
     let e = p .before in
     let m = e .before .before .before .args .m in
     let answers : Answers (instanceOf (plainOf m)) (r .solve-within .result .answer) = rw (p .plain-of .ensures) at (r .solve-within .ensures .answers) in
-    subst (RepliesAs (instanceOf (plainOf m)) (r .solve-within .result .answer)) (sym (taken e)) answers
+    record {
+      replies = subst (RepliesAs (instanceOf (plainOf m)) (r .solve-within .result .answer)) (sym (taken e)) answers;
+      first = rw (p .plain-of .ensures) at (r .solve-within .ensures .first);
+    }
 
 returns-2 : tie.Need-returns-2
 returns-2 c =
     let v = c .before .before in
     let k = v .before .before in
     let is = sym (k .check-model .ensures) ∙ v .v .given .1 in
-    subst (RepliesAs (instanceOf (plainOf (k .before .args .m))) (c .no-point .result)) (sym is) (c .no-point .ensures)
+    record {
+      replies = subst (RepliesAs (instanceOf (plainOf (k .before .args .m))) (c .no-point .result)) (sym is) (c .no-point .ensures);
+      first = λ low e. absurd (not-refused (c .no-point .result .kind) _ (ap (λ (a : Answer). a .kind) (c .no-point .ensures)) e);
+    }
 
 pub plan-within-spec : {M : Type 1} → statement M
 plan-within-spec =
