@@ -1,7 +1,9 @@
 -- The places beyond the count play no part.
 --   Same s t     the instances agree at the items of the problem
 -- same-sym: so they do the other way round. same-relaxed: so do their relaxations. same-answers: they have the same answers.
+-- same-first: and a best point that comes first for one does for the other.
 use mathlib.Core.Path.{_≡_, sym, ap, _∙_, subst, subst₂}
+use mathlib.Core.Logic.{_≢_}
 use Prim.Native.Nat.{ℕ, _<_}
 use native.Mathlib.Omega.{arith}
 use lib.IntN.{ℤ}
@@ -10,9 +12,10 @@ use Rattle.arith.specs.Fractions.{int, _·ᶠ_, _≤ᶠ_, total}
 use Rattle.arith.specs.Sum.{Each}
 use Rattle.knapsack.proofs.Serve.{Serves, serve-answers}
 use Rattle.knapsack.specs.declared.Answer.{Answer}
+use Rattle.knapsack.specs.declared.Bound.the-variants.{Absent}
 use Rattle.knapsack.specs.declared.Item.{Item}
 use Rattle.knapsack.specs.declared.Mark.the-variants.{Continuous}
-use Rattle.knapsack.specs.Meaning.{Instance, Point, Keeps, value, Feasible, relaxed, Answers}
+use Rattle.knapsack.specs.Meaning.{Instance, Point, Keeps, value, Feasible, Optimal, Earlier, relaxed, pointOf, Answers, ShownFirst}
 
 pub record Same (s t : Instance) : Type 0 where
   pub capacity : s .capacity ≡ t .capacity
@@ -54,6 +57,17 @@ same-serves s t e = record {
   within = same-feasible s t e;
   exchange = λ y h. record { point = y; feasible = same-feasible t s (same-sym s t e) y h; as-good = λ z l. subst (λ v. v ≤ᶠ z) (same-value s t e y) l };
 }
+
+same-optimal : (s t : Instance) → Same s t → (x : Point) → Optimal s x → Optimal t x
+same-optimal s t e x o = record {
+  feasible = same-feasible s t e x (o .feasible);
+  highest = λ y h. subst₂ _≤ᶠ_ (same-value s t e y) (same-value s t e x) (o .highest y (same-feasible t s (same-sym s t e) y h));
+}
+
+pub same-first : (s t : Instance) → Same s t → (a : Answer) → ShownFirst s a → ShownFirst t a
+same-first s t e a h lower k y o earlier =
+    h (λ j l. subst (λ (i : Item). i .lower ≢ Absent) (sym (e .items j l)) (lower j (omega (arith, e .count)))) k y
+    (same-optimal t s (same-sym s t e) y o) (subst (λ n. Earlier n y (pointOf a)) (sym (e .count)) earlier)
 
 pub same-answers : (s t : Instance) → Same s t → (a : Answer) → Answers s a → Answers t a
 same-answers s t e = serve-answers t s (same-serves s t e)

@@ -7,7 +7,7 @@ use native.Mathlib.Omega.{arith}
 use borrow.Author.Tests.{ltb-true}
 use lib.Dec.{ltb}
 use Rattle.arith.specs.Sum.{Each}
-use Rattle.knapsack.proofs.Same.{Same, same-relaxed, same-answers}
+use Rattle.knapsack.proofs.Same.{Same, same-relaxed, same-answers, same-first}
 use Rattle.knapsack.specs.Meaning.{Instance, instanceOf}
 use Rattle.knapsack.specs.declared.Answer.{Answer}
 use Rattle.knapsack.specs.declared.Item.{Item}
@@ -52,7 +52,10 @@ module _ (m o : Model) (e : Same (asked m) (asked o)) where
       go (Refused f) r = r
 
   pub beyond-planned : (a : Answer) → Planned m a → Planned o a
-  beyond-planned a = replies-same _ _ a (verdict m) (verdict o) e beyond-verdict
+  beyond-planned a p = record {
+    replies = replies-same _ _ a (verdict m) (verdict o) e beyond-verdict (p .replies);
+    first = same-first (asked m) (asked o) e a (p .first);
+  }
 
   pub beyond-relaxed : (a : Answer) → Relaxed m a → Relaxed o a
   beyond-relaxed a = replies-same _ _ a (verdict m) (verdict o) (same-relaxed (asked m) (asked o) e) beyond-verdict
