@@ -91,7 +91,7 @@ module _ (m : Model) (a : Answer) (size : length (a .point) ≡ 16) (fair : verd
 -- an answer that is no refusal answers an accepted record
 answers : (m : Model) (a : Answer) (k : Kind) → Planned m a → a .kind ≡ k → ((f : Refusal) → k ≡ kind.Refused f → ⊥) →
     (verdict m ≡ Accepted) × AnswersAs (asked m) a k
-answers m a k p e n = go (verdict m) refl p
+answers m a k p e n = go (verdict m) refl (p .replies)
   where
     go : (v : Verdict) → verdict m ≡ v → RepliesAs (asked m) a v → (verdict m ≡ Accepted) × AnswersAs (asked m) a k
     go Accepted h r = (h, subst (AnswersAs (asked m) a) e r)

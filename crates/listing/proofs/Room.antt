@@ -195,7 +195,7 @@ printable p a steps range shown h k l = go (decLt k (length (a .point)))
 
 pub room-enough : (m : Model) (a : Answer) → verdict m ≡ Accepted → Planned m a → length (printed (m .count) a) ≤ room
 unfolding printed
-room-enough m a fair planned = go (a .kind) (rw fair at planned)
+room-enough m a fair planned = go (a .kind) (rw fair at (planned .replies))
   where
     range : FiguresInRange (plainOf m)
     range = accepted m fair

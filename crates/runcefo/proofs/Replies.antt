@@ -53,7 +53,7 @@ module _ (s b c : List ℕ) (length-told line number : ℕ) (h : Plans s b c len
       let fair : verdict m ≡ Accepted = accepted-sheet s m (ap (λ (v : Verdict). record { verdict = v; model = m }) e) .fair in
       let p : Planned m answer = rw e at (h .lists .is-true) in
       let fits : length text ≤ room = room-enough m answer fair p in
-      let r : h .reply ≡ Written (length text) = go (answer .kind) refl (rw fair at p) ∙ written (omega arith) in
+      let r : h .reply ≡ Written (length text) = go (answer .kind) refl (rw fair at (p .replies)) ∙ written (omega arith) in
       h .number-is ∙ ap (λ w. toldNumber (listedVerdict w)) r
     where
       go : (k : Kind) → answer .kind ≡ k → AnswersAs (instanceOf (plainOf (readSheet s .model))) answer k → h .reply ≡ told text b
