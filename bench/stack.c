@@ -19,15 +19,19 @@ static void *run(void *arg) {
     const uint8_t *s = (const uint8_t *)c->sheet;
     static uint8_t out[CHARGE_ROOM];
     uint64_t line;
+    size_t written;
     switch (c->entry) {
     case 'p':
-        charge_plan(s, strlen(c->sheet), out, sizeof out);
+        charge_plan(s, strlen(c->sheet), out, sizeof out, &written, &line);
         break;
     case 'r':
         charge_read(s, strlen(c->sheet), &line);
         break;
     case 's':
         charge_steps(s, strlen(c->sheet));
+        break;
+    case 'c':
+        charge_cells(s, strlen(c->sheet));
         break;
     }
     return NULL;
@@ -55,13 +59,16 @@ static size_t depth(struct call c) {
     return STACK - i;
 }
 
-/* Sixteen items with both bounds, every third one continuous, prices near weights. */
-static const char *crowd(char *text, int step) {
+/* Sixteen items with both bounds, prices near weights. If hard, all are integer and of like weight, so that the scales end the search; else every
+   third one is continuous. */
+static const char *crowd(char *text, int step, int hard) {
     char *at = text;
     int k;
-    at += sprintf(at, "limit 1\n9001\nitems 16\n");
+    at += sprintf(at, "limit 1\n%d\nitems 16\n", hard ? 75201 : 9001);
     for (k = 0; k < 16; k++) {
-        at += sprintf(at, "%c %d %d\n", k % 3 == 2 ? 'L' : 'W', 97 + step * k, 100 + step * k + k % 5);
+        int like = 930 + (7 * k + step) % 21, weight = hard ? like : 97 + step * k;
+        int price = hard ? 5 * like + 300 : 100 + step * k + k % 5;
+        at += sprintf(at, "%c %d %d\n", k % 3 == 2 && !hard ? 'L' : 'W', weight, price);
     }
     at += sprintf(at, "lower 16\n");
     for (k = 1; k <= 16; k++) {
@@ -85,9 +92,9 @@ int main(void) {
     size_t most = 0, none = depth((struct call){'n', ""});
     size_t i, n = sizeof few / sizeof few[0];
     for (i = 0; i < n + 40; i++) {
-        const char *sheet = i < n ? few[i] : crowd(text, (int)(i - n));
+        const char *sheet = i < n ? few[i] : crowd(text, (int)(i - n), i % 2);
         const char *e;
-        for (e = "prs"; *e != '\0'; e++) {
+        for (e = "prsc"; *e != '\0'; e++) {
             size_t d = depth((struct call){*e, sheet}) - none;
             most = d > most ? d : most;
         }

@@ -9,8 +9,8 @@ static const char sample[] = "limit 1\n20\nitems 2\nW 9 13\nL 3 2\nlower 2\n1 0\
 int main(void) {
     uint8_t sheet[CHARGE_SHEET + 1];
     uint8_t reply[CHARGE_ROOM];
-    uint64_t line;
-    size_t length = fread(sheet, 1, sizeof sheet, stdin);
+    uint64_t number, line;
+    size_t written, length = fread(sheet, 1, sizeof sheet, stdin);
     if (ferror(stdin)) {
         perror("standard input");
         return 1;
@@ -19,9 +19,10 @@ int main(void) {
         length = sizeof sample - 1;
         memcpy(sheet, sample, length);
     }
-    if (charge_read(sheet, length, &line) != CHARGE_ACCEPTED) {
-        fprintf(stderr, "not a sheet: see line %llu\n", (unsigned long long)line);
+    number = charge_plan(sheet, length, reply, sizeof reply, &written, &line);
+    if (number != CHARGE_ACCEPTED) {
+        fprintf(stderr, "refused %llu: see line %llu\n", (unsigned long long)number, (unsigned long long)line);
+        return 1;
     }
-    length = charge_plan(sheet, length, reply, sizeof reply);
-    return fwrite(reply, 1, length, stdout) == length ? 0 : 1;
+    return fwrite(reply, 1, written, stdout) == written ? 0 : 1;
 }

@@ -11,12 +11,12 @@ use crate::twin;
 /// Whether our planner promises the best point that comes first, where every lower bound is present (paper 02, request 5).
 const FIRST: bool = false;
 
-/// How often each reply came: refused, infeasible, unbounded, best; and what was left out.
+/// How often each reply came: refused, infeasible, unbounded, best.
 #[derive(Clone, Copy, Default)]
 struct Counts {
     replies: [u64; 4],
-    left_out: u64,
     twin_agrees: u64,
+    by_scales: u64,
     differ: u64,
 }
 
@@ -48,44 +48,46 @@ fn check_first(problem: &Problem, text: &str) -> Result<(), String> {
     }
 }
 
-/// Lent buffers that just do and just do not hold the text.
-fn check_buffers(sheet: &[u8], text: &str) -> Result<(), String> {
+/// Lent buffers that just do and just do not hold the text; a refusal leaves both alone.
+fn check_buffers(sheet: &[u8], expected: Reply, text: &str) -> Result<(), String> {
     let mut tight = vec![7; text.len()];
     let mut short = vec![7; text.len() - 1];
-    if ours::plan_into(sheet, &mut tight) != text.len() || tight != text.as_bytes() {
+    let (told, told_short) = (ours::plan_into(sheet, &mut tight), ours::plan_into(sheet, &mut short));
+    let is_left = |b: &[u8]| b.iter().all(|&x| x == 7);
+    let (is_told, is_told_short) = match expected {
+        Reply::Refused(f) => (told == Err((f.number, f.line)) && is_left(&tight), told_short == told),
+        _ => (told == Ok(text.len()) && tight == text.as_bytes(), told_short == Err((11, 0))),
+    };
+    if !is_told {
         return Err("a buffer of the text's length".into());
     }
-    if ours::plan_into(sheet, &mut short) != 0 || short.iter().any(|&b| b != 7) {
+    if !is_told_short || !is_left(&short) {
         return Err("a buffer that is too short".into());
     }
     Ok(())
 }
 
-fn compare_sheet(sheet: &[u8], limit: u64, counts: &mut Counts) -> Result<(), String> {
+fn compare_sheet(sheet: &[u8], counts: &mut Counts) -> Result<(), String> {
     let problem = independent::read(sheet);
-    let twin = problem.as_ref().ok().map(|p| twin::plan(p, ours::RULES, limit));
-    if let Some(None) = twin {
-        counts.left_out += 1;
-        return Ok(());
-    }
+    let twin = problem.as_ref().ok().map(|p| twin::plan(p, ours::RULES));
     let expected = match &problem {
         Ok(p) => independent::plan(p),
         Err(f) => Reply::Refused(*f),
     };
     let text = ours::plan(sheet);
     counts.replies[column(expected)] += 1;
-    let twin = twin.flatten();
     counts.twin_agrees += twin.as_ref().is_some_and(|t| t.text == text) as u64;
+    counts.by_scales += twin.as_ref().is_some_and(|t| t.cells > 0) as u64;
     let in_order = problem.as_ref().ok().filter(|_| FIRST);
     check(problem.as_ref().ok(), expected, &text)
         .and_then(|_| in_order.map_or(Ok(()), |p| check_first(p, &text)))
         .and_then(|_| check_verdict(sheet, expected))
-        .and_then(|_| if twin.is_none_or(|t| t.steps < 1000) { check_buffers(sheet, &text) } else { Ok(()) })
+        .and_then(|_| if twin.is_none_or(|t| t.steps < 1000) { check_buffers(sheet, expected, &text) } else { Ok(()) })
         .map_err(|what| format!("{what}; expected {expected:?}, ours is\n{text}"))
 }
 
 /// Whether no sheet differs.
-pub fn compare(seed: u64, count: u64, limit: u64) -> bool {
+pub fn compare(seed: u64, count: u64) -> bool {
     println!("Comparison with the independent planner: {count} sheets, seed {seed}");
     let mut rng = Rng(seed);
     let mut counts = [Counts::default(); KINDS.len()];
@@ -94,38 +96,32 @@ pub fn compare(seed: u64, count: u64, limit: u64) -> bool {
         progress.show(|| format!("{done} of {count} sheets compared, {} differ", counts.iter().map(|c| c.differ).sum::<u64>()));
         let k = kind(&mut rng);
         let sheet = KINDS[k].2(&mut rng);
-        if let Err(what) = compare_sheet(&sheet, limit, &mut counts[k]) {
+        if let Err(what) = compare_sheet(&sheet, &mut counts[k]) {
             counts[k].differ += 1;
             println!("sheet {done} differs: {what}for\n{}", String::from_utf8_lossy(&sheet));
         }
     }
-    show(&counts, limit);
+    show(&counts);
     println!();
     counts.iter().all(|c| c.differ == 0)
 }
 
-fn show(counts: &[Counts], limit: u64) {
-    println!(
-        "{:20} {:>8} {:>11} {:>10} {:>8} {:>9} {:>7}",
-        "kind", "refused", "infeasible", "unbounded", "best", "left out", "differ"
-    );
+fn show(counts: &[Counts]) {
+    println!("{:20} {:>8} {:>11} {:>10} {:>8} {:>7}", "kind", "refused", "infeasible", "unbounded", "best", "differ");
     let mut sum = Counts::default();
     for (c, k) in counts.iter().zip(KINDS) {
         row(k.0, c);
         (0..4).for_each(|i| sum.replies[i] += c.replies[i]);
-        sum.left_out += c.left_out;
         sum.differ += c.differ;
         sum.twin_agrees += c.twin_agrees;
+        sum.by_scales += c.by_scales;
     }
     row("all", &sum);
     let accepted: u64 = sum.replies[1..].iter().sum();
-    println!(
-        "Left out: more than {limit} steps of the search. The twin's text is ours on {} of {accepted} accepted sheets.",
-        sum.twin_agrees
-    );
+    println!("The twin's text is ours on {} of {accepted} accepted sheets; {} went to the scales.", sum.twin_agrees, sum.by_scales);
 }
 
 fn row(name: &str, c: &Counts) {
     let r = c.replies;
-    println!("{name:20} {:>8} {:>11} {:>10} {:>8} {:>9} {:>7}", r[0], r[1], r[2], r[3], c.left_out, c.differ);
+    println!("{name:20} {:>8} {:>11} {:>10} {:>8} {:>7}", r[0], r[1], r[2], r[3], c.differ);
 }

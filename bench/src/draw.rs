@@ -1,6 +1,6 @@
 //! Drawn sheets of mixed kinds, for the comparison. Every draw comes from one seed, by splitmix64.
 
-use crate::families::{COMPARED, FAMILIES};
+use crate::families::FAMILIES;
 use crate::problem::{Item, Problem};
 
 pub struct Rng(pub u64);
@@ -43,6 +43,9 @@ pub const KINDS: [Kind; 10] = [
     ("damaged", 300, damaged),
     ("long", 40, long),
 ];
+
+/// How many of the kinds, from the first on, have nothing but good sheets.
+pub const GOOD: usize = KINDS.len() - 2;
 
 pub fn kind(rng: &mut Rng) -> usize {
     let mut left = rng.between(0, KINDS.iter().map(|k| k.1).sum::<i64>() - 1);
@@ -188,11 +191,12 @@ fn far_out(rng: &mut Rng) -> Problem {
 }
 
 fn some_family(rng: &mut Rng) -> Problem {
-    let family = &FAMILIES[rng.between(0, COMPARED as i64 - 1) as usize];
-    let (bound, continuous) = (rng.pick(&[1, 1, 1, 2, 2, 5, 5, 10, 100, 10_000]), rng.pick(&[0, 0, 1, 2]));
+    let family = &FAMILIES[rng.between(0, FAMILIES.len() as i64 - 1) as usize];
+    let (bound, continuous) = (rng.pick(&[1, 2, 5, 10, 100, 10_000]), rng.pick(&[0, 0, 1, 2]));
     let mut p = family.draw(rng, bound, continuous);
     p.items.truncate(rng.pick(&[4, 8, 16]));
-    p.limit = p.limit.min(weights(&p.items).1 / 2);
+    let (least, most) = weights(&p.items);
+    p.limit = ((least + most) / 2).clamp(-100_000_000, 100_000_000);
     p
 }
 

@@ -47,9 +47,6 @@ pub const FAMILIES: [Family; 14] = [
     family("covering, minus signs", |rng, _| items(rng, |_, a| (-a, -a - SURCHARGE))),
 ];
 
-/// The families that the comparison draws from.
-pub const COMPARED: usize = 7;
-
 const SURCHARGE: i64 = 100;
 const CEILING: i64 = 3;
 const RADIUS: i64 = 1000;

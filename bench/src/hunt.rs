@@ -6,7 +6,7 @@ use crate::ours;
 use crate::problem::{Item, Problem};
 use crate::progress::Progress;
 use crate::stats::timed;
-use crate::twin::{self, Outcome, Rules};
+use crate::twin::{self, Rules};
 
 const ITEMS: i64 = 16;
 
@@ -86,12 +86,8 @@ fn changed(rng: &mut Rng, c: &Climber) -> Climber {
     Climber { problem: in_range(c.problem), ..c }
 }
 
-fn outcome(p: &Problem, rules: Rules) -> Outcome {
-    twin::plan(p, rules, u64::MAX).expect("scales end")
-}
-
 fn work(p: &Problem, rules: Rules) -> u64 {
-    let o = outcome(p, rules);
+    let o = twin::plan(p, rules);
     o.cells + STEP * o.steps
 }
 
@@ -114,7 +110,7 @@ fn climb(rng: &mut Rng, rules: Rules, told: &mut dyn FnMut(u64, u64)) -> (Proble
 }
 
 fn show(p: &Problem, rules: Rules) {
-    let (o, twin_time) = timed(|| outcome(p, rules));
+    let (o, twin_time) = timed(|| twin::plan(p, rules));
     println!("most: {} steps, {} cells; the twin takes {:.1} ms", o.steps, o.cells, twin_time * 1e3);
     if ours::RULES == rules {
         let sheet = p.sheet();

@@ -2,16 +2,12 @@
 //! in a window around the relaxation's point. It names the kind of reply and the best value; `first` names the best point that comes first.
 
 mod first;
+mod reader;
 
 use crate::problem::{gcd, Item, Problem};
 pub use first::{first, Point};
+pub use reader::{read, Refusal};
 use std::ops::{Add, Mul, Sub};
-
-#[derive(Clone, Copy, Debug, PartialEq)]
-pub struct Refusal {
-    pub number: u64,
-    pub line: u64,
-}
 
 #[derive(Clone, Copy, Debug, PartialEq)]
 pub enum Reply {
@@ -19,119 +15,6 @@ pub enum Reply {
     Infeasible,
     Unbounded,
     Best(i128, i128),
-}
-
-// ---- reading a sheet
-
-struct Lines<'a> {
-    rest: &'a [u8],
-    line: u64,
-}
-
-impl<'a> Lines<'a> {
-    fn refuse<T>(&self, number: u64) -> Result<T, Refusal> {
-        Err(Refusal { number, line: self.line })
-    }
-
-    /// The fields of the next line, which has to have as many.
-    fn fields(&mut self, count: usize) -> Result<Vec<&'a [u8]>, Refusal> {
-        self.line += 1;
-        let Some(end) = self.rest.iter().position(|&b| b == b'\n') else {
-            return self.refuse(2);
-        };
-        let fields: Vec<&[u8]> = self.rest[..end].split(|&b| b == b' ').collect();
-        self.rest = &self.rest[end + 1..];
-        if fields.len() == count {
-            Ok(fields)
-        } else {
-            self.refuse(2)
-        }
-    }
-
-    /// A number of any length; one beyond every range is cut to a trillion.
-    fn number(&self, field: &[u8]) -> Result<i64, Refusal> {
-        let (minus, digits) = match field {
-            [b'-', rest @ ..] => (true, rest),
-            all => (false, all),
-        };
-        let plain = matches!(digits, [b'1'..=b'9', ..]) && digits.iter().all(u8::is_ascii_digit);
-        if !plain && field != b"0" {
-            return self.refuse(2);
-        }
-        let size = digits.iter().fold(0i64, |n, d| (10 * n + (d - b'0') as i64).min(1_000_000_000_000));
-        Ok(if minus { -size } else { size })
-    }
-
-    /// The count of a heading `word m`, within lo to hi.
-    fn heading(&mut self, word: &[u8], lo: i64, hi: i64) -> Result<i64, Refusal> {
-        let fields = self.fields(2)?;
-        if fields[0] != word {
-            return self.refuse(2);
-        }
-        let count = self.number(fields[1])?;
-        if lo <= count && count <= hi {
-            Ok(count)
-        } else {
-            self.refuse(3)
-        }
-    }
-
-    fn figure(&self, value: i64, range: i64) -> Result<i64, Refusal> {
-        if value.abs() <= range {
-            Ok(value)
-        } else {
-            self.refuse(4)
-        }
-    }
-
-    fn item(&mut self) -> Result<Item, Refusal> {
-        let fields = self.fields(3)?;
-        let integer = match fields[0] {
-            b"W" => true,
-            b"L" => false,
-            _ => return self.refuse(2),
-        };
-        let (weight, price) = (self.number(fields[1])?, self.number(fields[2])?);
-        Ok(Item { integer, weight: self.figure(weight, 1000)?, price: self.figure(price, 10_000)?, lower: None, upper: None })
-    }
-
-    /// A section of bounds: item and bound of each.
-    fn bounds(&mut self, word: &[u8], n: i64) -> Result<Vec<(usize, i64)>, Refusal> {
-        let mut list = vec![];
-        let mut last = 0;
-        for _ in 0..self.heading(word, 0, n)? {
-            let fields = self.fields(2)?;
-            let (k, value) = (self.number(fields[0])?, self.number(fields[1])?);
-            if k <= last || k > n {
-                return self.refuse(5);
-            }
-            list.push((k as usize - 1, self.figure(value, 10_000)?));
-            last = k;
-        }
-        Ok(list)
-    }
-}
-
-pub fn read(sheet: &[u8]) -> Result<Problem, Refusal> {
-    if sheet.len() > 4096 {
-        return Err(Refusal { number: 1, line: 0 });
-    }
-    let mut lines = Lines { rest: sheet, line: 0 };
-    lines.heading(b"limit", 1, 1)?;
-    let fields = lines.fields(1)?;
-    let limit = lines.figure(lines.number(fields[0])?, 100_000_000)?;
-    let n = lines.heading(b"items", 1, 16)?;
-    let mut items = (0..n).map(|_| lines.item()).collect::<Result<Vec<Item>, Refusal>>()?;
-    for (k, value) in lines.bounds(b"lower", n)? {
-        items[k].lower = Some(value);
-    }
-    for (k, value) in lines.bounds(b"upper", n)? {
-        items[k].upper = Some(value);
-    }
-    if !lines.rest.is_empty() {
-        return Err(Refusal { number: 2, line: lines.line + 1 });
-    }
-    Ok(Problem { limit, items })
 }
 
 fn crosses(i: &Item) -> bool {

@@ -2,6 +2,7 @@
 
 mod check;
 mod compare;
+mod damage;
 mod draw;
 mod enumeration;
 mod families;
@@ -53,7 +54,7 @@ fn usage() -> ! {
 
 /// The commands that stand there; compare and speed if none does.
 fn commands(a: &mut Arguments) -> Vec<&'static str> {
-    let mut named = ["compare", "speed", "reading", "self", "hunt", "reply"].to_vec();
+    let mut named = ["compare", "damage", "speed", "reading", "self", "hunt", "reply"].to_vec();
     named.retain(|word| a.word(word));
     if named.is_empty() {
         named = vec!["compare", "speed"];
@@ -67,15 +68,12 @@ fn main() {
     let commands = commands(&mut a);
     let choose = |few: u64, many: u64| if quick { few } else { many };
     let seed = a.number("--seed").unwrap_or(1);
-    let (sheets, steps) = (a.number("--sheets"), a.number("--steps"));
-    let (scales, first) = (a.word("--scales"), a.word("--first"));
-    let bounded = if first { twin::FIRST } else { twin::WITH_SCALES };
-    let rules = if first || scales { bounded } else { ours::RULES };
+    let sheets = a.number("--sheets");
+    let rules = if a.word("--first") { twin::FIRST } else { ours::RULES };
     let speed = speed::Options {
         seed,
         sheets: sheets.unwrap_or(choose(10, 100)) as usize,
         raced: a.number("--raced").unwrap_or(choose(3, 11)) as usize,
-        limit: steps.unwrap_or(choose(100_000, 1_000_000)),
         rules,
         continuous: if quick { &FEW_CONTINUOUS } else { &CONTINUOUS },
         family: a.value("--family").unwrap_or_default(),
@@ -88,11 +86,12 @@ fn main() {
     let mut good = true;
     for command in commands {
         good &= match command {
-            "compare" => compare::compare(seed, sheets.unwrap_or(choose(5000, 120_000)), steps.unwrap_or(2_000_000)),
+            "compare" => compare::compare(seed, sheets.unwrap_or(choose(5000, 120_000))),
+            "damage" => damage::damage(seed),
             "speed" => speed::speed(&speed),
             "reading" => reading::reading(seed, choose(200, 2000)),
             "self" => trial::trial(seed, sheets.unwrap_or(choose(2000, 20_000))),
-            "hunt" => hunt::hunt(seed, rounds, bounded),
+            "hunt" => hunt::hunt(seed, rounds, rules),
             _ => rivals::reply(),
         };
     }

@@ -1,7 +1,7 @@
 //! The speed table as a picture in SVG: a family a row, times on a logarithmic scale, the median and the worst sheet of each solver.
 
 use crate::families::FAMILIES;
-use crate::race::{left_out, Race};
+use crate::race::Race;
 use crate::rivals::{Solver, LIMIT};
 use crate::speed::{Options, Row};
 use crate::stats::{MEDIAN, WORST};
@@ -90,7 +90,7 @@ fn strip(s: &Series, t: &Times, y: f64) -> String {
     out + &(s.mark)(from, y, colour)
 }
 
-/// Of all rows of a family: ours as a call, then each solver as a process. What was left out counts as not done.
+/// Of all rows of a family: ours as a call, then each solver as a process.
 fn times(rows: &[&Row], solvers: usize) -> Vec<Times> {
     let calls = rows.iter().fold(Race::default(), |sum, r| sum.with(&r.calls()));
     let processes = (0..solvers).map(|k| rows.iter().fold(Race::default(), |sum, r| sum.with(&r.races[k])));
@@ -121,9 +121,9 @@ pub fn draw(solvers: &[Solver], rows: &[(usize, Row)], o: &Options) -> String {
     let bottom = TOP + height * names.len() as f64;
     let mut out = format!(
         "<svg xmlns=\"http://www.w3.org/2000/svg\" viewBox=\"0 0 {WIDTH} {0}\" width=\"{WIDTH}\" height=\"{0}\" font-family=\"sans-serif\" font-size=\"12\">\n",
-        bottom + 46.0
+        bottom + 32.0
     );
-    out += &format!("<rect width=\"{WIDTH}\" height=\"{}\" fill=\"white\"/>\n", bottom + 46.0);
+    out += &format!("<rect width=\"{WIDTH}\" height=\"{}\" fill=\"white\"/>\n", bottom + 32.0);
     out += "<text x=\"14\" y=\"26\" font-size=\"16\">From a problem to its solution: the median sheet (mark) and the worst (end of the line)</text>\n";
     out += &(legend(&list) + &grid(bottom));
     for (k, name) in names.iter().enumerate() {
@@ -138,8 +138,5 @@ pub fn draw(solvers: &[Solver], rows: &[(usize, Row)], o: &Options) -> String {
     let raced: usize = rows.iter().map(|(_, r)| r.races.first().map_or(0, |r| r.seconds.len())).sum();
     let words = format!("{} sheets by call, {raced} by process; seed {}; an arrow: not done in {LIMIT} s", o.sheets * rows.len(), o.seed);
     out += &text(RIGHT, bottom + 20.0, "end", &words);
-    if let Some(note) = left_out(o.limit) {
-        out += &text(RIGHT, bottom + 36.0, "end", &note);
-    }
     out + "</svg>\n"
 }

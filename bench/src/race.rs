@@ -1,12 +1,11 @@
 //! The solvers as whole processes on the same sheets, from a problem to its solution in a file.
 
 use crate::families;
-use crate::ours;
 use crate::problem::Problem;
 use crate::progress::Progress;
 use crate::rivals::{value_of, Solver, LIMIT, RIVALS};
 use crate::speed::Row;
-use crate::stats::{at, timed, MEDIAN, WORST};
+use crate::stats::{at, timed, MEDIAN, NINETY_NINTH, WORST};
 use crate::twin::{self, WITH_SCALES};
 
 /// What a solver did on the sheets of a row: sorted seconds, how many sheets it did not do in time, and on how many it has the best value.
@@ -18,9 +17,9 @@ pub struct Race {
 }
 
 impl Race {
-    /// Of sheets that were done, and of those that were not.
-    pub fn of(done: &[f64], late: usize) -> Race {
-        Race { seconds: done.iter().copied().chain(std::iter::repeat_n(LIMIT as f64, late)).collect(), late, right: done.len() }
+    /// Of sheets that were all done, and rightly.
+    pub fn of(seconds: &[f64]) -> Race {
+        Race { seconds: seconds.to_vec(), late: 0, right: seconds.len() }
     }
 
     pub fn at(&self, share: usize) -> f64 {
@@ -53,19 +52,16 @@ pub fn solvers() -> Vec<Solver> {
 
 /// The size of the best value, by the twin.
 fn best(p: &Problem) -> f64 {
-    let outcome = twin::plan(p, WITH_SCALES, u64::MAX).expect("scales end");
-    value_of(&outcome.text).expect("a best value").abs()
+    value_of(&twin::plan(p, WITH_SCALES).text).expect("a best value").abs()
 }
 
-/// `ends`: whether ours is worth waiting for.
-pub fn races(solvers: &[Solver], problems: &[Problem], ends: &dyn Fn(&Problem) -> bool, progress: &mut Progress) -> Vec<Race> {
+pub fn races(solvers: &[Solver], problems: &[Problem], progress: &mut Progress) -> Vec<Race> {
     let mut races = vec![Race::default(); solvers.len()];
     for (k, p) in problems.iter().enumerate() {
         progress.show(|| format!("{k} of {} sheets by other solvers", problems.len()));
         let best = best(p);
         for (solver, race) in solvers.iter().zip(&mut races) {
-            let waits = !matches!(solver, Solver::Ours) || ends(p);
-            let (value, seconds) = if waits { timed(|| solver.solve(p)) } else { (None, LIMIT as f64) };
+            let (value, seconds) = timed(|| solver.solve(p));
             race.add(value, seconds, best);
         }
     }
@@ -108,17 +104,17 @@ fn show_start(solver: Solver) {
     println!("{}: a sheet of one item takes {:.2} ms, the median of 9", solver.name(), at(&seconds, MEDIAN).unwrap() * 1e3);
 }
 
-/// What "not done" means for a program whose search is not bounded; nothing for one that is.
-pub fn left_out(limit: u64) -> Option<String> {
-    (!ours::RULES.is_bounded()).then(|| format!("ours is not run where its search takes more than {limit} steps: not done, as if {LIMIT} s"))
+fn show_all(name: &str, races: impl Iterator<Item = Race>) {
+    let all = races.fold(Race::default(), |sum, r| sum.with(&r));
+    let times = [MEDIAN, NINETY_NINTH, WORST].map(|share| format!("{:>9.3}", all.at(share) * 1e3)).join(" ");
+    println!("{name:24} {:>7} {:>10} {:>9} |{times}", all.seconds.len(), all.right, all.late);
 }
 
 /// The table of all rows, and how ours stands.
-pub fn show(solvers: &[Solver], rows: &[(usize, Row)], raced: usize, limit: u64) {
+pub fn show(solvers: &[Solver], rows: &[(usize, Row)], raced: usize) {
     println!();
     println!("Whole processes, from a problem to its solution in a file: median and worst of the first {raced} sheets of each row, in ms,");
     println!("the least of three runs, of one if it takes a quarter of a second; + if one was not done in {LIMIT} s");
-    left_out(limit).iter().for_each(|note| println!("{note}"));
     for rival in RIVALS.into_iter().filter(|r| solvers.iter().all(|s| s.name() != r.name())) {
         println!("{} is not installed", rival.name());
     }
@@ -128,10 +124,12 @@ pub fn show(solvers: &[Solver], rows: &[(usize, Row)], raced: usize, limit: u64)
     println!("{:24} {:>10} {:>5} |{names}", "family", "continuous", "bound");
     rows.iter().for_each(|(continuous, row)| show_row(*continuous, row));
     println!();
+    println!("{:24} {:>7} {:>10} {:>9} |{:>9} {:>9} {:>9}", "all rows, ms", "sheets", "best value", "not done", "median", "99th", "worst");
+    show_all("ours, a call", rows.iter().map(|(_, row)| row.calls()));
     for (k, solver) in solvers.iter().enumerate() {
-        let all = rows.iter().fold(Race::default(), |sum, (_, row)| sum.with(&row.races[k]));
-        println!("{}: the best value on {} of {} sheets, {} not done", solver.name(), all.right, all.seconds.len(), all.late);
+        show_all(&format!("{}, a process", solver.name()), rows.iter().map(|(_, row)| row.races[k].clone()));
     }
+    println!();
     for (k, solver) in solvers.iter().enumerate().skip(1) {
         let s = standing(rows, k);
         println!(

@@ -16,8 +16,6 @@ pub struct Options {
     pub seed: u64,
     pub sheets: usize,
     pub raced: usize,
-    /// steps of a search that is not bounded
-    pub limit: u64,
     /// the twin's
     pub rules: Rules,
     pub continuous: &'static [usize],
@@ -26,8 +24,8 @@ pub struct Options {
     pub picture: Option<String>,
 }
 
-/// The sheets of a family with a bound and some continuous items: work and seconds of those that were done, and what both did of them; and
-/// the solvers as processes on the first sheets.
+/// The sheets of a family with a bound and some continuous items: the twin's work, and seconds of both; and the solvers as processes on the
+/// first sheets.
 #[derive(Default)]
 pub struct Row {
     pub name: &'static str,
@@ -36,12 +34,11 @@ pub struct Row {
     cells: Vec<u64>,
     ours: Vec<f64>,
     twin: Vec<f64>,
-    over: usize,
     both: Both,
     pub races: Vec<Race>,
 }
 
-/// Sheets that both did: how many, on how many work and text agree, seconds; and cells and seconds of the deep ones.
+/// Ours beside the twin: how many sheets, on how many work and text agree, seconds; and cells and seconds of the deep ones.
 #[derive(Clone, Copy, Default)]
 struct Both {
     count: usize,
@@ -85,32 +82,20 @@ impl Both {
     }
 }
 
-/// Whether our program ends on a problem in good time.
-fn ends(p: &Problem, o: &Options) -> bool {
-    ours::RULES.is_bounded() || twin::plan(p, ours::RULES, o.limit).is_some()
-}
-
 fn measure(p: &Problem, o: &Options, row: &mut Row) {
     let sheet = p.sheet();
-    let limit = if o.rules.is_bounded() { u64::MAX } else { o.limit };
-    let (twin, twin_time) = timed(|| independent::read(&sheet).ok().and_then(|p| twin::plan(&p, o.rules, limit)));
-    row.steps.push(twin.as_ref().map_or(u64::MAX, |t| t.steps));
-    row.cells.push(twin.as_ref().map_or(0, |t| t.cells));
-    if twin.is_some() {
-        row.twin.push(twin_time);
-    }
-    let Some(twin) = twin.filter(|_| ends(p, o)) else {
-        row.over += 1;
-        return;
-    };
+    let (twin, twin_time) = timed(|| twin::plan(&independent::read(&sheet).expect("a good sheet"), o.rules));
     let (text, our_time) = timed(|| ours::plan(&sheet));
-    row.ours.push(our_time);
     let work = ours::work(&sheet);
+    row.steps.push(twin.steps);
+    row.cells.push(twin.cells);
+    row.twin.push(twin_time);
+    row.ours.push(our_time);
     let seconds = Pair { ours: our_time, twin: twin_time };
     let is_deep = twin.cells >= DEEP;
     row.both = row.both.plus(Both {
         count: 1,
-        agree: (work.steps == twin.steps && work.cells.is_none_or(|c| c == twin.cells)) as usize,
+        agree: (work.steps == twin.steps && work.cells == twin.cells) as usize,
         same: (text == twin.text) as usize,
         seconds,
         deep_cells: if is_deep { twin.cells } else { 0 },
@@ -132,20 +117,12 @@ fn measured(family: &Family, bound: i64, continuous: usize, solvers: &[Solver], 
         measure(p, o, &mut row);
     }
     let raced = &problems[..o.raced.min(problems.len())];
-    row.races = race::races(solvers, raced, &|p| ends(p, o), &mut progress);
+    row.races = race::races(solvers, raced, &mut progress);
     row.steps.sort();
     row.cells.sort();
     row.ours.sort_by(f64::total_cmp);
     row.twin.sort_by(f64::total_cmp);
     row
-}
-
-fn many(steps: u64, limit: u64) -> String {
-    if steps == u64::MAX {
-        format!(">{limit}")
-    } else {
-        steps.to_string()
-    }
 }
 
 /// Median, 99th of a hundred and worst, in columns of a width.
@@ -162,23 +139,22 @@ fn ratio_text(ratio: f64) -> String {
 }
 
 impl Row {
-    /// Ours as a call on all sheets; those left out count as not done.
+    /// Ours as a call on all sheets.
     pub fn calls(&self) -> Race {
-        Race::of(&self.ours, self.over)
+        Race::of(&self.ours)
     }
 
-    fn show(&self, o: &Options) {
+    fn show(&self) {
         let micro = |seconds: f64| format!("{:.1}", seconds * 1e6);
         println!(
-            "{:24} {:>5} |{} |{} |{} |{} |{:>5} {:>4}",
+            "{:24} {:>5} |{} |{} |{} |{} |{:>6}",
             self.name,
             self.bound,
-            three(&self.steps, 8, |n| many(n, o.limit)),
+            three(&self.steps, 6, |n| n.to_string()),
             three(&self.cells, 6, |n| n.div_ceil(1000).to_string()),
             three(&self.ours, 9, micro),
             three(&self.twin, 9, micro),
-            ratio_text(self.both.seconds.ratio()),
-            self.over
+            ratio_text(self.both.seconds.ratio())
         );
     }
 }
@@ -187,35 +163,29 @@ fn heading(continuous: usize) {
     println!();
     println!("{} integer items and {continuous} continuous ones", ITEMS - continuous);
     let three = |width: usize| ["median", "99th", "worst"].map(|w| format!("{w:>width$}")).join(" ");
-    println!("{:30} |{:>26} |{:>20} |{:>29} |{:>29} |", "", "steps", "1,000 cells", "ours us", "twin us");
-    println!("{:24} {:>5} |{} |{} |{} |{} |{:>5} {:>4}", "family", "bound", three(8), three(6), three(9), three(9), "ratio", "over");
+    println!("{:30} |{:>20} |{:>20} |{:>29} |{:>29} |", "", "steps", "1,000 cells", "ours us", "twin us");
+    println!("{:24} {:>5} |{} |{} |{} |{} |{:>6}", "family", "bound", three(6), three(6), three(9), three(9), "ratio");
 }
 
 fn introduce(o: &Options) {
     println!("Speed: {} sheets a row, seed {}; the same sheets for all", o.sheets, o.seed);
-    match o.rules.is_bounded() {
-        true => println!("The twin searches for {} steps, then it goes by scales", o.rules.steps),
-        false => println!("The twin searches until it ends, without scales"),
-    }
-    println!("steps, cells: the twin's; us: from a sheet to its text, the least of three runs; ratio: our time by the twin's, of all sheets that both did");
-    if !ours::RULES.is_bounded() {
-        println!("over: sheets whose search takes more than {} steps; ours is not timed on them", o.limit);
-    }
+    println!("steps, cells: the twin's, which searches for {} steps and then goes by scales", o.rules.steps);
+    println!("us: from a sheet to its text, the least of three runs; ratio: our time by the twin's, of all sheets");
 }
 
-/// What all rows come to. Whether work and text are the same on all sheets that both did.
-fn sum_up(rows: &[(usize, Row)], o: &Options) -> bool {
+/// What all rows come to. Whether work and text are the same on all sheets.
+fn sum_up(rows: &[(usize, Row)]) -> bool {
     let both = rows.iter().fold(Both::default(), |sum, (_, r)| sum.plus(r.both));
     let most = |list: fn(&Row) -> &[u64]| rows.iter().filter_map(|(_, r)| at(list(r), WORST)).max().unwrap_or(0);
     let highest = rows.iter().map(|(_, r)| r.both.seconds.ratio()).fold(0.0, f64::max);
     let Both { count, agree, same, deep_cells, deep, .. } = both;
     println!();
-    println!("work agrees on {agree} of {count} sheets that both did; texts agree on {same} of {count}");
-    println!("most steps {}, most cells {}; highest ratio of a row {highest:.2}", many(most(|r| &r.steps), o.limit), most(|r| &r.cells));
+    println!("work agrees on {agree} of {count} sheets; texts agree on {same} of {count}");
+    println!("most steps {}, most cells {}; highest ratio of a row {highest:.2}", most(|r| &r.steps), most(|r| &r.cells));
     if deep_cells > 0 {
         let per_cell = |seconds: f64| seconds * 1e9 / deep_cells as f64;
         println!(
-            "a cell, on sheets of {DEEP} or more that both did: ours {:.2} ns, the twin {:.2} ns, ratio {:.2}",
+            "a cell, on sheets of {DEEP} or more: ours {:.2} ns, the twin {:.2} ns, ratio {:.2}",
             per_cell(deep.ours),
             per_cell(deep.twin),
             deep.ratio()
@@ -234,14 +204,14 @@ pub fn speed(o: &Options) -> bool {
         for family in FAMILIES.iter().filter(|f| f.name.contains(&o.family)) {
             for bound in family.bounds {
                 let row = measured(family, bound, continuous, &solvers, o);
-                row.show(o);
+                row.show();
                 rows.push((continuous, row));
             }
         }
     }
-    let is_same = sum_up(&rows, o);
+    let is_same = sum_up(&rows);
     if o.raced > 0 {
-        race::show(&solvers, &rows, o.raced, o.limit);
+        race::show(&solvers, &rows, o.raced);
     }
     if let Some(file) = &o.picture {
         std::fs::write(file, picture::draw(&solvers, &rows, o)).expect("a file for the picture");

@@ -5,9 +5,10 @@ use crate::draw::{tiny, Rng};
 use crate::enumeration::{first_best, Found, GRID};
 use crate::families::{CONTINUOUS, FAMILIES};
 use crate::independent::{self, Point, Reply};
+use crate::ours;
 use crate::problem::Problem;
 use crate::progress::Progress;
-use crate::twin::{self, Rules, FIRST, SEARCH_ONLY, WITH_SCALES};
+use crate::twin::{self, Rules, FIRST};
 
 /// How far an absent upper bound is taken beyond the lower one.
 const BEYOND: i64 = 7;
@@ -24,10 +25,6 @@ struct Counts {
     differ: u64,
 }
 
-fn twin_text(p: &Problem, rules: Rules) -> String {
-    twin::plan(p, rules, u64::MAX).map(|o| o.text).unwrap_or_default()
-}
-
 /// The twin's reply begins as the independent one, whatever the steps.
 fn check_twin(p: &Problem, expected: Reply) -> Result<(), String> {
     let line = match expected {
@@ -36,8 +33,8 @@ fn check_twin(p: &Problem, expected: Reply) -> Result<(), String> {
         _ => "infeasible\n".into(),
     };
     for steps in STEPS {
-        for rules in [SEARCH_ONLY, WITH_SCALES, FIRST] {
-            let text = twin_text(p, Rules { steps, ..rules });
+        for rules in [ours::RULES, FIRST] {
+            let text = twin::plan(p, Rules { steps, ..rules }).text;
             if !text.starts_with(&line) {
                 return Err(format!("the twin after {steps} steps says {text}"));
             }
@@ -51,7 +48,7 @@ fn check_point_of(p: &Problem) -> Result<Point, String> {
     let first = independent::first(p).ok_or("no first best point")?;
     check_point(p, &first)?;
     for steps in STEPS {
-        check_is(&first, &twin_text(p, Rules { steps, ..FIRST }))?;
+        check_is(&first, &twin::plan(p, Rules { steps, ..FIRST }).text)?;
     }
     Ok(first)
 }

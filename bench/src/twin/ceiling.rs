@@ -16,9 +16,6 @@ use crate::problem::Problem;
 const ITEMS: usize = 16;
 const SLACK: usize = 16;
 
-/// Losses above this are not looked for: over a divisor of 1000 and times a scale of 1000 they are below 2^62.
-const DEEPEST: i64 = 4_000_000_000_000;
-
 /// What the driver has to know of a box. `falls`: the amount falls from the light end on. `soft`: the continuous items that can be worth
 /// filling, in the order of filling.
 #[derive(Default)]
@@ -43,6 +40,9 @@ pub struct Loss {
     num: u64,
     den: u64,
 }
+
+/// Some point of a box loses less than this at the critical item's ratio.
+pub const DEEPEST: Loss = Loss { num: 10_000_000, den: 1 };
 
 /// `cut`: the item in granules.
 #[derive(Clone, Copy)]
@@ -77,18 +77,18 @@ impl Shape {
         (h.room, h.worth) = (corner.room, corner.worth);
         // the multiplier p / q is the critical item's ratio
         (h.p, h.q) = if f.at < s.live { (s.rate[f.at], s.size[f.at]) } else { (0, 1) };
-        let gains = |k: usize| h.rate[k] > 0 || (h.rate[k] == 0 && h.falls[k]);
-        let soft = |k: &usize| !h.integer[*k] && h.width[*k] > 0 && h.size[*k] > 0 && gains(*k);
-        h.soft = s.order[..s.count].iter().copied().filter(soft).collect();
+        h.soft = s.order[..s.live].iter().copied().filter(|&k| !h.integer[k] && h.width[k] > 0).collect();
         h
     }
 
     /// Of equal ratios falling items are filled first, by number, then rising ones, the last number first: so the first point of those worth
-    /// as much has a frame.
+    /// as much has a frame. Falling items that are worth nothing come last.
     pub fn fill_early(&mut self) {
         let early = |k: usize| if self.falls[k] { k } else { 2 * ITEMS - k };
         let ratio = |j: usize, k: usize| (self.rate[k] * self.size[j]).cmp(&(self.rate[j] * self.size[k]));
-        let mut soft = self.soft.clone();
+        let counts = |&k: &usize| self.rate[k] > 0 || (self.rate[k] == 0 && self.falls[k]);
+        let is_soft = |&k: &usize| !self.integer[k] && self.width[k] > 0 && self.size[k] > 0;
+        let mut soft: Vec<usize> = (0..self.count).filter(is_soft).filter(counts).collect();
         soft.sort_by(|&j, &k| ratio(j, k).then(early(j).cmp(&early(k))));
         self.soft = soft;
     }
@@ -97,11 +97,14 @@ impl Shape {
         self.q * self.rate[k] - self.p * self.size[k]
     }
 
-    /// How much q times a value is below the top of the box; none if that is too deep.
-    pub fn loss(&self, v: Mixed) -> Option<Loss> {
+    /// How much q times a value is below the top of the box, unless that is too deep.
+    pub fn loss(&self, v: Mixed) -> Loss {
         let gains = (0..self.count).map(|k| self.edge(k).max(0) * self.width[k]);
-        let whole = self.q * self.worth + self.p * self.room + gains.sum::<i64>() - self.q * v.whole;
-        (whole <= DEEPEST).then(|| Loss { num: (whole * v.parts - self.q * v.part) as u64, den: v.parts as u64 })
+        let whole = (self.q * self.worth + self.p * self.room + gains.sum::<i64>() - self.q * v.whole) as u64;
+        if whole > DEEPEST.num {
+            return DEEPEST;
+        }
+        Loss { num: whole * v.parts as u64 - (self.q * v.part) as u64, den: v.parts as u64 }
     }
 
     /// One for each soft item; one if there is none.

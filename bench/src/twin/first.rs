@@ -29,7 +29,7 @@ impl Point {
 /// The first of the frames' first points that are worth the best value.
 pub fn first_point(mut h: Shape, best: Mixed, cells: &mut Cells) -> Point {
     h.fill_early();
-    let least = h.loss(best).expect("the best value is near the relaxation's");
+    let least = h.loss(best);
     let mut first: Option<Point> = None;
     for l in 0..h.frames() {
         let next = first_of_frame(&h, l, least, cells).map(|f| Point::of(&h, &f));

@@ -12,7 +12,7 @@ pub const PARTS: usize = 17;
 const ARRAY: usize = 65_536;
 
 /// No cap is above this: two costs are added without overflow.
-pub const HIGHEST: u64 = 1 << 62;
+pub const HIGHEST: u64 = i64::MAX as u64;
 
 /// weight <= 1000 each; taken, left <= cap <= HIGHEST.
 #[derive(Clone, Copy)]
@@ -25,11 +25,11 @@ pub struct Load {
     pub cap: u64,
 }
 
-/// The array, and how many updates of a cell all passes made.
+/// The array, and how often a cell was written.
 #[derive(Default)]
 pub struct Cells {
     array: Vec<u64>,
-    pub updated: u64,
+    pub written: u64,
 }
 
 /// The most that the lowest digit of an amount 0 ..= range can be.
@@ -42,49 +42,49 @@ fn digit(range: u64) -> u64 {
 }
 
 impl Cells {
-    /// A unit that weighs w is offered: cells 0 ..= top, downwards.
-    fn offer(&mut self, top: usize, w: usize, taken: u64, left: u64, cap: u64) {
-        let cells = &mut self.array[..=top];
-        for x in (w..=top).rev() {
+    /// A unit that weighs w is offered to the first n cells, which become w more; downwards.
+    fn offer(&mut self, n: usize, w: usize, taken: u64, left: u64, cap: u64) {
+        let cells = &mut self.array[..n + w];
+        cells[n..].fill(cap);
+        for x in (w..n + w).rev() {
             cells[x] = (cells[x] + left).min(cells[x - w] + taken).min(cap);
         }
         if left > 0 {
             cells.iter_mut().take(w).for_each(|c| *c = (*c + left).min(cap));
         }
-        self.updated += top as u64 + 1;
+        self.written += (n + w) as u64;
     }
 
-    /// The digits of part j at this scale. The highest cell in use after them; those above `top` are dead.
-    fn offer_part(&mut self, l: &Load, j: usize, mut top: usize) -> usize {
+    /// The digits of part j at this scale are offered to the first n cells; how many there are then.
+    fn offer_part(&mut self, l: &Load, j: usize, mut n: usize) -> usize {
         for _ in 0..digit(l.range[j]) {
-            let to = (top + l.weight[j]).min(l.capacity as usize);
-            self.array[top + 1..to + 1].fill(l.cap);
-            self.offer(to, l.weight[j], l.taken[j], l.left[j], l.cap);
-            top = to;
+            self.offer(n, l.weight[j], l.taken[j], l.left[j], l.cap);
+            n += l.weight[j];
         }
-        top
+        n
     }
 
-    /// Cell x becomes cell 2 x + parity, for x up to `top`.
-    fn halve(&mut self, top: usize, parity: usize) {
-        for x in 0..=top {
+    /// Of the first n cells those of a parity stay; how many.
+    fn halve(&mut self, n: usize, parity: usize) -> usize {
+        let half = (n + 1 - parity) / 2;
+        for x in 0..half {
             self.array[x] = self.array[2 * x + parity];
         }
+        self.written += half as u64;
+        half
     }
 
     /// The least cost of a choice that weighs exactly the capacity; cap if none costs less.
     pub fn least_cost(&mut self, mut l: Load) -> u64 {
-        let mut top = 0;
+        let mut n = 1;
         self.array.resize(ARRAY, 0);
         self.array[0] = 0;
         while l.range.iter().any(|&r| r > 0) {
-            top = (0..PARTS).fold(top, |top, j| self.offer_part(&l, j, top));
-            self.array[top + 1] = l.cap;
-            top /= 2;
-            self.halve(top, (l.capacity % 2) as usize);
+            n = (0..PARTS).fold(n, |n, j| self.offer_part(&l, j, n));
+            n = self.halve(n, (l.capacity % 2) as usize);
             l = coarser(l);
         }
-        if l.capacity <= top as u64 {
+        if l.capacity < n as u64 {
             self.array[l.capacity as usize]
         } else {
             l.cap

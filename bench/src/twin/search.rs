@@ -24,9 +24,9 @@ enum Settled {
 
 /// The levels above `from` settle nothing.
 pub struct Search<'a> {
-    pub s: &'a Setting,
+    s: &'a Setting,
     path: Path,
-    pub best: Option<Incumbent>,
+    best: Option<Incumbent>,
     pub steps: u64,
     from: usize,
 }
@@ -63,8 +63,7 @@ impl<'a> Search<'a> {
         let Some(best) = self.best else {
             return false;
         };
-        !less(best.value, self.s.bound(f))
-            || if self.s.free { self.s.off_strides(f, best.value) } else { self.s.off_lattice(f, d, best.value.whole) }
+        !less(best.value, self.s.bound(f)) || (!self.s.free && self.s.off_lattice(f, d, best.value.whole))
     }
 
     /// Whether a pair of level d and one above can be taken away from the place within the box.
@@ -141,18 +140,18 @@ impl<'a> Search<'a> {
         })
     }
 
-    /// Whether the search ended within so many steps in all; it goes on from where it was stopped.
-    pub fn run(&mut self, limit: u64) -> bool {
+    /// The best place, if the search ends within so many steps; else the best so far, if there is one.
+    pub fn run(&mut self, limit: u64) -> Result<Incumbent, Option<Incumbent>> {
         while self.steps < limit {
             self.steps += 1;
             let (settled, better) = self.look();
             let Some((d, v)) = self.next(settled) else {
-                return true;
+                return Ok(self.best.expect("the box has a feasible place"));
             };
             self.from = if better { 0 } else { d };
             self.path.place[d] = v;
             self.dive(d + 1);
         }
-        false
+        Err(self.best)
     }
 }

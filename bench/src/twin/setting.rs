@@ -1,8 +1,6 @@
 //! What does not change during a search: the box, the orders of filling and of branching, lattices, pairs.
 
 use super::lattice::Lattice;
-use super::strides::Soft;
-use super::Rules;
 use crate::problem::{Item, Problem};
 
 /// What stands for an absent bound.
@@ -31,7 +29,6 @@ pub struct Setting {
     pub levels: usize,
     pub level: [usize; 16],
     pub free: bool,
-    pub soft: Soft,
     pub lattice: [Lattice; 16],
     pub pairs: Vec<Option<(i64, i64)>>,
 }
@@ -44,7 +41,7 @@ pub fn gcd(a: i64, b: i64) -> i64 {
     }
 }
 /// A continuous item that is not fixed.
-pub fn is_free(i: &Item) -> bool {
+fn is_free(i: &Item) -> bool {
     !i.integer && (i.lower.is_none() || i.lower != i.upper)
 }
 
@@ -88,7 +85,7 @@ fn branching_order(p: &Problem, s: &Setting) -> Vec<usize> {
     order
 }
 
-pub fn prepare(p: &Problem, rules: Rules) -> Setting {
+pub fn prepare(p: &Problem) -> Setting {
     let mut s = Setting { count: p.items.len(), limit: p.limit, ..Default::default() };
     for (k, i) in p.items.iter().enumerate() {
         (s.weight[k], s.price[k]) = (i.weight, i.price);
@@ -107,9 +104,6 @@ pub fn prepare(p: &Problem, rules: Rules) -> Setting {
         s.levels += 1;
     }
     s.free = p.items.iter().any(is_free);
-    if rules.strides {
-        s.soft = Soft::of(p, &s);
-    }
     let mut lattice = Lattice::default();
     for d in (0..s.levels).rev() {
         let k = s.level[d];

@@ -16,7 +16,7 @@ use Rattle.knapsack.specs.declared.Mark.{Mark}
 use Rattle.knapsack.specs.declared.Mark.the-variants.{Integer, Continuous}
 use Rattle.knapsack.specs.declared.Item.{Item}
 use Rattle.domination.proofs.Tests.{not-both}
-use Rattle.domination.specs.Eligible.{Eligible}
+use Rattle.domination.specs.Eligible.{Eligible, Numbers}
 use Rattle.domination.specs.Pairs.{isInteger, oneSign, eligible, wrongNumber, wrongNumbers}
 
 abbrev OneSign : ℤ → ℤ → Type 0
@@ -43,14 +43,6 @@ eligible-iff x = (there, λ h. rw (h .integer) (sign-no (x .weight) (x .price) (
   where
     there : eligible x ≡ true → Eligible x
     there e = let h = mark-yes (x .mark) (oneSign (x .weight) (x .price)) e in record { integer = h .0; one-sign = sign-yes (x .weight) (x .price) (h .1) }
-
--- two different items of n, by number
-pub record Numbers (n i j : ℕ) : Type 0 where
-  pub first-least : 1 ≤ i
-  pub first-most : i ≤ n
-  pub second-least : 1 ≤ j
-  pub second-most : j ≤ n
-  pub different : i ≡ j → ⊥
 
 right : (n k : ℕ) → wrongNumber n k ≡ false → (1 ≤ k) × (k ≤ n)
 right n k = go (eqb k 0) refl

@@ -1,10 +1,10 @@
 -- The entry's replies and the table's entries, in 01's words.
---   Answerable m i j     no refusal applies: the record is accepted, i and j are two items of it, and both are eligible
 --   Applies p i j r s    what a search uses of an entry that holds steps: two items of the problem, and a cost pair
 -- refused-record, refused-numbers, refused-items, answered: which reply when; the four cases are all.
 -- least-pair-steps, least-pair-missing: an answer is 01's least pair exactly.
+-- told: what the reply says, by its case, holds.
 -- tabled-steps: an entry of the table with steps applies.
-use mathlib.Core.Path.{_≡_, refl, ap, subst}
+use mathlib.Core.Path.{_≡_, refl, sym, ap, subst}
 use mathlib.Core.Bool.{Bool, true, false, cond}
 use mathlib.Core.Logic.{_↔_}
 use Prim.Native.Nat.{ℕ, _+_, _-_, _<_}
@@ -15,6 +15,7 @@ use Rattle.knapsack.specs.declared.Mark.the-variants.{Integer}
 use Rattle.knapsack.specs.declared.Item.{Item}
 use Rattle.knapsack.specs.declared.Problem.{Problem}
 use Rattle.knapsack.specs.declared.Refusal.{Refusal}
+use Rattle.knapsack.specs.declared.Verdict.{Verdict}
 use Rattle.knapsack.specs.declared.Verdict.the-variants.{Accepted, Refused as Rejected}
 use Rattle.knapsack.specs.Ranges.{itemAt}
 use Rattle.knapsack.specs.Meaning.{CostPair, LeastPair, NoPair}
@@ -25,11 +26,13 @@ use Rattle.domination.specs.declared.Pair.{Pair}
 use Rattle.domination.specs.declared.Pair.the-variants.{Missing, Steps}
 use Rattle.domination.specs.declared.PairReply.{PairReply}
 use Rattle.domination.specs.declared.PairReply.the-variants.{Refused, Found}
-use Rattle.domination.specs.Eligible.{Eligible}
+use Rattle.domination.specs.Eligible.{Eligible, Numbers}
 use Rattle.domination.specs.Pairs.{pairOf, eligible, wrongNumbers, refusePair, paired, numbered, leastPair, orMissing, tabled}
-use Rattle.domination.proofs.Minimal.{pair-steps, pair-missing}
+use Rattle.domination.specs.Told.{Answerable, by-record, by-numbers, by-items, Told}
+use Rattle.domination.proofs.Minimal.{Outcome, pair-outcome, pair-steps, pair-missing}
 use Rattle.domination.proofs.Sizes.{Small, pair-small}
-use Rattle.domination.proofs.Eligible.{Numbers, eligible-iff, numbers-iff}
+use Rattle.domination.proofs.Eligible.{eligible-iff, numbers-iff}
+use Rattle.domination.proofs.Tests.{not-both}
 
 -- a test that cannot succeed fails
 fails : (t : Bool) → (t ≡ true → ⊥) → t ≡ false
@@ -46,12 +49,6 @@ module _ (m : Model) (i j : ℕ) where
 
   abbrev second : Item
   second = itemAt (plainOf m) (j - 1)
-
-  pub record Answerable : Type 0 where
-    pub is-accepted : verdict m ≡ Accepted
-    pub numbers : Numbers (m .count) i j
-    pub first-eligible : Eligible first
-    pub second-eligible : Eligible second
 
   pub refused-record : (f : Refusal) → verdict m ≡ Rejected f → leastPair m i j ≡ Refused f
   unfolding leastPair
@@ -71,7 +68,7 @@ module _ (m : Model) (i j : ℕ) where
       go true false a b = refl
       go false t a b = refl
 
-  pub answered : Answerable → leastPair m i j ≡ Found (pairOf first second)
+  pub answered : Answerable m i j → leastPair m i j ≡ Found (pairOf first second)
   unfolding leastPair numbered paired
   answered h = rw (
     h .is-accepted,
@@ -80,20 +77,53 @@ module _ (m : Model) (i j : ℕ) where
     eligible-iff second .1 (h .second-eligible),
   )
 
-  found : (q : Pair) → Answerable → (leastPair m i j ≡ Found q) ↔ (pairOf first second ≡ q)
+  found : (q : Pair) → Answerable m i j → (leastPair m i j ≡ Found q) ↔ (pairOf first second ≡ q)
   found q h = let e = answered h in (λ k. cc, λ k. cc)
 
-  pub least-pair-steps : Answerable → (r s : ℤ) → (leastPair m i j ≡ Found (Steps r s)) ↔ LeastPair first second r s
+  pub least-pair-steps : Answerable m i j → (r s : ℤ) → (leastPair m i j ≡ Found (Steps r s)) ↔ LeastPair first second r s
   least-pair-steps h r s =
       let a = found (Steps r s) h in
       let b = pair-steps first second (h .first-eligible) (h .second-eligible) r s in
       (λ k. b .0 (a .0 k), λ l. a .1 (b .1 l))
 
-  pub least-pair-missing : Answerable → (leastPair m i j ≡ Found Missing) ↔ NoPair first second
+  pub least-pair-missing : Answerable m i j → (leastPair m i j ≡ Found Missing) ↔ NoPair first second
   least-pair-missing h =
       let a = found Missing h in
       let b = pair-missing first second (h .first-eligible) (h .second-eligible) in
       (λ k. b .0 (a .0 k), λ l. a .1 (b .1 l))
+
+  told-pair : Answerable m i j → Told m i j (Found (pairOf first second))
+  told-pair h = go (pairOf first second) (pair-outcome first second (h .first-eligible) (h .second-eligible))
+    where
+      go : (q : Pair) → Outcome first second q → Told m i j (Found q)
+      go Missing o = (h, o)
+      go (Steps r s) o = (h, o)
+
+  pub told : Told m i j (leastPair m i j)
+  told = go (verdict m) (wrongNumbers (m .count) i j) (eligible first) (eligible second) refl refl refl refl
+    where
+      is : (q : PairReply) → leastPair m i j ≡ q → Told m i j q → Told m i j (leastPair m i j)
+      is q e t = subst (Told m i j) (sym e) t
+
+      unfit : verdict m ≡ Accepted → wrongNumbers (m .count) i j ≡ false → (Eligible first × Eligible second → ⊥) → Told m i j (leastPair m i j)
+      unfit e w n = let k = numbers-iff (m .count) i j .0 w in is _ (refused-items e k n) (by-items e k n)
+
+      go : (v : Verdict) (w x y : Bool) → verdict m ≡ v → wrongNumbers (m .count) i j ≡ w → eligible first ≡ x → eligible second ≡ y →
+          Told m i j (leastPair m i j)
+      go (Rejected f) w x y e n a b = is _ (refused-record f e) (by-record f e)
+      go Accepted true x y e n a b =
+          let k : Numbers (m .count) i j → ⊥ = λ h. not-both _ n (numbers-iff (m .count) i j .1 h) in
+          is _ (refused-numbers e k) (by-numbers e k)
+      go Accepted false true true e n a b =
+          let h : Answerable m i j = record {
+            is-accepted = e;
+            numbers = numbers-iff (m .count) i j .0 n;
+            first-eligible = eligible-iff first .0 a;
+            second-eligible = eligible-iff second .0 b;
+          } in
+          is _ (answered h) (told-pair h)
+      go Accepted false true false e n a b = unfit e n (λ h. not-both _ (eligible-iff second .1 (h .1)) b)
+      go Accepted false false y e n a b = unfit e n (λ h. not-both _ (eligible-iff first .1 (h .0)) a)
 
 -- ---- the table
 

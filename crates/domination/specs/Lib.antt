@@ -1,3 +1,4 @@
 pub mod Eligible
 pub mod Trades
 pub mod Pairs
+pub mod Told

@@ -17,6 +17,7 @@ ghost use Prim.Native.Nat.{ℕ, _+_, _*_, _<_};
 ghost use lib.ListN.{getD, replicate};
 ghost use Rattle.model.specs.Records.{ItemFigures, FiguresInRange};
 ghost use Rattle.domination.specs.Pairs.{wrongNumber, wrongNumbers, refusePair, paired, numbered, leastPair, orMissing, tabled};
+ghost use Rattle.domination.specs.Told.{Told};
 
 mod pairing; // pairing.rt: the least pair of two items
 mod trade; // trade.rt: the least steps without sign
@@ -90,9 +91,10 @@ fn pair_numbered(p: Problem, i: usize, j: usize) -> PairReply
     pair_items(x, y)
 }
 
-// 01's least pair of the items i and j, numbered from 1.
+// 01's least pair of the items i and j, numbered from 1: the one reply by definition, and what it says, by its case.
 pub fn least_pair(m: Model, i: usize, j: usize) -> PairReply
     ensures { λ r. ⌜ r ≡ leastPair m i j ⌝ }
+    ensures { λ r. ⌜ Told m i j r ⌝ }
 {
     let v = check_model(m);
     match v {

@@ -15,7 +15,7 @@
 --   asked m               the instance that a point is proposed for;  proposedPoint c: the point
 --   Proposed m c          nothing is refused
 --   RefusedAs, ToldValue, ToldWeight, ToldItem   what a refusal, a yes, a no with item 0 and a no with an item say
---   Told m c r            what the reply r says of the point, by its case; proofs/Meaning (told): it is true of pointCheck m c
+--   Told m c r            what the reply r says of the point, by its case: the entry's promise beside pointCheck m c
 use mathlib.Core.Path.{_≡_}
 use mathlib.Core.Bool.{Bool, true, false, cond, not}
 use mathlib.Core.Logic.{_≢_}

@@ -1,6 +1,6 @@
 // Point check: whether a proposed point is feasible, and what it is worth. Paper 01, "Parts that stand in public", rows 7 and 8 of "Refused, by place".
 // Once nothing is refused at most one amount has a divisor above 1; over that divisor every amount is an integer, and so are the sums of
-// weights and prices, below 2 · 10^17. What a reply means is `Told` in specs/Check, and that it is true is proved in proofs/Meaning.
+// weights and prices, below 2 · 10^17. What a reply says is `Told` in specs/Check, which the entry promises (proofs/Meaning).
 use arith::Fraction;
 use arith::gcd;
 use arith::magnitude;
@@ -39,6 +39,7 @@ ghost use Rattle.feasibility.specs.Check.{
   amountCheck,
   pointCheck,
   Checkable,
+  Told,
 };
 
 // 01's proposed point: an amount for each item, at the first count places.
@@ -275,9 +276,10 @@ fn check_amounts(p: Problem, c: Candidate) -> PointReply
     judge(d, p, c)
 }
 
-// 01's point check.
+// 01's point check: the one reply by definition, and what it says, by its case.
 pub fn check_point(m: Model, c: Candidate) -> PointReply
     ensures { λ r. ⌜ r ≡ pointCheck m c ⌝ }
+    ensures { λ r. ⌜ Told m c r ⌝ }
 {
     let v = check_model(m);
     match v {

@@ -16,16 +16,16 @@ use Rattle.fillings.specs.Ranges.{num, itemsIn, Inside, Among, offsetAt,
 use Rattle.fillings.proofs.Boxes.{Shifted, fromLow, shifted-of, shifted-cost}
 
 pub near-within : (left t l wide : ℕ) → nearWide left t l wide ≤ wide
-near-within left t l wide = go (eqb l 0) (eqb t 0)
+near-within left t l wide = go _ _ (eqb l 0) (eqb t 0)
   where
     below : (n : ℕ) → min wide n ≤ wide
     below n = omega arith
 
-    go : (a b : Bool) → cond a (cond b wide (min wide ((left - 1) / t))) (cond b (min wide ((left - 1) / l)) wide) ≤ wide
-    go true true = omega arith
-    go true false = below ((left - 1) / t)
-    go false true = below ((left - 1) / l)
-    go false false = omega arith
+    go : (m n : ℕ) (a b : Bool) → cond a (cond b wide (min wide m)) (cond b (min wide n) wide) ≤ wide
+    go m n true true = omega arith
+    go m n true false = below m
+    go m n false true = below n
+    go m n false false = omega arith
 
 -- ---- one part
 
@@ -51,14 +51,8 @@ module _ (left t l low wide : ℕ) where
       go false = omega arith
 
   offset-same : (u : ℕ) → low + wide ≤ u → t * low′ + l * (u - (low′ + wide′)) ≡ t * low + l * (u - (low + wide))
-  offset-same u h = go (eqb l 0) refl (eqb t 0) refl
+  offset-same u h = go _ _ (eqb l 0) refl (eqb t 0) refl
     where
-      m : ℕ
-      m = (left - 1) / t
-
-      n : ℕ
-      n = (left - 1) / l
-
       free : (x y : ℕ) → l ≡ 0 → t * low + l * x ≡ t * low + l * y
       free x y e = rw e (omega arith)
 
@@ -71,36 +65,37 @@ module _ (left t l low wide : ℕ) where
       below : (n : ℕ) → min wide n ≤ wide
       below n = omega arith
 
-      go : (a : Bool) → eqb l 0 ≡ a → (b : Bool) → eqb t 0 ≡ b
+      go : (m n : ℕ) (a : Bool) → eqb l 0 ≡ a → (b : Bool) → eqb t 0 ≡ b
           → t * cond b (low + (wide - cond a (cond b wide (min wide m)) (cond b (min wide n) wide))) low
           + l * (u - (cond b (low + (wide - cond a (cond b wide (min wide m)) (cond b (min wide n) wide))) low + cond a (cond b wide (min wide m))
           (cond b (min wide n) wide))) ≡ t * low + l * (u - (low + wide))
-      go true e true f = ap₂ (λ (x y : ℕ). x + l * y) (none (low + (wide - wide)) low (eqb-true t 0 f)) (whole wide 0 (omega arith))
-      go true e false f = free (u - (low + min wide m)) (u - (low + wide)) (eqb-true l 0 e)
-      go false e true f = ap₂ (λ (x y : ℕ). x + l * y) (none (low + (wide - min wide n)) low (eqb-true t 0 f)) (whole (min wide n) 0 (below n))
-      go false e false f = refl
+      go m n true e true f = ap₂ (λ (x y : ℕ). x + l * y) (none (low + (wide - wide)) low (eqb-true t 0 f)) (whole wide 0 (omega arith))
+      go m n true e false f = free (u - (low + min wide m)) (u - (low + wide)) (eqb-true l 0 e)
+      go m n false e true f = ap₂ (λ (x y : ℕ). x + l * y) (none (low + (wide - min wide n)) low (eqb-true t 0 f)) (whole (min wide n) 0 (below n))
+      go m n false e false f = refl
 
   -- z units from low on that cost less than left stay
   keeps : (z : ℕ) → z ≤ wide → t * z + l * (wide - z) < left → (low′ ≤ low + z) × (low + z ≤ low′ + wide′)
-  keeps z h k = go (eqb l 0) refl (eqb t 0) refl
+  keeps z h k = go _ _ (eqb l 0) refl (eqb t 0) refl (λ e f. few t z f (priced-taken e)) (λ e f. few l (wide - z) f (priced-left e))
     where
       few : (c x : ℕ) → (c ≡ 0 → ⊥) → c * x < left → x ≤ (left - 1) / c
       few c x ne i = le-div-iff-mul-le {k = c} {x = x} {y = left - 1} (omega arith) .1 (omega arith)
 
-      go : (a : Bool) → eqb l 0 ≡ a → (b : Bool) → eqb t 0 ≡ b
-          → (cond b (low + (wide - cond a (cond b wide (min wide ((left - 1) / t))) (cond b (min wide ((left - 1) / l)) wide))) low ≤ low + z)
-          × (low + z ≤ cond b (low + (wide - cond a (cond b wide (min wide ((left - 1) / t))) (cond b (min wide ((left - 1) / l)) wide))) low + cond a
-          (cond b wide (min wide ((left - 1) / t))) (cond b (min wide ((left - 1) / l)) wide))
-      go true e true f = (omega arith, omega arith)
-      go true e false f = (omega arith, top ((left - 1) / t) (few t z (eqb-false t 0 f) (omega arith)))
-        where
-          top : (n : ℕ) → z ≤ n → low + z ≤ low + min wide n
-          top n i = omega arith
-      go false e true f = from ((left - 1) / l) (few l (wide - z) (eqb-false l 0 e) (omega arith))
-        where
-          from : (n : ℕ) → wide - z ≤ n → (low + (wide - min wide n) ≤ low + z) × (low + z ≤ (low + (wide - min wide n)) + min wide n)
-          from n i = (omega arith, omega arith)
-      go false e false f = (omega arith, omega arith)
+      priced-taken : l ≡ 0 → t * z < left
+      priced-taken e = omega arith
+
+      priced-left : t ≡ 0 → l * (wide - z) < left
+      priced-left e = omega arith
+
+      -- of m units that may be taken, of n that may be left
+      go : (m n : ℕ) (a : Bool) → eqb l 0 ≡ a → (b : Bool) → eqb t 0 ≡ b → (l ≡ 0 → (t ≡ 0 → ⊥) → z ≤ m) → (t ≡ 0 → (l ≡ 0 → ⊥) → wide - z ≤ n)
+          → (cond b (low + (wide - cond a (cond b wide (min wide m)) (cond b (min wide n) wide))) low ≤ low + z)
+          × (low + z ≤ cond b (low + (wide - cond a (cond b wide (min wide m)) (cond b (min wide n) wide))) low
+          + cond a (cond b wide (min wide m)) (cond b (min wide n) wide))
+      go m n true e true f x y = (omega arith, omega arith)
+      go m n true e false f x y = (omega arith, omega (arith, x (eqb-true l 0 e) (eqb-false t 0 f)))
+      go m n false e true f x y = let i = y (eqb-true t 0 f) (eqb-false l 0 e) in (omega arith, omega arith)
+      go m n false e false f x y = (omega arith, omega arith)
 
 -- ---- all parts
 

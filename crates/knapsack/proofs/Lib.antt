@@ -9,4 +9,5 @@ pub mod Rays
 pub mod Escape
 pub mod Starred
 pub mod Serve
+pub mod Same
 pub mod Demands

@@ -87,6 +87,7 @@ module _ (s t : Instance) (f : Serves s t) where
     lowest = λ k h. p .lowest k (in-t k h);
     single = λ j k g h. p .single j k (in-t j g) (in-t k h);
     divides = λ k h o. subst (λ a. Divides (x k .q) (natAbs a)) (f .weight k h) (p .divides k (in-t k h) o);
+    weightless = λ k h e. p .weightless k (in-t k h) (f .weight k h ∙ e);
     beyond = λ k h. p .beyond k (omega (arith, f .count));
   }
 

@@ -140,13 +140,14 @@ relaxed s = record {
 abbrev pub nought : Fraction
 nought = record { p = pos 0; q = 1 }
 
--- within ±1,000,000,000, in lowest terms, at most one not whole, and its divisor divides its item's weight; zero beyond the items
+-- within ±1,000,000,000, in lowest terms, at most one not whole, and its divisor divides its item's weight, which is not 0; zero beyond the items
 pub record Shown (s : Instance) (x : ℕ → Fraction) : Type 0 where
   pub small : (k : ℕ) → k < s .count → natAbs (x k .p) ≤ 1000000000 * x k .q
   pub divisor : (k : ℕ) → k < s .count → 1 ≤ x k .q
   pub lowest : (k : ℕ) → k < s .count → gcdOf (natAbs (x k .p)) (x k .q) ≡ 1
   pub single : (j k : ℕ) → j < s .count → k < s .count → x j .q ≢ 1 → x k .q ≢ 1 → j ≡ k
   pub divides : (k : ℕ) → k < s .count → x k .q ≢ 1 → Divides (x k .q) (natAbs (weights s k))
+  pub weightless : (k : ℕ) → k < s .count → weights s k ≡ pos 0 → x k .q ≡ 1
   pub beyond : (k : ℕ) → s .count ≤ k → x k ≡ nought
 
 abbrev pub ShownSteps : Instance → (ℕ → ℤ) → Type 0

@@ -1,4 +1,5 @@
 pub mod Places
+pub mod Faults
 pub mod Blocks
 pub mod Numerals
 pub mod Shapes

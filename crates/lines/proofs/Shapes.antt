@@ -18,18 +18,20 @@ use Rattle.lines.specs.declared.number.Range.{Range}
 use Rattle.lines.specs.declared.number.Ranged.{Ranged}
 use Rattle.lines.specs.declared.number.Ranged.the-variants.{In, Out}
 use Rattle.lines.specs.declared.number.Field.{Field}
-use Rattle.lines.specs.declared.number.Field.the-variants.{Malformed, Number}
+use Rattle.lines.specs.declared.number.Field.the-variants.{Fault, Number}
 use Rattle.lines.specs.declared.TwoNumbers.{TwoNumbers}
-use Rattle.lines.specs.declared.TwoNumbers.the-variants.{Malformed as NoNumbers, Both}
+use Rattle.lines.specs.declared.TwoNumbers.the-variants.{Fault as NumbersFault, Both}
 use Rattle.lines.specs.declared.Count.the-variants.{Fault as CountFault, Lines}
 use Rattle.knapsack.specs.declared.Bound.the-variants.{Absent}
 use Rattle.knapsack.specs.declared.Mark.{Mark}
 use Rattle.knapsack.specs.declared.Item.{Item}
 use Rattle.lines.specs.declared.Marked.{Marked}
-use Rattle.lines.specs.declared.Marked.the-variants.{Malformed as NoMark, Mark as MarkOf}
+use Rattle.lines.specs.declared.Marked.the-variants.{Nothing as NoMark, Mark as MarkOf}
 use Rattle.lines.specs.declared.ItemRead.the-variants.{Fault as ItemFault, Read as ItemIs}
 use Rattle.lines.specs.declared.BoundRead.the-variants.{Fault as BoundFault, Read as BoundIs}
+use Rattle.model.specs.Refusals as refusal
 use Rattle.lines.specs.Places.{afterByte, afterWord, onPlace}
+use Rattle.lines.specs.Faults.{faultAt}
 use Rattle.lines.specs.Numbers.{Numeral, none, numeral, numberAt, fromTo, ranged, inRange, closedBy, fieldAt}
 use Rattle.lines.specs.Lines.{onField, headingLine, numbersLine, markAt, weights, withNumbers, marked, itemLine, itemOf, itemRead, countOf}
 use Rattle.lines.specs.Lines.{countAt, numbered, boundOf, boundRead, prices}
@@ -39,16 +41,16 @@ pub place-some : {A : Type 0} (p : Place) (a : A) (f : ℕ → A) (r : A) → (a
 place-some Nothing a f r ne h = absurd (ne h)
 place-some (At n) a f r ne h = (n, refl, h)
 
-pub field-some : {A : Type 0} (x : Field) (a : A) (f : Ranged → ℕ → A) (r : A) → (a ≡ r → ⊥) → onField x a f ≡ r →
+pub field-some : {A : Type 0} (x : Field) (a : ℕ → A) (f : Ranged → ℕ → A) (r : A) → ((k : ℕ) → a k ≡ r → ⊥) → onField x a f ≡ r →
     (g : Ranged) × (n : ℕ) × (x ≡ Number g n) × (f g n ≡ r)
-field-some Malformed a f r ne h = absurd (ne h)
+field-some (Fault k) a f r ne h = absurd (ne k h)
 field-some (Number g n) a f r ne h = (g, n, refl, h)
 
-no-field : {f : Ranged} {n : ℕ} → Malformed ≡ Number f n → ⊥
+no-field : {k : ℕ} {f : Ranged} {n : ℕ} → Fault k ≡ Number f n → ⊥
 no-field h = let z : _≡_ {A = ℕ} 0 1 = cc in omega arith
 
-no-numbers : {f g : Ranged} {n : ℕ} → NoNumbers ≡ Both f g n → ⊥
-no-numbers h = let z : _≡_ {A = ℕ} 0 1 = cc in omega arith
+no-numbers : {f g : Ranged} {n : ℕ} (k : ℕ) → NumbersFault k ≡ Both f g n → ⊥
+no-numbers k h = let z : _≡_ {A = ℕ} 0 1 = cc in omega arith
 
 -- ---- a number that a byte closes
 
@@ -63,10 +65,10 @@ pub field-parts : (b : ℕ) (r : Range) (s : List ℕ) (at : ℕ) (f : Ranged) (
 unfolding fieldAt
 field-parts b r s at f end h = go (numberAt s at) refl h
   where
-    go : (x : Numeral) → numberAt s at ≡ x → closedBy b s (inRange r x) ≡ Number f end → FieldParts b r s at f end
+    go : (x : Numeral) → numberAt s at ≡ x → closedBy b s at (inRange r x) ≡ Number f end → FieldParts b r s at f end
     go none e h = absurd (no-field h)
     go (numeral z n) e h =
-        let p = place-some (afterByte s n b) Malformed (λ m. Number (ranged r z) m) (Number f end) no-field h in
+        let p = place-some (afterByte s n b) (Fault (faultAt refusal.number s n)) (λ m. Number (ranged r z) m) (Number f end) no-field h in
         let q = p .2 in
         let u : p .0 ≡ end = cc in
         record { value = z; close = n; number = e; figured = cc; closed = p .1 ∙ ap At u }
@@ -84,8 +86,9 @@ pub record NumbersParts (r q : Range) (s : List ℕ) (at : ℕ) (x y : Ranged) (
 pub numbers-parts : (r q : Range) (s : List ℕ) (at : ℕ) (x y : Ranged) (end : ℕ) → numbersLine r q s at ≡ Both x y end → NumbersParts r q s at x y end
 unfolding numbersLine
 numbers-parts r q s at x y end h =
-    let a = field-some (fieldAt 32 r s at) NoNumbers (λ x n. onField (fieldAt 10 q s n) NoNumbers (λ y m. Both x y m)) (Both x y end) no-numbers h in
-    let b = field-some (fieldAt 10 q s (a .1)) NoNumbers (λ y m. Both (a .0) y m) (Both x y end) no-numbers (a .3) in
+    let w : ℕ → TwoNumbers = λ k. NumbersFault k in
+    let a = field-some (fieldAt 32 r s at) w (λ x n. onField (fieldAt 10 q s n) w (λ y m. Both x y m)) (Both x y end) no-numbers h in
+    let b = field-some (fieldAt 10 q s (a .1)) w (λ y m. Both (a .0) y m) (Both x y end) no-numbers (a .3) in
     let e = b .3 in
     let f : a .0 ≡ x = cc in
     let g : b .0 ≡ y = cc in
@@ -103,8 +106,9 @@ pub heading-parts : (w : List ℕ) (r : Range) (s : List ℕ) (at : ℕ) (f : Ra
     HeadingParts w r s at f end
 unfolding headingLine
 heading-parts w r s at f end h =
-    let a = place-some (afterWord s at w) Malformed (λ n. onPlace (afterByte s n 32) Malformed (λ m. fieldAt 10 r s m)) (Number f end) no-field h in
-    let b = place-some (afterByte s (a .0) 32) Malformed (λ m. fieldAt 10 r s m) (Number f end) no-field (a .2) in
+    let wrong : ℕ → Field = λ n. Fault (faultAt refusal.heading-word s n) in
+    let a = place-some (afterWord s at w) (wrong at) (λ n. onPlace (afterByte s n 32) (wrong n) (λ m. fieldAt 10 r s m)) (Number f end) no-field h in
+    let b = place-some (afterByte s (a .0) 32) (wrong (a .0)) (λ m. fieldAt 10 r s m) (Number f end) no-field (a .2) in
     record { blank = a .0; next = b .0; word = a .1; space = b .1; count = b .2 }
 
 pub heading-range : (w : List ℕ) (r : Range) (s : List ℕ) (at : ℕ) (z : ℤ) (end : ℕ) → headingLine w r s at ≡ Number (In z) end →
@@ -131,7 +135,7 @@ item-parts s at i end h = go (markAt s at) refl h
 
     parts : (m : Mark) (n : ℕ) → markAt s at ≡ MarkOf m n → (x : TwoNumbers) → numbersLine weights prices s n ≡ x → itemOf (withNumbers m x) ≡ ItemIs i end →
         ItemParts s at i end
-    parts m n e NoNumbers f h = fault h
+    parts m n e (NumbersFault k) f h = fault h
     parts m n e (Both Out c k) f h = fault h
     parts m n e (Both (In a) Out k) f h = fault h
     parts m n e (Both (In a) (In c) k) f h =
@@ -169,7 +173,7 @@ count-parts w a b s at m end h = go (headingLine w (fromTo a b) s at) refl h
     fault h = absurd (let z : _≡_ {A = ℕ} 0 1 = cc in omega arith)
 
     go : (x : Field) → headingLine w (fromTo a b) s at ≡ x → countOf x ≡ Lines m end → CountParts w a b s at m end
-    go Malformed e h = fault h
+    go (Fault k) e h = fault h
     go (Number Out n) e h = fault h
     go (Number (In z) n) e h =
         let u : natAbs z ≡ m = cc in
@@ -205,6 +209,6 @@ bound-parts count before s at k v end h = go (numbersLine (fromTo 1 count) price
         record { pair = e ∙ rw (o .0, u, w, m); least = omega arith; most = omega arith; rises = rw u at (leb-false (natAbs z) before f) }
 
     go : (x : TwoNumbers) → numbersLine (fromTo 1 count) prices s at ≡ x → numbered before x ≡ BoundIs k v end → BoundParts count before s at k v end
-    go NoNumbers e h = fault h
+    go (NumbersFault n) e h = fault h
     go (Both Out y n) e h = fault h
     go (Both (In z) y n) e h = last z y n e (leb (natAbs z) before) refl h

@@ -27,7 +27,7 @@ use Rattle.lines.specs.declared.number.Range.{Range}
 use Rattle.lines.specs.declared.number.Ranged.the-variants.{In}
 use Rattle.lines.specs.declared.number.Field.the-variants.{Number}
 use Rattle.lines.specs.declared.TwoNumbers.the-variants.{Both}
-use Rattle.lines.specs.declared.Marked.the-variants.{Malformed as NoMark, Mark as MarkOf}
+use Rattle.lines.specs.declared.Marked.the-variants.{Nothing as NoMark, Mark as MarkOf}
 use Rattle.lines.specs.declared.Count.the-variants.{Lines}
 use Rattle.lines.specs.declared.ItemRead.the-variants.{Read as ItemIs}
 use Rattle.lines.specs.declared.BoundRead.the-variants.{Read as BoundIs}

@@ -1,5 +1,6 @@
 pub mod Places
 pub mod Blocks
+pub mod Faults
 pub mod Numbers
 pub mod Lines
 pub mod Layout

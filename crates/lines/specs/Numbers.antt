@@ -8,9 +8,9 @@
 --   numberAt s at       the number at a place, and the place behind it
 --   fromTo a b          the range of the numbers from a to b
 --   ranged r z          z, if it lies in the range
---   inRange r x         a numeral as a field of the range
---   closedBy b s x      the field, if the byte b closes it
---   fieldAt b r s at    a number that the byte b closes
+--   inRange r x         a numeral as a figure of the range
+--   closedBy b s at x   the figure as a field, if the byte b closes it, else the field's fault (specs/Faults)
+--   fieldAt b r s at    the field in a number's place, which the byte b closes
 --   Narrow r            a range that the code's saturated value lies beyond
 use mathlib.Core.Path.{_≡_}
 use mathlib.Core.Bool.{Bool, true, false, cond}
@@ -21,14 +21,18 @@ use lib.IntN.{ℤ, pos, negℤ}
 use lib.ListN.{length, drop}
 use lib.Signed.{ltZ}
 use Rattle.arith.specs.Within.{Within}
+use Rattle.model.specs.Refusals as refusal
 use Rattle.text.specs.Decimal.{readAfter}
 use Rattle.lines.specs.declared.number.Run.{Run}
 use Rattle.lines.specs.declared.number.Range.{Range}
 use Rattle.lines.specs.declared.number.Ranged.{Ranged}
 use Rattle.lines.specs.declared.number.Ranged.the-variants.{In, Out}
+use Rattle.lines.specs.declared.number.Figure.{Figure}
+use Rattle.lines.specs.declared.number.Figure.the-variants.{Nothing as NoFigure, Number as FigureIs}
 use Rattle.lines.specs.declared.number.Field.{Field}
-use Rattle.lines.specs.declared.number.Field.the-variants.{Malformed, Number}
+use Rattle.lines.specs.declared.number.Field.the-variants.{Fault, Number}
 use Rattle.lines.specs.Places.{byteAt, afterByte, onPlace}
+use Rattle.lines.specs.Faults.{faultAt}
 
 abbrev pub isDigit : ℕ → Bool
 isDigit b = cond (ltb b 48) false (ltb b 58)
@@ -74,16 +78,16 @@ fromTo a b = record { lo = pos a; hi = pos b }
 abbrev pub ranged : Range → ℤ → Ranged
 ranged r z = cond (ltZ z (r .lo)) Out (cond (ltZ (r .hi) z) Out (In z))
 
-abbrev pub inRange : Range → Numeral → Field
-inRange r none = Malformed
-inRange r (numeral z n) = Number (ranged r z) n
+abbrev pub inRange : Range → Numeral → Figure
+inRange r none = NoFigure
+inRange r (numeral z n) = FigureIs (ranged r z) n
 
-abbrev pub closedBy : ℕ → List ℕ → Field → Field
-closedBy b s Malformed = Malformed
-closedBy b s (Number f n) = onPlace (afterByte s n b) Malformed (λ m. Number f m)
+abbrev pub closedBy : ℕ → List ℕ → ℕ → Figure → Field
+closedBy b s at NoFigure = Fault (faultAt refusal.number s at)
+closedBy b s at (FigureIs f n) = onPlace (afterByte s n b) (Fault (faultAt refusal.number s n)) (λ m. Number f m)
 
 unfoldable pub fieldAt : ℕ → Range → List ℕ → ℕ → Field
-fieldAt b r s at = closedBy b s (inRange r (numberAt s at))
+fieldAt b r s at = closedBy b s at (inRange r (numberAt s at))
 
 -- a range whose ends the code's saturated value, 1,000,000,000, lies beyond
 pub record Narrow (r : Range) : Type 0 where

@@ -3,7 +3,9 @@
 pub mod scan; // places, words, line ends; the part that holds a line
 pub mod number; // numbers of any length
 mod block; // eight bytes at a time
+mod fault; // the fault of a field
 
+use crate::fault::fault_at;
 use crate::number::Field;
 use crate::number::Range;
 use crate::number::Ranged;
@@ -19,19 +21,19 @@ ghost use Rattle.lines.specs.Numbers.{Narrow, fromTo};
 ghost use Rattle.lines.specs.Lines.{headingLine, numbersLine, markAt, itemLine, prices, countAt, itemOf, itemRead, boundOf, boundRead};
 ghost use Rattle.lines.specs.declared.ItemLine.{ItemLine};
 
-// The form of a line: its fields and the place behind it.
+// The form of a line: the fault of its leftmost wrong field, or its fields and the place behind it.
 pub enum TwoNumbers {
-    Malformed,
+    Fault(u64),
     Both(Ranged, Ranged, usize),
 }
 
 pub enum Marked {
-    Malformed,
+    Nothing,
     Mark(Mark, usize),
 }
 
 pub enum ItemLine {
-    Malformed,
+    Fault(u64),
     Item(Mark, Ranged, Ranged, usize),
 }
 
@@ -51,18 +53,18 @@ pub enum BoundRead {
     Read(usize, i64, usize),
 }
 
-// Word, blank, count, end.
+// Word, blank, count, end. Another word is 12.
 fn heading_line(s: &[u8], at: usize, word: &[u8], range: Range) -> Field
     requires { ⌜ Narrow range ⌝ }
     ensures { λ r. ⌜ r ≡ headingLine (now (word .entry)) range (now (s .entry)) at ⌝ }
 {
     let w = crate::scan::after_word(s, at, word);
     match w {
-        Place::Nothing => Field::Malformed,
+        Place::Nothing => Field::Fault(fault_at(s, at, model::refusals::HEADING_WORD)),
         Place::At(b) => {
             let p = crate::scan::after_byte(s, b, b' ');
             match p {
-                Place::Nothing => Field::Malformed,
+                Place::Nothing => Field::Fault(fault_at(s, b, model::refusals::HEADING_WORD)),
                 Place::At(next) => crate::number::closed_number(s, next, range, b'\n'),
             }
         }
@@ -76,11 +78,11 @@ fn numbers_line(s: &[u8], at: usize, first: Range, second: Range) -> TwoNumbers
 {
     let f = crate::number::closed_number(s, at, first, b' ');
     match f {
-        Field::Malformed => TwoNumbers::Malformed,
+        Field::Fault(n) => TwoNumbers::Fault(n),
         Field::Number(x, next) => {
             let g = crate::number::closed_number(s, next, second, b'\n');
             match g {
-                Field::Malformed => TwoNumbers::Malformed,
+                Field::Fault(n) => TwoNumbers::Fault(n),
                 Field::Number(y, end) => TwoNumbers::Both(x, y, end),
             }
         }
@@ -98,19 +100,19 @@ fn mark_field(s: &[u8], at: usize) -> Marked
             let l = crate::scan::after_word(s, at, b"L ");
             match l {
                 Place::At(next) => Marked::Mark(Mark::Continuous, next),
-                Place::Nothing => Marked::Malformed,
+                Place::Nothing => Marked::Nothing,
             }
         }
     }
 }
 
-// Mark, weight, price.
+// Mark, weight, price. A wrong mark is 2.
 fn item_form(s: &[u8], at: usize) -> ItemLine
     ensures { λ r. ⌜ r ≡ itemLine (now (s .entry)) at ⌝ }
 {
     let m = mark_field(s, at);
     match m {
-        Marked::Malformed => ItemLine::Malformed,
+        Marked::Nothing => ItemLine::Fault(model::refusals::FORM),
         Marked::Mark(mark, next) => {
             let weights = Range {
                 lo: -1000,
@@ -122,21 +124,21 @@ fn item_form(s: &[u8], at: usize) -> ItemLine
             };
             let p = numbers_line(s, next, weights, prices);
             match p {
-                TwoNumbers::Malformed => ItemLine::Malformed,
+                TwoNumbers::Fault(n) => ItemLine::Fault(n),
                 TwoNumbers::Both(a, c, end) => ItemLine::Item(mark, a, c, end),
             }
         }
     }
 }
 
-// The count of a heading: 2 for its form, 3 outside the range.
+// The count of a heading: the fault of its form, 3 outside the range.
 pub fn heading(s: &[u8], at: usize, word: &[u8], range: Range) -> Count
     requires { ⌜ Narrow range × (pos 0 ≤ℤ range .lo) ⌝ }
     ensures { λ r. ⌜ r ≡ countAt (now (word .entry)) range (now (s .entry)) at ⌝ }
 {
     let f = heading_line(s, at, word, range);
     match f {
-        Field::Malformed => Count::Fault(model::refusals::FORM),
+        Field::Fault(n) => Count::Fault(n),
         Field::Number(g, next) => match g {
             Ranged::Out => Count::Fault(model::refusals::COUNT),
             Ranged::In(n) => Count::Lines(n as usize, next),
@@ -166,13 +168,13 @@ fn item_of(mark: Mark, weight: Ranged, price: Ranged, next: usize) -> ItemRead
     }
 }
 
-// An item: 2 for the line's form, 4 for its weight and then its price.
+// An item: the fault of the line's form, 4 for its weight and then its price.
 pub fn item_at(s: &[u8], at: usize) -> ItemRead
     ensures { λ r. ⌜ r ≡ itemRead (now (s .entry)) at ⌝ }
 {
     let l = item_form(s, at);
     match l {
-        ItemLine::Malformed => ItemRead::Fault(model::refusals::FORM),
+        ItemLine::Fault(n) => ItemRead::Fault(n),
         ItemLine::Item(mark, a, c, next) => item_of(mark, a, c, next),
     }
 }
@@ -202,14 +204,14 @@ fn bound_line(s: &[u8], at: usize, count: usize) -> TwoNumbers
     numbers_line(s, at, numbers, bounds)
 }
 
-// An item number and its bound: 2 for the line's form, 5 for the number, 4 for the bound.
+// An item number and its bound: the fault of the line's form, 5 for the number, 4 for the bound.
 pub fn bound_at(s: &[u8], at: usize, count: usize, before: usize) -> BoundRead
     requires { ⌜ count ≤ 16 ⌝ }
     ensures { λ r. ⌜ r ≡ boundRead count before (now (s .entry)) at ⌝ }
 {
     let l = bound_line(s, at, count);
     match l {
-        TwoNumbers::Malformed => BoundRead::Fault(model::refusals::FORM),
+        TwoNumbers::Fault(n) => BoundRead::Fault(n),
         TwoNumbers::Both(f, v, next) => match f {
             Ranged::Out => BoundRead::Fault(model::refusals::ITEM_NUMBER),
             Ranged::In(z) => {

@@ -1,4 +1,5 @@
 // Numbers as a sheet writes them: `0`, or an optional minus, a digit 1 to 9 and further digits, of any length.
+use crate::fault::fault_at;
 use crate::scan::Place;
 ghost use mathlib.Core.Path.{_≡_};
 ghost use Prim.Native.Nat.{_+_, _*_, _-_, _≤_, min};
@@ -20,9 +21,15 @@ pub enum Ranged {
     Out,
 }
 
-// What stands in a number's place, and the place behind it.
+// What begins at a place: no number, or a number and the place behind it.
+pub enum Figure {
+    Nothing,
+    Number(Ranged, usize),
+}
+
+// What stands in a number's place, closed: its fault, or the number and the place behind.
 pub enum Field {
-    Malformed,
+    Fault(u64),
     Number(Ranged, usize),
 }
 
@@ -101,7 +108,7 @@ fn leads(s: &[u8], at: usize) -> bool
 }
 
 // The number behind its sign.
-fn unsigned(s: &[u8], at: usize, negative: bool, range: Range) -> Field
+fn unsigned(s: &[u8], at: usize, negative: bool, range: Range) -> Figure
     requires { ⌜ Narrow range ⌝ }
     ensures { λ r. ⌜ r ≡ inRange range (unsignedAt negative (now (s .entry)) at) ⌝ }
 {
@@ -109,14 +116,14 @@ fn unsigned(s: &[u8], at: usize, negative: bool, range: Range) -> Field
         let d = digits_from(s, at);
         let z = signed(negative, d.value);
         let f = by_range(z, range);
-        Field::Number(f, d.next)
+        Figure::Number(f, d.next)
     } else {
-        Field::Malformed
+        Figure::Nothing
     }
 }
 
 // The number at a place, `0` or signed.
-fn number(s: &[u8], at: usize, range: Range) -> Field
+fn number(s: &[u8], at: usize, range: Range) -> Figure
     requires { ⌜ Narrow range ⌝ }
     ensures { λ r. ⌜ r ≡ inRange range (numberAt (now (s .entry)) at) ⌝ }
 {
@@ -124,7 +131,7 @@ fn number(s: &[u8], at: usize, range: Range) -> Field
     match zero {
         Place::At(next) => {
             let f = by_range(0, range);
-            Field::Number(f, next)
+            Figure::Number(f, next)
         }
         Place::Nothing => {
             let minus = crate::scan::after_byte(s, at, b'-');
@@ -136,18 +143,18 @@ fn number(s: &[u8], at: usize, range: Range) -> Field
     }
 }
 
-// A number and the byte that closes it.
+// A number and the byte that closes it: 13 for other bytes, 2 for none and for another end.
 pub fn closed_number(s: &[u8], at: usize, range: Range, close: u8) -> Field
     requires { ⌜ Narrow range ⌝ }
     ensures { λ r. ⌜ r ≡ fieldAt close range (now (s .entry)) at ⌝ }
 {
     let f = number(s, at, range);
     match f {
-        Field::Malformed => Field::Malformed,
-        Field::Number(g, next) => {
+        Figure::Nothing => Field::Fault(fault_at(s, at, model::refusals::NUMBER)),
+        Figure::Number(g, next) => {
             let p = crate::scan::after_byte(s, next, close);
             match p {
-                Place::Nothing => Field::Malformed,
+                Place::Nothing => Field::Fault(fault_at(s, next, model::refusals::NUMBER)),
                 Place::At(n) => Field::Number(g, n),
             }
         }

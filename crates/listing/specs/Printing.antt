@@ -10,6 +10,7 @@
 --   printedAs k n a      the text of an answer of kind k about n items
 --   printed n a          the text of an answer about n items
 --   unlessRefused k f x  f of the refusal where k is one, else x
+--   room                 how many bytes hold every reply to an accepted record (proofs/Room, room-enough)
 use mathlib.Core.Bool.{Bool, true, false, cond}
 use mathlib.Core.List.{List, [], _∷_, _++_}
 use Prim.Native.Nat.{ℕ, zero, suc, min}
@@ -73,3 +74,6 @@ unlessRefused Optimal f x = x
 unlessRefused Infeasible f x = x
 unlessRefused Unbounded f x = x
 unlessRefused (Refused r) f x = f r
+
+abbrev pub room : ℕ
+room = 1440

@@ -1,5 +1,5 @@
 // The text of an answer, as the program `charge` prints it. Paper 01: "Text", "What `charge` prints", and refusal 11.
-// It comes by value (text_of), or at the start of a lent buffer (list_answer, list_reply), of which no byte changes where it is too short.
+// It comes by value (text_of), or at the start of a lent buffer (list_reply), of which no byte changes where it is too short or the answer a refusal.
 use arith::Fraction;
 use knapsack::Answer;
 use knapsack::Kind;
@@ -111,8 +111,8 @@ pub fn text_of(a: Answer, n: usize) -> Text
     }
 }
 
-// The text of an answer about n items, also of a refusal, in a lent buffer.
-pub fn list_answer(a: Answer, n: usize, out: &mut [u8]) -> Listed
+// The text of an answer about n items at the start of a lent buffer, whatever its kind.
+fn list_answer(a: Answer, n: usize, out: &mut [u8]) -> Listed
     ensures { λ r. ⌜ r ≡ told (printed n a) (now (out .entry)) ⌝ }
     ensures { λ r. ⌜ now (out .exit) ≡ filled (printed n a) (now (out .entry)) ⌝ }
 {
@@ -122,7 +122,7 @@ pub fn list_answer(a: Answer, n: usize, out: &mut [u8]) -> Listed
     hand_over(&bytes[..len], out)
 }
 
-// The same of an answer that is not a refusal; a refusal is told itself, and no byte changes.
+// The text of an answer about n items in a lent buffer. A refusal is told itself: it writes nothing.
 pub fn list_reply(a: Answer, n: usize, out: &mut [u8]) -> Listed
     ensures { λ r. ⌜ r ≡ unlessRefused (a .kind) noted (told (printed n a) (now (out .entry))) ⌝ }
     ensures { λ r. ⌜ now (out .exit) ≡ unlessRefused (a .kind) (λ f. now (out .entry)) (filled (printed n a) (now (out .entry))) ⌝ }

@@ -3,6 +3,7 @@ use arith::Fraction;
 use knapsack::Answer;
 use knapsack::Kind;
 use knapsack::Refusal;
+use listing::list_reply;
 use text::Listed;
 use trials::print::print;
 use trials::print::print_field;
@@ -96,31 +97,18 @@ fn hashes() -> [u8; 40]
     [b'#'; 40]
 }
 
-// As the text of an answer, or as the reply to a record.
-enum Way {
-    Answer,
-    Reply,
-}
-
-fn listed(way: Way, a: Answer, n: usize, out: &mut [u8]) -> Listed {
-    match way {
-        Way::Answer => listing::list_answer(a, n, out),
-        Way::Reply => listing::list_reply(a, n, out),
-    }
-}
-
-fn listed_in_part(way: Way, a: Answer, n: usize, out: &mut [u8], size: usize) -> Listed
+fn listed_in_part(a: Answer, n: usize, out: &mut [u8], size: usize) -> Listed
     requires { ⌜ size ≤ length (now out) ⌝ }
 {
-    listed(way, a, n, &mut out[..size])
+    list_reply(a, n, &mut out[..size])
 }
 
 // What is told, and the whole buffer afterwards, of which the first bytes were lent.
-fn list(way: Way, a: Answer, n: usize, size: usize)
+fn list(a: Answer, n: usize, size: usize)
     requires { ⌜ size ≤ 40 ⌝ }
 {
     let mut buffer = hashes();
-    let l = listed_in_part(way, a, n, &mut buffer, size);
+    let l = listed_in_part(a, n, &mut buffer, size);
     show_reply(l);
     print(&buffer);
     print(b"\n");
@@ -161,24 +149,20 @@ fn show_all() {
 }
 
 fn list_all() {
-    list(Way::Answer, worked(), 2, 21);
-    list(Way::Answer, worked(), 2, 22);
-    list(Way::Answer, worked(), 2, 40);
-    list(Way::Answer, ray(), 2, 25);
-    list(Way::Answer, ray(), 2, 26);
-    list(Way::Answer, answer(Kind::Infeasible, 0, 1), 5, 0);
-    list(Way::Answer, answer(Kind::Infeasible, 0, 1), 5, 10);
-    list(Way::Answer, answer(Kind::Infeasible, 0, 1), 5, 11);
-    list(Way::Answer, refused(5, 12), 3, 12);
-    list(Way::Answer, refused(5, 12), 3, 13);
-    list(Way::Answer, sixteen(Kind::Optimal), 16, 40);
+    list(worked(), 2, 21);
+    list(worked(), 2, 22);
+    list(worked(), 2, 40);
+    list(ray(), 2, 25);
+    list(ray(), 2, 26);
+    list(answer(Kind::Infeasible, 0, 1), 5, 0);
+    list(answer(Kind::Infeasible, 0, 1), 5, 10);
+    list(answer(Kind::Infeasible, 0, 1), 5, 11);
+    list(refused(5, 12), 3, 0);
+    list(refused(5, 12), 3, 40);
+    list(sixteen(Kind::Optimal), 16, 40);
 }
 
 fn main() {
     show_all();
     list_all();
-    list(Way::Reply, worked(), 2, 21);
-    list(Way::Reply, worked(), 2, 22);
-    list(Way::Reply, refused(6, 0), 2, 0);
-    list(Way::Reply, refused(6, 0), 2, 40);
 }

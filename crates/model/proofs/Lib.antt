@@ -1,2 +1,4 @@
 pub mod Records
 pub mod Crossings
+pub mod BeyondCount
+pub mod Showing

@@ -1,6 +1,7 @@
 -- The numbers of paper 01's refusals ("Refused, by place"), the twins of src/refusals.rt.
 --   overlong, form, count, figure, item-number                  1 to 5: a sheet's; count and figure a record's too
 --   amounts, amount, pair-numbers, pair-items, short-buffer     7 to 11: the point check's, the least pair's, a lent buffer's
+--   heading-word, number                                        12, 13: a sheet's, in the place of 2 (paper 02, request 3)
 use Prim.Native.Nat.{ℕ}
 
 abbrev pub overlong : ℕ
@@ -32,3 +33,9 @@ pair-items = 10
 
 abbrev pub short-buffer : ℕ
 short-buffer = 11
+
+abbrev pub heading-word : ℕ
+heading-word = 12
+
+abbrev pub number : ℕ
+number = 13

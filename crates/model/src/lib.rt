@@ -98,7 +98,7 @@ pub fn bad_figure(i: Item) -> bool
 }
 
 // Whether a lower bound is above an upper.
-pub fn crossed_bounds(l: Bound, u: Bound) -> bool
+fn crossed_bounds(l: Bound, u: Bound) -> bool
     ensures { λ r. ⌜ r ≡ crossed l u ⌝ }
 {
     let Bound::At(a) = l else {

@@ -18,3 +18,7 @@ pub const PAIR_NUMBERS: u64 = 9;
 pub const PAIR_ITEMS: u64 = 10;
 
 pub const SHORT_BUFFER: u64 = 11;
+
+pub const HEADING_WORD: u64 = 12;
+
+pub const NUMBER: u64 = 13;

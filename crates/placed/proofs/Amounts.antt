@@ -6,6 +6,7 @@ use mathlib.Core.Bool.{Bool, true, false, cond}
 use mathlib.Core.Logic.{_≢_, _⊎_, inl, inr}
 use Prim.Native.Nat.{ℕ, _*_, _≤_, _<_}
 use native.Mathlib.Omega.{arith}
+use native.Mathlib.Decide.{ℕ-discrete}
 use lib.Dec.{ltb, eqb}
 use lib.IntN.{ℤ, pos, natAbs, _+ℤ_, _*ℤ_}
 use lib.Signed.{_≤ℤ_}
@@ -77,14 +78,25 @@ module _ (s : Instance) (c : Columns) (o : ColumnsOf s c) (e : Ends) (f : Fill) 
         go (inl y) = absurd (n (ap (λ (z : Fraction). z .q) (shows k l) ∙ ap (λ z. lowest z D .q) y ∙ lowest-whole (stand c e (f .at) k) D D≥1))
         go (inr y) = y
 
+    -- the divisor of an amount that is not whole is its item's weight
+    heavy : (k : ℕ) → k < s .count → x k .q ≢ 1 → D ≡ natAbs (weights s k)
+    heavy k l n =
+        parts-critical c f (o .sizes) k (o .item-rank k (inner k l)) (critical k l n .0) (critical k l n .1) ∙ ap natAbs (o .own-weight k l)
+
+    weightless : (k : ℕ) → k < s .count → weights s k ≡ pos 0 → x k .q ≡ 1
+    weightless k l e = go (ℕ-discrete (x k .q) 1)
+      where
+        go : Dec (x k .q ≡ 1) → x k .q ≡ 1
+        go (yes w) = w
+        go (no n) = let z : D ≡ 0 = heavy k l n ∙ ap natAbs e in absurd (omega (arith, D≥1))
+
     pub filling-shown : Shown s x
     filling-shown = record {
       small = λ k l. rw (shows k l) (lowest-small (numerator c e f D k) D D≥1 (small k l));
       divisor = λ k l. rw (shows k l) (lowest-den (numerator c e f D k) D D≥1);
       lowest = λ k l. rw (shows k l) (lowest-coprime (numerator c e f D k) D D≥1);
       single = λ j k l m nj nk. sym (o .item-rank j (inner j l)) ∙ ap (itemOf c) (critical j l nj .0 ∙ sym (critical k m nk .0)) ∙ o .item-rank k (inner k m);
-      divides = λ k l n. subst₂ Divides (ap (λ (z : Fraction). z .q) (sym (shows k l)))
-          (parts-critical c f (o .sizes) k (o .item-rank k (inner k l)) (critical k l n .0) (critical k l n .1) ∙ ap natAbs (o .own-weight k l))
-          (lowest-divides (numerator c e f D k) D D≥1);
+      divides = λ k l n. subst₂ Divides (ap (λ (z : Fraction). z .q) (sym (shows k l))) (heavy k l n) (lowest-divides (numerator c e f D k) D D≥1);
+      weightless = weightless;
       beyond = beyond;
     }

@@ -1,17 +1,18 @@
 -- The search's box is the problem with its absent bounds closed.
 -- same-feasible, same-value: instances that agree at the items of the problem have the same feasible points and values.
 -- box-is-shut: the box of a setting that is prepared at r and the problem shut at ±r are such; box-optimal, box-empty: so are their answers.
-use mathlib.Core.Path.{_≡_, refl, sym, ap, _∙_, subst, subst₂}
+use mathlib.Core.Path.{_≡_, refl, ap, _∙_, subst, subst₂}
 use mathlib.Core.Logic.{_↔_}
 use Prim.Native.Nat.{ℕ, _≤_, _<_}
 use native.Mathlib.Omega.{arith}
 use lib.IntN.{ℤ, pos, negℤ, _*ℤ_}
 use lib.Signed.{_≤ℤ_}
 use Rattle.arith.proofs.Sums.{sum-cong}
-use Rattle.arith.specs.Sum.{sum, Each}
+use Rattle.arith.specs.Sum.{sum}
 use Rattle.greedy.proofs.Relaxed.{boxOf}
 use Rattle.knapsack.proofs.Common.{Keepsᴰ, valueᴰ, Feasibleᴰ, Optimalᴰ}
 use Rattle.knapsack.proofs.Reach.{closed, shutAt}
+use Rattle.knapsack.proofs.Same.{Same, same-sym}
 use Rattle.knapsack.specs.Meaning.{Instance, instanceOf, weights, prices}
 use Rattle.knapsack.specs.Ranges.{itemAt}
 use Rattle.knapsack.specs.declared.Bound.the-variants.{Absent, At}
@@ -22,21 +23,12 @@ use Rattle.setting.specs.declared.Setting.{Setting}
 use Rattle.prepare.specs.Figures.{endOr}
 use Rattle.prepare.specs.Prepared.{PreparedAt}
 
--- two instances that agree
-pub record Same (s t : Instance) : Type 0 where
-  pub capacity : s .capacity ≡ t .capacity
-  pub count : s .count ≡ t .count
-  pub items : Each (s .count) (λ k. s .item k ≡ t .item k)
-
 same-sum : (a : Item → ℤ) (s t : Instance) → Same s t → (N : ℕ → ℤ) → sum (s .count) (λ k. a (s .item k) *ℤ N k) ≡ sum (t .count) (λ k. a (t .item k) *ℤ N k)
 same-sum a s t e N = sum-cong (s .count) (λ k. a (s .item k) *ℤ N k) (λ k. a (t .item k) *ℤ N k) (λ k h. ap (λ i. a i *ℤ N k) (e .items k h))
     ∙ ap (λ n. sum n (λ k. a (t .item k) *ℤ N k)) (e .count)
 
 pub same-value : (s t : Instance) → Same s t → (N : ℕ → ℤ) → valueᴰ s N ≡ valueᴰ t N
 same-value = same-sum (λ i. i .price)
-
-pub same-sym : (s t : Instance) → Same s t → Same t s
-same-sym s t e = record { capacity = sym (e .capacity); count = sym (e .count); items = λ k h. sym (e .items k (omega (arith, e .count))) }
 
 pub same-feasible : (s t : Instance) → Same s t → (D : ℕ) (N : ℕ → ℤ) → Feasibleᴰ s D N → Feasibleᴰ t D N
 same-feasible s t e D N p = record {

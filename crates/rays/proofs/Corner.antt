@@ -213,6 +213,7 @@ module _ (s : Instance) (g : Ranges s) (lo hi e : ℕ → ℤ) (c : LightCorner 
     lowest = λ k l. rw (h k l);
     single = λ j k l m n. absurd (n (rw (h j l)));
     divides = λ k l n. absurd (n (rw (h k l)));
+    weightless = λ k l e. rw (h k l);
     beyond = g;
   }
 

@@ -1,5 +1,4 @@
 pub mod Lent
 pub mod Calls
-pub mod Same
 pub mod Loose
 pub mod Demands

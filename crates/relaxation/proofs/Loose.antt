@@ -18,7 +18,7 @@ use Rattle.knapsack.specs.Items.{withItem}
 use Rattle.model.specs.Records.{ItemFigures, FiguresInRange}
 use Rattle.ordering.specs.Ranking.{Ranged}
 use Rattle.relaxation.specs.Lent.{loose, Loosened}
-use Rattle.relaxation.proofs.Same.{same-answers}
+use Rattle.knapsack.proofs.Same.{same-answers}
 
 pub loosened-none : (p : Problem) → Loosened p 0 p
 loosened-none p = record { count = refl; capacity = refl; items = λ j h. absurd (omega arith) }

@@ -1,8 +1,9 @@
--- What is printed for a sheet, and listed for a record.
+-- What is printed for a sheet, and listed for a record or a sheet.
 --   AnsweredAs m a v   the planner's answer to the record m, or the refusal of v
 --   Answered r a       a answers what was read
 --   Replies s t        t is the text of an answer to the sheet s
---   Lists m b c r      the buffer b becomes c, and r says so, for an answer to the record m
+--   Lists T n b c r    the buffer b becomes c, and r says so, for an answer about n items of which T holds; a refusal leaves b as it was
+--   SheetLists s b c r the same for an answer to the sheet s
 use mathlib.Core.Path.{_≡_}
 use mathlib.Core.List.{List}
 use Prim.Native.Nat.{ℕ}
@@ -32,8 +33,11 @@ pub record Replies (s : List ℕ) (t : Text) : Type 0 where
   pub is-true : Answered (readSheet s) answer
   pub shown : Shows (printed (readSheet s .model .count) answer) t
 
-pub record Lists (m : Model) (b c : List ℕ) (r : Listed) : Type 0 where
+pub record Lists (T : Answer → Type 0) (n : ℕ) (b c : List ℕ) (r : Listed) : Type 0 where
   pub answer : Answer
-  pub is-true : Planned m answer
-  pub told-is : r ≡ unlessRefused (answer .kind) noted (told (printed (m .count) answer) b)
-  pub left-is : c ≡ unlessRefused (answer .kind) (λ f. b) (filled (printed (m .count) answer) b)
+  pub is-true : T answer
+  pub told-is : r ≡ unlessRefused (answer .kind) noted (told (printed n answer) b)
+  pub left-is : c ≡ unlessRefused (answer .kind) (λ f. b) (filled (printed n answer) b)
+
+abbrev pub SheetLists : List ℕ → List ℕ → List ℕ → Listed → Type 0
+SheetLists s b c r = Lists (Answered (readSheet s)) (readSheet s .model .count) b c r

@@ -8,23 +8,20 @@
 --   WorkAs f v m n     the work for the record m with that verdict is n, as f counts it; 0 where it is refused
 --   Steps r n, Cells r n
 --                      n steps are those of the search for what was read; n cells are those that the scales write for it
---   replyText s a      the text of an answer to the sheet
---   Plans s b c r      the buffer b becomes c, and r says so, for a true answer to the sheet s
+--   Plans s b c l k n  the buffer b becomes c, and length l, line k and number n say so, for a true answer to the sheet s
 use mathlib.Core.Path.{_≡_}
 use mathlib.Core.List.{List}
 use Prim.Native.Nat.{ℕ}
-use Rattle.knapsack.specs.declared.Answer.{Answer}
 use Rattle.knapsack.specs.declared.Verdict.{Verdict}
 use Rattle.knapsack.specs.declared.Verdict.the-variants.{Accepted, Refused}
 use Rattle.text.specs.declared.Listed.{Listed}
 use Rattle.text.specs.declared.Listed.the-variants.{Written, Refused as NotWritten}
 use Rattle.text.specs.Buffer.{noted, told, filled}
-use Rattle.listing.specs.Printing.{printed}
 use Rattle.model.specs.declared.Model.{Model}
 use Rattle.model.specs.Records.{plainOf}
 use Rattle.planner.specs.declared.Solved.{Solved}
 use Rattle.planner.specs.Outcomes.{Solves}
-use Rattle.replies.specs.Replies.{Answered}
+use Rattle.replies.specs.Replies.{SheetLists}
 use Rattle.sheet.specs.declared.Reading.{Reading}
 use Rattle.sheet.specs.Reading.{readSheet}
 use Rattle.writer.specs.Writing.{onAccepted}
@@ -61,12 +58,9 @@ Steps r n = WorkAs (λ s. s .steps) (r .verdict) (r .model) n
 abbrev pub Cells : Reading → ℕ → Type 0
 Cells r n = WorkAs (λ s. s .cells) (r .verdict) (r .model) n
 
--- the text of an answer to the sheet
-abbrev pub replyText : List ℕ → Answer → List ℕ
-replyText s a = printed (readSheet s .model .count) a
-
-pub record Plans (s b c : List ℕ) (r : ℕ) : Type 0 where
-  pub answer : Answer
-  pub is-true : Answered (readSheet s) answer
-  pub length-is : r ≡ lengthOf (told (replyText s answer) b)
-  pub left-is : c ≡ filled (replyText s answer) b
+pub record Plans (s b c : List ℕ) (length line number : ℕ) : Type 0 where
+  pub reply : Listed
+  pub lists : SheetLists s b c reply
+  pub length-is : length ≡ lengthOf reply
+  pub line-is : line ≡ toldLine (listedVerdict reply)
+  pub number-is : number ≡ toldNumber (listedVerdict reply)

@@ -1,17 +1,18 @@
-// Entries for programs in C and Rust, on bytes and numbers: a sheet's verdict, its reply in a lent buffer, and how much work it is. include/runcefo.h declares them. Paper 01, "The sheet" and "What `charge` prints". Nothing is asked of a caller but that each
+// Entries for programs in C and Rust, on bytes and numbers: a sheet's verdict, its reply in a lent buffer, and how much work it is.
+// include/runcefo.h declares them. Paper 01, "The sheet" and "What `charge` prints". Nothing is asked of a caller but that each
 // pointer has as many bytes behind it as the length beside it says.
 use knapsack::Verdict;
 use model::plain_of;
 use planner::solve;
-use replies::reply_to;
+use replies::list_sheet;
 use sheet::Reading;
 use sheet::read;
 use text::Listed;
 use text::ROOM;
-use text::hand_over;
 use writer::rewrite_sheet;
 ghost use mathlib.Core.Path.{_≡_};
 ghost use Rattle.knapsack.specs.declared.Verdict.the-variants.{Accepted};
+ghost use Rattle.listing.specs.Printing.{room};
 ghost use Rattle.model.specs.Records.{plainOf, FiguresInRange};
 ghost use Rattle.sheet.specs.Reading.{readSheet};
 ghost use Rattle.runcefo.specs.Entries.{toldNumber, toldLine, lengthOf, listedVerdict, Plans, Steps, Cells, saved, left};
@@ -88,10 +89,10 @@ fn work_for(sheet: &[u8]) -> Work
     work_of(r)
 }
 
-// How many bytes hold every reply.
+// How many bytes hold every reply (proofs/Replies, room-holds).
 #[no_mangle]
 pub extern "C" fn charge_room() -> usize
-    ensures { λ r. ⌜ r ≡ 1440 ⌝ }
+    ensures { λ r. ⌜ r ≡ room ⌝ }
 {
     ROOM
 }
@@ -122,17 +123,22 @@ pub extern "C" fn charge_write(sheet: &[u8], out: &mut [u8], line: &mut u64) -> 
     told_number(v)
 }
 
-// What `charge` prints for a sheet, at the start of a lent buffer, and its length. 0, and no byte changes, where the buffer is shorter
-// (refusal 11): no reply is empty.
+// What `charge` prints for an accepted sheet, at the start of a lent buffer: 0, and written gets its length. A refusal's number, with its line
+// and length 0, and no byte changes, where the sheet is refused or, refusal 11, the buffer is shorter than the text.
 #[no_mangle]
-pub extern "C" fn charge_plan(sheet: &[u8], out: &mut [u8]) -> usize
-    ensures { λ r. ⌜ Plans (now (sheet .entry)) (now (out .entry)) (now (out .exit)) r ⌝ }
+pub extern "C" fn charge_plan(
+    sheet: &[u8],
+    out: &mut [u8],
+    written: &mut usize,
+    line: &mut u64,
+) -> u64
+    ensures { λ r. ⌜ Plans (now (sheet .entry)) (now (out .entry)) (now (out .exit)) (now (written .exit)) (now (line .exit)) r ⌝ }
 {
-    let t = reply_to(sheet);
-    let bytes = t.bytes;
-    let len = t.len;
-    let w = hand_over(&bytes[..len], out);
-    length_of(w)
+    let w = list_sheet(sheet, out);
+    let v = listed_verdict(w);
+    *written = length_of(w);
+    *line = told_line(v);
+    told_number(v)
 }
 
 // The steps of the search for a sheet; none where it is refused, or where no search is needed.

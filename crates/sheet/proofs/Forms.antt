@@ -20,7 +20,7 @@ use Rattle.model.proofs.Records.{neither}
 use Rattle.text.specs.Decimal.{integer}
 use Rattle.lines.specs.declared.number.Ranged.the-variants.{In, Out}
 use Rattle.lines.specs.declared.number.Field.{Field}
-use Rattle.lines.specs.declared.number.Field.the-variants.{Malformed, Number}
+use Rattle.lines.specs.declared.number.Field.the-variants.{Fault, Number}
 use Rattle.lines.specs.declared.TwoNumbers.the-variants.{Both}
 use Rattle.lines.specs.declared.ItemRead.{ItemRead}
 use Rattle.lines.specs.declared.ItemRead.the-variants.{Fault as ItemFault, Read as ItemIs}
@@ -60,7 +60,7 @@ limit-laws = record {
   where
     has : (s : List ℕ) (p : Progress) (b : ℤ) (n : ℕ) (x : Field) → fieldAt 10 limits s (p .at) ≡ x → limitGives x ≡ gives b n →
         LimitFits p b × Has s (p .at) (limitForm .text b) n
-    has s p b n Malformed e h = no-value h
+    has s p b n (Fault k) e h = no-value h
     has s p b n (Number Out k) e h = no-value h
     has s p b n (Number (In c) k) e h =
         let u : c ≡ b = cc in

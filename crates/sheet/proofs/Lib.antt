@@ -4,3 +4,4 @@ pub mod Making
 pub mod Steps
 pub mod Lengths
 pub mod Sheets
+pub mod FaultLines

@@ -25,7 +25,7 @@ use Rattle.text.specs.Layout.{line}
 use Rattle.lines.specs.declared.number.Range.{Range}
 use Rattle.lines.specs.declared.number.Ranged.the-variants.{In, Out}
 use Rattle.lines.specs.declared.number.Field.{Field}
-use Rattle.lines.specs.declared.number.Field.the-variants.{Malformed, Number}
+use Rattle.lines.specs.declared.number.Field.the-variants.{Fault, Number}
 use Rattle.lines.specs.declared.ItemRead.{ItemRead}
 use Rattle.lines.specs.declared.ItemRead.the-variants.{Fault as ItemFault, Read as ItemIs}
 use Rattle.lines.specs.declared.BoundRead.{BoundRead}
@@ -53,7 +53,7 @@ abbrev pub limits : Range
 limits = record { lo = negsuc 99999999; hi = pos 100000000 }
 
 abbrev pub limitGives : Field → Gives ℤ
-limitGives Malformed = fault refusal.form
+limitGives (Fault k) = fault k
 limitGives (Number Out n) = fault refusal.figure
 limitGives (Number (In b) n) = gives b n
 

@@ -85,7 +85,7 @@ fn limit_line(s: &[u8], at: usize) -> Progress
     };
     let f = lines::number::closed_number(s, at, limits, b'\n');
     match f {
-        Field::Malformed => refused(s, refusals::FORM, at),
+        Field::Fault(n) => refused(s, n, at),
         Field::Number(g, next) => match g {
             Ranged::Out => refused(s, refusals::FIGURE, at),
             Ranged::In(b) => {

@@ -30,8 +30,9 @@ returns c = let s = c .before .before .before .before .before in rw (plain-lt (a
 returns-2 : tie.Need-returns-2
 unfolding lessMixed
 returns-2 c =
-    let s = c .before .before .before .before .before .before .before .before .before .before in
-    rw (plain-lt (a-fits s) (b-fits s) (c .before .before .before .before .before .if1 .left), plain-lt (b-fits s) (a-fits s) (c .if2 .taken))
+    let at-if1 = c .before .before .before .before .before in
+    let s = at-if1 .before .before .before .before .before in
+    rw (plain-lt (a-fits s) (b-fits s) (at-if1 .if1 .left), plain-lt (b-fits s) (a-fits s) (c .if2 .taken))
 
 mul-result : tie.Need-mul-result
 mul-result c = let s = c .before .before .before .before .before .before .before .before .before .before .before .before in small _ _ (s .pre .0) (s .pre .1)
@@ -44,8 +45,9 @@ returns-3 : tie.Need-returns-3
 unfolding lessMixed
 returns-3 c =
     let d = c .before .before .before .before in
-    let s = d .before .before .before .before .before .before .before .before .before .before in
-    rw (plain-lt (a-fits s) (b-fits s) (d .before .before .before .before .before .if1 .left), plain-lt (b-fits s) (a-fits s) (d .if2 .left))
+    let at-if1 = d .before .before .before .before .before in
+    let s = at-if1 .before .before .before .before .before in
+    rw (plain-lt (a-fits s) (b-fits s) (at-if1 .if1 .left), plain-lt (b-fits s) (a-fits s) (d .if2 .left))
 
 pub less-spec : {M : Type 1} → statement M
 less-spec = tie.close (tie.spec returns returns-2 mul-result mul-result-2 returns-3)

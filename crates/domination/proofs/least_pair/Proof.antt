@@ -1,9 +1,14 @@
--- `domination::least_pair` meets its contract: the plain problem of an accepted record is in range.
-use mathlib.Core.Path.{_≡_, sym, _∙_}
+-- `domination::least_pair` meets its contract: the plain problem of an accepted record is in range, and the reply tells the truth.
+use mathlib.Core.Path.{_≡_, sym, _∙_, subst}
+use Prim.Native.Nat.{ℕ}
 use Rattle.knapsack.specs.declared.Verdict.the-variants.{Accepted}
 use Rattle.model.specs.Records.{verdict}
 use Rattle.model.proofs.Records.{accepted}
+use Rattle.model.specs.declared.Model.{Model}
+use Rattle.domination.specs.declared.PairReply.{PairReply}
 use Rattle.domination.specs.Pairs.{leastPair}
+use Rattle.domination.specs.Told.{Told}
+use Rattle.domination.proofs.Entry.{told}
 use borrow.Author.Needs.{needs}
 use Rattle.domination.proofs.least_pair.Statement.{statement}
 use Rattle.domination.proofs.least_pair.Tie as tie
@@ -27,13 +32,22 @@ pair-numbered-requires c κs = rw (c .plain-of .ensures) (accepted _ (taken (c .
 enum-known-v : tie.Need-enum-known-v
 enum-known-v c = search needs
 
+met : (m : Model) (i j : ℕ) (r : PairReply) → r ≡ leastPair m i j → (r ≡ leastPair m i j) × Told m i j r
+met m i j r e = (e, subst (Told m i j) (sym e) (told m i j))
+
 returns : tie.Need-returns
 unfolding leastPair
-returns c = rw (taken (c .before .before), ← c .before .plain-of .ensures) (c .pair-numbered .ensures)
+returns c =
+    let t = c .before .before in
+    let a = t .before .before .before .args in
+    met (a .m) (a .i) (a .j) _ (rw (taken t, ← c .before .plain-of .ensures) (c .pair-numbered .ensures))
 
 returns-2 : tie.Need-returns-2
 unfolding leastPair
-returns-2 c = rw (sym (c .before .before .before .check-model .ensures) ∙ c .before .v .given .1)
+returns-2 c =
+    let v = c .before .before .before in
+    let a = v .before .args in
+    met (a .m) (a .i) (a .j) _ (rw (sym (v .check-model .ensures) ∙ c .before .v .given .1))
 
 pub least-pair-spec : {M : Type 1} → statement M
 least-pair-spec =

@@ -39,7 +39,8 @@ pair-of-requires c κs =
 returns : tie.Need-returns
 unfolding paired
 returns c =
-    let p = sym (c .before .before .before .before .is-eligible .ensures) ∙ c .before .before .before .if1 .taken in
+    let at-is-eligible = c .before .before .before .before in
+    let p = sym (at-is-eligible .is-eligible .ensures) ∙ c .before .before .before .if1 .taken in
     let q = sym (c .before .before .is-eligible2 .ensures) ∙ c .before .if2 .taken in
     rw (p, q, c .pair-of .ensures)
 

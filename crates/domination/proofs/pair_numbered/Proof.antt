@@ -2,7 +2,8 @@
 use mathlib.Core.Path.{sym, _∙_}
 use native.Mathlib.Omega.{arith}
 use Rattle.domination.specs.Pairs.{numbered}
-use Rattle.domination.proofs.Eligible.{Numbers, numbers-iff}
+use Rattle.domination.specs.Eligible.{Numbers}
+use Rattle.domination.proofs.Eligible.{numbers-iff}
 use borrow.Author.Needs.{needs}
 use Rattle.domination.proofs.pair_numbered.Statement.{statement}
 use Rattle.domination.proofs.pair_numbered.Tie as tie
@@ -40,13 +41,16 @@ element-copy-out-y c = omega (arith, numbers (c .before), c .before .before .bef
 
 pair-items-requires : tie.Need-pair-items-requires
 pair-items-requires c κs =
+    let s = c .before .before .before .before in
     let n = numbers (c .before .before) in
-    let a = c .before .before .before .before .pre in
+    let a = s .pre in
     (a .items-in _ (omega arith), a .items-in _ (omega arith))
 
 returns-2 : tie.Need-returns-2
 unfolding numbered
-returns-2 c = let p = sym (c .before .before .before .before .are-wrong .ensures) ∙ c .before .before .before .if1 .left in rw p (c .pair-items .ensures)
+returns-2 c =
+    let at-are-wrong = c .before .before .before .before in
+    let p = sym (at-are-wrong .are-wrong .ensures) ∙ c .before .before .before .if1 .left in rw p (c .pair-items .ensures)
 
 pub pair-numbered-spec : {M : Type 1} → statement M
 pair-numbered-spec =

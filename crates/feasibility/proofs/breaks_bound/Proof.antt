@@ -38,7 +38,9 @@ enum-told-3 : tie.Need-enum-told-3
 enum-told-3 c = search needs
 
 -- the bound times q
-scaled : (c : tie.After-times) → toZ w64 (ofZ w64 (c .times .result)) ≡ c .before .before .b .given .0 .0 *ℤ pos (c .before .before .before .before .args .q)
+scaled : (c : tie.After-times) →
+    let s = c .before .before .before .before in
+    toZ w64 (ofZ w64 (c .times .result)) ≡ c .before .before .b .given .0 .0 *ℤ pos (s .args .q)
 scaled c =
     let h : SFits w64 (c .before .before .b .given .0 .0) = search needs in
     back (c .times .result) (c .times .ok) ∙ (rw (toZ-ofZ h) at (c .times .ensures))
@@ -46,12 +48,14 @@ scaled c =
 returns-2 : tie.Need-returns-2
 returns-2 c =
     let t = c .before .before in
-    rw (scaled t, toZ-ofZ (t .before .before .before .before .fits .p), t .before .before .b .given .1, c .enum-told2 .given .1)
+    let at-b = t .before .before in
+    rw (scaled t, toZ-ofZ (at-b .before .before .fits .p), at-b .b .given .1, c .enum-told2 .given .1)
 
 returns-3 : tie.Need-returns-3
 returns-3 c =
     let t = c .before .before in
-    rw (scaled t, toZ-ofZ (t .before .before .before .before .fits .p), t .before .before .b .given .1, c .enum-told3 .given .1)
+    let at-b = t .before .before in
+    rw (scaled t, toZ-ofZ (at-b .before .before .fits .p), at-b .b .given .1, c .enum-told3 .given .1)
 
 pub breaks-bound-spec : {M : Type 1} → statement M
 breaks-bound-spec =

@@ -28,7 +28,8 @@ returns-2 c =
     rw (eq-eqb _ _ (d .before .if1 .left), eq-eqb _ _ (sym (d .common-divisor .ensures) ∙ c .before .if2 .taken)) (c .refused2 .ensures)
 
 served : (c : tie.Else2) →
-    Divided (c .before .before .before .before .before .args .c .count) (proposedAt (c .before .before .before .before .before .args .c))
+    let s = c .before .before .before .before .before in
+    Divided (s .args .c .count) (proposedAt (s .args .c))
     (c .before .common-divisor .result)
 served c = let e = c .before .common-divisor .ensures in rw e (divided _ _ (λ z. c .if2 .left (e ∙ z)))
 

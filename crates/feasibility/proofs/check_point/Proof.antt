@@ -1,10 +1,14 @@
--- `feasibility::check_point` meets its contract: the plain problem of an accepted record is in range.
-use mathlib.Core.Path.{_≡_, sym, _∙_}
+-- `feasibility::check_point` meets its contract: the plain problem of an accepted record is in range, and the reply tells the truth.
+use mathlib.Core.Path.{_≡_, sym, _∙_, subst}
 use borrow.Author.Needs.{needs}
 use Rattle.knapsack.specs.declared.Verdict.the-variants.{Accepted}
 use Rattle.model.specs.Records.{verdict}
 use Rattle.model.proofs.Records.{accepted}
-use Rattle.feasibility.specs.Check.{pointCheck}
+use Rattle.model.specs.declared.Model.{Model}
+use Rattle.feasibility.specs.declared.Candidate.{Candidate}
+use Rattle.feasibility.specs.declared.PointReply.{PointReply}
+use Rattle.feasibility.specs.Check.{pointCheck, Told}
+use Rattle.feasibility.proofs.Meaning.{told}
 use Rattle.feasibility.proofs.check_point.Statement.{statement}
 use Rattle.feasibility.proofs.check_point.Tie as tie
 
@@ -27,13 +31,22 @@ check-amounts-requires c κs = rw (c .plain-of .ensures) (accepted _ (taken (c .
 enum-known-v : tie.Need-enum-known-v
 enum-known-v c = search needs
 
+met : (m : Model) (c : Candidate) (r : PointReply) → r ≡ pointCheck m c → (r ≡ pointCheck m c) × Told m c r
+met m c r e = (e, subst (Told m c) (sym e) (told m c))
+
 returns : tie.Need-returns
 unfolding pointCheck
-returns c = rw (taken (c .before .before), ← c .before .plain-of .ensures) (c .check-amounts .ensures)
+returns c =
+    let t = c .before .before in
+    let a = t .before .before .before .args in
+    met (a .m) (a .c) _ (rw (taken t, ← c .before .plain-of .ensures) (c .check-amounts .ensures))
 
 returns-2 : tie.Need-returns-2
 unfolding pointCheck
-returns-2 c = rw (sym (c .before .before .before .check-model .ensures) ∙ c .before .v .given .1)
+returns-2 c =
+    let v = c .before .before .before in
+    let a = v .before .args in
+    met (a .m) (a .c) _ (rw (sym (v .check-model .ensures) ∙ c .before .v .given .1))
 
 pub check-point-spec : {M : Type 1} → statement M
 check-point-spec =

@@ -10,10 +10,12 @@ use Rattle.feasibility.proofs.does_break.Statement.{statement}
 use Rattle.feasibility.proofs.does_break.Tie as tie
 
 lower-test : (c : tie.After-breaks-bound) →
-    breaksBound Lower (c .before .before .before .before .args .i .lower) (c .before .before .before .before .args .x .p)
-    (c .before .before .before .before .args .x .q) ≡ c .breaks-bound .result
+    let s = c .before .before .before .before in
+    breaksBound Lower (s .args .i .lower) (s .args .x .p)
+    (s .args .x .q) ≡ c .breaks-bound .result
 lower-test c =
-    let h : SFits w64 (c .before .before .before .before .args .x .p) = search needs in
+    let s = c .before .before .before .before in
+    let h : SFits w64 (s .args .x .p) = search needs in
     sym (rw (toZ-ofZ h) at (c .breaks-bound .ensures))
 
 breaks-mark-requires : tie.Need-breaks-mark-requires

@@ -39,14 +39,18 @@ earlier-requires c κs =
     (omega (arith, few s), (s .pre .problem .items-in (t .before .loop .k) (t .loop-test .taken), s .pre .amounts (t .before .loop .k) (t .loop-test .taken)))
 
 add-k : tie.Need-add-k Inv-loop μ-loop
-add-k c = omega (arith, few (c .before .before .before .before .before))
+add-k c =
+    let s = c .before .before .before .before .before in
+    omega (arith, few s)
 
 loop-less : tie.Need-loop-less Inv-loop μ-loop
 loop-less c = omega arith
 
 loop-again : tie.Need-loop-again Inv-loop μ-loop
 unfolding firstBroken
-loop-again c = (omega arith, rw add-one (rw (c .before .before .before .before .loop .inv .1) at (c .earlier .ensures)))
+loop-again c =
+    let at-loop = c .before .before .before .before in
+    (omega arith, rw add-one (rw (at-loop .loop .inv .1) at (c .earlier .ensures)))
 
 returns : tie.Need-returns Inv-loop μ-loop
 returns c =

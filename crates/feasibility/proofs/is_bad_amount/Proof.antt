@@ -23,9 +23,11 @@ either-way false true = refl
 either-way false false = refl
 
 far-test : (c : tie.After-is-farther) →
-    c .is-farther .result ≡ farther (c .before .before .before .before .args .x .p) (c .before .before .before .before .args .x .q)
+    let s = c .before .before .before .before in
+    c .is-farther .result ≡ farther (s .args .x .p) (s .args .x .q)
 far-test c =
-    let h : SFits w64 (c .before .before .before .before .args .x .p) = search needs in
+    let s = c .before .before .before .before in
+    let h : SFits w64 (s .args .x .p) = search needs in
     rw (toZ-ofZ h) at (c .is-farther .ensures)
 
 returns : tie.Need-returns
@@ -54,7 +56,8 @@ returns-3 c =
 
 magnitude-requires : tie.Need-magnitude-requires
 magnitude-requires c κs =
-    let x = c .before .before .before .before .before .args .x in
+    let s = c .before .before .before .before .before in
+    let x = s .args .x in
     let h : SFits w64 (x .p) = search needs in
     let l : natAbs (x .p) ≤ 1000000000 * x .q = ltb-false _ _ (sym (far-test (c .before)) ∙ c .if3 .left) in
     rw (toZ-ofZ h) (abs-within (x .p) (omega arith))

@@ -55,17 +55,23 @@ limit s = s .args .p .capacity *ℤ pos (s .args .d)
 abbrev sums : Figure → tie.Start → ℤ
 sums f s = totalOf f (s .args .d) (s .args .p .count) (s .args .p) (s .args .c)
 
-limit-is : (c : tie.After-times) → toZ w64 (ofZ w64 (c .times .result)) ≡ limit (c .before .before .before .before)
+limit-is : (c : tie.After-times) →
+    let s = c .before .before .before .before in
+    toZ w64 (ofZ w64 (c .times .result)) ≡ limit s
 limit-is c =
-    let h : SFits w64 (c .before .before .before .before .args .p .capacity) = search needs in
+    let s = c .before .before .before .before in
+    let h : SFits w64 (s .args .p .capacity) = search needs in
     back (c .times .result) (c .times .ok) ∙ (rw (toZ-ofZ h) at (c .times .ensures))
 
-weight-is : (c : tie.After-total) → toZ w64 (ofZ w64 (c .total .result)) ≡ sums Weight (c .before .before .before .before .before)
+weight-is : (c : tie.After-total) →
+    let s = c .before .before .before .before .before in
+    toZ w64 (ofZ w64 (c .total .result)) ≡ sums Weight s
 weight-is c = back (c .total .result) (c .total .ok) ∙ c .total .ensures
 
 -- the code's test of the weight is the definition's
 compared : (c : tie.After-total) {b : Bool} → ltZ (toZ w64 (ofZ w64 (c .before .times .result))) (toZ w64 (ofZ w64 (c .total .result))) ≡ b →
-    ltZ (limit (c .before .before .before .before .before)) (sums Weight (c .before .before .before .before .before)) ≡ b
+    let s = c .before .before .before .before .before in
+    ltZ (limit s) (sums Weight s) ≡ b
 compared c e = sym (ap₂ ltZ (limit-is (c .before)) (weight-is c)) ∙ e
 
 returns-2 : tie.Need-returns-2
@@ -78,7 +84,9 @@ returns-2 c =
 total-requires-2 : tie.Need-total-requires-2
 total-requires-2 c κs = search needs
 
-worth-is : (c : tie.After-total2) → toZ w64 (ofZ w64 (c .total2 .result)) ≡ sums Price (c .before .before .before .before .before .before .before)
+worth-is : (c : tie.After-total2) →
+    let s = c .before .before .before .before .before .before .before in
+    toZ w64 (ofZ w64 (c .total2 .result)) ≡ sums Price s
 worth-is c = back (c .total2 .result) (c .total2 .ok) ∙ c .total2 .ensures
 
 small : (s : tie.Start) → Within 1000000000000000000 (sums Price s)

@@ -56,8 +56,10 @@ fits s k l =
 
 -- one more
 next : (c : tie.After-one-term Inv-loop μ-loop) →
-    toZ w64 (c .before .before .before .before .loop .sum) +ℤ toZ w64 (ofZ w64 (c .one-term .result)) ≡ S (c .before .before .before .before .before)
-    (c .before .before .before .before .loop .k + 1)
+    let at-loop = c .before .before .before .before in
+    let s = at-loop .before in
+    toZ w64 (at-loop .loop .sum) +ℤ toZ w64 (ofZ w64 (c .one-term .result)) ≡ S s
+    (at-loop .loop .k + 1)
 next c =
     let l = c .before .before .before .before in
     let s = l .before in
@@ -68,7 +70,9 @@ add-sum : tie.Need-add-sum Inv-loop μ-loop
 add-sum c = let l = c .before .before .before .before in rw (next c) (fits (l .before) (l .loop .k + 1) (omega arith))
 
 add-k : tie.Need-add-k Inv-loop μ-loop
-add-k c = omega (arith, few (c .before .before .before .before .before))
+add-k c =
+    let s = c .before .before .before .before .before in
+    omega (arith, few s)
 
 loop-less : tie.Need-loop-less Inv-loop μ-loop
 loop-less c = omega arith

@@ -17,6 +17,10 @@ Inv-loop p capacity cap cells₀ r₀ written₀ from₀ cells r written from = 
 abbrev μ-loop : tie.MeasureT-loop
 μ-loop p capacity cap cells₀ r₀ written₀ from₀ cells r written from = 16 - from
 
+-- what is not found is not found
+never : false ≡ true → ⊥
+never e = let z : _≡_ {A = ℕ} 0 1 = cc in omega arith
+
 whole-of-requires : tie.Need-whole-of-requires Inv-loop μ-loop
 whole-of-requires c κs = search needs
 
@@ -58,7 +62,7 @@ returns c =
     let x = s .pre .0 in
     record {
       few = omega (arith, l .inv .0 .1, n .ensures .few, t .loop-test .taken);
-      found = λ e. absurd (let z : _≡_ {A = ℕ} 0 1 = cc in omega arith);
+      found = λ e. absurd (never e);
       none = λ e. sought-none (s .args .p) (s .args .capacity) (s .args .cap) (x .0 .long) (x .1 .0) (x .1 .1 .1 .1) (l .r) (l .from) (l .inv .1) (n .result)
           (n .ensures) (c .before .if1 .taken);
     }
@@ -110,7 +114,7 @@ returns-2 c =
       few = omega (arith, l .inv .0 .1, l .inv .1 .inside);
       found = λ e. sought-done (s .args .p) (s .args .capacity) (s .args .cap) (x .0 .long) (x .1 .0) (x .1 .1 .1 .1) (l .r) (l .from)
           (omega (arith, c .before .loop-test .left)) (l .inv .1);
-      none = λ e. absurd (let z : _≡_ {A = ℕ} 0 1 = cc in omega arith);
+      none = λ e. absurd (never (sym e));
     }
 
 pub first-filling-spec : {M : Type 1} → statement M

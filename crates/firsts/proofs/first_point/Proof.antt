@@ -43,7 +43,8 @@ loss-of-requires c κs =
 
 wholes-requires : tie.Need-wholes-requires Inv-loop μ-loop
 wholes-requires c κs =
-    let r = c .before .before .before .before .before .pre .0 .0 in (r .few, λ d l. omega (arith, r .level-in d l, r .sized .columns .few))
+    let s = c .before .before .before .before .before in
+    let r = s .pre .0 .0 in (r .few, λ d l. omega (arith, r .level-in d l, r .sized .columns .few))
 
 lead-of-requires : tie.Need-lead-of-requires Inv-loop μ-loop
 lead-of-requires c κs = tt

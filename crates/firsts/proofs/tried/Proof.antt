@@ -86,7 +86,9 @@ abbrev asked : tie.After-first-of-frame → tie.Else1
 asked m = m .before .before .before .before
 
 abbrev entry : tie.After-first-of-frame → tie.Start
-entry m = asked m .before .before .before .before
+entry m =
+    let s = m .before .before .before .before in
+    asked s
 
 add-written : tie.Need-add-written
 add-written c =

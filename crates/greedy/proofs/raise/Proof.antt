@@ -65,8 +65,9 @@ add-t11 c =
 
 returns-2 : tie.Need-returns-2
 returns-2 c =
+    let at-if1 = c .before .before .before .before .before in
     let s = start-by-struct-told3 c in
-    let t = rw (within-back tt (s .pre .room-in), need s, within-back tt (need-within s)) at (c .before .before .before .before .before .if1 .left) in
+    let t = rw (within-back tt (s .pre .room-in), need s, within-back tt (need-within s)) at (at-if1 .if1 .left) in
     rw (
       within-back tt (s .pre .room-in),
       need s,

@@ -51,7 +51,9 @@ add-t8 : tie.Need-add-t8
 add-t8 c = let d = c .before .before in rw (within-back tt (d .before .before .pre .worth-in), terms d) (within-sfits (lit< tt) (whole-within d))
 
 rem-t9 : tie.Need-rem-t9
-rem-t9 c = c .before .before .before .before .pre .size-in
+rem-t9 c =
+    let s = c .before .before .before .before in
+    s .pre .size-in
 
 returns : tie.Need-returns
 returns c = let d = c .before .before in rw (within-back tt (d .before .before .pre .worth-in), terms d, within-back tt (whole-within d), room-is d)

@@ -43,15 +43,17 @@ element-copy-out-v c = search needs
 
 rounded-requires : tie.Need-rounded-requires
 rounded-requires c κs =
+    let at-fill-up = c .before .before .before .before .before in
     let s = c .before .before .before .before .before .before in
     let k = s .args .k in
     let z = s .pre .0 .ends in
-    rw (within-back tt (z .lo-in k), within-back tt (z .hi-in k), c .before .before .before .before .before .fill-up .ensures)
+    rw (within-back tt (z .lo-in k), within-back tt (z .hi-in k), at-fill-up .fill-up .ensures)
     (record { low-in = z .lo-in k; high-in = z .hi-in k; room-in = fill-sized (s .args .t1) (s .args .t2) (s .pre .0) .room-in })
 
 returns : tie.Need-returns
 unfolding start
 returns c =
+    let at-fill-up = c .before .before .before .before .before .before in
     let s = c .before .before .before .before .before .before .before in
     let k = s .args .k in
     let z = s .pre .0 in
@@ -60,7 +62,7 @@ returns c =
       within-back tt (z .columns .prices-in k),
       within-back tt (z .ends .lo-in k),
       within-back tt (z .ends .hi-in k),
-      c .before .before .before .before .before .before .fill-up .ensures,
+      at-fill-up .fill-up .ensures,
     ) at (c .rounded .ensures) in
     back (c .rounded .result) (c .rounded .ok) ∙ e
 

@@ -41,8 +41,10 @@ abbrev start : tie.After-floor-div2 → tie.Start
 start c = c .before .before .before .before
 
 -- the gap times the second quotient, as the local holds it
-multiple : (c : tie.After-floor-div2) → toZ w64 (ofZ w64 (c .before .before .before .before .args .l .gap)) *ℤ toZ w64 (ofZ w64 (c .floor-div2 .result))
-    ≡ c .before .before .before .before .args .l .gap *ℤ floorDiv (S (c .before .before .before .before)) (c .before .before .before .before .args .l .gap)
+multiple : (c : tie.After-floor-div2) →
+    let s = c .before .before .before .before in
+    toZ w64 (ofZ w64 (s .args .l .gap)) *ℤ toZ w64 (ofZ w64 (c .floor-div2 .result))
+    ≡ s .args .l .gap *ℤ floorDiv (S s) (s .args .l .gap)
 multiple c =
     let s = c .before .before .before .before in
     let e = rw (held (c .before), within-back tt (s .pre .tame .gap-in)) at (c .floor-div2 .ensures) in

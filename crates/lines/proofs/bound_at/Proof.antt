@@ -20,41 +20,41 @@ use Rattle.lines.proofs.bound_at.Tie as tie
 bound-line-requires : tie.Need-bound-line-requires
 bound-line-requires c κs = search needs
 
-enum-told : tie.Need-enum-told
-enum-told c = search needs
-
 enum-known-l : tie.Need-enum-known-l
 enum-known-l c = search needs
 
-enum-told-2 : tie.Need-enum-told-2
-enum-told-2 c = search needs
+enum-known-l-2 : tie.Need-enum-known-l-2
+enum-known-l-2 c = search needs
+
+enum-told : tie.Need-enum-told
+enum-told c = search needs
 
 enum-known-f : tie.Need-enum-known-f
 enum-known-f c = search needs
 
 -- where the line was known, and where all began
-abbrev known : tie.After-known-told2 → tie.After-l
+abbrev known : tie.After-known-told3 → tie.After-l2
 known c = let f = c .before .before in f .before .before
 
-abbrev start : tie.After-known-told2 → tie.Start
+abbrev start : tie.After-known-told3 → tie.Start
 start c = let l = known c .before .before in l .before .before
 
-back-z : (c : tie.After-known-told2) → toZ w64 (ofZ w64 (c .before .f .given .0 .0)) ≡ c .before .f .given .0 .0
-back-z c = back _ (c .known-told2 .given .0 .1)
+back-z : (c : tie.After-known-told3) → toZ w64 (ofZ w64 (c .before .f .given .0 .0)) ≡ c .before .f .given .0 .0
+back-z c = back _ (c .known-told3 .given .0 .1)
 
 -- the line that was read
-read : (c : tie.After-known-told2) →
+read : (c : tie.After-known-told3) →
     let k = known c in
     numbersLine (fromTo 1 (start c .args .count)) prices (now (start c .args .s)) (start c .args .at)
-    ≡ Both (In (c .before .f .given .0 .0)) (k .l .given .0 .1 .0) (k .l .given .0 .1 .1 .0)
+    ≡ Both (In (c .before .f .given .0 .0)) (k .l2 .given .0 .1 .0) (k .l2 .given .0 .1 .1 .0)
 read c =
     let k = known c in
     sym (k .before .before .bound-line .ensures)
-    ∙ k .l .given .1
-    ∙ ap (λ x. Both x (k .l .given .0 .1 .0) (k .l .given .0 .1 .1 .0)) (c .before .f .given .1)
+    ∙ k .l2 .given .1
+    ∙ ap (λ x. Both x (k .l2 .given .0 .1 .0) (k .l2 .given .0 .1 .1 .0)) (c .before .f .given .1)
 
 cast-k : tie.Need-cast-k
-cast-k c = rw (back-z c) (cast-in (≤ℤ-trans (leZ-yes tt) (numbers-range _ _ _ _ _ _ _ (read c) .0)) (record { sfits = c .known-told2 .given .0 .1 }))
+cast-k c = rw (back-z c) (cast-in (≤ℤ-trans (leZ-yes tt) (numbers-range _ _ _ _ _ _ _ (read c) .0)) (record { sfits = c .known-told3 .given .0 .1 }))
 
 returns : tie.Need-returns
 unfolding boundRead
@@ -65,11 +65,11 @@ bound-of-requires c κs = search needs
 
 returns-2 : tie.Need-returns-2
 unfolding boundRead
-returns-2 c = rw (sym (c .before .before .bound-line .ensures) ∙ c .enum-told .given .1)
+returns-2 c = rw (sym (c .before .before .before .bound-line .ensures) ∙ c .before .l .given .1)
 
 returns-3 : tie.Need-returns-3
 unfolding boundRead
-returns-3 c = let k = c .before .before in rw (sym (k .before .before .before .bound-line .ensures) ∙ k .before .l .given .1, c .enum-told2 .given .1)
+returns-3 c = let k = c .before .before in rw (sym (k .before .before .before .bound-line .ensures) ∙ k .before .l2 .given .1, c .enum-told .given .1)
 
 returns-4 : tie.Need-returns-4
 unfolding boundRead
@@ -82,9 +82,9 @@ bound-at-spec =
     tie.close
     (tie.spec
     bound-line-requires
-    enum-told
     enum-known-l
-    enum-told-2
+    enum-known-l-2
+    enum-told
     enum-known-f
     cast-k
     returns

@@ -17,48 +17,48 @@ use Rattle.lines.proofs.heading.Tie as tie
 heading-line-requires : tie.Need-heading-line-requires
 heading-line-requires c κs = search needs
 
-enum-told : tie.Need-enum-told
-enum-told c = search needs
-
 enum-known-f : tie.Need-enum-known-f
 enum-known-f c = search needs
 
-enum-told-2 : tie.Need-enum-told-2
-enum-told-2 c = search needs
+enum-known-f-2 : tie.Need-enum-known-f-2
+enum-known-f-2 c = search needs
+
+enum-told : tie.Need-enum-told
+enum-told c = search needs
 
 enum-known-g : tie.Need-enum-known-g
 enum-known-g c = search needs
 
 -- where the field was known, and where all began
-abbrev known : tie.After-known-told2 → tie.After-f
+abbrev known : tie.After-known-told3 → tie.After-f2
 known c = let g = c .before .before in g .before .before
 
-abbrev start : tie.After-known-told2 → tie.Start
+abbrev start : tie.After-known-told3 → tie.Start
 start c = let h = known c .before .before in h .before .before .before
 
-back-z : (c : tie.After-known-told2) → toZ w64 (ofZ w64 (c .before .g .given .0 .0)) ≡ c .before .g .given .0 .0
-back-z c = back _ (c .known-told2 .given .0 .1)
+back-z : (c : tie.After-known-told3) → toZ w64 (ofZ w64 (c .before .g .given .0 .0)) ≡ c .before .g .given .0 .0
+back-z c = back _ (c .known-told3 .given .0 .1)
 
 -- the heading that was read
-read : (c : tie.After-known-told2) →
+read : (c : tie.After-known-told3) →
     let a = start c .args in
-    headingLine (now (a .word)) (a .range) (now (a .s)) (a .at) ≡ Number (In (c .before .g .given .0 .0)) (known c .f .given .0 .1 .0)
+    headingLine (now (a .word)) (a .range) (now (a .s)) (a .at) ≡ Number (In (c .before .g .given .0 .0)) (known c .f2 .given .0 .1 .0)
 read c =
     let k = known c in
-    sym (k .before .before .heading-line .ensures) ∙ k .f .given .1 ∙ ap (λ x. Number x (k .f .given .0 .1 .0)) (c .before .g .given .1)
+    sym (k .before .before .heading-line .ensures) ∙ k .f2 .given .1 ∙ ap (λ x. Number x (k .f2 .given .0 .1 .0)) (c .before .g .given .1)
 
-cast-t11 : tie.Need-cast-t11
-cast-t11 c =
-    rw (back-z c) (cast-in (≤ℤ-trans (start c .pre .1) (heading-range _ _ _ _ _ _ (read c) .0)) (record { sfits = c .known-told2 .given .0 .1 }))
+cast-t12 : tie.Need-cast-t12
+cast-t12 c =
+    rw (back-z c) (cast-in (≤ℤ-trans (start c .pre .1) (heading-range _ _ _ _ _ _ (read c) .0)) (record { sfits = c .known-told3 .given .0 .1 }))
 
 returns : tie.Need-returns
 unfolding countAt
-returns c = rw (sym (c .before .before .heading-line .ensures) ∙ c .enum-told .given .1)
+returns c = rw (sym (c .before .before .before .heading-line .ensures) ∙ c .before .f .given .1)
 
 returns-2 : tie.Need-returns-2
 unfolding countAt
 returns-2 c =
-    let k = c .before .before in rw (sym (k .before .before .before .heading-line .ensures) ∙ k .before .f .given .1, c .enum-told2 .given .1)
+    let k = c .before .before in rw (sym (k .before .before .before .heading-line .ensures) ∙ k .before .f2 .given .1, c .enum-told .given .1)
 
 returns-3 : tie.Need-returns-3
 unfolding countAt
@@ -69,11 +69,11 @@ heading-spec =
     tie.close
     (tie.spec
     heading-line-requires
-    enum-told
     enum-known-f
-    enum-told-2
+    enum-known-f-2
+    enum-told
     enum-known-g
-    cast-t11
+    cast-t12
     returns
     returns-2
     returns-3)

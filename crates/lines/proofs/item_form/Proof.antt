@@ -16,11 +16,11 @@ enum-known-m c = search needs
 numbers-line-requires : tie.Need-numbers-line-requires
 numbers-line-requires c κs = search needs
 
-enum-told-2 : tie.Need-enum-told-2
-enum-told-2 c = search needs
-
 enum-known-p : tie.Need-enum-known-p
 enum-known-p c = search needs
+
+enum-known-p-2 : tie.Need-enum-known-p-2
+enum-known-p-2 c = search needs
 
 returns : tie.Need-returns
 unfolding itemLine
@@ -29,19 +29,21 @@ returns c = rw (sym (c .before .before .mark-field .ensures) ∙ c .enum-told .g
 returns-2 : tie.Need-returns-2
 unfolding itemLine
 returns-2 c =
-    let k = c .before .before .before in
+    let p = c .before in
+    let k = p .before .before .before in
     rw (
       sym (k .before .before .before .mark-field .ensures) ∙ k .before .m .given .1,
-      sym (c .before .before .numbers-line .ensures) ∙ c .enum-told2 .given .1,
+      sym (p .before .before .numbers-line .ensures) ∙ p .p .given .1,
     )
 
 returns-3 : tie.Need-returns-3
 unfolding itemLine
 returns-3 c =
-    let k = c .before .before .before .before in
+    let p = c .before in
+    let k = p .before .before .before in
     rw (
       sym (k .before .before .before .mark-field .ensures) ∙ k .before .m .given .1,
-      sym (c .before .before .before .numbers-line .ensures) ∙ c .before .p .given .1,
+      sym (p .before .before .numbers-line .ensures) ∙ p .p2 .given .1,
     )
 
 pub item-form-spec : {M : Type 1} → statement M
@@ -52,8 +54,8 @@ item-form-spec =
     enum-told
     enum-known-m
     numbers-line-requires
-    enum-told-2
     enum-known-p
+    enum-known-p-2
     returns
     returns-2
     returns-3)

@@ -21,8 +21,9 @@ put-answer-requires c κs = search needs
 
 returns : tie.Need-returns
 returns c =
+    let s = c .before .before .before .before in
     let p = c .before .put-answer in
-    let a = c .before .before .before .before .args in
+    let a = s .args in
     let e : p .result ≡ length (printed (a .n) (a .a)) = omega arith in
     let h : p .result ≤ length (p .last .0) = omega arith in
     record {

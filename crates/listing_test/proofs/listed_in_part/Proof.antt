@@ -6,14 +6,14 @@ use borrow.Author.Needs.{needs}
 use Rattle.listing_test.proofs.listed_in_part.Statement.{statement}
 use Rattle.listing_test.proofs.listed_in_part.Tie as tie
 
-slice-relend-prefix-listed : tie.Need-slice-relend-prefix-listed
-slice-relend-prefix-listed c = search needs
+slice-relend-prefix-list-reply : tie.Need-slice-relend-prefix-list-reply
+slice-relend-prefix-list-reply c = search needs
 
-slice-aggregate-listed : tie.Need-slice-aggregate-listed
-slice-aggregate-listed c = sym (length-take-le _ _ (omega arith))
+slice-aggregate-list-reply : tie.Need-slice-aggregate-list-reply
+slice-aggregate-list-reply c = sym (length-take-le _ _ (omega arith))
 
-listed-requires : tie.Need-listed-requires
-listed-requires c κs = search needs
+list-reply-requires : tie.Need-list-reply-requires
+list-reply-requires c κs = search needs
 
 same-length : tie.Need-same-length
 same-length c = search needs
@@ -25,8 +25,8 @@ pub listed-in-part-spec : {M : Type 1} → statement M
 listed-in-part-spec =
     tie.close
     (tie.spec
-    slice-relend-prefix-listed
-    slice-aggregate-listed
-    listed-requires
+    slice-relend-prefix-list-reply
+    slice-aggregate-list-reply
+    list-reply-requires
     same-length
     returns)

@@ -14,9 +14,12 @@ weight-test c =
     let h : SFits w64 (c .before .before .args .i .weight) = search needs in
     sym (rw (toZ-ofZ h) at (c .beyond .ensures))
 
-price-test : (c : tie.After-beyond2) → outside 10000 (c .before .before .before .before .before .args .i .price) ≡ c .beyond2 .result
+price-test : (c : tie.After-beyond2) →
+    let s = c .before .before .before .before .before in
+    outside 10000 (s .args .i .price) ≡ c .beyond2 .result
 price-test c =
-    let h : SFits w64 (c .before .before .before .before .before .args .i .price) = search needs in
+    let s = c .before .before .before .before .before in
+    let h : SFits w64 (s .args .i .price) = search needs in
     sym (rw (toZ-ofZ h) at (c .beyond2 .ensures))
 
 beyond-requires : tie.Need-beyond-requires
@@ -36,8 +39,9 @@ bad-bound-requires c κs = search needs
 
 -- both figures are in range
 figures : (c : tie.Else2) →
-    (outside 1000 (c .before .before .before .before .before .before .args .i .weight) ≡ false) ×
-    (outside 10000 (c .before .before .before .before .before .before .args .i .price) ≡ false)
+    let s = c .before .before .before .before .before .before in
+    (outside 1000 (s .args .i .weight) ≡ false) ×
+    (outside 10000 (s .args .i .price) ≡ false)
 figures c = let e = c .before .before .before in (weight-test (e .before) ∙ e .if1 .left, price-test (c .before) ∙ c .if2 .left)
 
 returns-3 : tie.Need-returns-3

@@ -26,8 +26,9 @@ returns-2 c = search needs
 
 returns-3 : tie.Need-returns-3
 returns-3 c =
+    let at-l = c .before .before .before .before in
     let u = c .before .u .given in
-    let l = c .before .before .before .before .l .given in
+    let l = at-l .l .given in
     let hu : SFits w64 (u .0 .0) = search needs in
     let hl : SFits w64 (l .0 .0) = search needs in
     rw (toZ-ofZ hu, toZ-ofZ hl, l .1, u .1)

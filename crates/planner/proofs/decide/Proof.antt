@@ -31,7 +31,8 @@ with-work-requires c κs = search needs
 returns : tie.Need-returns
 returns c =
     let h = c .before in
-    let b = h .before .before .before .before in
+    let m = h .before .before in
+    let b = m .before .before in
     let a = b .before in
     let q = a .prepare .ensures in
     let s = a .prepare .result in
@@ -48,7 +49,10 @@ find-ray-requires : tie.Need-find-ray-requires
 find-ray-requires c κs = search needs
 
 unbounded-requires : tie.Need-unbounded-requires
-unbounded-requires c κs = c .before .before .before .before .before .before .before .prepare .ensures .ready .sized
+unbounded-requires c κs =
+    let r = c .before .before .before in
+    let b = r .before .before .before in
+    b .before .prepare .ensures .ready .sized
 
 with-work-requires-2 : tie.Need-with-work-requires-2
 with-work-requires-2 c κs = search needs
@@ -103,8 +107,7 @@ unfolding Prep
 best-place-requires c κs =
     let n = c .before in
     let q = near n in
-    let s = Prep (n .before .before) .before in
-    (
+    let s = Prep (n .before .before) .before in (
       record {
         setting = q .ready;
         true-pairs = c .pairs-of .ensures .ready (n .narrowed .result .cols) (record { weights-agree = q .weights; prices-agree = q .prices });
@@ -136,7 +139,9 @@ optimal-requires c κs =
     (near (n .before .before) .ready, n .best-place .ensures .searched .inside (found n))
 
 -- the answer of the best place is an optimal one
-shown : (o : tie.After-optimal) → ShownOptimal (instanceOf (Prep (o .before .before .before .before .before .before) .before .args .p)) (o .optimal .result)
+shown : (o : tie.After-optimal) →
+    let s = o .before .before .before .before .before .before in
+    ShownOptimal (instanceOf (Prep (s) .before .args .p)) (o .optimal .result)
 unfolding Prep
 shown o =
     let n = o .before .before in
@@ -175,7 +180,7 @@ with-work-requires-3 : tie.Need-with-work-requires-3
 with-work-requires-3 c κs = search needs
 
 -- the search's own count
-walked : (n : tie.After-best-place) → let s = Prep (n .before .before .before .before) .before in
+walked : (n : tie.After-best-place) → let w = n .before .before in let s = Prep (w .before .before) .before in
     Walked (s .args .most) (s .args .p) (n .best-place .result .steps)
 unfolding Prep
 walked n = record {

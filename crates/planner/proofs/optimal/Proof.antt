@@ -55,8 +55,10 @@ joined-requires : tie.Need-joined-requires
 joined-requires c κs =
     let s = c .before .before .before .before in rw (value-is (c .before)) (bound-joins (s .args .s .cols) (fillAt (s .args .s) (s .args .x)) (filled s))
 
-numerator-is : (c : tie.After-joined) → c .joined .result ≡ over (valueAt (c .before .before .before .before .before .args .s)
-    (c .before .before .before .before .before .args .x))
+numerator-is : (c : tie.After-joined) →
+    let start = c .before .before .before .before .before in
+    c .joined .result ≡ over (valueAt (start .args .s)
+    (start .args .x))
 numerator-is c = c .joined .ensures ∙ ap over (value-is (c .before .before))
 
 reduce-requires : tie.Need-reduce-requires

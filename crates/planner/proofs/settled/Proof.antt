@@ -15,8 +15,7 @@ slice-aggregate-settle c = search needs
 settle-requires : tie.Need-settle-requires
 settle-requires c κs =
     let e = c .before .before .before in
-    let s = e .before .before .before in
-    (
+    let s = e .before .before .before in (
       (boxes (s .args .s) (s .pre .0) (s .pre .1 .0), tried (s .args .s) (s .pre .0) (long s) (s .args .b) (s .pre .1 .1)),
       search needs,
     )

@@ -45,10 +45,14 @@ table-requires-3 : tie.Need-table-requires-3
 table-requires-3 c κs = in-order (c .before .before .before)
 
 table-requires-4 : tie.Need-table-requires-4
-table-requires-4 c κs = in-order (c .before .before .before .before)
+table-requires-4 c κs =
+    let s = c .before .before .before .before in
+    in-order s
 
 leading-requires : tie.Need-leading-requires
-leading-requires c κs = in-order (c .before .before .before .before .before)
+leading-requires c κs =
+    let s = c .before .before .before .before .before in
+    in-order s
 
 -- the moments that are spoken of below
 abbrev after-table2 : tie.After-struct-told → tie.After-table2
@@ -56,6 +60,7 @@ after-table2 c = c .before .before .before .before .before
 
 returns : tie.Need-returns
 returns c =
+    let at-inverse = c .before .before .before .before in
     let o = c .before .before .before .before .before .before .before in
     let s = o .before .before in
     let items = o .before .all-places in
@@ -67,7 +72,7 @@ returns c =
       weights = tabled-places (s .args .p) (s .pre) (items .result) (items .ensures) Weight (t .table .result) (t .table .ensures);
       prices = tabled-places (s .args .p) (s .pre) (items .result) (items .ensures) Price (after-table2 c .table2 .result) (after-table2 c .table2 .ensures);
       order = o .ranking-by .ensures;
-      rank = c .before .before .before .before .inverse .ensures;
+      rank = at-inverse .inverse .ensures;
       sizes = c .before .before .before .table3 .ensures;
       rates = c .before .before .table4 .ensures;
       live = c .before .leading .ensures;

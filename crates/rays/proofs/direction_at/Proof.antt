@@ -42,6 +42,8 @@ turned-requires-2 c κs =
 returns : tie.Need-returns
 unfolding directionOf
 returns c =
+    let at-is-absent = c .before .before .before .before in
+    let at-stop-of = at-is-absent .before in
     let s = c .before .before .before .before .before .before .before in
     let f : SFits w64 (itemAt (s .args .t1) (s .args .u / 2) .weight) = search needs in
     let g : SFits w64 (itemAt (s .args .t1) (s .args .u / 2) .price) = search needs in
@@ -52,8 +54,8 @@ returns c =
       c .turned2 .ensures,
       toZ-ofZ f,
       toZ-ofZ g,
-      c .before .before .before .before .is-absent .ensures,
-      c .before .before .before .before .before .stop-of .ensures,
+      at-is-absent .is-absent .ensures,
+      at-stop-of .stop-of .ensures,
     )
 
 pub direction-at-spec : {M : Type 1} → statement M

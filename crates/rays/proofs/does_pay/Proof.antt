@@ -18,9 +18,10 @@ zero-fits = record { sfits = lit< tt }
 returns : tie.Need-returns
 unfolding pays
 returns c =
+    let at-if1 = c .before .before .before .before in
     let s = c .before .before .before .before .before in
     let h : SFits w64 (s .args .e .weight) = search needs in
-    rw (back _ (c .gain-of .ok), c .gain-of .ensures, c .before .before .before .before .if1 .taken, on-values h zero-fits (c .before .if2 .taken))
+    rw (back _ (c .gain-of .ok), c .gain-of .ensures, at-if1 .if1 .taken, on-values h zero-fits (c .before .if2 .taken))
 
 returns-2 : tie.Need-returns-2
 unfolding pays

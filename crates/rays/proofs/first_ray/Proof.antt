@@ -31,7 +31,8 @@ is-ray-requires c κs = search needs
 returns : tie.Need-returns Inv-loop μ-loop
 unfolding rayOf
 returns c =
-    let l = c .before .before .before .before .loop in
+    let at-loop = c .before .before .before .before in
+    let l = at-loop .loop in
     first-here _ (l .u) _ _ _ (omega arith) (l .inv .1) (c .before .before .ray-from .ensures) (c .before .is-ray .ensures) (c .if1 .taken)
 
 add-u : tie.Need-add-u Inv-loop μ-loop
@@ -42,7 +43,8 @@ loop-less c = omega arith
 
 loop-again : tie.Need-loop-again Inv-loop μ-loop
 loop-again c =
-    let l = c .before .before .before .before .loop in
+    let at-loop = c .before .before .before .before in
+    let l = at-loop .loop in
     (omega arith, first-past (l .u) _ _ _ (l .inv .1) (c .before .before .ray-from .ensures) (c .before .is-ray .ensures) (c .if1 .left))
 
 returns-2 : tie.Need-returns-2 Inv-loop μ-loop

@@ -50,11 +50,12 @@ moved-requires-2 c κs =
 returns : tie.Need-returns
 unfolding stepsBy
 returns c =
+    let at-no-steps = c .before .before .before .before .before in
     let e = c .before .before .before .before .before .before in
     rw (
       c .moved2 .ensures,
       c .before .before .moved .ensures,
-      c .before .before .before .before .before .no-steps .ensures,
+      at-no-steps .no-steps .ensures,
       negated (lit< tt) (e-weight e),
       read-back (lit< tt) (e-negated e),
       read-back (lit< tt) (d-weight e),

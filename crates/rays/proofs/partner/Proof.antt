@@ -30,7 +30,8 @@ is-ray-requires c κs = search needs
 
 returns : tie.Need-returns Inv-loop μ-loop
 returns c =
-    let l = c .before .before .before .before .loop in
+    let at-loop = c .before .before .before .before in
+    let l = at-loop .loop in
     first-here _ (l .w) _ _ _ (omega arith) (l .inv .1) (c .before .before .partner-at .ensures) (c .before .is-ray .ensures) (c .if1 .taken)
 
 add-w : tie.Need-add-w Inv-loop μ-loop
@@ -41,7 +42,8 @@ loop-less c = omega arith
 
 loop-again : tie.Need-loop-again Inv-loop μ-loop
 loop-again c =
-    let l = c .before .before .before .before .loop in
+    let at-loop = c .before .before .before .before in
+    let l = at-loop .loop in
     (omega arith, first-past (l .w) _ _ _ (l .inv .1) (c .before .before .partner-at .ensures) (c .before .is-ray .ensures) (c .if1 .left))
 
 returns-2 : tie.Need-returns-2 Inv-loop μ-loop

@@ -29,11 +29,12 @@ partner-requires c κs =
 returns : tie.Need-returns
 unfolding rayFrom
 returns c =
+    let at-if1 = c .before .before .before .before in
     let g = c .before .before .before .before .before in
     let h : SFits w64 (g .before .direction-at .result .weight) = search needs in
     rw (
       ← g .before .direction-at .ensures,
-      sym (g .does-gain .ensures) ∙ c .before .before .before .before .if1 .taken,
+      sym (g .does-gain .ensures) ∙ at-if1 .if1 .taken,
       on-values zero-fits h (c .before .if2 .taken),
     ) (c .partner .ensures)
 

@@ -30,13 +30,19 @@ show-requires : tie.Need-show-requires Inv-loop μ-loop
 show-requires c κs = search needs
 
 add-k : tie.Need-add-k Inv-loop μ-loop
-add-k c = omega (arith, c .before .before .before .before .before .before .before .before .before)
+add-k c =
+    let s = c .before .before .before .before .before .before .before .before .before in
+    omega (arith, s)
 
 loop-less : tie.Need-loop-less Inv-loop μ-loop
-loop-less c = omega (arith, c .before .before .before .before .before .before .before .before .before)
+loop-less c =
+    let s = c .before .before .before .before .before .before .before .before .before in
+    omega (arith, s)
 
 loop-again : tie.Need-loop-again Inv-loop μ-loop
-loop-again c = omega (arith, c .before .before .before .before .before .before .before .before .before)
+loop-again c =
+    let s = c .before .before .before .before .before .before .before .before .before in
+    omega (arith, s)
 
 returns : tie.Need-returns Inv-loop μ-loop
 returns c = search needs

@@ -1,43 +1,50 @@
--- `runcefo::charge_plan` meets its contract: the text by value is handed over.
+-- `runcefo::charge_plan` meets its contract: what is told of the sheet's listing.
 use mathlib.Core.Path.{ap, _∙_}
 use borrow.Author.Needs.{needs}
-use Rattle.runcefo.specs.Entries.{lengthOf}
+use Rattle.runcefo.specs.Entries.{toldNumber, toldLine}
 use Rattle.runcefo.proofs.charge_plan.Statement.{statement}
 use Rattle.runcefo.proofs.charge_plan.Tie as tie
 
-reply-to-requires : tie.Need-reply-to-requires
-reply-to-requires c κs = search needs
+list-sheet-requires : tie.Need-list-sheet-requires
+list-sheet-requires c κs = search needs
 
-array-share-prefix-bytes : tie.Need-array-share-prefix-bytes
-array-share-prefix-bytes c = search needs
-
-slice-aggregate-hand-over : tie.Need-slice-aggregate-hand-over
-slice-aggregate-hand-over c = search needs
-
-hand-over-requires : tie.Need-hand-over-requires
-hand-over-requires c κs = search needs
+listed-verdict-requires : tie.Need-listed-verdict-requires
+listed-verdict-requires c κs = search needs
 
 length-of-requires : tie.Need-length-of-requires
 length-of-requires c κs = search needs
+
+told-line-requires : tie.Need-told-line-requires
+told-line-requires c κs = search needs
+
+told-number-requires : tie.Need-told-number-requires
+told-number-requires c κs = search needs
 
 same-length : tie.Need-same-length
 same-length c = search needs
 
 returns : tie.Need-returns
 returns c =
-    let h = c .before .before .before in
-    let t = h .before .before .before .before .reply-to .ensures in
-    let w = rw (t .shown .shown) at (h .hand-over .ensures) in
-    record { answer = t .answer; is-true = t .is-true; length-is = c .length-of .ensures ∙ ap lengthOf (w .0); left-is = w .1 }
+    let l = c .before in
+    let n = l .before in
+    let v = n .before in
+    let w = v .before .before .before in
+    record {
+      reply = w .list-sheet .result;
+      lists = w .list-sheet .ensures;
+      length-is = n .length-of .ensures;
+      line-is = l .told-line .ensures ∙ ap toldLine (v .listed-verdict .ensures);
+      number-is = c .told-number .ensures ∙ ap toldNumber (v .listed-verdict .ensures);
+    }
 
 pub charge-plan-spec : {M : Type 1} → statement M
 charge-plan-spec =
     tie.close
     (tie.spec
-    reply-to-requires
-    array-share-prefix-bytes
-    slice-aggregate-hand-over
-    hand-over-requires
+    list-sheet-requires
+    listed-verdict-requires
     length-of-requires
+    told-line-requires
+    told-number-requires
     same-length
     returns)

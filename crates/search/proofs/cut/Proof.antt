@@ -31,14 +31,20 @@ returns c =
     let t = rw (f, within-back tt (sized s .room-in)) at (c .if1 .taken) in
     rw t
 
-not-empty : (c : tie.Else1) → ltZ (fill (c .before .before .before .before .args .t1) (c .before .before .before .before .args .e) .room) (pos 0) ≡ false
+not-empty : (c : tie.Else1) →
+    let s = c .before .before .before .before in
+    ltZ (fill (s .args .t1) (s .args .e) .room) (pos 0) ≡ false
 not-empty c =
     let s = c .before .before .before .before in
     rw (c .before .before .before .fill-up .ensures, within-back tt (sized s .room-in)) at (c .if1 .left)
 
 -- the filling ended at a live rank
-rank<16 : (c : tie.Then3) → c .before .before .before .before .before .before .fill-up .result .at < 16
-rank<16 c = omega (arith, c .if3 .taken, c .before .before .before .before .before .before .before .pre .0 .sized .columns .live-few)
+rank<16 : (c : tie.Then3) →
+    let at-fill-up = c .before .before .before .before .before .before in
+    at-fill-up .fill-up .result .at < 16
+rank<16 c =
+    let s = c .before .before .before .before .before .before .before in
+    omega (arith, c .if3 .taken, s .pre .0 .sized .columns .live-few)
 
 mul-s : tie.Need-mul-s
 mul-s c = record { fits = omega (arith, rank<16 c) }

@@ -195,6 +195,7 @@ At c = c .before .before .before .before .before .before .before .before .before
 decided : (c : tie.After-removable Inv-loop μ-loop) → Reflects (AppliesAt (At c .before .args .t1) (At c .before .args .t2) (at (At c .before .args .t3))
     (At c .loop .d) (At c .loop .j)) (c .removable .result)
 decided c =
+    let at-removable-arg3 = c .before .before .before .before in
     let t = then1-by-removable c in
     let l = At c in
     let s = l .before in
@@ -206,7 +207,7 @@ decided c =
       within-back tt (second-within s k),
       within-back tt (amount-within s (l .loop .d) (d-in t)),
       within-back tt (amount-within s (l .loop .j) (j-in t)),
-      back (at (s .args .t1 .low) (l .loop .d)) (c .before .before .before .before .removable-arg3 .given),
+      back (at (s .args .t1 .low) (l .loop .d)) (at-removable-arg3 .removable-arg3 .given),
       back (at (s .args .t1 .high) (l .loop .d)) (c .before .before .before .removable-arg4 .given),
       back (at (s .args .t1 .low) (l .loop .j)) (c .before .before .removable-arg5 .given),
       back (at (s .args .t1 .high) (l .loop .j)) (c .before .removable-arg6 .given),

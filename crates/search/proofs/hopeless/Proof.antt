@@ -70,11 +70,13 @@ barren-requires c κs =
     rw (within-back tt (s .pre .steep .worth-in), toZ-ofZ (s .fits .rate), toZ-ofZ (s .fits .size), within-back tt (s .pre .room-in))
     (s .pre .tame, (s .pre .steep, s .pre .room-in))
 
-barren-is : (c : tie.After-barren) → c .barren .result ≡ barrenBy (start-by-barren c .args .l)
+barren-is : (c : tie.After-barren) →
+    let s = c .before .before .before .before .before .before .before .before .before in
+    c .barren .result ≡ barrenBy (start-by-barren c .args .l)
     (record {
       worth = start-by-barren c .args .f .worth;
-      rate = c .before .before .before .before .before .before .before .before .before .args .rate;
-      size = c .before .before .before .before .before .before .before .before .before .args .size;
+      rate = s .args .rate;
+      size = s .args .size;
     })
     (start-by-barren c .args .f .room)
     (start-by-barren c .args .b .whole)

@@ -210,9 +210,11 @@ cut-requires c κs =
 
 -- the levels above settle nothing
 passed : (l : tie.At-loop Inv-loop μ-loop) (d : ℕ) → d ≤ l .loop .d → Passed (Of l .args .t1) (Of l .args .p) (Of l .args .t) (Of l .args .best) d
-passed l d h = record {
+passed l d h =
+    let at-first-paired = l .before .before .before .before in
+    record {
   uncut = λ i g. l .loop .inv .1 .1 .1 i (omega arith);
-  unpaired = λ i g. l .before .before .before .before .first-paired .ensures .before i (omega (arith, l .loop .inv .1 .1 .0));
+  unpaired = λ i g. at-first-paired .first-paired .ensures .before i (omega (arith, l .loop .inv .1 .1 .0));
 }
 
 -- whether the run of the level is cut
@@ -227,12 +229,15 @@ cut-is c =
 
 returns : tie.Need-returns Inv-loop μ-loop
 returns c =
-    let i = Round (c .before .before .before .before) in
+    let s = c .before .before .before .before in
+    let i = Round s in
     let l = i .before in
     (refl, record { level-in = i .loop-test .taken; passed = passed l (l .loop .d) (omega arith); cut = sym (cut-is (c .before)) ∙ c .if1 .taken })
 
 add-t50 : tie.Need-add-t50 Inv-loop μ-loop
-add-t50 c = record { fits = omega (arith, d<16 (Round (c .before .before .before .before .before))) }
+add-t50 c =
+    let s = c .before .before .before .before .before in
+    record { fits = omega (arith, d<16 (Round s)) }
 
 -- the level that a pair discards
 returns-2 : tie.Need-returns-2 Inv-loop μ-loop
@@ -241,7 +246,8 @@ returns-2 c =
     let i = Round (after-by-side2-by-else1 e) in
     let l = i .before in
     let s = Of l in
-    let f = l .before .before .before .before .first-paired in
+    let paired = l .before .before .before .before in
+    let f = paired .first-paired in
     let q = c .if2 .taken in
     inr (
       refl,
@@ -292,11 +298,12 @@ loop-again c =
     let i = Round b in
     let l = i .before in
     let s = Of l in
+    let read = b .before .before .before .before .before .before in
     let x = at (s .args .t .place) (l .loop .d) in
     let k = levelAt (s .args .t1) (l .loop .d) in (
       omega (arith, i .loop-test .taken),
       (
-        rw (add-one, back x (b .before .before .before .before .before .before .a .given))
+        rw (add-one, back x (read .a .given))
             (rewritten (l .loop .e) k (toZ w64 (ofZ w64 (b .before .before .by-side .result))) (toZ w64 (ofZ w64 (b .by-side2 .result))) x
             ∙ ap (λ e. spanned e k x x) (l .loop .inv .1 .0)),
         (omega (arith, l .loop .inv .1 .1 .0, c .if2 .left), λ j h. still u j (omega arith) (ℕ-discrete j (l .loop .d))),

@@ -42,8 +42,7 @@ loop-again c =
     let t = c .before in
     let l = t .before .before in
     let s = l .before in
-    let v = l .loop .inv in
-    (
+    let v = l .loop .inv in (
       underway-on (s .args .s) (s .args .p) (l .loop .t) (c .step .result) (v .0) (t .if1 .left) (c .step .ensures),
       (suc (v .1 .0), ((l .loop .t, (v .1 .1 .0, (t .if1 .left, c .step .ensures))), omega (arith, v .1 .1 .1))),
     )

@@ -39,18 +39,24 @@ enum-known-o c = search needs
 
 -- where the verdict leads
 abbrev goal : tie.After-past → Option (ℕ × ℤ)
-goal c = pastOf (c .before .before .before .before .before .before .before .look .result .settled)
-    (at (c .before .before .before .before .before .before .before .before .before .before .args .s .low))
-    (at (c .before .before .before .before .before .before .before .before .before .before .args .s .high))
-    (at (c .before .before .before .before .before .before .before .before .before .before .args .q .path .starts))
-    (at (c .before .before .before .before .before .before .before .before .before .before .args .q .path .place))
+goal c =
+    let at-look = c .before .before .before .before .before .before .before in
+    let start = at-look .before .before .before in
+    pastOf (at-look .look .result .settled)
+    (at (start .args .s .low))
+    (at (start .args .s .high))
+    (at (start .args .q .path .starts))
+    (at (start .args .q .path .place))
 
 -- the moments that are spoken of below
+abbrev after-counted : tie.After-known-told → tie.After-counted
+after-counted c = c .before .before .before .before .before .before .before .before
+
 abbrev after-look : tie.After-known-told → tie.After-look
-after-look c = c .before .before .before .before .before .before .before .before .before .before
+after-look c = after-counted c .before .before
 
 abbrev start : tie.After-known-told → tie.Start
-start c = c .before .before .before .before .before .before .before .before .before .before .before .before .before
+start c = after-look c .before .before .before
 
 module _ (c : tie.After-known-told) where
   went : goal (c .before .before .before) ≡ some (c .before .o .given .0 .0, c .before .o .given .0 .1 .0)
@@ -73,15 +79,18 @@ module _ (c : tie.After-known-told) where
 
 move-to-requires : tie.Need-move-to-requires
 move-to-requires c κs =
+    let s = c .before .before .before .before .before .before .before .before .before .before .before .before .before in
     omega (
       arith,
       moves c .level-in,
-      c .before .before .before .before .before .before .before .before .before .before .before .before .before .pre .ready .setting .few,
+      s .pre .ready .setting .few,
     )
 
 -- the path that the dive goes on from
-moved : (c : tie.After-move-to) → c .move-to .result ≡ movedAt
-    (c .before .before .before .before .before .before .before .before .before .before .before .before .before .before .args .q .path)
+moved : (c : tie.After-move-to) →
+    let s = c .before .before .before .before .before .before .before .before .before .before .before .before .before .before in
+    c .move-to .result ≡ movedAt
+    (s .args .q .path)
     (c .before .before .o .given .0 .0) (c .before .before .o .given .0 .1 .0)
 moved c = let t = c .before in rw (back (t .before .o .given .0 .1 .0) (t .known-told .given .1 .0 .1)) at (c .move-to .ensures .0)
 
@@ -96,7 +105,7 @@ next-in : (f : tie.After-fresh) → Told f .before .o .given .0 .0 + 1 ≤ 16
 next-in f = let t = Told f in omega (
   arith,
   moves t .level-in,
-  t .before .before .before .before .before .before .before .before .before .before .before .before .before .pre .ready .setting .few,
+  start t .pre .ready .setting .few,
 )
 
 add-if1 : tie.Need-add-if1
@@ -109,7 +118,7 @@ dive-requires : tie.Need-dive-requires
 dive-requires c κs =
     let f = c .before .before in
     let t = Told f in
-    let s = t .before .before .before .before .before .before .before .before .before .before .before .before .before in
+    let s = start t in
     rw (moved (f .before)) (
       s .pre .ready .setting,
       (
@@ -121,23 +130,23 @@ dive-requires c κs =
 
 -- a step that goes on along the path r
 onward : (f : tie.After-fresh) (r : Path) → Dived
-    (Told f .before .before .before .before .before .before .before .before .before .before .before .before .before .args .s)
+    (start (Told f) .args .s)
     (Told f .before .o .given .0 .0 + 1) (f .before .move-to .result) r
-    → Stepped (Told f .before .before .before .before .before .before .before .before .before .before .before .before .before .args .s)
-    (Told f .before .before .before .before .before .before .before .before .before .before .before .before .before .args .p)
-    (Told f .before .before .before .before .before .before .before .before .before .before .before .before .before .args .q)
+    → Stepped (start (Told f) .args .s)
+    (start (Told f) .args .p)
+    (start (Told f) .args .q)
     (record {
       path = r;
-      best = Told f .before .before .before .before .before .before .before .before .before .before .look .result .best;
-      steps = Told f .before .before .before .before .before .before .before .before .counted .result;
+      best = after-look (Told f) .look .result .best;
+      steps = after-counted (Told f) .counted .result;
       from = f .fresh .result;
       done = false;
     })
 onward f r d =
     let u = f .before in
     let t = Told f in
-    let k = t .before .before .before .before .before .before .before .before .before .before in
-    let s = k .before .before .before in
+    let k = after-look t in
+    let s = start t in
     record {
       verdict = k .look .result .settled;
       better = k .look .result .better;
@@ -150,7 +159,7 @@ onward f r d =
           f .fresh .ensures,
         ),
       );
-      counted = t .before .before .before .before .before .before .before .before .counted .ensures;
+      counted = after-counted t .counted .ensures;
     }
 
 returns : tie.Need-returns
@@ -164,7 +173,7 @@ returns-2 : tie.Need-returns-2
 returns-2 c =
     let f = c .before .before in
     let u = f .before in
-    let s = Told f .before .before .before .before .before .before .before .before .before .before .before .before .before in
+    let s = start (Told f) in
     let l = u .move-to .ensures .1 in
     let long : LongPath (u .move-to .result) =
     rw (u .move-to .ensures .0) (record { place-long = simp length-set (l .place-long); starts-long = l .starts-long }) in
@@ -173,13 +182,14 @@ returns-2 c =
 returns-3 : tie.Need-returns-3
 returns-3 c =
     let p = c .before .before in
-    let k = p .before .before .before .before .before .before .before in
+    let done = p .before .before .before .before .before in
+    let k = done .before .before in
     record {
       verdict = k .look .result .settled;
       better = k .look .result .better;
       looked = k .look .ensures;
       went = rw (moved-done (goal p) (sym (c .enum-told .given .1) ∙ p .past .ensures)) (refl, (refl, refl));
-      counted = p .before .before .before .before .before .counted .ensures;
+      counted = done .counted .ensures;
     }
 
 pub step-spec : {M : Type 1} → statement M

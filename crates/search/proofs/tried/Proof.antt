@@ -48,7 +48,9 @@ bound-of-requires c κs = let s = start-by-else1 c in rw (c .before .before .bef
 
 bound-is : (c : tie.After-bound-of) → c .bound-of .result ≡ bound (start-by-bound-of c .args .c)
     (fill (start-by-bound-of c .args .c) (start-by-bound-of c .args .e))
-bound-is c = rw (c .before .before .before .before .fill-up .ensures) at (c .bound-of .ensures)
+bound-is c =
+    let at-fill-up = c .before .before .before .before in
+    rw (at-fill-up .fill-up .ensures) at (c .bound-of .ensures)
 
 less-requires : tie.Need-less-requires
 less-requires c κs =
@@ -83,11 +85,12 @@ unfolding triedBy betterBy
 returns-3 c =
     let d = c .before in
     let t = d .before .before in
+    let s = t .before .before .before .before .before .before in
     let l = sym (compared d) ∙ not-false (d .less .result) (c .if3 .left) in
     record {
       best-is = rw (not-empty (t .before .before), t .if2 .taken, l) (ap (λ v. record {
         found = true;
-        place = t .before .before .before .before .before .before .args .x;
+        place = s .args .x;
         value = v;
       }) (bound-is (t .before)));
       better-is = rw (not-empty (t .before .before), t .if2 .taken, l);
@@ -95,10 +98,12 @@ returns-3 c =
 
 returns-4 : tie.Need-returns-4
 unfolding triedBy betterBy
-returns-4 c = record {
+returns-4 c =
+    let s = c .before .before .before .before .before .before in
+    record {
   best-is = rw (not-empty (c .before .before), c .if2 .left) (ap (λ v. record {
     found = true;
-    place = c .before .before .before .before .before .before .args .x;
+    place = s .args .x;
     value = v;
   }) (bound-is (c .before)));
   better-is = rw (not-empty (c .before .before), c .if2 .left);

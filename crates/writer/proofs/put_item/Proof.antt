@@ -10,7 +10,8 @@ use Rattle.writer.proofs.put_item.Statement.{statement}
 use Rattle.writer.proofs.put_item.Tie as tie
 
 figures-fit : (c : tie.After-mark-byte) →
-    SFits w64 (c .before .before .before .before .before .args .i .weight) × SFits w64 (c .before .before .before .before .before .args .i .price)
+    let s = c .before .before .before .before .before in
+    SFits w64 (s .args .i .weight) × SFits w64 (s .args .i .price)
 figures-fit c = (search needs, search needs)
 
 mark-byte-requires : tie.Need-mark-byte-requires

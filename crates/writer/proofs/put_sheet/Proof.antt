@@ -9,7 +9,9 @@ use borrow.Author.Needs.{needs}
 use Rattle.writer.proofs.put_sheet.Statement.{statement}
 use Rattle.writer.proofs.put_sheet.Tie as tie
 
-capacity-fits : (c : tie.After-put-limit) → SFits w64 (c .before .before .before .before .args .m .capacity)
+capacity-fits : (c : tie.After-put-limit) →
+    let s = c .before .before .before .before in
+    SFits w64 (s .args .m .capacity)
 capacity-fits c = search needs
 
 put-limit-requires : tie.Need-put-limit-requires

@@ -21,8 +21,9 @@ put-sheet-requires c κs = search needs
 
 returns : tie.Need-returns
 returns c =
+    let s = c .before .before .before .before in
     let p = c .before .put-sheet in
-    let m = c .before .before .before .before .args .m in
+    let m = s .args .m in
     let e : p .result ≡ length (printing m) = omega arith in
     let h : p .result ≤ length (p .last .0) = omega arith in
     record {

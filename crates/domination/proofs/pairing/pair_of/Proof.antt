@@ -33,7 +33,9 @@ swap-requires c κs = search needs
 returns-2 : tie.Need-returns-2
 unfolding pairOf
 returns-2 c =
-    let p = sym (c .before .before .before .before .before .is-less-efficient .ensures) ∙ c .before .before .before .before .if1 .left in
+    let at-if1 = c .before .before .before .before in
+    let at-is-less-efficient = at-if1 .before in
+    let p = sym (at-is-less-efficient .is-less-efficient .ensures) ∙ at-if1 .if1 .left in
     let q = sym (c .before .before .before .is-less-efficient2 .ensures) ∙ c .before .before .if2 .taken in
     rw (p, q) (rw (c .before .one-way2 .ensures) at (c .swap .ensures))
 

@@ -19,16 +19,23 @@ use Rattle.domination.proofs.pairing.room_for.Tie as tie
 
 -- the two bounds where both are present
 abbrev L : tie.After-known-told2 → ℤ
-L c = c .before .before .before .before .lower .given .0 .0
+L c =
+    let at-lower = c .before .before .before .before in
+    at-lower .lower .given .0 .0
 
 abbrev U : tie.After-known-told2 → ℤ
 U c = c .before .upper .given .0 .0
 
 lower-in : (c : tie.After-known-told2) → Within 10000 (L c)
-lower-in c = abs-within _ (rw (c .before .before .before .before .lower .given .1) at (c .before .before .before .before .before .before .pre .0))
+lower-in c =
+    let at-lower = c .before .before .before .before in
+    let s = at-lower .before .before in
+    abs-within _ (rw (at-lower .lower .given .1) at (s .pre .0))
 
 upper-in : (c : tie.After-known-told2) → Within 10000 (U c)
-upper-in c = abs-within _ (rw (c .before .upper .given .1) at (c .before .before .before .before .before .before .pre .1 .0))
+upper-in c =
+    let s = c .before .before .before .before .before .before in
+    abs-within _ (rw (c .before .upper .given .1) at (s .pre .1 .0))
 
 fits : (c : tie.After-known-told2) → SFits w64 (U c -ℤ L c)
 fits c = let l = lower-in c in let u = upper-in c in omega (arith, zs, diff (U c) (L c))
@@ -66,9 +73,10 @@ returns-2 c = search needs
 
 returns-3 : tie.Need-returns-3
 returns-3 c =
+    let at-lower = c .before .before .before .before in
     let s = c .before .before .before .before .before .before in
     rw (difference c, toZ-ofZ (fits c), toZ-pos w64 {n = s .args .n} (omega arith))
-    (both _ _ _ _ (s .args .n) (c .before .before .before .before .lower .given .1) (c .before .upper .given .1))
+    (both _ _ _ _ (s .args .n) (at-lower .lower .given .1) (c .before .upper .given .1))
 
 pub room-for-spec : {M : Type 1} → statement M
 room-for-spec =

@@ -15,27 +15,33 @@ use Rattle.domination.proofs.pairing.steps_of.Tie as tie
 
 -- the two steps as the locals hold them
 first : (c : tie.After-with-sign2) →
-    toZ w64 (ofZ w64 (c .before .before .with-sign .result)) ≡ signed (c .before .before .before .before .args .x .weight)
-    (c .before .before .before .before .args .give)
+    let s = c .before .before .before .before in
+    toZ w64 (ofZ w64 (c .before .before .with-sign .result)) ≡ signed (s .args .x .weight)
+    (s .args .give)
 first c =
     let s = c .before .before .before .before in
     let e = rw (within-back {n = 1000} tt (abs-within _ (s .pre .0 .weight-in))) at (c .before .before .with-sign .ensures) in
     rw e (toZ-ofZ (within-sfits (lit< tt) (signed-within (s .args .x .weight) (s .args .give) (s .pre .1 .1 .0))))
 
 second : (c : tie.After-with-sign2) →
-    toZ w64 (ofZ w64 (c .with-sign2 .result)) ≡ signed (c .before .before .before .before .args .y .weight) (c .before .before .before .before .args .take)
+    let s = c .before .before .before .before in
+    toZ w64 (ofZ w64 (c .with-sign2 .result)) ≡ signed (s .args .y .weight) (s .args .take)
 second c =
     let s = c .before .before .before .before in
     let e = rw (within-back {n = 1000} tt (abs-within _ (s .pre .1 .0 .weight-in))) at (c .with-sign2 .ensures) in
     rw e (toZ-ofZ (within-sfits (lit< tt) (signed-within (s .args .y .weight) (s .args .take) (s .pre .1 .1 .1))))
 
 negated : (c : tie.After-with-sign2) →
-    pos 0 -ℤ toZ w64 (ofZ w64 (c .with-sign2 .result)) ≡ negℤ (signed (c .before .before .before .before .args .y .weight)
-    (c .before .before .before .before .args .take))
-negated c = rw (second c) (zero-less (signed (c .before .before .before .before .args .y .weight) (c .before .before .before .before .args .take)))
+    let s = c .before .before .before .before in
+    pos 0 -ℤ toZ w64 (ofZ w64 (c .with-sign2 .result)) ≡ negℤ (signed (s .args .y .weight)
+    (s .args .take))
+negated c =
+    let s = c .before .before .before .before in
+    rw (second c) (zero-less (signed (s .args .y .weight) (s .args .take)))
 
 fits : (c : tie.After-with-sign2) →
-    SFits w64 (negℤ (signed (c .before .before .before .before .args .y .weight) (c .before .before .before .before .args .take)))
+    let s = c .before .before .before .before in
+    SFits w64 (negℤ (signed (s .args .y .weight) (s .args .take)))
 fits c =
     let s = c .before .before .before .before in
     within-sfits {n = 1000} (lit< tt) (within-neg _ (signed-within (s .args .y .weight) (s .args .take) (s .pre .1 .1 .1)))

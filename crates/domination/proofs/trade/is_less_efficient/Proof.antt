@@ -18,12 +18,17 @@ mul-result c =
 
 mul-result-2 : tie.Need-mul-result-2
 mul-result-2 c =
+    let at-size-of2 = c .before .before .before .before in
+    let at-size-of = at-size-of2 .before in
     let s = c .before .before .before .before .before .before in
-    rw (c .before .before .before .before .before .size-of .ensures, c .before .before .before .before .size-of2 .ensures)
+    rw (at-size-of .size-of .ensures, at-size-of2 .size-of2 .ensures)
     (omega (arith, ratio-most (s .pre .0) (s .pre .1), ratio-most (s .pre .1) (s .pre .0)))
 
 returns : tie.Need-returns
-returns c = rw (c .before .before .before .before .before .size-of .ensures, c .before .before .before .before .size-of2 .ensures)
+returns c =
+    let at-size-of2 = c .before .before .before .before in
+    let at-size-of = at-size-of2 .before in
+    rw (at-size-of .size-of .ensures, at-size-of2 .size-of2 .ensures)
 
 pub is-less-efficient-spec : {M : Type 1} → statement M
 is-less-efficient-spec =

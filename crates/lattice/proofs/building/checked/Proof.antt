@@ -20,7 +20,9 @@ tame : (c : tie.After-closed) → Tame (closedBy (c .before .args .l))
 tame c = closed-tame (c .before .args .l) (c .before .pre .0)
 
 -- the test of the stride
-positive : (c : tie.Then1) → ltZ (pos 0) (closedBy (c .before .before .before .before .args .l) .stride) ≡ true
+positive : (c : tie.Then1) →
+    let s = c .before .before .before .before in
+    ltZ (pos 0) (closedBy (s .args .l) .stride) ≡ true
 positive c = let k = c .before .before .before in rw (k .closed .ensures, within-back tt (tame k .stride-in)) at (c .if1 .taken)
 
 held-from-requires : tie.Need-held-from-requires
@@ -31,9 +33,13 @@ abbrev start : tie.After-held-from → tie.Start
 start c = c .before .before .before .before .before
 
 -- the test of the items
-held : (c : tie.After-held-from) → c .held-from .result ≡ heldFrom (closedBy (start c .args .l)) (entry (start c .args .weight)) (entry (start c .args .price))
-    (start c .args .d) (start c .args .n - c .before .before .before .before .before .args .d)
-held c = rw (c .before .before .before .before .closed .ensures) at (c .held-from .ensures)
+held : (c : tie.After-held-from) →
+    let s = c .before .before .before .before .before in
+    c .held-from .result ≡ heldFrom (closedBy (start c .args .l)) (entry (start c .args .weight)) (entry (start c .args .price))
+    (start c .args .d) (start c .args .n - s .args .d)
+held c =
+    let at-closed = c .before .before .before .before in
+    rw (at-closed .closed .ensures) at (c .held-from .ensures)
 
 returns : tie.Need-returns
 returns c =

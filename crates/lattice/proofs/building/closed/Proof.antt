@@ -11,7 +11,8 @@ returns c =
 
 returns-2 : tie.Need-returns-2
 returns-2 c =
-    let j = c .before .before .before .before .pre .joined in
+    let s = c .before .before .before .before in
+    let j = s .pre .joined in
     let t = rw (within-back tt (j .gap-in)) at (c .before .if1 .left) in
     rw (within-back tt (j .stride-in), within-back tt (j .slant-in), t)
 

@@ -53,7 +53,9 @@ found c =
     rw (within-back tt (s .pre .1 .1 .weights-in (i .loop .j)), within-back tt (s .pre .1 .1 .prices-in (i .loop .j))) at (c .holds .ensures)
 
 add-j : tie.Need-add-j Inv-loop μ-loop
-add-j c = omega (arith, c .before .before .before .before .before .before .pre .1 .1 .few)
+add-j c =
+    let s = c .before .before .before .before .before .before in
+    omega (arith, s .pre .1 .1 .few)
 
 loop-less : tie.Need-loop-less Inv-loop μ-loop
 loop-less c = omega arith

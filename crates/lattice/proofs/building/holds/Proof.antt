@@ -55,8 +55,10 @@ abbrev start : tie.After-floor-div → tie.Start
 start c = c .before .before .before .before
 
 -- the slant times the strides, as the locals hold them
-multiple : (c : tie.After-floor-div) → toZ w64 (ofZ w64 (c .before .before .before .before .args .l .slant)) *ℤ toZ w64 (ofZ w64 (c .floor-div .result))
-    ≡ c .before .before .before .before .args .l .slant *ℤ S (c .before .before .before .before)
+multiple : (c : tie.After-floor-div) →
+    let s = c .before .before .before .before in
+    toZ w64 (ofZ w64 (s .args .l .slant)) *ℤ toZ w64 (ofZ w64 (c .floor-div .result))
+    ≡ s .args .l .slant *ℤ S s
 multiple c =
     let s = c .before .before .before .before in
     let e = rw (within-back tt (s .pre .weight-in), within-back tt (s .pre .tame .stride-in)) at (c .floor-div .ensures) in

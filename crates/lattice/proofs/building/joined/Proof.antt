@@ -30,8 +30,10 @@ loop-holds c =
     )
 
 -- what a step is given
-steps : (c : tie.Then1 Inv-loop μ-loop) → Reduces (c .before .before .before .loop .x) (c .before .before .before .loop .y)
-    (c .before .before .before .before .before .before .args .l .gap)
+steps : (c : tie.Then1 Inv-loop μ-loop) →
+    let s = c .before .before .before .before .before .before in
+    Reduces (c .before .before .before .loop .x) (c .before .before .before .loop .y)
+    (s .args .l .gap)
 steps c =
     let a = c .before .before .before in
     let i = a .loop .inv .0 in

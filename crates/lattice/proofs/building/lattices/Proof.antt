@@ -15,7 +15,9 @@ abbrev μ-loop : tie.MeasureT-loop
 μ-loop n weight price to₀ l₀ d₀ to l d = d
 
 level<16 : (c : tie.In-loop Inv-loop μ-loop) → c .before .loop .d - 1 < 16
-level<16 c = omega (arith, c .before .loop .inv .most, c .before .before .before .before .pre .few)
+level<16 c =
+    let s = c .before .before .before .before in
+    omega (arith, c .before .loop .inv .most, s .pre .few)
 
 unknown-lattices-requires : tie.Need-unknown-lattices-requires Inv-loop μ-loop
 unknown-lattices-requires c κs = tt

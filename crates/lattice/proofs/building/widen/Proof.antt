@@ -33,9 +33,11 @@ common-gap-requires c κs =
     rw (met j, within-back tt (s .pre .0 .joined .gap-in), within-back tt (h .gap-in)) (s .pre .0 .joined .gap-in, h .gap-in)
 
 -- the gap of both
-wide : (c : tie.After-common-gap) → c .common-gap .result ≡ commonGap (c .before .before .before .before .before .args .l .gap)
-    (joinedBy (c .before .before .before .before .before .args .l) (uprightBy (c .before .before .before .before .before .args .a)
-    (c .before .before .before .before .before .args .c)) .gap)
+wide : (c : tie.After-common-gap) →
+    let s = c .before .before .before .before .before in
+    c .common-gap .result ≡ commonGap (s .args .l .gap)
+    (joinedBy (s .args .l) (uprightBy (s .args .a)
+    (s .args .c)) .gap)
 wide c =
     let j = c .before .before .before in
     let s = j .before .before in

@@ -22,11 +22,14 @@ not-low : (c : tie.Else1) → ltZ (c .before .before .before .args .z) (c .befor
 not-low c = plain-lt (c .before .before .before .fits .z) (lo-fits (c .before)) (c .if1 .left)
 
 returns-2 : tie.Need-returns-2
-returns-2 c = rw (not-low (c .before), plain-lt (hi-fits (c .before .before)) (c .before .before .before .before .fits .z) (c .if2 .taken))
+returns-2 c =
+    let s = c .before .before .before .before in
+    rw (not-low (c .before), plain-lt (hi-fits (c .before .before)) (s .fits .z) (c .if2 .taken))
 
 returns-3 : tie.Need-returns-3
 returns-3 c =
-    let f = c .before .before .before .before .fits .z in
+    let s = c .before .before .before .before in
+    let f = s .fits .z in
     rw (toZ-ofZ f, not-low (c .before), plain-lt (hi-fits (c .before .before)) f (c .if2 .left))
 
 pub by-range-spec : {M : Type 1} → statement M

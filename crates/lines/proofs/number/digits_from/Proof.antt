@@ -46,7 +46,9 @@ returns-2 c =
     done _ _ (l .loop .value) (l .loop .at) (l .loop .inv) (run-stop _ _ (f .before .loop-test .taken) (digit-high _ (c .if2 .taken)))
 
 push-requires : tie.Need-push-requires Inv-loop μ-loop
-push-requires c κs = (c .before .before .before .before .loop .inv .small, c .before .if1 .left)
+push-requires c κs =
+    let at-loop = c .before .before .before .before in
+    (at-loop .loop .inv .small, c .before .if1 .left)
 
 add-at : tie.Need-add-at Inv-loop μ-loop
 add-at c = omega arith

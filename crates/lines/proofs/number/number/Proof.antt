@@ -1,5 +1,5 @@
 use mathlib.Core.Path.{sym, ap, _∙_}
-use Rattle.lines.specs.declared.number.Field.the-variants.{Number}
+use Rattle.lines.specs.declared.number.Figure.the-variants.{Number}
 use borrow.Author.Needs.{needs}
 use Rattle.lines.proofs.number.number.Statement.{statement}
 use Rattle.lines.proofs.number.number.Tie as tie
@@ -33,7 +33,8 @@ unsigned-requires-2 c κs = search needs
 
 returns : tie.Need-returns
 returns c =
-    rw (sym (c .before .before .before .before .after-byte .ensures) ∙ c .before .before .zero .given .1)
+    let at-after-byte = c .before .before .before .before in
+    rw (sym (at-after-byte .after-byte .ensures) ∙ c .before .before .zero .given .1)
     (ap (λ f. Number f (c .before .before .zero .given .0 .0)) (c .by-range .ensures))
 
 returns-2 : tie.Need-returns-2

@@ -2,7 +2,7 @@ use mathlib.Core.Path.{sym, ap, ap₂, _∙_}
 use borrow.Author.Needs.{needs}
 use Rattle.arith.proofs.Words.{back}
 use Rattle.text.specs.Decimal.{readAfter}
-use Rattle.lines.specs.declared.number.Field.the-variants.{Number}
+use Rattle.lines.specs.declared.number.Figure.the-variants.{Number}
 use Rattle.lines.specs.Numbers.{signedOf, ranged}
 use Rattle.lines.proofs.Numerals.{ranged-saturated}
 use Rattle.lines.proofs.number.unsigned.Statement.{statement}

@@ -14,17 +14,19 @@ enum-told-2 c = search needs
 
 returns : tie.Need-returns
 returns c =
-    let i = c .before .before .before .before .args .item in
+    let s = c .before .before .before .before in
+    let i = s .args .item in
     let f : SFits w64 (i .weight) = search needs in
     let g : SFits w64 (i .price) = search needs in
-    rw (toZ-ofZ f, toZ-ofZ g, toZ-ofZ (c .before .before .before .before .fits .v), c .enum-told .given .1)
+    rw (toZ-ofZ f, toZ-ofZ g, toZ-ofZ (s .fits .v), c .enum-told .given .1)
 
 returns-2 : tie.Need-returns-2
 returns-2 c =
-    let i = c .before .before .before .before .args .item in
+    let s = c .before .before .before .before in
+    let i = s .args .item in
     let f : SFits w64 (i .weight) = search needs in
     let g : SFits w64 (i .price) = search needs in
-    rw (toZ-ofZ f, toZ-ofZ g, toZ-ofZ (c .before .before .before .before .fits .v), c .enum-told2 .given .1)
+    rw (toZ-ofZ f, toZ-ofZ g, toZ-ofZ (s .fits .v), c .enum-told2 .given .1)
 
 pub with-side-spec : {M : Type 1} → statement M
 with-side-spec = tie.close (tie.spec enum-told enum-told-2 returns returns-2)

@@ -18,18 +18,24 @@ levels-in : (s : tie.Start) → (s .args .s .levels ≤ 16) × ((d : ℕ) → d 
 levels-in s = (s .pre .0 .few, λ d l. omega (arith, s .pre .0 .level-in d l, s .pre .0 .sized .columns .few))
 
 by-level-requires : tie.Need-by-level-requires
-by-level-requires c κs = levels-in (c .before .before .before .before .before .before .before .before)
+by-level-requires c κs =
+    let s = c .before .before .before .before .before .before .before .before in
+    levels-in s
 
 by-level-requires-2 : tie.Need-by-level-requires-2
-by-level-requires-2 c κs = levels-in (c .before .before .before .before .before .before .before .before .before)
+by-level-requires-2 c κs =
+    let s = c .before .before .before .before .before .before .before .before .before in
+    levels-in s
 
 returns : tie.Need-returns
-returns c = record {
+returns c =
+    let at-clamped = c .before .before .before .before in
+    record {
   cols = refl;
   level = refl;
   levels = refl;
   lattice = refl;
-  lo = c .before .before .before .before .clamped .ensures;
+  lo = at-clamped .clamped .ensures;
   hi = c .before .before .before .clamped2 .ensures;
   low = c .before .before .by-level .ensures;
   high = c .before .by-level2 .ensures;

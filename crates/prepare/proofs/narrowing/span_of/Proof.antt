@@ -34,7 +34,7 @@ start c = c .before .before .before .before
 
 -- a span fits
 small : (c : tie.After-struct-known2)
-    → start c .args .r .amount + c .before .before .before .before .args .r .weight / c .before .before .larger-of .result + 1 ≤ farthest
+    → start c .args .r .amount + start c .args .r .weight / c .before .before .larger-of .result + 1 ≤ farthest
 small c = let s = start c in omega (
   arith,
   div-le-self (s .args .r .weight) (c .before .before .larger-of .result),

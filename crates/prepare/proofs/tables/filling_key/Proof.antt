@@ -28,9 +28,10 @@ first c =
 
 second : (c : tie.After-absolute) → toZ w64 (ofZ w64 (c .before .head-start .result)) ≡ headStart (lightBound (S c .args .i)) (S c .args .i .weight)
 second c =
+    let at-light-bound = c .before .before .before .before in
     let s = S c in
     back (c .before .head-start .result) (c .before .head-start .ok)
-    ∙ (rw (within-back tt (weight-within (s .args .i) (s .pre)), c .before .before .before .before .light-bound .ensures) at (c .before .head-start .ensures))
+    ∙ (rw (within-back tt (weight-within (s .args .i) (s .pre)), at-light-bound .light-bound .ensures) at (c .before .head-start .ensures))
 
 size : (c : tie.After-absolute) → toZ w64 (ofZ w64 (c .absolute .result)) ≡ pos (natAbs (S c .args .i .weight))
 size c =

@@ -27,8 +27,9 @@ returns c = rw (c .before .enum-told .given .1) (c .filling-key .ensures)
 
 returns-2 : tie.Need-returns-2
 returns-2 c =
+    let s = c .before .before .before .before in
     let k = c .before .before .by .given in
-    let r : SmallRatio (k .0 .0) (k .0 .1 .0) = subst SmallKey (k .1) (c .before .before .before .before .pre .1) in
+    let r : SmallRatio (k .0 .0) (k .0 .1 .0) = subst SmallKey (k .1) (s .pre .1) in
     rw (k .1) (rw (within-back tt (r .price), within-back tt (r .weight)) at (c .branching-key .ensures))
 
 pub key-of-spec : {M : Type 1} → statement M

@@ -1,0 +1,147 @@
+//! A second reader, written from the papers alone (paper 01, "The sheet" and "Refused, by place"; paper 02, request 3).
+
+use crate::problem::{Item, Problem};
+
+#[derive(Clone, Copy, Debug, PartialEq)]
+pub struct Refusal {
+    pub number: u64,
+    pub line: u64,
+}
+
+/// What a line has in a place.
+enum Place {
+    Word(&'static [u8]),
+    Mark,
+    Number,
+}
+
+impl Place {
+    fn takes(&self, field: &[u8]) -> bool {
+        match self {
+            Place::Word(word) => field == *word,
+            Place::Mark => matches!(field, b"W" | b"L"),
+            Place::Number => is_number(field),
+        }
+    }
+
+    /// The number of a wrong field's refusal. A field that is missing is empty.
+    fn fault(&self, field: &[u8]) -> u64 {
+        match self {
+            _ if field.is_empty() => 2,
+            Place::Word(_) => 12,
+            Place::Mark => 2,
+            Place::Number => 13,
+        }
+    }
+}
+
+fn is_number(field: &[u8]) -> bool {
+    let digits = field.strip_prefix(b"-").unwrap_or(field);
+    field == b"0" || matches!(digits, [b'1'..=b'9', rest @ ..] if rest.iter().all(u8::is_ascii_digit))
+}
+
+/// A number of any length; one beyond every range is cut to a trillion.
+fn number(field: &[u8]) -> i64 {
+    let digits = field.strip_prefix(b"-").unwrap_or(field);
+    let size = digits.iter().fold(0i64, |n, d| (10 * n + (d - b'0') as i64).min(1_000_000_000_000));
+    if digits.len() < field.len() {
+        -size
+    } else {
+        size
+    }
+}
+
+struct Lines<'a> {
+    rest: &'a [u8],
+    line: u64,
+}
+
+impl<'a> Lines<'a> {
+    fn refuse<T>(&self, number: u64) -> Result<T, Refusal> {
+        Err(Refusal { number, line: self.line })
+    }
+
+    /// The fields of the next line, each right in its place. Of the line's faults of form the leftmost is told; that nothing closes it is the last.
+    fn fields<const N: usize>(&mut self, places: [Place; N]) -> Result<[&'a [u8]; N], Refusal> {
+        self.line += 1;
+        let end = self.rest.iter().position(|&b| b == b'\n');
+        let mut found = self.rest[..end.unwrap_or(self.rest.len())].split(|&b| b == b' ');
+        let fields = std::array::from_fn(|_| found.next().unwrap_or_default());
+        if let Some((place, field)) = places.iter().zip(fields).find(|(place, field)| !place.takes(field)) {
+            return self.refuse(place.fault(field));
+        }
+        match end {
+            Some(end) if found.next().is_none() => self.rest = &self.rest[end + 1..],
+            _ => return self.refuse(2),
+        }
+        Ok(fields)
+    }
+
+    /// The count of a heading `word m`, within lo to hi.
+    fn heading(&mut self, word: &'static [u8], lo: i64, hi: i64) -> Result<i64, Refusal> {
+        let [_, count] = self.fields([Place::Word(word), Place::Number])?;
+        let count = number(count);
+        if lo <= count && count <= hi {
+            Ok(count)
+        } else {
+            self.refuse(3)
+        }
+    }
+
+    fn figure(&self, field: &[u8], range: i64) -> Result<i64, Refusal> {
+        let value = number(field);
+        if value.abs() <= range {
+            Ok(value)
+        } else {
+            self.refuse(4)
+        }
+    }
+
+    fn limit(&mut self) -> Result<i64, Refusal> {
+        let [limit] = self.fields([Place::Number])?;
+        self.figure(limit, 100_000_000)
+    }
+
+    fn item(&mut self) -> Result<Item, Refusal> {
+        let [mark, weight, price] = self.fields([Place::Mark, Place::Number, Place::Number])?;
+        let (weight, price) = (self.figure(weight, 1000)?, self.figure(price, 10_000)?);
+        Ok(Item { integer: mark == b"W", weight, price, lower: None, upper: None })
+    }
+
+    /// A section of bounds: item and bound of each.
+    fn bounds(&mut self, word: &'static [u8], n: i64) -> Result<Vec<(usize, i64)>, Refusal> {
+        let mut list = vec![];
+        let mut last = 0;
+        for _ in 0..self.heading(word, 0, n)? {
+            let [item, value] = self.fields([Place::Number, Place::Number])?;
+            let k = number(item);
+            if k <= last || k > n {
+                return self.refuse(5);
+            }
+            list.push((k as usize - 1, self.figure(value, 10_000)?));
+            last = k;
+        }
+        Ok(list)
+    }
+}
+
+pub fn read(sheet: &[u8]) -> Result<Problem, Refusal> {
+    if sheet.len() > 4096 {
+        return Err(Refusal { number: 1, line: 0 });
+    }
+    let mut lines = Lines { rest: sheet, line: 0 };
+    lines.heading(b"limit", 1, 1)?;
+    let limit = lines.limit()?;
+    let n = lines.heading(b"items", 1, 16)?;
+    let mut items = (0..n).map(|_| lines.item()).collect::<Result<Vec<Item>, Refusal>>()?;
+    for (k, value) in lines.bounds(b"lower", n)? {
+        items[k].lower = Some(value);
+    }
+    for (k, value) in lines.bounds(b"upper", n)? {
+        items[k].upper = Some(value);
+    }
+    if !lines.rest.is_empty() {
+        return Err(Refusal { number: 2, line: lines.line + 1 });
+    }
+    Ok(Problem { limit, items })
+}

@@ -1,0 +1,218 @@
+-- Every reply fits the room.
+--   Parted           a divisor that the amounts of an answer have in common, at most 1,000
+-- room-enough (end theorem): the text of a true answer to an accepted record is no longer than `room`.
+-- value-small: numerator and divisor of a value that is shown. item-short, lines-short, best-short: the lengths of lines.
+use mathlib.Core.Path.{_≡_, refl, sym, ap, _∙_, subst}
+use mathlib.Core.Bool.{Bool, true, false}
+use mathlib.Core.Logic.{_⊎_, _≢_, inl, inr, ⊎-elim}
+use Prim.Native.Nat.{ℕ, zero, suc, _+_, _*_, _/_, _≤_, _<_, min}
+use native.Mathlib.Decide.{ℕ-discrete, decLt}
+use native.Mathlib.Nat.{mul-comm, mul-le-mul-right, le-of-mul-le-mul-right, div-eq-of-eq-mul-left}
+use native.Mathlib.Omega.{arith}
+use lib.IntN.{ℤ, pos, natAbs, _*ℤ_}
+use lib.ListN.{length, length-append, List·getD-eq-default}
+use Rattle.arith.specs.Fractions.{frac}
+use Rattle.arith.specs.Gcd.{Divides}
+use Rattle.arith.specs.Sum.{sum, Each}
+use Rattle.arith.specs.Within.{Within}
+use Rattle.arith.specs.declared.Fraction.{Fraction}
+use Rattle.arith.proofs.Fractions.{Over, over-frac, over-scale, over-total, over-≤, ≈ᶠ-≤, ≈ᶠ-≥}
+use Rattle.arith.proofs.Integers.{natAbs-times, ≤ℤ-antisym}
+use Rattle.arith.proofs.Lowest.{gauss}
+use Rattle.arith.proofs.Parts.{within-abs, abs-within, within-mul, within-add}
+use Rattle.arith.proofs.Sums.{find}
+use Rattle.knapsack.specs.Meaning.{Instance, instanceOf, prices, value, Shown, nought, amountAt, pointOf, ShownOptimal, AnswersAs}
+use Rattle.knapsack.specs.declared.Answer.{Answer}
+use Rattle.knapsack.specs.declared.Kind.{Kind}
+use Rattle.knapsack.specs.declared.Kind.the-variants as kind
+use Rattle.knapsack.specs.declared.Problem.{Problem}
+use Rattle.knapsack.specs.declared.Verdict.the-variants.{Accepted}
+use Rattle.model.specs.Promises.{RepliesAs, Planned}
+use Rattle.model.specs.Records.{plainOf, verdict, FiguresInRange}
+use Rattle.model.specs.declared.Model.{Model}
+use Rattle.model.proofs.Records.{accepted}
+use Rattle.model.proofs.Showing.{default, small-divisor, shown-few}
+use Rattle.text.proofs.Decimals.{decimal-length, integer-length}
+use Rattle.listing.specs.Printing.{bestLine, itemLine, amountAt as printedAmount, stepAt, itemLines, printedAs, printed, room}
+
+-- ---- the value that is shown
+
+sum-small : (c n : ℕ) (f : ℕ → ℤ) → Each n (λ k. natAbs (f k) ≤ c) → Within (n * c) (sum n f)
+sum-small c zero f h = record { above = omega arith; below = omega arith }
+sum-small c (suc n) f h =
+    let w = within-add (sum-small c n f (λ k l. h k (omega arith))) (abs-within (f n) (h n (omega arith))) in
+    let e : n * c + c ≡ suc n * c = omega arith in
+    subst (λ k. Within k (sum (suc n) f)) e w
+
+module _ (p : Problem) (a : Answer) (range : FiguresInRange p) (shown : Shown (instanceOf p) (amountAt a)) where
+  abbrev s : Instance
+  s = instanceOf p
+
+  abbrev q : ℕ → ℕ
+  q k = amountAt a k .q
+
+  record Parted : Type 0 where
+    D : ℕ
+    some : 1 ≤ D
+    most : D ≤ 1000
+    divides : (k : ℕ) → k < p .count → Divides (q k) D
+
+  parted : Parted
+  parted = go (find (p .count) (λ k. q k ≢ 1) (λ k. q k ≡ 1) (λ k. either k (ℕ-discrete (q k) 1)))
+    where
+      either : (k : ℕ) → Dec (q k ≡ 1) → (q k ≢ 1) ⊎ (q k ≡ 1)
+      either k (yes e) = inr e
+      either k (no n) = inl n
+
+      into : (i : ℕ) → i < p .count → q i ≢ 1 → (k : ℕ) → k < p .count → Dec (q k ≡ 1) → Divides (q k) (q i)
+      into i l n k h (yes e) = (q i, omega (arith, ap (λ t. q i * t) e))
+      into i l n k h (no o) = (1, omega (arith, ap q (shown .single i k l h n o)))
+
+      go : ((k : ℕ) × (k < p .count) × (q k ≢ 1)) ⊎ Each (p .count) (λ k. q k ≡ 1) → Parted
+      go (inl (i, l, n)) = record {
+        D = q i;
+        some = shown .divisor i l;
+        most = shown-few p (amountAt a) range shown i l;
+        divides = λ k h. into i l n k h (ℕ-discrete (q k) 1);
+      }
+      go (inr h) = record { D = 1; some = omega arith; most = omega arith; divides = λ k l. (1, omega (arith, h k l)) }
+
+  module _ (d : Parted) where
+    abbrev D : ℕ
+    D = d .D
+
+    -- the amounts in D-th parts
+    abbrev N : ℕ → ℤ
+    N k = amountAt a k .p *ℤ pos (D / q k)
+
+    parts : (k : ℕ) → (l : k < p .count) → D / q k ≡ d .divides k l .0
+    parts k l = div-eq-of-eq-mul-left (shown .divisor k l) (d .divides k l .1)
+
+    reads : (k : ℕ) → k < p .count → Over D (pointOf a k) (N k)
+    reads k l =
+        let t = d .divides k l .0 in
+        let e : q k * t ≡ D = mul-comm (q k) t ∙ sym (d .divides k l .1) in
+        rw (parts k l) (subst (λ n. Over n (pointOf a k) (amountAt a k .p *ℤ pos t)) e (over-scale t (over-frac (amountAt a k .p) (q k) (shown .divisor k l))))
+
+    part-small : (k : ℕ) → k < p .count → natAbs (N k) ≤ 1000000000 * D
+    part-small k l =
+        let t = d .divides k l .0 in
+        rw (natAbs-times (amountAt a k .p) (D / q k), parts k l) (omega (arith, mul-le-mul-right t (shown .small k l), d .divides k l .1))
+
+    abbrev T : ℤ
+    T = sum (p .count) (λ k. prices s k *ℤ N k)
+
+    sum-within : natAbs T ≤ p .count * (10000 * (1000000000 * D))
+    sum-within = within-abs T (sum-small _ (p .count) _ (λ k l. within-abs _ (within-mul (abs-within (prices s k) (range .items-in k l .price-in))
+        (abs-within (N k) (part-small k l)))))
+
+    module _ (o : ShownOptimal s a) where
+      abbrev P : ℤ
+      P = a .value .p
+
+      abbrev Q : ℕ
+      Q = a .value .q
+
+      crossed : P *ℤ pos D ≡ T *ℤ pos Q
+      crossed =
+          let x = frac P Q in
+          let y = value s (pointOf a) in
+          let u : Over (Q * D) x (P *ℤ pos D) = over-scale D (over-frac P Q (o .divisor)) in
+          let v : Over (Q * D) y (T *ℤ pos Q) = subst (λ n. Over n y (T *ℤ pos Q)) (mul-comm D Q) (over-scale Q (over-total D (p .count) (pointOf a) N reads
+          (prices s))) in
+          let l : 1 ≤ Q * D = omega (arith, mul-le-mul-right D (o .divisor), d .some) in
+          ≤ℤ-antisym (over-≤ l u v .0 (≈ᶠ-≤ x y (o .exact))) (over-≤ l v u .0 (≈ᶠ-≥ x y (o .exact)))
+
+      sizes : natAbs P * D ≡ natAbs T * Q
+      sizes = sym (natAbs-times P D) ∙ ap natAbs crossed ∙ natAbs-times T Q
+
+      divisor-small : Q ≤ D
+      divisor-small =
+          let e = gauss (natAbs P) Q D (omega (arith, d .some)) (o .lowest) (natAbs T, sizes) in
+          ⊎-elim (λ z. absurd (omega (arith, d .some, z))) (λ h. h) (small-divisor Q D e)
+
+      numerator-small : natAbs P ≤ 160000000000000 * Q
+      numerator-small = le-of-mul-le-mul-right {k = D} (go (p .count) (natAbs P) (natAbs T) Q D (range .few-items) sum-within sizes) (d .some)
+        where
+          go : (n P T Q D : ℕ) → n ≤ 16 → T ≤ n * (10000 * (1000000000 * D)) → P * D ≡ T * Q → P * D ≤ (160000000000000 * Q) * D
+          go n P T Q D few h e =
+              let u = mul-le-mul-right Q h in
+              let w = mul-le-mul-right (D * Q) few in
+              omega (arith, u, w, e)
+
+pub value-small : (p : Problem) (a : Answer) → FiguresInRange p → ShownOptimal (instanceOf p) a →
+    (natAbs (a .value .p) < 1000000000000000000) × (a .value .q ≤ 1000)
+value-small p a range o =
+    let d = parted p a range (o .shown) in
+    let q = divisor-small p a range (o .shown) d o in
+    let n = numerator-small p a range (o .shown) d o in
+    (omega (arith, d .most, q, n), omega (arith, d .most, q))
+
+-- ---- lines
+
+best-short : (v : Fraction) → natAbs (v .p) < 1000000000000000000 → v .q ≤ 1000 → length (bestLine v) ≤ 30
+best-short v h l = let x = integer-length 17 (v .p) h in let y = decimal-length 3 (v .q) (omega arith) in simp length-append (omega arith)
+
+-- an amount and a step as they are printed
+record Printable (steps : Bool) (x : Fraction) (r : ℤ) : Type 0 where
+  numerator : natAbs (x .p) ≤ 1000000000000
+  divisor : x .q ≤ 1000
+  step : steps ≡ true → natAbs r ≤ 1000
+
+item-short : (steps : Bool) (k : ℕ) (x : Fraction) (r : ℤ) → k < 16 → Printable steps x r → length (itemLine steps k x r) ≤ 29
+item-short false k x r l h =
+    let n = decimal-length 1 (suc k) (omega arith) in
+    let y = integer-length 12 (x .p) (omega (arith, h .numerator)) in
+    let z = decimal-length 3 (x .q) (omega (arith, h .divisor)) in
+    simp length-append (omega arith)
+item-short true k x r l h =
+    let n = decimal-length 1 (suc k) (omega arith) in
+    let y = integer-length 12 (x .p) (omega (arith, h .numerator)) in
+    let z = decimal-length 3 (x .q) (omega (arith, h .divisor)) in
+    let w = integer-length 3 r (omega (arith, h .step refl)) in
+    simp length-append (omega arith)
+
+lines-short : (steps : Bool) (a : Answer) (n : ℕ) → n ≤ 16 → Each n (λ k. Printable steps (printedAmount a k) (stepAt a k)) →
+    length (itemLines steps a n) ≤ 29 * n
+unfolding itemLines
+lines-short steps a zero l h = omega arith
+lines-short steps a (suc n) l h =
+    let i = item-short steps n (printedAmount a n) (stepAt a n) l (h n (omega arith)) in
+    let r = lines-short steps a n (omega arith) (λ k m. h k (omega arith)) in
+    omega (arith, length-append (itemLines steps a n) (itemLine steps n (printedAmount a n) (stepAt a n)), i, r)
+
+printable : (p : Problem) (a : Answer) (steps : Bool) → FiguresInRange p → Shown (instanceOf p) (amountAt a) →
+    ((k : ℕ) → k < p .count → steps ≡ true → natAbs (stepAt a k) ≤ 1000) → Each (p .count) (λ k. Printable steps (printedAmount a k) (stepAt a k))
+printable p a steps range shown h k l = go (decLt k (length (a .point)))
+  where
+    go : Dec (k < length (a .point)) → Printable steps (printedAmount a k) (stepAt a k)
+    go (yes i) =
+        let few = shown-few p (amountAt a) range shown k l in
+        rw (default (a .point) k _ nought i)
+        (record { numerator = omega (arith, shown .small k l, few); divisor = few; step = h k l })
+    go (no n) = rw (List·getD-eq-default (a .point) (record { p = pos 0; q = 0 }) {n = k} (omega arith))
+        (record { numerator = omega arith; divisor = omega arith; step = h k l })
+
+pub room-enough : (m : Model) (a : Answer) → verdict m ≡ Accepted → Planned m a → length (printed (m .count) a) ≤ room
+unfolding printed
+room-enough m a fair planned = go (a .kind) (rw fair at (planned .replies))
+  where
+    range : FiguresInRange (plainOf m)
+    range = accepted m fair
+
+    within : (k : ℕ) → k < min (m .count) 16 → k < m .count
+    within k l = omega arith
+
+    go : (k : Kind) → AnswersAs (instanceOf (plainOf m)) a k → length (printedAs k (m .count) a) ≤ room
+    go kind.Optimal o =
+        let v = value-small (plainOf m) a range o in
+        let h = best-short (a .value) (v .0) (v .1) in
+        let each = printable (plainOf m) a false range (o .shown) (λ k l e. absurd (let z : _≡_ {A = ℕ} 0 1 = cc in omega arith)) in
+        let i = lines-short false a (min (m .count) 16) (omega arith) (λ k l. each k (within k l)) in
+        omega (arith, length-append (bestLine (a .value)) (itemLines false a (min (m .count) 16)), h, i)
+    go kind.Infeasible o = omega arith
+    go kind.Unbounded o =
+        let each = printable (plainOf m) a true range (o .shown) (λ k l e. o .steps k l) in
+        let i = lines-short true a (min (m .count) 16) (omega arith) (λ k l. each k (within k l)) in
+        simp length-append (omega (arith, i))
+    go (kind.Refused f) o = absurd o

@@ -1,0 +1,63 @@
+-- What `charge_plan` owes, in the header's words (end theorems).
+-- refused-alone: a refused sheet is told by number and line; nothing is written, and no byte of the lent buffer changes.
+-- room-holds: to an accepted sheet a buffer of `room` bytes, as many as `charge_room` says, is never too short.
+use mathlib.Core.Path.{_≡_, refl, ap, _∙_}
+use mathlib.Core.List.{List}
+use Prim.Native.Nat.{ℕ, _≤_}
+use native.Mathlib.Omega.{arith}
+use borrow.Author.Tests.{le-ltb}
+use lib.ListN.{length}
+use Rattle.knapsack.specs.Meaning.{instanceOf, AnswersAs, bare}
+use Rattle.knapsack.specs.declared.Answer.{Answer}
+use Rattle.knapsack.specs.declared.Kind.{Kind}
+use Rattle.knapsack.specs.declared.Kind.the-variants as kind
+use Rattle.knapsack.specs.declared.Refusal.{Refusal}
+use Rattle.knapsack.specs.declared.Verdict.{Verdict}
+use Rattle.knapsack.specs.declared.Verdict.the-variants.{Accepted, Refused}
+use Rattle.text.specs.declared.Listed.{Listed}
+use Rattle.text.specs.declared.Listed.the-variants.{Written}
+use Rattle.text.specs.Buffer.{noted, told}
+use Rattle.listing.specs.Printing.{printed, unlessRefused, room}
+use Rattle.listing.proofs.Room.{room-enough}
+use Rattle.model.specs.Promises.{Planned}
+use Rattle.model.specs.Records.{plainOf, verdict}
+use Rattle.sheet.specs.Reading.{readSheet}
+use Rattle.sheet.proofs.Sheets.{accepted-sheet}
+use Rattle.runcefo.specs.Entries.{toldNumber, toldLine, lengthOf, listedVerdict, Plans}
+
+module _ (s b c : List ℕ) (length-told line number : ℕ) (h : Plans s b c length-told line number) where
+  abbrev answer : Answer
+  answer = h .lists .answer
+
+  pub refused-alone : (f : Refusal) → readSheet s .verdict ≡ Refused f → (number ≡ f .number) × (line ≡ f .line) × (length-told ≡ 0) × (c ≡ b)
+  refused-alone f e =
+      let a : answer ≡ bare (kind.Refused f) = rw e at (h .lists .is-true) in
+      let k : answer .kind ≡ kind.Refused f = ap (λ (z : Answer). z .kind) a in
+      let r : h .reply ≡ noted f = rw k at (h .lists .told-is) in (
+        h .number-is ∙ ap (λ w. toldNumber (listedVerdict w)) r,
+        h .line-is ∙ ap (λ w. toldLine (listedVerdict w)) r,
+        h .length-is ∙ ap lengthOf r,
+        rw k at (h .lists .left-is),
+      )
+
+  abbrev text : List ℕ
+  text = printed (readSheet s .model .count) answer
+
+  written : length text ≤ length b → told text b ≡ Written (length text)
+  unfolding told
+  written l = rw (le-ltb (length b) (length text) l)
+
+  pub room-holds : readSheet s .verdict ≡ Accepted → room ≤ length b → number ≡ 0
+  room-holds e l =
+      let m = readSheet s .model in
+      let fair : verdict m ≡ Accepted = accepted-sheet s m (ap (λ (v : Verdict). record { verdict = v; model = m }) e) .fair in
+      let p : Planned m answer = rw e at (h .lists .is-true) in
+      let fits : length text ≤ room = room-enough m answer fair p in
+      let r : h .reply ≡ Written (length text) = go (answer .kind) refl (rw fair at (p .replies)) ∙ written (omega arith) in
+      h .number-is ∙ ap (λ w. toldNumber (listedVerdict w)) r
+    where
+      go : (k : Kind) → answer .kind ≡ k → AnswersAs (instanceOf (plainOf (readSheet s .model))) answer k → h .reply ≡ told text b
+      go kind.Optimal e a = h .lists .told-is ∙ ap (λ k. unlessRefused k noted (told text b)) e
+      go kind.Infeasible e a = h .lists .told-is ∙ ap (λ k. unlessRefused k noted (told text b)) e
+      go kind.Unbounded e a = h .lists .told-is ∙ ap (λ k. unlessRefused k noted (told text b)) e
+      go (kind.Refused f) e a = absurd a
