@@ -4,20 +4,21 @@
 -- count-reads, item-reads, bound-reads: the lines.
 --   bareOf i        an item as its line gives it
 use mathlib.Core.Path.{_≡_, refl, sym, ap, _∙_}
-use mathlib.Core.Bool.{Bool, true, false, cond}
+use mathlib.Core.Bool.{Bool, true, false}
 use mathlib.Core.List.{List, [], _∷_, _++_, append-assoc, append-nil}
 use Prim.Native.Nat.{ℕ, zero, suc, _+_, _≤_, _<_}
 use native.Mathlib.Omega.{arith}
 use native.Mathlib.Decide.{decLt}
-use borrow.Author.Tests.{le-ltb, lt-leb, ltb-false, eq-eqb, ne-eqb}
+use borrow.Author.Tests.{le-ltb, ltb-false, eq-eqb, ne-eqb}
 use lib.IntN.{ℤ, pos, negsuc}
 use lib.ListN.{length, drop, getD, drop-of-length-le}
 use lib.Seq.{drop-cons, drop-drop, drop-append-seam}
-use Rattle.knapsack.specs.declared.Bound.the-variants.{Absent}
+use Rattle.knapsack.specs.declared.Bound.{Bound}
+use Rattle.knapsack.specs.declared.Bound.the-variants.{Absent, At as Present}
 use Rattle.knapsack.specs.declared.Mark.{Mark}
 use Rattle.knapsack.specs.declared.Mark.the-variants.{Integer, Continuous}
 use Rattle.knapsack.specs.declared.Item.{Item}
-use Rattle.model.specs.Records.{outside}
+use Rattle.model.specs.Records.{outside, badBound}
 use Rattle.text.specs.Decimal.{decimal, integer, Plain}
 use Rattle.text.proofs.Decimals.{decimal-plain, decimal-read, decimal-lead, decimal-zero}
 use Rattle.lines.specs.declared.scan.Place.the-variants.{Nothing, At}
@@ -28,11 +29,12 @@ use Rattle.lines.specs.declared.TwoNumbers.the-variants.{Both}
 use Rattle.lines.specs.declared.Marked.the-variants.{Mark as MarkOf}
 use Rattle.lines.specs.declared.Count.the-variants.{Lines}
 use Rattle.lines.specs.declared.ItemRead.the-variants.{Read as ItemIs}
+use Rattle.lines.specs.declared.BoundField.the-variants.{In as Bounded}
 use Rattle.lines.specs.declared.BoundRead.the-variants.{Read as BoundIs}
 use Rattle.lines.specs.Places.{byteAt, afterByte, afterWord}
-use Rattle.lines.specs.Numbers.{isDigit, digitRun, numeral, signedOf, unsignedAt, numberAt, fromTo, ranged, fieldAt}
-use Rattle.lines.specs.Lines.{headingLine, numbersLine, markAt, weights, prices, itemLine, countAt, itemRead, boundRead}
-use Rattle.lines.specs.Layout.{headingText, numbersText, markByte, itemText, Bounding, boundText}
+use Rattle.lines.specs.Numbers.{isDigit, digitRun, numeral, signedOf, unsignedAt, numberAt, fromTo, only, ranged, fieldAt}
+use Rattle.lines.specs.Lines.{headingLine, numbersLine, markAt, weights, prices, itemLine, countAt, itemRead, boundField, boundRead}
+use Rattle.lines.specs.Layout.{headingText, numbersText, markByte, itemText, absentWord, boundWord, Bounding, boundText}
 use Rattle.lines.proofs.Numerals.{leading-yes, run-append}
 
 -- what stands at a place, and what follows
@@ -149,11 +151,31 @@ item-reads s at i l f g h =
     let p = numbers-reads weights prices s (suc (suc at)) (i .weight) (i .price) l w c (m .1) in
     (p .0, rw (m .0, p .1), p .2)
 
-pub bound-reads : (count before : ℕ) (s : List ℕ) (at : ℕ) (b : Bounding) (l : List ℕ) → 1 ≤ b .number → b .number ≤ count → before < b .number →
-    outside 10000 (b .bound) ≡ false → drop at s ≡ boundText b ++ l →
-    (n : ℕ) × (boundRead count before s at ≡ BoundIs (b .number) (b .bound) n) × (drop n s ≡ l)
+-- no number begins as `none` does
+number-starts : (z : ℤ) → (b : ℕ) × (l : List ℕ) × (integer z ≡ b ∷ l) × (b ≤ 57)
+number-starts (pos zero) = (48, [], decimal-zero, omega arith)
+number-starts (pos (suc k)) = let f = decimal-starts (suc k) (omega arith) in (f .0, f .1, f .2, f .4)
+number-starts (negsuc k) = (45, decimal (suc k), refl, omega arith)
+
+bound-field-reads : (s : List ℕ) (at : ℕ) (b : Bound) (l : List ℕ) → badBound b ≡ false → drop at s ≡ boundWord b ++ (10 ∷ l) →
+    (n : ℕ) × (boundField s at ≡ Bounded b n) × (drop n s ≡ l)
+unfolding boundField afterWord
+bound-field-reads s at Absent l f h =
+    let w = word-reads s at absentWord (10 ∷ l) h in
+    (suc (w .0), rw (w .1, byte-reads s (w .0) 10 l (w .2)), standing s (w .0) 10 l (w .2) .1)
+bound-field-reads s at (Present v) l f h =
+    let b = number-starts v in
+    let e : drop at s ≡ b .0 ∷ (b .1 ++ (10 ∷ l)) = h ∙ ap (λ x. x ++ (10 ∷ l)) (b .2) in
+    let ne : b .0 ≡ 110 → ⊥ = λ q. omega (arith, b .3) in
+    let r = field-reads 10 prices s at v l refl (ranged-within 9999 v f) h in
+    (r .0, rw (byte-other s at 110 (b .0) (b .1 ++ (10 ∷ l)) e ne, r .1), r .2)
+
+pub bound-reads : (s : List ℕ) (at : ℕ) (b : Bounding) (l : List ℕ) → badBound (b .bound) ≡ false → drop at s ≡ boundText b ++ l →
+    (n : ℕ) × (boundRead (b .number) s at ≡ BoundIs (b .bound) n) × (drop n s ≡ l)
 unfolding boundRead
-bound-reads count before s at b l least most rises f h =
+bound-reads s at b l f h =
     let k = b .number in
-    let p = numbers-reads (fromTo 1 count) prices s at (pos k) (b .bound) l (rw (le-ltb k 1 least, le-ltb count k most)) (ranged-within 9999 (b .bound) f) h in
-    (p .0, rw (p .1, lt-leb k before rises), p .2)
+    let due : ranged (only k) (pos k) ≡ In (pos k) = rw (le-ltb k k (omega arith)) in
+    let p = field-reads 32 (only k) s at (pos k) (boundWord (b .bound) ++ (10 ∷ l)) refl due (h ∙ simp append-assoc) in
+    let q = bound-field-reads s (p .0) (b .bound) l f (p .2) in
+    (q .0, rw (p .1, q .1), q .2)

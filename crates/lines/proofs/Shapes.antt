@@ -1,15 +1,13 @@
 -- What a line that was read is made of (specs/Lines.antt): each law takes a reading apart.
 -- place-some, field-some: a result that is not the fault's came by a place, by a number.
 -- field-parts, numbers-parts, heading-parts, item-parts: the parts of a field and of a line of each kind.
--- field-range, heading-range, numbers-range: the number of a field that is in lies in its range.
--- count-parts, bound-parts: so do a count and an item number, which rises.
+-- field-range, heading-range: the number of a field that is in lies in its range.
+-- count-parts: so does a count. bound-shape: a bound's field is `none` or a number. bound-parts: the line of a bound has the item number that is due.
 use mathlib.Core.Path.{_≡_, refl, sym, ap, _∙_}
-use mathlib.Core.Bool.{Bool, true, false, cond}
 use mathlib.Core.List.{List}
-use Prim.Native.Nat.{ℕ, _≤_, _<_}
+use Prim.Native.Nat.{ℕ, _≤_}
 use native.Mathlib.Omega.{arith}
-use borrow.Author.Tests.{leb-false}
-use lib.Dec.{leb, leb→le}
+use lib.Dec.{leb→le}
 use lib.IntN.{ℤ, pos, negsuc, natAbs}
 use lib.Signed.{_≤ℤ_}
 use Rattle.lines.specs.declared.scan.Place.{Place}
@@ -22,19 +20,23 @@ use Rattle.lines.specs.declared.number.Field.the-variants.{Fault, Number
 use Rattle.lines.specs.declared.TwoNumbers.{TwoNumbers}
 use Rattle.lines.specs.declared.TwoNumbers.the-variants.{Fault as NumbersFault, Both}
 use Rattle.lines.specs.declared.Count.the-variants.{Fault as CountFault, Lines}
-use Rattle.knapsack.specs.declared.Bound.the-variants.{Absent}
+use Rattle.knapsack.specs.declared.Bound.{Bound}
+use Rattle.knapsack.specs.declared.Bound.the-variants.{Absent, At as Present}
 use Rattle.knapsack.specs.declared.Mark.{Mark}
 use Rattle.knapsack.specs.declared.Item.{Item}
 use Rattle.lines.specs.declared.Marked.{Marked}
 use Rattle.lines.specs.declared.Marked.the-variants.{Nothing as NoMark, Mark as MarkOf}
 use Rattle.lines.specs.declared.ItemRead.the-variants.{Fault as ItemFault, Read as ItemIs}
+use Rattle.lines.specs.declared.BoundField.{BoundField}
+use Rattle.lines.specs.declared.BoundField.the-variants.{Fault as NoBound, Out as OutBound, In as Bounded}
 use Rattle.lines.specs.declared.BoundRead.the-variants.{Fault as BoundFault, Read as BoundIs}
 use Rattle.model.specs.Refusals as refusal
 use Rattle.lines.specs.Places.{afterByte, afterWord, onPlace}
 use Rattle.lines.specs.Faults.{faultAt}
-use Rattle.lines.specs.Numbers.{Numeral, none, numeral, numberAt, fromTo, ranged, inRange, closedBy, fieldAt}
+use Rattle.lines.specs.Numbers.{Numeral, none, numeral, numberAt, fromTo, only, ranged, inRange, closedBy, fieldAt}
 use Rattle.lines.specs.Lines.{onField, headingLine, numbersLine, markAt, weights, withNumbers, marked, itemLine, itemOf, itemRead, countOf}
-use Rattle.lines.specs.Lines.{countAt, numbered, boundOf, boundRead, prices}
+use Rattle.lines.specs.Lines.{countAt, figured, boundField, boundOf, boundRead, prices}
+use Rattle.lines.specs.Layout.{absentWord}
 use Rattle.lines.proofs.Numerals.{ranged-in}
 
 pub place-some : {A : Type 0} (p : Place) (a : A) (f : ℕ → A) (r : A) → (a ≡ r → ⊥) → onPlace p a f ≡ r → (n : ℕ) × (p ≡ At n) × (f n ≡ r)
@@ -115,10 +117,6 @@ pub heading-range : (w : List ℕ) (r : Range) (s : List ℕ) (at : ℕ) (z : �
     (r .lo ≤ℤ z) × (z ≤ℤ r .hi)
 heading-range w r s at z end h = let p = heading-parts w r s at (In z) end h in field-range 10 r s (p .next) z end (p .count)
 
-pub numbers-range : (r q : Range) (s : List ℕ) (at : ℕ) (z : ℤ) (y : Ranged) (end : ℕ) → numbersLine r q s at ≡ Both (In z) y end →
-    (r .lo ≤ℤ z) × (z ≤ℤ r .hi)
-numbers-range r q s at z y end h = let p = numbers-parts r q s at (In z) y end h in field-range 32 r s at z (p .next) (p .first)
-
 pub record ItemParts (s : List ℕ) (at : ℕ) (i : Item) (end : ℕ) : Type 0 where
   pub next : ℕ
   pub mark : markAt s at ≡ MarkOf (i .mark) next
@@ -182,33 +180,68 @@ count-parts w a b s at m end h = go (headingLine w (fromTo a b) s at) refl h
         let k = between a b z (q .0) (q .1) in
         record { heading = e ∙ rw (k .0, u, v); least = omega arith; most = omega arith }
 
-pub record BoundParts (count before : ℕ) (s : List ℕ) (at k : ℕ) (v : ℤ) (end : ℕ) : Type 0 where
-  pub pair : numbersLine (fromTo 1 count) prices s at ≡ Both (In (pos k)) (In v) end
-  pub least : 1 ≤ k
-  pub most : k ≤ count
-  pub rises : before < k
+-- a bound by its word or its number
+abbrev pub BoundShape : List ℕ → ℕ → ℕ → Bound → Type 0
+BoundShape s at end Absent = (n : ℕ) × (afterWord s at absentWord ≡ At n) × (afterByte s n 10 ≡ At end)
+BoundShape s at end (Present v) = fieldAt 10 prices s at ≡ Number (In v) end
 
-pub bound-parts : (count before : ℕ) (s : List ℕ) (at k : ℕ) (v : ℤ) (end : ℕ) → boundRead count before s at ≡ BoundIs k v end →
-    BoundParts count before s at k v end
-unfolding boundRead
-bound-parts count before s at k v end h = go (numbersLine (fromTo 1 count) prices s at) refl h
+pub bound-shape : (s : List ℕ) (at : ℕ) (b : Bound) (end : ℕ) → boundField s at ≡ Bounded b end → BoundShape s at end b
+unfolding boundField
+bound-shape s at b end h = go (afterWord s at absentWord) refl h
   where
-    fault : {n : ℕ} → BoundFault n ≡ BoundIs k v end → BoundParts count before s at k v end
+    wrong : {B : Type 0} {k : ℕ} → NoBound k ≡ Bounded b end → B
+    wrong h = absurd (let z : _≡_ {A = ℕ} 0 1 = cc in omega arith)
+
+    number : (x : Field) → fieldAt 10 prices s at ≡ x → figured x ≡ Bounded b end → BoundShape s at end b
+    number (Fault k) e h = wrong h
+    number (Number Out n) e h = absurd (let z : _≡_ {A = ℕ} 0 1 = cc in omega arith)
+    number (Number (In v) n) e h =
+        let u : Present v ≡ b = cc in
+        let w : n ≡ end = cc in
+        rw (← u) (e ∙ ap (Number (In v)) w)
+
+    closed : (n : ℕ) → afterWord s at absentWord ≡ At n → (p : Place) → afterByte s n 10 ≡ p →
+        onPlace p (NoBound (faultAt refusal.number s n)) (λ m. Bounded Absent m) ≡ Bounded b end → BoundShape s at end b
+    closed n e Nothing f h = wrong h
+    closed n e (At m) f h =
+        let u : Absent ≡ b = cc in
+        let w : m ≡ end = cc in
+        rw (← u) (n, e, f ∙ ap At w)
+
+    go : (p : Place) → afterWord s at absentWord ≡ p →
+        onPlace p (figured (fieldAt 10 prices s at)) (λ n. onPlace (afterByte s n 10) (NoBound (faultAt refusal.number s n)) (λ m. Bounded Absent m))
+        ≡ Bounded b end →
+        BoundShape s at end b
+    go Nothing e h = number (fieldAt 10 prices s at) refl h
+    go (At n) e h = closed n e (afterByte s n 10) refl h
+
+pub record BoundParts (k : ℕ) (s : List ℕ) (at : ℕ) (b : Bound) (end : ℕ) : Type 0 where
+  pub next : ℕ
+  pub number : fieldAt 32 (only k) s at ≡ Number (In (pos k)) next
+  pub bound : boundField s next ≡ Bounded b end
+
+pub bound-parts : (k : ℕ) (s : List ℕ) (at : ℕ) (b : Bound) (end : ℕ) → boundRead k s at ≡ BoundIs b end → BoundParts k s at b end
+unfolding boundRead
+bound-parts k s at b end h = go (fieldAt 32 (only k) s at) refl h
+  where
+    fault : {n : ℕ} → BoundFault n ≡ BoundIs b end → BoundParts k s at b end
     fault h = absurd (let z : _≡_ {A = ℕ} 0 1 = cc in omega arith)
 
-    last : (z : ℤ) (y : Ranged) (n : ℕ) → numbersLine (fromTo 1 count) prices s at ≡ Both (In z) y n → (t : Bool) → leb (natAbs z) before ≡ t →
-        cond t (BoundFault 5) (boundOf (natAbs z) y n) ≡ BoundIs k v end → BoundParts count before s at k v end
-    last z y n e true f h = fault h
-    last z Out n e false f h = fault h
-    last z (In x) n e false f h =
-        let u : natAbs z ≡ k = cc in
-        let w : x ≡ v = cc in
-        let m : n ≡ end = cc in
-        let q = numbers-range (fromTo 1 count) prices s at z (In x) n e in
-        let o = between 1 count z (q .0) (q .1) in
-        record { pair = e ∙ rw (o .0, u, w, m); least = omega arith; most = omega arith; rises = rw u at (leb-false (natAbs z) before f) }
+    last : (x : Ranged) (n : ℕ) → fieldAt 32 (only k) s at ≡ Number x n → (y : BoundField) → boundField s n ≡ y → boundOf y x ≡ BoundIs b end →
+        BoundParts k s at b end
+    last x n e (NoBound j) f h = fault h
+    last Out n e OutBound f h = fault h
+    last (In z) n e OutBound f h = fault h
+    last Out n e (Bounded c m) f h = fault h
+    last (In z) n e (Bounded c m) f h =
+        let u : c ≡ b = cc in
+        let v : m ≡ end = cc in
+        let q = field-range 32 (only k) s at z n e in
+        let o = between _ _ z (q .0) (q .1) in
+        let w : natAbs z ≡ k = omega (arith, o .1 .0, o .1 .1) in
+        record { next = n; number = e ∙ ap (λ j. Number (In j) n) (o .0 ∙ ap pos w); bound = f ∙ rw (u, v) }
 
-    go : (x : TwoNumbers) → numbersLine (fromTo 1 count) prices s at ≡ x → numbered before x ≡ BoundIs k v end → BoundParts count before s at k v end
-    go (NumbersFault n) e h = fault h
-    go (Both Out y n) e h = fault h
-    go (Both (In z) y n) e h = last z y n e (leb (natAbs z) before) refl h
+    go : (x : Field) → fieldAt 32 (only k) s at ≡ x → onField x (λ e. BoundFault e) (λ x n. boundOf (boundField s n) x) ≡ BoundIs b end →
+        BoundParts k s at b end
+    go (Fault n) e h = fault h
+    go (Number x n) e h = last x n e (boundField s n) refl h

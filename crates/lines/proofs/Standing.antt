@@ -15,6 +15,8 @@ use lib.Dec.{eqb, lit<}
 use lib.IntN.{ℤ, pos, negℤ}
 use lib.ListN.{length, drop, List·getD-eq-default}
 use lib.Seq.{drop-cons, drop-drop}
+use Rattle.knapsack.specs.declared.Bound.{Bound}
+use Rattle.knapsack.specs.declared.Bound.the-variants.{Absent, At as Present}
 use Rattle.knapsack.specs.declared.Mark.{Mark}
 use Rattle.knapsack.specs.declared.Mark.the-variants.{Integer, Continuous}
 use Rattle.knapsack.specs.declared.Item.{Item}
@@ -30,14 +32,15 @@ use Rattle.lines.specs.declared.TwoNumbers.the-variants.{Both}
 use Rattle.lines.specs.declared.Marked.the-variants.{Nothing as NoMark, Mark as MarkOf}
 use Rattle.lines.specs.declared.Count.the-variants.{Lines}
 use Rattle.lines.specs.declared.ItemRead.the-variants.{Read as ItemIs}
+use Rattle.lines.specs.declared.BoundField.the-variants.{In as Bounded}
 use Rattle.lines.specs.declared.BoundRead.the-variants.{Read as BoundIs}
 use Rattle.lines.specs.Places.{byteAt, afterByte, onPlace, afterWord}
-use Rattle.lines.specs.Numbers.{isLeading, digitRun, none, numeral, signedOf, unsignedAt, numberAt, fromTo, fieldAt}
-use Rattle.lines.specs.Lines.{numbersLine, markAt, weights, prices, countAt, itemRead, boundRead}
-use Rattle.lines.specs.Layout.{headingText, numbersText, markByte, itemText, boundText}
+use Rattle.lines.specs.Numbers.{isLeading, digitRun, none, numeral, signedOf, unsignedAt, numberAt, fromTo, only, fieldAt}
+use Rattle.lines.specs.Lines.{numbersLine, markAt, weights, prices, countAt, itemRead, boundField, boundRead}
+use Rattle.lines.specs.Layout.{headingText, numbersText, markByte, itemText, absentWord, boundWord, bounding, boundText}
 use Rattle.lines.proofs.Places.{nowhere}
 use Rattle.lines.proofs.Numerals.{run-plain, run-splits, run-leads, ranged-in}
-use Rattle.lines.proofs.Shapes.{field-parts, numbers-parts, heading-parts, item-parts, count-parts, bound-parts}
+use Rattle.lines.proofs.Shapes.{field-parts, numbers-parts, heading-parts, item-parts, count-parts, bound-shape, bound-parts}
 
 pub record Has (s : List ℕ) (a : ℕ) (w : List ℕ) (b : ℕ) : Type 0 where
   pub has : drop a s ≡ w ++ drop b s
@@ -165,7 +168,13 @@ item-has s at i n h =
     let p = item-parts s at i n h in
     has-join (mark-has s at (i .mark) (p .next) (p .mark)) (numbers-has weights prices s (p .next) (i .weight) (i .price) n (p .numbers))
 
-pub bound-has : (count before : ℕ) (s : List ℕ) (at k : ℕ) (v : ℤ) (n : ℕ) → boundRead count before s at ≡ BoundIs k v n →
-    Has s at (boundText (record { number = k; bound = v })) n
-bound-has count before s at k v n h =
-    let p = bound-parts count before s at k v n h in numbers-has (fromTo 1 count) prices s at (pos k) v n (p .pair)
+bound-field-has : (s : List ℕ) (at : ℕ) (b : Bound) (n : ℕ) → boundField s at ≡ Bounded b n → Has s at (field (boundWord b) 10) n
+bound-field-has s at Absent n h =
+    let p = bound-shape s at Absent n h in
+    has-join (word-has s at absentWord (p .0) (lit< tt, (lit< tt, (lit< tt, (lit< tt, tt)))) (p .1)) (byte-has s (p .0) 10 n (lit< tt) (p .2))
+bound-field-has s at (Present v) n h = field-has 10 prices s at v n (lit< tt) (bound-shape s at (Present v) n h)
+
+pub bound-has : (k : ℕ) (s : List ℕ) (at : ℕ) (b : Bound) (n : ℕ) → boundRead k s at ≡ BoundIs b n → Has s at (boundText (bounding k b)) n
+bound-has k s at b n h =
+    let p = bound-parts k s at b n h in
+    has-join (field-has 32 (only k) s at (pos k) (p .next) (lit< tt) (p .number)) (bound-field-has s (p .next) b n (p .bound))

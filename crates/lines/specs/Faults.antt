@@ -1,5 +1,5 @@
 -- The fault of a field. Paper 02, request 3. A line is read from the left and its first fault is told, so that is the leftmost.
---   in the field's place                                             heading word   number
+--   in the field's place                                             heading word   number or bound
 --   nothing: the field is empty or missing                           2              2
 --   something else, or more bytes right behind what should stand     12             13
 --   what should stand, but then a field too few or too many,         2              2

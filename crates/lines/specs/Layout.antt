@@ -1,13 +1,16 @@
--- The text of a sheet's lines. Paper 01, "The sheet"; fields and line ends are those of every text (crate text, specs/Layout).
+-- The text of a sheet's lines. Paper 01, "The sheet", and paper 02, request 6; fields and line ends are those of every text (crate text, specs/Layout).
 --   headingText w n    a section's first line
 --   numbersText x y    two numbers
 --   markByte m         `W` or `L`
 --   itemText i         the line of an item
---   Bounding           an item number and its bound, as a line of `lower` or `upper` has them
+--   absentWord         `none`; boundWord b: a bound, by that word where it is absent
+--   Bounding           an item number and its bound, as a line of `lower` or `upper` has them; bounding n b: one
 --   boundText b        that line
 use mathlib.Core.List.{List, [], _∷_}
 use Prim.Native.Nat.{ℕ}
-use lib.IntN.{ℤ, pos}
+use lib.IntN.{ℤ}
+use Rattle.knapsack.specs.declared.Bound.{Bound}
+use Rattle.knapsack.specs.declared.Bound.the-variants.{Absent, At}
 use Rattle.knapsack.specs.declared.Mark.{Mark}
 use Rattle.knapsack.specs.declared.Mark.the-variants.{Integer, Continuous}
 use Rattle.knapsack.specs.declared.Item.{Item}
@@ -27,9 +30,19 @@ markByte Continuous = 76
 abbrev pub itemText : Item → List ℕ
 itemText i = line (markByte (i .mark) ∷ []) (integer (i .weight) ∷ integer (i .price) ∷ [])
 
+abbrev pub absentWord : List ℕ
+absentWord = 110 ∷ 111 ∷ 110 ∷ 101 ∷ []
+
+abbrev pub boundWord : Bound → List ℕ
+boundWord Absent = absentWord
+boundWord (At v) = integer v
+
 pub record Bounding : Type 0 where
   pub number : ℕ
-  pub bound : ℤ
+  pub bound : Bound
+
+abbrev pub bounding : ℕ → Bound → Bounding
+bounding n b = record { number = n; bound = b }
 
 abbrev pub boundText : Bounding → List ℕ
-boundText b = numbersText (pos (b .number)) (b .bound)
+boundText b = line (decimal (b .number)) (boundWord (b .bound) ∷ [])

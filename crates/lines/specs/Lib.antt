@@ -2,5 +2,5 @@ pub mod Places
 pub mod Blocks
 pub mod Faults
 pub mod Numbers
-pub mod Lines
 pub mod Layout
+pub mod Lines

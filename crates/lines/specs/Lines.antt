@@ -1,4 +1,4 @@
--- The lines of a sheet. Paper 01, "The sheet" and "Refused, by place".
+-- The lines of a sheet. Paper 01, "The sheet" and "Refused, by place", and paper 02, requests 3 and 6.
 -- The form of a line, which gives the fault of its leftmost wrong field (specs/Faults), or its numbers by the ranges asked for:
 --   onField x a f           f of the number and the place behind it, or a of the field's fault
 --   headingLine w r s at    word and count
@@ -6,16 +6,15 @@
 --   markAt s at             `W ` or `L `
 --   weights, prices         the ranges of weights, and of prices and bounds
 --   itemLine s at           mark, weight, price, by marked and withNumbers
+--   boundField s at         the field in a bound's place: `none`, or a number by figured
 -- What its values must be: within a line its form (2, 12, 13) comes first, then 3 (a count), 5 (an item number), 4 (a figure), left to right.
 --   countAt w r s at        the count of a heading, by countOf
 --   itemRead s at           an item, with no bounds as yet, by itemOf
---   boundRead n k s at      an item number 1 to n and above k, and a bound, by numbered and boundOf
-use mathlib.Core.Bool.{cond}
+--   boundRead k s at        the item number k, the one that is due, and its bound, by boundOf and inTurn
 use mathlib.Core.List.{List, [], _∷_}
 use Prim.Native.Nat.{ℕ}
-use lib.Dec.{leb}
 use lib.IntN.{pos, negsuc, natAbs}
-use Rattle.knapsack.specs.declared.Bound.the-variants.{Absent}
+use Rattle.knapsack.specs.declared.Bound.the-variants.{Absent, At}
 use Rattle.knapsack.specs.declared.Mark.{Mark}
 use Rattle.knapsack.specs.declared.Mark.the-variants.{Integer, Continuous}
 use Rattle.model.specs.Refusals as refusal
@@ -30,6 +29,8 @@ use Rattle.lines.specs.declared.Marked.{Marked}
 use Rattle.lines.specs.declared.Marked.the-variants.{Nothing as NoMark, Mark as MarkOf}
 use Rattle.lines.specs.declared.ItemLine.{ItemLine}
 use Rattle.lines.specs.declared.ItemLine.the-variants.{Fault as LineFault, Item as ItemOf}
+use Rattle.lines.specs.declared.BoundField.{BoundField}
+use Rattle.lines.specs.declared.BoundField.the-variants.{Fault as NoBound, Out as OutBound, In as Bounded}
 use Rattle.lines.specs.declared.Count.{Count}
 use Rattle.lines.specs.declared.Count.the-variants.{Fault as CountFault, Lines}
 use Rattle.lines.specs.declared.ItemRead.{ItemRead}
@@ -38,7 +39,8 @@ use Rattle.lines.specs.declared.BoundRead.{BoundRead}
 use Rattle.lines.specs.declared.BoundRead.the-variants.{Fault as BoundFault, Read as BoundIs}
 use Rattle.lines.specs.Places.{afterByte, afterWord, onPlace}
 use Rattle.lines.specs.Faults.{faultAt}
-use Rattle.lines.specs.Numbers.{fromTo, fieldAt}
+use Rattle.lines.specs.Numbers.{only, fieldAt}
+use Rattle.lines.specs.Layout.{absentWord}
 
 abbrev pub onField : {A : Type 0} → Field → (ℕ → A) → (Ranged → ℕ → A) → A
 onField (Fault n) a f = a n
@@ -78,6 +80,16 @@ marked s (MarkOf m n) = withNumbers m (numbersLine weights prices s n)
 unfoldable pub itemLine : List ℕ → ℕ → ItemLine
 itemLine s at = marked s (markAt s at)
 
+abbrev pub figured : Field → BoundField
+figured (Fault k) = NoBound k
+figured (Number Out n) = OutBound
+figured (Number (In v) n) = Bounded (At v) n
+
+unfoldable pub boundField : List ℕ → ℕ → BoundField
+boundField s at =
+    onPlace (afterWord s at absentWord) (figured (fieldAt 10 prices s at))
+    (λ n. onPlace (afterByte s n 10) (NoBound (faultAt refusal.number s n)) (λ m. Bounded Absent m))
+
 -- ---- values
 
 abbrev pub countOf : Field → Count
@@ -97,14 +109,14 @@ itemOf (ItemOf m (In a) (In c) n) = ItemIs (record { mark = m; weight = a; price
 unfoldable pub itemRead : List ℕ → ℕ → ItemRead
 itemRead s at = itemOf (itemLine s at)
 
-abbrev pub boundOf : ℕ → Ranged → ℕ → BoundRead
-boundOf k Out n = BoundFault refusal.figure
-boundOf k (In v) n = BoundIs k v n
+abbrev pub inTurn : Ranged → BoundRead → BoundRead
+inTurn Out r = BoundFault refusal.item-number
+inTurn (In z) r = r
 
-abbrev pub numbered : ℕ → TwoNumbers → BoundRead
-numbered before (NumbersFault k) = BoundFault k
-numbered before (Both Out v n) = BoundFault refusal.item-number
-numbered before (Both (In z) v n) = cond (leb (natAbs z) before) (BoundFault refusal.item-number) (boundOf (natAbs z) v n)
+abbrev pub boundOf : BoundField → Ranged → BoundRead
+boundOf (NoBound k) x = BoundFault k
+boundOf OutBound x = inTurn x (BoundFault refusal.figure)
+boundOf (Bounded b n) x = inTurn x (BoundIs b n)
 
-unfoldable pub boundRead : ℕ → ℕ → List ℕ → ℕ → BoundRead
-boundRead count before s at = numbered before (numbersLine (fromTo 1 count) prices s at)
+unfoldable pub boundRead : ℕ → List ℕ → ℕ → BoundRead
+boundRead k s at = onField (fieldAt 32 (only k) s at) (λ e. BoundFault e) (λ x n. boundOf (boundField s n) x)

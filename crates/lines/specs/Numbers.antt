@@ -6,7 +6,7 @@
 --   signedOf m n        n, or its opposite where there is a minus
 --   unsignedAt m s at   the number behind its sign
 --   numberAt s at       the number at a place, and the place behind it
---   fromTo a b          the range of the numbers from a to b
+--   fromTo a b          the range of the numbers from a to b; only k: of the number k alone
 --   ranged r z          z, if it lies in the range
 --   inRange r x         a numeral as a figure of the range
 --   closedBy b s at x   the figure as a field, if the byte b closes it, else the field's fault (specs/Faults)
@@ -74,6 +74,9 @@ numberAt s at =
 
 abbrev pub fromTo : ℕ → ℕ → Range
 fromTo a b = record { lo = pos a; hi = pos b }
+
+abbrev pub only : ℕ → Range
+only k = fromTo k k
 
 abbrev pub ranged : Range → ℤ → Ranged
 ranged r z = cond (ltZ z (r .lo)) Out (cond (ltZ (r .hi) z) Out (In z))

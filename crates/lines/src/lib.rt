@@ -17,8 +17,9 @@ ghost use mathlib.Core.Path.{_≡_};
 ghost use Prim.Native.Nat.{_≤_};
 ghost use lib.IntN.{pos};
 ghost use lib.Signed.{_≤ℤ_};
-ghost use Rattle.lines.specs.Numbers.{Narrow, fromTo};
-ghost use Rattle.lines.specs.Lines.{headingLine, numbersLine, markAt, itemLine, prices, countAt, itemOf, itemRead, boundOf, boundRead};
+ghost use Rattle.lines.specs.Numbers.{Narrow, fieldAt};
+ghost use Rattle.lines.specs.Lines.{headingLine, numbersLine, markAt, itemLine, prices, countAt, itemOf, itemRead};
+ghost use Rattle.lines.specs.Lines.{figured, boundField, inTurn, boundOf, boundRead};
 ghost use Rattle.lines.specs.declared.ItemLine.{ItemLine};
 
 // The form of a line: the fault of its leftmost wrong field, or its fields and the place behind it.
@@ -37,6 +38,13 @@ pub enum ItemLine {
     Item(Mark, Ranged, Ranged, usize),
 }
 
+// What stands in a bound's place, closed: its fault, a number out of range, or the bound and the place behind.
+pub enum BoundField {
+    Fault(u64),
+    Out,
+    In(Bound, usize),
+}
+
 // What a line gives: the number of its refusal, or its values and the place behind it.
 pub enum Count {
     Fault(u64),
@@ -50,7 +58,7 @@ pub enum ItemRead {
 
 pub enum BoundRead {
     Fault(u64),
-    Read(usize, i64, usize),
+    Read(Bound, usize),
 }
 
 // Word, blank, count, end. Another word is 12.
@@ -179,48 +187,71 @@ pub fn item_at(s: &[u8], at: usize) -> ItemRead
     }
 }
 
-fn bound_of(k: usize, v: Ranged, next: usize) -> BoundRead
-    ensures { λ r. ⌜ r ≡ boundOf k v next ⌝ }
+// A bound that is a number.
+fn number_bound(s: &[u8], at: usize) -> BoundField
+    ensures { λ r. ⌜ r ≡ figured (fieldAt 10 prices (now (s .entry)) at) ⌝ }
 {
-    match v {
-        Ranged::Out => BoundRead::Fault(model::refusals::FIGURE),
-        Ranged::In(z) => BoundRead::Read(k, z, next),
-    }
-}
-
-// Item number and bound.
-fn bound_line(s: &[u8], at: usize, count: usize) -> TwoNumbers
-    requires { ⌜ count ≤ 16 ⌝ }
-    ensures { λ r. ⌜ r ≡ numbersLine (fromTo 1 count) prices (now (s .entry)) at ⌝ }
-{
-    let numbers = Range {
-        lo: 1,
-        hi: count as i64,
-    };
     let bounds = Range {
         lo: -10_000,
         hi: 10_000,
     };
-    numbers_line(s, at, numbers, bounds)
+    let f = crate::number::closed_number(s, at, bounds, b'\n');
+    match f {
+        Field::Fault(n) => BoundField::Fault(n),
+        Field::Number(g, next) => match g {
+            Ranged::Out => BoundField::Out,
+            Ranged::In(v) => BoundField::In(Bound::At(v), next),
+        },
+    }
 }
 
-// An item number and its bound: the fault of the line's form, 5 for the number, 4 for the bound.
-pub fn bound_at(s: &[u8], at: usize, count: usize, before: usize) -> BoundRead
-    requires { ⌜ count ≤ 16 ⌝ }
-    ensures { λ r. ⌜ r ≡ boundRead count before (now (s .entry)) at ⌝ }
+// A number or `none`, and the line's end. Anything else is 13.
+fn bound_field(s: &[u8], at: usize) -> BoundField
+    ensures { λ r. ⌜ r ≡ boundField (now (s .entry)) at ⌝ }
 {
-    let l = bound_line(s, at, count);
-    match l {
-        TwoNumbers::Fault(n) => BoundRead::Fault(n),
-        TwoNumbers::Both(f, v, next) => match f {
-            Ranged::Out => BoundRead::Fault(model::refusals::ITEM_NUMBER),
-            Ranged::In(z) => {
-                let k = z as usize;
-                if k <= before {
-                    return BoundRead::Fault(model::refusals::ITEM_NUMBER);
-                }
-                bound_of(k, v, next)
+    let w = crate::scan::after_word(s, at, b"none");
+    match w {
+        Place::Nothing => number_bound(s, at),
+        Place::At(e) => {
+            let p = crate::scan::after_byte(s, e, b'\n');
+            match p {
+                Place::Nothing => BoundField::Fault(fault_at(s, e, model::refusals::NUMBER)),
+                Place::At(next) => BoundField::In(Bound::Absent, next),
             }
-        },
+        }
+    }
+}
+
+// What a line gives if its item number is the one that is due.
+fn in_turn(number: Ranged, r: BoundRead) -> BoundRead
+    ensures { λ q. ⌜ q ≡ inTurn number r ⌝ }
+{
+    match number {
+        Ranged::Out => BoundRead::Fault(model::refusals::ITEM_NUMBER),
+        Ranged::In(_) => r,
+    }
+}
+
+// The item number is tried before the bound.
+fn bound_of(bound: BoundField, number: Ranged) -> BoundRead
+    ensures { λ r. ⌜ r ≡ boundOf bound number ⌝ }
+{
+    match bound {
+        BoundField::Fault(n) => BoundRead::Fault(n),
+        BoundField::Out => in_turn(number, BoundRead::Fault(model::refusals::FIGURE)),
+        BoundField::In(b, next) => in_turn(number, BoundRead::Read(b, next)),
+    }
+}
+
+// The bound of item k: the fault of the line's form, 5 for another item number, 4 for the bound.
+pub fn bound_at(s: &[u8], at: usize, k: usize) -> BoundRead
+    requires { ⌜ k ≤ 16 ⌝ }
+    ensures { λ r. ⌜ r ≡ boundRead k (now (s .entry)) at ⌝ }
+{
+    let due = k as i64;
+    let f = crate::number::closed_number(s, at, Range { lo: due, hi: due }, b' ');
+    match f {
+        Field::Fault(n) => BoundRead::Fault(n),
+        Field::Number(number, next) => bound_of(bound_field(s, next), number),
     }
 }

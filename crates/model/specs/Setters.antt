@@ -3,13 +3,13 @@
 --   withCount m n       with that count
 --   withItems m l       with those items, all 16 places
 --   withItem m j x      with x at place j
---   bounded side v i    the item with that bound at v
---   withBound m side j v   with a bound of the item at place j
+--   bounded side b i    the item with the bound b on that side
+--   withBound m side j b   with that bound of the item at place j
 use mathlib.Core.List.{List}
 use Prim.Native.Nat.{ℕ}
 use lib.IntN.{ℤ}
 use lib.ListN.{set}
-use Rattle.knapsack.specs.declared.Bound.the-variants.{At}
+use Rattle.knapsack.specs.declared.Bound.{Bound}
 use Rattle.knapsack.specs.declared.Item.{Item}
 use Rattle.model.specs.declared.Model.{Model}
 use Rattle.model.specs.declared.Side.{Side}
@@ -28,9 +28,9 @@ withItems m l = record { items = l; count = m .count; capacity = m .capacity }
 abbrev pub withItem : Model → ℕ → Item → Model
 withItem m j x = record { items = set (m .items) j x; count = m .count; capacity = m .capacity }
 
-abbrev pub bounded : Side → ℤ → Item → Item
-bounded Lower v i = record { mark = i .mark; weight = i .weight; price = i .price; lower = At v; upper = i .upper }
-bounded Upper v i = record { mark = i .mark; weight = i .weight; price = i .price; lower = i .lower; upper = At v }
+abbrev pub bounded : Side → Bound → Item → Item
+bounded Lower b i = record { mark = i .mark; weight = i .weight; price = i .price; lower = b; upper = i .upper }
+bounded Upper b i = record { mark = i .mark; weight = i .weight; price = i .price; lower = i .lower; upper = b }
 
-abbrev pub withBound : Model → Side → ℕ → ℤ → Model
-withBound m side j v = withItem m j (bounded side v (itemAt m j))
+abbrev pub withBound : Model → Side → ℕ → Bound → Model
+withBound m side j b = withItem m j (bounded side b (itemAt m j))

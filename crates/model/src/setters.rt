@@ -54,9 +54,9 @@ pub fn with_item(m: Model, j: usize, x: Item) -> Model
     n
 }
 
-// An item with one more bound.
-pub fn with_side(item: Item, side: Side, v: i64) -> Item
-    ensures { λ r. ⌜ r ≡ bounded side v item ⌝ }
+// An item with another bound on one side.
+pub fn with_side(item: Item, side: Side, b: Bound) -> Item
+    ensures { λ r. ⌜ r ≡ bounded side b item ⌝ }
 {
     let mark = item.mark;
     let weight = item.weight;
@@ -68,7 +68,7 @@ pub fn with_side(item: Item, side: Side, v: i64) -> Item
             mark,
             weight,
             price,
-            lower: Bound::At(v),
+            lower: b,
             upper,
         },
         Side::Upper => Item {
@@ -76,15 +76,15 @@ pub fn with_side(item: Item, side: Side, v: i64) -> Item
             weight,
             price,
             lower,
-            upper: Bound::At(v),
+            upper: b,
         },
     }
 }
 
-pub fn with_bound(m: Model, side: Side, j: usize, v: i64) -> Model
+pub fn with_bound(m: Model, side: Side, j: usize, b: Bound) -> Model
     requires { ⌜ j < 16 ⌝ }
-    ensures { λ r. ⌜ r ≡ withBound m side j v ⌝ }
+    ensures { λ r. ⌜ r ≡ withBound m side j b ⌝ }
 {
     let item = m.items[j];
-    with_item(m, j, with_side(item, side, v))
+    with_item(m, j, with_side(item, side, b))
 }

@@ -3,15 +3,15 @@
 -- bare-same: a bare item is what its line gives. bare-of, fair-side: an item in range is bare without its bounds, which are in range.
 use mathlib.Core.Path.{_≡_, refl, sym, ap, _∙_}
 use mathlib.Core.Bool.{false}
-use mathlib.Core.List.{List, [], _∷_, _++_, append-assoc}
-use Prim.Native.Nat.{ℕ, suc, _≤_, _<_}
+use mathlib.Core.List.{List, [], _∷_, append-assoc}
+use Prim.Native.Nat.{ℕ, suc}
 use native.Mathlib.Omega.{arith}
 use borrow.Author.Tests.{le-ltb}
 use lib.Dec.{lit<, leb→le}
 use lib.IntN.{ℤ, pos, negsuc}
-use lib.ListN.{drop}
 use lib.Signed.{_≤ℤ_}
-use Rattle.knapsack.specs.declared.Bound.the-variants.{Absent}
+use Rattle.knapsack.specs.declared.Bound.{Bound}
+use Rattle.knapsack.specs.declared.Bound.the-variants.{Absent, At}
 use Rattle.knapsack.specs.declared.Item.{Item}
 use Rattle.model.specs.declared.Side.{Side}
 use Rattle.model.specs.declared.Side.the-variants.{Lower, Upper}
@@ -21,19 +21,19 @@ use Rattle.text.specs.Decimal.{integer}
 use Rattle.lines.specs.declared.number.Ranged.the-variants.{In, Out}
 use Rattle.lines.specs.declared.number.Field.{Field}
 use Rattle.lines.specs.declared.number.Field.the-variants.{Fault, Number}
-use Rattle.lines.specs.declared.TwoNumbers.the-variants.{Both}
 use Rattle.lines.specs.declared.ItemRead.{ItemRead}
 use Rattle.lines.specs.declared.ItemRead.the-variants.{Fault as ItemFault, Read as ItemIs}
+use Rattle.lines.specs.declared.BoundField.the-variants.{In as Bounded}
 use Rattle.lines.specs.declared.BoundRead.{BoundRead}
 use Rattle.lines.specs.declared.BoundRead.the-variants.{Fault as BoundFault, Read as BoundIs}
-use Rattle.lines.specs.Numbers.{fromTo, fieldAt}
-use Rattle.lines.specs.Lines.{numbersLine, prices, itemRead, boundRead}
-use Rattle.lines.specs.Layout.{itemText, Bounding, boundText}
-use Rattle.lines.proofs.Shapes.{field-range, numbers-parts, item-parts, bound-parts}
+use Rattle.lines.specs.Numbers.{fieldAt}
+use Rattle.lines.specs.Lines.{prices, itemRead, boundField, boundRead}
+use Rattle.lines.specs.Layout.{itemText, Bounding, bounding, boundText}
+use Rattle.lines.proofs.Shapes.{field-range, numbers-parts, item-parts, bound-shape, bound-parts}
 use Rattle.lines.proofs.Standing.{Has, field-has, item-has, bound-has}
 use Rattle.lines.proofs.Rereading.{ranged-within, field-reads, bareOf, item-reads, bound-reads}
 use Rattle.sheet.specs.declared.Progress.{Progress}
-use Rattle.sheet.specs.Sections.{Gives, fault, gives}
+use Rattle.sheet.specs.Sections.{fault, gives}
 use Rattle.sheet.specs.Reading.{limits, limitGives, limitForm, itemGives, itemForm, boundGives, boundForm}
 use Rattle.sheet.specs.Printing.{sideOf}
 use Rattle.sheet.proofs.Sections.{Laws}
@@ -125,35 +125,30 @@ item-laws = record {
 
 -- ---- bounds
 
--- an item number of the record, above those before it, and a bound in range
+-- the item number that is due, and a bound in range
 pub record BoundFits (p : Progress) (b : Bounding) : Type 0 where
-  pub least : 1 ≤ b .number
-  pub most : b .number ≤ p .model .count
-  pub rises : p .item < b .number
-  pub fair : outside 10000 (b .bound) ≡ false
+  pub due : b .number ≡ suc (p .item)
+  pub fair : badBound (b .bound) ≡ false
+
+bound-fair : (s : List ℕ) (at : ℕ) (b : Bound) (n : ℕ) → boundField s at ≡ Bounded b n → badBound b ≡ false
+bound-fair s at Absent n h = refl
+bound-fair s at (At v) n h = let r = field-range 10 prices s at v n (bound-shape s at (At v) n h) in within-range 9999 v (r .0) (r .1)
 
 pub bound-laws : (side : Side) → Laws (boundForm side) BoundFits
 bound-laws side = record {
-  has = λ s p b n h. has s p b n (boundRead (p .model .count) (p .item) s (p .at)) refl h;
+  has = λ s p b n h. has s p b n (boundRead (suc (p .item)) s (p .at)) refl h;
   reads = λ s p b l f h.
-      let r = bound-reads (p .model .count) (p .item) s (p .at) b l (f .least) (f .most) (f .rises) (f .fair) h in
-      (r .0, ap boundGives (r .1), r .2);
+      let r = bound-reads s (p .at) b l (f .fair) h in
+      let e = ap (λ k. boundRead k s (p .at)) (sym (f .due)) ∙ r .1 in
+      (r .0, ap (boundGives (suc (p .item))) e ∙ ap (λ k. gives (bounding k (b .bound)) (r .0)) (sym (f .due)), r .2);
 }
   where
-    has : (s : List ℕ) (p : Progress) (b : Bounding) (n : ℕ) (x : BoundRead) → boundRead (p .model .count) (p .item) s (p .at) ≡ x →
-        boundGives x ≡ gives b n → BoundFits p b × Has s (p .at) (boundText b) n
+    has : (s : List ℕ) (p : Progress) (b : Bounding) (n : ℕ) (x : BoundRead) → boundRead (suc (p .item)) s (p .at) ≡ x →
+        boundGives (suc (p .item)) x ≡ gives b n → BoundFits p b × Has s (p .at) (boundText b) n
     has s p b n (BoundFault k) e h = no-value h
-    has s p b n (BoundIs j v k) e h =
-        let u : record { number = j; bound = v } ≡ b = cc in
+    has s p b n (BoundIs c k) e h =
+        let u : bounding (suc (p .item)) c ≡ b = cc in
         let w : k ≡ n = cc in
-        let count = p .model .count in
-        let q = bound-parts count (p .item) s (p .at) j v k e in
-        let y = numbers-parts (fromTo 1 count) prices s (p .at) (In (pos j)) (In v) k (q .pair) in
-        let r = field-range 10 prices s (y .next) v k (y .second) in
-        let f : BoundFits p (record { number = j; bound = v }) = record {
-          least = q .least;
-          most = q .most;
-          rises = q .rises;
-          fair = within-range 9999 v (r .0) (r .1);
-        } in
-        rw (← u, ← w) (f, bound-has count (p .item) s (p .at) j v k e)
+        let q = bound-parts (suc (p .item)) s (p .at) c k e in
+        let f : BoundFits p (bounding (suc (p .item)) c) = record { due = refl; fair = bound-fair s (q .next) c k (q .bound) } in
+        rw (← u, ← w) (f, bound-has (suc (p .item)) s (p .at) c k e)

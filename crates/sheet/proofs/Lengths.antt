@@ -5,7 +5,7 @@ use mathlib.Core.List.{List, [], _∷_, _++_}
 use Prim.Native.Nat.{ℕ, zero, suc, _+_, _*_, _≤_, _<_}
 use native.Mathlib.Omega.{arith}
 use borrow.Author.Tests.{ltb-false}
-use lib.IntN.{ℤ, pos, natAbs}
+use lib.IntN.{ℤ, natAbs}
 use lib.ListN.{length, length-append}
 use Rattle.arith.specs.Sum.{Each}
 use Rattle.knapsack.specs.declared.Bound.{Bound}
@@ -18,12 +18,12 @@ use Rattle.model.specs.Records.{itemAt, outside, badBound, badFigure}
 use Rattle.model.proofs.Records.{Unfaulted}
 use Rattle.text.specs.Decimal.{integer}
 use Rattle.text.proofs.Decimals.{decimal-length, integer-length}
-use Rattle.lines.specs.Layout.{headingText, numbersText, itemText, Bounding, boundText}
+use Rattle.lines.specs.Layout.{headingText, itemText, boundWord, Bounding, boundText}
 use Rattle.sheet.specs.Sections.{LineForm, linesText, sectionText}
 use Rattle.sheet.specs.Reading.{limit, items, wordOf, limitForm, itemForm, boundForm}
-use Rattle.sheet.specs.Printing.{upTo, boundAt, boundOnto, boundsUpTo, sideText, printing}
+use Rattle.sheet.specs.Printing.{upTo, boundAt, boundingAt, sideText, printing}
 use Rattle.sheet.proofs.Forms.{bare-of, fair-side}
-use Rattle.sheet.proofs.Making.{upto-length, bounds-few}
+use Rattle.sheet.proofs.Making.{upto-length}
 
 -- ---- lines
 
@@ -40,10 +40,14 @@ item-short i h =
     let c = number-short 10000 (i .price) (omega arith) (b .price) in
     simp length-append (omega arith)
 
-pub bound-short : (b : Bounding) → b .number ≤ 16 → outside 10000 (b .bound) ≡ false → length (boundText b) ≤ 22
+bound-word-short : (b : Bound) → badBound b ≡ false → length (boundWord b) ≤ 10
+bound-word-short Absent f = omega arith
+bound-word-short (At v) f = number-short 10000 v (omega arith) f
+
+pub bound-short : (b : Bounding) → b .number ≤ 16 → badBound (b .bound) ≡ false → length (boundText b) ≤ 22
 bound-short b h f =
     let n = decimal-length 8 (b .number) (omega arith) in
-    let v = number-short 10000 (b .bound) (omega arith) f in
+    let v = bound-word-short (b .bound) f in
     simp length-append (omega arith)
 
 -- ---- sections
@@ -68,20 +72,18 @@ unfolding upTo
 items-short zero f h = tt
 items-short (suc n) f h = (item-short (f n) (h n (omega arith)), items-short n f (λ k l. h k (omega arith)))
 
-bounds-short : (n : ℕ) (f : ℕ → Bound) → n ≤ 16 → Each n (λ k. badBound (f k) ≡ false) → Short boundText 22 (boundsUpTo n f)
-unfolding boundsUpTo
-bounds-short zero f l h = tt
-bounds-short (suc n) f l h = go (f n) (h n (omega arith)) (bounds-short n f (omega arith) (λ k l. h k (omega arith)))
-  where
-    go : (b : Bound) → badBound b ≡ false → Short boundText 22 (boundsUpTo n f) → Short boundText 22 (boundOnto (suc n) b (boundsUpTo n f))
-    go Absent e ih = ih
-    go (At v) e ih = (bound-short (record { number = suc n; bound = v }) l e, ih)
+bounds-short : (side : Side) (n : ℕ) (m : Model) → n ≤ 16 → Each n (λ k. badBound (boundAt side m k) ≡ false) →
+    Short boundText 22 (upTo n (boundingAt side m))
+unfolding upTo
+bounds-short side zero m l h = tt
+bounds-short side (suc n) m l h =
+    (bound-short (boundingAt side m n) l (h n (omega arith)), bounds-short side n m (omega arith) (λ k l. h k (omega arith)))
 
 side-short : (side : Side) (m : Model) → Unfaulted m → length (sideText side m) ≤ 368
 side-short side m r =
-    let few = bounds-few (m .count) (boundAt side m) in
-    let short = bounds-short (m .count) (boundAt side m) (r .most) (λ k l. fair-side side (itemAt m k) (r .figures k l)) in
-    let s = section-short (boundForm side) (wordOf side) 22 (boundsUpTo (m .count) (boundAt side m)) (five side) (omega (arith, r .most)) short in
+    let many = upto-length (m .count) (boundingAt side m) in
+    let short = bounds-short side (m .count) m (r .most) (λ k l. fair-side side (itemAt m k) (r .figures k l)) in
+    let s = section-short (boundForm side) (wordOf side) 22 (upTo (m .count) (boundingAt side m)) (five side) (omega (arith, r .most)) short in
     omega (arith, r .most)
   where
     five : (side : Side) → length (wordOf side) ≡ 5

@@ -8,7 +8,7 @@ use mathlib.Core.Path.{_≡_, refl, sym, ap, ap₂, _∙_}
 use mathlib.Core.Bool.{Bool, true, false, cond}
 use mathlib.Core.Logic.{_↔_}
 use mathlib.Core.List.{List, [], _∷_, _++_, append-nil}
-use Prim.Native.Nat.{ℕ, _≤_, _<_}
+use Prim.Native.Nat.{ℕ, suc, _≤_, _<_}
 use native.Mathlib.Omega.{arith}
 use native.Mathlib.Decide.{decLt}
 use borrow.Author.Tests.{le-ltb, ltb-false}
@@ -18,10 +18,8 @@ use lib.ListN.{length, drop, drop-of-length-le, length-drop}
 use lib.Seq.{ext-getD}
 use Rattle.arith.specs.Sum.{Each}
 use Rattle.knapsack.specs.Ranges.{blank}
-use Rattle.knapsack.specs.declared.Bound.{Bound}
 use Rattle.knapsack.specs.declared.Bound.the-variants.{Absent}
 use Rattle.knapsack.specs.declared.Item.{Item}
-use Rattle.knapsack.specs.declared.Verdict.{Verdict}
 use Rattle.knapsack.specs.declared.Verdict.the-variants.{Accepted, Refused}
 use Rattle.model.specs.Refusals as refusal
 use Rattle.model.specs.declared.Model.{Model}
@@ -31,20 +29,20 @@ use Rattle.model.specs.Records.{emptyModel, itemAt, outside, badFigure}
 use Rattle.model.specs.Setters.{withCapacity, withCount}
 use Rattle.model.proofs.Records.{Unfaulted, unfaulted, unrefused}
 use Rattle.lines.specs.Places.{refusalOn}
-use Rattle.lines.specs.Layout.{headingText, itemText, Bounding}
+use Rattle.lines.specs.Layout.{headingText, itemText, Bounding, bounding}
 use Rattle.lines.proofs.Standing.{Has, has-join, Bytes}
 use Rattle.lines.proofs.Rereading.{bareOf}
 use Rattle.sheet.specs.declared.Progress.{Progress}
 use Rattle.sheet.specs.declared.Reading.{Reading}
-use Rattle.sheet.specs.Sections.{goesOn, refusedAt, linesText, sectionText}
+use Rattle.sheet.specs.Sections.{goesOn, refusedAt, sectionText}
 use Rattle.sheet.specs.Reading.{limit, items, wordOf, limitForm, itemForm, boundForm, limitSection, itemsSection, boundsSection, endOfSheet}
 use Rattle.sheet.specs.Reading.{headOf, lowerOf, upperOf, wholeOf, readSheet}
-use Rattle.sheet.specs.Printing.{upTo, boundAt, boundsUpTo, sideText, printing, Tidy, SheetOf}
+use Rattle.sheet.specs.Printing.{upTo, boundAt, boundingAt, sideText, printing, Tidy, SheetOf}
 use Rattle.sheet.proofs.Sections.{no-refusal, went, section-before, SectionRead, section-read, Fitting, Back, section-back}
 use Rattle.sheet.proofs.Forms.{LimitFits, limit-laws, Bare, bare-same, bare-of, item-laws, BoundFits, bound-laws, fair-side}
-use Rattle.sheet.proofs.Making.{upto-length, upto-cong, upto-inj, texts-cong, bounds-cong, bounds-skip, bounds-inj, bounds-few}
+use Rattle.sheet.proofs.Making.{upto-length, upto-cong, upto-inj, texts-cong}
 use Rattle.sheet.proofs.Making.{limited, Limited, limit-next, blanks, ItemsIn, items-next, items-fit}
-use Rattle.sheet.proofs.Making.{Kept, kept-same, BoundsIn, bounds-next, bounds-fit}
+use Rattle.sheet.proofs.Making.{Kept, kept-same, BoundsIn, bounds-number, bounds-next, bounds-fit}
 use Rattle.sheet.proofs.Lengths.{printing-short}
 
 -- ---- the lines of a record
@@ -59,8 +57,8 @@ same-model m o a b c = let r : m ≡ record { items = m .items; count = m .count
 record Laid (m : Model) (b : ℤ) (vi : List Item) (vl vu : List Bounding) : Type 0 where
   limit : m .capacity ≡ b
   items : upTo (m .count) (λ k. bareOf (itemAt m k)) ≡ vi
-  lower : boundsUpTo (m .count) (boundAt Lower m) ≡ vl
-  upper : boundsUpTo (m .count) (boundAt Upper m) ≡ vu
+  lower : upTo (m .count) (boundingAt Lower m) ≡ vl
+  upper : upTo (m .count) (boundingAt Upper m) ≡ vu
   tidy : Tidy m
 
 -- the text of those lines
@@ -84,15 +82,15 @@ laid-once m o b vi vl vu x y =
     let n = sym (upto-length (m .count) (λ k. bareOf (itemAt m k))) ∙ ap length (x .items) in
     let c : o .count ≡ m .count = sym (upto-length (o .count) (λ k. bareOf (itemAt o k))) ∙ ap length (y .items) ∙ sym n in
     let i = upto-inj (m .count) _ _ (x .items ∙ sym (rw c at (y .items))) in
-    let l = bounds-inj (m .count) _ _ (x .lower ∙ sym (rw c at (y .lower))) in
-    let u = bounds-inj (m .count) _ _ (x .upper ∙ sym (rw c at (y .upper))) in
+    let l = upto-inj (m .count) _ _ (x .lower ∙ sym (rw c at (y .lower))) in
+    let u = upto-inj (m .count) _ _ (x .upper ∙ sym (rw c at (y .upper))) in
     let e = ext-getD blank (m .items) (o .items) (x .tidy .places ∙ sym (y .tidy .places)) (λ k h. go k c i l u (decLt k (m .count))) in
     same-model m o e (sym c) (x .limit ∙ sym (y .limit))
   where
     go : (k : ℕ) → o .count ≡ m .count → Each (m .count) (λ k. bareOf (itemAt m k) ≡ bareOf (itemAt o k)) →
-        Each (m .count) (λ k. boundAt Lower m k ≡ boundAt Lower o k) → Each (m .count) (λ k. boundAt Upper m k ≡ boundAt Upper o k) →
+        Each (m .count) (λ k. boundingAt Lower m k ≡ boundingAt Lower o k) → Each (m .count) (λ k. boundingAt Upper m k ≡ boundingAt Upper o k) →
         Dec (k < m .count) → itemAt m k ≡ itemAt o k
-    go k c i l u (yes h) = same-item (itemAt m k) (itemAt o k) (i k h) (l k h) (u k h)
+    go k c i l u (yes h) = same-item (itemAt m k) (itemAt o k) (i k h) (ap (λ (b : Bounding). b .bound) (l k h)) (ap (λ (b : Bounding). b .bound) (u k h))
     go k c i l u (no h) = x .tidy .unused k (omega arith) ∙ sym (y .tidy .unused k (omega arith))
 
 -- ---- the record that the sections made
@@ -115,15 +113,14 @@ items-start m b n at e few =
       capacity = ap (λ (q : Model). q .capacity) e;
     }
 
-bounds-start : (side : Side) (o : Model) (n at : ℕ) → o .count ≤ 16 → length (o .items) ≡ 16 → ((k : ℕ) → boundAt side o k ≡ Absent) →
-    BoundsIn side o n [] (goesOn o at 0)
-unfolding boundsUpTo
-bounds-start side o n at few size free = record {
+bounds-start : (side : Side) (o : Model) (n at : ℕ) → n ≡ o .count → o .count ≤ 16 → length (o .items) ≡ 16 →
+    ((k : ℕ) → boundAt side o k ≡ Absent) → BoundsIn side o n [] (goesOn o at 0)
+unfolding upTo
+bounds-start side o n at all few size free = record {
   listed = refl;
-  number = refl;
   rest = λ k l. free k;
   fair = λ k. rw (free k) refl;
-  within = omega arith;
+  all = all;
   few = few;
   places = size;
   count = refl;
@@ -148,10 +145,13 @@ no-bounds side b vs p i k = go side (decLt k (p .item))
 kept-bare : (side : Side) (i j : Item) → Kept side i j → bareOf j ≡ bareOf i
 kept-bare side i j k = rw (k .mark, k .weight, k .price)
 
--- the lines of all items are those up to the last that was listed
-bounds-end : (side : Side) (o : Model) (vs : List Bounding) (p : Progress) → BoundsIn side o (length vs) vs p →
-    boundsUpTo (o .count) (boundAt side (p .model)) ≡ vs
-bounds-end side o vs p g = bounds-skip (p .item) (o .count) (boundAt side (p .model)) (g .rest) (g .within) ∙ g .listed
+-- behind the last bound
+bounds-end : (side : Side) (o : Model) (vs : List Bounding) (p : Progress) → BoundsIn side o (length vs) vs p → p .item ≡ o .count
+bounds-end side o vs p g = bounds-number side o (length vs) vs p g ∙ g .all
+
+bounds-all : (side : Side) (o : Model) (vs : List Bounding) (p : Progress) → BoundsIn side o (length vs) vs p →
+    upTo (o .count) (boundingAt side (p .model)) ≡ vs
+bounds-all side o vs p g = ap (λ n. upTo n (boundingAt side (p .model))) (sym (bounds-end side o vs p g)) ∙ g .listed
 
 module _ (b : ℤ) (vi : List Item) (vl vu : List Bounding) (h l u : Progress) (i : ItemsIn b (length vi) vi h)
     (x : BoundsIn Lower (h .model) (length vl) vl l) (y : BoundsIn Upper (l .model) (length vu) vu u) where
@@ -170,20 +170,20 @@ module _ (b : ℤ) (vi : List Item) (vl vu : List Bounding) (h l u : Progress) (
   unused-item k c =
       same-item (itemAt (u .model) k) blank
       (bare-kept k ∙ ap bareOf (i .rest k (omega (arith, counted .0))))
-      (lower-kept k ∙ x .rest k (omega (arith, x .within, items-end b vi h i, counted .0)))
-      (y .rest k (omega (arith, y .within, counted .1)))
+      (lower-kept k ∙ x .rest k (omega (arith, bounds-end Lower (h .model) vl l x, items-end b vi h i, counted .0)))
+      (y .rest k (omega (arith, bounds-end Upper (l .model) vu u y, counted .1)))
 
   laid : Laid (u .model) b vi vl vu
   laid =
       let bare : ℕ → Item = λ k. bareOf (itemAt (u .model) k) in
       let n = counted .0 in
       let e = upto-cong (h .item) bare (itemAt (h .model)) (λ k c. bare-kept k ∙ bare-same (itemAt (h .model) k) (i .bare k c)) in
-      let f = bounds-cong (h .model .count) (boundAt Lower (u .model)) (boundAt Lower (l .model)) (λ k c. lower-kept k) in
+      let f = upto-cong (h .model .count) (boundingAt Lower (u .model)) (boundingAt Lower (l .model)) (λ k c. ap (bounding (suc k)) (lower-kept k)) in
       record {
         limit = y .capacity ∙ x .capacity ∙ i .capacity;
         items = ap (λ n. upTo n bare) n ∙ e ∙ i .listed;
-        lower = ap (λ n. boundsUpTo n (boundAt Lower (u .model))) (y .count ∙ x .count) ∙ f ∙ bounds-end Lower (h .model) vl l x;
-        upper = ap (λ n. boundsUpTo n (boundAt Upper (u .model))) (counted .1) ∙ bounds-end Upper (l .model) vu u y;
+        lower = ap (λ n. upTo n (boundingAt Lower (u .model))) (y .count ∙ x .count) ∙ f ∙ bounds-all Lower (h .model) vl l x;
+        upper = ap (λ n. upTo n (boundingAt Upper (u .model))) (counted .1) ∙ bounds-all Upper (l .model) vu u y;
         tidy = record { places = y .places; unused = unused-item };
       }
 
@@ -246,11 +246,12 @@ side-before s side p h = section-before (boundForm side) _ _ _ s p h
 
 side-read : (s : List ℕ) (side : Side) (p : Progress) → p .model .count ≤ 16 → length (p .model .items) ≡ 16 →
     ((k : ℕ) → boundAt side (p .model) k ≡ Absent) → boundsSection s side p .verdict ≡ Accepted →
-    SectionRead (boundForm side) (BoundsIn side (p .model)) (wordOf side) s 0 (p .model .count) (p .at) (boundsSection s side p)
+    SectionRead (boundForm side) (BoundsIn side (p .model)) (wordOf side) s (p .model .count) (p .model .count) (p .at) (boundsSection s side p)
 unfolding boundsSection
 side-read s side p few size free h =
-    section-read (boundForm side) BoundFits (bound-laws side) (BoundsIn side (p .model)) (bounds-next side (p .model)) (wordOf side) 0 (p .model .count) _
-    s p (word-bytes side) (λ n at x y. bounds-start side (p .model) n at few size free) h
+    let n = p .model .count in
+    section-read (boundForm side) BoundFits (bound-laws side) (BoundsIn side (p .model)) (bounds-next side (p .model)) (wordOf side) n n _
+    s p (word-bytes side) (λ m at x y. bounds-start side (p .model) m at (omega arith) few size free) h
 
 sections : (s : List ℕ) → upperOf s .verdict ≡ Accepted → Sections s
 unfolding upperOf lowerOf headOf limitSection itemsSection
@@ -326,10 +327,10 @@ module _ (m : Model) (r : Unfaulted m) (tidy : Tidy m) where
   vi = upTo (m .count) (λ k. bareOf (itemAt m k))
 
   vl : List Bounding
-  vl = boundsUpTo (m .count) (boundAt Lower m)
+  vl = upTo (m .count) (boundingAt Lower m)
 
   vu : List Bounding
-  vu = boundsUpTo (m .count) (boundAt Upper m)
+  vu = upTo (m .count) (boundingAt Upper m)
 
   own : Laid m (m .capacity) vi vl vu
   unfolding vi vl vu
@@ -380,19 +381,19 @@ module _ (m : Model) (r : Unfaulted m) (tidy : Tidy m) where
 
   -- a section of bounds, where none of its side have been read
   side-back : (side : Side) (l : List ℕ) (p : Progress) → p .verdict ≡ Accepted → p .model .count ≡ m .count → length (p .model .items) ≡ 16 →
-      ((k : ℕ) → boundAt side (p .model) k ≡ Absent) → let vs = boundsUpTo (m .count) (boundAt side m) in
+      ((k : ℕ) → boundAt side (p .model) k ≡ Absent) → let vs = upTo (m .count) (boundingAt side m) in
       drop (p .at) sheet ≡ sectionText (boundForm side) (wordOf side) vs ++ l →
       Back (BoundsIn side (p .model) (length vs)) sheet l vs (boundsSection sheet side p)
   unfolding boundsSection
   side-back side l p v c size free h =
-      let n = m .count in
-      let vs = boundsUpTo n (boundAt side m) in
-      let few = bounds-few n (boundAt side m) in
+      let n = p .model .count in
+      let vs = upTo (m .count) (boundingAt side m) in
+      let all : length vs ≡ n = upto-length (m .count) (boundingAt side m) ∙ sym c in
       let first : (at : ℕ) → BoundsIn side (p .model) (length vs) [] (goesOn (p .model) at 0)
-      = λ at. bounds-start side (p .model) (length vs) at (omega (arith, c, r .most)) size free in
-      let fits = bounds-fit side (p .model) (length vs) n (boundAt side m) (omega (arith, c)) (λ k j. fair-side side (itemAt m k) (r .figures k j)) in
-      section-back (boundForm side) BoundFits (bound-laws side) (BoundsIn side (p .model)) (bounds-next side (p .model)) (wordOf side) 0 (p .model .count) _
-      sheet l p vs (omega arith) (omega (arith, c, few)) first fits v h
+      = λ at. bounds-start side (p .model) (length vs) at all (omega (arith, c, r .most)) size free in
+      let fits = bounds-fit side (p .model) (length vs) (m .count) m (λ k j. fair-side side (itemAt m k) (r .figures k j)) in
+      section-back (boundForm side) BoundFits (bound-laws side) (BoundsIn side (p .model)) (bounds-next side (p .model)) (wordOf side) n n _
+      sheet l p vs (omega (arith, all)) (omega (arith, all)) first fits v h
 
   lower-back : Back (BoundsIn Lower bare (length vl)) sheet upper-left vl (lowerOf sheet)
   unfolding lowerOf bare vl lower-left

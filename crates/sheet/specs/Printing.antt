@@ -1,10 +1,10 @@
--- The sheet that paper 01 lays out for a record ("The sheet"): a sheet is accepted exactly if it is the printing of its record (proofs/Sheets.antt).
+-- The sheet that the papers lay out for a record (01, "The sheet"; 02, request 6): a sheet is accepted exactly if it is the printing of its record
+-- (proofs/Sheets.antt).
 -- Its lines are the forms' (specs/Reading.antt), so a reader and a writer share it. Lists of lines have the last in front, as a loop leaves them.
 --   upTo n f            f of the places below n
 --   sideOf side i       an item's bound
 --   boundAt side m k    the bound of the item at a place
---   boundOnto k b bs    bs, and in front item k with its bound, if that is present
---   boundsUpTo n f      the present bounds of the places below n
+--   boundingAt side m k    that bound with its item's number
 --   sideText side m     the section `lower` or `upper`
 --   printing m          the sheet
 --   Tidy m              16 places, and the ones beyond the count are blank, as the reader leaves them
@@ -15,14 +15,13 @@ use Prim.Native.Nat.{ℕ, zero, suc, _≤_}
 use lib.ListN.{length}
 use Rattle.knapsack.specs.Ranges.{blank}
 use Rattle.knapsack.specs.declared.Bound.{Bound}
-use Rattle.knapsack.specs.declared.Bound.the-variants.{Absent, At}
 use Rattle.knapsack.specs.declared.Item.{Item}
 use Rattle.knapsack.specs.declared.Verdict.the-variants.{Accepted}
 use Rattle.model.specs.declared.Model.{Model}
 use Rattle.model.specs.declared.Side.{Side}
 use Rattle.model.specs.declared.Side.the-variants.{Lower, Upper}
 use Rattle.model.specs.Records.{itemAt, verdict}
-use Rattle.lines.specs.Layout.{Bounding}
+use Rattle.lines.specs.Layout.{Bounding, bounding}
 use Rattle.sheet.specs.Sections.{sectionText}
 use Rattle.sheet.specs.Reading.{limit, items, wordOf, limitForm, itemForm, boundForm}
 
@@ -37,16 +36,11 @@ sideOf Upper i = i .upper
 abbrev pub boundAt : Side → Model → ℕ → Bound
 boundAt side m k = sideOf side (itemAt m k)
 
-abbrev pub boundOnto : ℕ → Bound → List Bounding → List Bounding
-boundOnto k Absent bs = bs
-boundOnto k (At v) bs = record { number = k; bound = v } ∷ bs
-
-unfoldable pub boundsUpTo : ℕ → (ℕ → Bound) → List Bounding
-boundsUpTo zero f = []
-boundsUpTo (suc n) f = boundOnto (suc n) (f n) (boundsUpTo n f)
+abbrev pub boundingAt : Side → Model → ℕ → Bounding
+boundingAt side m k = bounding (suc k) (boundAt side m k)
 
 abbrev pub sideText : Side → Model → List ℕ
-sideText side m = sectionText (boundForm side) (wordOf side) (boundsUpTo (m .count) (boundAt side m))
+sideText side m = sectionText (boundForm side) (wordOf side) (upTo (m .count) (boundingAt side m))
 
 unfoldable pub printing : Model → List ℕ
 printing m =

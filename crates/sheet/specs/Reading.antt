@@ -1,4 +1,4 @@
--- The reader. Paper 01, "The sheet" and "Refused, by place": the sheet's first fault in reading order, or its record.
+-- The reader. Paper 01, "The sheet" and "Refused, by place", and paper 02, requests 3 and 6: the sheet's first fault in reading order, or its record.
 --   limit, items, wordOf side    the heading words
 --   limits                       the range of the limit
 --   limitForm, itemForm, boundForm side    the kinds of line, which give what limitGives, itemGives, boundGives say
@@ -9,7 +9,7 @@
 --   readSheet s          what a sheet gives
 use mathlib.Core.Bool.{cond}
 use mathlib.Core.List.{List, [], _∷_}
-use Prim.Native.Nat.{ℕ, suc, _-_}
+use Prim.Native.Nat.{ℕ, suc}
 use lib.Dec.{ltb}
 use lib.IntN.{ℤ, pos, negsuc}
 use lib.ListN.{length}
@@ -31,9 +31,9 @@ use Rattle.lines.specs.declared.ItemRead.the-variants.{Fault as ItemFault, Read
 use Rattle.lines.specs.declared.BoundRead.{BoundRead}
 use Rattle.lines.specs.declared.BoundRead.the-variants.{Fault as BoundFault, Read as BoundIs}
 use Rattle.lines.specs.Places.{refusalOn}
-use Rattle.lines.specs.Numbers.{fromTo, fieldAt}
+use Rattle.lines.specs.Numbers.{fromTo, only, fieldAt}
 use Rattle.lines.specs.Lines.{itemRead, boundRead}
-use Rattle.lines.specs.Layout.{itemText, Bounding, boundText}
+use Rattle.lines.specs.Layout.{itemText, Bounding, bounding, boundText}
 use Rattle.sheet.specs.declared.Progress.{Progress}
 use Rattle.sheet.specs.declared.Reading.{Reading}
 use Rattle.sheet.specs.Sections.{goesOn, refusedAt, onward, Gives, fault, gives, LineForm, sectionOf}
@@ -84,21 +84,21 @@ itemForm = record {
 unfoldable pub itemsSection : List ℕ → Progress → Progress
 itemsSection s p = sectionOf itemForm items (fromTo 1 16) (λ n. withCount (p .model) n) s p
 
--- ---- lower m and upper m, and m lines
-abbrev pub boundGives : BoundRead → Gives Bounding
-boundGives (BoundFault n) = fault n
-boundGives (BoundIs k v n) = gives (record { number = k; bound = v }) n
+-- ---- lower n and upper n, and n lines, for the items in order
+abbrev pub boundGives : ℕ → BoundRead → Gives Bounding
+boundGives k (BoundFault n) = fault n
+boundGives k (BoundIs b n) = gives (bounding k b) n
 
 abbrev pub boundForm : Side → LineForm Bounding
 boundForm side = record {
-  read = λ s p. boundGives (boundRead (p .model .count) (p .item) s (p .at));
+  read = λ s p. boundGives (suc (p .item)) (boundRead (suc (p .item)) s (p .at));
   text = boundText;
-  fill = λ p b. withBound (p .model) side (b .number - 1) (b .bound);
-  item = λ p b. b .number;
+  fill = λ p b. withBound (p .model) side (p .item) (b .bound);
+  item = λ p b. suc (p .item);
 }
 
 unfoldable pub boundsSection : List ℕ → Side → Progress → Progress
-boundsSection s side p = sectionOf (boundForm side) (wordOf side) (fromTo 0 (p .model .count)) (λ n. p .model) s p
+boundsSection s side p = sectionOf (boundForm side) (wordOf side) (only (p .model .count)) (λ n. p .model) s p
 
 -- ---- behind the last section
 unfoldable pub endOfSheet : List ℕ → Progress → Progress

@@ -1,6 +1,7 @@
 // The sheet of paper 01: the reader ("The sheet", "Refused, by place"), and the part of a sheet that holds a line.
 // read gives every sheet its record or its numbered refusal; line_part and check_line give a line for the display.
 // A line is read in two steps, its form and then its values (crate lines); a section is a heading and a loop over its lines (specs/Sections).
+use knapsack::Bound;
 use knapsack::Item;
 use knapsack::Refusal;
 use knapsack::Verdict;
@@ -18,10 +19,10 @@ use model::Side;
 use model::refusals;
 use model::setters;
 ghost use mathlib.Core.Path.{_≡_};
-ghost use Prim.Native.Nat.{suc, _+_, _-_, _≤_, _<_};
+ghost use Prim.Native.Nat.{suc, _+_, _≤_, _<_};
 ghost use Rattle.model.specs.Records.{emptyModel};
 ghost use Rattle.model.specs.Setters.{withItem, withBound};
-ghost use Rattle.lines.specs.Numbers.{fromTo};
+ghost use Rattle.lines.specs.Numbers.{only};
 ghost use Rattle.lines.specs.Lines.{countAt};
 ghost use Rattle.sheet.specs.Sections.{goesOn, stoppedBy, refusedAt, stepOf, linesOf};
 ghost use Rattle.sheet.specs.Reading.{wordOf, limitForm, itemForm, boundForm, limitSection, itemsSection, boundsSection, endOfSheet};
@@ -170,20 +171,21 @@ fn items_section(s: &[u8], p: Progress) -> Progress
     }
 }
 
-// ---- lower m and upper m, and m lines
+// ---- lower n and upper n, and n lines
 
-// A bound of item k.
-fn bound_taken(p: Progress, side: Side, k: usize, v: i64, next: usize) -> Progress
-    requires { ⌜ (1 ≤ k) × (k ≤ 16) ⌝ }
-    ensures { λ r. ⌜ r ≡ goesOn (withBound (p .model) side (k - 1) v) next k ⌝ }
+// The next item's bound.
+fn bound_taken(p: Progress, side: Side, b: Bound, next: usize) -> Progress
+    requires { ⌜ p .item < 16 ⌝ }
+    ensures { λ r. ⌜ r ≡ goesOn (withBound (p .model) side (p .item) b) next (suc (p .item)) ⌝ }
 {
     let m = p.model;
-    goes_on(setters::with_bound(m, side, k - 1, v), next, k)
+    let k = p.item;
+    goes_on(setters::with_bound(m, side, k, b), next, k + 1)
 }
 
 // One line of a bound.
 fn bound_step(s: &[u8], side: Side, p: Progress) -> Progress
-    requires { ⌜ p .model .count ≤ 16 ⌝ }
+    requires { ⌜ p .item < 16 ⌝ }
     ensures { λ r. ⌜ r ≡ stepOf (boundForm side) (now (s .entry)) p ⌝ }
 {
     let verdict = p.verdict;
@@ -191,18 +193,18 @@ fn bound_step(s: &[u8], side: Side, p: Progress) -> Progress
         Verdict::Refused(_) => p,
         Verdict::Accepted => {
             let at = p.at;
-            let q = p.model;
-            let r = lines::bound_at(s, at, q.count, p.item);
+            let k = p.item;
+            let r = lines::bound_at(s, at, k + 1);
             match r {
                 BoundRead::Fault(n) => refused(s, n, at),
-                BoundRead::Read(k, v, next) => bound_taken(p, side, k, v, next),
+                BoundRead::Read(b, next) => bound_taken(p, side, b, next),
             }
         }
     }
 }
 
 fn bound_lines(s: &[u8], side: Side, n: usize, p: Progress) -> Progress
-    requires { ⌜ p .model .count ≤ 16 ⌝ }
+    requires { ⌜ p .item + n ≤ 16 ⌝ }
     ensures { λ r. ⌜ r ≡ linesOf (boundForm side) n (now (s .entry)) p ⌝ }
 {
     let mut r = p;
@@ -217,12 +219,10 @@ fn bound_lines(s: &[u8], side: Side, n: usize, p: Progress) -> Progress
 // The heading of a section of bounds, over n items.
 fn bounds_heading(s: &[u8], side: Side, at: usize, n: usize) -> Count
     requires { ⌜ n ≤ 16 ⌝ }
-    ensures { λ r. ⌜ r ≡ countAt (wordOf side) (fromTo 0 n) (now (s .entry)) at ⌝ }
+    ensures { λ r. ⌜ r ≡ countAt (wordOf side) (only n) (now (s .entry)) at ⌝ }
 {
-    let range = Range {
-        lo: 0,
-        hi: n as i64,
-    };
+    let due = n as i64;
+    let range = Range { lo: due, hi: due };
     match side {
         Side::Lower => lines::heading(s, at, b"lower", range),
         Side::Upper => lines::heading(s, at, b"upper", range),

@@ -7,7 +7,7 @@
 -- agree-text: records that agree have one sheet. agree-accepted: and are accepted together. tidied-agrees: so does the reader's record.
 use mathlib.Core.Path.{_≡_, refl, sym, ap, ap₂, _∙_}
 use mathlib.Core.List.{List, [], _∷_, _++_}
-use Prim.Native.Nat.{ℕ, _+_, _-_, _≤_, _<_}
+use Prim.Native.Nat.{ℕ, suc, _+_, _-_, _≤_, _<_}
 use native.Mathlib.Omega.{arith}
 use native.Mathlib.Decide.{decLt}
 use lib.ListN.{length, take, getD, replicate, length-append, length-replicate, getD-replicate, List·getD-append, List·getD-eq-default}
@@ -19,10 +19,11 @@ use Rattle.model.specs.declared.Side.{Side}
 use Rattle.model.specs.declared.Side.the-variants.{Lower, Upper}
 use Rattle.model.specs.Records.{itemAt, verdict}
 use Rattle.model.proofs.Records.{unfaulted, unrefused}
+use Rattle.lines.specs.Layout.{bounding}
 use Rattle.sheet.specs.Sections.{sectionText}
 use Rattle.sheet.specs.Reading.{limit, items, wordOf, limitForm, itemForm, boundForm, readSheet}
-use Rattle.sheet.specs.Printing.{upTo, sideOf, boundAt, boundsUpTo, sideText, printing, Tidy, SheetOf}
-use Rattle.sheet.proofs.Making.{upto-cong, bounds-cong}
+use Rattle.sheet.specs.Printing.{upTo, sideOf, boundingAt, sideText, printing, Tidy, SheetOf}
+use Rattle.sheet.proofs.Making.{upto-cong}
 use Rattle.sheet.proofs.Sheets.{accepted-sheet, sheet-accepted, sheet-unique}
 use Rattle.writer.specs.Writing.{Agree, tidied}
 
@@ -30,8 +31,8 @@ use Rattle.writer.specs.Writing.{Agree, tidied}
 
 agree-side : (side : Side) (m o : Model) → Agree m o → sideText side m ≡ sideText side o
 agree-side side m o a =
-    let e = bounds-cong (m .count) (boundAt side m) (boundAt side o) (λ k l. ap (sideOf side) (a .items k l)) in
-    ap (sectionText (boundForm side) (wordOf side)) (e ∙ ap (λ n. boundsUpTo n (boundAt side o)) (a .count))
+    let e = upto-cong (m .count) (boundingAt side m) (boundingAt side o) (λ k l. ap (λ i. bounding (suc k) (sideOf side i)) (a .items k l)) in
+    ap (sectionText (boundForm side) (wordOf side)) (e ∙ ap (λ n. upTo n (boundingAt side o)) (a .count))
 
 pub agree-text : (m o : Model) → Agree m o → printing m ≡ printing o
 unfolding printing

@@ -23,12 +23,13 @@ ghost use Prim.Native.Nat.{_+_, _≤_, _<_};
 ghost use lib.ListN.{length};
 ghost use Rattle.knapsack.specs.declared.Verdict.the-variants.{Accepted};
 ghost use Rattle.model.specs.Records.{itemAt, badBound, badFigure, verdict};
+ghost use Rattle.text.specs.Layout.{field};
 ghost use Rattle.text.specs.Buffer.{Put, Shows, told, filled, noted};
-ghost use Rattle.lines.specs.Layout.{headingText, markByte, itemText, boundText};
+ghost use Rattle.lines.specs.Layout.{headingText, markByte, itemText, boundWord, bounding, boundText};
 ghost use Rattle.sheet.specs.Sections.{linesText, sectionText};
 ghost use Rattle.sheet.specs.Reading.{limit, items, wordOf, limitForm, itemForm, readSheet};
-ghost use Rattle.sheet.specs.Printing.{upTo, sideOf, boundAt, boundsUpTo, sideText, printing};
-ghost use Rattle.writer.specs.Writing.{boundLine, counted, onAccepted};
+ghost use Rattle.sheet.specs.Printing.{upTo, sideOf, boundingAt, sideText, printing};
+ghost use Rattle.writer.specs.Writing.{onAccepted};
 
 // ---- lines
 
@@ -63,18 +64,26 @@ fn put_item(out: &mut [u8], at: usize, i: Item) -> usize
     put_integer(out, price, c, b'\n')
 }
 
-// An absent bound has no line.
-fn put_bound(out: &mut [u8], at: usize, k: usize, b: Bound) -> usize
-    requires { ⌜ (at + 43 ≤ length (now out)) × ((k ≤ 16) × (badBound b ≡ false)) ⌝ }
-    ensures { λ r. ⌜ Put 22 at (boundLine k b) (now (out .entry)) (now (out .exit)) r ⌝ }
+// A bound and the line's end.
+fn put_bound_word(out: &mut [u8], at: usize, b: Bound) -> usize
+    requires { ⌜ at + 22 ≤ length (now out) ⌝ }
+    ensures { λ r. ⌜ Put 22 at (field (boundWord b) 10) (now (out .entry)) (now (out .exit)) r ⌝ }
 {
     match b {
-        Bound::Absent => at,
-        Bound::At(v) => {
-            let bound = put_natural(out, at, k as u64, b' ');
-            put_integer(out, bound, v, b'\n')
+        Bound::Absent => {
+            let end = put_word(out, at, b"none");
+            put_byte(out, end, b'\n')
         }
+        Bound::At(v) => put_integer(out, at, v, b'\n'),
     }
+}
+
+fn put_bound(out: &mut [u8], at: usize, k: usize, b: Bound) -> usize
+    requires { ⌜ (at + 43 ≤ length (now out)) × ((k ≤ 16) × (badBound b ≡ false)) ⌝ }
+    ensures { λ r. ⌜ Put 22 at (boundText (bounding k b)) (now (out .entry)) (now (out .exit)) r ⌝ }
+{
+    let bound = put_natural(out, at, k as u64, b' ');
+    put_bound_word(out, bound, b)
 }
 
 // ---- sections
@@ -120,32 +129,6 @@ fn bound_of(i: Item, side: Side) -> Bound
     }
 }
 
-// n, and one more for a bound that is present.
-fn count_bound(b: Bound, n: usize) -> usize
-    requires { ⌜ n < 16 ⌝ }
-    ensures { λ r. ⌜ r ≡ counted b n ⌝ }
-{
-    match b {
-        Bound::Absent => n,
-        Bound::At(_) => n + 1,
-    }
-}
-
-fn count_bounds(side: Side, m: Model) -> usize
-    requires { ⌜ verdict m ≡ Accepted ⌝ }
-    ensures { λ r. ⌜ r ≡ length (boundsUpTo (m .count) (boundAt side m)) ⌝ }
-{
-    let n = m.count;
-    let mut lines: usize = 0;
-    let mut k: usize = 0;
-    while k < n {
-        let i = m.items[k];
-        lines = count_bound(bound_of(i, side), lines);
-        k += 1;
-    }
-    lines
-}
-
 fn put_side_heading(out: &mut [u8], at: usize, side: Side, n: usize) -> usize
     requires { ⌜ at + 27 ≤ length (now out) ⌝ }
     ensures { λ r. ⌜ Put 27 at (headingText (wordOf side) n) (now (out .entry)) (now (out .exit)) r ⌝ }
@@ -158,7 +141,7 @@ fn put_side_heading(out: &mut [u8], at: usize, side: Side, n: usize) -> usize
 
 fn put_bound_lines(out: &mut [u8], at: usize, side: Side, m: Model) -> usize
     requires { ⌜ (at + 373 ≤ length (now out)) × (verdict m ≡ Accepted) ⌝ }
-    ensures { λ r. ⌜ Put 352 at (linesText boundText (boundsUpTo (m .count) (boundAt side m))) (now (out .entry)) (now (out .exit)) r ⌝ }
+    ensures { λ r. ⌜ Put 352 at (linesText boundText (upTo (m .count) (boundingAt side m))) (now (out .entry)) (now (out .exit)) r ⌝ }
 {
     let n = m.count;
     let mut next = at;
@@ -175,7 +158,7 @@ fn put_side(out: &mut [u8], at: usize, side: Side, m: Model) -> usize
     requires { ⌜ (at + 400 ≤ length (now out)) × (verdict m ≡ Accepted) ⌝ }
     ensures { λ r. ⌜ Put 379 at (sideText side m) (now (out .entry)) (now (out .exit)) r ⌝ }
 {
-    let n = count_bounds(side, m);
+    let n = m.count;
     let next = put_side_heading(out, at, side, n);
     put_bound_lines(out, next, side, m)
 }

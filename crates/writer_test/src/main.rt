@@ -284,7 +284,7 @@ fn show_chosen() {
     let x = make::held(-1000, -10000, -10000, -10000);
     show(b"longest", make::record_of(-100000000, 16, all_places(x)));
     let free = make::free(0, 0);
-    show(b"shortest", make::record_of(0, 1, all_places(free)));
+    show(b"no bounds", make::record_of(0, 1, all_places(free)));
     show(b"refused, count 0", make::record_of(0, 0, all_places(x)));
     show(b"refused, count 17", make::record_of(0, 17, all_places(x)));
     show(

@@ -1,15 +1,15 @@
 use mathlib.Core.Path.{_≡_, refl, ap, _∙_}
-use Prim.Native.Nat.{suc, _≤_, _-_}
+use Prim.Native.Nat.{_≤_, _-_, _+_}
 use native.Mathlib.Numerals.{add-one}
 use native.Mathlib.Omega.{arith}
 use Rattle.sheet.specs.Sections.{stepOf, linesOf}
 use Rattle.sheet.specs.Reading.{boundForm}
-use Rattle.sheet.proofs.Steps.{Few, bound-few}
+use Rattle.sheet.proofs.Steps.{step-item}
 use Rattle.sheet.proofs.bound_lines.Statement.{statement}
 use Rattle.sheet.proofs.bound_lines.Tie as tie
 
 abbrev Inv-loop : tie.InvT-loop
-Inv-loop s side n r₀ k₀ r k = (k ≤ n) × (Few r × (r ≡ linesOf (boundForm side) k s r₀))
+Inv-loop s side n r₀ k₀ r k = (k ≤ n) × ((r .item ≤ r₀ .item + k) × (r ≡ linesOf (boundForm side) k s r₀))
 
 abbrev μ-loop : tie.MeasureT-loop
 μ-loop s side n r₀ k₀ r k = n - k
@@ -33,10 +33,9 @@ loop-again c =
     let l = c .before .before in
     let a = l .before .before .args in
     let s = a .s .now in
-    let e = c .bound-step .ensures in (
-      omega arith,
-      (rw e (bound-few s (a .side) (l .loop .r) (l .loop .inv .1 .0)), rw add-one (e ∙ ap (stepOf (boundForm (a .side)) s) (l .loop .inv .1 .1))),
-    )
+    let f = boundForm (a .side) in
+    let e = c .bound-step .ensures in
+    (omega arith, (rw e (omega (arith, step-item f s (l .loop .r) (λ b. refl))), rw add-one (e ∙ ap (stepOf f s) (l .loop .inv .1 .1))))
 
 returns : tie.Need-returns Inv-loop μ-loop
 returns c =

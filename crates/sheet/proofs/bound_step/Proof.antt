@@ -1,7 +1,5 @@
 use mathlib.Core.Path.{sym, _∙_}
-use native.Mathlib.Omega.{arith}
-use Rattle.arith.proofs.Words.{back}
-use Rattle.lines.proofs.Shapes.{bound-parts}
+use native.Mathlib.Numerals.{add-one}
 use Rattle.sheet.specs.Sections.{stepOf}
 use borrow.Author.Needs.{needs}
 use Rattle.sheet.proofs.bound_step.Statement.{statement}
@@ -12,6 +10,9 @@ enum-told c = search needs
 
 enum-told-2 : tie.Need-enum-told-2
 enum-told-2 c = search needs
+
+add-bound-at : tie.Need-add-bound-at
+add-bound-at c = search needs
 
 bound-at-requires : tie.Need-bound-at-requires
 bound-at-requires c κs = search needs
@@ -26,8 +27,7 @@ enum-known-r-2 : tie.Need-enum-known-r-2
 enum-known-r-2 c = search needs
 
 bound-taken-requires : tie.Need-bound-taken-requires
-bound-taken-requires c κs =
-    let k = c .before .before .before in let p = bound-parts _ _ _ _ _ _ _ (sym (k .bound-at .ensures) ∙ c .before .r2 .given .1) in omega arith
+bound-taken-requires c κs = search needs
 
 returns : tie.Need-returns
 unfolding stepOf
@@ -38,15 +38,14 @@ unfolding stepOf
 returns-2 c =
     let k = c .before .before in
     let l = k .before .before in
-    rw (l .before .before .enum-told2 .given .1, sym (l .bound-at .ensures) ∙ k .r .given .1) (c .refused .ensures)
+    rw (l .before .enum-told2 .given .1, sym (rw add-one at (l .bound-at .ensures)) ∙ k .r .given .1) (c .refused .ensures)
 
 returns-3 : tie.Need-returns-3
 unfolding stepOf
 returns-3 c =
     let k = c .before .before in
     let l = k .before .before in
-    rw (l .before .before .enum-told2 .given .1, sym (l .bound-at .ensures) ∙ k .r2 .given .1)
-    (rw (back (k .r2 .given .0 .1 .0) (c .before .known-told2 .given .1 .0 .1)) at (c .bound-taken .ensures))
+    rw (l .before .enum-told2 .given .1, sym (rw add-one at (l .bound-at .ensures)) ∙ k .r2 .given .1) (c .bound-taken .ensures)
 
 pub bound-step-spec : {M : Type 1} → statement M
 bound-step-spec =
@@ -54,6 +53,7 @@ bound-step-spec =
     (tie.spec
     enum-told
     enum-told-2
+    add-bound-at
     bound-at-requires
     enum-known-r
     refused-requires

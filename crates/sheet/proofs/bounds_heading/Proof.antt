@@ -6,8 +6,8 @@ use borrow.Author.Needs.{needs}
 use Rattle.sheet.proofs.bounds_heading.Statement.{statement}
 use Rattle.sheet.proofs.bounds_heading.Tie as tie
 
-cast-t8 : tie.Need-cast-t8
-cast-t8 c = search needs
+cast-due : tie.Need-cast-due
+cast-due c = search needs
 
 enum-told : tie.Need-enum-told
 enum-told c = search needs
@@ -43,7 +43,7 @@ pub bounds-heading-spec : {M : Type 1} → statement M
 bounds-heading-spec =
     tie.close
     (tie.spec
-    cast-t8
+    cast-due
     enum-told
     slice-aggregate-heading
     heading-requires

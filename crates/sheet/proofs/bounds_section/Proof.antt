@@ -1,5 +1,6 @@
 use mathlib.Core.Path.{sym, _∙_}
 use native.Mathlib.Omega.{arith}
+use Rattle.lines.proofs.Shapes.{count-parts}
 use Rattle.sheet.specs.Sections.{sectionOf}
 use Rattle.sheet.specs.Reading.{boundsSection}
 use borrow.Author.Needs.{needs}
@@ -28,7 +29,10 @@ goes-on-requires : tie.Need-goes-on-requires
 goes-on-requires c κs = search needs
 
 bound-lines-requires : tie.Need-bound-lines-requires
-bound-lines-requires c κs = rw (c .goes-on .ensures) (omega arith)
+bound-lines-requires c κs =
+    let k = c .before .before in
+    let p = count-parts _ _ _ _ _ _ _ (sym (k .before .before .bounds-heading .ensures) ∙ k .c2 .given .1) in
+    rw (c .goes-on .ensures) (omega (arith, p .most))
 
 returns : tie.Need-returns
 unfolding boundsSection sectionOf

@@ -1,5 +1,5 @@
 use mathlib.Core.Path.{_≡_, refl, ap, _∙_}
-use Prim.Native.Nat.{suc, _≤_, _-_, _+_}
+use Prim.Native.Nat.{_≤_, _-_, _+_}
 use native.Mathlib.Numerals.{add-one}
 use native.Mathlib.Omega.{arith}
 use Rattle.sheet.specs.Sections.{stepOf, linesOf}
@@ -33,7 +33,7 @@ loop-again c =
     let l = c .before .before in
     let s = l .before .before .args .s .now in
     let e = c .item-step .ensures in
-    (omega arith, (rw e (omega (arith, step-item s (l .loop .r))), rw add-one (e ∙ ap (stepOf itemForm s) (l .loop .inv .1 .1))))
+    (omega arith, (rw e (omega (arith, step-item itemForm s (l .loop .r) (λ i. refl))), rw add-one (e ∙ ap (stepOf itemForm s) (l .loop .inv .1 .1))))
 
 returns : tie.Need-returns Inv-loop μ-loop
 returns c =

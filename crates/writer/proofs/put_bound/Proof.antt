@@ -1,54 +1,30 @@
--- `writer::put_bound` meets its contract: the item's number and its bound, or nothing.
-use mathlib.Core.Path.{sym}
+-- `writer::put_bound` meets its contract: the item's number and its bound.
 use native.Mathlib.Omega.{arith}
-use Rattle.arith.proofs.Words.{back}
-use Rattle.text.proofs.Buffers.{put-nothing, puts}
+use Rattle.text.proofs.Buffers.{puts}
+use Rattle.lines.specs.Layout.{bounding}
 use Rattle.sheet.proofs.Lengths.{bound-short}
 use borrow.Author.Needs.{needs}
 use Rattle.writer.proofs.put_bound.Statement.{statement}
 use Rattle.writer.proofs.put_bound.Tie as tie
 
-enum-told : tie.Need-enum-told
-enum-told c = search needs
-
-enum-known-b : tie.Need-enum-known-b
-enum-known-b c = search needs
-
 put-natural-requires : tie.Need-put-natural-requires
 put-natural-requires c κs = search needs
 
-put-integer-requires : tie.Need-put-integer-requires
-put-integer-requires c κs = search needs
-
-returns : tie.Need-returns
-returns c =
-    let s = c .before .before .before .args in
-    rw (c .enum-told .given .1) (record { short = omega arith; next = omega arith; bytes = sym (put-nothing (s .at) (s .out .now)) })
+put-bound-word-requires : tie.Need-put-bound-word-requires
+put-bound-word-requires c κs = search needs
 
 same-length : tie.Need-same-length
 same-length c = search needs
 
-returns-2 : tie.Need-returns-2
-returns-2 c =
-    let v = c .before .before in
-    let k = v .before .before .before .before in
-    let b = k .before .before in
-    let t = b .before in
-    let s = t .before .before .before in
-    let e = t .b .given .1 in
-    let z = t .b .given .0 .0 in
-    let f = rw (back z (b .known-told .given .0 .1)) at (puts (omega arith) (k .put-natural .ensures) (v .put-integer .ensures)) in
-    let short = bound-short (record { number = s .args .k; bound = z }) (s .pre .1 .0) (rw e at (s .pre .1 .1)) in
-    rw e (record { short = short; next = f .next; bytes = f .bytes })
+returns : tie.Need-returns
+returns c =
+    let w = c .before .before in
+    let e = w .before .before in
+    let n = e .before .before in
+    let s = n .before .before .before in
+    let f = puts (omega arith) (n .put-natural .ensures) (w .put-bound-word .ensures) in
+    record { short = bound-short (bounding (s .args .k) (s .args .b)) (s .pre .1 .0) (s .pre .1 .1); next = f .next; bytes = f .bytes }
 
 pub put-bound-spec : {M : Type 1} → statement M
 put-bound-spec =
-    tie.close
-    (tie.spec
-    enum-told
-    enum-known-b
-    put-natural-requires
-    put-integer-requires
-    returns
-    same-length
-    returns-2)
+    tie.close (tie.spec put-natural-requires put-bound-word-requires same-length returns)

@@ -6,19 +6,18 @@ use native.Mathlib.Omega.{arith}
 use lib.ListN.{length}
 use borrow.Author.Needs.{needs}
 use Rattle.model.proofs.Records.{unfaulted}
-use Rattle.sheet.specs.Printing.{boundAt, boundsUpTo}
+use Rattle.sheet.specs.Printing.{upTo, boundingAt}
 use Rattle.text.specs.Buffer.{Put}
 use Rattle.text.proofs.Buffers.{put-nothing, puts, roomier}
 use Rattle.lines.specs.Layout.{boundText}
 use Rattle.sheet.specs.Sections.{linesText}
 use Rattle.sheet.proofs.Forms.{fair-side}
-use Rattle.writer.proofs.Bounds.{lines-more}
 use Rattle.writer.proofs.put_bound_lines.Statement.{statement}
 use Rattle.writer.proofs.put_bound_lines.Tie as tie
 
 abbrev Inv-loop : tie.InvT-loop
 Inv-loop out₀ at side m n next₀ k₀ out next k =
-    (k ≤ n) × ((length out ≡ length out₀) × Put (22 * k) at (linesText boundText (boundsUpTo k (boundAt side m))) out₀ out next)
+    (k ≤ n) × ((length out ≡ length out₀) × Put (22 * k) at (linesText boundText (upTo k (boundingAt side m))) out₀ out next)
 
 abbrev μ-loop : tie.MeasureT-loop
 μ-loop out₀ at side m n next₀ k₀ out next k = n - k
@@ -28,7 +27,7 @@ few : (c : tie.At-loop Inv-loop μ-loop) → c .before .before .args .t4 .count 
 few c = unfaulted (c .before .before .args .t4) (c .before .before .pre .1) .most
 
 loop-holds : tie.Need-loop-holds Inv-loop μ-loop
-unfolding boundsUpTo linesText
+unfolding upTo linesText
 loop-holds c =
     let a = c .before .args in
     (omega arith, (refl, record { short = omega arith; next = omega arith; bytes = sym (put-nothing (a .at) (a .out .now)) }))
@@ -59,14 +58,13 @@ loop-less : tie.Need-loop-less Inv-loop μ-loop
 loop-less c = omega arith
 
 loop-again : tie.Need-loop-again Inv-loop μ-loop
+unfolding upTo linesText
 loop-again c =
     let p = c .before .before in
     let b = p .before in
     let l = b .before .before .before .before in
-    let a = l .before .before .args in
-    let f = boundAt (a .side) (a .t4) in
     let g = puts (omega arith) (l .loop .inv .1 .1) (p .put-bound .ensures) in
-    let h = rw (b .bound-of .ensures, add-one (l .loop .k), lines-more (l .loop .k) f) at g in
+    let h = rw (b .bound-of .ensures, add-one (l .loop .k)) at g in
     (omega arith, (omega arith, rw add-one (roomier (omega arith) h)))
 
 same-length : tie.Need-same-length Inv-loop μ-loop

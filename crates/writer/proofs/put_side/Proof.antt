@@ -1,12 +1,11 @@
 -- `writer::put_side` meets its contract: the heading and the lines.
 use native.Mathlib.Omega.{arith}
 use Rattle.text.proofs.Buffers.{puts}
+use Rattle.sheet.specs.Printing.{boundingAt}
+use Rattle.sheet.proofs.Making.{upto-length}
 use borrow.Author.Needs.{needs}
 use Rattle.writer.proofs.put_side.Statement.{statement}
 use Rattle.writer.proofs.put_side.Tie as tie
-
-count-bounds-requires : tie.Need-count-bounds-requires
-count-bounds-requires c κs = search needs
 
 put-side-heading-requires : tie.Need-put-side-heading-requires
 put-side-heading-requires c κs = search needs
@@ -21,14 +20,13 @@ returns : tie.Need-returns
 returns c =
     let l = c .before .before in
     let h = l .before .before .before .before in
-    let n = h .before .before in
-    puts (omega arith) (rw (n .count-bounds .ensures) at (h .put-side-heading .ensures)) (l .put-bound-lines .ensures)
+    let s = h .before .before .before .args in
+    rw (upto-length (s .m .count) (boundingAt (s .side) (s .m))) (puts (omega arith) (h .put-side-heading .ensures) (l .put-bound-lines .ensures))
 
 pub put-side-spec : {M : Type 1} → statement M
 put-side-spec =
     tie.close
     (tie.spec
-    count-bounds-requires
     put-side-heading-requires
     put-bound-lines-requires
     same-length

@@ -1,5 +1,4 @@
 -- `model::setters::with_bound` meets its contract.
-use mir.Facts.{toZ-ofZ}
 use borrow.Author.Needs.{needs}
 use Rattle.model.proofs.setters.with_bound.Statement.{statement}
 use Rattle.model.proofs.setters.with_bound.Tie as tie
@@ -17,7 +16,7 @@ with-item-requires : tie.Need-with-item-requires
 with-item-requires c κs = search needs
 
 returns : tie.Need-returns
-returns c = rw (c .with-item .ensures, c .before .with-side .ensures, toZ-ofZ (c .before .before .before .fits .v))
+returns c = rw (c .with-item .ensures, c .before .with-side .ensures)
 
 pub with-bound-spec : {M : Type 1} → statement M
 with-bound-spec =

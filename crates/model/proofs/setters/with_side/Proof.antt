@@ -18,7 +18,7 @@ returns c =
     let i = s .args .item in
     let f : SFits w64 (i .weight) = search needs in
     let g : SFits w64 (i .price) = search needs in
-    rw (toZ-ofZ f, toZ-ofZ g, toZ-ofZ (s .fits .v), c .enum-told .given .1)
+    rw (toZ-ofZ f, toZ-ofZ g, c .enum-told .given .1)
 
 returns-2 : tie.Need-returns-2
 returns-2 c =
@@ -26,7 +26,7 @@ returns-2 c =
     let i = s .args .item in
     let f : SFits w64 (i .weight) = search needs in
     let g : SFits w64 (i .price) = search needs in
-    rw (toZ-ofZ f, toZ-ofZ g, toZ-ofZ (s .fits .v), c .enum-told2 .given .1)
+    rw (toZ-ofZ f, toZ-ofZ g, c .enum-told2 .given .1)
 
 pub with-side-spec : {M : Type 1} → statement M
 with-side-spec = tie.close (tie.spec enum-told enum-told-2 returns returns-2)
