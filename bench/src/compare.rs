@@ -8,9 +8,6 @@ use crate::problem::Problem;
 use crate::progress::Progress;
 use crate::twin;
 
-/// Whether our planner promises the best point that comes first, where every lower bound is present (paper 02, request 5).
-const FIRST: bool = false;
-
 /// How often each reply came: refused, infeasible, unbounded, best.
 #[derive(Clone, Copy, Default)]
 struct Counts {
@@ -78,7 +75,7 @@ fn compare_sheet(sheet: &[u8], counts: &mut Counts) -> Result<(), String> {
     counts.replies[column(expected)] += 1;
     counts.twin_agrees += twin.as_ref().is_some_and(|t| t.text == text) as u64;
     counts.by_scales += twin.as_ref().is_some_and(|t| t.cells > 0) as u64;
-    let in_order = problem.as_ref().ok().filter(|_| FIRST);
+    let in_order = problem.as_ref().ok();
     check(problem.as_ref().ok(), expected, &text)
         .and_then(|_| in_order.map_or(Ok(()), |p| check_first(p, &text)))
         .and_then(|_| check_verdict(sheet, expected))

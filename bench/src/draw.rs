@@ -200,10 +200,10 @@ fn some_family(rng: &mut Rng) -> Problem {
     p
 }
 
-const BAD_FIELDS: [&[u8]; 36] = [
+const BAD_FIELDS: [&[u8]; 38] = [
     b"", b"00", b"01", b"-0", b"-01", b"+1", b"-", b"--1", b"1-", b"1.0", b"1e3", b"0x1", b"1,0", b"none", b"a", b"W", b"L",
     b"w", b"WL", b"X", b"\t1", b"1\t", b"1\r", b"\0", b"\xff", b"/", b":", b"1/2", b"007", b"limit", b"items", b"item", b"Limit",
-    b"lower", b"upper", b"uppers",
+    b"lower", b"upper", b"uppers", b"nonee", b"None",
 ];
 
 const EDGES: [&[u8]; 28] = [

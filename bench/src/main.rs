@@ -69,7 +69,7 @@ fn main() {
     let choose = |few: u64, many: u64| if quick { few } else { many };
     let seed = a.number("--seed").unwrap_or(1);
     let sheets = a.number("--sheets");
-    let rules = if a.word("--first") { twin::FIRST } else { ours::RULES };
+    let rules = if a.word("--value") { twin::WITH_SCALES } else { ours::RULES };
     let speed = speed::Options {
         seed,
         sheets: sheets.unwrap_or(choose(10, 100)) as usize,

@@ -1,6 +1,6 @@
 //! The proved planner: the entries of `crates/runcefo`, as `include/runcefo.h` declares them.
 
-use crate::twin::{Rules, WITH_SCALES};
+use crate::twin::{Rules, FIRST};
 
 extern "C" {
     fn charge_room() -> usize;
@@ -11,7 +11,7 @@ extern "C" {
 }
 
 /// What the proved planner does: the twin by these rules takes the same steps to the same text.
-pub const RULES: Rules = WITH_SCALES;
+pub const RULES: Rules = FIRST;
 
 /// The steps of a search, 0 if there is none; and the cells that the scales wrote.
 pub struct Work {

@@ -8,7 +8,7 @@ use crate::independent::{self, Point, Reply};
 use crate::ours;
 use crate::problem::Problem;
 use crate::progress::Progress;
-use crate::twin::{self, Rules, FIRST};
+use crate::twin::{self, Rules, FIRST, WITH_SCALES};
 
 /// How far an absent upper bound is taken beyond the lower one.
 const BEYOND: i64 = 7;
@@ -33,7 +33,7 @@ fn check_twin(p: &Problem, expected: Reply) -> Result<(), String> {
         _ => "infeasible\n".into(),
     };
     for steps in STEPS {
-        for rules in [ours::RULES, FIRST] {
+        for rules in [ours::RULES, WITH_SCALES] {
             let text = twin::plan(p, Rules { steps, ..rules }).text;
             if !text.starts_with(&line) {
                 return Err(format!("the twin after {steps} steps says {text}"));

@@ -1,4 +1,4 @@
-//! A second reader, written from the papers alone (paper 01, "The sheet" and "Refused, by place"; paper 02, request 3).
+//! A second reader, written from the papers alone (paper 01, "The sheet" and "Refused, by place"; paper 02, requests 3 and 6).
 
 use crate::problem::{Item, Problem};
 
@@ -13,6 +13,7 @@ enum Place {
     Word(&'static [u8]),
     Mark,
     Number,
+    NumberOrNone,
 }
 
 impl Place {
@@ -21,6 +22,7 @@ impl Place {
             Place::Word(word) => field == *word,
             Place::Mark => matches!(field, b"W" | b"L"),
             Place::Number => is_number(field),
+            Place::NumberOrNone => field == b"none" || is_number(field),
         }
     }
 
@@ -30,7 +32,7 @@ impl Place {
             _ if field.is_empty() => 2,
             Place::Word(_) => 12,
             Place::Mark => 2,
-            Place::Number => 13,
+            Place::Number | Place::NumberOrNone => 13,
         }
     }
 }
@@ -108,20 +110,20 @@ impl<'a> Lines<'a> {
         Ok(Item { integer: mark == b"W", weight, price, lower: None, upper: None })
     }
 
-    /// A section of bounds: item and bound of each.
-    fn bounds(&mut self, word: &'static [u8], n: i64) -> Result<Vec<(usize, i64)>, Refusal> {
-        let mut list = vec![];
-        let mut last = 0;
-        for _ in 0..self.heading(word, 0, n)? {
-            let [item, value] = self.fields([Place::Number, Place::Number])?;
-            let k = number(item);
-            if k <= last || k > n {
-                return self.refuse(5);
-            }
-            list.push((k as usize - 1, self.figure(value, 10_000)?));
-            last = k;
+    /// The bound of item k, whose turn it is.
+    fn bound(&mut self, k: i64) -> Result<Option<i64>, Refusal> {
+        let [item, value] = self.fields([Place::Number, Place::NumberOrNone])?;
+        match value {
+            _ if number(item) != k => self.refuse(5),
+            b"none" => Ok(None),
+            _ => self.figure(value, 10_000).map(Some),
         }
-        Ok(list)
+    }
+
+    /// A section of bounds, one for each item.
+    fn bounds(&mut self, word: &'static [u8], n: i64) -> Result<Vec<Option<i64>>, Refusal> {
+        self.heading(word, n, n)?;
+        (1..=n).map(|k| self.bound(k)).collect()
     }
 }
 
@@ -134,12 +136,8 @@ pub fn read(sheet: &[u8]) -> Result<Problem, Refusal> {
     let limit = lines.limit()?;
     let n = lines.heading(b"items", 1, 16)?;
     let mut items = (0..n).map(|_| lines.item()).collect::<Result<Vec<Item>, Refusal>>()?;
-    for (k, value) in lines.bounds(b"lower", n)? {
-        items[k].lower = Some(value);
-    }
-    for (k, value) in lines.bounds(b"upper", n)? {
-        items[k].upper = Some(value);
-    }
+    items.iter_mut().zip(lines.bounds(b"lower", n)?).for_each(|(i, bound)| i.lower = bound);
+    items.iter_mut().zip(lines.bounds(b"upper", n)?).for_each(|(i, bound)| i.upper = bound);
     if !lines.rest.is_empty() {
         return Err(Refusal { number: 2, line: lines.line + 1 });
     }

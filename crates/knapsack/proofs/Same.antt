@@ -1,7 +1,7 @@
 -- The places beyond the count play no part.
 --   Same s t     the instances agree at the items of the problem
 -- same-sym: so they do the other way round. same-relaxed: so do their relaxations. same-answers: they have the same answers.
--- same-first: and the same optimal point comes first.
+-- same-first: and a best point that comes first for one does for the other.
 use mathlib.Core.Path.{_≡_, sym, ap, _∙_, subst, subst₂}
 use mathlib.Core.Logic.{_≢_}
 use Prim.Native.Nat.{ℕ, _<_}
@@ -58,18 +58,16 @@ same-serves s t e = record {
   exchange = λ y h. record { point = y; feasible = same-feasible t s (same-sym s t e) y h; as-good = λ z l. subst (λ v. v ≤ᶠ z) (same-value s t e y) l };
 }
 
-pub same-answers : (s t : Instance) → Same s t → (a : Answer) → Answers s a → Answers t a
-same-answers s t e = serve-answers t s (same-serves s t e)
+same-optimal : (s t : Instance) → Same s t → (x : Point) → Optimal s x → Optimal t x
+same-optimal s t e x o = record {
+  feasible = same-feasible s t e x (o .feasible);
+  highest = λ y h. subst₂ _≤ᶠ_ (same-value s t e y) (same-value s t e x) (o .highest y (same-feasible t s (same-sym s t e) y h));
+}
 
 pub same-first : (s t : Instance) → Same s t → (a : Answer) → ShownFirst s a → ShownFirst t a
-same-first s t e a f low i y o b = f (λ k h. subst (λ (j : Item). j .lower ≢ Absent) (sym (e .items k h)) (low k (in-t k h))) i y best
-    (subst (λ n. Earlier n y (pointOf a)) (sym (e .count)) b)
-  where
-    in-t : (k : ℕ) → k < s .count → k < t .count
-    in-t k h = omega (arith, e .count)
+same-first s t e a h lower k y o earlier =
+    h (λ j l. subst (λ (i : Item). i .lower ≢ Absent) (sym (e .items j l)) (lower j (omega (arith, e .count)))) k y
+    (same-optimal t s (same-sym s t e) y o) (subst (λ n. Earlier n y (pointOf a)) (sym (e .count)) earlier)
 
-    best : Optimal s y
-    best = record {
-      feasible = same-feasible t s (same-sym s t e) y (o .feasible);
-      highest = λ z h. subst₂ _≤ᶠ_ (sym (same-value s t e z)) (sym (same-value s t e y)) (o .highest z (same-feasible s t e z h));
-    }
+pub same-answers : (s t : Instance) → Same s t → (a : Answer) → Answers s a → Answers t a
+same-answers s t e = serve-answers t s (same-serves s t e)

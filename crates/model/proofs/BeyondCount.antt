@@ -53,7 +53,7 @@ module _ (m o : Model) (e : Same (asked m) (asked o)) where
 
   pub beyond-planned : (a : Answer) → Planned m a → Planned o a
   beyond-planned a p = record {
-    replies = replies-same (asked m) (asked o) a (verdict m) (verdict o) e beyond-verdict (p .replies);
+    replies = replies-same _ _ a (verdict m) (verdict o) e beyond-verdict (p .replies);
     first = same-first (asked m) (asked o) e a (p .first);
   }
 
