@@ -35,7 +35,7 @@ use Rattle.lines.specs.declared.scan.Span.the-variants.{Nothing as NoLine, Line
 use Rattle.lines.specs.Places.{onPlace, firstEnd, ends, lineAt, closedLine, refusalOn, closedOr, askedLine, bytesOf, linePart, verdictOf, checkLine}
 use Rattle.lines.specs.Numbers.{fromTo}
 use Rattle.lines.specs.Lines.{countAt}
-use Rattle.lines.specs.Layout.{headingText, markByte}
+use Rattle.lines.specs.Layout.{headingText, markByte, boundWord}
 use Rattle.lines.proofs.Places.{endsFrom, ends-past, ends-before, ends-none, closed-more}
 use Rattle.lines.proofs.Standing.{Has, Bytes, count-has}
 use Rattle.sheet.specs.declared.Progress.{Progress}
@@ -173,8 +173,8 @@ module _ {A : Type 0} (f : LineForm A) (Fits : Progress → A → Type 0) (laws 
 side-reached : (s : List ℕ) (side : Side) (p : Progress) → Reached s p → Reached s (boundsSection s side p)
 unfolding boundsSection
 side-reached s side p r =
-    section-reached (boundForm side) _ (bound-laws side) (λ b. line-closes (integer (pos (b .number))) (integer (b .bound) ∷ [])) s
-    (wordOf side) 0 (p .model .count) (λ n. p .model) p (bytes side) r
+    section-reached (boundForm side) _ (bound-laws side) (λ b. line-closes (decimal (b .number)) (boundWord (b .bound) ∷ [])) s
+    (wordOf side) (p .model .count) (p .model .count) (λ n. p .model) p (bytes side) r
   where
     bytes : (side : Side) → Bytes (wordOf side)
     bytes Lower = (lit< tt, (lit< tt, (lit< tt, (lit< tt, (lit< tt, tt)))))

@@ -87,8 +87,8 @@ asked m = m .before .before .before .before
 
 abbrev entry : tie.After-first-of-frame → tie.Start
 entry m =
-    let s = m .before .before .before .before in
-    asked s
+    let a = asked m in
+    a .before .before .before .before
 
 add-written : tie.Need-add-written
 add-written c =
