@@ -111,7 +111,16 @@ fn order_of(p: Model, a: Answer, n: usize, number: u64, f: Filler) -> Order
 }
 
 // A point that is worth p / q.
-fn with_point(j: Judged, m: Model, a: Answer, n: usize, number: u64, f: Filler, p: i64, q: i64) -> Judged
+fn with_point(
+    j: Judged,
+    m: Model,
+    a: Answer,
+    n: usize,
+    number: u64,
+    f: Filler,
+    p: i64,
+    q: i64,
+) -> Judged
     requires { ⌜ n ≤ 15 ⌝ }
 {
     let v = a.value;
@@ -144,7 +153,16 @@ fn with_corner(j: Judged, m: Model, a: Answer, n: usize, number: u64, s: Sums) -
 }
 
 // A point whose filler x takes room / weight, both of them with the sign that makes the weight w positive.
-fn with_filler(j: Judged, m: Model, a: Answer, n: usize, number: u64, s: Sums, x: Item, k: usize) -> Judged
+fn with_filler(
+    j: Judged,
+    m: Model,
+    a: Answer,
+    n: usize,
+    number: u64,
+    s: Sums,
+    x: Item,
+    k: usize,
+) -> Judged
     requires { ⌜ n ≤ 15 ⌝ }
 {
     let sign = if x.weight < 0 { -1 } else { 1 };
