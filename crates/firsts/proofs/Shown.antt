@@ -56,8 +56,11 @@ module _ (c : Columns) (e : Ends) (z : Sized c e) where
 
     pub shown-small : Comparable (c .count) l
     shown-small k m = rw (h .counted k m) (record {
-      small = abs-within (lowest (filling c e k) (parts c e) .p) (omega (arith, lowest-less (filling c e k) (parts c e) (shown-parts .0),
-          within-abs (filling c e k) (numerator-within c e (fill c e) (parts c e) k (countable k (omega (arith, z .columns .few))))));
+      small = abs-within (lowest (filling c e k) (parts c e) .p) (omega (
+        arith,
+        lowest-less (filling c e k) (parts c e) (shown-parts .0),
+        within-abs (filling c e k) (numerator-within c e (fill c e) (parts c e) k (countable k (omega (arith, z .columns .few)))),
+      ));
       some = lowest-den (filling c e k) (parts c e) (shown-parts .0);
       few = omega (arith, lowest-few (filling c e k) (parts c e), shown-parts .1);
     })

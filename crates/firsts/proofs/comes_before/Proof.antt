@@ -84,8 +84,10 @@ returns c =
     record {
       before = λ e. earlier-made (entry l .args .t1) (entry l .args .t2) (item l) (small-mine l) (small-yours l) (entry l .args .n) (l .loop-test .taken)
           (l .before .loop .inv .1)
-          (subst₂ _<ℤ_ (v-is m) (w-is m) (yes-lt (rw (back (m .before .crossed .result) (m .before .crossed .ok),
-          back (m .crossed2 .result) (m .crossed2 .ok)) at (c .if1 .taken))));
+          (subst₂ _<ℤ_ (v-is m) (w-is m) (yes-lt (rw (
+            back (m .before .crossed .result) (m .before .crossed .ok),
+            back (m .crossed2 .result) (m .crossed2 .ok),
+          ) at (c .if1 .taken))));
       after = λ e. absurd (impossible (sym e));
     }
 
@@ -97,8 +99,10 @@ returns-2 c =
       before = λ e. absurd (impossible e);
       after = λ e. inr (earlier-made (entry l .args .t2) (entry l .args .t1) (item l) (small-yours l) (small-mine l) (entry l .args .n) (l .loop-test .taken)
           (alike-back (entry l .args .t1) (entry l .args .t2) (item l) (l .before .loop .inv .1))
-          (subst₂ _<ℤ_ (w-is m) (v-is m) (yes-lt (rw (back (m .before .crossed .result) (m .before .crossed .ok),
-          back (m .crossed2 .result) (m .crossed2 .ok)) at (c .if2 .taken)))));
+          (subst₂ _<ℤ_ (w-is m) (v-is m) (yes-lt (rw (
+            back (m .before .crossed .result) (m .before .crossed .ok),
+            back (m .crossed2 .result) (m .crossed2 .ok),
+          ) at (c .if2 .taken)))));
     }
 
 add-k : tie.Need-add-k Inv-loop μ-loop
@@ -113,10 +117,14 @@ loop-again c =
     let l = start m in (
       omega (arith, l .loop-test .taken),
       alike-step (entry l .args .t1) (entry l .args .t2) (item l) (small-mine l) (small-yours l) (l .before .loop .inv .1)
-          (subst₂ _≤ℤ_ (w-is m) (v-is m) (no-lt (rw (back (m .before .crossed .result) (m .before .crossed .ok),
-          back (m .crossed2 .result) (m .crossed2 .ok)) at (c .before .if1 .left))))
-          (subst₂ _≤ℤ_ (v-is m) (w-is m) (no-lt (rw (back (m .before .crossed .result) (m .before .crossed .ok),
-          back (m .crossed2 .result) (m .crossed2 .ok)) at (c .if2 .left)))),
+          (subst₂ _≤ℤ_ (w-is m) (v-is m) (no-lt (rw (
+            back (m .before .crossed .result) (m .before .crossed .ok),
+            back (m .crossed2 .result) (m .crossed2 .ok),
+          ) at (c .before .if1 .left))))
+          (subst₂ _≤ℤ_ (v-is m) (w-is m) (no-lt (rw (
+            back (m .before .crossed .result) (m .before .crossed .ok),
+            back (m .crossed2 .result) (m .crossed2 .ok),
+          ) at (c .if2 .left)))),
     )
 
 returns-3 : tie.Need-returns-3 Inv-loop μ-loop

@@ -34,8 +34,7 @@ filling-at-requires c κs = (tying c, c .before .before .pre .0 .1 .1 .inside)
 loss-of-requires : tie.Need-loss-of-requires Inv-loop μ-loop
 loss-of-requires c κs =
     let t = c .before in
-    let s = t .before .before in
-    (
+    let s = t .before .before in (
       tying t,
       subst (λ v. IsWorth (s .args .s) (t .tied .result) v) (sym (c .filling-at .ensures .value-is))
           (worth-made (s .args .s) (t .tied .result) (tying t) (at (s .args .x)) (s .pre .0 .1 .1)),
@@ -55,8 +54,7 @@ loop-holds c =
     let f = o .before in
     let t = f .before in
     let s = t .before .before in
-    let a = s .args in
-    (
+    let a = s .args in (
       omega arith,
       (
         refl,
@@ -73,8 +71,7 @@ considered-requires c κs =
     let w = l .before .before .before in
     let o = w .before .before in
     let t = o .before .before in
-    let s = t .before .before in
-    (
+    let s = t .before .before in (
       (tying t, (o .loss-of .ensures .0, (w .wholes .ensures, l .loop .inv .1 .1))),
       (c .before .loop-test .taken, omega (arith, l .loop .inv .1 .0, s .pre .1)),
     )
@@ -100,10 +97,18 @@ tried-requires c κs =
     let o = w .before .before in
     let t = o .before .before in
     let s = t .before .before in
-    let e : l .loop .t ≡ t .tied .result .live = omega (arith, c .before .loop-test .left, l .loop .inv .0) in
-    (
-      (tying t, (o .loss-of .ensures .0, (w .wholes .ensures, subst (λ u. Led (s .args .s) (t .tied .result) (o .loss-of .result) u (l .loop .b)) e
-      (l .loop .inv .1 .1)))),
+    let e : l .loop .t ≡ t .tied .result .live = omega (arith, c .before .loop-test .left, l .loop .inv .0) in (
+      (
+        tying t,
+        (
+          o .loss-of .ensures .0,
+          (
+            w .wholes .ensures,
+            subst (λ u. Led (s .args .s) (t .tied .result) (o .loss-of .result) u (l .loop .b)) e
+                (l .loop .inv .1 .1),
+          ),
+        ),
+      ),
       (omega arith, ((λ h. absurd (omega arith)), omega (arith, l .loop .inv .1 .0, s .pre .1))),
     )
 
