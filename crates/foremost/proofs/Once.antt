@@ -68,6 +68,7 @@ module _ (s : Instance) (low : AllLower s) (a b : Answer) (la : length (a .point
     replied-once (Refused r) x y = inl (x ∙ sym y)
 
 -- End theorem: where every lower bound is present two replies of the planner are the same
-pub planned-once : (m : Model) → AllLower (instanceOf (plainOf m)) → (a b : Answer) → length (a .point) ≡ 16 → length (b .point) ≡ 16 → Planned m a → Planned m b
+pub planned-once : (m : Model) → AllLower (instanceOf (plainOf m)) → (a b : Answer) → length (a .point) ≡ 16 → length (b .point) ≡ 16 →
+    Planned m a → Planned m b
     → SameAnswer a b
 planned-once m low a b la lb x y = replied-once (instanceOf (plainOf m)) low a b la lb (x .first) (y .first) (verdict m) (x .replies) (y .replies)

@@ -213,9 +213,9 @@ passed : (l : tie.At-loop Inv-loop μ-loop) (d : ℕ) → d ≤ l .loop .d → P
 passed l d h =
     let at-first-paired = l .before .before .before .before in
     record {
-  uncut = λ i g. l .loop .inv .1 .1 .1 i (omega arith);
-  unpaired = λ i g. at-first-paired .first-paired .ensures .before i (omega (arith, l .loop .inv .1 .1 .0));
-}
+      uncut = λ i g. l .loop .inv .1 .1 .1 i (omega arith);
+      unpaired = λ i g. at-first-paired .first-paired .ensures .before i (omega (arith, l .loop .inv .1 .1 .0));
+    }
 
 -- whether the run of the level is cut
 cut-is : (c : tie.After-cut Inv-loop μ-loop) → c .cut .result ≡ cutAt (Of (Round (c .before .before .before) .before) .args .t1)

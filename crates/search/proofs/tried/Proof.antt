@@ -101,13 +101,13 @@ unfolding triedBy betterBy
 returns-4 c =
     let s = c .before .before .before .before .before .before in
     record {
-  best-is = rw (not-empty (c .before .before), c .if2 .left) (ap (λ v. record {
-    found = true;
-    place = s .args .x;
-    value = v;
-  }) (bound-is (c .before)));
-  better-is = rw (not-empty (c .before .before), c .if2 .left);
-}
+      best-is = rw (not-empty (c .before .before), c .if2 .left) (ap (λ v. record {
+        found = true;
+        place = s .args .x;
+        value = v;
+      }) (bound-is (c .before)));
+      better-is = rw (not-empty (c .before .before), c .if2 .left);
+    }
 
 pub tried-spec : {M : Type 1} → statement M
 tried-spec =

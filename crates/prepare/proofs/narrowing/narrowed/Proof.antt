@@ -31,16 +31,16 @@ returns : tie.Need-returns
 returns c =
     let at-clamped = c .before .before .before .before in
     record {
-  cols = refl;
-  level = refl;
-  levels = refl;
-  lattice = refl;
-  lo = at-clamped .clamped .ensures;
-  hi = c .before .before .before .clamped2 .ensures;
-  low = c .before .before .by-level .ensures;
-  high = c .before .by-level2 .ensures;
-  lengths = (search needs, search needs);
-}
+      cols = refl;
+      level = refl;
+      levels = refl;
+      lattice = refl;
+      lo = at-clamped .clamped .ensures;
+      hi = c .before .before .before .clamped2 .ensures;
+      low = c .before .before .by-level .ensures;
+      high = c .before .by-level2 .ensures;
+      lengths = (search needs, search needs);
+    }
 
 pub narrowed-spec : {M : Type 1} → statement M
 narrowed-spec = tie.close (tie.spec clamped-requires clamped-requires-2 by-level-requires by-level-requires-2 returns)
