@@ -108,8 +108,23 @@ impl Shape {
     }
 
     /// One for each soft item; one if there is none.
-    pub fn frames(&self) -> usize {
+    fn frames(&self) -> usize {
         self.soft.len().max(1)
+    }
+
+    /// The frames in which a soft item is cut, and that in which none is.
+    pub fn all_frames(&self) -> std::ops::RangeInclusive<usize> {
+        0..=self.soft.len()
+    }
+
+    /// Into how many pieces a unit of the item that frame l cuts goes.
+    fn scale(&self, l: usize) -> u64 {
+        self.soft.get(l).map_or(1, |&k| self.size[k] as u64)
+    }
+
+    /// Whether a point of frame l can have the loss.
+    pub fn can_lose(&self, l: usize, t: Loss) -> bool {
+        self.scale(l) * t.num % t.den == 0
     }
 
     /// All items with their widths, and the slack.
@@ -133,13 +148,13 @@ impl Shape {
 
     /// Soft item l is cut: size granules make a unit, which costs scale = size times as much.
     fn frame(&self, l: usize) -> Frame {
-        let Some(&k) = self.soft.get(l) else {
-            return self.whole_frame(1);
-        };
-        let mut f = self.whole_frame(self.size[k] as u64);
+        let mut f = self.whole_frame(self.scale(l));
         for &j in &self.soft[..l] {
             f.low[j] = f.most[j];
         }
+        let Some(&k) = self.soft.get(l) else {
+            return f;
+        };
         f.cut = Some(k);
         f.most[k] *= f.weight[k];
         f.range[k] = f.most[k];

@@ -31,7 +31,10 @@ pub fn first_point(mut h: Shape, best: Mixed, cells: &mut Cells) -> Point {
     h.fill_early();
     let least = h.loss(best);
     let mut first: Option<Point> = None;
-    for l in 0..h.frames() {
+    for l in h.all_frames() {
+        if !h.can_lose(l, least) {
+            continue;
+        }
         let next = first_of_frame(&h, l, least, cells).map(|f| Point::of(&h, &f));
         first = match (first, next) {
             (Some(x), Some(y)) => Some(if y.comes_before(&x) { y } else { x }),
