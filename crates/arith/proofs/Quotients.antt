@@ -14,9 +14,6 @@ use Rattle.arith.proofs.Parts.{neg-within}
 pub mul-sub : (x y z : ℤ) → x *ℤ (y -ℤ z) ≡ x *ℤ y -ℤ x *ℤ z
 mul-sub = split3 _ (λ a b c e f g. simp zed (omega arith))
 
-pub mul-add : (x y z : ℤ) → x *ℤ (y +ℤ z) ≡ x *ℤ y +ℤ x *ℤ z
-mul-add = split3 _ (λ a b c e f g. simp zed (omega arith))
-
 pub mul-one : (x : ℤ) → x *ℤ pos 1 ≡ x
 mul-one = split _ (λ a b. simp zed (omega arith))
 

@@ -64,7 +64,3 @@ more-fits {w} {b} {x} f g h = between x b (x +ℤ pos 1) g f (low x) (high x b h
 -- the same from the bound alone, as an array's element or a variant's field hands it over
 pub back : (z : ℤ) → mag z < 2 ^ 63 → toZ w64 (ofZ w64 z) ≡ z
 back z h = toZ-ofZ (record { sfits = h })
-
--- a signed test `a == b` is a fact of the bits
-pub same-bits : (a b : ℤ) → mag a < 2 ^ 63 → mag b < 2 ^ 63 → ofZ w64 a ≡ ofZ w64 b → a ≡ b
-same-bits a b f g e = sym (back a f) ∙ ap (toZ w64) e ∙ back b g

@@ -419,4 +419,5 @@ module _ (p : Problem) (range : InRange p) (s : Setting) (q : PreparedAt (spanOf
       let lo = end-small (itemAt p k .lower) (spanOf p k) (negℤ (pos (spanOf p k))) (i .lower-in) (omega (arith, natAbs-neg (pos (spanOf p k)))) in
       let hi = end-small (itemAt p k .upper) (spanOf p k) (pos (spanOf p k)) (i .upper-in) (omega arith) in
       rw (q .weights k l, q .lows k l, q .highs k l)
-      (span-weighs (reachOf p) (reach-small p range) (natAbs (itemAt p k .weight)) (natAbs (y -ℤ x)) (i .weight-in) (width-small (10000 + spanOf p k) x y lo hi))
+      (span-weighs (reachOf p) (reach-small p range) (natAbs (itemAt p k .weight)) (natAbs (y -ℤ x)) (i .weight-in)
+      (width-small (10000 + spanOf p k) x y lo hi))

@@ -49,7 +49,8 @@ module _ {M : Type 1} (𝓤 : URA M) (H : Heap 𝓤) (A : Atoms 𝓤) (W : Given
       rewrite ! 0 (λ (F : Fml). ‵ F) (parts-cells R fullShare xs b 0) refl $ done !
 
   pub shuts : (n : ℕ) (xs : List (T .D)) (b : ℕ) → length xs ≡ n
-      → ent 𝓤 (sem 𝓤 H A (cells (mem R) xs b 0)) (mean 𝓤 H A (some (λ (v : Val). ‵ (fat fullShare (tyArray ElemTy n) b 0 v) ⊛ ‵ (Tuples n .own (map (T .to) xs) (v ∷ [])))))
+      → ent 𝓤 (sem 𝓤 H A (cells (mem R) xs b 0)) (mean 𝓤 H A (some
+      (λ (v : Val). ‵ (fat fullShare (tyArray ElemTy n) b 0 v) ⊛ ‵ (Tuples n .own (map (T .to) xs) (v ∷ [])))))
   shuts n xs b l =
       qed W (‵ (cells (mem R) xs b 0) ∷ []) ∵ rewrite ! 0 (λ (F : Fml). ‵ F) (sym (parts-cells R fullShare xs b 0)) refl $ feqI ! ℕ (length xs) n l $ fjoin ! $
       use1 W (‵ (partAt (Array R n) fullShare xs b 0)) (array-whole 𝓤 H A W R fullShare n xs b 0) $
@@ -60,13 +61,16 @@ module _ {M : Type 1} (𝓤 : URA M) (H : Heap 𝓤) (A : Atoms 𝓤) (W : Given
   abbrev pub behind : ℕ → List (T .D) → ℕ
   behind k xs = at 0 (mem R .size) (length (take k xs))
 
-  pub cuts : (k : ℕ) (xs : List (T .D)) (b : ℕ) → ent 𝓤 (sem 𝓤 H A (cells (mem R) xs b 0)) (sep 𝓤 (sem 𝓤 H A (cells (mem R) (take k xs) b 0)) (sem 𝓤 H A (cells (mem R) (dropList k xs) b (behind k xs))))
+  pub cuts : (k : ℕ) (xs : List (T .D)) (b : ℕ) → ent 𝓤 (sem 𝓤 H A (cells (mem R) xs b 0))
+      (sep 𝓤 (sem 𝓤 H A (cells (mem R) (take k xs) b 0)) (sem 𝓤 H A (cells (mem R) (dropList k xs) b (behind k xs))))
   cuts k xs b =
       qed W (‵ (cells (mem R) xs b 0) ∷ []) ∵ rewrite ! 0 (λ (ys : List (T .D)). ‵ (cells (mem R) ys b 0)) (sym (take-append-drop k xs)) refl $
       by ! (cut-app 𝓤 H A (mem R) (take k xs) (dropList k xs) b 0)
 
   pub joins : (k : ℕ) (xs ys : List (T .D)) (b : ℕ) → length ys ≡ length (take k xs)
-      → ent 𝓤 (sep 𝓤 (sem 𝓤 H A (cells (mem R) ys b 0)) (sem 𝓤 H A (cells (mem R) (dropList k xs) b (behind k xs)))) (sem 𝓤 H A (cells (mem R) (ys ++ dropList k xs) b 0))
+      → ent 𝓤 (sep 𝓤 (sem 𝓤 H A (cells (mem R) ys b 0)) (sem 𝓤 H A (cells (mem R) (dropList k xs) b (behind k xs))))
+      (sem 𝓤 H A (cells (mem R) (ys ++ dropList k xs) b 0))
   joins k xs ys b l =
-      subst (λ (j : ℕ). ent 𝓤 (sep 𝓤 (sem 𝓤 H A (cells (mem R) ys b 0)) (sem 𝓤 H A (cells (mem R) (dropList k xs) b (at 0 (mem R .size) j)))) (sem 𝓤 H A (cells (mem R) (ys ++ dropList k xs) b 0))) l
+      subst (λ (j : ℕ). ent 𝓤 (sep 𝓤 (sem 𝓤 H A (cells (mem R) ys b 0)) (sem 𝓤 H A (cells (mem R) (dropList k xs) b (at 0 (mem R .size) j))))
+      (sem 𝓤 H A (cells (mem R) (ys ++ dropList k xs) b 0))) l
       (join-app 𝓤 H A (mem R) ys (dropList k xs) b 0)

@@ -21,8 +21,61 @@ use prog.Wp.{Heap, Calls, Loops, WpFn, Tables}
 use ghost.Atoms.{Atoms}
 use contract.Monad.{Fun, fact}
 use contract.Running.{givenOf, tables, tablesOf}
-use types.Kit.{Given, ‵, raw, _⊛_, ⋆, some, later, _$_, _∵_, !, qed, by, move, keep, drop, use1, use2, use3, split, join, pick, rewrite, fsplit, fjoin, feqL, suffices, frame, await, done}
-use types.Run.{look, init, forget, stop, fld, from, load, of-opd, addr, and-then, no-more, land, assigns, returns, enter, alloc1, alloc0, params1, pass1, pass0, free1, free0}
+use types.Kit.{
+  Given,
+  ‵,
+  raw,
+  _⊛_,
+  ⋆,
+  some,
+  later,
+  _$_,
+  _∵_,
+  !,
+  qed,
+  by,
+  move,
+  keep,
+  drop,
+  use1,
+  use2,
+  use3,
+  split,
+  join,
+  pick,
+  rewrite,
+  fsplit,
+  fjoin,
+  feqL,
+  suffices,
+  frame,
+  await,
+  done,
+}
+use types.Run.{
+  look,
+  init,
+  forget,
+  stop,
+  fld,
+  from,
+  load,
+  of-opd,
+  addr,
+  and-then,
+  no-more,
+  land,
+  assigns,
+  returns,
+  enter,
+  alloc1,
+  alloc0,
+  params1,
+  pass1,
+  pass0,
+  free1,
+  free0,
+}
 use types.Part.{whole, sub, look-in, agg}
 use types.Tokens.{lft-new, lft-end}
 use types.SemTy.{cells, Arr}
@@ -81,7 +134,8 @@ module _ {M : Type 1} (𝓤 : URA M) (H : Heap 𝓤) (A : Atoms 𝓤) (mem : Mem
   abbrev Relax : Contract 𝓤
   Relax = tripleOf 𝓤 H A relax′.signature (relax′.spec 𝓤 H A mem run)
 
-module _ {M : Type 1} (𝓤 : URA M) (H : Heap 𝓤) (A : Atoms 𝓤) (W : Given 𝓤 H A) (mem : Memory → SProp 𝓤) (run : Routine → Fun 𝓤) (s : Sheet) (is : Is S.the-row s (LL.vals S.the-type S′.the-laws s)) (few : s .count ≤ 18) where
+module _ {M : Type 1} (𝓤 : URA M) (H : Heap 𝓤) (A : Atoms 𝓤) (W : Given 𝓤 H A) (mem : Memory → SProp 𝓤) (run : Routine → Fun 𝓤) (s : Sheet)
+    (is : Is S.the-row s (LL.vals S.the-type S′.the-laws s)) (few : s .count ≤ 18) where
   abbrev R : RattleType
   R = T.the-row
 
@@ -129,8 +183,10 @@ module _ {M : Type 1} (𝓤 : URA M) (H : Heap 𝓤) (A : Atoms 𝓤) (W : Given
 
   exits : (r : Lent) (u : Val) → Is L.the-row r (u ∷ []) → Lends s r → ent 𝓤 (⋆ 𝓤 H A []) (Post u)
   exits r u g e =
-      qed W [] ∵ suffices ! _ (ends-at 𝓤 H A relaxed′.ended stayed (relaxed′.clauses 𝓤 H A mem run) W ((tt, tt, tt, (s, tt), (v ∷ [], tt)), tt) u r (tt, tt) (tt, tt)) $ says ! e $
-      owned ! L.the-row (Is L.the-row) (LL.makes L.the-type L′.the-plain 𝓤 H A) r _ g $ nothing ! $ owned ! S.the-row (Is S.the-row) (LL.makes S.the-type S′.the-plain 𝓤 H A) s _ is $ fjoin ! $ nothing ! $ done !
+      qed W [] ∵ suffices ! _ (ends-at 𝓤 H A relaxed′.ended stayed (relaxed′.clauses 𝓤 H A mem run) W ((tt, tt, tt, (s, tt), (v ∷ [], tt)), tt) u r (tt, tt)
+      (tt, tt)) $ says ! e $
+      owned ! L.the-row (Is L.the-row) (LL.makes L.the-type L′.the-plain 𝓤 H A) r _ g $ nothing ! $ owned ! S.the-row (Is S.the-row)
+      (LL.makes S.the-type S′.the-plain 𝓤 H A) s _ is $ fjoin ! $ nothing ! $ done !
 
   -- ---- the call
   module _ (b α : ℕ) (γ : GName) where
@@ -143,10 +199,12 @@ module _ {M : Type 1} (𝓤 : URA M) (H : Heap 𝓤) (A : Atoms 𝓤) (W : Given
     abbrev to-relax : Relax 𝓤 H A mem run .Ghost
     to-relax = (((κ, tt), (fullShare, tt), tt, (c, (x, tt)), (vint w64 (ofZ w64 c) ∷ [], (sliceVal (b, 0) (length ls) ∷ [], tt))), tt)
 
-    goes : ent 𝓤 (⋆ 𝓤 H A (‵ (flft κ fullShare) ∷ ‵ (MutSlice (named 0) κ R .own x (sliceVal (b, 0) (length ls) ∷ [])) ∷ [])) (Relax 𝓤 H A mem run .pre to-relax)
+    goes : ent 𝓤 (⋆ 𝓤 H A (‵ (flft κ fullShare) ∷ ‵ (MutSlice (named 0) κ R .own x (sliceVal (b, 0) (length ls) ∷ [])) ∷ []))
+        (Relax 𝓤 H A mem run .pre to-relax)
     goes =
         qed W (‵ (flft κ fullShare) ∷ ‵ (MutSlice (named 0) κ R .own x (sliceVal (b, 0) (length ls) ∷ [])) ∷ []) ∵ nothing ! $ move ! (1 ∷ 0 ∷ []) $ join ! $
-        nothing ! $ move ! (2 ∷ 0 ∷ []) $ fjoin ! $ owned ! i64 (Is i64) (sint-makes 𝓤 H A W w64) c _ (refl, c-fits) $ fjoin ! $ move ! (1 ∷ 0 ∷ []) $ join ! $ frame ! $ done !
+        nothing ! $ move ! (2 ∷ 0 ∷ []) $ fjoin ! $ owned ! i64 (Is i64) (sint-makes 𝓤 H A W w64) c _ (refl, c-fits) $ fjoin ! $ move ! (1 ∷ 0 ∷ []) $ join
+        ! $ frame ! $ done !
 
   -- what is returned, at the last list ys of the slice
   abbrev left : Answer → List Item → Lent
@@ -155,7 +213,8 @@ module _ {M : Type 1} (𝓤 : URA M) (H : Heap 𝓤) (A : Atoms 𝓤) (W : Given
   holds : (r : Answer) (ys : List Item) → length ys ≡ length ls → Relaxes c ls ys r → Lends s (left r ys)
   holds r ys l e = record { lent = rw (take-at ys (dropList k xs) k (l ∙ lent)) e; others = drop-at ys (dropList k xs) k (l ∙ lent) }
 
-  left-is : (r : Answer) (ys : List Item) (w u : Val) → Is Q.the-row r (w ∷ []) → Is (Tuples 𝓤 H A W T.the-type 18) (map (T.the-type .to) (ys ++ dropList k xs)) (u ∷ []) → Is L.the-row (left r ys) (vstruct (ofList (w ∷ u ∷ [])) ∷ [])
+  left-is : (r : Answer) (ys : List Item) (w u : Val) → Is Q.the-row r (w ∷ []) → Is (Tuples 𝓤 H A W T.the-type 18)
+      (map (T.the-type .to) (ys ++ dropList k xs)) (u ∷ []) → Is L.the-row (left r ys) (vstruct (ofList (w ∷ u ∷ [])) ∷ [])
   left-is r ys w u g h = ((w ∷ [], (u ∷ [], tt)), (refl, (g, (h, tt))))
 
   module _ (C : Calls 𝓤 H) (Λ : Loops 𝓤 H) (fm : FmC 𝓤 H (W .laws) C) (known : Triple 𝓤 (C #relax-with) (Relax 𝓤 H A mem run)) where
@@ -165,48 +224,69 @@ module _ {M : Type 1} (𝓤 : URA M) (H : Heap 𝓤) (A : Atoms 𝓤) (W : Given
         alloc1 ! (λ l₀. alloc1 ! (λ l₁. alloc1 ! (λ l₂. alloc1 ! (λ l₃. alloc1 ! (λ l₄. alloc1 ! (λ l₅. alloc1 ! (λ l₆. alloc1 ! (λ l₇. alloc0 ! $ params1 ! $
         pass1 ! (init ! 12 refl (LL.lawful S.the-type S′.the-laws 𝓤 H A W .typed s _ is .0)) $ pass0 ! $
         -- [_7; …; _6; …; _5; …; _4; …; _3; …; _2; …; _1; …; _0; …; true; what s owns]
-        assigns ! (of-opd ! (load ! (from ! (fld ! refl (stop !))) (look-in ! 12 (sub ! 0 refl (whole !))))) (from ! (stop !)) (init ! 10 refl (S′.the-laws .0 .lawful 𝓤 H A W .typed (map (T.the-type .to) xs) _ (parts .0) .0)) $
-        assigns ! (of-opd ! (load ! (from ! (fld ! refl (stop !))) (look-in ! 12 (sub ! 1 refl (whole !))))) (from ! (stop !)) (init ! 8 refl (tt, record { fits = parts .1 .0 .1 })) $
+        assigns ! (of-opd ! (load ! (from ! (fld ! refl (stop !))) (look-in ! 12 (sub ! 0 refl (whole !))))) (from ! (stop !))
+        (init ! 10 refl (S′.the-laws .0 .lawful 𝓤 H A W .typed (map (T.the-type .to) xs) _ (parts .0) .0)) $
+        assigns ! (of-opd ! (load ! (from ! (fld ! refl (stop !))) (look-in ! 12 (sub ! 1 refl (whole !))))) (from ! (stop !))
+        (init ! 8 refl (tt, record { fits = parts .1 .0 .1 })) $
         assigns ! (addr ! (from ! (stop !))) (from ! (stop !)) (init ! 4 refl (tt, tt)) $
-        assigns ! (agg ! (and-then ! (load ! (from ! (stop !)) (look ! 4 refl)) (and-then ! (load ! (from ! (stop !)) (look ! 8 refl)) (no-more !)))) (from ! (stop !)) (init ! 2 refl (tt, (tt, (record { fits = parts .1 .0 .1 }, tt)))) $
+        assigns ! (agg ! (and-then ! (load ! (from ! (stop !)) (look ! 4 refl)) (and-then ! (load ! (from ! (stop !)) (look ! 8 refl)) (no-more !))))
+        (from ! (stop !)) (init ! 2 refl (tt, (tt, (record { fits = parts .1 .0 .1 }, tt)))) $
         rewrite ! 2 (λ (m : ℕ). ‵ (fat fullShare slice l₆ 0 (sliceVal (l₂, 0) m))) (sym lent) refl $
         -- the first items are lent
-        owned ! (Tuples 𝓤 H A W T.the-type 18) (Is (Tuples 𝓤 H A W T.the-type 18)) (array-makes 𝓤 H A W (Struct (shape T.the-type)) (struct-makes 𝓤 H A (shape T.the-type) T′.the-plain) 18) (map (T.the-type .to) xs) (va ∷ []) (parts .0) $ move ! (11 ∷ 0 ∷ []) $
+        owned ! (Tuples 𝓤 H A W T.the-type 18) (Is (Tuples 𝓤 H A W T.the-type 18))
+        (array-makes 𝓤 H A W (Struct (shape T.the-type)) (struct-makes 𝓤 H A (shape T.the-type) T′.the-plain) 18) (map (T.the-type .to) xs) (va ∷ [])
+        (parts .0) $ move ! (11 ∷ 0 ∷ []) $
         use2 W (‵ (cells (memOf R) xs l₂ 0)) (opens 𝓤 H A W T.the-type tt 18 xs va l₂) $
-        use1 W (‵ (cells (memOf R) ls l₂ 0) ⊛ ‵ (cells (memOf R) (dropList k xs) l₂ (behind 𝓤 H A W T.the-type k xs))) (cuts 𝓤 H A W T.the-type k xs l₂) $ split ! $
+        use1 W (‵ (cells (memOf R) ls l₂ 0) ⊛ ‵ (cells (memOf R) (dropList k xs) l₂ (behind 𝓤 H A W T.the-type k xs))) (cuts 𝓤 H A W T.the-type k xs l₂) $
+        split ! $
         lft-new ! tt (λ α. move ! (1 ∷ []) $
-        use1 W (later (some (λ (γ : GName). ‵ (MutSlice (named 0) (α ∷ []) R .own (record { ptr = (l₂, 0); name = γ; now = ls }) (sliceVal (l₂, 0) (length ls) ∷ [])) ⊛ ‵ (flent (α ∷ []) (Held R (length ls) l₂ 0 γ))))) (lends-slice 𝓤 H A W R (named 0) (α ∷ []) ls l₂ 0 room) $
+        use1 W (later (some (λ (γ : GName). ‵ (MutSlice (named 0) (α ∷ []) R .own (record { ptr = (l₂, 0); name = γ; now = ls })
+        (sliceVal (l₂, 0) (length ls) ∷ [])) ⊛ ‵ (flent (α ∷ []) (Held R (length ls) l₂ 0 γ))))) (lends-slice 𝓤 H A W R (named 0) (α ∷ []) ls l₂ 0 room) $
         await ! tt $ pick ! (λ γ. split ! $ move ! (2 ∷ 0 ∷ []) $ use2 W (raw (Relax 𝓤 H A mem run .pre (to-relax l₂ α γ))) (goes l₂ α γ) $
-        calls-at ! fm (Relax 𝓤 H A mem run) known (to-relax l₂ α γ) (and-then ! (load ! (from ! (fld ! refl (stop !))) (look-in ! 14 (sub ! 2 refl (whole !)))) (and-then ! (load ! (from ! (stop !)) (look ! 5 refl)) (no-more !))) (λ w.
-        use1 W (later (some (λ (r : Answer). ((‵ (flft (α ∷ []) fullShare) ⊛ ‵ ftrue) ⊛ ‵ (Q.the-row .own r (w ∷ []))) ⊛ raw (ensured 𝓤 H A relax′.ended (relax′.clauses 𝓤 H A mem run) (α ∷ [], tt) (c, (x l₂ α γ, tt)) tt r)))) (id⊢ 𝓤 _) $ await ! tt $ pick ! (λ r.
-        split ! $ move ! (1 ∷ []) $ use1 W (some (λ (zs : Unit {0} × (List Item × Unit {0})). ‵ (lasts relax′.ended (α ∷ [], tt) (c, (x l₂ α γ, tt)) zs) ⊛ raw (fact 𝓤 (Relaxes c ls (zs .1 .0) r)))) (id⊢ 𝓤 _) $ pick ! (λ zs.
+        calls-at ! fm (Relax 𝓤 H A mem run) known (to-relax l₂ α γ)
+        (and-then ! (load ! (from ! (fld ! refl (stop !))) (look-in ! 14 (sub ! 2 refl (whole !))))
+        (and-then ! (load ! (from ! (stop !)) (look ! 5 refl)) (no-more !))) (λ w.
+        use1 W (later (some (λ (r : Answer). ((‵ (flft (α ∷ []) fullShare) ⊛ ‵ ftrue) ⊛ ‵ (Q.the-row .own r (w ∷ []))) ⊛ raw
+        (ensured 𝓤 H A relax′.ended (relax′.clauses 𝓤 H A mem run) (α ∷ [], tt) (c, (x l₂ α γ, tt)) tt r)))) (id⊢ 𝓤 _) $ await ! tt $ pick ! (λ r.
+        split ! $ move ! (1 ∷ []) $ use1 W (some (λ (zs : Unit {0} × (List Item × Unit {0})). ‵ (lasts relax′.ended (α ∷ [], tt) (c, (x l₂ α γ, tt)) zs) ⊛
+        raw (fact 𝓤 (Relaxes c ls (zs .1 .0) r)))) (id⊢ 𝓤 _) $ pick ! (λ zs.
         split ! $ move ! (1 ∷ []) $ heard ! (Relaxes c ls (zs .1 .0) r) (λ e. fsplit ! $ drop ! $ fsplit ! $ fsplit ! $ move ! (1 ∷ []) $ feqL ! (λ l.
         -- [the last list; true; the token and the answer; the lender's part; the other items; _7; …]
         move ! (2 ∷ []) $ split ! $ move ! (1 ∷ []) $ peeks ! Q.the-row (Is Q.the-row) (shows 𝓤 H A Q.the-row) r (w ∷ []) (λ g.
         land ! (from ! (stop !)) (init ! 12 refl (LL.lawful Q.the-type Q′.the-laws 𝓤 H A W .typed r _ g .0)) $ drop ! $
         -- the loan is over
         split ! $ lft-end ! tt $ move ! (0 ∷ 4 ∷ 2 ∷ []) $
-        use3 W (later (‵ (Arr (memOf R) (length ls) .lies (zs .1 .0) l₂ 0))) (slice-back 𝓤 H A W R (α ∷ []) γ (zs .1 .0) (length ls) l₂ 0) $ await ! tt $ fsplit ! $ drop ! $ move ! (0 ∷ 3 ∷ []) $
+        use3 W (later (‵ (Arr (memOf R) (length ls) .lies (zs .1 .0) l₂ 0))) (slice-back 𝓤 H A W R (α ∷ []) γ (zs .1 .0) (length ls) l₂ 0) $ await ! tt $
+        fsplit ! $ drop ! $ move ! (0 ∷ 3 ∷ []) $
         use2 W (‵ (cells (memOf R) (zs .1 .0 ++ dropList k xs) l₂ 0)) (joins 𝓤 H A W T.the-type k xs (zs .1 .0) l₂ l) $
-        use1 W (some (λ (u : Val). ‵ (fat fullShare (tyArray T′.mir 18) l₂ 0 u) ⊛ ‵ (Tuples 𝓤 H A W T.the-type 18 .own (map (T.the-type .to) (zs .1 .0 ++ dropList k xs)) (u ∷ [])))) (shuts 𝓤 H A W T.the-type 18 (zs .1 .0 ++ dropList k xs) l₂ (whole-length (zs .1 .0) l)) $ pick ! (λ u.
-        split ! $ move ! (1 ∷ []) $ facts ! (Tuples 𝓤 H A W T.the-type 18) (Is (Tuples 𝓤 H A W T.the-type 18)) (shows 𝓤 H A (Tuples 𝓤 H A W T.the-type 18)) (map (T.the-type .to) (zs .1 .0 ++ dropList k xs)) (u ∷ []) (λ h.
+        use1 W (some (λ (u : Val). ‵ (fat fullShare (tyArray T′.mir 18) l₂ 0 u) ⊛ ‵
+        (Tuples 𝓤 H A W T.the-type 18 .own (map (T.the-type .to) (zs .1 .0 ++ dropList k xs)) (u ∷ []))))
+        (shuts 𝓤 H A W T.the-type 18 (zs .1 .0 ++ dropList k xs) l₂ (whole-length (zs .1 .0) l)) $ pick ! (λ u.
+        split ! $ move ! (1 ∷ []) $ facts ! (Tuples 𝓤 H A W T.the-type 18) (Is (Tuples 𝓤 H A W T.the-type 18)) (shows 𝓤 H A (Tuples 𝓤 H A W T.the-type 18))
+        (map (T.the-type .to) (zs .1 .0 ++ dropList k xs)) (u ∷ []) (λ h.
         -- [_2; true; true; _7; …; _6; …; _5; …; _4; …; _3; …; the end of _2; _1; …; _0; …]
-        assigns ! (of-opd ! (load ! (from ! (stop !)) (look ! 0 refl))) (from ! (stop !)) (init ! 3 refl (S′.the-laws .0 .lawful 𝓤 H A W .typed (map (T.the-type .to) (zs .1 .0 ++ dropList k xs)) _ h .0)) $
-        assigns ! (agg ! (and-then ! (load ! (from ! (stop !)) (look ! 9 refl)) (and-then ! (load ! (from ! (stop !)) (look ! 3 refl)) (no-more !)))) (from ! (stop !)) (init ! 16 refl (LL.lawful L.the-type L′.the-laws 𝓤 H A W .typed (left r (zs .1 .0)) _ (left-is r (zs .1 .0) w u g h) .0)) $
-        returns ! (look ! 16 refl) $ forget ! 0 refl $ forget ! 3 refl $ forget ! 5 refl $ forget ! 7 refl $ forget ! 9 refl $ forget ! 11 refl $ forget ! 14 refl $ forget ! 16 refl $
-        move ! (16 ∷ 17 ∷ []) $ free1 ! $ move ! (14 ∷ 15 ∷ []) $ free1 ! $ move ! (0 ∷ 13 ∷ []) $ free1 ! $ move ! (10 ∷ 11 ∷ []) $ free1 ! $ move ! (8 ∷ 9 ∷ []) $ free1 ! $ move ! (6 ∷ 7 ∷ []) $ free1 ! $ move ! (4 ∷ 5 ∷ []) $ free1 ! $ move ! (2 ∷ 3 ∷ []) $ free1 ! $ free0 ! $
+        assigns ! (of-opd ! (load ! (from ! (stop !)) (look ! 0 refl))) (from ! (stop !))
+        (init ! 3 refl (S′.the-laws .0 .lawful 𝓤 H A W .typed (map (T.the-type .to) (zs .1 .0 ++ dropList k xs)) _ h .0)) $
+        assigns ! (agg ! (and-then ! (load ! (from ! (stop !)) (look ! 9 refl)) (and-then ! (load ! (from ! (stop !)) (look ! 3 refl)) (no-more !))))
+        (from ! (stop !)) (init ! 16 refl (LL.lawful L.the-type L′.the-laws 𝓤 H A W .typed (left r (zs .1 .0)) _ (left-is r (zs .1 .0) w u g h) .0)) $
+        returns ! (look ! 16 refl) $ forget ! 0 refl $ forget ! 3 refl $ forget ! 5 refl $ forget ! 7 refl $ forget ! 9 refl $ forget ! 11 refl $ forget !
+        14 refl $ forget ! 16 refl $
+        move ! (16 ∷ 17 ∷ []) $ free1 ! $ move ! (14 ∷ 15 ∷ []) $ free1 ! $ move ! (0 ∷ 13 ∷ []) $ free1 ! $ move ! (10 ∷ 11 ∷ []) $ free1 ! $ move !
+        (8 ∷ 9 ∷ []) $ free1 ! $ move ! (6 ∷ 7 ∷ []) $ free1 ! $ move ! (4 ∷ 5 ∷ []) $ free1 ! $ move ! (2 ∷ 3 ∷ []) $ free1 ! $ free0 ! $
         keep ! [] $ by ! (exits (left r (zs .1 .0)) _ (left-is r (zs .1 .0) w u g h) (holds r (zs .1 .0) l e))))))))))))))))))))
       where
         whole-length : (ys : List Item) → length ys ≡ length ls → length (ys ++ dropList k xs) ≡ 18
         whole-length ys l = same-len k xs ys l ∙ full
 
 module _ {M : Type 1} (𝓤 : URA M) (H : Heap 𝓤) (A : Atoms 𝓤) (W : Given 𝓤 H A) (mem : Memory → SProp 𝓤) (run : Routine → Fun 𝓤) where
-  relaxed-walks : (C : Calls 𝓤 H) (Λ : Loops 𝓤 H) → FmC 𝓤 H (W .laws) C → Triple 𝓤 (C #relax-with) (Relax 𝓤 H A mem run) → Walks 𝓤 H A relaxed′.ended stayed (WpFn 𝓤 H C Λ code.function) (relaxed′.clauses 𝓤 H A mem run)
+  relaxed-walks : (C : Calls 𝓤 H) (Λ : Loops 𝓤 H) → FmC 𝓤 H (W .laws) C → Triple 𝓤 (C #relax-with) (Relax 𝓤 H A mem run) → Walks 𝓤 H A relaxed′.ended stayed
+      (WpFn 𝓤 H C Λ code.function) (relaxed′.clauses 𝓤 H A mem run)
   relaxed-walks C Λ fm known = walked 𝓤 H A relaxed′.ended stayed (relaxed′.clauses 𝓤 H A mem run) (WpFn 𝓤 H C Λ code.function)
       (λ κs. (LL.vals S.the-type S′.the-laws, tt)) (λ κs. (LL.tells S.the-type S′.the-laws, tt))
       (λ κs qs bounds a g are. needs 𝓤 (a .0 .count ≤ 18) _ (λ few. walk 𝓤 H A W mem run (a .0) (are .0) few C Λ fm known))
 
-  relaxed-meets : (𝓣 : Tables 𝓤 H) → Triple 𝓤 (𝓣 .C #relax-with) (Relax 𝓤 H A mem run) → Meets 𝓤 H A relaxed′.signature (WpFn 𝓤 H (𝓣 .C) (𝓣 .Λ) code.function) (relaxed′.spec 𝓤 H A mem run)
+  relaxed-meets : (𝓣 : Tables 𝓤 H) → Triple 𝓤 (𝓣 .C #relax-with) (Relax 𝓤 H A mem run) → Meets 𝓤 H A relaxed′.signature
+      (WpFn 𝓤 H (𝓣 .C) (𝓣 .Λ) code.function) (relaxed′.spec 𝓤 H A mem run)
   relaxed-meets 𝓣 known =
       walk-meets 𝓤 H A relaxed′.ended stayed W (goes-none 𝓤 H A W 0 (λ _. S.the-row) kept-as-is (λ κs x f. refl), tt) (relaxed′.clauses 𝓤 H A mem run)
       (WpFn 𝓤 H (𝓣 .C) (𝓣 .Λ) code.function) (WpFn-mono 𝓤 H (W .laws) 𝓣 code.function) (relaxed-walks (𝓣 .C) (𝓣 .Λ) (fmOf 𝓤 H (W .laws) 𝓣) known)
