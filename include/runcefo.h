@@ -30,12 +30,13 @@ enum charge_refusal {
     CHARGE_ACCEPTED = 0,      /* it is not */
     CHARGE_TOO_LONG = 1,      /* longer than CHARGE_SHEET bytes; told with line 0 */
     CHARGE_BAD_FORM = 2,      /* a line missing or not in its form, but for 12 and 13; or something after the last section */
-    CHARGE_BAD_COUNT = 3,     /* capacities not 1, items not 1 to 16, or bounds of a side not as many as items */
+    CHARGE_BAD_COUNT = 3,     /* capacities not 1, items not 1 to 16, bounds of a side not as many as items, or more than 16 needs */
     CHARGE_OUT_OF_RANGE = 4,  /* a figure */
-    CHARGE_BAD_NUMBER = 5,    /* an item number out of turn */
+    CHARGE_BAD_NUMBER = 5,    /* an item number out of turn; in a need one that does not exist, that is named twice, or that does not rise */
     CHARGE_SHORT_BUFFER = 11, /* out is shorter than what would be written; told with line 0 */
     CHARGE_BAD_WORD = 12,     /* a heading word other than the expected one */
-    CHARGE_NO_NUMBER = 13     /* a field in a number's place that is not a number, or in a bound's place neither that nor `none` */
+    CHARGE_NO_NUMBER = 13,    /* a field in a number's place that is not a number, or in a bound's place neither that nor `none` */
+    CHARGE_BAD_NEED = 14      /* a need names an item that is continuous, lacks a bound, or has a lower bound below 0 */
 };
 
 #ifdef __cplusplus

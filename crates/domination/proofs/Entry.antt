@@ -19,19 +19,20 @@ use Rattle.knapsack.specs.declared.Verdict.{Verdict}
 use Rattle.knapsack.specs.declared.Verdict.the-variants.{Accepted, Refused as Rejected}
 use Rattle.knapsack.specs.Ranges.{itemAt}
 use Rattle.knapsack.specs.Meaning.{CostPair, LeastPair, NoPair}
-use Rattle.model.specs.Records.{plainOf, verdict, ItemFigures, FiguresInRange}
+use Rattle.model.specs.Records.{plainOf, wrongNumbers, verdict, ItemFigures, FiguresInRange, Numbers}
+use Rattle.model.proofs.NeedLines.{numbers-iff}
 use Rattle.model.specs.Refusals.{pair-numbers, pair-items}
 use Rattle.model.specs.declared.Model.{Model}
 use Rattle.domination.specs.declared.Pair.{Pair}
 use Rattle.domination.specs.declared.Pair.the-variants.{Missing, Steps}
 use Rattle.domination.specs.declared.PairReply.{PairReply}
 use Rattle.domination.specs.declared.PairReply.the-variants.{Refused, Found}
-use Rattle.domination.specs.Eligible.{Eligible, Numbers}
-use Rattle.domination.specs.Pairs.{pairOf, eligible, wrongNumbers, refusePair, paired, numbered, leastPair, orMissing, tabled}
+use Rattle.domination.specs.Eligible.{Eligible}
+use Rattle.domination.specs.Pairs.{pairOf, eligible, refusePair, paired, numbered, leastPair, orMissing, tabled}
 use Rattle.domination.specs.Told.{Answerable, by-record, by-numbers, by-items, Told}
 use Rattle.domination.proofs.Minimal.{Outcome, pair-outcome, pair-steps, pair-missing}
 use Rattle.domination.proofs.Sizes.{Small, pair-small}
-use Rattle.domination.proofs.Eligible.{eligible-iff, numbers-iff}
+use Rattle.domination.proofs.Eligible.{eligible-iff}
 use Rattle.domination.proofs.Tests.{not-both}
 
 -- a test that cannot succeed fails

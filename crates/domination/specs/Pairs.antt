@@ -9,7 +9,6 @@
 --   pairOf x y           the least pair of two eligible items, or Missing (01's none)
 --   isInteger, oneSign, eligible   the tests of row 10
 --   Fit x, Traded x y    what the code asks of items
---   wrongNumber n k, wrongNumbers n i j   the tests of row 9
 --   refusePair n         refusal n
 --   paired x y, numbered p i j   rows 10 and 9, then a pair
 --   after v q            the record's refusal, or q
@@ -32,7 +31,7 @@ use Rattle.knapsack.specs.declared.Problem.{Problem}
 use Rattle.knapsack.specs.declared.Verdict.{Verdict}
 use Rattle.knapsack.specs.declared.Verdict.the-variants.{Accepted, Refused as Rejected}
 use Rattle.knapsack.specs.Ranges.{itemAt}
-use Rattle.model.specs.Records.{plainOf, refusalOf, verdict, ItemFigures}
+use Rattle.model.specs.Records.{plainOf, wrongNumbers, refusalOf, verdict, ItemFigures}
 use Rattle.model.specs.Refusals as refusal
 use Rattle.model.specs.declared.Model.{Model}
 use Rattle.domination.specs.declared.Pair.{Pair}
@@ -103,14 +102,6 @@ pub record Traded (x y : Item) : Type 0 where
   pub first-fit : Fit x
   pub second-fit : Fit y
   pub direction : lessEfficient x y ≡ true
-
--- an item number outside 1 to n
-abbrev pub wrongNumber : ℕ → ℕ → Bool
-wrongNumber n k = cond (eqb k 0) true (ltb n k)
-
--- or one item twice
-abbrev pub wrongNumbers : ℕ → ℕ → ℕ → Bool
-wrongNumbers n i j = cond (wrongNumber n i) true (cond (wrongNumber n j) true (eqb i j))
 
 abbrev pub refusePair : ℕ → PairReply
 refusePair n = Refused (refusalOf n)

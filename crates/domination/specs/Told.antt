@@ -9,13 +9,13 @@ use Rattle.knapsack.specs.declared.Item.{Item}
 use Rattle.knapsack.specs.declared.Refusal.{Refusal}
 use Rattle.knapsack.specs.declared.Verdict.the-variants.{Accepted, Refused as Rejected}
 use Rattle.knapsack.specs.Meaning.{LeastPair, NoPair}
-use Rattle.model.specs.Records.{itemAt, refusalOf, verdict}
+use Rattle.model.specs.Records.{itemAt, refusalOf, verdict, Numbers}
 use Rattle.model.specs.Refusals as refusal
 use Rattle.model.specs.declared.Model.{Model}
 use Rattle.domination.specs.declared.Pair.the-variants.{Missing, Steps}
 use Rattle.domination.specs.declared.PairReply.{PairReply}
 use Rattle.domination.specs.declared.PairReply.the-variants.{Refused, Found}
-use Rattle.domination.specs.Eligible.{Eligible, Numbers}
+use Rattle.domination.specs.Eligible.{Eligible}
 
 abbrev pub numberedItem : Model → ℕ → Item
 numberedItem m i = itemAt m (i - 1)

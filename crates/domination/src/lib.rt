@@ -7,6 +7,7 @@ use knapsack::Refusal;
 use knapsack::Verdict;
 use model::Model;
 use model::check_model;
+use model::naming::are_wrong;
 use model::plain_of;
 use model::refusal_of;
 use model::refusals;
@@ -16,7 +17,7 @@ ghost use mathlib.Core.Path.{_≡_};
 ghost use Prim.Native.Nat.{ℕ, _+_, _*_, _<_};
 ghost use lib.ListN.{getD, replicate};
 ghost use Rattle.model.specs.Records.{ItemFigures, FiguresInRange};
-ghost use Rattle.domination.specs.Pairs.{wrongNumber, wrongNumbers, refusePair, paired, numbered, leastPair, orMissing, tabled};
+ghost use Rattle.domination.specs.Pairs.{refusePair, paired, numbered, leastPair, orMissing, tabled};
 ghost use Rattle.domination.specs.Told.{Told};
 
 mod pairing; // pairing.rt: the least pair of two items
@@ -38,29 +39,6 @@ fn refused(number: u64) -> PairReply
     ensures { λ r. ⌜ r ≡ refusePair number ⌝ }
 {
     PairReply::Refused(refusal_of(number))
-}
-
-// Whether an item number is outside 1 to n.
-fn is_wrong(n: usize, k: usize) -> bool
-    ensures { λ r. ⌜ r ≡ wrongNumber n k ⌝ }
-{
-    if k == 0 {
-        return true;
-    }
-    n < k
-}
-
-// Whether one of two item numbers is outside 1 to n, or both are one (01's refusal 9).
-fn are_wrong(n: usize, i: usize, j: usize) -> bool
-    ensures { λ r. ⌜ r ≡ wrongNumbers n i j ⌝ }
-{
-    if is_wrong(n, i) {
-        return true;
-    }
-    if is_wrong(n, j) {
-        return true;
-    }
-    i == j
 }
 
 // The reply for two items of an accepted problem.

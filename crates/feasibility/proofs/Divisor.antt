@@ -16,7 +16,7 @@ use Rattle.arith.specs.Gcd.{Divides, gcdOf}
 use Rattle.arith.specs.Sum.{Each}
 use Rattle.arith.specs.declared.Fraction.{Fraction}
 use Rattle.arith.proofs.Divisors.{gcd-is, divisor-pos}
-use Rattle.model.proofs.Records.{neither}
+use Rattle.model.proofs.Tests.{neither}
 use Rattle.feasibility.specs.Amounts.{GoodAmount, GoodPoint, badAmount, joined, commonDivisor}
 
 good : (x : Fraction) → badAmount x ≡ false → GoodAmount x

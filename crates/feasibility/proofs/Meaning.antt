@@ -3,8 +3,8 @@
 -- refused-iff, feasible-iff, weight-iff, item-iff: each kind of reply is given exactly where it should be.
 use mathlib.Core.Path.{_≡_, refl, sym, ap, _∙_, subst}
 use mathlib.Core.Bool.{Bool, true, false, cond, not}
-use mathlib.Core.Logic.{_↔_}
-use Prim.Native.Nat.{ℕ, zero, suc, _*_, _/_, _≤_, _<_, max}
+use mathlib.Core.Logic.{_↔_, _⊎_, inl, inr}
+use Prim.Native.Nat.{ℕ, zero, suc, _-_, _*_, _/_, _≤_, _<_, max}
 use native.Mathlib.Decide.{decLt}
 use native.Mathlib.Nat.{div-eq-of-eq-mul-left}
 use native.Mathlib.Omega.{arith}
@@ -23,10 +23,13 @@ use Rattle.arith.proofs.Words.{yes-lt, no-lt}
 use Rattle.knapsack.specs.declared.Refusal.{Refusal}
 use Rattle.knapsack.specs.declared.Verdict.{Verdict}
 use Rattle.knapsack.specs.declared.Verdict.the-variants as verdicts
-use Rattle.knapsack.specs.Meaning.{Keeps, Feasible}
-use Rattle.model.specs.Records.{itemAt, plainOf, verdict, Admissible}
+use Rattle.knapsack.specs.Meaning.{Keeps}
+use Rattle.model.specs.Needs.{KeepsNeed, KeepsNeeds, FeasibleNeeds}
+use Rattle.model.specs.Records.{itemAt, needAt, plainOf, placed, needsOf, verdict, Admissible}
 use Rattle.model.specs.Refusals.{amounts, amount}
 use Rattle.model.specs.declared.Model.{Model}
+use Rattle.model.specs.declared.Need.{Need}
+use Rattle.model.proofs.NeedLines.{needs-in, needs-from}
 use Rattle.model.proofs.Records.{accepted, admitted}
 use Rattle.feasibility.specs.declared.Candidate.{Candidate}
 use Rattle.feasibility.specs.declared.Figure.{Figure}
@@ -36,7 +39,9 @@ use Rattle.feasibility.specs.declared.PointReply.the-variants as reply
 use Rattle.feasibility.specs.Amounts.{proposedAt, GoodPoint, commonDivisor, numerator}
 use Rattle.feasibility.specs.Check.{
   breaks,
+  earlierOf,
   firstBroken,
+  firstLacking,
   figureOf,
   totalOf,
   afterItems,
@@ -54,9 +59,10 @@ use Rattle.feasibility.specs.Check.{
   by-amounts,
   ToldWeight,
   ToldItem,
+  ToldNeed,
   Told,
 }
-use Rattle.feasibility.proofs.Breaking.{Found, none, first, found, keeps-iff}
+use Rattle.feasibility.proofs.Breaking.{Found, none, first, found, keeps-iff, none-yet, stays, lackAt, Lacking, all, broken, lacking, kept-iff}
 use Rattle.feasibility.proofs.Divisor.{Divided, divided, divisor-iff}
 
 -- ---- amounts and values over the common divisor
@@ -85,44 +91,83 @@ module _ (m : Model) (c : Candidate) (d : ℕ) (asked : Proposed m c) (s : Divid
   kept : (k : ℕ) → k < m .count → (breaks (itemAt m k) (proposedAt c k) ≡ false) ↔ Keeps (itemAt m k) (proposedPoint c k)
   kept k l = keeps-iff (itemAt m k) (proposedAt c k) (s .fine k l)
 
-  -- where every item is kept the weight decides
-  by-weight : ((k : ℕ) → k < m .count → Keeps (itemAt m k) (proposedPoint c k)) → (b : Bool) →
+  abbrev given : ℕ → Need
+  given j = needAt (m .needs) j
+
+  covered : (j : ℕ) → j < m .needs .count → (lackAt (m .needs) c j ≡ false) ↔ KeepsNeed (placed (given j)) (proposedPoint c)
+  covered j l =
+      let n = asked .admissible .needs j l .numbers in
+      let i : given j .item - 1 < m .count = omega (arith, n .first-least, n .first-most) in
+      let k : given j .cover - 1 < m .count = omega (arith, n .second-least, n .second-most) in
+      kept-iff (proposedAt c (given j .item - 1)) (proposedAt c (given j .cover - 1)) (s .fine _ i) (s .fine _ k)
+
+  -- line by line is need by need
+  every : ((j : ℕ) → j < m .needs .count → KeepsNeed (placed (given j)) (proposedPoint c)) → KeepsNeeds (needsOf (m .needs)) (proposedPoint c)
+  every h n i = let f = needs-from (m .needs .count) given n i in subst (λ (z : Need). KeepsNeed z (proposedPoint c)) (sym (f .1 .1)) (h (f .0) (f .1 .0))
+
+  -- where every item and every need is kept the weight decides
+  by-weight : ((k : ℕ) → k < m .count → Keeps (itemAt m k) (proposedPoint c k)) → KeepsNeeds (needsOf (m .needs)) (proposedPoint c) → (b : Bool) →
       ltZ (m .capacity *ℤ pos d) (totalOf Weight d (m .count) (plainOf m) c) ≡ b →
       Told m c (cond b (reply.Violates 0) (reply.Feasible (lowest (totalOf Price d (m .count) (plainOf m) c) d)))
-  by-weight k true e = record { proposed = asked; keeps = k; over = over-< (s .some) (over-int d (m .capacity)) (total-over Weight) (yes-lt e) }
-  by-weight k false e =
+  by-weight k n true e =
+      record { proposed = asked; keeps = k; kept = n; over = over-< (s .some) (over-int d (m .capacity)) (total-over Weight) (yes-lt e) }
+  by-weight k n false e =
       let v = totalOf Price d (m .count) (plainOf m) c in
       record {
         proposed = asked;
-        feasible = record { keeps = k; fits = over-≤ (s .some) (total-over Weight) (over-int d (m .capacity)) .1 (no-lt e) };
+        feasible = record {
+          plain = record { keeps = k; fits = over-≤ (s .some) (total-over Weight) (over-int d (m .capacity)) .1 (no-lt e) };
+          kept = n;
+        };
         exact = over-≈ (over-lowest v d (s .some)) (total-over Price) (s .some) refl;
         divisor = lowest-den v d (s .some);
         lowest = lowest-coprime v d (s .some);
       }
 
-  judged-told : Told m c (judged d (plainOf m) c)
+  abbrev weighed : PointReply
+  weighed = cond (ltZ (m .capacity *ℤ pos d) (totalOf Weight d (m .count) (plainOf m) c)) (reply.Violates 0)
+      (reply.Feasible (lowest (totalOf Price d (m .count) (plainOf m) c) d))
+
+  -- where every item is kept the needs come next
+  by-needs : ((k : ℕ) → k < m .count → Keeps (itemAt m k) (proposedPoint c k)) → (n : ℕ) → Lacking (m .needs .count) (m .needs) c n →
+      Told m c (afterItems n weighed)
+  by-needs k n (all h) = by-weight k (every (λ j l. covered j l .0 (h j l))) _ refl
+  by-needs k n (broken j l e h) = numbered (given j .item) refl (asked .admissible .needs j l .numbers .first-least)
+    where
+      numbered : (i : ℕ) → given j .item ≡ i → 1 ≤ given j .item → Told m c (afterItems i weighed)
+      numbered zero f g = absurd (omega (arith, f, g))
+      numbered (suc i) f g = inr (record {
+        proposed = asked;
+        keeps = k;
+        line = j;
+        counted = l;
+        item = f;
+        broken = λ w. impossible (sym (covered j l .1 w) ∙ e);
+        before = λ i u. covered i (omega arith) .0 (h i u);
+      })
+
+  judged-told : Told m c (judged d (plainOf m) (m .needs) c)
   unfolding judged
   judged-told = go (firstBroken (m .count) (plainOf m) c) (found (m .count) (plainOf m) c)
     where
       go : (n : ℕ) → Found (m .count) (plainOf m) c n →
-          Told m c (afterItems n (cond (ltZ (m .capacity *ℤ pos d) (totalOf Weight d (m .count) (plainOf m) c)) (reply.Violates 0)
-          (reply.Feasible (lowest (totalOf Price d (m .count) (plainOf m) c) d))))
-      go n (none h) = by-weight (λ k l. kept k l .0 (h k l)) _ refl
-      go n (first k l e h) = record {
+          Told m c (afterItems (earlierOf n (firstLacking (m .needs .count) (m .needs) c)) weighed)
+      go n (none h) = by-needs (λ k l. kept k l .0 (h k l)) _ (lacking (m .needs .count) (m .needs) c (λ j l. asked .admissible .needs j l .numbers .first-least))
+      go n (first k l e h) = inl (record {
         proposed = asked;
         item = l;
         broken = λ w. impossible (sym (kept k l .1 w) ∙ e);
         before = λ j i. kept j (omega arith) .0 (h j i);
-      }
+      })
 
 -- ---- the refusals before it
 
-amounts-told : (m : Model) (c : Candidate) → Admissible m → Told m c (amountCheck (plainOf m) c)
+amounts-told : (m : Model) (c : Candidate) → Admissible m → Told m c (amountCheck (plainOf m) (m .needs) c)
 unfolding amountCheck
 amounts-told m c r = go _ refl _ refl
   where
     go : (b : Bool) → eqb (c .count) (m .count) ≡ b → (z : Bool) → eqb (commonDivisor (c .count) (proposedAt c)) 0 ≡ z →
-        Told m c (cond (not b) (refusePoint amounts) (cond z (refusePoint amount) (judged (commonDivisor (c .count) (proposedAt c)) (plainOf m) c)))
+        Told m c (cond (not b) (refusePoint amounts) (cond z (refusePoint amount) (judged (commonDivisor (c .count) (proposedAt c)) (plainOf m) (m .needs) c)))
     go false e z f = by-count r (eqb-false (c .count) (m .count) e)
     go true e true f =
         let n = eqb-true (c .count) (m .count) e in
@@ -142,7 +187,7 @@ pub told : (m : Model) (c : Candidate) → Told m c (pointCheck m c)
 unfolding pointCheck
 told m c = go (verdict m) refl
   where
-    go : (v : Verdict) → verdict m ≡ v → Told m c (afterRecord v (amountCheck (plainOf m) c))
+    go : (v : Verdict) → verdict m ≡ v → Told m c (afterRecord v (amountCheck (plainOf m) (m .needs) c))
     go verdicts.Accepted e = amounts-told m c (accepted m e)
     go (verdicts.Refused f) e = by-record f e
 
@@ -171,6 +216,16 @@ module _ (m : Model) (c : Candidate) where
   of-reply : {r : PointReply} → pointCheck m c ≡ r → Told m c r
   of-reply e = subst (Told m c) e (told m c)
 
+  proposed-of : {k : ℕ} → ToldItem m c k ⊎ ToldNeed m c k → Proposed m c
+  proposed-of (inl t) = t .proposed
+  proposed-of (inr t) = t .proposed
+
+  -- a point that keeps all items and needs is told no item
+  no-breach : {k : ℕ} → ToldItem m c k ⊎ ToldNeed m c k → ((i : ℕ) → i < m .count → Keeps (itemAt m i) (proposedPoint c i)) →
+      KeepsNeeds (needsOf (m .needs)) (proposedPoint c) → ⊥
+  no-breach {k} (inl t) i n = t .broken (i k (t .item))
+  no-breach (inr t) i n = t .broken (n _ (needs-in (m .needs .count) (needAt (m .needs)) (t .line) (t .counted)))
+
   pub refused-iff : ((f : Refusal) × (pointCheck m c ≡ reply.Refused f)) ↔ (¬ Proposed m c)
   refused-iff = (λ (f, e) a. no-refusal a (of-reply e), λ n. go n (pointCheck m c) refl)
     where
@@ -178,37 +233,53 @@ module _ (m : Model) (c : Candidate) where
       go n (reply.Refused f) e = (f, e)
       go n (reply.Feasible v) e = absurd (n (of-reply e .proposed))
       go n (reply.Violates zero) e = absurd (n (of-reply e .proposed))
-      go n (reply.Violates (suc k)) e = absurd (n (of-reply e .proposed))
+      go n (reply.Violates (suc k)) e = absurd (n (proposed-of (of-reply e)))
 
-  pub feasible-iff : Proposed m c → ((v : Fraction) × (pointCheck m c ≡ reply.Feasible v)) ↔ Feasible (asked m) (proposedPoint c)
+  pub feasible-iff : Proposed m c → ((v : Fraction) × (pointCheck m c ≡ reply.Feasible v)) ↔ FeasibleNeeds (asked m) (needsOf (m .needs)) (proposedPoint c)
   feasible-iff a = (λ (v, e). of-reply e .feasible, λ x. go x (pointCheck m c) refl)
     where
-      go : Feasible (asked m) (proposedPoint c) → (r : PointReply) → pointCheck m c ≡ r → (v : Fraction) × (pointCheck m c ≡ reply.Feasible v)
+      go : FeasibleNeeds (asked m) (needsOf (m .needs)) (proposedPoint c) → (r : PointReply) → pointCheck m c ≡ r →
+          (v : Fraction) × (pointCheck m c ≡ reply.Feasible v)
       go x (reply.Refused f) e = absurd (no-refusal a (of-reply e))
       go x (reply.Feasible v) e = (v, e)
-      go x (reply.Violates zero) e = absurd (over-not-fits _ _ (of-reply e .over) (x .fits))
-      go x (reply.Violates (suc k)) e = let t = of-reply e in absurd (t .broken (x .keeps k (t .item)))
+      go x (reply.Violates zero) e = absurd (over-not-fits _ _ (of-reply e .over) (x .plain .fits))
+      go x (reply.Violates (suc k)) e = absurd (no-breach (of-reply e) (x .plain .keeps) (x .kept))
 
   pub weight-iff : (pointCheck m c ≡ reply.Violates 0) ↔ ToldWeight m c
   weight-iff = (λ e. of-reply e, λ w. go w (pointCheck m c) refl)
     where
       go : ToldWeight m c → (r : PointReply) → pointCheck m c ≡ r → pointCheck m c ≡ reply.Violates 0
       go w (reply.Refused f) e = absurd (no-refusal (w .proposed) (of-reply e))
-      go w (reply.Feasible v) e = absurd (over-not-fits _ _ (w .over) (of-reply e .feasible .fits))
+      go w (reply.Feasible v) e = absurd (over-not-fits _ _ (w .over) (of-reply e .feasible .plain .fits))
       go w (reply.Violates zero) e = e
-      go w (reply.Violates (suc k)) e = let t = of-reply e in absurd (t .broken (w .keeps k (t .item)))
+      go w (reply.Violates (suc k)) e = absurd (no-breach (of-reply e) (w .keeps) (w .kept))
 
-  pub item-iff : (k : ℕ) → (pointCheck m c ≡ reply.Violates (suc k)) ↔ ToldItem m c k
+  pub item-iff : (k : ℕ) → (pointCheck m c ≡ reply.Violates (suc k)) ↔ (ToldItem m c k ⊎ ToldNeed m c k)
   item-iff k = (λ e. of-reply e, λ t. go t (pointCheck m c) refl)
     where
       -- of two first items neither comes before the other
-      same : (j : ℕ) → ToldItem m c k → ToldItem m c j → Dec (j < k) → Dec (k < j) → j ≡ k
-      same j t u (yes l) m = absurd (u .broken (t .before j l))
-      same j t u (no l) (yes m) = absurd (t .broken (u .before k m))
-      same j t u (no l) (no m) = omega arith
+      same-item : (j : ℕ) → ToldItem m c k → ToldItem m c j → Dec (j < k) → Dec (k < j) → j ≡ k
+      same-item j t u (yes l) m = absurd (u .broken (t .before j l))
+      same-item j t u (no l) (yes m) = absurd (t .broken (u .before k m))
+      same-item j t u (no l) (no m) = omega arith
 
-      go : ToldItem m c k → (r : PointReply) → pointCheck m c ≡ r → pointCheck m c ≡ reply.Violates (suc k)
-      go t (reply.Refused f) e = absurd (no-refusal (t .proposed) (of-reply e))
-      go t (reply.Feasible v) e = absurd (t .broken (of-reply e .feasible .keeps k (t .item)))
-      go t (reply.Violates zero) e = absurd (t .broken (of-reply e .keeps k (t .item)))
-      go t (reply.Violates (suc j)) e = e ∙ ap (λ i. reply.Violates (suc i)) (same j t (of-reply e) (decLt j k) (decLt k j))
+      -- nor of two first lines
+      same-line : (j : ℕ) (t : ToldNeed m c k) (u : ToldNeed m c j) → Dec (u .line < t .line) → Dec (t .line < u .line) → u .line ≡ t .line
+      same-line j t u (yes l) m = absurd (u .broken (t .before (u .line) l))
+      same-line j t u (no l) (yes m) = absurd (t .broken (u .before (t .line) m))
+      same-line j t u (no l) (no m) = omega arith
+
+      same : (j : ℕ) → ToldItem m c k ⊎ ToldNeed m c k → ToldItem m c j ⊎ ToldNeed m c j → j ≡ k
+      same j (inl t) (inl u) = same-item j t u (decLt j k) (decLt k j)
+      same j (inl t) (inr u) = absurd (t .broken (u .keeps k (t .item)))
+      same j (inr t) (inl u) = absurd (u .broken (t .keeps j (u .item)))
+      same j (inr t) (inr u) =
+          let e = same-line j t u (decLt (u .line) (t .line)) (decLt (t .line) (u .line)) in
+          let h : suc j ≡ suc k = sym (u .item) ∙ ap (λ i. needAt (m .needs) i .item) e ∙ t .item in
+          omega (arith, h)
+
+      go : ToldItem m c k ⊎ ToldNeed m c k → (r : PointReply) → pointCheck m c ≡ r → pointCheck m c ≡ reply.Violates (suc k)
+      go t (reply.Refused f) e = absurd (no-refusal (proposed-of t) (of-reply e))
+      go t (reply.Feasible v) e = let f = of-reply e .feasible in absurd (no-breach t (f .plain .keeps) (f .kept))
+      go t (reply.Violates zero) e = let w = of-reply e in absurd (no-breach t (w .keeps) (w .kept))
+      go t (reply.Violates (suc j)) e = e ∙ ap (λ i. reply.Violates (suc i)) (same j t (of-reply e))

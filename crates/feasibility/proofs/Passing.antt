@@ -2,26 +2,29 @@
 --   shownBy m a     the point that an answer to the record m shows, as a proposed one
 -- End theorems, of every answer that is Planned: best-passes: the check says yes to a best point, with the answer's value. start-passes: and to the
 -- start of an unbounded answer.
-use mathlib.Core.Path.{_≡_, refl, sym, ap, _∙_, subst}
+use mathlib.Core.Path.{_≡_, refl, sym, ap, _∙_, subst, subst₂}
 use Prim.Native.Nat.{ℕ, _<_}
 use native.Mathlib.Omega.{arith}
-use lib.IntN.{ℤ}
+use lib.IntN.{ℤ, pos}
 use lib.ListN.{length}
-use Rattle.arith.specs.Fractions.{frac, int, _·ᶠ_, _≤ᶠ_, _≈ᶠ_, total}
+use Rattle.arith.specs.Fractions.{frac, int, _·ᶠ_, _≤ᶠ_, _<ᶠ_, _≈ᶠ_, total}
 use Rattle.arith.specs.Sum.{Each}
 use Rattle.arith.specs.declared.Fraction.{Fraction}
 use Rattle.arith.proofs.Fractions.{total-cong, ≤ᶠ-trans, ≤ᶠ-antisym, ≈ᶠ-≤, ≈ᶠ-≥}
 use Rattle.arith.proofs.Lowest.{same-fraction}
-use Rattle.knapsack.specs.Meaning.{Instance, Point, Keeps, weights, prices, value, Feasible, Shown, nought, amountAt, pointOf, AnswersAs, ShownOptimal}
+use Rattle.knapsack.specs.Meaning.{Instance, Point, Keeps, weights, value, Feasible, Shown, nought, amountAt, pointOf}
 use Rattle.knapsack.specs.declared.Answer.{Answer}
 use Rattle.knapsack.specs.declared.Kind.{Kind}
 use Rattle.knapsack.specs.declared.Kind.the-variants as kind
 use Rattle.knapsack.specs.declared.Refusal.{Refusal}
 use Rattle.knapsack.specs.declared.Verdict.{Verdict}
 use Rattle.knapsack.specs.declared.Verdict.the-variants.{Accepted, Refused}
+use Rattle.model.specs.Needs.{KeepsNeeds, FeasibleNeeds, ShownOptimalNeeds, AnswersAsNeeds, Named}
 use Rattle.model.specs.Promises.{RepliesAs, Planned}
-use Rattle.model.specs.Records.{plainOf, verdict}
+use Rattle.model.specs.Records.{needAt, plainOf, needsOf, verdict}
+use Rattle.model.specs.declared.Need.{Need}
 use Rattle.model.specs.declared.Model.{Model}
+use Rattle.model.proofs.NeedLines.{needs-from}
 use Rattle.model.proofs.Records.{accepted}
 use Rattle.model.proofs.Showing.{default, shown-few}
 use Rattle.feasibility.specs.declared.Candidate.{Candidate}
@@ -49,19 +52,14 @@ module _ (s : Instance) (x y : Point) (e : Each (s .count) (λ k. x k ≡ y k)) 
 
 module _ (m : Model) (a : Answer) (size : length (a .point) ≡ 16) (fair : verdict m ≡ Accepted) (shown : Shown (asked m) (amountAt a)) where
   same : (k : ℕ) → k < m .count → amountAt a k ≡ proposedAt (shownBy m a) k
-  same k l = default (a .point) k nought _ (omega (arith, accepted m fair .few-items))
+  same k l = default (a .point) k nought _ (omega (arith, accepted m fair .figures .few-items))
 
   proposed : Proposed m (shownBy m a)
   proposed = record {
     admissible = accepted m fair;
     counted = refl;
     amounts = record {
-      good = λ k l. rw (← same k l) (record {
-        some = shown .divisor k l;
-        few = shown-few (plainOf m) (amountAt a) (accepted m fair) shown k l;
-        lowest = shown .lowest k l;
-        near = shown .small k l;
-      });
+      good = λ k l. rw (← same k l) (record { some = shown .divisor k l; few = shown-few (plainOf m) (amountAt a) (accepted m fair .figures) shown k l; lowest = shown .lowest k l; near = shown .small k l });
       single = λ j k l n g h. shown .single j k l n (whole j l g) (whole k n h);
     };
   }
@@ -72,29 +70,37 @@ module _ (m : Model) (a : Answer) (size : length (a .point) ≡ 16) (fair : verd
   abbrev agree : Each (m .count) (λ k. pointOf a k ≡ proposedPoint (shownBy m a) k)
   agree k l = ap (λ (z : Fraction). frac (z .p) (z .q)) (same k l)
 
-  passes : Feasible (asked m) (pointOf a) → (v : Fraction) × (pointCheck m (shownBy m a) ≡ reply.Feasible v)
-  passes f = feasible-iff m (shownBy m a) proposed .1 (same-feasible (asked m) (pointOf a) (proposedPoint (shownBy m a)) agree f)
+  -- and so is every need, whose items are items of the problem
+  same-kept : KeepsNeeds (needsOf (m .needs)) (pointOf a) → KeepsNeeds (needsOf (m .needs)) (proposedPoint (shownBy m a))
+  same-kept h n i =
+      let f = needs-from (m .needs .count) (needAt (m .needs)) n i in
+      let x = accepted m fair .needs (f .0) (f .1 .0) .allowed in
+      let g : Named (asked m) (n .item) = subst (λ (z : Need). Named (asked m) (z .item)) (sym (f .1 .1)) (x .item) in
+      let k : Named (asked m) (n .cover) = subst (λ (z : Need). Named (asked m) (z .cover)) (sym (f .1 .1)) (x .cover) in
+      subst₂ (λ y z. int (pos 0) <ᶠ y → int (pos 1) ≤ᶠ z) (agree (n .item) (g .inside)) (agree (n .cover) (k .inside)) (h n i)
+
+  passes : FeasibleNeeds (asked m) (needsOf (m .needs)) (pointOf a) → (v : Fraction) × (pointCheck m (shownBy m a) ≡ reply.Feasible v)
+  passes f = feasible-iff m (shownBy m a) proposed .1
+      (record { plain = same-feasible (asked m) (pointOf a) (proposedPoint (shownBy m a)) agree (f .plain); kept = same-kept (f .kept) })
 
   -- the value told is the value shown
-  value-told : ShownOptimal (asked m) a → (v : Fraction) → Told m (shownBy m a) (reply.Feasible v) → v ≡ a .value
+  value-told : ShownOptimalNeeds (asked m) (needsOf (m .needs)) a → (v : Fraction) → Told m (shownBy m a) (reply.Feasible v) → v ≡ a .value
   value-told o v t =
       let x = frac (v .p) (v .q) in
       let y = frac (a .value .p) (a .value .q) in
       let w = value (asked m) (pointOf a) in
-      let same = same-total (asked m) (pointOf a) (proposedPoint (shownBy m a)) agree (prices (asked m)) in
-      let e : x ≈ᶠ w = subst (λ z. x ≈ᶠ z) (sym same) (t .exact) in
+      let e : x ≈ᶠ w = subst (λ z. x ≈ᶠ z) (sym (same-total (asked m) (pointOf a) (proposedPoint (shownBy m a)) agree (λ k. asked m .item k .price))) (t .exact) in
       same-fraction v (a .value) (t .divisor) (o .divisor) (t .lowest) (o .lowest)
       (≤ᶠ-antisym x y (≤ᶠ-trans x w y (≈ᶠ-≤ x w e) (≈ᶠ-≥ y w (o .exact))) (≤ᶠ-trans y w x (≈ᶠ-≤ y w (o .exact)) (≈ᶠ-≥ x w e)))
 
 -- ---- every answer that is Planned
 
 -- an answer that is no refusal answers an accepted record
-answers : (m : Model) (a : Answer) (k : Kind) → Planned m a → a .kind ≡ k → ((f : Refusal) → k ≡ kind.Refused f → ⊥) →
-    (verdict m ≡ Accepted) × AnswersAs (asked m) a k
+answers : (m : Model) (a : Answer) (k : Kind) → Planned m a → a .kind ≡ k → ((f : Refusal) → k ≡ kind.Refused f → ⊥) → (verdict m ≡ Accepted) × AnswersAsNeeds (asked m) (needsOf (m .needs)) a k
 answers m a k p e n = go (verdict m) refl (p .replies)
   where
-    go : (v : Verdict) → verdict m ≡ v → RepliesAs (asked m) a v → (verdict m ≡ Accepted) × AnswersAs (asked m) a k
-    go Accepted h r = (h, subst (AnswersAs (asked m) a) e r)
+    go : (v : Verdict) → verdict m ≡ v → RepliesAs (asked m) (needsOf (m .needs)) a v → (verdict m ≡ Accepted) × AnswersAsNeeds (asked m) (needsOf (m .needs)) a k
+    go Accepted h r = (h, subst (AnswersAsNeeds (asked m) (needsOf (m .needs)) a) e r)
     go (Refused f) h r = absurd (n f (sym e ∙ ap (λ (z : Answer). z .kind) r))
 
 module _ (m : Model) (a : Answer) (size : length (a .point) ≡ 16) (p : Planned m a) where

@@ -1,4 +1,5 @@
-// Point check: whether a proposed point is feasible, and what it is worth. Paper 01, "Parts that stand in public", rows 7 and 8 of "Refused, by place".
+// Point check: whether a proposed point is feasible, and what it is worth. Paper 01, "Parts that stand in public", rows 7 and 8 of "Refused, by place"; paper 02,
+// request 7.
 // Once nothing is refused at most one amount has a divisor above 1; over that divisor every amount is an integer, and so are the sums of
 // weights and prices, below 2 · 10^17. What a reply says is `Told` in specs/Check, which the entry promises (proofs/Meaning).
 use arith::Fraction;
@@ -12,6 +13,7 @@ use knapsack::Problem;
 use knapsack::Refusal;
 use knapsack::Verdict;
 use model::Model;
+use model::Needs;
 use model::Side;
 use model::beyond;
 use model::check_model;
@@ -31,6 +33,10 @@ ghost use Rattle.feasibility.specs.Check.{
   earlierOf,
   numbered,
   firstBroken,
+  lacks,
+  uncoveredAt,
+  firstLacking,
+  firstBreach,
   figureOf,
   term,
   totalOf,
@@ -39,6 +45,8 @@ ghost use Rattle.feasibility.specs.Check.{
   amountCheck,
   pointCheck,
   Checkable,
+  Lined,
+  Coverable,
   Told,
 };
 
@@ -48,7 +56,8 @@ pub struct Candidate {
     pub count: usize,
 }
 
-// 01's yes with the exact value, or its no: the first item, from 1, that breaks its mark or a bound, or 0 where only the weight is over.
+// 01's yes with the exact value, or its no: the first item, from 1, that breaks its mark or a bound, or else that of the first broken need, or 0 where
+// only the weight is over.
 pub enum PointReply {
     Refused(Refusal),
     Feasible(Fraction),
@@ -199,6 +208,65 @@ fn first_broken(p: Problem, c: Candidate) -> usize
     found
 }
 
+// Whether there is any of an item and less than 1 of its cover.
+fn does_lack(x: Fraction, y: Fraction) -> bool
+    requires { ⌜ GoodAmount x × GoodAmount y ⌝ }
+    ensures { λ r. ⌜ r ≡ lacks x y ⌝ }
+{
+    let p = x.p;
+    let q = x.q;
+    if breaks_bound(Side::Upper, Bound::At(0), p, q) {
+        let r = y.p;
+        let t = y.q;
+        return breaks_bound(Side::Lower, Bound::At(1), r, t);
+    }
+    false
+}
+
+// The item of line j where it lacks its cover, or 0.
+fn uncovered_at(needs: Needs, j: usize, c: Candidate) -> usize
+    requires { ⌜ (j < needs .count) × Coverable needs c ⌝ }
+    ensures { λ r. ⌜ r ≡ uncoveredAt needs c j ⌝ }
+{
+    let need = needs.lines[j];
+    let k = need.item;
+    let l = need.cover;
+    let x = c.amounts[k - 1];
+    let y = c.amounts[l - 1];
+    if does_lack(x, y) { k } else { 0 }
+}
+
+// The number found, or else n.
+fn number_or(found: usize, n: usize) -> usize
+    ensures { λ r. ⌜ r ≡ earlierOf found n ⌝ }
+{
+    if found == 0 { n } else { found }
+}
+
+// The item of the first broken need; 0 where none is.
+fn first_lacking(needs: Needs, c: Candidate) -> usize
+    requires { ⌜ Coverable needs c ⌝ }
+    ensures { λ r. ⌜ r ≡ firstLacking (needs .count) needs c ⌝ }
+{
+    let t = needs.count;
+    let mut found: usize = 0;
+    let mut j: usize = 0;
+    while j < t {
+        found = number_or(found, uncovered_at(needs, j, c));
+        j += 1;
+    }
+    found
+}
+
+// Marks and bounds come before needs.
+fn first_breach(p: Problem, needs: Needs, c: Candidate) -> usize
+    requires { ⌜ Checkable p c × Coverable needs c ⌝ }
+    ensures { λ r. ⌜ r ≡ firstBreach p needs c ⌝ }
+{
+    let k = first_broken(p, c);
+    number_or(k, first_lacking(needs, c))
+}
+
 fn figure_of(f: Figure, i: Item) -> i64
     ensures { λ r. ⌜ r ≡ figureOf f i ⌝ }
 {
@@ -238,11 +306,11 @@ fn total(f: Figure, d: u64, p: Problem, c: Candidate) -> i64
 }
 
 // The reply where nothing is refused, d being the common divisor.
-fn judge(d: u64, p: Problem, c: Candidate) -> PointReply
-    requires { ⌜ ((1 ≤ d) × (d ≤ 1000)) × Checkable p c ⌝ }
-    ensures { λ r. ⌜ r ≡ judged d p c ⌝ }
+fn judge(d: u64, p: Problem, needs: Needs, c: Candidate) -> PointReply
+    requires { ⌜ ((1 ≤ d) × (d ≤ 1000)) × (Checkable p c × Coverable needs c) ⌝ }
+    ensures { λ r. ⌜ r ≡ judged d p needs c ⌝ }
 {
-    let k = first_broken(p, c);
+    let k = first_breach(p, needs, c);
     if 0 < k {
         return PointReply::Violates(k);
     }
@@ -262,9 +330,9 @@ fn refused(number: u64) -> PointReply
 }
 
 // The reply to a point of an accepted problem: refusals 7 and 8, then yes or no.
-fn check_amounts(p: Problem, c: Candidate) -> PointReply
-    requires { ⌜ FiguresInRange p ⌝ }
-    ensures { λ r. ⌜ r ≡ amountCheck p c ⌝ }
+fn check_amounts(p: Problem, needs: Needs, c: Candidate) -> PointReply
+    requires { ⌜ FiguresInRange p × Lined (p .count) needs ⌝ }
+    ensures { λ r. ⌜ r ≡ amountCheck p needs c ⌝ }
 {
     if c.count != p.count {
         return refused(refusals::AMOUNTS);
@@ -273,7 +341,7 @@ fn check_amounts(p: Problem, c: Candidate) -> PointReply
     if d == 0 {
         return refused(refusals::AMOUNT);
     }
-    judge(d, p, c)
+    judge(d, p, needs, c)
 }
 
 // 01's point check: the one reply by definition, and what it says, by its case.
@@ -283,7 +351,10 @@ pub fn check_point(m: Model, c: Candidate) -> PointReply
 {
     let v = check_model(m);
     match v {
-        Verdict::Accepted => check_amounts(plain_of(m), c),
+        Verdict::Accepted => {
+            let needs = m.needs;
+            check_amounts(plain_of(m), needs, c)
+        }
         Verdict::Refused(f) => PointReply::Refused(f),
     }
 }

@@ -1,11 +1,13 @@
 // Reads cases from standard input and prints the point check's reply to each: `refused N L`, `yes P Q` or `no K`, after the case's name.
 // A case: name, capacity, count, number of items given, each as `W a c lower upper` (`..` is an absent bound), count of the
-// amounts, number of amounts given, each as p/q. The given ones fill the first places; a count may be another number.
+// amounts, number of amounts given, each as p/q, count of the needs, number of lines given, each as `k m`. The given ones fill the first places; a
+// count may be another number.
 use arith::Fraction;
 use feasibility::Candidate;
 use feasibility::PointReply;
 use feasibility::check_point;
 use libc::STDIN_FILENO;
+use model::setters::with_needs;
 use trials::make::record_of;
 use trials::print::print;
 use trials::print::print_field;
@@ -13,6 +15,7 @@ use trials::print::print_signed_field;
 use trials::read::is_gap;
 use trials::read::places;
 use trials::read::read_items;
+use trials::read::read_needs;
 use trials::read::read_number;
 use trials::read::skip;
 
@@ -102,14 +105,16 @@ fn one_case(s: &[u8], from: usize) -> usize {
     let amounts_given = read_number(s, amount_count.at);
     let x = read_amounts(s, amounts_given.at, amounts_given.size);
     let list = i.list;
-    let p = record_of(capacity.value, count.size as usize, list);
+    let n = read_needs(s, x.at);
+    let ns = n.needs;
+    let p = with_needs(record_of(capacity.value, count.size as usize, list), ns);
     let point = x.list;
     let c = Candidate {
         amounts: point,
         count: amount_count.size as usize,
     };
     print_reply(check_point(p, c));
-    skip(s, x.at)
+    skip(s, n.at)
 }
 
 fn all_cases(s: &[u8]) {

@@ -2,7 +2,6 @@
 --   SameAnswer a b     a and b are equal, or both are unbounded
 -- amounts-once: two shown best points that are Foremost have the same amounts, place by place.
 -- answers-once: where every lower bound is present, two true answers that show the first best point, with points of 16 places, are the same.
--- planned-once: so are two replies that are Planned.
 use mathlib.Core.Path.{_≡_, refl, sym, _∙_, subst}
 use mathlib.Core.List.{List}
 use mathlib.Core.Logic.{_⊎_, inl, inr}
@@ -18,12 +17,7 @@ use Rattle.knapsack.proofs.Demands.{demands}
 use Rattle.knapsack.specs.declared.Answer.{Answer}
 use Rattle.knapsack.specs.declared.Kind.{Kind}
 use Rattle.knapsack.specs.declared.Kind.the-variants as kind
-use Rattle.knapsack.specs.declared.Verdict.{Verdict}
-use Rattle.knapsack.specs.declared.Verdict.the-variants.{Accepted, Refused}
-use Rattle.knapsack.specs.Meaning.{Instance, instanceOf, nought, amountAt, pointOf, ShownOptimal, AnswersAs, Answers, Foremost, AllLower, ShownFirst}
-use Rattle.model.specs.declared.Model.{Model}
-use Rattle.model.specs.Promises.{RepliesAs, Planned}
-use Rattle.model.specs.Records.{plainOf, verdict}
+use Rattle.knapsack.specs.Meaning.{Instance, nought, amountAt, pointOf, ShownOptimal, AnswersAs, Answers, Foremost, AllLower, ShownFirst}
 use Rattle.foremost.proofs.Points.{foremost-same}
 
 module _ (s : Instance) (a b : Answer) (x : ShownOptimal s a) (y : ShownOptimal s b) where
@@ -62,13 +56,3 @@ module _ (s : Instance) (low : AllLower s) (a b : Answer) (la : length (a .point
         go kind.Infeasible e h p q = inl (p .1 ∙ sym (q .1))
         go kind.Unbounded e h p q = inr (e, h)
         go (kind.Refused r) e h p q = absurd p
-
-    replied-once : (v : Verdict) → RepliesAs s a v → RepliesAs s b v → SameAnswer a b
-    replied-once Accepted x y = answers-once x y
-    replied-once (Refused r) x y = inl (x ∙ sym y)
-
--- End theorem: where every lower bound is present two replies of the planner are the same
-pub planned-once : (m : Model) → AllLower (instanceOf (plainOf m)) → (a b : Answer) → length (a .point) ≡ 16 → length (b .point) ≡ 16 →
-    Planned m a → Planned m b
-    → SameAnswer a b
-planned-once m low a b la lb x y = replied-once (instanceOf (plainOf m)) low a b la lb (x .first) (y .first) (verdict m) (x .replies) (y .replies)

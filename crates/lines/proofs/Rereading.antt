@@ -1,7 +1,7 @@
 -- What stands at a place, as specs/Layout.antt writes it, is read there, and the reading goes on behind it.
 -- byte-reads, byte-other, word-reads, number-reads, field-reads: a byte, another byte, a word, a number, a number and the byte that closes it.
 -- ranged-within: a figure no farther from zero than the range's ends is in.
--- count-reads, item-reads, bound-reads: the lines.
+-- count-reads, item-reads, bound-reads, need-reads: the lines.
 --   bareOf i        an item as its line gives it
 use mathlib.Core.Path.{_≡_, refl, sym, ap, _∙_}
 use mathlib.Core.Bool.{Bool, true, false}
@@ -18,7 +18,9 @@ use Rattle.knapsack.specs.declared.Bound.the-variants.{Absent, At as Present}
 use Rattle.knapsack.specs.declared.Mark.{Mark}
 use Rattle.knapsack.specs.declared.Mark.the-variants.{Integer, Continuous}
 use Rattle.knapsack.specs.declared.Item.{Item}
-use Rattle.model.specs.Records.{outside, badBound}
+use Rattle.model.specs.declared.Need.{Need}
+use Rattle.model.specs.Records.{outside, badBound, badLine, Numbers}
+use Rattle.model.proofs.NeedLines.{line-numbers}
 use Rattle.text.specs.Decimal.{decimal, integer, Plain}
 use Rattle.text.proofs.Decimals.{decimal-plain, decimal-read, decimal-lead, decimal-zero}
 use Rattle.lines.specs.declared.scan.Place.the-variants.{Nothing, At}
@@ -31,10 +33,11 @@ use Rattle.lines.specs.declared.Count.the-variants.{Lines}
 use Rattle.lines.specs.declared.ItemRead.the-variants.{Read as ItemIs}
 use Rattle.lines.specs.declared.BoundField.the-variants.{In as Bounded}
 use Rattle.lines.specs.declared.BoundRead.the-variants.{Read as BoundIs}
+use Rattle.lines.specs.declared.NeedRead.the-variants.{Read as NeedIs}
 use Rattle.lines.specs.Places.{byteAt, afterByte, afterWord}
 use Rattle.lines.specs.Numbers.{isDigit, digitRun, numeral, signedOf, unsignedAt, numberAt, fromTo, only, ranged, fieldAt}
-use Rattle.lines.specs.Lines.{headingLine, numbersLine, markAt, weights, prices, itemLine, countAt, itemRead, boundField, boundRead}
-use Rattle.lines.specs.Layout.{headingText, numbersText, markByte, itemText, absentWord, boundWord, Bounding, boundText}
+use Rattle.lines.specs.Lines.{headingLine, numbersLine, markAt, weights, prices, itemLine, countAt, itemRead, boundField, boundRead, needRead}
+use Rattle.lines.specs.Layout.{headingText, numbersText, markByte, itemText, absentWord, boundWord, Bounding, boundText, needText}
 use Rattle.lines.proofs.Numerals.{leading-yes, run-append}
 
 -- what stands at a place, and what follows
@@ -179,3 +182,13 @@ bound-reads s at b l f h =
     let p = field-reads 32 (only k) s at (pos k) (boundWord (b .bound) ++ (10 ∷ l)) refl due (h ∙ simp append-assoc) in
     let q = bound-field-reads s (p .0) (b .bound) l f (p .2) in
     (q .0, rw (p .1, q .1), q .2)
+
+pub need-reads : (n : ℕ) (a b : Need) (s : List ℕ) (at : ℕ) (l : List ℕ) → badLine n a b ≡ false → drop at s ≡ needText b ++ l →
+    (m : ℕ) × (needRead n a s at ≡ NeedIs b m) × (drop m s ≡ l)
+unfolding needRead
+need-reads n a b s at l f h =
+    let k = line-numbers n a b f in
+    let x : ranged (fromTo 1 n) (pos (b .item)) ≡ In (pos (b .item)) = rw (le-ltb (b .item) 1 (k .first-least), le-ltb n (b .item) (k .first-most)) in
+    let y : ranged (fromTo 1 n) (pos (b .cover)) ≡ In (pos (b .cover)) = rw (le-ltb (b .cover) 1 (k .second-least), le-ltb n (b .cover) (k .second-most)) in
+    let p = numbers-reads (fromTo 1 n) (fromTo 1 n) s at (pos (b .item)) (pos (b .cover)) l x y h in
+    (p .0, rw (p .1, f), p .2)

@@ -3,7 +3,9 @@
 -- field-parts, numbers-parts, heading-parts, item-parts: the parts of a field and of a line of each kind.
 -- field-range, heading-range: the number of a field that is in lies in its range.
 -- count-parts: so does a count. bound-shape: a bound's field is `none` or a number. bound-parts: the line of a bound has the item number that is due.
+-- need-parts: the line of a need has its two numbers, and is not refused.
 use mathlib.Core.Path.{_≡_, refl, sym, ap, _∙_}
+use mathlib.Core.Bool.{Bool, true, false, cond}
 use mathlib.Core.List.{List}
 use Prim.Native.Nat.{ℕ, _≤_}
 use native.Mathlib.Omega.{arith}
@@ -30,12 +32,15 @@ use Rattle.lines.specs.declared.ItemRead.the-variants.{Fault as ItemFaul
 use Rattle.lines.specs.declared.BoundField.{BoundField}
 use Rattle.lines.specs.declared.BoundField.the-variants.{Fault as NoBound, Out as OutBound, In as Bounded}
 use Rattle.lines.specs.declared.BoundRead.the-variants.{Fault as BoundFault, Read as BoundIs}
+use Rattle.lines.specs.declared.NeedRead.the-variants.{Fault as NeedFault, Read as NeedIs}
+use Rattle.model.specs.declared.Need.{Need}
+use Rattle.model.specs.Records.{badLine}
 use Rattle.model.specs.Refusals as refusal
 use Rattle.lines.specs.Places.{afterByte, afterWord, onPlace}
 use Rattle.lines.specs.Faults.{faultAt}
 use Rattle.lines.specs.Numbers.{Numeral, none, numeral, numberAt, fromTo, only, ranged, inRange, closedBy, fieldAt}
 use Rattle.lines.specs.Lines.{onField, headingLine, numbersLine, markAt, weights, withNumbers, marked, itemLine, itemOf, itemRead, countOf}
-use Rattle.lines.specs.Lines.{countAt, figured, boundField, boundOf, boundRead, prices}
+use Rattle.lines.specs.Lines.{countAt, figured, boundField, boundOf, boundRead, prices, inOrder, needOf, needRead}
 use Rattle.lines.specs.Layout.{absentWord}
 use Rattle.lines.proofs.Numerals.{ranged-in}
 
@@ -245,3 +250,42 @@ bound-parts k s at b end h = go (fieldAt 32 (only k) s at) refl h
         BoundParts k s at b end
     go (Fault n) e h = fault h
     go (Number x n) e h = last x n e (boundField s n) refl h
+
+-- ---- needs
+
+pub record NeedParts (n : ℕ) (a : Need) (s : List ℕ) (at : ℕ) (b : Need) (end : ℕ) : Type 0 where
+  pub numbers : numbersLine (fromTo 1 n) (fromTo 1 n) s at ≡ Both (In (pos (b .item))) (In (pos (b .cover))) end
+  pub fair : badLine n a b ≡ false
+
+pub need-parts : (n : ℕ) (a : Need) (s : List ℕ) (at : ℕ) (b : Need) (end : ℕ) → needRead n a s at ≡ NeedIs b end → NeedParts n a s at b end
+unfolding needRead
+need-parts n a s at b end h = go (numbersLine (fromTo 1 n) (fromTo 1 n) s at) refl h
+  where
+    fault : {k : ℕ} → NeedFault k ≡ NeedIs b end → NeedParts n a s at b end
+    fault h = absurd (let z : _≡_ {A = ℕ} 0 1 = cc in omega arith)
+
+    -- a number of the range has no sign
+    plain : (x y : ℤ) (k : ℕ) → numbersLine (fromTo 1 n) (fromTo 1 n) s at ≡ Both (In x) (In y) k → (x ≡ pos (natAbs x)) × (y ≡ pos (natAbs y))
+    plain x y k e =
+        let p = numbers-parts (fromTo 1 n) (fromTo 1 n) s at (In x) (In y) k e in
+        let f = field-range 32 (fromTo 1 n) s at x (p .next) (p .first) in
+        let g = field-range 10 (fromTo 1 n) s (p .next) y k (p .second) in
+        (between 1 n x (f .0) (f .1) .0, between 1 n y (g .0) (g .1) .0)
+
+    tried : (x y : ℤ) (k : ℕ) → numbersLine (fromTo 1 n) (fromTo 1 n) s at ≡ Both (In x) (In y) k → (t : Bool) →
+        badLine n a (record { item = natAbs x; cover = natAbs y }) ≡ t →
+        cond t (NeedFault refusal.item-number) (NeedIs (record { item = natAbs x; cover = natAbs y }) k) ≡ NeedIs b end → NeedParts n a s at b end
+    tried x y k e true f h = fault h
+    tried x y k e false f h =
+        let u : record { item = natAbs x; cover = natAbs y } ≡ b = cc in
+        let v : k ≡ end = cc in
+        let w = plain x y k e in
+        let i = w .0 ∙ ap (λ (z : Need). pos (z .item)) u in
+        let c = w .1 ∙ ap (λ (z : Need). pos (z .cover)) u in
+        record { numbers = e ∙ rw (i, c, v); fair = rw u at f }
+
+    go : (p : TwoNumbers) → numbersLine (fromTo 1 n) (fromTo 1 n) s at ≡ p → needOf n a p ≡ NeedIs b end → NeedParts n a s at b end
+    go (NumbersFault k) e h = fault h
+    go (Both Out y k) e h = fault h
+    go (Both (In x) Out k) e h = fault h
+    go (Both (In x) (In y) k) e h = tried x y k e (badLine n a (record { item = natAbs x; cover = natAbs y })) refl h

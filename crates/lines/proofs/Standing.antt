@@ -3,7 +3,7 @@
 --   Bytes w         every number of w is a byte
 -- has-join, has-none: texts that stand one behind the other.
 -- byte-has, word-has, number-has, field-has: a byte, a word, a number, a number that a byte closes.
--- numbers-has, count-has, item-has, bound-has: the lines.
+-- numbers-has, count-has, item-has, bound-has, need-has: the lines.
 use mathlib.Core.Path.{_≡_, refl, sym, ap, ap₂, _∙_}
 use mathlib.Core.Bool.{Bool, true, false, cond}
 use mathlib.Core.List.{List, [], _∷_, _++_, append-assoc}
@@ -34,13 +34,15 @@ use Rattle.lines.specs.declared.Count.the-variants.{Lines}
 use Rattle.lines.specs.declared.ItemRead.the-variants.{Read as ItemIs}
 use Rattle.lines.specs.declared.BoundField.the-variants.{In as Bounded}
 use Rattle.lines.specs.declared.BoundRead.the-variants.{Read as BoundIs}
+use Rattle.lines.specs.declared.NeedRead.the-variants.{Read as NeedIs}
+use Rattle.model.specs.declared.Need.{Need}
 use Rattle.lines.specs.Places.{byteAt, afterByte, onPlace, afterWord}
 use Rattle.lines.specs.Numbers.{isLeading, digitRun, none, numeral, signedOf, unsignedAt, numberAt, fromTo, only, fieldAt}
-use Rattle.lines.specs.Lines.{numbersLine, markAt, weights, prices, countAt, itemRead, boundField, boundRead}
-use Rattle.lines.specs.Layout.{headingText, numbersText, markByte, itemText, absentWord, boundWord, bounding, boundText}
+use Rattle.lines.specs.Lines.{numbersLine, markAt, weights, prices, countAt, itemRead, boundField, boundRead, needRead}
+use Rattle.lines.specs.Layout.{headingText, numbersText, markByte, itemText, absentWord, boundWord, bounding, boundText, needText}
 use Rattle.lines.proofs.Places.{nowhere}
 use Rattle.lines.proofs.Numerals.{run-plain, run-splits, run-leads, ranged-in}
-use Rattle.lines.proofs.Shapes.{field-parts, numbers-parts, heading-parts, item-parts, count-parts, bound-shape, bound-parts}
+use Rattle.lines.proofs.Shapes.{field-parts, numbers-parts, heading-parts, item-parts, count-parts, bound-shape, bound-parts, need-parts}
 
 pub record Has (s : List ℕ) (a : ℕ) (w : List ℕ) (b : ℕ) : Type 0 where
   pub has : drop a s ≡ w ++ drop b s
@@ -178,3 +180,6 @@ pub bound-has : (k : ℕ) (s : List ℕ) (at : ℕ) (b : Bound) (n : ℕ) → bo
 bound-has k s at b n h =
     let p = bound-parts k s at b n h in
     has-join (field-has 32 (only k) s at (pos k) (p .next) (lit< tt) (p .number)) (bound-field-has s (p .next) b n (p .bound))
+
+pub need-has : (n : ℕ) (a : Need) (s : List ℕ) (at : ℕ) (b : Need) (m : ℕ) → needRead n a s at ≡ NeedIs b m → Has s at (needText b) m
+need-has n a s at b m h = numbers-has (fromTo 1 n) (fromTo 1 n) s at (pos (b .item)) (pos (b .cover)) m (need-parts n a s at b m h .numbers)

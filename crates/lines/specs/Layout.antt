@@ -1,4 +1,4 @@
--- The text of a sheet's lines. Paper 01, "The sheet", and paper 02, request 6; fields and line ends are those of every text (crate text, specs/Layout).
+-- The text of a sheet's lines. Paper 01, "The sheet", and paper 02, requests 6 and 7; fields and line ends are those of every text (crate text, specs/Layout).
 --   headingText w n    a section's first line
 --   numbersText x y    two numbers
 --   markByte m         `W` or `L`
@@ -6,14 +6,16 @@
 --   absentWord         `none`; boundWord b: a bound, by that word where it is absent
 --   Bounding           an item number and its bound, as a line of `lower` or `upper` has them; bounding n b: one
 --   boundText b        that line
+--   needText n         the line of a need
 use mathlib.Core.List.{List, [], _∷_}
 use Prim.Native.Nat.{ℕ}
-use lib.IntN.{ℤ}
+use lib.IntN.{ℤ, pos}
 use Rattle.knapsack.specs.declared.Bound.{Bound}
 use Rattle.knapsack.specs.declared.Bound.the-variants.{Absent, At}
 use Rattle.knapsack.specs.declared.Mark.{Mark}
 use Rattle.knapsack.specs.declared.Mark.the-variants.{Integer, Continuous}
 use Rattle.knapsack.specs.declared.Item.{Item}
+use Rattle.model.specs.declared.Need.{Need}
 use Rattle.text.specs.Decimal.{decimal, integer}
 use Rattle.text.specs.Layout.{line}
 
@@ -46,3 +48,6 @@ bounding n b = record { number = n; bound = b }
 
 abbrev pub boundText : Bounding → List ℕ
 boundText b = line (decimal (b .number)) (boundWord (b .bound) ∷ [])
+
+abbrev pub needText : Need → List ℕ
+needText n = numbersText (pos (n .item)) (pos (n .cover))

@@ -1,4 +1,4 @@
--- The lines of a sheet. Paper 01, "The sheet" and "Refused, by place", and paper 02, requests 3 and 6.
+-- The lines of a sheet. Paper 01, "The sheet" and "Refused, by place", and paper 02, requests 3, 6 and 7.
 -- The form of a line, which gives the fault of its leftmost wrong field (specs/Faults), or its numbers by the ranges asked for:
 --   onField x a f           f of the number and the place behind it, or a of the field's fault
 --   headingLine w r s at    word and count
@@ -11,12 +11,16 @@
 --   countAt w r s at        the count of a heading, by countOf
 --   itemRead s at           an item, with no bounds as yet, by itemOf
 --   boundRead k s at        the item number k, the one that is due, and its bound, by boundOf and inTurn
+--   needRead n a s at       two item numbers of 1 to n, and the line rises above the line a, by needOf and inOrder
+use mathlib.Core.Bool.{cond}
 use mathlib.Core.List.{List, [], _∷_}
 use Prim.Native.Nat.{ℕ}
 use lib.IntN.{pos, negsuc, natAbs}
 use Rattle.knapsack.specs.declared.Bound.the-variants.{Absent, At}
 use Rattle.knapsack.specs.declared.Mark.{Mark}
 use Rattle.knapsack.specs.declared.Mark.the-variants.{Integer, Continuous}
+use Rattle.model.specs.declared.Need.{Need}
+use Rattle.model.specs.Records.{badLine}
 use Rattle.model.specs.Refusals as refusal
 use Rattle.lines.specs.declared.number.Range.{Range}
 use Rattle.lines.specs.declared.number.Ranged.{Ranged}
@@ -37,9 +41,11 @@ use Rattle.lines.specs.declared.ItemRead.{ItemRead}
 use Rattle.lines.specs.declared.ItemRead.the-variants.{Fault as ItemFault, Read as ItemIs}
 use Rattle.lines.specs.declared.BoundRead.{BoundRead}
 use Rattle.lines.specs.declared.BoundRead.the-variants.{Fault as BoundFault, Read as BoundIs}
+use Rattle.lines.specs.declared.NeedRead.{NeedRead}
+use Rattle.lines.specs.declared.NeedRead.the-variants.{Fault as NeedFault, Read as NeedIs}
 use Rattle.lines.specs.Places.{afterByte, afterWord, onPlace}
 use Rattle.lines.specs.Faults.{faultAt}
-use Rattle.lines.specs.Numbers.{only, fieldAt}
+use Rattle.lines.specs.Numbers.{fromTo, only, fieldAt}
 use Rattle.lines.specs.Layout.{absentWord}
 
 abbrev pub onField : {A : Type 0} → Field → (ℕ → A) → (Ranged → ℕ → A) → A
@@ -120,3 +126,15 @@ boundOf (Bounded b n) x = inTurn x (BoundIs b n)
 
 unfoldable pub boundRead : ℕ → List ℕ → ℕ → BoundRead
 boundRead k s at = onField (fieldAt 32 (only k) s at) (λ e. BoundFault e) (λ x n. boundOf (boundField s n) x)
+
+abbrev pub inOrder : ℕ → Need → Need → ℕ → NeedRead
+inOrder n a b m = cond (badLine n a b) (NeedFault refusal.item-number) (NeedIs b m)
+
+abbrev pub needOf : ℕ → Need → TwoNumbers → NeedRead
+needOf n a (NumbersFault k) = NeedFault k
+needOf n a (Both Out y m) = NeedFault refusal.item-number
+needOf n a (Both (In x) Out m) = NeedFault refusal.item-number
+needOf n a (Both (In x) (In y) m) = inOrder n a (record { item = natAbs x; cover = natAbs y }) m
+
+unfoldable pub needRead : ℕ → Need → List ℕ → ℕ → NeedRead
+needRead n a s at = needOf n a (numbersLine (fromTo 1 n) (fromTo 1 n) s at)

@@ -13,13 +13,14 @@ use crate::scan::Place;
 use knapsack::Bound;
 use knapsack::Item;
 use knapsack::Mark;
+use model::Need;
 ghost use mathlib.Core.Path.{_≡_};
 ghost use Prim.Native.Nat.{_≤_};
 ghost use lib.IntN.{pos};
 ghost use lib.Signed.{_≤ℤ_};
 ghost use Rattle.lines.specs.Numbers.{Narrow, fieldAt};
 ghost use Rattle.lines.specs.Lines.{headingLine, numbersLine, markAt, itemLine, prices, countAt, itemOf, itemRead};
-ghost use Rattle.lines.specs.Lines.{figured, boundField, inTurn, boundOf, boundRead};
+ghost use Rattle.lines.specs.Lines.{figured, boundField, inTurn, boundOf, boundRead, inOrder, needRead};
 ghost use Rattle.lines.specs.declared.ItemLine.{ItemLine};
 
 // The form of a line: the fault of its leftmost wrong field, or its fields and the place behind it.
@@ -59,6 +60,11 @@ pub enum ItemRead {
 pub enum BoundRead {
     Fault(u64),
     Read(Bound, usize),
+}
+
+pub enum NeedRead {
+    Fault(u64),
+    Read(Need, usize),
 }
 
 // Word, blank, count, end. Another word is 12.
@@ -253,5 +259,40 @@ pub fn bound_at(s: &[u8], at: usize, k: usize) -> BoundRead
     match f {
         Field::Fault(n) => BoundRead::Fault(n),
         Field::Number(number, next) => bound_of(bound_field(s, next), number),
+    }
+}
+
+// What a line of two item numbers gives: it must rise above the line before.
+fn in_order(n: usize, before: Need, need: Need, next: usize) -> NeedRead
+    ensures { λ r. ⌜ r ≡ inOrder n before need next ⌝ }
+{
+    if model::naming::is_bad_line(n, before, need) {
+        return NeedRead::Fault(model::refusals::ITEM_NUMBER);
+    }
+    NeedRead::Read(need, next)
+}
+
+// A need over n items: the fault of the line's form, 5 for its item numbers or its place behind the line before.
+pub fn need_at(s: &[u8], at: usize, n: usize, before: Need) -> NeedRead
+    requires { ⌜ n ≤ 16 ⌝ }
+    ensures { λ r. ⌜ r ≡ needRead n before (now (s .entry)) at ⌝ }
+{
+    let most = n as i64;
+    let p = numbers_line(s, at, Range { lo: 1, hi: most }, Range { lo: 1, hi: most });
+    match p {
+        TwoNumbers::Fault(e) => NeedRead::Fault(e),
+        TwoNumbers::Both(x, y, next) => match x {
+            Ranged::Out => NeedRead::Fault(model::refusals::ITEM_NUMBER),
+            Ranged::In(k) => match y {
+                Ranged::Out => NeedRead::Fault(model::refusals::ITEM_NUMBER),
+                Ranged::In(m) => {
+                    let need = Need {
+                        item: k as usize,
+                        cover: m as usize,
+                    };
+                    in_order(n, before, need, next)
+                }
+            },
+        },
     }
 }

@@ -21,15 +21,17 @@ use Rattle.arith.proofs.Integers.{natAbs-times, ≤ℤ-antisym}
 use Rattle.arith.proofs.Lowest.{gauss}
 use Rattle.arith.proofs.Parts.{within-abs, abs-within, within-mul, within-add}
 use Rattle.arith.proofs.Sums.{find}
-use Rattle.knapsack.specs.Meaning.{Instance, instanceOf, prices, value, Shown, nought, amountAt, pointOf, ShownOptimal, AnswersAs}
+use Rattle.knapsack.specs.Meaning.{Instance, instanceOf, prices, value, Shown, nought, amountAt, pointOf}
 use Rattle.knapsack.specs.declared.Answer.{Answer}
 use Rattle.knapsack.specs.declared.Kind.{Kind}
 use Rattle.knapsack.specs.declared.Kind.the-variants as kind
 use Rattle.knapsack.specs.declared.Problem.{Problem}
 use Rattle.knapsack.specs.declared.Verdict.the-variants.{Accepted}
 use Rattle.model.specs.Promises.{RepliesAs, Planned}
-use Rattle.model.specs.Records.{plainOf, verdict, FiguresInRange}
+use Rattle.model.specs.Needs.{ShownOptimalNeeds, AnswersAsNeeds}
+use Rattle.model.specs.Records.{plainOf, needsOf, verdict, FiguresInRange}
 use Rattle.model.specs.declared.Model.{Model}
+use Rattle.model.specs.declared.Need.{Need}
 use Rattle.model.proofs.Records.{accepted}
 use Rattle.model.proofs.Showing.{default, small-divisor, shown-few}
 use Rattle.text.proofs.Decimals.{decimal-length, integer-length}
@@ -106,7 +108,7 @@ module _ (p : Problem) (a : Answer) (range : FiguresInRange p) (shown : Shown (i
     sum-within = within-abs T (sum-small _ (p .count) _ (λ k l. within-abs _ (within-mul (abs-within (prices s k) (range .items-in k l .price-in))
         (abs-within (N k) (part-small k l)))))
 
-    module _ (o : ShownOptimal s a) where
+    module _ (ns : List Need) (o : ShownOptimalNeeds s ns a) where
       abbrev P : ℤ
       P = a .value .p
 
@@ -140,12 +142,12 @@ module _ (p : Problem) (a : Answer) (range : FiguresInRange p) (shown : Shown (i
               let w = mul-le-mul-right (D * Q) few in
               omega (arith, u, w, e)
 
-pub value-small : (p : Problem) (a : Answer) → FiguresInRange p → ShownOptimal (instanceOf p) a →
+pub value-small : (p : Problem) (a : Answer) (ns : List Need) → FiguresInRange p → ShownOptimalNeeds (instanceOf p) ns a →
     (natAbs (a .value .p) < 1000000000000000000) × (a .value .q ≤ 1000)
-value-small p a range o =
+value-small p a ns range o =
     let d = parted p a range (o .shown) in
-    let q = divisor-small p a range (o .shown) d o in
-    let n = numerator-small p a range (o .shown) d o in
+    let q = divisor-small p a range (o .shown) d ns o in
+    let n = numerator-small p a range (o .shown) d ns o in
     (omega (arith, d .most, q, n), omega (arith, d .most, q))
 
 -- ---- lines
@@ -198,14 +200,14 @@ unfolding printed
 room-enough m a fair planned = go (a .kind) (rw fair at (planned .replies))
   where
     range : FiguresInRange (plainOf m)
-    range = accepted m fair
+    range = accepted m fair .figures
 
     within : (k : ℕ) → k < min (m .count) 16 → k < m .count
     within k l = omega arith
 
-    go : (k : Kind) → AnswersAs (instanceOf (plainOf m)) a k → length (printedAs k (m .count) a) ≤ room
+    go : (k : Kind) → AnswersAsNeeds (instanceOf (plainOf m)) (needsOf (m .needs)) a k → length (printedAs k (m .count) a) ≤ room
     go kind.Optimal o =
-        let v = value-small (plainOf m) a range o in
+        let v = value-small (plainOf m) a (needsOf (m .needs)) range o in
         let h = best-short (a .value) (v .0) (v .1) in
         let each = printable (plainOf m) a false range (o .shown) (λ k l e. absurd (let z : _≡_ {A = ℕ} 0 1 = cc in omega arith)) in
         let i = lines-short false a (min (m .count) 16) (omega arith) (λ k l. each k (within k l)) in

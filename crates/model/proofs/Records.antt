@@ -1,6 +1,6 @@
 -- Laws of records.
 -- some-found, some-more, none-fails: a test over the first items.
--- both-accept: verdicts in a row. neither: tests in a row.
+-- both-accept: verdicts in a row.
 -- unfaulted, unrefused: a record is accepted exactly if none of its tests holds; accepted-iff: exactly if it is admissible.
 -- figures-of: a problem in range has its figures in range. plain-in-range: and back, if no bounds cross.
 use mathlib.Core.Path.{_≡_, refl, sym, _∙_, subst}
@@ -22,25 +22,34 @@ use Rattle.knapsack.specs.declared.Verdict.{Verdict}
 use Rattle.knapsack.specs.declared.Verdict.the-variants.{Accepted, Refused}
 use Rattle.knapsack.specs.Ranges.{BoundInRange, InRange}
 use Rattle.model.specs.declared.Model.{Model}
-use Rattle.model.specs.Refusals.{count, figure}
+use Rattle.model.specs.Refusals.{count, figure, item-number, named-item}
 use Rattle.model.specs.Records.{
   itemAt,
+  needAt,
   outside,
   badBound,
   badFigure,
   someItem,
   badCount,
   held,
+  badLine,
+  unfitLine,
+  lineBefore,
   refusedIf,
   orElse,
   countVerdict,
   figureVerdict,
+  needVerdict,
+  needsVerdict,
   verdict,
   ItemFigures,
   FiguresInRange,
   Uncrossed,
+  GoodLine,
   Admissible,
 }
+use Rattle.model.proofs.Tests.{neither}
+use Rattle.model.proofs.NeedLines.{good-line, line-good}
 
 pub some-more : (k : ℕ) (f : ℕ → Item) (test : Item → Bool) → someItem k f test ≡ false → test (f k) ≡ false → someItem (suc k) f test ≡ false
 unfolding someItem
@@ -78,11 +87,6 @@ both-accept (Refused f) w h = absurd (subst Taken (sym h) tt)
 row-clear : (t : Bool) (n : ℕ) → refusedIf t n ≡ Accepted → t ≡ false
 row-clear true n h = absurd (subst Taken (sym h) tt)
 row-clear false n h = refl
-
--- of two tests in a row neither holds
-pub neither : (a b : Bool) → cond a true b ≡ false → (a ≡ false) × (b ≡ false)
-neither true b h = absurd (impossible (sym h))
-neither false b h = (refl, h)
 
 inside : (n : ℕ) (z : ℤ) → outside n z ≡ false → natAbs z ≤ n
 inside n z h = ltb-false n (natAbs z) h
@@ -126,35 +130,74 @@ pub record Unfaulted (m : Model) : Type 0 where
   pub most : m .count ≤ 16
   pub capacity : outside 100000000 (m .capacity) ≡ false
   pub figures : Each (m .count) (λ k. badFigure (itemAt m k) ≡ false)
+  pub few-needs : m .needs .count ≤ 16
+  pub needs : Each (m .needs .count) (λ j. (badLine (m .count) (lineBefore (m .needs) j) (needAt (m .needs) j) ≡ false) × (unfitLine (itemAt m) (needAt (m .needs) j) ≡ false))
 
--- with a good count all items are tried
-held-all : (m : Model) → m .count ≤ 16 → held m ≡ m .count
-held-all m h = rw (le-ltb 16 (m .count) h)
+-- with a good count all are tried
+pub held-all : (n : ℕ) → n ≤ 16 → held n ≡ n
+held-all n h = rw (le-ltb 16 n h)
+
+-- every line is accepted
+lines-accept : (n : ℕ) (m : Model) → needsVerdict n m ≡ Accepted → Each n (λ j. needVerdict m j ≡ Accepted)
+unfolding needsVerdict
+lines-accept zero m h j l = absurd (omega arith)
+lines-accept (suc n) m h j l = go (ℕ-discrete j n) (λ i. lines-accept n m (r .0) j i)
+  where
+    r : (needsVerdict n m ≡ Accepted) × (needVerdict m n ≡ Accepted)
+    r = both-accept (needsVerdict n m) (needVerdict m n) h
+
+    go : Dec (j ≡ n) → (j < n → needVerdict m j ≡ Accepted) → needVerdict m j ≡ Accepted
+    go (yes e) ih = subst (λ i. needVerdict m i ≡ Accepted) (sym e) (r .1)
+    go (no d) ih = ih (omega arith)
+
+accept-lines : (n : ℕ) (m : Model) → Each n (λ j. needVerdict m j ≡ Accepted) → needsVerdict n m ≡ Accepted
+unfolding needsVerdict
+accept-lines zero m h = refl
+accept-lines (suc n) m h = rw (accept-lines n m (λ j l. h j (omega arith))) (h n (omega arith))
 
 pub unfaulted : (m : Model) → verdict m ≡ Accepted → Unfaulted m
 unfolding verdict
 unfaulted m h =
-    let r = both-accept (countVerdict m) (figureVerdict m) h in
-    let each = someItem (held m) (itemAt m) badFigure in
+    let t = both-accept (orElse (countVerdict m) (figureVerdict m)) (needsVerdict (held (m .needs .count)) m) h in
+    let r = both-accept (countVerdict m) (figureVerdict m) (t .0) in
+    let each = someItem (held (m .count)) (itemAt m) badFigure in
     let f = both-accept (refusedIf (outside 100000000 (m .capacity)) figure) (refusedIf each figure) (r .1) in
-    let n = neither (eqb (m .count) 0) (ltb 16 (m .count)) (row-clear (badCount (m .count)) count (r .0)) in
+    let c = neither (badCount (m .count)) (ltb 16 (m .needs .count)) (row-clear (cond (badCount (m .count)) true (ltb 16 (m .needs .count))) count (r .0)) in
+    let n = neither (eqb (m .count) 0) (ltb 16 (m .count)) (c .0) in
     let some = eqb-false (m .count) 0 (n .0) in
     let few = ltb-false 16 (m .count) (n .1) in
-    let all = held-all m few in
+    let short = ltb-false 16 (m .needs .count) (c .1) in
+    let all = held-all (m .count) few in
+    let lines = lines-accept (m .needs .count) m (rw (held-all (m .needs .count) short) at (t .1)) in
     record {
       least = omega arith;
       most = few;
       capacity = row-clear (outside 100000000 (m .capacity)) figure (f .0);
       figures = none-fails (m .count) (itemAt m) badFigure (rw all at (row-clear each figure (f .1)));
+      few-needs = short;
+      needs = λ j l. clear all j (lines j l);
     }
+  where
+    clear : held (m .count) ≡ m .count → (j : ℕ) → needVerdict m j ≡ Accepted →
+        (badLine (m .count) (lineBefore (m .needs) j) (needAt (m .needs) j) ≡ false) × (unfitLine (itemAt m) (needAt (m .needs) j) ≡ false)
+    clear all j h =
+        let bad = badLine (held (m .count)) (lineBefore (m .needs) j) (needAt (m .needs) j) in
+        let lame = unfitLine (itemAt m) (needAt (m .needs) j) in
+        let r = both-accept (refusedIf bad item-number) (refusedIf lame named-item) h in
+        (rw all at (row-clear bad item-number (r .0)), row-clear lame named-item (r .1))
 
 pub unrefused : (m : Model) → Unfaulted m → verdict m ≡ Accepted
 unfolding verdict
 unrefused m u =
     let some : m .count ≡ 0 → ⊥ = λ e. omega (arith, u .least) in
+    let all = held-all (m .count) (u .most) in
+    let line : Each (m .needs .count) (λ j. needVerdict m j ≡ Accepted) = λ j l. let h = u .needs j l in rw (all, h .0, h .1) in
+    let lines : needsVerdict (held (m .needs .count)) m ≡ Accepted = rw (held-all (m .needs .count) (u .few-needs)) (accept-lines (m .needs .count) m line) in
     rw (
+      lines,
       ne-eqb (m .count) 0 some,
       le-ltb 16 (m .count) (u .most),
+      le-ltb 16 (m .needs .count) (u .few-needs),
       u .capacity,
       all-pass (m .count) (itemAt m) badFigure (u .figures),
     )
@@ -163,21 +206,29 @@ pub accepted : (m : Model) → verdict m ≡ Accepted → Admissible m
 accepted m h =
     let u = unfaulted m h in
     record {
-      some-items = u .least;
-      few-items = u .most;
-      capacity-in = inside 100000000 (m .capacity) (u .capacity);
-      items-in = λ k l. item-in (itemAt m k) (u .figures k l);
+      figures = record {
+        some-items = u .least;
+        few-items = u .most;
+        capacity-in = inside 100000000 (m .capacity) (u .capacity);
+        items-in = λ k l. item-in (itemAt m k) (u .figures k l);
+      };
+      few-needs = u .few-needs;
+      needs = λ j l. let n = u .needs j l in good-line m j (n .0) (n .1);
     }
 
 pub admitted : (m : Model) → Admissible m → verdict m ≡ Accepted
-admitted m r = unrefused m (record {
-  least = r .some-items;
-  most = r .few-items;
-  capacity = not-outside 100000000 (m .capacity) (r .capacity-in);
-  figures = λ k l. in-item (itemAt m k) (r .items-in k l);
-})
+admitted m a =
+    let r = a .figures in
+    unrefused m (record {
+      least = r .some-items;
+      most = r .few-items;
+      capacity = not-outside 100000000 (m .capacity) (r .capacity-in);
+      figures = λ k l. in-item (itemAt m k) (r .items-in k l);
+      few-needs = a .few-needs;
+      needs = λ j l. line-good m j (a .needs j l);
+    })
 
--- End theorem: a record is accepted exactly if it keeps the ranges.
+-- End theorem: a record is accepted exactly if it keeps the ranges and its needs are good.
 pub accepted-iff : (m : Model) → (verdict m ≡ Accepted) ↔ Admissible m
 accepted-iff m = (accepted m, admitted m)
 

@@ -1,4 +1,5 @@
 pub mod Refusals
+pub mod Needs
 pub mod Records
 pub mod Setters
 pub mod Promises

@@ -1,48 +1,92 @@
--- Problems handed over as records, and what they are refused for: paper 01, the table of ranges and "Refused, by place".
---   emptyModel       the record of a refusal: blank items only, count and capacity 0
---   itemAt m k       the item at a place, from 0
+-- Problems handed over as records, and what they are refused for: paper 01, the table of ranges and "Refused, by place"; paper 02, request 7.
+--   emptyModel       the record of a refusal: blank items and unused lines of needs only, counts and capacity 0
+--   itemAt m k       the item at a place, from 0;  needAt ns j: the line of needs, from 0
+--   placed n         a need by the places of its items, from 0
+--   needsOf ns       a section's needs, by places;  needsUpTo n f: those of the first n lines, the last in front
+--   Agree m o        the records are one problem: counts, capacity, the items and the lines of needs that are counted
 --   plainOf m        the solver's problem of a record
 --   outside n z      z is farther than n from zero
 --   badBound, badFigure, crossed, crosses   tests of a bound, of an item's figures, of its bounds
 --   someItem n f t   the test holds of one of the first n items
 --   someCrosses p    the bounds of some item cross
 --   badCount n       n is no number of items
---   held m           how many items there are to be tried: the count, at most 16
+--   wrongNumber n k, wrongNumbers n i j   k is no item number of 1 to n; i or j is none, or both are one
+--   held n           how many of n items or lines there are to be tried: at most 16
+--   outOfOrder a b   the line b does not rise above the line a, by item and then by cover
+--   badLine n a b    refusal 5 of the line b, which follows a, over n items
+--   isContinuous, belowZero, unfit   tests of a mark, of a lower bound, of an item: no need may name it
+--   unfitLine f b    refusal 14 of the line b
+--   lineBefore ns j  the line before line j: an unused one before the first
 --   refusalOf n      a refusal of a record, and of an entry that was given one: line 0
 --   refuse n         refusal n
 --   refusedIf t n    refusal n if the test holds
 --   orElse v w       the first that refuses
 --   countVerdict, figureVerdict   the rows of the refusals of a record: 3, 4
+--   needVerdict m j, needsVerdict n m   5 and then 14 of one line of needs, and of the first n
 --   verdict m        accepted, or the first refusal
 --   ItemFigures i    an item's figures within their ranges
 --   FiguresInRange p a problem's figures within the ranges of the paper's table; its bounds may cross
 --   Uncrossed p      no lower bound is above its upper: what the solver asks besides (proofs/Records, plain-in-range)
---   Admissible m     the record keeps the ranges; it is accepted exactly then (proofs/Records, accepted-iff)
+--   Numbers n i j    i and j are two item numbers of 1 to n
+--   Rises a b        the line b rises above the line a
+--   GoodLine m j     what row 5 and row 14 ask of a line of needs
+--   Admissible m     the record keeps the ranges and its needs are good; it is accepted exactly then (proofs/Records, accepted-iff)
+use mathlib.Core.Path.{_≡_}
 use mathlib.Core.Bool.{Bool, true, false, cond}
-use Prim.Native.Nat.{ℕ, zero, suc, _≤_, _<_}
+use mathlib.Core.List.{List, [], _∷_}
+use mathlib.Core.Logic.{_⊎_}
+use Prim.Native.Nat.{ℕ, zero, suc, _-_, _≤_, _<_}
 use lib.Dec.{ltb, eqb}
 use lib.IntN.{ℤ, pos, natAbs}
 use lib.ListN.{getD, replicate}
 use lib.Signed.{ltZ}
+use Rattle.arith.specs.Sum.{Each}
+use Rattle.knapsack.specs.Items.{isAbsent}
+use Rattle.knapsack.specs.Meaning.{instanceOf}
 use Rattle.knapsack.specs.Ranges.{blank, itemAt as plainItem, BoundInRange, BoundsInOrder}
 use Rattle.knapsack.specs.declared.Bound.{Bound}
 use Rattle.knapsack.specs.declared.Bound.the-variants.{Absent, At}
 use Rattle.knapsack.specs.declared.Item.{Item}
+use Rattle.knapsack.specs.declared.Mark.{Mark}
+use Rattle.knapsack.specs.declared.Mark.the-variants.{Integer, Continuous}
 use Rattle.knapsack.specs.declared.Problem.{Problem}
 use Rattle.knapsack.specs.declared.Refusal.{Refusal}
 use Rattle.knapsack.specs.declared.Verdict.{Verdict}
 use Rattle.knapsack.specs.declared.Verdict.the-variants.{Accepted, Refused}
 use Rattle.model.specs.declared.Model.{Model}
+use Rattle.model.specs.declared.Need.{Need}
+use Rattle.model.specs.declared.Needs.{Needs}
+use Rattle.model.specs.Needs.{noNeed, noNeeds, Allowed}
 use Rattle.model.specs.Refusals as refusal
 
 abbrev pub emptyModel : Model
-emptyModel = record { items = replicate 16 blank; count = 0; capacity = pos 0 }
+emptyModel = record { items = replicate 16 blank; count = 0; capacity = pos 0; needs = noNeeds }
 
 abbrev pub itemAt : Model → ℕ → Item
 itemAt m k = getD (m .items) k blank
 
+abbrev pub needAt : Needs → ℕ → Need
+needAt ns j = getD (ns .lines) j noNeed
+
 abbrev pub plainOf : Model → Problem
 plainOf m = record { items = m .items; count = m .count; capacity = m .capacity }
+
+abbrev pub placed : Need → Need
+placed n = record { item = n .item - 1; cover = n .cover - 1 }
+
+unfoldable pub needsUpTo : ℕ → (ℕ → Need) → List Need
+needsUpTo zero f = []
+needsUpTo (suc n) f = placed (f n) ∷ needsUpTo n f
+
+abbrev pub needsOf : Needs → List Need
+needsOf ns = needsUpTo (ns .count) (needAt ns)
+
+pub record Agree (m o : Model) : Type 0 where
+  pub count : m .count ≡ o .count
+  pub capacity : m .capacity ≡ o .capacity
+  pub items : Each (m .count) (λ k. itemAt m k ≡ itemAt o k)
+  pub need-count : m .needs .count ≡ o .needs .count
+  pub needs : Each (m .needs .count) (λ j. needAt (m .needs) j ≡ needAt (o .needs) j)
 
 -- ---- tests
 
@@ -74,8 +118,41 @@ someCrosses p = someItem (p .count) (plainItem p) crosses
 abbrev pub badCount : ℕ → Bool
 badCount n = cond (eqb n 0) true (ltb 16 n)
 
-abbrev pub held : Model → ℕ
-held m = cond (ltb 16 (m .count)) 16 (m .count)
+abbrev pub held : ℕ → ℕ
+held n = cond (ltb 16 n) 16 n
+
+-- an item number outside 1 to n
+abbrev pub wrongNumber : ℕ → ℕ → Bool
+wrongNumber n k = cond (eqb k 0) true (ltb n k)
+
+-- or one item twice
+abbrev pub wrongNumbers : ℕ → ℕ → ℕ → Bool
+wrongNumbers n i j = cond (wrongNumber n i) true (cond (wrongNumber n j) true (eqb i j))
+
+-- ---- tests of a line of needs
+
+abbrev pub outOfOrder : Need → Need → Bool
+outOfOrder a b = cond (ltb (a .item) (b .item)) false (cond (ltb (b .item) (a .item)) true (cond (ltb (a .cover) (b .cover)) false true))
+
+unfoldable pub badLine : ℕ → Need → Need → Bool
+badLine n a b = cond (wrongNumbers n (b .item) (b .cover)) true (outOfOrder a b)
+
+abbrev pub isContinuous : Mark → Bool
+isContinuous Integer = false
+isContinuous Continuous = true
+
+abbrev pub belowZero : Bound → Bool
+belowZero Absent = true
+belowZero (At l) = ltZ l (pos 0)
+
+unfoldable pub unfit : Item → Bool
+unfit i = cond (isContinuous (i .mark)) true (cond (belowZero (i .lower)) true (isAbsent (i .upper)))
+
+abbrev pub unfitLine : (ℕ → Item) → Need → Bool
+unfitLine f b = cond (unfit (f (b .item - 1))) true (unfit (f (b .cover - 1)))
+
+abbrev pub lineBefore : Needs → ℕ → Need
+lineBefore ns j = cond (eqb j 0) noNeed (needAt ns (j - 1))
 
 -- ---- verdicts
 
@@ -92,16 +169,26 @@ abbrev pub orElse : Verdict → Verdict → Verdict
 orElse Accepted w = w
 orElse (Refused f) w = Refused f
 
+-- the items, then the needs
 abbrev pub countVerdict : Model → Verdict
-countVerdict m = refusedIf (badCount (m .count)) refusal.count
+countVerdict m = refusedIf (cond (badCount (m .count)) true (ltb 16 (m .needs .count))) refusal.count
 
 -- the capacity, then each item's figures
 abbrev pub figureVerdict : Model → Verdict
 figureVerdict m =
-    orElse (refusedIf (outside 100000000 (m .capacity)) refusal.figure) (refusedIf (someItem (held m) (itemAt m) badFigure) refusal.figure)
+    orElse (refusedIf (outside 100000000 (m .capacity)) refusal.figure) (refusedIf (someItem (held (m .count)) (itemAt m) badFigure) refusal.figure)
+
+abbrev pub needVerdict : Model → ℕ → Verdict
+needVerdict m j =
+    orElse (refusedIf (badLine (held (m .count)) (lineBefore (m .needs) j) (needAt (m .needs) j)) refusal.item-number)
+    (refusedIf (unfitLine (itemAt m) (needAt (m .needs) j)) refusal.named-item)
+
+unfoldable pub needsVerdict : ℕ → Model → Verdict
+needsVerdict zero m = Accepted
+needsVerdict (suc j) m = orElse (needsVerdict j m) (needVerdict m j)
 
 unfoldable pub verdict : Model → Verdict
-verdict m = orElse (countVerdict m) (figureVerdict m)
+verdict m = orElse (orElse (countVerdict m) (figureVerdict m)) (needsVerdict (held (m .needs .count)) m)
 
 -- ---- the ranges: what the solver asks of its problem, but for the order of bounds
 
@@ -120,5 +207,24 @@ pub record FiguresInRange (p : Problem) : Type 0 where
 abbrev pub Uncrossed : Problem → Type 0
 Uncrossed p = (k : ℕ) → k < p .count → BoundsInOrder (plainItem p k .lower) (plainItem p k .upper)
 
-abbrev pub Admissible : Model → Type 0
-Admissible m = FiguresInRange (plainOf m)
+-- ---- the needs
+
+pub record Numbers (n i j : ℕ) : Type 0 where
+  pub first-least : 1 ≤ i
+  pub first-most : i ≤ n
+  pub second-least : 1 ≤ j
+  pub second-most : j ≤ n
+  pub different : i ≡ j → ⊥
+
+abbrev pub Rises : Need → Need → Type 0
+Rises a b = (a .item < b .item) ⊎ ((a .item ≡ b .item) × (a .cover < b .cover))
+
+pub record GoodLine (m : Model) (j : ℕ) : Type 0 where
+  pub numbers : Numbers (m .count) (needAt (m .needs) j .item) (needAt (m .needs) j .cover)
+  pub rises : Rises (lineBefore (m .needs) j) (needAt (m .needs) j)
+  pub allowed : Allowed (instanceOf (plainOf m)) (placed (needAt (m .needs) j))
+
+pub record Admissible (m : Model) : Type 0 where
+  pub figures : FiguresInRange (plainOf m)
+  pub few-needs : m .needs .count ≤ 16
+  pub needs : (j : ℕ) → j < m .needs .count → GoodLine m j

@@ -1,7 +1,8 @@
--- The numbers of paper 01's refusals ("Refused, by place"), the twins of src/refusals.rt.
+-- The numbers of the refusals (paper 01, "Refused, by place", and paper 02), the twins of src/refusals.rt.
 --   overlong, form, count, figure, item-number                  1 to 5: a sheet's; count and figure a record's too
 --   amounts, amount, pair-numbers, pair-items, short-buffer     7 to 11: the point check's, the least pair's, a lent buffer's
 --   heading-word, number                                        12, 13: a sheet's, in the place of 2 (paper 02, request 3)
+--   named-item                                                  14: a record's and a sheet's, of a line of needs (paper 02, request 7)
 use Prim.Native.Nat.{ℕ}
 
 abbrev pub overlong : ℕ
@@ -39,3 +40,6 @@ heading-word = 12
 
 abbrev pub number : ℕ
 number = 13
+
+abbrev pub named-item : ℕ
+named-item = 14

@@ -1,5 +1,6 @@
 // The problem as it is handed over (paper 01: a problem handed over as a record): the record, its refusals, and what the entries owe for it (specs/).
 // An entry tries the record by check_model and goes on with plain_of, the solver's problem.
+pub mod naming; // the tests of a line of needs
 pub mod refusals; // the numbers
 pub mod setters; // records by steps
 
@@ -28,14 +29,29 @@ ghost use Rattle.model.specs.Records.{
   orElse,
   countVerdict,
   figureVerdict,
+  needVerdict,
+  needsVerdict,
   verdict,
 };
+
+// 02's line `k m`: where there is any of item k, there is at least 1 of item m, its cover. Both are item numbers, from 1.
+pub struct Need {
+    pub item: usize,
+    pub cover: usize,
+}
+
+// 02's section of needs: its first count lines.
+pub struct Needs {
+    pub lines: [Need; 16],
+    pub count: usize,
+}
 
 // A record: the items are the first count places, and the capacity is 01's limit b.
 pub struct Model {
     pub items: [Item; 16],
     pub count: usize,
     pub capacity: i64,
+    pub needs: Needs,
 }
 
 // Which bound of an item.
@@ -135,18 +151,17 @@ pub fn some_crosses(p: Problem) -> bool
     false
 }
 
-// How many items there are to be tried.
-fn held_items(m: Model) -> usize
-    ensures { λ r. ⌜ (r ≡ held m) × (r ≤ 16) ⌝ }
+// How many of n items or lines there are to be tried.
+fn held_of(n: usize) -> usize
+    ensures { λ r. ⌜ (r ≡ held n) × (r ≤ 16) ⌝ }
 {
-    let n = m.count;
     if 16 < n { 16 } else { n }
 }
 
 fn some_faulty(m: Model) -> bool
-    ensures { λ r. ⌜ r ≡ someItem (held m) (itemAt m) badFigure ⌝ }
+    ensures { λ r. ⌜ r ≡ someItem (held (m .count)) (itemAt m) badFigure ⌝ }
 {
-    let n = held_items(m);
+    let n = held_of(m.count);
     let mut k: usize = 0;
     while k < n {
         let i = m.items[k];
@@ -189,11 +204,16 @@ fn first_of(v: Verdict, w: Verdict) -> Verdict
 fn check_counts(m: Model) -> Verdict
     ensures { λ r. ⌜ r ≡ countVerdict m ⌝ }
 {
-    let n = m.count;
-    if n == 0 {
+    let items = m.count;
+    if items == 0 {
         return refused_if(true, refusals::COUNT);
     }
-    refused_if(16 < n, refusals::COUNT)
+    if 16 < items {
+        return refused_if(true, refusals::COUNT);
+    }
+    let ns = m.needs;
+    let lines = ns.count;
+    refused_if(16 < lines, refusals::COUNT)
 }
 
 fn check_figures(m: Model) -> Verdict
@@ -205,10 +225,40 @@ fn check_figures(m: Model) -> Verdict
     first_of(capacity, items)
 }
 
-// A record's refusal: 3 (count), then 4 (capacity, then each item's figures), line 0.
+// One line of needs: 5, then 14.
+fn check_need(m: Model, j: usize) -> Verdict
+    requires { ⌜ j < 16 ⌝ }
+    ensures { λ r. ⌜ r ≡ needVerdict m j ⌝ }
+{
+    let n = held_of(m.count);
+    let ns = m.needs;
+    let before = naming::line_before(ns, j);
+    let need = ns.lines[j];
+    if naming::is_bad_line(n, before, need) {
+        return refused_if(true, refusals::ITEM_NUMBER);
+    }
+    refused_if(naming::names_unfit(m, need), refusals::NAMED_ITEM)
+}
+
+fn check_needs(m: Model) -> Verdict
+    ensures { λ r. ⌜ r ≡ needsVerdict (held (m .needs .count)) m ⌝ }
+{
+    let ns = m.needs;
+    let t = held_of(ns.count);
+    let mut v = Verdict::Accepted;
+    let mut j: usize = 0;
+    while j < t {
+        v = first_of(v, check_need(m, j));
+        j += 1;
+    }
+    v
+}
+
+// A record's refusal: 3 (count of items, then of needs), then 4 (capacity, then each item's figures), then 5 and 14 of each line of needs; line 0.
 pub fn check_model(m: Model) -> Verdict
     ensures { λ r. ⌜ r ≡ verdict m ⌝ }
 {
     let v = check_counts(m);
-    first_of(v, check_figures(m))
+    let w = first_of(v, check_figures(m));
+    first_of(w, check_needs(m))
 }

@@ -1,4 +1,4 @@
-// The numbers of paper 01's refusals; specs/Refusals has their twins.
+// The numbers of the refusals of papers 01 and 02; specs/Refusals has their twins.
 pub const OVERLONG: u64 = 1;
 
 pub const FORM: u64 = 2;
@@ -22,3 +22,5 @@ pub const SHORT_BUFFER: u64 = 11;
 pub const HEADING_WORD: u64 = 12;
 
 pub const NUMBER: u64 = 13;
+
+pub const NAMED_ITEM: u64 = 14;

@@ -1,22 +1,27 @@
 // A record is filled by these alone: whoever reads, draws or lends one need not know its fields.
 use crate::Model;
+use crate::Need;
+use crate::Needs;
 use crate::Side;
+use crate::naming;
 use knapsack::Bound;
 use knapsack::Item;
 ghost use mathlib.Core.Path.{_≡_};
 ghost use Prim.Native.Nat.{_<_};
 ghost use Rattle.model.specs.Records.{emptyModel};
-ghost use Rattle.model.specs.Setters.{withCapacity, withCount, withItems, withItem, bounded, withBound};
+ghost use Rattle.model.specs.Setters.{withCapacity, withCount, withItems, withItem, bounded, withBound, withNeeds, withNeedCount, withNeed};
 
 // The record of a refusal.
 pub fn empty_model() -> Model
     ensures { λ r. ⌜ r ≡ emptyModel ⌝ }
 {
     let item = knapsack::blank_item();
+    let needs = naming::no_needs();
     Model {
         items: [item; 16],
         count: 0,
         capacity: 0,
+        needs,
     }
 }
 
@@ -87,4 +92,29 @@ pub fn with_bound(m: Model, side: Side, j: usize, b: Bound) -> Model
 {
     let item = m.items[j];
     with_item(m, j, with_side(item, side, b))
+}
+
+pub fn with_needs(m: Model, needs: Needs) -> Model
+    ensures { λ r. ⌜ r ≡ withNeeds m needs ⌝ }
+{
+    let mut n = m;
+    n.needs = needs;
+    n
+}
+
+pub fn with_need_count(m: Model, count: usize) -> Model
+    ensures { λ r. ⌜ r ≡ withNeedCount m count ⌝ }
+{
+    let mut ns = m.needs;
+    ns.count = count;
+    with_needs(m, ns)
+}
+
+pub fn with_need(m: Model, j: usize, x: Need) -> Model
+    requires { ⌜ j < 16 ⌝ }
+    ensures { λ r. ⌜ r ≡ withNeed m j x ⌝ }
+{
+    let mut ns = m.needs;
+    ns.lines[j] = x;
+    with_needs(m, ns)
 }

@@ -1,5 +1,4 @@
-// The planner: from a record to its answer. Paper 01, "The problem" and what it owes for each record: optimal, infeasible and
-// unbounded are said exactly when they are true, and a record out of range is refused.
+// The solver of plain problems. Paper 01, "The problem": optimal, infeasible and unbounded are said exactly when they are true.
 use arith::Fraction;
 use arith::Mixed;
 use arith::reduce;
@@ -11,10 +10,6 @@ use greedy::fill_up;
 use knapsack::Answer;
 use knapsack::Kind;
 use knapsack::Problem;
-use knapsack::Verdict;
-use model::Model;
-use model::check_model;
-use model::plain_of;
 use model::some_crosses;
 use placed::shown_first;
 use prepare::narrowed;
@@ -35,7 +30,6 @@ ghost use Rattle.greedy.specs.Fill.{at};
 ghost use Rattle.greedy.specs.Sized.{Sized};
 ghost use Rattle.knapsack.specs.Ranges.{InRange};
 ghost use Rattle.knapsack.specs.Meaning.{bare};
-ghost use Rattle.model.specs.Promises.{Planned};
 ghost use Rattle.model.specs.Records.{FiguresInRange};
 ghost use Rattle.ceiling.specs.Sizes.{Spanned};
 ghost use Rattle.search.specs.Steps.{GoodBest};
@@ -221,25 +215,4 @@ pub fn solve(p: Problem) -> Solved
     ensures { λ r. ⌜ Solves p r ⌝ }
 {
     solve_within(p, STEPS)
-}
-
-// The reply to any record, by a search of at most so many steps.
-pub fn plan_within(m: Model, most: u64) -> Answer
-    ensures { λ r. ⌜ Planned m r ⌝ }
-{
-    let v = check_model(m);
-    match v {
-        Verdict::Accepted => {
-            let r = solve_within(plain_of(m), most);
-            r.answer
-        }
-        Verdict::Refused(f) => no_point(Kind::Refused(f)),
-    }
-}
-
-// The planner's reply to any record.
-pub fn plan(m: Model) -> Answer
-    ensures { λ r. ⌜ Planned m r ⌝ }
-{
-    plan_within(m, STEPS)
 }

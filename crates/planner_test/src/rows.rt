@@ -108,7 +108,7 @@ fn pair_rows() {
 fn sheet_rows() {
     show_sheet(
         b'A',
-        b"limit 1\n20\nitems 2\nW 9 13\nL 3 2\nlower 2\n1 0\n2 0\nupper 2\n1 2\n2 5\n",
+        b"limit 1\n20\nitems 2\nW 9 13\nL 3 2\nlower 2\n1 0\n2 0\nupper 2\n1 2\n2 5\nneeds 0\n",
     );
     show_sheet(b'N', b"");
     show_sheet(b'O', b"limit 1\n0\nitems 17\n");

@@ -93,7 +93,7 @@ module _ (b : ℤ) (l : List Item) where
   n = usable (length l)
 
   accepted-few : verdict m ≡ Accepted → length l ≤ 16
-  accepted-few e = accepted m e .few-items
+  accepted-few e = accepted m e .figures .few-items
 
   pub settled-length : length (settled m .items) ≡ 16
   unfolding settled arranged

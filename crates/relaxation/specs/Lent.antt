@@ -24,6 +24,7 @@ use Rattle.knapsack.specs.declared.Verdict.{Verdict}
 use Rattle.knapsack.specs.declared.Verdict.the-variants.{Accepted, Refused}
 use Rattle.knapsack.specs.Ranges.{blank, itemAt}
 use Rattle.model.specs.declared.Model.{Model}
+use Rattle.model.specs.Needs.{noNeeds}
 use Rattle.model.specs.Promises.{Relaxed}
 use Rattle.model.specs.Records.{plainOf, verdict}
 use Rattle.ordering.specs.Order.{orderedItems}
@@ -36,7 +37,7 @@ filled (suc n) [] = blank ∷ filled n []
 filled (suc n) (x ∷ l) = x ∷ filled n l
 
 abbrev pub loaded : ℤ → ℕ → List Item → Model
-loaded b n l = record { items = filled 16 l; count = n; capacity = b }
+loaded b n l = record { items = filled 16 l; count = n; capacity = b; needs = noNeeds }
 
 abbrev pub modelOf : ℤ → List Item → Model
 modelOf b l = loaded b (length l) l

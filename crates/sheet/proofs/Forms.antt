@@ -1,8 +1,8 @@
--- The sheet's three forms of line keep the laws of a form: limit-laws, item-laws, bound-laws.
---   LimitFits, Bare, BoundFits    what a line's value must be where it is read
+-- The sheet's four forms of line keep the laws of a form: limit-laws, item-laws, bound-laws, need-laws.
+--   LimitFits, Bare, BoundFits, NeedFits    what a line's value must be where it is read
 -- bare-same: a bare item is what its line gives. bare-of, fair-side: an item in range is bare without its bounds, which are in range.
 use mathlib.Core.Path.{_≡_, refl, sym, ap, _∙_}
-use mathlib.Core.Bool.{false}
+use mathlib.Core.Bool.{Bool, true, false, cond}
 use mathlib.Core.List.{List, [], _∷_, append-assoc}
 use Prim.Native.Nat.{ℕ, suc}
 use native.Mathlib.Omega.{arith}
@@ -13,10 +13,12 @@ use lib.Signed.{_≤ℤ_}
 use Rattle.knapsack.specs.declared.Bound.{Bound}
 use Rattle.knapsack.specs.declared.Bound.the-variants.{Absent, At}
 use Rattle.knapsack.specs.declared.Item.{Item}
+use Rattle.model.specs.declared.Need.{Need}
 use Rattle.model.specs.declared.Side.{Side}
 use Rattle.model.specs.declared.Side.the-variants.{Lower, Upper}
-use Rattle.model.specs.Records.{outside, badBound, badFigure}
-use Rattle.model.proofs.Records.{neither}
+use Rattle.model.specs.Records.{itemAt, outside, badBound, badFigure, badLine, unfitLine, lineBefore}
+use Rattle.model.specs.Refusals as refusal
+use Rattle.model.proofs.Tests.{neither}
 use Rattle.text.specs.Decimal.{integer}
 use Rattle.lines.specs.declared.number.Ranged.the-variants.{In, Out}
 use Rattle.lines.specs.declared.number.Field.{Field}
@@ -26,15 +28,17 @@ use Rattle.lines.specs.declared.ItemRead.the-variants.{Fault as ItemFault, Read
 use Rattle.lines.specs.declared.BoundField.the-variants.{In as Bounded}
 use Rattle.lines.specs.declared.BoundRead.{BoundRead}
 use Rattle.lines.specs.declared.BoundRead.the-variants.{Fault as BoundFault, Read as BoundIs}
+use Rattle.lines.specs.declared.NeedRead.{NeedRead}
+use Rattle.lines.specs.declared.NeedRead.the-variants.{Fault as NeedFault, Read as NeedIs}
 use Rattle.lines.specs.Numbers.{fieldAt}
-use Rattle.lines.specs.Lines.{prices, itemRead, boundField, boundRead}
-use Rattle.lines.specs.Layout.{itemText, Bounding, bounding, boundText}
-use Rattle.lines.proofs.Shapes.{field-range, numbers-parts, item-parts, bound-shape, bound-parts}
-use Rattle.lines.proofs.Standing.{Has, field-has, item-has, bound-has}
-use Rattle.lines.proofs.Rereading.{ranged-within, field-reads, bareOf, item-reads, bound-reads}
+use Rattle.lines.specs.Lines.{prices, itemRead, boundField, boundRead, needRead}
+use Rattle.lines.specs.Layout.{itemText, Bounding, bounding, boundText, needText}
+use Rattle.lines.proofs.Shapes.{field-range, numbers-parts, item-parts, bound-shape, bound-parts, need-parts}
+use Rattle.lines.proofs.Standing.{Has, field-has, item-has, bound-has, need-has}
+use Rattle.lines.proofs.Rereading.{ranged-within, field-reads, bareOf, item-reads, bound-reads, need-reads}
 use Rattle.sheet.specs.declared.Progress.{Progress}
 use Rattle.sheet.specs.Sections.{fault, gives}
-use Rattle.sheet.specs.Reading.{limits, limitGives, limitForm, itemGives, itemForm, boundGives, boundForm}
+use Rattle.sheet.specs.Reading.{limits, limitGives, limitForm, itemGives, itemForm, boundGives, boundForm, needGives, needForm}
 use Rattle.sheet.specs.Printing.{sideOf}
 use Rattle.sheet.proofs.Sections.{Laws}
 
@@ -152,3 +156,36 @@ bound-laws side = record {
         let q = bound-parts (suc (p .item)) s (p .at) c k e in
         let f : BoundFits p (bounding (suc (p .item)) c) = record { due = refl; fair = bound-fair s (q .next) c k (q .bound) } in
         rw (← u, ← w) (f, bound-has (suc (p .item)) s (p .at) c k e)
+
+-- ---- needs
+
+-- two item numbers above the line before, of items that a need may name
+pub record NeedFits (p : Progress) (b : Need) : Type 0 where
+  pub fair : badLine (p .model .count) (lineBefore (p .model .needs) (p .item)) b ≡ false
+  pub fit : unfitLine (itemAt (p .model)) b ≡ false
+
+pub need-laws : Laws needForm NeedFits
+need-laws = record {
+  has = λ s p b n h. has s p b n (readAt s p) refl h;
+  reads = λ s p b l f h.
+      let r = need-reads (p .model .count) (lineBefore (p .model .needs) (p .item)) b s (p .at) l (f .fair) h in
+      (r .0, ap (needGives (itemAt (p .model))) (r .1) ∙ rw (f .fit), r .2);
+}
+  where
+    readAt : List ℕ → Progress → NeedRead
+    readAt s p = needRead (p .model .count) (lineBefore (p .model .needs) (p .item)) s (p .at)
+
+    fits : (s : List ℕ) (p : Progress) (b : Need) (n : ℕ) (c : Need) (k : ℕ) → readAt s p ≡ NeedIs c k → (t : Bool) → unfitLine (itemAt (p .model)) c ≡ t →
+        cond t (fault refusal.named-item) (gives c k) ≡ gives b n → NeedFits p b × Has s (p .at) (needText b) n
+    fits s p b n c k e true f h = no-value h
+    fits s p b n c k e false f h =
+        let u : c ≡ b = cc in
+        let v : k ≡ n = cc in
+        let r : readAt s p ≡ NeedIs b n = e ∙ rw (u, v) in
+        let q = need-parts _ _ s (p .at) b n r in
+        (record { fair = q .fair; fit = rw u at f }, need-has _ _ s (p .at) b n r)
+
+    has : (s : List ℕ) (p : Progress) (b : Need) (n : ℕ) (x : NeedRead) → readAt s p ≡ x → needGives (itemAt (p .model)) x ≡ gives b n →
+        NeedFits p b × Has s (p .at) (needText b) n
+    has s p b n (NeedFault k) e h = no-value h
+    has s p b n (NeedIs c k) e h = fits s p b n c k e (unfitLine (itemAt (p .model)) c) refl h

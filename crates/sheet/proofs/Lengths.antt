@@ -1,4 +1,4 @@
--- The printing of a record in range is shorter than a sheet may be: printing-short, by 1,163 bytes at most.
+-- The printing of a record in range is shorter than a sheet may be: printing-short, by 1,275 bytes at most.
 use mathlib.Core.Path.{_≡_, refl}
 use mathlib.Core.Bool.{false}
 use mathlib.Core.List.{List, [], _∷_, _++_}
@@ -14,14 +14,16 @@ use Rattle.knapsack.specs.declared.Item.{Item}
 use Rattle.model.specs.declared.Model.{Model}
 use Rattle.model.specs.declared.Side.{Side}
 use Rattle.model.specs.declared.Side.the-variants.{Lower, Upper}
-use Rattle.model.specs.Records.{itemAt, outside, badBound, badFigure}
+use Rattle.model.specs.declared.Need.{Need}
+use Rattle.model.specs.Records.{itemAt, needAt, outside, badBound, badFigure, badLine, lineBefore}
+use Rattle.model.proofs.NeedLines.{line-numbers}
 use Rattle.model.proofs.Records.{Unfaulted}
 use Rattle.text.specs.Decimal.{integer}
 use Rattle.text.proofs.Decimals.{decimal-length, integer-length}
-use Rattle.lines.specs.Layout.{headingText, itemText, boundWord, Bounding, boundText}
+use Rattle.lines.specs.Layout.{headingText, itemText, boundWord, Bounding, boundText, needText}
 use Rattle.sheet.specs.Sections.{LineForm, linesText, sectionText}
-use Rattle.sheet.specs.Reading.{limit, items, wordOf, limitForm, itemForm, boundForm}
-use Rattle.sheet.specs.Printing.{upTo, boundAt, boundingAt, sideText, printing}
+use Rattle.sheet.specs.Reading.{limit, items, wordOf, needs, limitForm, itemForm, boundForm, needForm}
+use Rattle.sheet.specs.Printing.{upTo, boundAt, boundingAt, sideText, needsText, printing}
 use Rattle.sheet.proofs.Forms.{bare-of, fair-side}
 use Rattle.sheet.proofs.Making.{upto-length}
 
@@ -48,6 +50,12 @@ pub bound-short : (b : Bounding) → b .number ≤ 16 → badBound (b .bound) �
 bound-short b h f =
     let n = decimal-length 8 (b .number) (omega arith) in
     let v = bound-word-short (b .bound) f in
+    simp length-append (omega arith)
+
+pub need-short : (b : Need) → b .item ≤ 16 → b .cover ≤ 16 → length (needText b) ≤ 6
+need-short b h l =
+    let k = decimal-length 1 (b .item) (omega arith) in
+    let c = decimal-length 1 (b .cover) (omega arith) in
     simp length-append (omega arith)
 
 -- ---- sections
@@ -90,7 +98,25 @@ side-short side m r =
     five Lower = refl
     five Upper = refl
 
-pub printing-short : (m : Model) → Unfaulted m → length (printing m) ≤ 1163
+needs-short : (n : ℕ) (f : ℕ → Need) → Each n (λ j. (f j .item ≤ 16) × (f j .cover ≤ 16)) → Short needText 6 (upTo n f)
+unfolding upTo
+needs-short zero f h = tt
+needs-short (suc n) f h = let l = h n (omega arith) in (need-short (f n) (l .0) (l .1), needs-short n f (λ k l. h k (omega arith)))
+
+-- both numbers of a record's line are at most 16
+pub numbers-few : (m : Model) → Unfaulted m → Each (m .needs .count) (λ j. (needAt (m .needs) j .item ≤ 16) × (needAt (m .needs) j .cover ≤ 16))
+numbers-few m r j l =
+    let n = line-numbers (m .count) (lineBefore (m .needs) j) (needAt (m .needs) j) (r .needs j l .0) in
+    (omega (arith, n .first-most, r .most), omega (arith, n .second-most, r .most))
+
+need-section-short : (m : Model) → Unfaulted m → length (needsText m) ≤ 112
+need-section-short m r =
+    let many = upto-length (m .needs .count) (needAt (m .needs)) in
+    let short = needs-short (m .needs .count) (needAt (m .needs)) (numbers-few m r) in
+    let s = section-short needForm needs 6 (upTo (m .needs .count) (needAt (m .needs))) refl (omega (arith, r .few-needs)) short in
+    omega (arith, r .few-needs)
+
+pub printing-short : (m : Model) → Unfaulted m → length (printing m) ≤ 1275
 unfolding printing
 printing-short m r =
     let b = number-short 100000000 (m .capacity) (omega arith) (r .capacity) in
@@ -101,4 +127,5 @@ printing-short m r =
     let i = section-short itemForm items 24 (upTo (m .count) (itemAt m)) refl (omega (arith, r .most)) short in
     let x = simp length-append at (side-short Lower m r) in
     let y = simp length-append at (side-short Upper m r) in
+    let z = simp length-append at (need-section-short m r) in
     simp length-append (omega (arith, simp length-append at l, simp length-append at i, r .most))

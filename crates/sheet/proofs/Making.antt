@@ -1,9 +1,9 @@
 -- What the lines of each section make of the record: the same invariant for a sheet that was read and for one that is read back.
 -- upto-length, upto-cong, upto-inj, texts-cong: lists of places.
---   Limited, ItemsIn, BoundsIn     what holds while a section's lines are read; limit-next, items-next, bounds-next: with one line more
+--   Limited, ItemsIn, BoundsIn, NeedsIn    what holds while a section's lines are read; limit-next, items-next, bounds-next, needs-next: with one line more
 -- bounds-number: the item number is the number of lines.
 --   Kept side i j                  j has all of i but the bound of one side
--- items-fit, bounds-fit: the lines of a record in range fit, one after the other.
+-- items-fit, bounds-fit, needs-fit: the lines of a record in range fit, one after the other.
 use mathlib.Core.Path.{_≡_, refl, sym, ap, ap₂, _∙_}
 use mathlib.Core.Bool.{false}
 use mathlib.Core.List.{List, [], _∷_, _++_}
@@ -19,16 +19,20 @@ use Rattle.knapsack.specs.declared.Bound.{Bound}
 use Rattle.knapsack.specs.declared.Bound.the-variants.{Absent}
 use Rattle.knapsack.specs.declared.Item.{Item}
 use Rattle.model.specs.declared.Model.{Model}
+use Rattle.model.specs.declared.Need.{Need}
+use Rattle.model.specs.declared.Needs.{Needs}
 use Rattle.model.specs.declared.Side.{Side}
 use Rattle.model.specs.declared.Side.the-variants.{Lower, Upper}
-use Rattle.model.specs.Records.{emptyModel, itemAt, outside, badBound}
-use Rattle.model.specs.Setters.{withCapacity, withItem, bounded, withBound}
+use Rattle.model.specs.Needs.{noNeed, noNeeds}
+use Rattle.model.specs.Records.{emptyModel, itemAt, needAt, outside, badBound, badLine, unfitLine, lineBefore}
+use Rattle.model.specs.Setters.{withCapacity, withItem, bounded, withBound, withNeed}
+use Rattle.model.proofs.NeedLines.{before-next}
 use Rattle.lines.specs.Layout.{Bounding, bounding}
 use Rattle.sheet.specs.declared.Progress.{Progress}
 use Rattle.sheet.specs.Sections.{goesOn, linesText}
 use Rattle.sheet.specs.Printing.{upTo, sideOf, boundAt, boundingAt}
 use Rattle.sheet.proofs.Sections.{Fitting}
-use Rattle.sheet.proofs.Forms.{LimitFits, Bare, BoundFits}
+use Rattle.sheet.proofs.Forms.{LimitFits, Bare, BoundFits, NeedFits}
 
 -- ---- lists of places
 
@@ -89,6 +93,7 @@ pub record ItemsIn (b : ℤ) (m : ℕ) (vs : List Item) (p : Progress) : Type 0 
   pub count : p .model .count ≡ m
   pub few : m ≤ 16
   pub capacity : p .model .capacity ≡ b
+  pub needs : p .model .needs ≡ noNeeds
 
 pub items-next : (b : ℤ) (m : ℕ) (vs : List Item) (p : Progress) (i : Item) (n : ℕ) → length vs < m → ItemsIn b m vs p → Bare i →
     ItemsIn b m (i ∷ vs) (goesOn (withItem (p .model) (p .item) i) n (suc (p .item)))
@@ -101,6 +106,7 @@ items-next b m vs p i n l g f = record {
   count = g .count;
   few = g .few;
   capacity = g .capacity;
+  needs = g .needs;
 }
   where
     j : ℕ
@@ -160,6 +166,7 @@ pub record BoundsIn (side : Side) (o : Model) (m : ℕ) (vs : List Bounding) (p 
   pub places : length (p .model .items) ≡ 16
   pub count : p .model .count ≡ o .count
   pub capacity : p .model .capacity ≡ o .capacity
+  pub needs : p .model .needs ≡ o .needs
   pub same : (k : ℕ) → Kept side (itemAt o k) (itemAt (p .model) k)
 
 -- as many lines as items so far
@@ -214,6 +221,7 @@ module _ (side : Side) (o : Model) (m : ℕ) (vs : List Bounding) (p : Progress)
     places = simp length-set (g .places);
     count = g .count;
     capacity = g .capacity;
+    needs = g .needs;
     same = λ k. keeps k (ℕ-discrete k (p .item));
   }
 
@@ -233,3 +241,84 @@ bounds-fit side o m (suc n) q h = (
   }),
   bounds-fit side o m n q (λ k l. h k (omega arith)),
 )
+
+-- ---- needs
+
+-- a line of needs that is not refused, over the items of o
+abbrev pub FairLine : Model → Needs → ℕ → Type 0
+FairLine o ns j = (badLine (o .count) (lineBefore ns j) (needAt ns j) ≡ false) × (unfitLine (itemAt o) (needAt ns j) ≡ false)
+
+-- over the record o, whose items stay
+pub record NeedsIn (o : Model) (m : ℕ) (vs : List Need) (p : Progress) : Type 0 where
+  pub listed : upTo (p .item) (needAt (p .model .needs)) ≡ vs
+  pub fair : Each (p .item) (FairLine o (p .model .needs))
+  pub rest : (j : ℕ) → p .item ≤ j → needAt (p .model .needs) j ≡ noNeed
+  pub lines : length (p .model .needs .lines) ≡ 16
+  pub number : p .model .needs .count ≡ m
+  pub few : m ≤ 16
+  pub items : p .model .items ≡ o .items
+  pub count : p .model .count ≡ o .count
+  pub capacity : p .model .capacity ≡ o .capacity
+
+-- as many lines as were read
+pub needs-number : (o : Model) (m : ℕ) (vs : List Need) (p : Progress) → NeedsIn o m vs p → p .item ≡ length vs
+needs-number o m vs p g = sym (upto-length (p .item) (needAt (p .model .needs))) ∙ ap length (g .listed)
+
+-- the line before is told by the lines before
+before-cong : (ns os : Needs) (j : ℕ) → Each j (λ i. needAt ns i ≡ needAt os i) → lineBefore ns j ≡ lineBefore os j
+before-cong ns os zero h = refl
+before-cong ns os (suc j) h = before-next ns j ∙ h j (omega arith) ∙ sym (before-next os j)
+
+pub needs-next : (o : Model) (m : ℕ) (vs : List Need) (p : Progress) (b : Need) (n : ℕ) → length vs < m → NeedsIn o m vs p → NeedFits p b →
+    NeedsIn o m (b ∷ vs) (goesOn (withNeed (p .model) (p .item) b) n (suc (p .item)))
+unfolding upTo
+needs-next o m vs p b n l g f = record {
+  listed = ap₂ _∷_ here (upto-cong j (needAt after) (needAt ns) (λ k h. old k (omega arith)) ∙ g .listed);
+  fair = λ k h. either k h (ℕ-discrete k j);
+  rest = λ k h. old k (omega arith) ∙ g .rest k (omega arith);
+  lines = simp length-set (g .lines);
+  number = g .number;
+  few = g .few;
+  items = g .items;
+  count = g .count;
+  capacity = g .capacity;
+}
+  where
+    j : ℕ
+    j = p .item
+
+    ns : Needs
+    ns = p .model .needs
+
+    after : Needs
+    after = record { lines = set (ns .lines) j b; count = ns .count }
+
+    here : needAt after j ≡ b
+    here = getD-set-same (ns .lines) j b noNeed (omega (arith, needs-number o m vs p g, g .lines, g .few))
+
+    old : (k : ℕ) → (k ≡ j → ⊥) → needAt after k ≡ needAt ns k
+    old k ne = getD-set-other (ns .lines) j k b noNeed ne
+
+    same : (k : ℕ) → k ≤ j → lineBefore after k ≡ lineBefore ns k
+    same k h = before-cong after ns k (λ i u. old i (omega arith))
+
+    either : (k : ℕ) → k < suc j → Dec (k ≡ j) → FairLine o after k
+    either k h (yes e) = rw (e, same j (omega arith), here, ← g .count) (f .fair, rw (← g .items) (f .fit))
+    either k h (no e) = rw (same k (omega arith), old k e) (g .fair k (omega arith))
+
+pub needs-fit : (o : Model) (m n : ℕ) (ns : Needs) → Each n (FairLine o ns) → Fitting (NeedsIn o m) NeedFits (upTo n (needAt ns))
+unfolding upTo
+needs-fit o m zero ns h = tt
+needs-fit o m (suc n) ns h = (
+  (λ p i. fits p i (h n (omega arith))),
+  needs-fit o m n ns (λ k l. h k (omega arith)),
+)
+  where
+    fits : (p : Progress) → NeedsIn o m (upTo n (needAt ns)) p → FairLine o ns n → NeedFits p (needAt ns n)
+    fits p i q =
+        let k : p .item ≡ n = needs-number o m (upTo n (needAt ns)) p i ∙ upto-length n (needAt ns) in
+        let e = upto-inj n (needAt (p .model .needs)) (needAt ns) (rw k at (i .listed)) in
+        record {
+          fair = rw (k, i .count, before-cong (p .model .needs) ns n e) (q .0);
+          fit = rw (i .items) (q .1);
+        }

@@ -1,7 +1,7 @@
 -- The layout theorem: a sheet is accepted with a record exactly if it is that record's sheet.
---   Laid m b vi vl vu    the limit b, and the lines vi, vl, vu of the sections items, lower and upper, are those of the record m
+--   Laid m b vi vl vu vn    the limit b, and the lines vi, vl, vu, vn of the sections items, lower, upper and needs, are those of the record m
 -- laid-text: so its sheet is their text. laid-once: no other record has them. laid: the record that was made from them has them.
--- accepted-sheet: what is accepted is the printing of its record, which is in range, with its unused places blank.
+-- accepted-sheet: what is accepted is the printing of its record, which is in range, with its unused places blank and its unused lines of needs 0 0.
 -- sheet-accepted: the printing of a record in range is accepted, with that record.
 -- accepted-exactly: both. sheet-unique: two records in range have equal sheets only if they are equal.
 use mathlib.Core.Path.{_≡_, refl, sym, ap, ap₂, _∙_}
@@ -14,7 +14,7 @@ use native.Mathlib.Decide.{decLt}
 use borrow.Author.Tests.{le-ltb, ltb-false}
 use lib.Dec.{ltb, lit<}
 use lib.IntN.{ℤ}
-use lib.ListN.{length, drop, drop-of-length-le, length-drop}
+use lib.ListN.{length, drop, drop-of-length-le, length-drop, replicate, length-replicate, getD-replicate, List·getD-eq-default}
 use lib.Seq.{ext-getD}
 use Rattle.arith.specs.Sum.{Each}
 use Rattle.knapsack.specs.Ranges.{blank}
@@ -23,10 +23,13 @@ use Rattle.knapsack.specs.declared.Item.{Item}
 use Rattle.knapsack.specs.declared.Verdict.the-variants.{Accepted, Refused}
 use Rattle.model.specs.Refusals as refusal
 use Rattle.model.specs.declared.Model.{Model}
+use Rattle.model.specs.declared.Need.{Need}
+use Rattle.model.specs.declared.Needs.{Needs}
 use Rattle.model.specs.declared.Side.{Side}
 use Rattle.model.specs.declared.Side.the-variants.{Lower, Upper}
-use Rattle.model.specs.Records.{emptyModel, itemAt, outside, badFigure}
-use Rattle.model.specs.Setters.{withCapacity, withCount}
+use Rattle.model.specs.Needs.{noNeed, noNeeds}
+use Rattle.model.specs.Records.{emptyModel, itemAt, needAt, outside, badFigure}
+use Rattle.model.specs.Setters.{withCapacity, withCount, withNeeds, withNeedCount}
 use Rattle.model.proofs.Records.{Unfaulted, unfaulted, unrefused}
 use Rattle.lines.specs.Places.{refusalOn}
 use Rattle.lines.specs.Layout.{headingText, itemText, Bounding, bounding}
@@ -35,14 +38,15 @@ use Rattle.lines.proofs.Rereading.{bareOf}
 use Rattle.sheet.specs.declared.Progress.{Progress}
 use Rattle.sheet.specs.declared.Reading.{Reading}
 use Rattle.sheet.specs.Sections.{goesOn, refusedAt, sectionText}
-use Rattle.sheet.specs.Reading.{limit, items, wordOf, limitForm, itemForm, boundForm, limitSection, itemsSection, boundsSection, endOfSheet}
-use Rattle.sheet.specs.Reading.{headOf, lowerOf, upperOf, wholeOf, readSheet}
-use Rattle.sheet.specs.Printing.{upTo, boundAt, boundingAt, sideText, printing, Tidy, SheetOf}
+use Rattle.sheet.specs.Reading.{limit, items, wordOf, needs, limitForm, itemForm, boundForm, needForm, limitSection, itemsSection, boundsSection, needsSection}
+use Rattle.sheet.specs.Reading.{endOfSheet, headOf, lowerOf, upperOf, lastOf, wholeOf, readSheet}
+use Rattle.sheet.specs.Printing.{upTo, boundAt, boundingAt, sideText, needsText, printing, Tidy, SheetOf}
 use Rattle.sheet.proofs.Sections.{no-refusal, went, section-before, SectionRead, section-read, Fitting, Back, section-back}
-use Rattle.sheet.proofs.Forms.{LimitFits, limit-laws, Bare, bare-same, bare-of, item-laws, BoundFits, bound-laws, fair-side}
+use Rattle.sheet.proofs.Forms.{LimitFits, limit-laws, Bare, bare-same, bare-of, item-laws, BoundFits, bound-laws, fair-side, NeedFits, need-laws}
 use Rattle.sheet.proofs.Making.{upto-length, upto-cong, upto-inj, texts-cong}
 use Rattle.sheet.proofs.Making.{limited, Limited, limit-next, blanks, ItemsIn, items-next, items-fit}
 use Rattle.sheet.proofs.Making.{Kept, kept-same, BoundsIn, bounds-number, bounds-next, bounds-fit}
+use Rattle.sheet.proofs.Making.{FairLine, NeedsIn, needs-number, needs-next, needs-fit}
 use Rattle.sheet.proofs.Lengths.{printing-short}
 
 -- ---- the lines of a record
@@ -51,42 +55,58 @@ use Rattle.sheet.proofs.Lengths.{printing-short}
 same-item : (i j : Item) → bareOf i ≡ bareOf j → i .lower ≡ j .lower → i .upper ≡ j .upper → i ≡ j
 same-item i j e l u = ap (λ (k : Item). record { mark = k .mark; weight = k .weight; price = k .price; lower = i .lower; upper = i .upper }) e ∙ rw (l, u)
 
-same-model : (m o : Model) → m .items ≡ o .items → m .count ≡ o .count → m .capacity ≡ o .capacity → m ≡ o
-same-model m o a b c = let r : m ≡ record { items = m .items; count = m .count; capacity = m .capacity } = refl in r ∙ rw (a, b, c)
+same-needs : (m o : Needs) → m .lines ≡ o .lines → m .count ≡ o .count → m ≡ o
+same-needs m o a b = let r : m ≡ record { lines = m .lines; count = m .count } = refl in r ∙ rw (a, b)
 
-record Laid (m : Model) (b : ℤ) (vi : List Item) (vl vu : List Bounding) : Type 0 where
+same-model : (m o : Model) → m .items ≡ o .items → m .count ≡ o .count → m .capacity ≡ o .capacity → m .needs ≡ o .needs → m ≡ o
+same-model m o a b c d = let r : m ≡ record { items = m .items; count = m .count; capacity = m .capacity; needs = m .needs } = refl in r ∙ rw (a, b, c, d)
+
+record Laid (m : Model) (b : ℤ) (vi : List Item) (vl vu : List Bounding) (vn : List Need) : Type 0 where
   limit : m .capacity ≡ b
   items : upTo (m .count) (λ k. bareOf (itemAt m k)) ≡ vi
   lower : upTo (m .count) (boundingAt Lower m) ≡ vl
   upper : upTo (m .count) (boundingAt Upper m) ≡ vu
+  needs : upTo (m .needs .count) (needAt (m .needs)) ≡ vn
   tidy : Tidy m
 
 -- the text of those lines
-abbrev textOf : ℤ → List Item → List Bounding → List Bounding → List ℕ
-textOf b vi vl vu =
+abbrev textOf : ℤ → List Item → List Bounding → List Bounding → List Need → List ℕ
+textOf b vi vl vu vn =
     sectionText limitForm limit (b ∷ [])
-    ++ (sectionText itemForm items vi ++ (sectionText (boundForm Lower) (wordOf Lower) vl ++ sectionText (boundForm Upper) (wordOf Upper) vu))
+    ++ (sectionText itemForm items vi
+    ++ (sectionText (boundForm Lower) (wordOf Lower) vl
+    ++ (sectionText (boundForm Upper) (wordOf Upper) vu
+    ++ sectionText needForm needs vn)))
 
-laid-text : (m : Model) (b : ℤ) (vi : List Item) (vl vu : List Bounding) → Laid m b vi vl vu → printing m ≡ textOf b vi vl vu
+laid-text : (m : Model) (b : ℤ) (vi : List Item) (vl vu : List Bounding) (vn : List Need) → Laid m b vi vl vu vn → printing m ≡ textOf b vi vl vu vn
 unfolding printing
-laid-text m b vi vl vu l =
-    rw (← l .limit, ← l .items, ← l .lower, ← l .upper)
+laid-text m b vi vl vu vn l =
+    rw (← l .limit, ← l .items, ← l .lower, ← l .upper, ← l .needs)
     (let n = m .count in
     let bare : ℕ → Item = λ k. bareOf (itemAt m k) in
     let h = ap (headingText items) (upto-length n (itemAt m) ∙ sym (upto-length n bare)) in
     let e = ap₂ _++_ h (texts-cong itemText n (itemAt m) bare (λ k l. refl)) in
-    ap (λ t. sectionText limitForm limit (m .capacity ∷ []) ++ (t ++ (sideText Lower m ++ sideText Upper m))) e)
+    ap (λ t. sectionText limitForm limit (m .capacity ∷ []) ++ (t ++ (sideText Lower m ++ (sideText Upper m ++ needsText m)))) e)
 
-laid-once : (m o : Model) (b : ℤ) (vi : List Item) (vl vu : List Bounding) → Laid m b vi vl vu → Laid o b vi vl vu → m ≡ o
-laid-once m o b vi vl vu x y =
+laid-once : (m o : Model) (b : ℤ) (vi : List Item) (vl vu : List Bounding) (vn : List Need) → Laid m b vi vl vu vn → Laid o b vi vl vu vn → m ≡ o
+laid-once m o b vi vl vu vn x y =
     let n = sym (upto-length (m .count) (λ k. bareOf (itemAt m k))) ∙ ap length (x .items) in
     let c : o .count ≡ m .count = sym (upto-length (o .count) (λ k. bareOf (itemAt o k))) ∙ ap length (y .items) ∙ sym n in
     let i = upto-inj (m .count) _ _ (x .items ∙ sym (rw c at (y .items))) in
     let l = upto-inj (m .count) _ _ (x .lower ∙ sym (rw c at (y .lower))) in
     let u = upto-inj (m .count) _ _ (x .upper ∙ sym (rw c at (y .upper))) in
     let e = ext-getD blank (m .items) (o .items) (x .tidy .places ∙ sym (y .tidy .places)) (λ k h. go k c i l u (decLt k (m .count))) in
-    same-model m o e (sym c) (x .limit ∙ sym (y .limit))
+    let t : o .needs .count ≡ m .needs .count
+    = sym (upto-length (o .needs .count) (needAt (o .needs))) ∙ ap length (y .needs ∙ sym (x .needs)) ∙ upto-length (m .needs .count) (needAt (m .needs)) in
+    let v = upto-inj (m .needs .count) _ _ (x .needs ∙ sym (rw t at (y .needs))) in
+    let d = ext-getD noNeed (m .needs .lines) (o .needs .lines) (x .tidy .lines ∙ sym (y .tidy .lines)) (λ j h. line j t v (decLt j (m .needs .count))) in
+    same-model m o e (sym c) (x .limit ∙ sym (y .limit)) (same-needs (m .needs) (o .needs) d (sym t))
   where
+    line : (j : ℕ) → o .needs .count ≡ m .needs .count → Each (m .needs .count) (λ j. needAt (m .needs) j ≡ needAt (o .needs) j) →
+        Dec (j < m .needs .count) → needAt (m .needs) j ≡ needAt (o .needs) j
+    line j t v (yes h) = v j h
+    line j t v (no h) = x .tidy .spare j (omega arith) ∙ sym (y .tidy .spare j (omega arith))
+
     go : (k : ℕ) → o .count ≡ m .count → Each (m .count) (λ k. bareOf (itemAt m k) ≡ bareOf (itemAt o k)) →
         Each (m .count) (λ k. boundingAt Lower m k ≡ boundingAt Lower o k) → Each (m .count) (λ k. boundingAt Upper m k ≡ boundingAt Upper o k) →
         Dec (k < m .count) → itemAt m k ≡ itemAt o k
@@ -111,6 +131,7 @@ items-start m b n at e few =
       count = refl;
       few = few;
       capacity = ap (λ (q : Model). q .capacity) e;
+      needs = ap (λ (q : Model). q .needs) e;
     }
 
 bounds-start : (side : Side) (o : Model) (n at : ℕ) → n ≡ o .count → o .count ≤ 16 → length (o .items) ≡ 16 →
@@ -125,8 +146,32 @@ bounds-start side o n at all few size free = record {
   places = size;
   count = refl;
   capacity = refl;
+  needs = refl;
   same = λ k. kept-same side (itemAt o k);
 }
+
+spares : (j : ℕ) → needAt noNeeds j ≡ noNeed
+spares j = go (decLt j 16)
+  where
+    go : Dec (j < 16) → needAt noNeeds j ≡ noNeed
+    go (yes l) = getD-replicate 16 j noNeed noNeed l
+    go (no l) = List·getD-eq-default (replicate 16 noNeed) noNeed {n = j} (omega (arith, length-replicate 16 noNeed))
+
+needs-start : (o : Model) (n at : ℕ) → o .needs ≡ noNeeds → n ≤ 16 → NeedsIn o n [] (goesOn (withNeedCount o n) at 0)
+unfolding upTo
+needs-start o n at e few =
+    let l : o .needs .lines ≡ replicate 16 noNeed = ap (λ (q : Needs). q .lines) e in
+    record {
+      listed = refl;
+      fair = λ j h. absurd (omega arith);
+      rest = λ j h. rw l (spares j);
+      lines = rw l refl;
+      number = refl;
+      few = few;
+      items = refl;
+      count = refl;
+      capacity = refl;
+    }
 
 -- behind the last item
 items-end : (b : ℤ) (vs : List Item) (p : Progress) → ItemsIn b (length vs) vs p → p .item ≡ p .model .count
@@ -153,8 +198,12 @@ bounds-all : (side : Side) (o : Model) (vs : List Bounding) (p : Progress) → B
     upTo (o .count) (boundingAt side (p .model)) ≡ vs
 bounds-all side o vs p g = ap (λ n. upTo n (boundingAt side (p .model))) (sym (bounds-end side o vs p g)) ∙ g .listed
 
-module _ (b : ℤ) (vi : List Item) (vl vu : List Bounding) (h l u : Progress) (i : ItemsIn b (length vi) vi h)
-    (x : BoundsIn Lower (h .model) (length vl) vl l) (y : BoundsIn Upper (l .model) (length vu) vu u) where
+-- behind the last need
+needs-end : (o : Model) (vs : List Need) (p : Progress) → NeedsIn o (length vs) vs p → p .item ≡ p .model .needs .count
+needs-end o vs p g = needs-number o (length vs) vs p g ∙ sym (g .number)
+
+module _ (b : ℤ) (vi : List Item) (vl vu : List Bounding) (vn : List Need) (h l u n : Progress) (i : ItemsIn b (length vi) vi h)
+    (x : BoundsIn Lower (h .model) (length vl) vl l) (y : BoundsIn Upper (l .model) (length vu) vu u) (z : NeedsIn (u .model) (length vn) vn n) where
   -- the number of items
   counted : (u .model .count ≡ h .item) × (u .model .count ≡ l .model .count)
   counted = (y .count ∙ x .count ∙ sym (items-end b vi h i), y .count)
@@ -173,18 +222,24 @@ module _ (b : ℤ) (vi : List Item) (vl vu : List Bounding) (h l u : Progress) (
       (lower-kept k ∙ x .rest k (omega (arith, bounds-end Lower (h .model) vl l x, items-end b vi h i, counted .0)))
       (y .rest k (omega (arith, bounds-end Upper (l .model) vu u y, counted .1)))
 
-  laid : Laid (u .model) b vi vl vu
+  laid : Laid (n .model) b vi vl vu vn
   laid =
       let bare : ℕ → Item = λ k. bareOf (itemAt (u .model) k) in
-      let n = counted .0 in
+      let many = counted .0 in
       let e = upto-cong (h .item) bare (itemAt (h .model)) (λ k c. bare-kept k ∙ bare-same (itemAt (h .model) k) (i .bare k c)) in
       let f = upto-cong (h .model .count) (boundingAt Lower (u .model)) (boundingAt Lower (l .model)) (λ k c. ap (bounding (suc k)) (lower-kept k)) in
       record {
-        limit = y .capacity ∙ x .capacity ∙ i .capacity;
-        items = ap (λ n. upTo n bare) n ∙ e ∙ i .listed;
-        lower = ap (λ n. upTo n (boundingAt Lower (u .model))) (y .count ∙ x .count) ∙ f ∙ bounds-all Lower (h .model) vl l x;
-        upper = ap (λ n. upTo n (boundingAt Upper (u .model))) (counted .1) ∙ bounds-all Upper (l .model) vu u y;
-        tidy = record { places = y .places; unused = unused-item };
+        limit = z .capacity ∙ y .capacity ∙ x .capacity ∙ i .capacity;
+        items = rw (z .count, z .items) (ap (λ k. upTo k bare) many ∙ e ∙ i .listed);
+        lower = rw (z .count, z .items) (ap (λ k. upTo k (boundingAt Lower (u .model))) (y .count ∙ x .count) ∙ f ∙ bounds-all Lower (h .model) vl l x);
+        upper = rw (z .count, z .items) (ap (λ k. upTo k (boundingAt Upper (u .model))) (counted .1) ∙ bounds-all Upper (l .model) vu u y);
+        needs = ap (λ k. upTo k (needAt (n .model .needs))) (sym (needs-end (u .model) vn n z)) ∙ z .listed;
+        tidy = record {
+          places = ap length (z .items) ∙ y .places;
+          unused = λ k c. rw (z .items) (unused-item k (omega (arith, z .count)));
+          lines = z .lines;
+          spare = λ j c. z .rest j (omega (arith, needs-end (u .model) vn n z));
+        };
       }
 
   fair-figures : (k : ℕ) → k < u .model .count → badFigure (itemAt (u .model) k) ≡ false
@@ -218,6 +273,9 @@ limit-bytes = (lit< tt, (lit< tt, (lit< tt, (lit< tt, (lit< tt, tt)))))
 abbrev items-bytes : Bytes items
 items-bytes = (lit< tt, (lit< tt, (lit< tt, (lit< tt, (lit< tt, tt)))))
 
+abbrev needs-bytes : Bytes needs
+needs-bytes = (lit< tt, (lit< tt, (lit< tt, (lit< tt, (lit< tt, tt)))))
+
 abbrev word-bytes : (side : Side) → Bytes (wordOf side)
 word-bytes Lower = (lit< tt, (lit< tt, (lit< tt, (lit< tt, (lit< tt, tt)))))
 word-bytes Upper = (lit< tt, (lit< tt, (lit< tt, (lit< tt, (lit< tt, tt)))))
@@ -233,12 +291,14 @@ record Sections (s : List ℕ) : Type 0 where
   vi : List Item
   vl : List Bounding
   vu : List Bounding
+  vn : List Need
   fair : outside 100000000 limit ≡ false
   some : 1 ≤ length vi
   items : ItemsIn limit (length vi) vi (headOf s)
   lower : BoundsIn Lower (headOf s .model) (length vl) vl (lowerOf s)
   upper : BoundsIn Upper (lowerOf s .model) (length vu) vu (upperOf s)
-  text : Has s 0 (textOf limit vi vl vu) (upperOf s .at)
+  needs-read : NeedsIn (upperOf s .model) (length vn) vn (lastOf s)
+  text : Has s 0 (textOf limit vi vl vu vn) (lastOf s .at)
 
 side-before : (s : List ℕ) (side : Side) (p : Progress) → boundsSection s side p .verdict ≡ Accepted → p .verdict ≡ Accepted
 unfolding boundsSection
@@ -253,9 +313,10 @@ side-read s side p few size free h =
     section-read (boundForm side) BoundFits (bound-laws side) (BoundsIn side (p .model)) (bounds-next side (p .model)) (wordOf side) n n _
     s p (word-bytes side) (λ m at x y. bounds-start side (p .model) m at (omega arith) few size free) h
 
-sections : (s : List ℕ) → upperOf s .verdict ≡ Accepted → Sections s
-unfolding upperOf lowerOf headOf limitSection itemsSection
-sections s h =
+sections : (s : List ℕ) → lastOf s .verdict ≡ Accepted → Sections s
+unfolding lastOf needsSection upperOf lowerOf headOf limitSection itemsSection
+sections s g =
+    let h = section-before needForm _ _ _ s (upperOf s) g in
     let hl = side-before s Upper (lowerOf s) h in
     let hi = side-before s Lower (headOf s) hl in
     let hb = section-before itemForm _ _ _ s (limitSection s) hi in
@@ -271,35 +332,45 @@ sections s h =
     let few : q .count ≤ 16 = omega (arith, i .most, i .holds .count) in
     let x = side-read s Lower (headOf s) few (i .holds .places) (free Lower) hl in
     let y = side-read s Upper (lowerOf s) (omega (arith, few, x .holds .count)) (x .holds .places) (λ k. x .holds .same k .other ∙ free Upper k) h in
+    let empty : upperOf s .model .needs ≡ noNeeds = y .holds .needs ∙ x .holds .needs ∙ i .holds .needs in
+    let z = section-read needForm NeedFits need-laws (NeedsIn (upperOf s .model)) (needs-next (upperOf s .model)) needs 0 16 _ s (upperOf s) needs-bytes
+    (λ n at u v. needs-start (upperOf s .model) n at empty v) g in
     record {
       limit = b;
       vi = i .values;
       vl = x .values;
       vu = y .values;
+      vn = z .values;
       fair = a .holds .fair b [] (o .1);
       some = i .least;
       items = i .holds;
       lower = x .holds;
       upper = y .holds;
-      text = has-join (rw (o .1) at (a .text)) (has-join (i .text) (has-join (x .text) (y .text)));
+      needs-read = z .holds;
+      text = has-join (rw (o .1) at (a .text)) (has-join (i .text) (has-join (x .text) (has-join (y .text) (z .text))));
     }
 
-found-sheet : (s : List ℕ) → Ended s (upperOf s) → SheetOf s (upperOf s .model)
+found-sheet : (s : List ℕ) → Ended s (lastOf s) → SheetOf s (lastOf s .model)
 found-sheet s t =
     let r = sections s (t .before) in
-    let m = upperOf s .model in
-    let l = laid (r .limit) (r .vi) (r .vl) (r .vu) (headOf s) (lowerOf s) (upperOf s) (r .items) (r .lower) (r .upper) in
-    let c = counted (r .limit) (r .vi) (r .vl) (r .vu) (headOf s) (lowerOf s) (upperOf s) (r .items) (r .lower) (r .upper) .0 in
+    let m = lastOf s .model in
+    let z = r .needs-read in
+    let l = laid (r .limit) (r .vi) (r .vl) (r .vu) (r .vn) (headOf s) (lowerOf s) (upperOf s) (lastOf s) (r .items) (r .lower) (r .upper) z in
+    let c = counted (r .limit) (r .vi) (r .vl) (r .vu) (r .vn) (headOf s) (lowerOf s) (upperOf s) (lastOf s) (r .items) (r .lower) (r .upper) z .0 in
+    let f = fair-figures (r .limit) (r .vi) (r .vl) (r .vu) (r .vn) (headOf s) (lowerOf s) (upperOf s) (lastOf s) (r .items) (r .lower) (r .upper) z in
     let n = items-end (r .limit) (r .vi) (headOf s) (r .items) in
+    let e = needs-end (upperOf s .model) (r .vn) (lastOf s) z in
     record {
       fair = unrefused m (record {
-        least = omega (arith, r .some, r .items .count);
-        most = omega (arith, r .items .few, r .items .count);
+        least = omega (arith, r .some, r .items .count, z .count);
+        most = omega (arith, r .items .few, r .items .count, z .count);
         capacity = rw (l .limit) (r .fair);
-        figures = fair-figures (r .limit) (r .vi) (r .vl) (r .vu) (headOf s) (lowerOf s) (upperOf s) (r .items) (r .lower) (r .upper);
+        figures = λ k h. rw (z .items) (f k (omega (arith, z .count)));
+        few-needs = omega (arith, z .number, z .few);
+        needs = λ j h. rw (z .count, z .items) (z .fair j (omega (arith, e)));
       });
       tidy = l .tidy;
-      text = r .text .has ∙ rw (drop-of-length-le s (t .past)) (append-nil _) ∙ sym (laid-text m (r .limit) (r .vi) (r .vl) (r .vu) l);
+      text = r .text .has ∙ rw (drop-of-length-le s (t .past)) (append-nil _) ∙ sym (laid-text m (r .limit) (r .vi) (r .vl) (r .vu) (r .vn) l);
     }
 
 -- what is accepted with a record is that record's sheet
@@ -316,8 +387,8 @@ accepted-sheet s m h = go (ltb 4096 (length s)) h
         SheetOf s m
     go true h = no-refusal (ap (λ (r : Reading). r .verdict) h)
     go false h =
-        let t = ended s (upperOf s) (ap (λ (r : Reading). r .verdict) h) in
-        let e : upperOf s .model ≡ m = ap (λ (q : Progress). q .model) (sym (t .is)) ∙ ap (λ (r : Reading). r .model) h in
+        let t = ended s (lastOf s) (ap (λ (r : Reading). r .verdict) h) in
+        let e : lastOf s .model ≡ m = ap (λ (q : Progress). q .model) (sym (t .is)) ∙ ap (λ (r : Reading). r .model) h in
         rw (← e) (found-sheet s t)
 
 -- ---- the printing of a record is read back
@@ -332,16 +403,22 @@ module _ (m : Model) (r : Unfaulted m) (tidy : Tidy m) where
   vu : List Bounding
   vu = upTo (m .count) (boundingAt Upper m)
 
-  own : Laid m (m .capacity) vi vl vu
-  unfolding vi vl vu
-  own = record { limit = refl; items = refl; lower = refl; upper = refl; tidy = tidy }
+  vn : List Need
+  vn = upTo (m .needs .count) (needAt (m .needs))
+
+  own : Laid m (m .capacity) vi vl vu vn
+  unfolding vi vl vu vn
+  own = record { limit = refl; items = refl; lower = refl; upper = refl; needs = refl; tidy = tidy }
 
   sheet : List ℕ
-  sheet = textOf (m .capacity) vi vl vu
+  sheet = textOf (m .capacity) vi vl vu vn
 
   -- the text left behind each section
+  needs-left : List ℕ
+  needs-left = sectionText needForm needs vn
+
   upper-left : List ℕ
-  upper-left = sectionText (boundForm Upper) (wordOf Upper) vu
+  upper-left = sectionText (boundForm Upper) (wordOf Upper) vu ++ needs-left
 
   lower-left : List ℕ
   lower-left = sectionText (boundForm Lower) (wordOf Lower) vl ++ upper-left
@@ -351,7 +428,7 @@ module _ (m : Model) (r : Unfaulted m) (tidy : Tidy m) where
   many = upto-length (m .count) (λ k. bareOf (itemAt m k))
 
   limit-back : Back (Limited 1) sheet (sectionText itemForm items vi ++ lower-left) (m .capacity ∷ []) (limitSection sheet)
-  unfolding limitSection sheet lower-left upper-left
+  unfolding limitSection sheet lower-left upper-left needs-left
   limit-back =
       section-back limitForm LimitFits limit-laws Limited limit-next limit 1 1 _ sheet _ (goesOn emptyModel 0 0) (m .capacity ∷ [])
       (omega arith) (omega arith) (limit-start 1) ((λ p i. r .capacity), tt) refl refl
@@ -402,40 +479,86 @@ module _ (m : Model) (r : Unfaulted m) (tidy : Tidy m) where
       let free = no-bounds Lower (m .capacity) vi (headOf sheet) (i .holds) in
       side-back Lower upper-left (headOf sheet) (i .accepted) bare-count (i .holds .places) free (i .left)
 
-  upper-back : Back (BoundsIn Upper (lowerOf sheet .model) (length vu)) sheet [] vu (upperOf sheet)
+  upper-back : Back (BoundsIn Upper (lowerOf sheet .model) (length vu)) sheet needs-left vu (upperOf sheet)
   unfolding upperOf bare vu upper-left
   upper-back =
       let l = lower-back in
       let free : (k : ℕ) → boundAt Upper (lowerOf sheet .model) k ≡ Absent
       = λ k. l .holds .same k .other ∙ no-bounds Upper (m .capacity) vi (headOf sheet) (items-back .holds) k in
-      side-back Upper [] (lowerOf sheet) (l .accepted) (l .holds .count ∙ bare-count) (l .holds .places) free (l .left ∙ sym (append-nil _))
+      side-back Upper needs-left (lowerOf sheet) (l .accepted) (l .holds .count ∙ bare-count) (l .holds .places) free (l .left)
 
-  model-back : upperOf sheet .model ≡ m
-  unfolding bare
+  -- the record that the bounds made: m but for its needs
+  bounded : Model
+  bounded = upperOf sheet .model
+
+  bounded-empty : bounded .needs ≡ noNeeds
+  unfolding bounded bare
+  bounded-empty = upper-back .holds .needs ∙ lower-back .holds .needs ∙ items-back .holds .needs
+
+  -- its items are those of m: the record with no needs has the lines of m with no needs
+  bare-own : Laid (withNeeds m noNeeds) (m .capacity) vi vl vu []
+  unfolding vi vl vu upTo
+  bare-own = record {
+    limit = refl;
+    items = refl;
+    lower = refl;
+    upper = refl;
+    needs = refl;
+    tidy = record { places = tidy .places; unused = tidy .unused; lines = refl; spare = λ j h. spares j };
+  }
+
+  bounded-is : bounded ≡ withNeeds m noNeeds
+  unfolding bounded bare
+  bounded-is =
+      let p = goesOn (withNeedCount bounded 0) 0 0 in
+      let z : NeedsIn bounded 0 [] p = needs-start bounded 0 0 bounded-empty (omega arith) in
+      let l = laid (m .capacity) vi vl vu [] (headOf sheet) (lowerOf sheet) (upperOf sheet) p (items-back .holds) (lower-back .holds) (upper-back .holds) z in
+      let e : withNeedCount bounded 0 ≡ withNeeds m noNeeds = laid-once (withNeedCount bounded 0) (withNeeds m noNeeds) (m .capacity) vi vl vu [] l bare-own in
+      let u : bounded ≡ withNeedCount bounded 0 = same-model bounded (withNeedCount bounded 0) refl refl refl (bounded-empty ∙ sym (rw bounded-empty refl)) in
+      u ∙ e
+
+  few-needs : length vn ≤ 16
+  unfolding vn
+  few-needs = omega (arith, upto-length (m .needs .count) (needAt (m .needs)), r .few-needs)
+
+  needs-fits : Fitting (NeedsIn bounded (length vn)) NeedFits vn
+  unfolding vn
+  needs-fits = needs-fit bounded (length vn) (m .needs .count) (m .needs) (λ j l. rw bounded-is (r .needs j l))
+
+  last-back : Back (NeedsIn bounded (length vn)) sheet [] vn (lastOf sheet)
+  unfolding lastOf needsSection bounded needs-left
+  last-back =
+      let u = upper-back in
+      section-back needForm NeedFits need-laws (NeedsIn bounded) (needs-next bounded) needs 0 16 _ sheet [] (upperOf sheet) vn
+      (omega arith) few-needs (λ at. needs-start bounded (length vn) at bounded-empty few-needs) needs-fits (u .accepted) (u .left ∙ sym (append-nil _))
+
+  model-back : lastOf sheet .model ≡ m
+  unfolding bare bounded
   model-back =
-      let l = laid (m .capacity) vi vl vu (headOf sheet) (lowerOf sheet) (upperOf sheet) (items-back .holds) (lower-back .holds) (upper-back .holds) in
-      laid-once (upperOf sheet .model) m (m .capacity) vi vl vu l own
+      let l = laid (m .capacity) vi vl vu vn (headOf sheet) (lowerOf sheet) (upperOf sheet) (lastOf sheet) (items-back .holds) (lower-back .holds)
+      (upper-back .holds) (last-back .holds) in
+      laid-once (lastOf sheet .model) m (m .capacity) vi vl vu vn l own
 
-  end-back : endOfSheet sheet (upperOf sheet) ≡ upperOf sheet
+  end-back : endOfSheet sheet (lastOf sheet) ≡ lastOf sheet
   unfolding endOfSheet
   end-back =
-      let u = upper-back in
-      let l : length sheet ≤ upperOf sheet .at = omega (arith, ap length (u .left), length-drop (upperOf sheet .at) sheet) in
-      rw (u .accepted, le-ltb (upperOf sheet .at) (length sheet) l)
+      let u = last-back in
+      let l : length sheet ≤ lastOf sheet .at = omega (arith, ap length (u .left), length-drop (lastOf sheet .at) sheet) in
+      rw (u .accepted, le-ltb (lastOf sheet .at) (length sheet) l)
 
-  whole-back : wholeOf sheet ≡ upperOf sheet
+  whole-back : wholeOf sheet ≡ lastOf sheet
   unfolding wholeOf
   whole-back = end-back
 
   text-is : printing m ≡ sheet
   unfolding sheet
-  text-is = laid-text m (m .capacity) vi vl vu own
+  text-is = laid-text m (m .capacity) vi vl vu vn own
 
   reading-back : readSheet (printing m) ≡ record { verdict = Accepted; model = m }
   unfolding readSheet
   reading-back =
       let short : length sheet ≤ 4096 = omega (arith, printing-short m r, ap length text-is) in
-      rw (text-is, le-ltb 4096 (length sheet) short, whole-back, upper-back .accepted, model-back)
+      rw (text-is, le-ltb 4096 (length sheet) short, whole-back, last-back .accepted, model-back)
 
 -- the sheet of a record is accepted with that record
 pub sheet-accepted : (s : List ℕ) (m : Model) → SheetOf s m → readSheet s ≡ record { verdict = Accepted; model = m }

@@ -1,7 +1,7 @@
 -- What a step of the reader keeps (specs/Reading.antt), for what the code's functions require.
 --   Few p          the record has at most 16 items
--- step-item: a line of an item or a bound raises the item number by at most one.
--- head-few, side-few: no section makes a record of more than 16 items.
+-- step-item: a line of an item, a bound or a need raises the item number by at most one.
+-- head-few, side-few, need-few: no section or line makes a record of more than 16 items.
 use mathlib.Core.Path.{_≡_}
 use mathlib.Core.List.{List}
 use Prim.Native.Nat.{ℕ, suc, _≤_}
@@ -10,7 +10,7 @@ use Rattle.knapsack.specs.declared.Refusal.{Refusal}
 use Rattle.model.specs.declared.Side.{Side}
 use Rattle.sheet.specs.declared.Progress.{Progress}
 use Rattle.sheet.specs.Sections.{stoppedBy, LineForm, stepOf}
-use Rattle.sheet.specs.Reading.{limit, items, wordOf, limitForm, itemForm, boundForm, limitSection, itemsSection, boundsSection, headOf}
+use Rattle.sheet.specs.Reading.{limit, items, wordOf, limitForm, itemForm, boundForm, needForm, limitSection, itemsSection, boundsSection, headOf}
 use Rattle.sheet.proofs.Sections.{step-keeps, section-keeps}
 
 pub step-item : {A : Type 0} (f : LineForm A) (s : List ℕ) (p : Progress) → ((a : A) → f .item p a ≡ suc (p .item)) → stepOf f s p .item ≤ suc (p .item)
@@ -33,3 +33,6 @@ head-few s = section-keeps itemForm Few items 1 16 _ s (limitSection s) none-few
 pub side-few : (s : List ℕ) (side : Side) (p : Progress) → Few p → Few (boundsSection s side p)
 unfolding boundsSection
 side-few s side p h = section-keeps (boundForm side) Few (wordOf side) _ (p .model .count) _ s p none-few (λ q b n k. k) (λ n at k. h) h
+
+pub need-few : (s : List ℕ) (p : Progress) → Few p → Few (stepOf needForm s p)
+need-few s p h = step-keeps needForm Few s p none-few (λ b n. h) h

@@ -1,10 +1,10 @@
--- The reader. Paper 01, "The sheet" and "Refused, by place", and paper 02, requests 3 and 6: the sheet's first fault in reading order, or its record.
---   limit, items, wordOf side    the heading words
+-- The reader. Paper 01, "The sheet" and "Refused, by place", and paper 02, requests 3, 6 and 7: the sheet's first fault in reading order, or its record.
+--   limit, items, wordOf side, needs    the heading words
 --   limits                       the range of the limit
---   limitForm, itemForm, boundForm side    the kinds of line, which give what limitGives, itemGives, boundGives say
---   limitSection, itemsSection, boundsSection    the sections, each from where the one before ended
+--   limitForm, itemForm, boundForm side, needForm    the kinds of line, which give what limitGives, itemGives, boundGives, needGives say
+--   limitSection, itemsSection, boundsSection, needsSection    the sections, each from where the one before ended
 --   endOfSheet s p       nothing stands behind the last section
---   headOf, lowerOf, upperOf s    the sheet read so far: limit and items, then lower, then upper
+--   headOf, lowerOf, upperOf, lastOf s    the sheet read so far: limit and items, then lower, then upper, then needs
 --   wholeOf s            the sheet read to its end
 --   readSheet s          what a sheet gives
 use mathlib.Core.Bool.{cond}
@@ -15,11 +15,12 @@ use lib.IntN.{ℤ, pos, negsuc}
 use lib.ListN.{length}
 use Rattle.knapsack.specs.declared.Item.{Item}
 use Rattle.knapsack.specs.declared.Verdict.the-variants.{Refused}
+use Rattle.model.specs.declared.Need.{Need}
 use Rattle.model.specs.declared.Side.{Side}
 use Rattle.model.specs.declared.Side.the-variants.{Lower, Upper}
 use Rattle.model.specs.Refusals as refusal
-use Rattle.model.specs.Records.{emptyModel}
-use Rattle.model.specs.Setters.{withCapacity, withCount, withItem, withBound}
+use Rattle.model.specs.Records.{emptyModel, itemAt, unfitLine, lineBefore}
+use Rattle.model.specs.Setters.{withCapacity, withCount, withItem, withBound, withNeedCount, withNeed}
 use Rattle.text.specs.Decimal.{integer}
 use Rattle.text.specs.Layout.{line}
 use Rattle.lines.specs.declared.number.Range.{Range}
@@ -30,10 +31,12 @@ use Rattle.lines.specs.declared.ItemRead.{ItemRead}
 use Rattle.lines.specs.declared.ItemRead.the-variants.{Fault as ItemFault, Read as ItemIs}
 use Rattle.lines.specs.declared.BoundRead.{BoundRead}
 use Rattle.lines.specs.declared.BoundRead.the-variants.{Fault as BoundFault, Read as BoundIs}
+use Rattle.lines.specs.declared.NeedRead.{NeedRead}
+use Rattle.lines.specs.declared.NeedRead.the-variants.{Fault as NeedFault, Read as NeedIs}
 use Rattle.lines.specs.Places.{refusalOn}
 use Rattle.lines.specs.Numbers.{fromTo, only, fieldAt}
-use Rattle.lines.specs.Lines.{itemRead, boundRead}
-use Rattle.lines.specs.Layout.{itemText, Bounding, bounding, boundText}
+use Rattle.lines.specs.Lines.{itemRead, boundRead, needRead}
+use Rattle.lines.specs.Layout.{itemText, Bounding, bounding, boundText, needText}
 use Rattle.sheet.specs.declared.Progress.{Progress}
 use Rattle.sheet.specs.declared.Reading.{Reading}
 use Rattle.sheet.specs.Sections.{goesOn, refusedAt, onward, Gives, fault, gives, LineForm, sectionOf}
@@ -47,6 +50,9 @@ items = 105 ∷ 116 ∷ 101 ∷ 109 ∷ 115 ∷ []
 abbrev pub wordOf : Side → List ℕ
 wordOf Lower = 108 ∷ 111 ∷ 119 ∷ 101 ∷ 114 ∷ []
 wordOf Upper = 117 ∷ 112 ∷ 112 ∷ 101 ∷ 114 ∷ []
+
+abbrev pub needs : List ℕ
+needs = 110 ∷ 101 ∷ 101 ∷ 100 ∷ 115 ∷ []
 
 -- ---- limit 1, and a line with b
 abbrev pub limits : Range
@@ -100,6 +106,22 @@ boundForm side = record {
 unfoldable pub boundsSection : List ℕ → Side → Progress → Progress
 boundsSection s side p = sectionOf (boundForm side) (wordOf side) (only (p .model .count)) (λ n. p .model) s p
 
+-- ---- needs t, and t lines: on a line 5 and then 14, of the items as they were read
+abbrev pub needGives : (ℕ → Item) → NeedRead → Gives Need
+needGives f (NeedFault n) = fault n
+needGives f (NeedIs b n) = cond (unfitLine f b) (fault refusal.named-item) (gives b n)
+
+abbrev pub needForm : LineForm Need
+needForm = record {
+  read = λ s p. needGives (itemAt (p .model)) (needRead (p .model .count) (lineBefore (p .model .needs) (p .item)) s (p .at));
+  text = needText;
+  fill = λ p b. withNeed (p .model) (p .item) b;
+  item = λ p b. suc (p .item);
+}
+
+unfoldable pub needsSection : List ℕ → Progress → Progress
+needsSection s p = sectionOf needForm needs (fromTo 0 16) (λ n. withNeedCount (p .model) n) s p
+
 -- ---- behind the last section
 unfoldable pub endOfSheet : List ℕ → Progress → Progress
 endOfSheet s p = onward p (cond (ltb (p .at) (length s)) (refusedAt s refusal.form (p .at)) p)
@@ -114,8 +136,11 @@ lowerOf s = boundsSection s Lower (headOf s)
 unfoldable pub upperOf : List ℕ → Progress
 upperOf s = boundsSection s Upper (lowerOf s)
 
+unfoldable pub lastOf : List ℕ → Progress
+lastOf s = needsSection s (upperOf s)
+
 unfoldable pub wholeOf : List ℕ → Progress
-wholeOf s = endOfSheet s (upperOf s)
+wholeOf s = endOfSheet s (lastOf s)
 
 unfoldable pub readSheet : List ℕ → Reading
 readSheet s =

@@ -8,6 +8,7 @@ use knapsack::Verdict;
 use lines::BoundRead;
 use lines::Count;
 use lines::ItemRead;
+use lines::NeedRead;
 use lines::number::Field;
 use lines::number::Range;
 use lines::number::Ranged;
@@ -15,17 +16,21 @@ pub use lines::scan::check_line;
 pub use lines::scan::first_line_end;
 pub use lines::scan::line_part;
 use model::Model;
+use model::Need;
 use model::Side;
+use model::naming;
 use model::refusals;
 use model::setters;
 ghost use mathlib.Core.Path.{_≡_};
 ghost use Prim.Native.Nat.{suc, _+_, _≤_, _<_};
 ghost use Rattle.model.specs.Records.{emptyModel};
-ghost use Rattle.model.specs.Setters.{withItem, withBound};
+ghost use Rattle.model.specs.Records.{itemAt, Numbers};
+ghost use Rattle.model.specs.Setters.{withItem, withBound, withNeed};
 ghost use Rattle.lines.specs.Numbers.{only};
 ghost use Rattle.lines.specs.Lines.{countAt};
-ghost use Rattle.sheet.specs.Sections.{goesOn, stoppedBy, refusedAt, stepOf, linesOf};
+ghost use Rattle.sheet.specs.Sections.{goesOn, stoppedBy, refusedAt, taken, stepOf, linesOf};
 ghost use Rattle.sheet.specs.Reading.{wordOf, limitForm, itemForm, boundForm, limitSection, itemsSection, boundsSection, endOfSheet};
+ghost use Rattle.sheet.specs.Reading.{needGives, needForm, needsSection};
 ghost use Rattle.sheet.specs.Reading.{headOf, wholeOf, readSheet};
 
 // What a sheet gives: its record, or a refusal beside the empty record.
@@ -248,6 +253,86 @@ fn bounds_section(s: &[u8], side: Side, p: Progress) -> Progress
     }
 }
 
+// ---- needs t, and t lines
+
+// The next line.
+fn need_taken(p: Progress, need: Need, next: usize) -> Progress
+    requires { ⌜ p .item < 16 ⌝ }
+    ensures { λ r. ⌜ r ≡ goesOn (withNeed (p .model) (p .item) need) next (suc (p .item)) ⌝ }
+{
+    let m = p.model;
+    let k = p.item;
+    goes_on(setters::with_need(m, k, need), next, k + 1)
+}
+
+// A line whose numbers are good: 14, or it is taken in.
+fn need_judged(s: &[u8], p: Progress, need: Need, next: usize) -> Progress
+    requires { ⌜ (p .item < 16) × Numbers 16 (need .item) (need .cover) ⌝ }
+    ensures { λ r. ⌜ r ≡ taken needForm (now (s .entry)) p (needGives (itemAt (p .model)) (NeedRead.Read need next)) ⌝ }
+{
+    let m = p.model;
+    if naming::names_unfit(m, need) {
+        return refused(s, refusals::NAMED_ITEM, p.at);
+    }
+    need_taken(p, need, next)
+}
+
+// One line of needs.
+fn need_step(s: &[u8], p: Progress) -> Progress
+    requires { ⌜ (p .item < 16) × (p .model .count ≤ 16) ⌝ }
+    ensures { λ r. ⌜ r ≡ stepOf needForm (now (s .entry)) p ⌝ }
+{
+    let verdict = p.verdict;
+    match verdict {
+        Verdict::Refused(_) => p,
+        Verdict::Accepted => {
+            let at = p.at;
+            let m = p.model;
+            let ns = m.needs;
+            let before = naming::line_before(ns, p.item);
+            let r = lines::need_at(s, at, m.count, before);
+            match r {
+                NeedRead::Fault(n) => refused(s, n, at),
+                NeedRead::Read(need, next) => need_judged(s, p, need, next),
+            }
+        }
+    }
+}
+
+fn need_lines(s: &[u8], n: usize, p: Progress) -> Progress
+    requires { ⌜ (p .item + n ≤ 16) × (p .model .count ≤ 16) ⌝ }
+    ensures { λ r. ⌜ r ≡ linesOf needForm n (now (s .entry)) p ⌝ }
+{
+    let mut r = p;
+    let mut k: usize = 0;
+    while k < n {
+        r = need_step(s, r);
+        k += 1;
+    }
+    r
+}
+
+fn needs_section(s: &[u8], p: Progress) -> Progress
+    requires { ⌜ p .model .count ≤ 16 ⌝ }
+    ensures { λ r. ⌜ r ≡ needsSection (now (s .entry)) p ⌝ }
+{
+    let verdict = p.verdict;
+    match verdict {
+        Verdict::Refused(_) => p,
+        Verdict::Accepted => {
+            let at = p.at;
+            let c = lines::heading(s, at, b"needs", Range { lo: 0, hi: 16 });
+            match c {
+                Count::Fault(n) => refused(s, n, at),
+                Count::Lines(n, next) => {
+                    let m = p.model;
+                    need_lines(s, n, goes_on(setters::with_need_count(m, n), next, 0))
+                }
+            }
+        }
+    }
+}
+
 // ---- behind the last section
 
 fn end_of_sheet(s: &[u8], p: Progress) -> Progress
@@ -282,7 +367,8 @@ fn whole(s: &[u8]) -> Progress
     let h = head(s);
     let lower = bounds_section(s, Side::Lower, h);
     let upper = bounds_section(s, Side::Upper, lower);
-    end_of_sheet(s, upper)
+    let needs = needs_section(s, upper);
+    end_of_sheet(s, needs)
 }
 
 // Every sheet gets its record or its refusal.

@@ -97,7 +97,10 @@ fn sections_before(row: &[u8], name: usize) -> u64 {
     if begins(row, name, b"upper") {
         return 3;
     }
-    4
+    if begins(row, name, b"needs") {
+        return 4;
+    }
+    5
 }
 
 // The place behind the section that begins at a place: a heading, and as many lines as it says.

@@ -1,9 +1,12 @@
-// Numbers and items that a program of the gate reads from its input. An item is `W a c lower upper`, with `L` for a continuous one and
-// `..` for an absent bound.
+// Numbers, items and needs that a program of the gate reads from its input. An item is `W a c lower upper`, with `L` for a continuous one and
+// `..` for an absent bound. Needs are their count, the number of lines given, and each line as `k m`.
 use knapsack::Bound;
 use knapsack::Item;
 use knapsack::Mark;
 use knapsack::blank_item;
+use model::Need;
+use model::Needs;
+use model::naming::no_needs;
 ghost use Prim.Native.Nat.{_≤_};
 
 // A number read: with its sign, without, and the place behind it.
@@ -25,6 +28,21 @@ pub struct OneItem {
 
 pub struct Items {
     pub list: [Item; 16],
+    pub at: usize,
+}
+
+pub struct OneNeed {
+    pub need: Need,
+    pub at: usize,
+}
+
+pub struct NeedLines {
+    pub list: [Need; 16],
+    pub at: usize,
+}
+
+pub struct AllNeeds {
+    pub needs: Needs,
     pub at: usize,
 }
 
@@ -174,4 +192,50 @@ pub fn read_items(s: &[u8], from: usize, given: u64) -> Items {
         k += 1;
     }
     Items { list: list, at: at }
+}
+
+fn read_need(s: &[u8], from: usize) -> OneNeed {
+    let item = read_number(s, from);
+    let cover = read_number(s, item.at);
+    OneNeed {
+        need: Need {
+            item: item.size as usize,
+            cover: cover.size as usize,
+        },
+        at: cover.at,
+    }
+}
+
+fn no_lines() -> [Need; 16] {
+    let ns = no_needs();
+    ns.lines
+}
+
+fn read_need_lines(s: &[u8], from: usize, given: u64) -> NeedLines {
+    let mut list = no_lines();
+    let mut at = from;
+    let n = places(given);
+    let mut k: usize = 0;
+    while k < n {
+        let r = read_need(s, at);
+        let x = r.need;
+        list[k] = x;
+        at = r.at;
+        k += 1;
+    }
+    NeedLines { list: list, at: at }
+}
+
+pub fn read_needs(s: &[u8], from: usize) -> AllNeeds {
+    let count = read_number(s, from);
+    let given = read_number(s, count.at);
+    let r = read_need_lines(s, given.at, given.size);
+    let lines = r.list;
+    AllNeeds {
+        needs: Needs {
+            lines: lines,
+            count: count.size as usize,
+        },
+        at: r.at,
+    }
 }

@@ -6,6 +6,7 @@ use knapsack::Item;
 use knapsack::Mark;
 use knapsack::Verdict;
 use model::Model;
+use model::Need;
 use model::Side;
 use model::check_model;
 use sheet::read;
@@ -22,13 +23,13 @@ ghost use mathlib.Core.List.{[], _∷_};
 ghost use Prim.Native.Nat.{_+_, _≤_, _<_};
 ghost use lib.ListN.{length};
 ghost use Rattle.knapsack.specs.declared.Verdict.the-variants.{Accepted};
-ghost use Rattle.model.specs.Records.{itemAt, badBound, badFigure, verdict};
+ghost use Rattle.model.specs.Records.{itemAt, needAt, badBound, badFigure, verdict};
 ghost use Rattle.text.specs.Layout.{field};
 ghost use Rattle.text.specs.Buffer.{Put, Shows, told, filled, noted};
-ghost use Rattle.lines.specs.Layout.{headingText, markByte, itemText, boundWord, bounding, boundText};
+ghost use Rattle.lines.specs.Layout.{headingText, markByte, itemText, boundWord, bounding, boundText, needText};
 ghost use Rattle.sheet.specs.Sections.{linesText, sectionText};
 ghost use Rattle.sheet.specs.Reading.{limit, items, wordOf, limitForm, itemForm, readSheet};
-ghost use Rattle.sheet.specs.Printing.{upTo, sideOf, boundingAt, sideText, printing};
+ghost use Rattle.sheet.specs.Printing.{upTo, sideOf, boundingAt, sideText, needsText, printing};
 ghost use Rattle.writer.specs.Writing.{onAccepted};
 
 // ---- lines
@@ -84,6 +85,16 @@ fn put_bound(out: &mut [u8], at: usize, k: usize, b: Bound) -> usize
 {
     let bound = put_natural(out, at, k as u64, b' ');
     put_bound_word(out, bound, b)
+}
+
+fn put_need(out: &mut [u8], at: usize, need: Need) -> usize
+    requires { ⌜ (at + 25 ≤ length (now out)) × ((need .item ≤ 16) × (need .cover ≤ 16)) ⌝ }
+    ensures { λ r. ⌜ Put 6 at (needText need) (now (out .entry)) (now (out .exit)) r ⌝ }
+{
+    let k = need.item;
+    let l = need.cover;
+    let next = put_natural(out, at, k as u64, b' ');
+    put_natural(out, next, l as u64, b'\n')
 }
 
 // ---- sections
@@ -163,17 +174,43 @@ fn put_side(out: &mut [u8], at: usize, side: Side, m: Model) -> usize
     put_bound_lines(out, next, side, m)
 }
 
+fn put_need_lines(out: &mut [u8], at: usize, m: Model) -> usize
+    requires { ⌜ (at + 121 ≤ length (now out)) × (verdict m ≡ Accepted) ⌝ }
+    ensures { λ r. ⌜ Put 96 at (linesText needText (upTo (m .needs .count) (needAt (m .needs)))) (now (out .entry)) (now (out .exit)) r ⌝ }
+{
+    let ns = m.needs;
+    let n = ns.count;
+    let mut next = at;
+    let mut k: usize = 0;
+    while k < n {
+        let need = ns.lines[k];
+        next = put_need(out, next, need);
+        k += 1;
+    }
+    next
+}
+
+fn put_needs(out: &mut [u8], at: usize, m: Model) -> usize
+    requires { ⌜ (at + 148 ≤ length (now out)) × (verdict m ≡ Accepted) ⌝ }
+    ensures { λ r. ⌜ Put 123 at (needsText m) (now (out .entry)) (now (out .exit)) r ⌝ }
+{
+    let ns = m.needs;
+    let next = put_heading(out, at, b"needs", ns.count);
+    put_need_lines(out, next, m)
+}
+
 // ---- the sheet
 
 fn put_sheet(out: &mut [u8], m: Model) -> usize
     requires { ⌜ (1440 ≤ length (now out)) × (verdict m ≡ Accepted) ⌝ }
-    ensures { λ r. ⌜ Put 1218 0 (printing m) (now (out .entry)) (now (out .exit)) r ⌝ }
+    ensures { λ r. ⌜ Put 1341 0 (printing m) (now (out .entry)) (now (out .exit)) r ⌝ }
 {
     let b = m.capacity;
     let items = put_limit(out, b);
     let lower = put_items(out, items, m);
     let upper = put_side(out, lower, Side::Lower, m);
-    put_side(out, upper, Side::Upper, m)
+    let needs = put_side(out, upper, Side::Upper, m);
+    put_needs(out, needs, m)
 }
 
 fn sheet_text(m: Model) -> Text

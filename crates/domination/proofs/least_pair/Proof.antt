@@ -27,7 +27,7 @@ taken : (e : tie.After-enum-told) → verdict (e .before .before .before .args .
 taken e = sym (e .before .before .check-model .ensures) ∙ e .enum-told .given .1
 
 pair-numbered-requires : tie.Need-pair-numbered-requires
-pair-numbered-requires c κs = rw (c .plain-of .ensures) (accepted _ (taken (c .before)))
+pair-numbered-requires c κs = rw (c .plain-of .ensures) (accepted _ (taken (c .before)) .figures)
 
 enum-known-v : tie.Need-enum-known-v
 enum-known-v c = search needs

@@ -2,8 +2,8 @@
 use mathlib.Core.Path.{sym, _∙_}
 use native.Mathlib.Omega.{arith}
 use Rattle.domination.specs.Pairs.{numbered}
-use Rattle.domination.specs.Eligible.{Numbers}
-use Rattle.domination.proofs.Eligible.{numbers-iff}
+use Rattle.model.specs.Records.{Numbers}
+use Rattle.model.proofs.NeedLines.{numbers-iff}
 use borrow.Author.Needs.{needs}
 use Rattle.domination.proofs.pair_numbered.Statement.{statement}
 use Rattle.domination.proofs.pair_numbered.Tie as tie

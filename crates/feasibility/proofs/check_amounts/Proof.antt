@@ -1,5 +1,6 @@
 -- `feasibility::check_amounts` meets its contract: where the common divisor is not 0 the amounts are ready for yes or no.
 use mathlib.Core.Path.{sym, _∙_}
+use native.Mathlib.Omega.{arith}
 use borrow.Author.Needs.{needs}
 use borrow.Author.Tests.{eq-eqb, ne-eqb}
 use Rattle.feasibility.specs.Amounts.{proposedAt}
@@ -38,7 +39,14 @@ judge-requires c κs =
     let d = c .before in
     let s = d .before .before .before .before in
     let v = served c in
-    ((v .some, v .few), record { problem = s .pre; amounts = λ k l. v .fine k (rw (d .before .if1 .left) l) })
+    let e = d .before .if1 .left in
+    (
+      (v .some, v .few),
+      (
+        record { problem = s .pre .0; amounts = λ k l. v .fine k (rw e l) },
+        record { lined = rw e (s .pre .1); few-amounts = omega (arith, e, s .pre .0 .few-items); amounts = v .fine },
+      ),
+    )
 
 returns-3 : tie.Need-returns-3
 unfolding amountCheck

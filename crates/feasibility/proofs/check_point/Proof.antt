@@ -26,7 +26,9 @@ taken : (e : tie.After-enum-told) → verdict (e .before .before .before .args .
 taken e = sym (e .before .before .check-model .ensures) ∙ e .enum-told .given .1
 
 check-amounts-requires : tie.Need-check-amounts-requires
-check-amounts-requires c κs = rw (c .plain-of .ensures) (accepted _ (taken (c .before)))
+check-amounts-requires c κs =
+    let a = accepted _ (taken (c .before .before)) in
+    rw (c .plain-of .ensures) (a .figures, record { few = a .few-needs; numbers = λ j l. a .needs j l .numbers })
 
 enum-known-v : tie.Need-enum-known-v
 enum-known-v c = search needs
@@ -37,7 +39,7 @@ met m c r e = (e, subst (Told m c) (sym e) (told m c))
 returns : tie.Need-returns
 unfolding pointCheck
 returns c =
-    let t = c .before .before in
+    let t = c .before .before .before in
     let a = t .before .before .before .args in
     met (a .m) (a .c) _ (rw (taken t, ← c .before .plain-of .ensures) (c .check-amounts .ensures))
 

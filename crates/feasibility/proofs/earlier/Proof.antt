@@ -1,20 +1,11 @@
 -- `feasibility::earlier` meets its contract.
-use mathlib.Core.Path.{_≡_, refl, sym, _∙_}
-use Prim.Native.Nat.{ℕ, zero, suc}
+use mathlib.Core.Path.{sym, _∙_}
 use native.Mathlib.Numerals.{add-one}
-use native.Mathlib.Omega.{arith}
 use borrow.Author.Needs.{needs}
-use Rattle.feasibility.specs.Check.{earlierOf, numbered}
+use Rattle.feasibility.specs.Check.{numbered}
+use Rattle.feasibility.proofs.Breaking.{none-yet, stays}
 use Rattle.feasibility.proofs.earlier.Statement.{statement}
 use Rattle.feasibility.proofs.earlier.Tie as tie
-
-none-yet : (m n : ℕ) → m ≡ 0 → earlierOf m n ≡ n
-none-yet zero n e = refl
-none-yet (suc m) n e = absurd (omega arith)
-
-stays : (m n : ℕ) → (m ≡ 0 → ⊥) → earlierOf m n ≡ m
-stays zero n h = absurd (h refl)
-stays (suc m) n h = refl
 
 does-break-requires : tie.Need-does-break-requires
 does-break-requires c κs = search needs

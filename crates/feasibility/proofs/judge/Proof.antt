@@ -31,18 +31,18 @@ none-told : (k : ℕ) (r : PointReply) → k ≤ 0 → afterItems k r ≡ r
 none-told zero r l = refl
 none-told (suc k) r l = absurd (omega arith)
 
-first-broken-requires : tie.Need-first-broken-requires
-first-broken-requires c κs = search needs
+first-breach-requires : tie.Need-first-breach-requires
+first-breach-requires c κs = search needs
 
 returns : tie.Need-returns
 unfolding judged
-returns c = rw (sym (c .before .first-broken .ensures)) (item-told _ _ (c .if1 .taken))
+returns c = rw (sym (c .before .first-breach .ensures)) (item-told _ _ (c .if1 .taken))
 
 times-requires : tie.Need-times-requires
 times-requires c κs =
     let s = c .before .before .before in
     let h : SFits w64 (s .args .p .capacity) = search needs in
-    let m : natAbs (s .args .p .capacity) * s .args .d ≤ 100000000 * 1000 = mul-le-mul (s .pre .1 .problem .capacity-in) (s .pre .0 .1) in
+    let m : natAbs (s .args .p .capacity) * s .args .d ≤ 100000000 * 1000 = mul-le-mul (s .pre .1 .0 .problem .capacity-in) (s .pre .0 .1) in
     rw (toZ-ofZ h) (omega arith, s .pre .0 .1)
 
 total-requires : tie.Need-total-requires
@@ -79,7 +79,7 @@ unfolding judged
 returns-2 c =
     let t = c .before in
     let e = t .before .before .before in
-    rw (sym (e .before .first-broken .ensures), none-told _ _ (e .if1 .left), compared t (c .if2 .taken))
+    rw (sym (e .before .first-breach .ensures), none-told _ _ (e .if1 .left), compared t (c .if2 .taken))
 
 total-requires-2 : tie.Need-total-requires-2
 total-requires-2 c κs = search needs
@@ -91,7 +91,7 @@ worth-is c = back (c .total2 .result) (c .total2 .ok) ∙ c .total2 .ensures
 
 small : (s : tie.Start) → Within 1000000000000000000 (sums Price s)
 small s =
-    let r = s .pre .1 in
+    let r = s .pre .1 .0 in
     within-more (omega (arith, r .problem .few-items)) (total-within Price (s .args .d) (s .args .p .count) (s .args .p) (s .args .c) (s .pre .0 .1) r
     (omega arith))
 
@@ -105,14 +105,14 @@ unfolding judged
 returns-3 c =
     let t = c .before .before .before in
     let e = t .before .before .before in
-    rw (sym (e .before .first-broken .ensures), none-told _ _ (e .if1 .left), compared t (c .before .before .if2 .left))
+    rw (sym (e .before .first-breach .ensures), none-told _ _ (e .if1 .left), compared t (c .before .before .if2 .left))
     (ap Feasible (c .reduce .ensures ∙ ap (λ v. lowest v (e .before .before .args .d)) (worth-is (c .before))))
 
 pub judge-spec : {M : Type 1} → statement M
 judge-spec =
     tie.close
     (tie.spec
-    first-broken-requires
+    first-breach-requires
     returns
     times-requires
     total-requires

@@ -13,9 +13,21 @@ check-figures-requires c κs = search needs
 first-of-requires : tie.Need-first-of-requires
 first-of-requires c κs = search needs
 
+check-needs-requires : tie.Need-check-needs-requires
+check-needs-requires c κs = search needs
+
+first-of-requires-2 : tie.Need-first-of-requires-2
+first-of-requires-2 c κs = search needs
+
 returns : tie.Need-returns
 unfolding verdict
-returns c = let f = c .before in rw (c .first-of .ensures, f .check-figures .ensures, f .before .check-counts .ensures)
+returns c =
+    let n = c .before in
+    let w = n .before in
+    let f = w .before in
+    rw (c .first-of2 .ensures, n .check-needs .ensures, w .first-of .ensures, f .check-figures .ensures, f .before .check-counts .ensures)
 
 pub check-model-spec : {M : Type 1} → statement M
-check-model-spec = tie.close (tie.spec check-counts-requires check-figures-requires first-of-requires returns)
+check-model-spec =
+    tie.close
+    (tie.spec check-counts-requires check-figures-requires first-of-requires check-needs-requires first-of-requires-2 returns)

@@ -16,8 +16,8 @@ Inv-loop m n k₀ k = (k ≤ n) × (someItem k (itemAt m) badFigure ≡ false)
 abbrev μ-loop : tie.MeasureT-loop
 μ-loop m n k₀ k = n - k
 
-held-items-requires : tie.Need-held-items-requires Inv-loop μ-loop
-held-items-requires c κs = search needs
+held-of-requires : tie.Need-held-of-requires Inv-loop μ-loop
+held-of-requires c κs = search needs
 
 loop-holds : tie.Need-loop-holds Inv-loop μ-loop
 unfolding someItem
@@ -37,9 +37,9 @@ returns c =
     let l = c .before .before .before .before in
     let h = l .before in
     let a = h .before .args in
-    let found = some-found (h .held-items .result) (l .loop .k) (itemAt (a .t1)) badFigure (omega arith)
+    let found = some-found (h .held-of .result) (l .loop .k) (itemAt (a .t1)) badFigure (omega arith)
     (sym (c .before .bad-figure .ensures) ∙ c .if1 .taken) in
-    sym (rw (h .held-items .ensures .0) at found)
+    sym (rw (h .held-of .ensures .0) at found)
 
 add-k : tie.Need-add-k Inv-loop μ-loop
 add-k c = omega arith
@@ -56,8 +56,8 @@ loop-again c =
 returns-2 : tie.Need-returns-2 Inv-loop μ-loop
 returns-2 c =
     let l = c .before in
-    let e : l .loop .k ≡ l .before .held-items .result = omega arith in
-    sym (rw (e, l .before .held-items .ensures .0) at (l .loop .inv .1))
+    let e : l .loop .k ≡ l .before .held-of .result = omega arith in
+    sym (rw (e, l .before .held-of .ensures .0) at (l .loop .inv .1))
 
 pub some-faulty-spec : {M : Type 1} → statement M
 some-faulty-spec =
@@ -65,7 +65,7 @@ some-faulty-spec =
     (tie.spec
     Inv-loop
     μ-loop
-    held-items-requires
+    held-of-requires
     loop-holds
     mul-i
     element-copy-out-i

@@ -30,7 +30,7 @@ taken : (t : tie.After-enum-told) → verdict (asked (t .before .before)) ≡ Ac
 taken t = sym (t .before .before .check-model .ensures) ∙ t .enum-told .given .1
 
 figures : (t : tie.After-enum-told) → FiguresInRange (t .before .before .before .plain-of .result)
-figures t = rw (t .before .before .before .plain-of .ensures) (accepted _ (taken t))
+figures t = rw (t .before .before .before .plain-of .ensures) (accepted _ (taken t) .figures)
 
 relaxed-answer-requires : tie.Need-relaxed-answer-requires
 relaxed-answer-requires c κs = figures c

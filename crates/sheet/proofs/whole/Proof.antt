@@ -4,7 +4,7 @@ use mathlib.Core.List.{List}
 use Prim.Native.Nat.{ℕ}
 use borrow.Author.Needs.{needs}
 use Rattle.model.specs.declared.Side.the-variants.{Lower, Upper}
-use Rattle.sheet.specs.Reading.{boundsSection, headOf, lowerOf, upperOf, wholeOf}
+use Rattle.sheet.specs.Reading.{boundsSection, needsSection, headOf, lowerOf, upperOf, lastOf, wholeOf}
 use Rattle.sheet.proofs.Steps.{Few, head-few, side-few}
 use Rattle.sheet.proofs.whole.Statement.{statement}
 use Rattle.sheet.proofs.whole.Tie as tie
@@ -22,10 +22,18 @@ upper-is : (c : tie.After-bounds-section2) → c .bounds-section2 .result ≡ up
 unfolding upperOf
 upper-is c = c .bounds-section2 .ensures ∙ ap (boundsSection (sheet (c .before .before)) Upper) (lower-is (c .before))
 
+last-is : (c : tie.After-needs-section) → c .needs-section .result ≡ lastOf (sheet (c .before .before .before))
+unfolding lastOf
+last-is c = c .needs-section .ensures ∙ ap (needsSection (sheet (c .before .before .before))) (upper-is (c .before))
+
 -- no section gives a record of more than 16 items
 lower-few : (s : List ℕ) → Few (lowerOf s)
 unfolding lowerOf
 lower-few s = side-few s Lower (headOf s) (head-few s)
+
+upper-few : (s : List ℕ) → Few (upperOf s)
+unfolding upperOf
+upper-few s = side-few s Upper (lowerOf s) (lower-few s)
 
 head-requires : tie.Need-head-requires
 head-requires c κs = search needs
@@ -36,12 +44,15 @@ bounds-section-requires c κs = rw (c .head .ensures) (head-few (sheet c))
 bounds-section-requires-2 : tie.Need-bounds-section-requires-2
 bounds-section-requires-2 c κs = rw (lower-is c) (lower-few (sheet (c .before)))
 
+needs-section-requires : tie.Need-needs-section-requires
+needs-section-requires c κs = rw (upper-is c) (upper-few (sheet (c .before .before)))
+
 end-of-sheet-requires : tie.Need-end-of-sheet-requires
 end-of-sheet-requires c κs = search needs
 
 returns : tie.Need-returns
 unfolding wholeOf
-returns c = rw (← upper-is (c .before)) (c .end-of-sheet .ensures)
+returns c = rw (← last-is (c .before)) (c .end-of-sheet .ensures)
 
 pub whole-spec : {M : Type 1} → statement M
 whole-spec =
@@ -50,5 +61,6 @@ whole-spec =
     head-requires
     bounds-section-requires
     bounds-section-requires-2
+    needs-section-requires
     end-of-sheet-requires
     returns)

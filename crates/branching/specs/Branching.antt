@@ -1,0 +1,228 @@
+-- Problems with needs, by cases: what each function of the crate gives.
+--   isOptimal, isUnbounded k   the kind of an answer
+--   unneeded, Named16, needsOf  what stands beyond the needs; the first t needs name places of 16; the first t needs
+--   breaks x n            there is some of the item of n in x, and nothing of its cover
+--   FirstBroken x l t r   the place of the first of t needs that x breaks, or t
+--   cappedAt p k, raisedAt p m   none of item k; at least 1 of item m
+--   Comparable n a        an answer whose value and first n amounts have divisors
+--   ShownLeads n a c      a is worth no less than c, and if it is worth as much its point does not come after c's
+--   Leading, Outdoes      what the tests say
+--   nothingYet, countedOf, withBest   the best so far: of nothing, with a case more, with another answer
+--   knownIf t x, known b  what is known of points
+--   Worthy s a            a shows a point of s and its value, as an optimal answer does;  Holds s b: so does what b has found
+--   twigs u               the most cases that u undecided needs come to
+--   caseCells             the most cells of a case
+--   Worked n b            the work of at most n cases
+--   Bounded s             no steps are unbounded
+--   Branches p r l t b    what a call is given;  Through s ns b c: what it gives
+--   unpricedItem, Unpriced p k q   an item at price 0; so are the first k of q, and the others are those of p
+--   rayFrom a d           the steps d from the point of a
+--   Told b r, FromRay b d r   an answer of the best, and of steps from it
+--   Needed p l t, SolvesNeeds p ns r   what the entry is given, and gives
+--   loosenedItem b i, Loosening p ns k q   an item that keeps its mark or not; so are the first k of q those of p
+--   RelaxesNeeds p ns r   what the entry of the relaxation gives
+use mathlib.Core.Path.{_≡_}
+use mathlib.Core.Bool.{Bool, true, false, cond, not}
+use mathlib.Core.List.{List}
+use mathlib.Core.Logic.{_⊎_, _≢_}
+use Prim.Native.Nat.{ℕ, zero, suc, _+_, _*_, _≤_, _<_}
+use lib.IntN.{ℤ, pos, natAbs}
+use lib.ListN.{length, getD, take, replicate}
+use lib.Signed.{ltZ}
+use Rattle.arith.specs.Fractions.{frac, _≤ᶠ_, _≈ᶠ_}
+use Rattle.arith.specs.Gcd.{gcdOf}
+use Rattle.arith.specs.declared.Fraction.{Fraction}
+use Rattle.knapsack.specs.Demands.{shownValue}
+use Rattle.knapsack.specs.Items.{withItem}
+use Rattle.knapsack.specs.Meaning.{Instance, Point, instanceOf, value, Unbounded, Shown, amountAt, pointOf, nought, bare, Earlier, AllLower}
+use Rattle.knapsack.specs.Ranges.{itemAt}
+use Rattle.knapsack.specs.declared.Answer.{Answer}
+use Rattle.knapsack.specs.declared.Item.{Item}
+use Rattle.knapsack.specs.declared.Kind.{Kind}
+use Rattle.knapsack.specs.declared.Kind.the-variants as kind
+use Rattle.knapsack.specs.declared.Problem.{Problem}
+use Rattle.model.specs.Records.{FiguresInRange}
+use Rattle.planner.specs.Outcomes.{Solves}
+use Rattle.planner.specs.declared.Solved.{Solved}
+use Rattle.comparing.specs.Comparing.{amountIn, Divided}
+use Rattle.cases.specs.declared.Need.{Need}
+use Rattle.cases.specs.Needs.{Every, Allowed, AnswersNeeds, ShownFirstNeeds, names, loosened, relaxedBut}
+use Rattle.cases.proofs.Limits.{bounded}
+use Rattle.cases.proofs.Searched.{Known, nothing, best}
+use Rattle.cases.proofs.Searching.{SearchedNeeds, WorthBy, PointLeadsBy}
+use Rattle.cases.proofs.Splitting.{cap, raise}
+use Rattle.cases.proofs.Undecided.{undecided}
+use Rattle.branching.specs.declared.Best.{Best}
+
+abbrev pub isOptimal : Kind → Bool
+isOptimal kind.Optimal = true
+isOptimal kind.Infeasible = false
+isOptimal kind.Unbounded = false
+isOptimal (kind.Refused f) = false
+
+abbrev pub isUnbounded : Kind → Bool
+isUnbounded kind.Optimal = false
+isUnbounded kind.Infeasible = false
+isUnbounded kind.Unbounded = true
+isUnbounded (kind.Refused f) = false
+
+-- ---- needs that a point breaks
+
+abbrev pub unneeded : Need
+unneeded = record { item = 0; cover = 0 }
+
+abbrev pub Named16 : List Need → ℕ → Type 0
+Named16 l t = (i : ℕ) → i < t → (getD l i unneeded .item < 16) × (getD l i unneeded .cover < 16)
+
+abbrev pub needsOf : List Need → ℕ → List Need
+needsOf l t = take t l
+
+abbrev pub breaks : List Fraction → Need → Bool
+breaks x n = cond (ltZ (pos 0) (amountIn x (n .item) .p)) (not (ltZ (pos 0) (amountIn x (n .cover) .p))) false
+
+pub record FirstBroken (x : List Fraction) (l : List Need) (t r : ℕ) : Type 0 where
+  pub most : r ≤ t
+  pub kept : (j : ℕ) → j < r → breaks x (getD l j unneeded) ≡ false
+  pub broken : r < t → breaks x (getD l r unneeded) ≡ true
+
+-- ---- the two cases
+
+abbrev pub cappedAt : Problem → ℕ → Problem
+cappedAt p k = withItem p k (bounded (itemAt p k) (itemAt p k .lower) (cap (itemAt p k .upper)))
+
+abbrev pub raisedAt : Problem → ℕ → Problem
+raisedAt p m = withItem p m (bounded (itemAt p m) (raise (itemAt p m .lower)) (itemAt p m .upper))
+
+-- ---- which answer leads
+
+pub record Comparable (n : ℕ) (a : Answer) : Type 0 where
+  pub value : 1 ≤ a .value .q
+  pub amounts : Divided n (a .point)
+
+pub record ShownLeads (n : ℕ) (a c : Answer) : Type 0 where
+  pub worth : shownValue c ≤ᶠ shownValue a
+  pub sooner : shownValue a ≤ᶠ shownValue c → ¬ Earlier n (pointOf c) (pointOf a)
+
+pub record Leading (n : ℕ) (a c : Answer) (r : Bool) : Type 0 where
+  pub ahead : r ≡ true → ShownLeads n a c
+  pub behind : r ≡ false → ShownLeads n c a
+
+pub record Outdoes (n : ℕ) (a : Answer) (b : Best) (r : Bool) : Type 0 where
+  pub ahead : r ≡ true → (a .kind ≡ kind.Optimal) × (b .found ≡ true → ShownLeads n a (b .answer))
+  pub behind : r ≡ false → (a .kind ≢ kind.Optimal) ⊎ ((b .found ≡ true) × ((a .kind ≡ kind.Optimal) × ShownLeads n (b .answer) a))
+
+-- ---- the best so far
+
+abbrev pub nothingYet : Best
+nothingYet = record { found = false; answer = bare kind.Infeasible; cases = 0; steps = 0; cells = 0 }
+
+abbrev pub countedOf : Best → Solved → Best
+countedOf b r = record { found = b .found; answer = b .answer; cases = b .cases + 1; steps = b .steps + r .steps; cells = b .cells + r .cells }
+
+abbrev pub withBest : Best → Answer → Best
+withBest b a = record { found = true; answer = a; cases = b .cases; steps = b .steps; cells = b .cells }
+
+abbrev pub knownIf : Bool → Point → Known Point
+knownIf true x = best x
+knownIf false x = nothing
+
+abbrev pub known : Best → Known Point
+known b = knownIf (b .found) (pointOf (b .answer))
+
+pub record Worthy (s : Instance) (a : Answer) : Type 0 where
+  pub kind-is : a .kind ≡ kind.Optimal
+  pub shown : Shown s (amountAt a)
+  pub exact : shownValue a ≈ᶠ value s (pointOf a)
+  pub divisor : 1 ≤ a .value .q
+  pub lowest : gcdOf (natAbs (a .value .p)) (a .value .q) ≡ 1
+  pub still : a .steps ≡ replicate 16 (pos 0)
+
+abbrev pub Holds : Instance → Best → Type 0
+Holds s b = b .found ≡ true → Worthy s (b .answer)
+
+-- ---- work
+
+unfoldable pub twigs : ℕ → ℕ
+twigs zero = 1
+twigs (suc u) = suc (twigs u + twigs u)
+
+abbrev pub caseCells : ℕ
+caseCells = 1000000000000
+
+pub record Worked (n : ℕ) (b : Best) : Type 0 where
+  pub cases : b .cases ≤ n
+  pub steps : b .steps ≤ 1000 * b .cases
+  pub cells : b .cells ≤ caseCells * b .cases
+
+-- ---- the cases
+
+abbrev pub Bounded : Instance → Type 0
+Bounded s = (x : Point) (d : ℕ → ℤ) → ¬ Unbounded s x d
+
+pub record Branches (p : Problem) (r : Solved) (l : List Need) (t : ℕ) (b : Best) : Type 0 where
+  pub figures : FiguresInRange p
+  pub solved : Solves p r
+  pub few : t ≤ 16
+  pub allowed : Every (Allowed (instanceOf p)) (needsOf l t)
+  pub limited : Bounded (instanceOf p)
+  pub holds : Holds (instanceOf p) b
+  pub worked : Worked (b .cases) b
+  pub room : b .cases + twigs (undecided (instanceOf p) (needsOf l t)) ≤ 131072
+
+pub record Through (s : Instance) (ns : List Need) (b c : Best) : Type 0 where
+  pub worth : SearchedNeeds WorthBy s ns (known b) (known c)
+  pub first : AllLower s → SearchedNeeds PointLeadsBy s ns (known b) (known c)
+  pub holds : Holds s c
+  pub worked : Worked (b .cases + twigs (undecided s ns)) c
+
+-- ---- the answer
+
+abbrev pub unpricedItem : Item → Item
+unpricedItem i = record { mark = i .mark; weight = i .weight; price = pos 0; lower = i .lower; upper = i .upper }
+
+pub record Unpriced (p : Problem) (k : ℕ) (q : Problem) : Type 0 where
+  pub count : q .count ≡ p .count
+  pub capacity : q .capacity ≡ p .capacity
+  pub long : length (q .items) ≡ 16
+  pub items : (j : ℕ) → j < k → itemAt q j ≡ unpricedItem (itemAt p j)
+
+pub record Told (b : Best) (r : Solved) : Type 0 where
+  pub found : b .found ≡ true → r .answer ≡ b .answer
+  pub none : b .found ≡ false → r .answer ≡ bare kind.Infeasible
+  pub steps : r .steps ≡ b .steps
+  pub cells : r .cells ≡ b .cells
+
+abbrev pub rayFrom : Answer → List ℤ → Answer
+rayFrom a d = record { kind = kind.Unbounded; point = a .point; steps = d; value = nought }
+
+pub record FromRay (b : Best) (d : List ℤ) (r : Solved) : Type 0 where
+  pub found : b .found ≡ true → r .answer ≡ rayFrom (b .answer) d
+  pub none : b .found ≡ false → r .answer ≡ bare kind.Infeasible
+  pub steps : r .steps ≡ b .steps
+  pub cells : r .cells ≡ b .cells
+
+pub record Needed (p : Problem) (l : List Need) (t : ℕ) : Type 0 where
+  pub figures : FiguresInRange p
+  pub few : t ≤ 16
+  pub allowed : Every (Allowed (instanceOf p)) (needsOf l t)
+
+pub record SolvesNeeds (p : Problem) (ns : List Need) (r : Solved) : Type 0 where
+  pub answers : AnswersNeeds (instanceOf p) ns (r .answer)
+  pub first : ShownFirstNeeds (instanceOf p) ns (r .answer)
+  pub few-steps : r .steps ≤ 131072000
+  pub few-cells : r .cells ≤ 131072 * caseCells
+
+-- ---- the relaxation
+
+abbrev pub loosenedItem : Bool → Item → Item
+loosenedItem b i = record { mark = loosened b (i .mark); weight = i .weight; price = i .price; lower = i .lower; upper = i .upper }
+
+pub record Loosening (p : Problem) (ns : List Need) (k : ℕ) (q : Problem) : Type 0 where
+  pub count : q .count ≡ p .count
+  pub capacity : q .capacity ≡ p .capacity
+  pub items : (j : ℕ) → j < k → itemAt q j ≡ loosenedItem (names ns j) (itemAt p j)
+
+pub record RelaxesNeeds (p : Problem) (ns : List Need) (r : Solved) : Type 0 where
+  pub answers : AnswersNeeds (relaxedBut ns (instanceOf p)) ns (r .answer)
+  pub few-steps : r .steps ≤ 131072000
+  pub few-cells : r .cells ≤ 131072 * caseCells

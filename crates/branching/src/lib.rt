@@ -1,0 +1,417 @@
+// One item needs another (paper 02): the answer of a problem with needs. A need is kept exactly if there is none of its item, or at least 1 of its cover.
+// So the plain problem is solved; if its point keeps all needs it is the best, else the two cases of the first broken need are gone through, each a plain
+// problem with one bound narrowed. A case whose best point is not ahead of what is known is left. See crate cases for the mathematics.
+use arith::Fraction;
+use cases::Need;
+use comparing::comes_before;
+use comparing::less_fraction;
+use knapsack::Answer;
+use knapsack::Bound;
+use knapsack::Item;
+use knapsack::Kind;
+use knapsack::Mark;
+use knapsack::Problem;
+use knapsack::with_item;
+use planner::Solved;
+use planner::no_point;
+use planner::solve;
+ghost use mathlib.Core.Path.{_≡_};
+ghost use mathlib.Core.Bool.{true};
+ghost use Prim.Native.Nat.{_≤_, _<_};
+ghost use lib.ListN.{getD};
+ghost use Rattle.knapsack.specs.Meaning.{instanceOf};
+ghost use Rattle.knapsack.specs.declared.Kind.the-variants.{Optimal};
+ghost use Rattle.model.specs.Records.{FiguresInRange};
+ghost use Rattle.planner.specs.Outcomes.{Solves};
+ghost use Rattle.cases.specs.Needs.{names, loosened};
+ghost use Rattle.cases.proofs.Splitting.{cap, raise};
+ghost use Rattle.branching.specs.Branching.{isOptimal, isUnbounded, breaks, unneeded, FirstBroken, Named16, needsOf, Comparable, Leading, Outdoes, nothingYet};
+ghost use Rattle.branching.specs.Branching.{countedOf, Worked, withBest, cappedAt, raisedAt, unpricedItem, Unpriced, Branches, Through, Told, FromRay, Needed, SolvesNeeds};
+ghost use Rattle.branching.specs.Branching.{loosenedItem, Loosening, RelaxesNeeds};
+
+// ---- needs that a point breaks
+
+// Whether there is some of the item, and nothing of its cover: the cover's amount is whole and not below 0.
+fn breaks(x: [Fraction; 16], n: Need) -> bool
+    requires { ⌜ (n .item < 16) × (n .cover < 16) ⌝ }
+    ensures { λ r. ⌜ r ≡ breaks x n ⌝ }
+{
+    let k = n.item;
+    let m = n.cover;
+    let a = x[k];
+    let b = x[m];
+    if 0 < a.p {
+        if 0 < b.p {
+            return false;
+        }
+        return true;
+    }
+    false
+}
+
+// The place of the first need that x breaks, or t.
+fn first_broken(x: [Fraction; 16], needs: [Need; 16], t: usize) -> usize
+    requires { ⌜ (t ≤ 16) × Named16 needs t ⌝ }
+    ensures { λ r. ⌜ FirstBroken x needs t r ⌝ }
+{
+    let mut i: usize = 0;
+    while i < t {
+        let n = needs[i];
+        if breaks(x, n) {
+            return i;
+        }
+        i += 1;
+    }
+    t
+}
+
+// ---- the two cases
+
+fn cap(b: Bound) -> Bound
+    ensures { λ r. ⌜ r ≡ cap b ⌝ }
+{
+    match b {
+        Bound::Absent => Bound::At(0),
+        Bound::At(u) => if 0 < u { Bound::At(0) } else { Bound::At(u) },
+    }
+}
+
+fn raise(b: Bound) -> Bound
+    ensures { λ r. ⌜ r ≡ raise b ⌝ }
+{
+    match b {
+        Bound::Absent => Bound::At(1),
+        Bound::At(l) => if 1 < l { Bound::At(l) } else { Bound::At(1) },
+    }
+}
+
+// None of item k.
+fn without(p: Problem, k: usize) -> Problem
+    requires { ⌜ k < 16 ⌝ }
+    ensures { λ r. ⌜ r ≡ cappedAt p k ⌝ }
+{
+    let i = p.items[k];
+    let mark = i.mark;
+    let lower = i.lower;
+    let upper = i.upper;
+    let low = cap(upper);
+    let x = Item {
+        mark: mark,
+        weight: i.weight,
+        price: i.price,
+        lower: lower,
+        upper: low,
+    };
+    with_item(p, k, x)
+}
+
+// At least 1 of item m.
+fn having(p: Problem, m: usize) -> Problem
+    requires { ⌜ m < 16 ⌝ }
+    ensures { λ r. ⌜ r ≡ raisedAt p m ⌝ }
+{
+    let i = p.items[m];
+    let mark = i.mark;
+    let lower = i.lower;
+    let upper = i.upper;
+    let high = raise(lower);
+    let x = Item {
+        mark: mark,
+        weight: i.weight,
+        price: i.price,
+        lower: high,
+        upper: upper,
+    };
+    with_item(p, m, x)
+}
+
+// ---- the best so far
+
+// The best answer that was found, and the work that it took: the cases solved, the steps of their searches, and the cells that their scales wrote.
+pub struct Best {
+    pub found: bool,
+    pub answer: Answer,
+    pub cases: u64,
+    pub steps: u64,
+    pub cells: u64,
+}
+
+fn nothing_yet() -> Best
+    ensures { λ r. ⌜ r ≡ nothingYet ⌝ }
+{
+    let a = no_point(Kind::Infeasible);
+    Best {
+        found: false,
+        answer: a,
+        cases: 0,
+        steps: 0,
+        cells: 0,
+    }
+}
+
+// One case more.
+fn counted(b: Best, r: Solved) -> Best
+    requires { ⌜ Worked 131071 b × ((r .steps ≤ 1000) × (r .cells ≤ 1000000000000)) ⌝ }
+    ensures { λ c. ⌜ c ≡ countedOf b r ⌝ }
+{
+    let a = b.answer;
+    Best {
+        found: b.found,
+        answer: a,
+        cases: b.cases + 1,
+        steps: b.steps + r.steps,
+        cells: b.cells + r.cells,
+    }
+}
+
+// With the answer a.
+fn with_best(b: Best, a: Answer) -> Best
+    ensures { λ c. ⌜ c ≡ withBest b a ⌝ }
+{
+    Best {
+        found: true,
+        answer: a,
+        cases: b.cases,
+        steps: b.steps,
+        cells: b.cells,
+    }
+}
+
+fn is_optimal(a: Answer) -> bool
+    ensures { λ r. ⌜ r ≡ isOptimal (a .kind) ⌝ }
+{
+    let k = a.kind;
+    match k {
+        Kind::Optimal => true,
+        Kind::Infeasible => false,
+        Kind::Unbounded => false,
+        Kind::Refused(_) => false,
+    }
+}
+
+fn is_unbounded(a: Answer) -> bool
+    ensures { λ r. ⌜ r ≡ isUnbounded (a .kind) ⌝ }
+{
+    let k = a.kind;
+    match k {
+        Kind::Optimal => false,
+        Kind::Infeasible => false,
+        Kind::Unbounded => true,
+        Kind::Refused(_) => false,
+    }
+}
+
+// Whether a is worth more than c, or as much at a point that comes first.
+fn leads(a: Answer, c: Answer, n: usize) -> bool
+    requires { ⌜ (n ≤ 16) × (Comparable n a × Comparable n c) ⌝ }
+    ensures { λ r. ⌜ Leading n a c r ⌝ }
+{
+    let v = a.value;
+    let w = c.value;
+    if less_fraction(w, v) {
+        return true;
+    }
+    if less_fraction(v, w) {
+        return false;
+    }
+    let x = a.point;
+    let y = c.point;
+    comes_before(x, y, n)
+}
+
+// Whether a has a point that is ahead of the best so far.
+fn outdoes(a: Answer, b: Best, n: usize) -> bool
+    requires { ⌜ (n ≤ 16) × ((a .kind ≡ Optimal → Comparable n a) × (b .found ≡ true → Comparable n (b .answer))) ⌝ }
+    ensures { λ r. ⌜ Outdoes n a b r ⌝ }
+{
+    if is_optimal(a) {
+        if b.found {
+            let c = b.answer;
+            return leads(a, c, n);
+        }
+        return true;
+    }
+    false
+}
+
+// ---- the cases
+
+// The problem p, whose plain answer is r, gone through with its needs: the best of b and of its points.
+fn branch(p: Problem, r: Solved, needs: [Need; 16], t: usize, b: Best) -> Best
+    requires { ⌜ Branches p r needs t b ⌝ }
+    ensures { λ c. ⌜ Through (instanceOf p) (needsOf needs t) b c ⌝ }
+{
+    let c = counted(b, r);
+    let a = r.answer;
+    if outdoes(a, c, p.count) {
+        let x = a.point;
+        let i = first_broken(x, needs, t);
+        if i < t {
+            let n = needs[i];
+            let q = without(p, n.item);
+            let d = branch(q, solve(q), needs, t, c);
+            let h = having(p, n.cover);
+            return branch(h, solve(h), needs, t, d);
+        }
+        return with_best(c, a);
+    }
+    c
+}
+
+// ---- the answer
+
+fn unpriced_item(i: Item) -> Item
+    ensures { λ r. ⌜ r ≡ unpricedItem i ⌝ }
+{
+    let mark = i.mark;
+    let lower = i.lower;
+    let upper = i.upper;
+    Item {
+        mark: mark,
+        weight: i.weight,
+        price: 0,
+        lower: lower,
+        upper: upper,
+    }
+}
+
+// The problem at price 0: every feasible point is best.
+fn unpriced(p: Problem) -> Problem
+    ensures { λ r. ⌜ Unpriced p 16 r ⌝ }
+{
+    let mut q = p;
+    let mut k: usize = 0;
+    while k < 16 {
+        let i = p.items[k];
+        q = with_item(q, k, unpriced_item(i));
+        k += 1;
+    }
+    q
+}
+
+fn told(b: Best) -> Solved
+    ensures { λ r. ⌜ Told b r ⌝ }
+{
+    if b.found {
+        let a = b.answer;
+        return Solved {
+            answer: a,
+            steps: b.steps,
+            cells: b.cells,
+        };
+    }
+    let a = no_point(Kind::Infeasible);
+    Solved {
+        answer: a,
+        steps: b.steps,
+        cells: b.cells,
+    }
+}
+
+// The steps d from the point that was found.
+fn from_ray(b: Best, d: [i64; 16]) -> Solved
+    ensures { λ r. ⌜ FromRay b d r ⌝ }
+{
+    if b.found {
+        let a = b.answer;
+        let point = a.point;
+        let nought = Fraction { p: 0, q: 1 };
+        let u = Answer {
+            kind: Kind::Unbounded,
+            point: point,
+            steps: d,
+            value: nought,
+        };
+        return Solved {
+            answer: u,
+            steps: b.steps,
+            cells: b.cells,
+        };
+    }
+    told(b)
+}
+
+// The answer of a problem with its first t needs. Steps that are unbounded never move an item that a need may name; so where the plain problem has them,
+// any point that keeps the needs is a start.
+pub fn solve_needs(p: Problem, needs: [Need; 16], t: usize) -> Solved
+    requires { ⌜ Needed p needs t ⌝ }
+    ensures { λ r. ⌜ SolvesNeeds p (needsOf needs t) r ⌝ }
+{
+    let r = solve(p);
+    let a = r.answer;
+    let none = nothing_yet();
+    if is_unbounded(a) {
+        let d = a.steps;
+        let c = counted(none, r);
+        let q = unpriced(p);
+        return from_ray(branch(q, solve(q), needs, t, c), d);
+    }
+    told(branch(p, r, needs, t, none))
+}
+
+// ---- the relaxation: items that a need names keep their marks
+
+// Whether one of the first t needs names item k.
+fn names(needs: [Need; 16], t: usize, k: usize) -> bool
+    requires { ⌜ t ≤ 16 ⌝ }
+    ensures { λ r. ⌜ r ≡ names (needsOf needs t) k ⌝ }
+{
+    let mut i: usize = 0;
+    while i < t {
+        let n = needs[i];
+        if n.item == k {
+            return true;
+        }
+        if n.cover == k {
+            return true;
+        }
+        i += 1;
+    }
+    false
+}
+
+fn loosened_mark(kept: bool, m: Mark) -> Mark
+    ensures { λ r. ⌜ r ≡ loosened kept m ⌝ }
+{
+    if kept { m } else { Mark::Continuous }
+}
+
+fn loosened_item(kept: bool, i: Item) -> Item
+    ensures { λ r. ⌜ r ≡ loosenedItem kept i ⌝ }
+{
+    let m = i.mark;
+    let mark = loosened_mark(kept, m);
+    let lower = i.lower;
+    let upper = i.upper;
+    Item {
+        mark: mark,
+        weight: i.weight,
+        price: i.price,
+        lower: lower,
+        upper: upper,
+    }
+}
+
+fn relaxed_but(p: Problem, needs: [Need; 16], t: usize) -> Problem
+    requires { ⌜ (p .count ≤ 16) × (t ≤ 16) ⌝ }
+    ensures { λ r. ⌜ Loosening p (needsOf needs t) (p .count) r ⌝ }
+{
+    let n = p.count;
+    let mut q = p;
+    let mut k: usize = 0;
+    while k < n {
+        let i = p.items[k];
+        let kept = names(needs, t, k);
+        q = with_item(q, k, loosened_item(kept, i));
+        k += 1;
+    }
+    q
+}
+
+// The relaxed answer of a problem with its first t needs.
+pub fn relax_needs(p: Problem, needs: [Need; 16], t: usize) -> Solved
+    requires { ⌜ Needed p needs t ⌝ }
+    ensures { λ r. ⌜ RelaxesNeeds p (needsOf needs t) r ⌝ }
+{
+    solve_needs(relaxed_but(p, needs, t), needs, t)
+}

@@ -1,0 +1,12 @@
+pub mod Needs
+pub mod Splitting
+pub mod Undecided
+pub mod Points
+pub mod Tops
+pub mod Searched
+pub mod Searching
+pub mod Endless
+pub mod Limits
+pub mod Relaxing
+pub mod Once
+pub mod Examples
