@@ -7,19 +7,21 @@ use std::collections::BTreeMap;
 
 const SHEETS: usize = 12;
 
-/// What separates, digits and their neighbours, a sign, marks, a letter, and a line end's byte with its high bit set.
-const BYTES: [u8; 12] = *b"\n 019/:-WLe\x8a";
-
 /// So many differences are shown.
 const SHOWN: u64 = 5;
 
 /// A way to damage a sheet, and all that it makes of one.
 type Way = (&'static str, fn(&[u8]) -> Vec<Vec<u8>>);
 
+/// Each of n places with each byte.
+fn places(n: usize) -> impl Iterator<Item = (usize, u8)> {
+    (0..n).flat_map(|k| (0..=u8::MAX).map(move |b| (k, b)))
+}
+
 const WAYS: [Way; 4] = [
     ("a byte deleted", |s| (0..s.len()).map(|k| [&s[..k], &s[k + 1..]].concat()).collect()),
-    ("a byte inserted", |s| (0..=s.len()).flat_map(|k| BYTES.map(|b| [&s[..k], &[b], &s[k..]].concat())).collect()),
-    ("a byte replaced", |s| (0..s.len()).flat_map(|k| BYTES.map(|b| [&s[..k], &[b], &s[k + 1..]].concat())).collect()),
+    ("a byte inserted", |s| places(s.len() + 1).map(|(k, b)| [&s[..k], &[b], &s[k..]].concat()).collect()),
+    ("a byte replaced", |s| places(s.len()).map(|(k, b)| [&s[..k], &[b], &s[k + 1..]].concat()).collect()),
     ("cut short", |s| (0..s.len()).map(|k| s[..k].to_vec()).collect()),
 ];
 
@@ -57,7 +59,7 @@ fn show(name: &str, counts: &Counts) {
 pub fn damage(seed: u64) -> bool {
     let mut rng = Rng(seed);
     let sheets: Vec<Vec<u8>> = (0..SHEETS).map(|k| KINDS[k % GOOD].2(&mut rng)).collect();
-    println!("Damage: {SHEETS} sheets, seed {seed}, each damaged in every place, by {} bytes", BYTES.len());
+    println!("Damage: {SHEETS} sheets, seed {seed}, each damaged in every place, by every byte");
     let mut good = true;
     for (name, damaged) in WAYS {
         let mut counts = Counts::default();
