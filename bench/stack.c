@@ -78,15 +78,16 @@ static const char *crowd(char *text, int step, int hard) {
     for (k = 1; k <= 16; k++) {
         at += sprintf(at, "%d 10\n", k);
     }
+    sprintf(at, "needs 0\n");
     return text;
 }
 
 int main(void) {
     static const char *few[] = {
-        "limit 1\n20\nitems 2\nW 9 13\nL 3 2\nlower 2\n1 0\n2 0\nupper 2\n1 2\n2 5\n",       /* optimal */
-        "limit 1\n-15\nitems 2\nW -9 -13\nL -1 -2\nlower 2\n1 0\n2 0\nupper 2\n1 1\n2 5\n",  /* infeasible */
-        "limit 1\n0\nitems 2\nW 2 3\nW -3 -4\nlower 2\n1 0\n2 0\nupper 2\n1 none\n2 none\n", /* unbounded */
-        "limit 1\n0\nitems 17\n",                                                            /* refused */
+        "limit 1\n20\nitems 2\nW 9 13\nL 3 2\nlower 2\n1 0\n2 0\nupper 2\n1 2\n2 5\nneeds 0\n",       /* optimal */
+        "limit 1\n-15\nitems 2\nW -9 -13\nL -1 -2\nlower 2\n1 0\n2 0\nupper 2\n1 1\n2 5\nneeds 0\n",  /* infeasible */
+        "limit 1\n0\nitems 2\nW 2 3\nW -3 -4\nlower 2\n1 0\n2 0\nupper 2\n1 none\n2 none\nneeds 0\n", /* unbounded */
+        "limit 1\n0\nitems 17\n",                                                                     /* refused */
     };
     char text[4096];
     size_t most = 0, none = depth((struct call){'n', ""});

@@ -35,6 +35,9 @@ pub fn check_point(p: &Problem, point: &[(i128, i128)]) -> Result<(), String> {
             return Err(format!("amount of item {}", k + 1));
         }
     }
+    if let Some(n) = p.needs.iter().find(|n| point[n.item].0 > 0 && point[n.cover].0 < point[n.cover].1) {
+        return Err(format!("need of item {}", n.item + 1));
+    }
     if point.iter().filter(|x| x.1 > 1).count() > 1 {
         return Err("two fractions".into());
     }

@@ -14,6 +14,7 @@ struct Counts {
     replies: [u64; 4],
     twin_agrees: u64,
     by_scales: u64,
+    most_cases: u64,
     differ: u64,
 }
 
@@ -75,6 +76,7 @@ fn compare_sheet(sheet: &[u8], counts: &mut Counts) -> Result<(), String> {
     counts.replies[column(expected)] += 1;
     counts.twin_agrees += twin.as_ref().is_some_and(|t| t.text == text) as u64;
     counts.by_scales += twin.as_ref().is_some_and(|t| t.cells > 0) as u64;
+    counts.most_cases = counts.most_cases.max(twin.as_ref().map_or(0, |t| t.cases));
     let in_order = problem.as_ref().ok();
     check(problem.as_ref().ok(), expected, &text)
         .and_then(|_| in_order.map_or(Ok(()), |p| check_first(p, &text)))
@@ -112,10 +114,12 @@ fn show(counts: &[Counts]) {
         sum.differ += c.differ;
         sum.twin_agrees += c.twin_agrees;
         sum.by_scales += c.by_scales;
+        sum.most_cases = sum.most_cases.max(c.most_cases);
     }
     row("all", &sum);
     let accepted: u64 = sum.replies[1..].iter().sum();
     println!("The twin's text is ours on {} of {accepted} accepted sheets; {} went to the scales.", sum.twin_agrees, sum.by_scales);
+    println!("Its needs took up to {} cases of a sheet.", sum.most_cases);
 }
 
 fn row(name: &str, c: &Counts) {

@@ -1,7 +1,7 @@
 //! Drawn sheets of mixed kinds, for the comparison. Every draw comes from one seed, by splitmix64.
 
 use crate::families::FAMILIES;
-use crate::problem::{Item, Problem};
+use crate::problem::{Item, Need, Problem};
 
 pub struct Rng(pub u64);
 
@@ -31,7 +31,7 @@ impl Rng {
 /// A kind of sheet, and how many of a thousand are of it.
 pub type Kind = (&'static str, i64, fn(&mut Rng) -> Vec<u8>);
 
-pub const KINDS: [Kind; 10] = [
+pub const KINDS: [Kind; 11] = [
     ("small", 300, |rng| small(rng).sheet()),
     ("equal ratios", 100, |rng| equal_ratios(rng).sheet()),
     ("absent bounds", 150, |rng| open(rng).sheet()),
@@ -40,6 +40,7 @@ pub const KINDS: [Kind; 10] = [
     ("ends of the ranges", 10, |rng| at_the_ends(rng).sheet()),
     ("far out", 5, |rng| far_out(rng).sheet()),
     ("families", 30, |rng| some_family(rng).sheet()),
+    ("needs", 150, |rng| needy(rng).sheet()),
     ("damaged", 300, damaged),
     ("long", 40, long),
 ];
@@ -82,7 +83,7 @@ fn small(rng: &mut Rng) -> Problem {
             item(rng, weight, price, lower, upper, absent)
         })
         .collect();
-    Problem { limit: rng.between(-a * b, 3 * a * b), items }
+    Problem::plain(rng.between(-a * b, 3 * a * b), items)
 }
 
 /// A small problem with every lower bound, for plain enumeration: weights of continuous items divide 12, and ratios are often equal.
@@ -106,7 +107,35 @@ pub fn tiny(rng: &mut Rng) -> Problem {
         })
         .collect();
     let (least, most) = weights(&items);
-    Problem { limit: rng.between(least.clamp(-40, 40) - 3, most.clamp(-40, 40) + 3), items }
+    let mut p = Problem::plain(rng.between(least.clamp(-40, 40) - 3, most.clamp(-40, 40) + 3), items);
+    if rng.chance(40) {
+        p = with_needs(rng, p);
+    }
+    p
+}
+
+/// Up to sixteen needs among the items that may be named.
+pub fn with_needs(rng: &mut Rng, mut p: Problem) -> Problem {
+    let named: Vec<usize> = (0..p.items.len()).filter(|&k| p.items[k].may_be_named()).collect();
+    for _ in 0..if named.is_empty() { 0 } else { rng.pick(&[1, 1, 2, 3, 5, 16]) } {
+        let need = Need { item: rng.pick(&named), cover: rng.pick(&named) };
+        if need.item != need.cover && !p.needs.contains(&need) {
+            p.needs.push(need);
+        }
+    }
+    p.needs.sort();
+    p
+}
+
+fn needy(rng: &mut Rng) -> Problem {
+    let mut p = if rng.chance(75) { small(rng) } else { wide(rng, 100) };
+    for i in &mut p.items {
+        let lower = rng.pick(&[0, 0, 0, 1]);
+        if rng.chance(60) {
+            *i = Item { integer: true, lower: Some(lower), upper: Some(lower + rng.between(0, 9)), ..*i };
+        }
+    }
+    with_needs(rng, p)
 }
 
 fn equal_ratios(rng: &mut Rng) -> Problem {
@@ -120,7 +149,7 @@ fn equal_ratios(rng: &mut Rng) -> Problem {
             item(rng, weight, price, lower, upper, 20)
         })
         .collect();
-    Problem { limit: rng.between(-30, 30), items }
+    Problem::plain(rng.between(-30, 30), items)
 }
 
 fn open(rng: &mut Rng) -> Problem {
@@ -165,7 +194,7 @@ fn wide(rng: &mut Rng, heaviest: i64) -> Problem {
         2 => most,
         _ => rng.between(least, most),
     };
-    Problem { limit: limit.clamp(-100_000_000, 100_000_000), items }
+    Problem::plain(limit.clamp(-100_000_000, 100_000_000), items)
 }
 
 fn at_the_ends(rng: &mut Rng) -> Problem {
@@ -174,7 +203,7 @@ fn at_the_ends(rng: &mut Rng) -> Problem {
     let figures: Vec<[i64; 4]> = (0..16).map(|_| [end(1000), end(10_000), end(10_000), end(10_000)]).collect();
     let count = rng.pick(&[1, 2, 3, 16]);
     let items = figures[..count].iter().map(|f| item(rng, f[0], f[1], f[2].min(f[3]), f[2].max(f[3]), 25)).collect();
-    Problem { limit, items }
+    Problem::plain(limit, items)
 }
 
 /// Amounts driven far out: free items against heavy ones.
@@ -187,23 +216,25 @@ fn far_out(rng: &mut Rng) -> Problem {
             item(rng, weight, price, lower, upper, if k < 2 { 60 } else { 10 })
         })
         .collect();
-    Problem { limit: rng.pick(&[100_000_000, -100_000_000, 30_000_000]), items }
+    Problem::plain(rng.pick(&[100_000_000, -100_000_000, 30_000_000]), items)
 }
 
 fn some_family(rng: &mut Rng) -> Problem {
     let family = &FAMILIES[rng.between(0, FAMILIES.len() as i64 - 1) as usize];
     let (bound, continuous) = (rng.pick(&[1, 2, 5, 10, 100, 10_000]), rng.pick(&[0, 0, 1, 2]));
     let mut p = family.draw(rng, bound, continuous);
-    p.items.truncate(rng.pick(&[4, 8, 16]));
+    let count = rng.pick(&[4, 8, 16]);
+    p.items.truncate(count);
+    p.needs.retain(|n| n.item < count && n.cover < count);
     let (least, most) = weights(&p.items);
     p.limit = ((least + most) / 2).clamp(-100_000_000, 100_000_000);
     p
 }
 
-const BAD_FIELDS: [&[u8]; 38] = [
+const BAD_FIELDS: [&[u8]; 39] = [
     b"", b"00", b"01", b"-0", b"-01", b"+1", b"-", b"--1", b"1-", b"1.0", b"1e3", b"0x1", b"1,0", b"none", b"a", b"W", b"L",
     b"w", b"WL", b"X", b"\t1", b"1\t", b"1\r", b"\0", b"\xff", b"/", b":", b"1/2", b"007", b"limit", b"items", b"item", b"Limit",
-    b"lower", b"upper", b"uppers", b"nonee", b"None",
+    b"lower", b"upper", b"uppers", b"nonee", b"None", b"needs",
 ];
 
 const EDGES: [&[u8]; 28] = [
@@ -239,7 +270,7 @@ const EDGES: [&[u8]; 28] = [
 
 /// A sheet with one thing changed; it may still be one.
 fn damaged(rng: &mut Rng) -> Vec<u8> {
-    let sheet = if rng.chance(80) { small(rng) } else { wide(rng, 30) }.sheet();
+    let sheet = rng.pick::<fn(&mut Rng) -> Problem>(&[small, small, |rng| wide(rng, 30), needy])(rng).sheet();
     let mut lines: Vec<Vec<Vec<u8>>> =
         sheet[..sheet.len() - 1].split(|&b| b == b'\n').map(|l| l.split(|&b| b == b' ').map(<[u8]>::to_vec).collect()).collect();
     let k = rng.between(0, lines.len() as i64 - 1) as usize;

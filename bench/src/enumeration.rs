@@ -1,6 +1,6 @@
 //! Plain enumeration of small problems: every point on a grid, in order.
 
-use crate::problem::Problem;
+use crate::problem::{Need, Problem};
 
 /// Continuous amounts are tried in steps of 1 / GRID. A best point has one there if the weights of continuous items divide it.
 pub const GRID: i64 = 12;
@@ -30,7 +30,9 @@ impl Enumeration<'_> {
     /// All amounts of the items that are left, the least of each first. Only more than the best so far counts.
     fn descend(&mut self, room: i64, value: i64) {
         let Some(i) = self.p.items.get(self.amounts.len()) else {
-            if room >= 0 && self.best.as_ref().is_none_or(|b| b.value < value) {
+            let breaks = |n: &Need| self.amounts[n.item] > 0 && self.amounts[n.cover] < GRID;
+            let is_better = self.best.as_ref().is_none_or(|b| b.value < value);
+            if room >= 0 && is_better && !self.p.needs.iter().any(breaks) {
                 self.best = Some(Found { amounts: self.amounts.clone(), value });
             }
             return;

@@ -1,7 +1,7 @@
 //! The families of the speed table: 16 items, most of them integer, by what ties prices to weights. Those of the field's literature, and those
 //! that are hard for a search.
 
-use crate::draw::Rng;
+use crate::draw::{with_needs, Rng};
 use crate::problem::{Item, Problem};
 
 /// What an item weighs and is worth.
@@ -15,6 +15,7 @@ pub struct Family {
     /// amounts from -bound, not from 0
     both_ways: bool,
     odd_limit: bool,
+    needs: bool,
 }
 
 pub const ITEMS: usize = 16;
@@ -27,12 +28,12 @@ const WIDE: [i64; 4] = [1, 10, 100, 10_000];
 const NARROW: [i64; 4] = [3, 10, 30, 100];
 
 const fn family(name: &'static str, figures: fn(&mut Rng, usize) -> Vec<Figures>) -> Family {
-    Family { name, bounds: WIDE, figures, both_ways: false, odd_limit: false }
+    Family { name, bounds: WIDE, figures, both_ways: false, odd_limit: false, needs: false }
 }
 
-pub const FAMILIES: [Family; 14] = [
+pub const FAMILIES: [Family; 15] = [
     family("uncorrelated", |rng, _| items(rng, |rng, a| (a, rng.between(1, 1000)))),
-    family("weakly correlated", |rng, _| items(rng, |rng, a| (a, rng.between(a - 100, a + 100).max(1)))),
+    family("weakly correlated", |rng, _| items(rng, weakly)),
     family("strongly correlated", |rng, _| items(rng, |_, a| (a, a + SURCHARGE))),
     family("inversely correlated", |rng, _| items(rng, inversely)),
     family("subset sum", |rng, _| items(rng, |_, a| (a, a))),
@@ -45,6 +46,7 @@ pub const FAMILIES: [Family; 14] = [
     family("prices on a circle", |rng, _| items(rng, |_, a| (a, on_circle(a)))),
     Family { both_ways: true, ..family("both signs", |rng, _| items(rng, either_sign)) },
     family("covering, minus signs", |rng, _| items(rng, |_, a| (-a, -a - SURCHARGE))),
+    Family { needs: true, ..family("needs", |rng, _| items(rng, weakly)) },
 ];
 
 const SURCHARGE: i64 = 100;
@@ -59,6 +61,10 @@ fn items(rng: &mut Rng, figures: fn(&mut Rng, i64) -> Figures) -> Vec<Figures> {
             figures(rng, a)
         })
         .collect()
+}
+
+fn weakly(rng: &mut Rng, a: i64) -> Figures {
+    (a, rng.between(a - SURCHARGE, a + SURCHARGE).max(1))
 }
 
 fn inversely(rng: &mut Rng, _: i64) -> Figures {
@@ -135,11 +141,16 @@ impl Family {
         let items: Vec<Item> = (self.figures)(rng, continuous).into_iter().enumerate().map(item).collect();
         let half = items.iter().map(|i| i.weight * (lower + bound)).sum::<i64>() / 2;
         let limit = if self.odd_limit { (half | 1).min(99_999_999) } else { half.clamp(-100_000_000, 100_000_000) };
-        Problem { limit, items }
+        let p = Problem::plain(limit, items);
+        if self.needs {
+            with_needs(rng, p)
+        } else {
+            p
+        }
     }
 }
 
 /// A sheet of one item, of weight and price 1.
 pub fn unit_sheet() -> Problem {
-    Problem { limit: 7, items: vec![Item { integer: true, weight: 1, price: 1, lower: Some(0), upper: Some(9) }] }
+    Problem::plain(7, vec![Item { integer: true, weight: 1, price: 1, lower: Some(0), upper: Some(9) }])
 }

@@ -44,7 +44,7 @@ fn start(rng: &mut Rng) -> Climber {
         })
         .collect();
     let all: i64 = items.iter().map(|i| i.weight * i.upper.unwrap_or(10_000)).sum();
-    Climber { problem: in_range(Problem { limit: all * rng.between(5, 95) / 100, items }), ratio }
+    Climber { problem: in_range(Problem::plain(all * rng.between(5, 95) / 100, items)), ratio }
 }
 
 fn in_range(mut p: Problem) -> Problem {

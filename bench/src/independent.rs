@@ -2,10 +2,12 @@
 //! in a window around the relaxation's point. It names the kind of reply and the best value; `first` names the best point that comes first.
 
 mod first;
+mod needs;
 mod reader;
 
 use crate::problem::{gcd, Item, Problem};
-pub use first::{first, Point};
+pub use first::Point;
+pub use needs::{first, plan};
 pub use reader::{read, Refusal};
 use std::ops::{Add, Mul, Sub};
 
@@ -198,7 +200,7 @@ fn integer_table(p: &Problem, point: &[i64]) -> Table<i64> {
     table
 }
 
-/// The best value, where the relaxation has one.
+/// The best value of a problem without needs, where the relaxation has one.
 fn best_value(p: &Problem, line: Line) -> (i128, i128) {
     let point = relaxed_point(p, line);
     let table = integer_table(p, &point);
@@ -216,7 +218,7 @@ fn best_value(p: &Problem, line: Line) -> (i128, i128) {
         }
         let rest = least(&lines, left).expect("a dual of the continuous items");
         let value = (rest.at(left) + (worth + gain) as i128 * rest.q as i128, rest.q as i128);
-        if best.is_none_or(|b| b.0 * value.1 < value.0 * b.1) {
+        if best.is_none_or(|b| less(b, value)) {
             best = Some(value);
         }
     }
@@ -224,24 +226,15 @@ fn best_value(p: &Problem, line: Line) -> (i128, i128) {
     lowest(n, d)
 }
 
+fn less(a: (i128, i128), b: (i128, i128)) -> bool {
+    a.0 * b.1 < b.0 * a.1
+}
+
 fn lowest(n: i128, d: i128) -> (i128, i128) {
     (n / gcd(n, d), d / gcd(n, d))
 }
 
-/// Where no bounds cross the light corner is a point, so that a problem is infeasible only if it is too heavy.
+/// Of a problem without needs: where no bounds cross the light corner is a point, so that it is infeasible only if that is too heavy.
 fn is_infeasible(p: &Problem) -> bool {
     p.items.iter().any(crosses) || lightest(&p.items).is_some_and(|w| w > p.limit)
-}
-
-pub fn plan(p: &Problem) -> Reply {
-    if is_infeasible(p) {
-        return Reply::Infeasible;
-    }
-    match least(&dual(&p.items), p.limit) {
-        None => Reply::Unbounded,
-        Some(line) => {
-            let (n, d) = best_value(p, line);
-            Reply::Best(n, d)
-        }
-    }
 }

@@ -2,7 +2,7 @@
 //! time beside ours, not the proof.
 
 use crate::ours;
-use crate::problem::Problem;
+use crate::problem::{Need, Problem};
 use std::fs::File;
 use std::io::{Read, Write};
 use std::path::{Path, PathBuf};
@@ -98,7 +98,9 @@ fn model_text(p: &Problem) -> String {
         figures.iter().enumerate().map(|(k, a)| format!(" {} {} x{k}\n", if *a < 0 { '-' } else { '+' }, a.abs())).collect()
     };
     let mut text = format!("Maximize\n value:\n{}", sum(p.items.iter().map(|i| i.price).collect()));
-    text += &format!("Subject To\n weight:\n{} <= {}\nBounds\n", sum(p.items.iter().map(|i| i.weight).collect()), p.limit);
+    text += &format!("Subject To\n weight:\n{} <= {}\n", sum(p.items.iter().map(|i| i.weight).collect()), p.limit);
+    text += &needs_text(p);
+    text += "Bounds\n";
     for (k, i) in p.items.iter().enumerate() {
         let lower = i.lower.map_or("-inf".into(), |l| l.to_string());
         let upper = i.upper.map_or("+inf".into(), |u| u.to_string());
@@ -108,5 +110,23 @@ fn model_text(p: &Problem) -> String {
     for (k, _) in p.items.iter().enumerate().filter(|(_, i)| i.integer) {
         text += &format!(" x{k}\n");
     }
-    text + "End\n"
+    text + &switches_text(p) + "End\n"
+}
+
+fn switches_text(p: &Problem) -> String {
+    let names: String = (0..p.needs.len()).map(|j| format!(" z{j}\n")).collect();
+    if names.is_empty() {
+        names
+    } else {
+        format!("Binary\n{names}")
+    }
+}
+
+/// A need is two rows with a switch z of its own: the item is at most its upper bound times z, the cover at least z.
+fn needs_text(p: &Problem) -> String {
+    let rows = |(j, n): (usize, &Need)| {
+        let upper = p.items[n.item].upper.expect("an item that may be named");
+        format!(" item{j}: x{} - {upper} z{j} <= 0\n cover{j}: x{} - z{j} >= 0\n", n.item, n.cover)
+    };
+    p.needs.iter().enumerate().map(rows).collect()
 }

@@ -94,13 +94,17 @@ fn check_small(p: &Problem, counts: &mut Counts) -> Result<(), String> {
     Ok(())
 }
 
-/// A sheet of a family, one in three with some upper bounds absent.
+/// A sheet of a family, one in three with some upper bounds absent, but of no item that a need names.
 fn large(rng: &mut Rng) -> Problem {
     let family = &FAMILIES[rng.between(0, FAMILIES.len() as i64 - 1) as usize];
     let (bound, continuous) = (rng.pick(&family.bounds), rng.pick(&CONTINUOUS));
     let mut p = family.draw(rng, bound, continuous);
     let absent = rng.pick(&[0, 0, 20]);
-    p.items.iter_mut().filter(|_| rng.chance(absent)).for_each(|i| i.upper = None);
+    for k in 0..p.items.len() {
+        if !p.is_named(k) && rng.chance(absent) {
+            p.items[k].upper = None;
+        }
+    }
     p
 }
 

@@ -7,7 +7,7 @@
 //! worse, so they gain; but then x with a little of them would be better. So, as in `integer_table`, steps of both signs in turns are fewer
 //! than 2 D, and those that are left, all of one sign, weigh less than 2 D. No part is farther than 4 D from x, and no sum leaves D D + 3 D.
 
-use super::{best_value, dual, is_infeasible, least, lowest, Line, Table, Worth};
+use super::{lowest, Line, Table, Worth};
 use crate::problem::{gcd, Item, Problem};
 
 /// Amounts p / q in lowest terms.
@@ -148,13 +148,9 @@ impl<W: Worth> Table<W> {
     }
 }
 
-/// The first best point; none if a lower bound is absent, if there is no best point, or if no type holds the prices.
-pub fn first(p: &Problem) -> Option<Point> {
-    if is_infeasible(p) || p.items.iter().any(|i| i.lower.is_none()) {
-        return None;
-    }
-    let line = least(&dual(&p.items), p.limit)?;
-    let value = best_value(p, line);
+/// The first best point of a problem without needs, with all lower bounds, the dual's best corner and a best value; none if no type holds the
+/// prices.
+pub fn first_of(p: &Problem, line: Line, value: (i128, i128)) -> Option<Point> {
     let (mut parts, window, divisor) = parts(p, line, value);
     let room = p.limit - parts.iter().map(|m| m.weight * m.start).sum::<i64>();
     let moving: Vec<&Part> = parts.iter().filter(|m| m.from < m.to).collect();

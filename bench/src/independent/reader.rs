@@ -1,6 +1,6 @@
-//! A second reader, written from the papers alone (paper 01, "The sheet" and "Refused, by place"; paper 02, requests 3 and 6).
+//! A second reader, written from the papers alone (paper 01, "The sheet" and "Refused, by place"; paper 02, requests 3, 6 and 7).
 
-use crate::problem::{Item, Problem};
+use crate::problem::{Item, Need, Problem};
 
 #[derive(Clone, Copy, Debug, PartialEq)]
 pub struct Refusal {
@@ -125,6 +125,32 @@ impl<'a> Lines<'a> {
         self.heading(word, n, n)?;
         (1..=n).map(|k| self.bound(k)).collect()
     }
+
+    /// A need that comes after `last`.
+    fn need(&mut self, items: &[Item], last: Option<Need>) -> Result<Need, Refusal> {
+        let fields = self.fields([Place::Number, Place::Number])?;
+        let n = items.len() as i64;
+        let [item, cover] = fields.map(number);
+        if [item, cover].iter().any(|k| !(1..=n).contains(k)) || item == cover {
+            return self.refuse(5);
+        }
+        let need = Need { item: item as usize - 1, cover: cover as usize - 1 };
+        if last.is_some_and(|l| need <= l) {
+            return self.refuse(5);
+        }
+        if !items[need.item].may_be_named() || !items[need.cover].may_be_named() {
+            return self.refuse(14);
+        }
+        Ok(need)
+    }
+
+    fn needs(&mut self, items: &[Item]) -> Result<Vec<Need>, Refusal> {
+        let mut needs = vec![];
+        for _ in 0..self.heading(b"needs", 0, 16)? {
+            needs.push(self.need(items, needs.last().copied())?);
+        }
+        Ok(needs)
+    }
 }
 
 pub fn read(sheet: &[u8]) -> Result<Problem, Refusal> {
@@ -138,8 +164,9 @@ pub fn read(sheet: &[u8]) -> Result<Problem, Refusal> {
     let mut items = (0..n).map(|_| lines.item()).collect::<Result<Vec<Item>, Refusal>>()?;
     items.iter_mut().zip(lines.bounds(b"lower", n)?).for_each(|(i, bound)| i.lower = bound);
     items.iter_mut().zip(lines.bounds(b"upper", n)?).for_each(|(i, bound)| i.upper = bound);
+    let needs = lines.needs(&items)?;
     if !lines.rest.is_empty() {
         return Err(Refusal { number: 2, line: lines.line + 1 });
     }
-    Ok(Problem { limit, items })
+    Ok(Problem { limit, items, needs })
 }

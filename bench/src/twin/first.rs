@@ -20,7 +20,7 @@ impl Point {
         Point { amounts: (0..h.count).map(amount).collect(), divisor }
     }
 
-    fn comes_before(&self, other: &Point) -> bool {
+    pub fn comes_before(&self, other: &Point) -> bool {
         let ours = self.amounts.iter().map(|x| x * other.divisor);
         ours.lt(other.amounts.iter().map(|x| x * self.divisor))
     }

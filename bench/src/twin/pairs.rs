@@ -38,7 +38,7 @@ pub fn pair_table(p: &Problem) -> Vec<Option<(i64, i64)>> {
     let mut table = vec![None; 256];
     for (i, x) in p.items.iter().enumerate() {
         for (j, y) in p.items.iter().enumerate() {
-            if i != j {
+            if i != j && !p.is_named(i) && !p.is_named(j) {
                 table[16 * i + j] = least_pair(x, y);
             }
         }
