@@ -51,10 +51,10 @@ fn with_line(m: Model, k: usize, l: usize) -> Model
     let n = m.count;
     let ns = m.needs;
     let j = ns.count;
-    if n <= k || n <= l {
+    if n <= k || n <= l || k == l {
         return m;
     }
-    if k == l || 15 < j {
+    if 15 < j {
         return m;
     }
     let more = j + 1;
