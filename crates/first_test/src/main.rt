@@ -1,9 +1,6 @@
 // Plans problems in which every item has a lower bound, and holds each best point to plain enumeration: of all best points the planner shows the one
 // that comes first (paper 02, "Always the same charge"). A problem on which the two disagree is printed. Absent upper bounds are closed at the reach for
 // the enumeration; `met` counts the points shown that it has.
-mod points; // the points of a problem beside the one shown
-
-use crate::points::judge;
 use arith::Fraction;
 use knapsack::Answer;
 use knapsack::Bound;
@@ -21,6 +18,7 @@ use trials::make::held;
 use trials::make::loose;
 use trials::make::two;
 use trials::outcome::shut_problem;
+use trials::points::judge;
 use trials::print::print;
 use trials::print::print_field;
 use trials::print::print_kind;

@@ -1,10 +1,11 @@
 // The best value of a small problem whose bounds are all present, by trying every point that can be best. An integer item takes every
 // amount of its box. A continuous one stands at one of its ends, but for one of them, the filler, which may take what the others leave
 // of the capacity: a point of a box under one limit that is best for given integer amounts can be had so. With no order, no
-// relaxation and no cut this has nothing of the planner.
-use crate::exact::as_signed;
+// relaxation and no cut this has nothing of the planner. A point that breaks a need is left out.
 use crate::exact::plus;
 use crate::exact::times;
+use crate::kept::chosen;
+use crate::kept::keeps;
 use crate::print::size_of;
 use knapsack::Bound;
 use knapsack::Item;
@@ -133,7 +134,7 @@ fn with_item(s: Sums, x: Item, filler: bool) -> Sums {
         return s;
     }
     let digit = s.rest % c.number;
-    let amount = plus(c.first, times(c.step, as_signed(digit)));
+    let amount = chosen(c, digit);
     Sums {
         rest: s.rest / c.number,
         weight: plus(s.weight, times(x.weight, amount)),
@@ -226,22 +227,31 @@ fn with_filler(best: Best, p: Model, x: Item, s: Sums) -> Best {
     best
 }
 
+// The point of a number, if it keeps the needs.
+fn with_point(best: Best, p: Model, filler: usize, n: usize, number: u64) -> Best
+    requires { ⌜ n ≤ 15 ⌝ }
+{
+    if !keeps(p, filler, n, number) {
+        return best;
+    }
+    let s = sums_of(p, filler, n, number);
+    if filler < n {
+        let items = p.items;
+        let x = items[filler];
+        return with_filler(best, p, x, s);
+    }
+    with_corner(best, p, s)
+}
+
 // All points with one filler, or with none where its number is n.
 fn with_points(start: Best, p: Model, filler: usize, n: usize) -> Best
     requires { ⌜ n ≤ 15 ⌝ }
 {
-    let items = p.items;
     let total = points(p, filler, n);
     let mut best = start;
     let mut i: u64 = 0;
     while i < total {
-        let s = sums_of(p, filler, n, i);
-        if filler < n {
-            let x = items[filler];
-            best = with_filler(best, p, x, s);
-        } else {
-            best = with_corner(best, p, s);
-        }
+        best = with_point(best, p, filler, n, i);
         i += 1;
     }
     best

@@ -5,10 +5,10 @@ use Rattle.trials.proofs.enumerate.with_points.Statement.{statement}
 use Rattle.trials.proofs.enumerate.with_points.Tie as tie
 
 abbrev Inv-loop : tie.InvT-loop
-Inv-loop p filler n items total best₀ i₀ best i = Unit {0}
+Inv-loop p filler n total best₀ i₀ best i = Unit {0}
 
 abbrev μ-loop : tie.MeasureT-loop
-μ-loop p filler n items total best₀ i₀ best i = total - i
+μ-loop p filler n total best₀ i₀ best i = total - i
 
 points-requires : tie.Need-points-requires Inv-loop μ-loop
 points-requires c κs = search needs
@@ -16,20 +16,8 @@ points-requires c κs = search needs
 loop-holds : tie.Need-loop-holds Inv-loop μ-loop
 loop-holds c = search needs
 
-sums-of-requires : tie.Need-sums-of-requires Inv-loop μ-loop
-sums-of-requires c κs = search needs
-
-mul-x : tie.Need-mul-x Inv-loop μ-loop
-mul-x c = search needs
-
-array-copy-out-x : tie.Need-array-copy-out-x Inv-loop μ-loop
-array-copy-out-x c = search needs
-
-with-filler-requires : tie.Need-with-filler-requires Inv-loop μ-loop
-with-filler-requires c κs = search needs
-
-with-corner-requires : tie.Need-with-corner-requires Inv-loop μ-loop
-with-corner-requires c κs = search needs
+with-point-requires : tie.Need-with-point-requires Inv-loop μ-loop
+with-point-requires c κs = search needs
 
 add-i : tie.Need-add-i Inv-loop μ-loop
 add-i c = search needs
@@ -51,11 +39,7 @@ with-points-spec =
     μ-loop
     points-requires
     loop-holds
-    sums-of-requires
-    mul-x
-    array-copy-out-x
-    with-filler-requires
-    with-corner-requires
+    with-point-requires
     add-i
     loop-less
     loop-again

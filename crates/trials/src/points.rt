@@ -1,22 +1,24 @@
-// The points of a small problem that can be best (trials::enumerate), each beside the point that an answer shows: none is worth more, and none that is
+// The points of a small problem that can be best (enumerate), each beside the point that an answer shows: none is worth more, and none that is
 // worth as much comes before it. With no order of filling, no relaxation, no loss and no key this has nothing of the planner.
 use arith::Fraction;
 use knapsack::Answer;
 use knapsack::Item;
 use model::Model;
-use trials::enumerate::Sums;
-use trials::enumerate::below;
-use trials::enumerate::between;
-use trials::enumerate::can_fill;
-use trials::enumerate::choices_of;
-use trials::enumerate::high;
-use trials::enumerate::low;
-use trials::enumerate::minus;
-use trials::enumerate::points;
-use trials::enumerate::sums_of;
-use trials::exact::as_signed;
-use trials::exact::plus;
-use trials::exact::times;
+use crate::enumerate::Sums;
+use crate::enumerate::below;
+use crate::enumerate::between;
+use crate::enumerate::can_fill;
+use crate::enumerate::choices_of;
+use crate::enumerate::high;
+use crate::enumerate::low;
+use crate::enumerate::minus;
+use crate::enumerate::points;
+use crate::enumerate::sums_of;
+use crate::exact::as_signed;
+use crate::exact::plus;
+use crate::exact::times;
+use crate::kept::chosen;
+use crate::kept::keeps;
 ghost use Prim.Native.Nat.{_≤_};
 
 // The item that takes what the others leave of the capacity, and its amount p / q.
@@ -79,7 +81,7 @@ fn walked(w: Walk, x: Item, v: Fraction, k: usize, f: Filler) -> Walk {
         return w;
     }
     let digit = w.rest % c.number;
-    let amount = plus(c.first, times(c.step, as_signed(digit)));
+    let amount = chosen(c, digit);
     let order = compared(o, amount, 1, v);
     Walk {
         rest: w.rest / c.number,
@@ -180,22 +182,31 @@ fn with_filler(
     with_point(j, m, a, n, number, f, value, w)
 }
 
+// The point of a number, if it keeps the needs.
+fn with_numbered(j: Judged, m: Model, a: Answer, filler: usize, n: usize, number: u64) -> Judged
+    requires { ⌜ n ≤ 15 ⌝ }
+{
+    if !keeps(m, filler, n, number) {
+        return j;
+    }
+    let s = sums_of(m, filler, n, number);
+    if filler < n {
+        let items = m.items;
+        let x = items[filler];
+        return with_filler(j, m, a, n, number, s, x, filler);
+    }
+    with_corner(j, m, a, n, number, s)
+}
+
 // All points with one filler, or with none where its number is n.
 fn with_points(start: Judged, m: Model, a: Answer, filler: usize, n: usize) -> Judged
     requires { ⌜ n ≤ 15 ⌝ }
 {
-    let items = m.items;
     let total = points(m, filler, n);
     let mut j = start;
     let mut i: u64 = 0;
     while i < total {
-        let s = sums_of(m, filler, n, i);
-        if filler < n {
-            let x = items[filler];
-            j = with_filler(j, m, a, n, i, s, x, filler);
-        } else {
-            j = with_corner(j, m, a, n, i, s);
-        }
+        j = with_numbered(j, m, a, filler, n, i);
         i += 1;
     }
     j

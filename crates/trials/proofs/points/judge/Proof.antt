@@ -1,8 +1,8 @@
 -- The measure is the items left.
 use Prim.Native.Nat.{_-_, _≤_}
 use borrow.Author.Needs.{needs}
-use Rattle.first_test.proofs.points.judge.Statement.{statement}
-use Rattle.first_test.proofs.points.judge.Tie as tie
+use Rattle.trials.proofs.points.judge.Statement.{statement}
+use Rattle.trials.proofs.points.judge.Tie as tie
 
 abbrev Inv-loop : tie.InvT-loop
 Inv-loop m a n items j₀ k₀ j k = k ≤ n

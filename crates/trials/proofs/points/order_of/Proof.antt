@@ -1,8 +1,8 @@
 -- The measure is the items left.
 use Prim.Native.Nat.{_-_, _≤_}
 use borrow.Author.Needs.{needs}
-use Rattle.first_test.proofs.points.order_of.Statement.{statement}
-use Rattle.first_test.proofs.points.order_of.Tie as tie
+use Rattle.trials.proofs.points.order_of.Statement.{statement}
+use Rattle.trials.proofs.points.order_of.Tie as tie
 
 abbrev Inv-loop : tie.InvT-loop
 Inv-loop n number f items shown w₀ k₀ w k = k ≤ n
