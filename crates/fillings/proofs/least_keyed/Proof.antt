@@ -82,6 +82,7 @@ returns c =
       takens = kt .keyed-takens .ensures;
       lefts = k .keyed-lefts .ensures;
       least = l .ensures .0;
+      takes = l .ensures .1;
     }
 
 pub least-keyed-spec : {M : Type 1} → statement M
