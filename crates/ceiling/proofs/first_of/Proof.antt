@@ -10,6 +10,7 @@ use Rattle.scales.specs.Filling.{Bounds}
 use Rattle.fillings.specs.Ranges.{itemsIn}
 use Rattle.fillings.specs.Runs.{FirstAt}
 use Rattle.arith.proofs.Parts.{impossible}
+use Rattle.ceiling.specs.Least.{fit, unfit}
 use Rattle.ceiling.proofs.Lists.{pieces-fair, pieces-keyable, listing-items}
 use Rattle.ceiling.proofs.Order.{floor-bounds, first-none, first-point}
 use Rattle.ceiling.proofs.Rooms.{roomless}
@@ -74,6 +75,7 @@ returns c =
     let same : (a .r + 1) - 1 ≡ a .r = omega arith in
     record {
       few = r .ensures .few;
+      writes = fit (m .result .left) (r .result .written) (ps .result) (m .ensures .left-is fits) (ps .ensures) (r .ensures .writes);
       found = λ i. first-point (a .p) (a .q) (a .cols) (a .ends) (a .scale) (a .cut) (z .0 .columns .few) (z .1 .0 .scale≥1) (z .1 .1 .0) (z .1 .1 .1)
           (m .result .left) (m .ensures .left-is fits) (ps .result) (ps .ensures) (a .r) (r .result)
           (subst (λ n. FirstAt (ps .result) (m .result .left) n (r .result .amounts)) same (r .ensures .found i));
@@ -98,6 +100,7 @@ returns-2 c =
     let n = c .nowhere .ensures in
     record {
       few = omega (arith, n .1);
+      writes = rw (n .1) (unfit (c .before .before .room-of .ensures .none (c .before .if1 .left)));
       found = λ i. absurd (impossible (sym (n .0) ∙ i));
       small = λ i. absurd (impossible (sym (n .0) ∙ i));
       none = λ i M pt. above (a .r) _ (roomless (a .p) (a .q) (a .cols) (a .ends) (a .scale) (a .cut) (a .r + 1) (s .pre .0 .1 .0 .scale≥1)

@@ -2,20 +2,16 @@
 use borrow.Author.Needs.{needs}
 use native.Mathlib.Omega.{arith}
 use mathlib.Core.Path.{sym, _∙_}
-use Prim.Native.Nat.{ℕ, _*_, _-_, _/_, _≤_, _<_}
-use native.Mathlib.Nat.{lt-div-mul-add, mul-le-mul-right}
+use Prim.Native.Nat.{_*_, _≤_}
 use Rattle.arith.proofs.Parts.{impossible, within-back}
 use Rattle.fillings.specs.Ranges.{num}
-use Rattle.ceiling.specs.Least.{IsFrame}
-use Rattle.ceiling.proofs.Framing.{frame-scale, frame-sized, frame-modest, frame-cut, frame-narrow, own-floor, own-none, own-later, own-first, still}
+use Rattle.ceiling.specs.Least.{IsFrame, beyond, within}
+use Rattle.ceiling.proofs.Framing.{frame-scale, frame-sized, frame-modest, frame-cut, frame-narrow, own-floor, own-none, own-later, own-first, past, still}
 use Rattle.ceiling.proofs.first_of_frame.Statement.{statement}
 use Rattle.ceiling.proofs.first_of_frame.Tie as tie
 
 frame : (c : tie.After-frame-of) → let a = c .before .before .args in IsFrame (a .p) (a .q) (a .cols) (a .ends) (a .whole) (a .t) (c .frame-of .result)
 frame c = c .frame-of .ensures
-
-beyond : (r E d : ℕ) → 1 ≤ E → r / E < d → r < E * d
-beyond r E d h k = omega (arith, lt-div-mul-add {a = r} {b = E} h, mul-le-mul-right E k)
 
 off-in : (c : tie.Else1) → c .before .frame-of .result .scale * c .before .frame-of .result .less ≤ c .before .before .before .args .r
 off-in c = let m = c .before in let s = m .before .before in
@@ -37,11 +33,12 @@ returns c =
     let a = s .args in
     let f = m .frame-of .result in
     let u = c .unseen .ensures in
+    let over = past (a .r) (f .scale) (f .less) (frame-scale (frame m) (s .pre .0 .0) .0) (c .before .if1 .taken) in
     record {
       few = omega (arith, u .1);
+      writes = rw (u .1) (beyond f (frame m) over);
       found = λ i. absurd (impossible (sym (u .0) ∙ i));
-      none = λ i. own-none (frame m) (s .pre .0 .0) (a .r) (beyond (a .r) (f .scale) (f .less) (frame-scale (frame m) (s .pre .0 .0) .0)
-          (c .before .if1 .taken));
+      none = λ i. own-none (frame m) (s .pre .0 .0) (a .r) over;
     }
 
 mul-off : tie.Need-mul-off
@@ -90,6 +87,7 @@ returns-2 c =
     let g = f .first-of in
     record {
       few = g .ensures .few;
+      writes = within (m .frame-of .result) (g .result .written) (frame m) (off-in e) (g .ensures .writes);
       found = λ i. own-first (frame m) (s .pre .0 .0) (a .r) (off-in e) (num (g .result .amounts)) (c .made .result)
           (g .ensures .found (c .before .before .if2 .taken)) (c .made .ensures .each);
       none = λ i. absurd (impossible (sym i));
@@ -113,6 +111,7 @@ returns-3 c =
     let u = c .unseen2 .ensures in
     record {
       few = omega (arith, u .1, g .ensures .few);
+      writes = rw (u .1) (within (m .frame-of .result) (g .result .written) (frame m) (off-in e) (g .ensures .writes));
       found = λ i. absurd (impossible (sym (u .0) ∙ i));
       none = λ i. own-later (frame m) (s .pre .0 .0) (a .r) (off-in e) (g .ensures .none (c .before .if2 .left));
     }

@@ -2,6 +2,7 @@
 use borrow.Author.Needs.{needs}
 use native.Mathlib.Omega.{arith}
 use mathlib.Core.Path.{sym, _∙_}
+use Rattle.ceiling.specs.Least.{fit, unfit}
 use Rattle.ceiling.proofs.Lists.{pieces-fair}
 use Rattle.ceiling.proofs.Bounded.{bounds-loss}
 use Rattle.ceiling.proofs.Attained.{attained}
@@ -40,7 +41,8 @@ returns c =
     let ps = po .pieces-of in
     let r = c .before .before .least-filling in
     record {
-      few = r .ensures .1;
+      few = r .ensures .1 .few;
+      writes = fit (m .result .left) (r .result .written) (ps .result) (m .ensures .left-is fits) (ps .ensures) (r .ensures .1);
       capped = r .ensures .0 .capped;
       floor = record {
         floor = λ N pt. bounds-loss (a .p) (a .q) (a .cols) (a .ends) (a .scale) (a .cut) (z .0 .columns .few) (z .1 .0 .scale≥1) (z .1 .1 .0) N
@@ -56,6 +58,7 @@ returns-2 c =
     let a = s .args in
     record {
       few = omega arith;
+      writes = unfit (c .before .room-of .ensures .none (c .if1 .left));
       capped = omega arith;
       floor = roomless (a .p) (a .q) (a .cols) (a .ends) (a .scale) (a .cut) (a .cap) (s .pre .0 .1 .0 .scale≥1)
           (c .before .room-of .ensures .none (c .if1 .left));

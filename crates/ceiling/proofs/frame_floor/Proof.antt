@@ -2,7 +2,7 @@
 use native.Mathlib.Omega.{arith}
 use Prim.Native.Nat.{_*_, _≤_}
 use Rattle.arith.proofs.Parts.{within-back}
-use Rattle.ceiling.specs.Least.{IsFrame}
+use Rattle.ceiling.specs.Least.{IsFrame, beyond, within}
 use Rattle.ceiling.proofs.Framing.{frame-scale, frame-sized, frame-modest, frame-cut, of-floor, of-attained, past, still}
 use Rattle.ceiling.proofs.Rooms.{floor-zero}
 use borrow.Author.Needs.{needs}
@@ -28,11 +28,12 @@ returns c =
     let s = m .before .before in
     let a = s .args in
     let f = m .frame-of .result in
+    let over = past (a .cap) (f .scale) (f .less) (frame-scale (frame m) (s .pre .0 .0) .0) (c .if1 .taken) in
     record {
       few = omega arith;
+      writes = beyond f (frame m) over;
       capped = omega arith;
-      floor = of-floor (frame m) (s .pre .0 .0) 0 (a .cap) (floor-zero (a .p) (a .q) (a .cols) (f .ends) (f .scale) (f .cut))
-          (past (a .cap) (f .scale) (f .less) (frame-scale (frame m) (s .pre .0 .0) .0) (omega (arith, c .if1 .taken)));
+      floor = of-floor (frame m) (s .pre .0 .0) 0 (a .cap) (floor-zero (a .p) (a .q) (a .cols) (f .ends) (f .scale) (f .cut)) (omega (arith, over));
       attained = λ i. absurd (omega arith);
     }
 
@@ -69,6 +70,7 @@ returns-2 c =
     let r = h .floor-of in
     record {
       few = r .ensures .few;
+      writes = within (m .frame-of .result) (r .result .written) (frame m) (off e) (r .ensures .writes);
       capped = omega (arith, off e, r .ensures .capped);
       floor = of-floor (frame m) (s .pre .0 .0) (r .result .least) _ (r .ensures .floor) (omega arith);
       attained = λ i. of-attained (frame m) (s .pre .0 .0) (r .result .least) _ (r .ensures .attained (omega (arith, off e, i))) (omega arith);

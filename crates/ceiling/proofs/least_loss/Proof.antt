@@ -121,7 +121,7 @@ returns-2 c =
     let t : l .t ≡ a .cols .live = omega (arith, tested .loop-test .left, l .inv .0) in
     let known = ap (λ (b : Least). b .lost) (u .unlowered .ensures) in
     subst (λ k. LeastLoss (a .p) (a .q) (a .cols) (a .ends) (a .whole) k (r .result)) known
-    (sofar-done (l .inv .1 .1) (r .result) t (z .sized .columns) (s .pre .1 .1 .1) (z .in-order) (r .ensures))
+    (sofar-done (l .inv .1 .1) (r .result) t (z .sized .columns) (s .pre .1 .1 .1) (z .in-order) (c .before .before .before .before .if1 .left) (r .ensures))
 
 pub least-loss-spec : {M : Type 1} → statement M
 least-loss-spec =

@@ -4,11 +4,12 @@ use mathlib.Core.Path.{_≡_, refl, sym, subst}
 use mathlib.Core.Logic.{inl, inr}
 use Prim.Native.Nat.{_+_, _*_, _-_, _/_, _≤_, _<_}
 use Rattle.arith.proofs.Parts.{within-back}
+use Rattle.ceiling.specs.declared.Least.{Least}
 use Rattle.ceiling.specs.Frames.{scaleOf, FrameBound, Counted}
 use Rattle.ceiling.proofs.Framing.{scale-in, cap-small, cap-least, below-cap, lowered-counted, lowered-new, lowered-old}
 use borrow.Author.Needs.{needs}
 use mathlib.Core.Bool.{true}
-use Rattle.ceiling.specs.Least.{Lowered}
+use Rattle.ceiling.specs.Least.{Lowered, byLeast, FrameWrites, LowerWrites}
 use native.Mathlib.Nat.{mul-le-mul}
 use Rattle.ceiling.proofs.lowered.Statement.{statement}
 use Rattle.ceiling.proofs.lowered.Tie as tie
@@ -53,6 +54,20 @@ add-written c =
     let s = g .before in
     omega (arith, s .pre .1 .1 .0, f .frame-floor .ensures .few)
 
+-- what the frame adds
+more : (f : tie.After-frame-floor) → let a = f .before .before .before .before .args in (r : Least) → r .written ≡ a .best .written + f .frame-floor .result .written →
+    LowerWrites (a .p) (a .q) (a .cols) (a .ends) (a .whole) (a .t) (a .best) r
+more f r e =
+    let g = f .before .before in
+    let a = g .before .before .args in
+    let n = f .frame-floor .result .written in
+    record {
+      more = n;
+      frame = subst (λ x. FrameWrites byLeast (a .p) (a .q) (a .cols) (a .ends) (a .whole) (a .t) ((x * a .best .lost .num + (a .best .lost .den - 1))
+          / a .best .lost .den) n) (scale-is g) (f .frame-floor .ensures .writes);
+      sum = e;
+    }
+
 same-length : tie.Need-same-length
 same-length c = search needs
 
@@ -87,6 +102,7 @@ returns c =
       });
       any = refl;
       few = omega (arith, f .ensures .few);
+      writes = more ff _ refl;
     })
 
 same-length-2 : tie.Need-same-length-2
@@ -112,6 +128,7 @@ returns-2 c =
       exact = inl (refl, (refl, refl));
       any = refl;
       few = omega (arith, f .ensures .few);
+      writes = more ff _ refl;
     }
 
 pub lowered-spec : {M : Type 1} → statement M
