@@ -23,6 +23,13 @@ use Rattle.fillings.proofs.first_filling.Reads as first-filling-reads
 above : (n : ℕ) (x : ℤ) → pos (n + 1) ≤ℤ x → pos n <ℤ x
 above n = split _ (λ a b. simp zed (omega arith))
 
+-- from the pieces, back to their room and to the start
+abbrev rooms : tie.After-pieces-of → tie.After-room-of
+rooms m = m .before .before
+
+abbrev start : tie.After-pieces-of → tie.Start
+start m = m .before .before .before .before
+
 room-of-requires : tie.Need-room-of-requires
 room-of-requires c κs = search needs
 
@@ -34,11 +41,10 @@ add-first-filling c = search needs
 
 first-filling-requires : tie.Need-first-filling-requires
 first-filling-requires c κs =
-    let h = c .before .before .before in
-    let s = h .before .before in
+    let s = start (c .before) in
     let a = s .args in
     let z = s .pre .0 in
-    let m = h .room-of in
+    let m = rooms (c .before) .room-of in
     let fits = c .before .before .if1 .taken in
     let ps = c .before .pieces-of in
     let bound = floor-bounds (a .p) (a .q) (a .cols) (a .ends) (a .scale) (a .cut) (z .0 .columns .few) (z .1 .0 .scale≥1) (z .1 .1 .0) (z .1 .1 .1)
@@ -61,17 +67,15 @@ same-length c = search needs
 
 returns : tie.Need-returns
 returns c =
-    let g = c .before .before .before in
-    let po = g .before in
-    let e = po .before in
-    let ro = e .before in
-    let s = ro .before .before in
+    let l = c .before .before in
+    let po = l .before .before in
+    let s = start po in
     let a = s .args in
     let z = s .pre .0 in
-    let m = ro .room-of in
-    let fits = e .if1 .taken in
+    let m = rooms po .room-of in
+    let fits = po .before .if1 .taken in
     let ps = po .pieces-of in
-    let r = c .before .before .first-filling in
+    let r = l .first-filling in
     let same : (a .r + 1) - 1 ≡ a .r = omega arith in
     record {
       few = r .ensures .few;

@@ -11,7 +11,8 @@ use Rattle.fillings.proofs.first_filling.Statement.{statement}
 use Rattle.fillings.proofs.first_filling.Tie as tie
 
 abbrev Inv-loop : tie.InvT-loop
-Inv-loop p capacity cap cells₀ r₀ written₀ from₀ cells r written from = ((length cells ≡ length cells₀) × ((written ≤ from * runCells) × Gone p capacity cap r from written)) × Sought p capacity (cap - 1) r from
+Inv-loop p capacity cap cells₀ r₀ written₀ from₀ cells r written from = ((length cells ≡ length cells₀) ×
+    ((written ≤ from * runCells) × Gone p capacity cap r from written)) × Sought p capacity (cap - 1) r from
 
 abbrev μ-loop : tie.MeasureT-loop
 μ-loop p capacity cap cells₀ r₀ written₀ from₀ cells r written from = 16 - from
@@ -19,6 +20,13 @@ abbrev μ-loop : tie.MeasureT-loop
 -- what is not found is not found
 never : false ≡ true → ⊥
 never e = let z : _≡_ {A = ℕ} 0 1 = cc in omega arith
+
+-- from a run, back to the turn of the loop that makes it; from the loop, back to the start
+abbrev turn : tie.After-run-over Inv-loop μ-loop → tie.In-loop Inv-loop μ-loop
+turn ro = ro .before .before
+
+abbrev start : tie.At-loop Inv-loop μ-loop → tie.Start Inv-loop μ-loop
+start w = w .before .before .before
 
 whole-of-requires : tie.Need-whole-of-requires Inv-loop μ-loop
 whole-of-requires c κs = search needs
@@ -32,18 +40,17 @@ loop-holds c = let s = c .before .before in (
 
 run-over-requires : tie.Need-run-over-requires Inv-loop μ-loop
 run-over-requires c κs =
-    let h = c .before .before .before in
-    let s = h .before .before in
-    let l = c .before .before .loop in
+    let w = c .before .before in
+    let s = start w in
+    let l = w .loop in
     let x = s .pre .0 in
     ((x .0, (l .inv .1 .among, (l .inv .1 .inside, (omega arith, x .1 .1 .0)))), omega (arith, l .inv .0 .0, s .pre .1))
 
 add-written : tie.Need-add-written Inv-loop μ-loop
 add-written c =
-    let h = c .before .before .before in
-    let w = h .before .before .before in
-    let l = w .loop in
-    let n = h .run-over in
+    let ro = c .before .before .before in
+    let l = turn ro .before .loop in
+    let n = ro .run-over in
     omega (arith, l .inv .0 .1 .0, n .ensures .0 .few, l .inv .1 .inside)
 
 same-length : tie.Need-same-length Inv-loop μ-loop
@@ -53,15 +60,16 @@ returns : tie.Need-returns Inv-loop μ-loop
 returns c =
     let h = c .before .before .before in
     let ro = h .before .before .before in
-    let t = ro .before .before in
+    let t = turn ro in
     let w = t .before in
-    let s = w .before .before .before in
+    let s = start w in
     let l = w .loop in
     let n = ro .run-over in
     let x = s .pre .0 in
     record {
       few = omega (arith, l .inv .0 .1 .0, n .ensures .0 .few, t .loop-test .taken);
-      writes = lacking (l .r) (l .from) (l .written) (n .result) (l .inv .0 .1 .1) (t .loop-test .taken) (n .ensures .0) (n .ensures .1) (c .before .if1 .taken);
+      writes = lacking (l .r) (l .from) (l .written) (n .result) (l .inv .0 .1 .1) (t .loop-test .taken) (n .ensures .0) (n .ensures .1)
+          (c .before .if1 .taken);
       found = λ e. absurd (never e);
       none = λ e. sought-none (s .args .p) (s .args .capacity) (s .args .cap) (x .0 .long) (x .1 .0) (x .1 .1 .1 .1) (l .r) (l .from) (l .inv .1) (n .result)
           (n .ensures .0) (c .before .if1 .taken);
@@ -71,9 +79,9 @@ loop-less : tie.Need-loop-less Inv-loop μ-loop
 loop-less c =
     let h = c .before .before .before in
     let ro = h .before .before .before in
-    let t = ro .before .before in
+    let t = turn ro in
     let w = t .before in
-    let s = w .before .before .before in
+    let s = start w in
     let l = w .loop in
     let n = ro .run-over in
     let x = s .pre .0 in
@@ -88,9 +96,9 @@ loop-again : tie.Need-loop-again Inv-loop μ-loop
 loop-again c =
     let h = c .before .before .before in
     let ro = h .before .before .before in
-    let t = ro .before .before in
+    let t = turn ro in
     let w = t .before in
-    let s = w .before .before .before in
+    let s = start w in
     let l = w .loop in
     let n = ro .run-over in
     let x = s .pre .0 in
@@ -112,9 +120,9 @@ same-length-2 c = c .before .before .loop .inv .0 .0
 
 returns-2 : tie.Need-returns-2 Inv-loop μ-loop
 returns-2 c =
-    let h = c .before .before .before in
-    let s = h .before .before in
-    let l = c .before .before .loop in
+    let w = c .before .before in
+    let s = start w in
+    let l = w .loop in
     let x = s .pre .0 in
     record {
       few = omega (arith, l .inv .0 .1 .0, l .inv .1 .inside);
