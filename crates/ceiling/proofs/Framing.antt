@@ -41,7 +41,7 @@ use Rattle.ceiling.specs.Loss.{scoreOf, goodOf, valueOf, weighOf, topOf,
 use Rattle.ceiling.specs.Sizes.{Modest, Cut, Narrow, Spanned}
 use Rattle.ceiling.specs.Frames.{Altered, wholeAt, cutOf, scaleOf, frameBy, frameLo, frameHi, frameEndBy, Framed, Usable, Loses, FrameBound, Unmarked}
 use Rattle.ceiling.specs.Frames.{FrameEnds, FrameFloor, FrameAttained, Counted, Ranked, Ready, Ceiling}
-use Rattle.ceiling.specs.Least.{FirstPoint, IsFrame, Same, AtFrame, Lowered, Considered, Found, LeastLoss, FirstIn}
+use Rattle.ceiling.specs.Least.{FirstPoint, IsFrame, Same, AtFrame, Lowered, Considered, Found, Gone, begun, onward, some, none, LeastLoss, FirstIn}
 use Rattle.ceiling.specs.Pieces.{amountOf, wholeOf}
 use Rattle.ceiling.proofs.Loss.{good-above}
 use Rattle.ceiling.proofs.Lists.{altered-within}
@@ -236,7 +236,7 @@ cut-is c t z o = go (ltb t (c .live)) refl
 
 -- ---- what the frame itself loses, against the cap
 
-pub past : (cap E d : ℕ) → 1 ≤ E → cap / E < d → cap ≤ E * d + 0
+pub past : (cap E d : ℕ) → 1 ≤ E → cap / E < d → cap < E * d
 past cap E d h k = omega (arith, lt-div-mul-add {a = cap} {b = E} h, mul-le-mul-right E k)
 
 pub still : (cap E d : ℕ) → 1 ≤ E → (cap / E < d → ⊥) → E * d ≤ cap
@@ -602,6 +602,7 @@ pub record Sofar (p q : ℕ) (c : Columns) (e : Ends) (w : List Bool) (known : L
   pub exact : Exact p q c e w known b
   pub latest : b .any ≡ true → (u : ℕ) × Latest c e w t u
   pub few : b .written ≤ t * runCells
+  pub gone : Gone p q c e w known t b
 
 pub sofar-first : (p q : ℕ) (c : Columns) (e : Ends) (w : List Bool) (known : Lost) → Counted (known .num) (known .den) →
     Sofar p q c e w known 0 (record { lost = known; found = false; at = 0; any = false; written = 0 })
@@ -611,6 +612,7 @@ sofar-first p q c e w known k = record {
   exact = inl (refl, refl);
   latest = λ h. absurd (impossible h);
   few = omega arith;
+  gone = begun;
 }
 
 -- a frame that is found stays found while the loss stays
@@ -637,6 +639,7 @@ module _ {p q : ℕ} {c : Columns} {e : Ends} {w : List Bool} {known : Lost} {t 
     exact = exact (k .exact);
     latest = λ i. latest i (k .any);
     few = omega (arith, k .few, h .few);
+    gone = onward t b r (h .gone) k;
   }
     where
       bounds : (s : ℕ) → s < t + 1 → Usable c e w s → Dec (s ≡ t) → FrameBound p q c e w (r .lost .num) (r .lost .den) s
@@ -670,20 +673,23 @@ module _ {p q : ℕ} {c : Columns} {e : Ends} {w : List Bool} {known : Lost} {t 
         (h .bounds (v .0) (v .1 .before) (v .1 .usable)));
     exact = h .exact;
     few = omega (arith, h .few, z .live-few);
+    writes = some b (subst (λ m. Gone p q c e w known m b) i (h .gone)) any;
   }
     where
       v : (u : ℕ) × Latest c e w t u
       v = h .latest any
 
   -- the last frame
-  pub sofar-done : (r : Least) → t ≡ c .live → SizedColumns c → Ordered c → InOrder c e → Lowered p q c e w (c .live) b r → LeastLoss p q c e w known r
-  sofar-done r i z o ord l = record {
+  pub sofar-done : (r : Least) → t ≡ c .live → SizedColumns c → Ordered c → InOrder c e → b .any ≡ false → Lowered p q c e w (c .live) b r →
+      LeastLoss p q c e w known r
+  sofar-done r i z o ord unused l = record {
     counted = l .counted;
     ceiling = ceiling-of p q c e w (r .lost .num) (r .lost .den) o ord (z .few)
         (λ s m u. bound-lower p q c e w s (b .lost .num) (b .lost .den) (r .lost .num) (r .lost .den) (h .counted .some) (l .lower)
         (h .bounds s (omega arith) u)) (l .bound);
     exact = exact (l .exact);
     few = omega (arith, l .few, h .few, z .live-few);
+    writes = none b r (subst (λ m. Gone p q c e w known m b) i (h .gone)) unused l;
   }
     where
       exact : Same b r ⊎ AtFrame p q c e w (c .live) r → Exact p q c e w known r

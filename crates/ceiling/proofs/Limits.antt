@@ -33,7 +33,7 @@ use Rattle.ceiling.specs.declared.Lost.{Lost}
 use Rattle.ceiling.specs.Loss.{topOf}
 use Rattle.ceiling.specs.Frames.{wholeAt, Marked, Unmarked, Counted, Levelled}
 use Rattle.ceiling.specs.Least.{Found, LeastLoss}
-use Rattle.ceiling.specs.Bound.{PartLoss, KnownLoss, KnownBy, BestFrame, Bounded}
+use Rattle.ceiling.specs.Bound.{Priced, PartLoss, KnownLoss, KnownBy, BestFrame, Bounded}
 use Rattle.ceiling.proofs.Covering.{at-most}
 use Rattle.ceiling.proofs.Shallow.{Shallow, too-deep}
 
@@ -97,15 +97,16 @@ same-value s top q n d v h e i m D N d≥1 f = times-≤-back q _ _ h
     right = split2 _ (λ a b c e. simp zed (omega arith))
 
 -- the exact loss of a value, or the deepest one, which is not the least
-pub bounded-made : (p q : ℕ) (c : Columns) (e : Ends) (w : List Bool) (known : Bool) (v : Mixed) (k : Known) (top : ℤ) (r : Least) → p ≤ 10000 → q ≤ 1000 →
-    1 ≤ q → top ≡ topOf p q c e → Within 100000000000000000 top
+pub bounded-made : (p q : ℕ) (c : Columns) (e : Ends) (w : List Bool) (known : Bool) (v : Mixed) (k : Known) (top : ℤ) (r : Least) →
+    Priced c e (record { p = p; q = q }) → top ≡ topOf p q c e → Within 100000000000000000 top
     → KnownBy top q known (v .whole) (v .part) (v .parts) k → LeastLoss p q c e w (k .lost) r → Shallow p q c e
     → Bounded c e w known v (record { top = top; p = p; q = q; lost = r .lost; found = r .found; at = r .at; written = r .written })
-bounded-made p q c e w known v k top r p-in q-in q≥1 t top-in h l low = record {
+bounded-made p q c e w known v k top r price t top-in h l low = record {
   few = l .few;
-  p-in = p-in;
-  q-in = q-in;
-  q≥1 = q≥1;
+  writes = record { priced = price; from = k; known-by = h; frames = l .writes };
+  p-in = price .p-in;
+  q-in = price .q-in;
+  q≥1 = price .q≥1;
   top-is = t;
   top-in = top-in;
   most = most;
@@ -131,7 +132,7 @@ bounded-made p q c e w known v k top r p-in q-in q≥1 t top-in h l low = record
         go : (x : Bool) → k .exact ≡ x → (known ≡ true) × ((marks : ℕ → Mark) → Marked c w marks → AtMost (boxOf c e marks) (over v) (v .parts))
         go true y = (
           h .told y,
-          λ marks m. same-value (boxOf c e marks) top q (r .lost .num) (r .lost .den) v q≥1 (den-is ∙ h .loss .parts-are y)
+          λ marks m. same-value (boxOf c e marks) top q (r .lost .num) (r .lost .den) v (price .q≥1) (den-is ∙ h .loss .parts-are y)
               (ap pos num-is ∙ h .loss .num-is y) (most marks m),
         )
         go false y = absurd (too-deep p q c e w low (r .lost .num) (r .lost .den) (num-is ∙ h .loss .deep y .0) (den-is ∙ h .loss .deep y .1) (l .ceiling))

@@ -3,6 +3,7 @@
 --   PartLoss n q part parts k    where k is exact, it is n less q * part / parts
 --   KnownLoss top q whole part parts k   where k is exact, it is what the value whole + part / parts loses
 --   KnownBy top q known whole part parts k   the same, where the value is known
+--   BoundWrites c e w known v r  r tells the cells that are written for all frames, at the critical item's price, from what v loses on
 --   BestFrame c e w r       the bound is the value of a point of frame `at`
 --   Bounded c e w known v r      no value of the box is above (top - num / den) / q, and one is just that: v, or that of a point of frame `at`
 use mathlib.Core.Path.{_≡_}
@@ -24,6 +25,7 @@ use Rattle.greedy.proofs.Relaxed.{boxOf}
 use Rattle.ceiling.specs.declared.Price.{Price}
 use Rattle.ceiling.specs.declared.Known.{Known}
 use Rattle.ceiling.specs.declared.Limit.{Limit}
+use Rattle.ceiling.specs.Least.{LossWrites}
 use Rattle.ceiling.specs.Loss.{topOf}
 use Rattle.ceiling.specs.Frames.{wholeAt, scaleOf, Marked, FrameFloor, FrameAttained, Counted}
 
@@ -51,6 +53,12 @@ pub record KnownBy (top : ℤ) (q : ℕ) (known : Bool) (whole : ℤ) (part part
   pub loss : KnownLoss top q whole part parts k
   pub told : k .exact ≡ true → known ≡ true
 
+pub record BoundWrites (c : Columns) (e : Ends) (w : List Bool) (known : Bool) (v : Mixed) (r : Limit) : Type 0 where
+  pub priced : Priced c e (record { p = r .p; q = r .q })
+  pub from : Known
+  pub known-by : KnownBy (r .top) (r .q) known (v .whole) (v .part) (v .parts) from
+  pub frames : LossWrites (r .p) (r .q) c e w (from .lost) (r .written)
+
 -- the best point is one of frame `at`, which cuts no whole item
 pub record BestFrame (c : Columns) (e : Ends) (w : List Bool) (r : Limit) : Type 0 where
   pub at-in : r .at ≤ c .live
@@ -62,6 +70,7 @@ pub record BestFrame (c : Columns) (e : Ends) (w : List Bool) (r : Limit) : Type
 
 pub record Bounded (c : Columns) (e : Ends) (w : List Bool) (known : Bool) (v : Mixed) (r : Limit) : Type 0 where
   pub few : r .written ≤ 17 * runCells
+  pub writes : BoundWrites c e w known v r
   pub p-in : r .p ≤ 10000
   pub q-in : r .q ≤ 1000
   pub q≥1 : 1 ≤ r .q

@@ -18,18 +18,24 @@
 --   LeastKeyed p r ..          the least cost with keys
 --   Decodes p r f g key r′     the ranges r′ have the group fixed at the digits of the key
 --   Runs p r C cap f e n       what a run from part f on, to e at most, finds
+--   ScalesWrite p r K n        the scales write n cells for the parts within r and the capacity K, whatever a unit costs
+--   RunWrites p r C cap n      a run over r writes n cells: those of the scales within the narrowed ranges, or none where nothing is left to look for
 --   Whole p r                  the ranges of all amounts
+--   WholeWrites p C cap n      the run over all amounts writes n cells
 --   Keyable p cap              each part's keys fit costs up to cap
+--   Gone p C cap r f w         runs, each from where the one before it ended, have come to part f and the ranges r, and have written w cells
+--   FirstWrites p C cap n      such runs, to the last part or to one that finds nothing, write n cells
 --   FirstAt p C c a            a shows the first of the fillings that cost c
 --   FirstOf p C cap r          r shows it for c = cap - 1, or says that nothing costs less than cap
 use mathlib.Core.Path.{_≡_}
 use mathlib.Core.Bool.{Bool, true, false, cond}
 use mathlib.Core.List.{List}
-use mathlib.Core.Logic.{_⊎_}
+use mathlib.Core.Logic.{_⊎_, _≢_}
 use Prim.Native.Nat.{ℕ, suc, _+_, _-_, _*_, _^_, _≤_, _<_, min}
 use lib.Dec.{ltb}
 use lib.ListN.{length}
 use Rattle.scales.specs.declared.Cost.{Cost}
+use Rattle.scales.specs.Counts.{Takes}
 use Rattle.scales.specs.Filling.{load, cost, Within, itemsOf, Least}
 use Rattle.fillings.specs.declared.Parts.{Parts}
 use Rattle.fillings.specs.declared.Ranges.{Ranges}
@@ -37,7 +43,7 @@ use Rattle.fillings.specs.declared.Group.{Group}
 use Rattle.fillings.specs.declared.Run.{Run}
 use Rattle.fillings.specs.declared.First.{First}
 use Rattle.fillings.specs.Keys.{keys, digits, radix}
-use Rattle.fillings.specs.Ranges.{num, flag, itemsIn, Inside, Among, offsetOf, Made, Fair}
+use Rattle.fillings.specs.Ranges.{num, flag, itemsIn, Inside, Among, offsetOf, Made, Narrows, Fair}
 
 pub record Grouped (wide : List ℕ) (f e left : ℕ) (g : Group) : Type 0 where
   pub from : f ≤ g .to
@@ -132,6 +138,7 @@ pub record LeastKeyed (p : Parts) (r : Ranges) (f left room : ℕ) (g : Group) (
   pub takens : Made 17 (keyedTaken p (left * g .base) left (g .base) rad) ts
   pub lefts : Made 17 (keyedLeft p (left * g .base) left (g .base) rad) ls
   pub least : Least (left * g .base) (itemsOf (p .weight) (r .wide) ts ls) room (c .least)
+  pub takes : Takes (left * g .base) (itemsOf (p .weight) (r .wide) ts ls) room (c .written)
 
 -- the ranges with a group fixed at the digits of a key
 pub record Decodes (p : Parts) (r : Ranges) (f : ℕ) (g : Group) (key : ℕ) (r′ : Ranges) : Type 0 where
@@ -151,10 +158,41 @@ pub record Runs (p : Parts) (r : Ranges) (C cap f e : ℕ) (n : Run) : Type 0 wh
   pub end : (f ≤ n .to) × (f ≤ e → n .to ≤ e)
   pub some : n .cost < cap → f < e → cap * suc (num (r .wide) f) < 2 ^ 63 → f < n .to
 
+-- ---- what is written
+
+-- the costs of a unit, taken or left, change which cells hold what, not how many there are
+pub record ScalesWrite (p : Parts) (r : Ranges) (K n : ℕ) : Type 0 where
+  pub top : ℕ
+  pub ts : List ℕ
+  pub ls : List ℕ
+  pub takes : Takes top (itemsOf (p .weight) (r .wide) ts ls) K n
+
+pub data RunWrites (p : Parts) (r : Ranges) (C cap : ℕ) : ℕ → Type 0 where
+  costly : cap ≤ offsetOf p r → RunWrites p r C cap 0
+  heavy : (r′ : Ranges) → offsetOf p r < cap → Narrows p (cap - offsetOf p r) r r′ → C < load (itemsIn p) (num (r′ .low)) → RunWrites p r C cap 0
+  scaled : (r′ : Ranges) (K n : ℕ) → offsetOf p r < cap → Narrows p (cap - offsetOf p r) r r′ → load (itemsIn p) (num (r′ .low)) + K ≡ C →
+      ScalesWrite p r′ K n → RunWrites p r C cap n
+
 -- all amounts
 pub record Whole (p : Parts) (r : Ranges) : Type 0 where
   pub none : (j : ℕ) → num (r .low) j ≡ 0
   pub all : r .wide ≡ p .range
+
+pub record WholeWrites (p : Parts) (C cap n : ℕ) : Type 0 where
+  pub few : n ≤ runCells
+  pub ranges : Ranges
+  pub all : Whole p ranges
+  pub run : RunWrites p ranges C cap n
+
+pub data Gone (p : Parts) (C cap : ℕ) : Ranges → ℕ → ℕ → Type 0 where
+  begun : (r : Ranges) → Whole p r → Gone p C cap r 0 0
+  onward : (r : Ranges) (f w : ℕ) (n : Run) → Gone p C cap r f w → f < 16 → Runs p r C cap f 16 n → RunWrites p r C cap (n .written) → n .cost ≢ cap →
+      Gone p C cap (n .ranges) (n .to) (w + n .written)
+
+pub data FirstWrites (p : Parts) (C cap : ℕ) : ℕ → Type 0 where
+  found : (r : Ranges) (f w : ℕ) → Gone p C cap r f w → 16 ≤ f → FirstWrites p C cap w
+  lacking : (r : Ranges) (f w : ℕ) (n : Run) → Gone p C cap r f w → f < 16 → Runs p r C cap f 16 n → RunWrites p r C cap (n .written) → n .cost ≡ cap →
+      FirstWrites p C cap (w + n .written)
 
 -- every part has so few amounts that costs up to cap have room for their keys
 abbrev pub Keyable : Parts → ℕ → Type 0
@@ -171,5 +209,6 @@ pub record FirstAt (p : Parts) (C c : ℕ) (a : List ℕ) : Type 0 where
 
 pub record FirstOf (p : Parts) (C cap : ℕ) (r : First) : Type 0 where
   pub few : r .written ≤ 16 * runCells
+  pub writes : FirstWrites p C cap (r .written)
   pub found : r .found ≡ true → FirstAt p C (cap - 1) (r .amounts)
   pub none : r .found ≡ false → (y : ℕ → ℕ) → Within (itemsIn p) y → Fills p C y → cap ≤ cost (itemsIn p) y

@@ -11,8 +11,8 @@ ghost use Rattle.fillings.specs.Keys.{keys, digits, radix};
 ghost use Rattle.fillings.specs.Ranges.{num, flag, itemsIn, Among, offsetAt, offsetOf, boxed, nearWide, nearLow};
 ghost use Rattle.fillings.specs.Ranges.{nearWideOf, nearLowOf, Made, Narrows, Fair};
 ghost use Rattle.fillings.specs.Runs.{Grouped, Gathers, inGroup, keyedBy, takenKey, leftKey, keyedTaken, keyedLeft};
-ghost use Rattle.fillings.specs.Runs.{fixedLow, fixedWide, Fixable, Fixes, runCells, Begins, LeastKeyed, Decodes, Runs};
-ghost use Rattle.fillings.specs.Runs.{Whole, Keyable, FirstOf};
+ghost use Rattle.fillings.specs.Runs.{fixedLow, fixedWide, Fixable, Fixes, Begins, LeastKeyed, Decodes, Runs};
+ghost use Rattle.fillings.specs.Runs.{ScalesWrite, RunWrites, Whole, WholeWrites, Keyable, FirstOf};
 
 // The parts of a load, and for each whether its amount falls where more of it is taken.
 pub struct Parts {
@@ -467,6 +467,7 @@ fn keyed_run(
     requires { ⌜ Begins p r capacity cap from end left room ⌝ }
     requires { ⌜ 65535 ≤ length (now cells) ⌝ }
     ensures { λ n. ⌜ Runs p r capacity cap from end n ⌝ }
+    ensures { λ n. ⌜ ScalesWrite p r room (n .written) ⌝ }
 {
     let wide = r.wide;
     let g = group_of(wide, from, end, left);
@@ -498,6 +499,7 @@ fn run_over(
     requires { ⌜ Fair p × (Among p r × ((from ≤ end) × ((end ≤ 16) × (cap < 2 ^ 63)))) ⌝ }
     requires { ⌜ 65535 ≤ length (now cells) ⌝ }
     ensures { λ n. ⌜ Runs p r capacity cap from end n ⌝ }
+    ensures { λ n. ⌜ RunWrites p r capacity cap (n .written) ⌝ }
 {
     let left = remaining(p, r, cap);
     if left == 0 {
@@ -526,7 +528,7 @@ fn whole_of(p: Parts) -> Ranges
 pub fn least_filling(p: Parts, capacity: u64, cap: u64, cells: &mut [u64]) -> Cost
     requires { ⌜ Fair p × (cap < 2 ^ 63) ⌝ }
     requires { ⌜ 65535 ≤ length (now cells) ⌝ }
-    ensures { λ r. ⌜ Least cap (itemsIn p) capacity (r .least) × (r .written ≤ runCells) ⌝ }
+    ensures { λ r. ⌜ Least cap (itemsIn p) capacity (r .least) × WholeWrites p capacity cap (r .written) ⌝ }
 {
     let r = whole_of(p);
     let n = run_over(p, r, capacity, cap, 0, 0, cells);

@@ -59,7 +59,7 @@ returns c =
     (pr .ensures .p-in) (pr .ensures .q-in) (pr .ensures .q≥1) in
     rw (within-back tt (t .ensures .1)) (bounded-made (pr .result .p) (pr .result .q) (a .cols) (a .ends) (a .whole) (a .known) (a .value)
     (k .result) (t .result) (r .result)
-    (pr .ensures .p-in) (pr .ensures .q-in) (pr .ensures .q≥1) (t .ensures .0) (t .ensures .1)
+    (pr .ensures) (t .ensures .0) (t .ensures .1)
     (rw (back (a .value .whole) (st .struct-told .given .0 .1), within-back tt (t .ensures .1)) at (k .ensures)) (r .ensures) low)
 
 pub ceiling-spec : {M : Type 1} → statement M

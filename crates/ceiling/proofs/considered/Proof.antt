@@ -29,7 +29,15 @@ returns c =
     let s = iu .before .before in
     let r = c .before .before .lowered .ensures in
     let u = iu .is-usable .ensures .1 (i .if1 .taken) in
-    record { counted = r .counted; lower = r .lower; bound = λ v. r .bound; exact = with-use u (r .exact); any = inl (u, r .any); few = r .few }
+    record {
+      counted = r .counted;
+      lower = r .lower;
+      bound = λ v. r .bound;
+      exact = with-use u (r .exact);
+      any = inl (u, r .any);
+      few = r .few;
+      writes = inl (u, r .writes);
+    }
   where
     with-use : {A B C : Type 0} → B → A ⊎ C → A ⊎ (B × C)
     with-use b (inl a) = inl a
@@ -46,6 +54,7 @@ returns-2 c =
       exact = inl (refl, (refl, refl));
       any = inr (no, refl);
       few = omega arith;
+      writes = inr (no, refl);
     }
 
 pub considered-spec : {M : Type 1} → statement M

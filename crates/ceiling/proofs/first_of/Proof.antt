@@ -10,6 +10,7 @@ use Rattle.scales.specs.Filling.{Bounds}
 use Rattle.fillings.specs.Ranges.{itemsIn}
 use Rattle.fillings.specs.Runs.{FirstAt}
 use Rattle.arith.proofs.Parts.{impossible}
+use Rattle.ceiling.specs.Least.{fit, unfit}
 use Rattle.ceiling.proofs.Lists.{pieces-fair, pieces-keyable, listing-items}
 use Rattle.ceiling.proofs.Order.{floor-bounds, first-none, first-point}
 use Rattle.ceiling.proofs.Rooms.{roomless}
@@ -22,6 +23,13 @@ use Rattle.fillings.proofs.first_filling.Reads as first-filling-reads
 above : (n : ℕ) (x : ℤ) → pos (n + 1) ≤ℤ x → pos n <ℤ x
 above n = split _ (λ a b. simp zed (omega arith))
 
+-- from the pieces, back to their room and to the start
+abbrev rooms : tie.After-pieces-of → tie.After-room-of
+rooms m = m .before .before
+
+abbrev start : tie.After-pieces-of → tie.Start
+start m = m .before .before .before .before
+
 room-of-requires : tie.Need-room-of-requires
 room-of-requires c κs = search needs
 
@@ -33,11 +41,10 @@ add-first-filling c = search needs
 
 first-filling-requires : tie.Need-first-filling-requires
 first-filling-requires c κs =
-    let h = c .before .before .before in
-    let s = h .before .before in
+    let s = start (c .before) in
     let a = s .args in
     let z = s .pre .0 in
-    let m = h .room-of in
+    let m = rooms (c .before) .room-of in
     let fits = c .before .before .if1 .taken in
     let ps = c .before .pieces-of in
     let bound = floor-bounds (a .p) (a .q) (a .cols) (a .ends) (a .scale) (a .cut) (z .0 .columns .few) (z .1 .0 .scale≥1) (z .1 .1 .0) (z .1 .1 .1)
@@ -60,20 +67,19 @@ same-length c = search needs
 
 returns : tie.Need-returns
 returns c =
-    let g = c .before .before .before in
-    let po = g .before in
-    let e = po .before in
-    let ro = e .before in
-    let s = ro .before .before in
+    let l = c .before .before in
+    let po = l .before .before in
+    let s = start po in
     let a = s .args in
     let z = s .pre .0 in
-    let m = ro .room-of in
-    let fits = e .if1 .taken in
+    let m = rooms po .room-of in
+    let fits = po .before .if1 .taken in
     let ps = po .pieces-of in
-    let r = c .before .before .first-filling in
+    let r = l .first-filling in
     let same : (a .r + 1) - 1 ≡ a .r = omega arith in
     record {
       few = r .ensures .few;
+      writes = fit (m .result .left) (r .result .written) (ps .result) (m .ensures .left-is fits) (ps .ensures) (r .ensures .writes);
       found = λ i. first-point (a .p) (a .q) (a .cols) (a .ends) (a .scale) (a .cut) (z .0 .columns .few) (z .1 .0 .scale≥1) (z .1 .1 .0) (z .1 .1 .1)
           (m .result .left) (m .ensures .left-is fits) (ps .result) (ps .ensures) (a .r) (r .result)
           (subst (λ n. FirstAt (ps .result) (m .result .left) n (r .result .amounts)) same (r .ensures .found i));
@@ -98,6 +104,7 @@ returns-2 c =
     let n = c .nowhere .ensures in
     record {
       few = omega (arith, n .1);
+      writes = rw (n .1) (unfit (c .before .before .room-of .ensures .none (c .before .if1 .left)));
       found = λ i. absurd (impossible (sym (n .0) ∙ i));
       small = λ i. absurd (impossible (sym (n .0) ∙ i));
       none = λ i M pt. above (a .r) _ (roomless (a .p) (a .q) (a .cols) (a .ends) (a .scale) (a .cut) (a .r + 1) (s .pre .0 .1 .0 .scale≥1)

@@ -2,6 +2,7 @@
 use borrow.Author.Needs.{needs}
 use native.Mathlib.Omega.{arith}
 use mathlib.Core.Path.{sym, _∙_}
+use Rattle.ceiling.specs.Least.{fit, unfit}
 use Rattle.ceiling.proofs.Lists.{pieces-fair}
 use Rattle.ceiling.proofs.Bounded.{bounds-loss}
 use Rattle.ceiling.proofs.Attained.{attained}
@@ -9,6 +10,13 @@ use Rattle.ceiling.proofs.Rooms.{roomless}
 use Rattle.ceiling.proofs.floor_of.Statement.{statement}
 use Rattle.ceiling.proofs.floor_of.Tie as tie
 use Rattle.fillings.proofs.least_filling.Reads as least-filling-reads
+
+-- from the pieces, back to their room and to the start
+abbrev rooms : tie.After-pieces-of → tie.After-room-of
+rooms m = m .before .before
+
+abbrev start : tie.After-pieces-of → tie.Start
+start m = m .before .before .before .before
 
 room-of-requires : tie.Need-room-of-requires
 room-of-requires c κs = search needs
@@ -18,9 +26,8 @@ pieces-of-requires c κs = search needs
 
 least-filling-requires : tie.Need-least-filling-requires
 least-filling-requires c κs =
-    let h = c .before .before .before in
-    let s = h .before .before in
-    let r = h .room-of .ensures in
+    let s = start (c .before) in
+    let r = rooms (c .before) .room-of .ensures in
     ((pieces-fair (c .before .pieces-of .ensures) (s .pre .0 .0) (s .pre .0 .1 .0 .scale-in) (r .small), omega (arith, s .pre .1 .cap-in)), s .pre .1 .long)
 
 same-length : tie.Need-same-length
@@ -28,19 +35,17 @@ same-length c = search needs
 
 returns : tie.Need-returns
 returns c =
-    let h = c .before .before .before in
-    let po = h .before in
-    let g = po .before in
-    let ro = g .before in
-    let s = ro .before .before in
-    let a = s .args in
-    let z = s .pre .0 in
-    let m = ro .room-of in
-    let fits = g .if1 .taken in
+    let l = c .before .before in
+    let po = l .before .before in
+    let a = start po .args in
+    let z = start po .pre .0 in
+    let m = rooms po .room-of in
+    let fits = po .before .if1 .taken in
     let ps = po .pieces-of in
-    let r = c .before .before .least-filling in
+    let r = l .least-filling in
     record {
-      few = r .ensures .1;
+      few = r .ensures .1 .few;
+      writes = fit (m .result .left) (r .result .written) (ps .result) (m .ensures .left-is fits) (ps .ensures) (r .ensures .1);
       capped = r .ensures .0 .capped;
       floor = record {
         floor = λ N pt. bounds-loss (a .p) (a .q) (a .cols) (a .ends) (a .scale) (a .cut) (z .0 .columns .few) (z .1 .0 .scale≥1) (z .1 .1 .0) N
@@ -56,6 +61,7 @@ returns-2 c =
     let a = s .args in
     record {
       few = omega arith;
+      writes = unfit (c .before .room-of .ensures .none (c .if1 .left));
       capped = omega arith;
       floor = roomless (a .p) (a .q) (a .cols) (a .ends) (a .scale) (a .cut) (a .cap) (s .pre .0 .1 .0 .scale≥1)
           (c .before .room-of .ensures .none (c .if1 .left));

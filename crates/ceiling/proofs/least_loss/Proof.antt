@@ -18,6 +18,13 @@ Inv-loop cols ends whole p q cells₀ top n best₀ t₀ cells best t = (t ≤ n
 abbrev μ-loop : tie.MeasureT-loop
 μ-loop cols ends whole p q cells₀ top n best₀ t₀ cells best t = n - t
 
+-- from the loop, back to the top and to the start
+abbrev topped : tie.At-loop Inv-loop μ-loop → tie.After-top-of Inv-loop μ-loop
+topped w = w .before .before
+
+abbrev start : tie.At-loop Inv-loop μ-loop → tie.Start Inv-loop μ-loop
+start w = w .before .before .before .before
+
 top-of-requires : tie.Need-top-of-requires Inv-loop μ-loop
 top-of-requires c κs = let s = c .before in (s .pre .0 .sized, (s .pre .0 .p-in, s .pre .0 .q-in))
 
@@ -38,11 +45,10 @@ loop-holds c =
 
 considered-requires : tie.Need-considered-requires Inv-loop μ-loop
 considered-requires c κs =
-    let h = c .before .before .before in
-    let to = h .before in
-    let s = to .before .before in
-    let l = c .before .before .loop in
-    let t = to .top-of in
+    let w = c .before .before in
+    let s = start w in
+    let l = w .loop in
+    let t = topped w .top-of in
     rw (within-back tt (t .ensures .1)) (
       (s .pre .0, (t .ensures .0, (t .ensures .1, c .before .loop-test .taken))),
       (
@@ -58,9 +64,7 @@ add-t : tie.Need-add-t Inv-loop μ-loop
 add-t c =
     let h = c .before .before .before in
     let t = h .before in
-    let g = t .before .before .before in
-    let s = g .before .before in
-    omega (arith, t .loop-test .taken, s .pre .0 .sized .columns .live-few)
+    omega (arith, t .loop-test .taken, start (t .before) .pre .0 .sized .columns .live-few)
 
 loop-less : tie.Need-loop-less Inv-loop μ-loop
 loop-less c =
@@ -82,23 +86,22 @@ same-length c = c .before .before .loop .inv .1 .0
 
 returns : tie.Need-returns Inv-loop μ-loop
 returns c =
-    let h = c .before .before .before in
-    let s = h .before .before .before in
+    let w = c .before .before in
+    let s = start w in
     let a = s .args in
-    let l = c .before .before .loop in
+    let l = w .loop in
     let z = s .pre .0 in
     let t : l .t ≡ a .cols .live = omega (arith, c .before .loop-test .left, l .inv .0) in
-    let known = ap (λ (b : Least). b .lost) (h .unlowered .ensures) in
+    let known = ap (λ (b : Least). b .lost) (w .before .unlowered .ensures) in
     subst (λ k. LeastLoss (a .p) (a .q) (a .cols) (a .ends) (a .whole) k (l .best)) known
     (sofar-any (l .inv .1 .1) t (z .sized .columns) (s .pre .1 .1 .1) (z .in-order) (c .if1 .taken))
 
 lowered-requires : tie.Need-lowered-requires Inv-loop μ-loop
 lowered-requires c κs =
-    let h = c .before .before .before in
-    let to = h .before .before in
-    let s = to .before .before in
-    let l = h .loop in
-    let t = to .top-of in
+    let w = c .before .before .before in
+    let s = start w in
+    let l = w .loop in
+    let t = topped w .top-of in
     rw (within-back tt (t .ensures .1)) (
       (s .pre .0, (t .ensures .0, t .ensures .1)),
       (l .inv .1 .1 .counted, (omega (arith, l .inv .1 .1 .few, l .inv .0, s .pre .0 .sized .columns .live-few), omega (arith, l .inv .1 .0, s .pre .1 .1 .0))),
@@ -109,19 +112,19 @@ same-length-2 c = search needs
 
 returns-2 : tie.Need-returns-2 Inv-loop μ-loop
 returns-2 c =
-    let h = c .before .before .before in
-    let tested = h .before .before in
+    let m = c .before .before in
+    let unused = m .before .before in
+    let tested = unused .before in
     let w = tested .before in
-    let u = w .before in
-    let s = u .before .before .before in
+    let s = start w in
     let a = s .args in
     let l = w .loop in
     let z = s .pre .0 in
-    let r = c .before .before .lowered in
+    let r = m .lowered in
     let t : l .t ≡ a .cols .live = omega (arith, tested .loop-test .left, l .inv .0) in
-    let known = ap (λ (b : Least). b .lost) (u .unlowered .ensures) in
+    let known = ap (λ (b : Least). b .lost) (w .before .unlowered .ensures) in
     subst (λ k. LeastLoss (a .p) (a .q) (a .cols) (a .ends) (a .whole) k (r .result)) known
-    (sofar-done (l .inv .1 .1) (r .result) t (z .sized .columns) (s .pre .1 .1 .1) (z .in-order) (r .ensures))
+    (sofar-done (l .inv .1 .1) (r .result) t (z .sized .columns) (s .pre .1 .1 .1) (z .in-order) (unused .if1 .left) (r .ensures))
 
 pub least-loss-spec : {M : Type 1} → statement M
 least-loss-spec =

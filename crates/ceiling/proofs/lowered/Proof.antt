@@ -4,14 +4,22 @@ use mathlib.Core.Path.{_≡_, refl, sym, subst}
 use mathlib.Core.Logic.{inl, inr}
 use Prim.Native.Nat.{_+_, _*_, _-_, _/_, _≤_, _<_}
 use Rattle.arith.proofs.Parts.{within-back}
+use Rattle.ceiling.specs.declared.Least.{Least}
 use Rattle.ceiling.specs.Frames.{scaleOf, FrameBound, Counted}
 use Rattle.ceiling.proofs.Framing.{scale-in, cap-small, cap-least, below-cap, lowered-counted, lowered-new, lowered-old}
 use borrow.Author.Needs.{needs}
 use mathlib.Core.Bool.{true}
-use Rattle.ceiling.specs.Least.{Lowered}
+use Rattle.ceiling.specs.Least.{Lowered, byLeast, FrameWrites, LowerWrites}
 use native.Mathlib.Nat.{mul-le-mul}
 use Rattle.ceiling.proofs.lowered.Statement.{statement}
 use Rattle.ceiling.proofs.lowered.Tie as tie
+
+-- from the frame's floor, back to its scale and to the start
+abbrev scaled : tie.After-frame-floor → tie.After-scale-of
+scaled f = f .before .before
+
+abbrev start : tie.After-frame-floor → tie.Start
+start f = f .before .before .before .before
 
 scale-is : (c : tie.After-scale-of) → c .scale-of .result ≡ scaleOf (c .before .before .args .cols) (c .before .before .args .t)
 scale-is c = c .scale-of .ensures
@@ -49,9 +57,21 @@ add-written : tie.Need-add-written
 add-written c =
     let h = c .before .before .before in
     let f = h .before in
-    let g = f .before .before .before in
-    let s = g .before in
+    let s = start f in
     omega (arith, s .pre .1 .1 .0, f .frame-floor .ensures .few)
+
+-- what the frame adds
+more : (f : tie.After-frame-floor) → let a = start f .args in (r : Least) → r .written ≡ a .best .written + f .frame-floor .result .written →
+    LowerWrites (a .p) (a .q) (a .cols) (a .ends) (a .whole) (a .t) (a .best) r
+more f r e =
+    let a = start f .args in
+    let n = f .frame-floor .result .written in
+    record {
+      more = n;
+      frame = subst (λ x. FrameWrites byLeast (a .p) (a .q) (a .cols) (a .ends) (a .whole) (a .t) ((x * a .best .lost .num + (a .best .lost .den - 1))
+          / a .best .lost .den) n) (scale-is (scaled f)) (f .frame-floor .ensures .writes);
+      sum = e;
+    }
 
 same-length : tie.Need-same-length
 same-length c = search needs
@@ -60,13 +80,12 @@ returns : tie.Need-returns
 returns c =
     let h = c .before .before .before in
     let ff = h .before .before .before in
-    let g = ff .before .before in
-    let s = g .before .before in
+    let s = start ff in
     let a = s .args in
     let n = a .best .lost .num in
     let d = a .best .lost .den in
     let f = ff .frame-floor in
-    let i = scale-is (g) in
+    let i = scale-is (scaled ff) in
     let z = scale-in (a .cols) (a .t) (s .pre .0 .0 .sized .columns) in
     let under = subst (λ x. f .result .least < (x * n + (d - 1)) / d) i (c .if1 .taken) in
     let less = below-cap (a .p) (a .q) (a .cols) (a .ends) (a .whole) (a .t) n d (f .result .least) (s .pre .1 .0) (f .ensures .floor) under in
@@ -81,12 +100,13 @@ returns c =
         found = refl;
         at-is = refl;
         den-is = refl;
-        deep = omega (arith, c .if1 .taken, capped (g));
+        deep = omega (arith, c .if1 .taken, capped (scaled ff));
         floor = f .ensures .floor;
         attained = f .ensures .attained (c .if1 .taken);
       });
       any = refl;
       few = omega (arith, f .ensures .few);
+      writes = more ff _ refl;
     })
 
 same-length-2 : tie.Need-same-length-2
@@ -97,13 +117,12 @@ returns-2 c =
     let h = c .before .before .before in
     let g = h .before .before .before in
     let ff = g .before in
-    let e = ff .before .before in
-    let s = e .before .before in
+    let s = start ff in
     let a = s .args in
     let n = a .best .lost .num in
     let d = a .best .lost .den in
     let f = ff .frame-floor in
-    let i = scale-is (e) in
+    let i = scale-is (scaled ff) in
     record {
       counted = s .pre .1 .0;
       lower = omega arith;
@@ -112,6 +131,7 @@ returns-2 c =
       exact = inl (refl, (refl, refl));
       any = refl;
       few = omega (arith, f .ensures .few);
+      writes = more ff _ refl;
     }
 
 pub lowered-spec : {M : Type 1} → statement M

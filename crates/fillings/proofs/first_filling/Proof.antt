@@ -4,15 +4,15 @@ use mathlib.Core.Path.{_≡_, refl, _∙_, sym}
 use mathlib.Core.Bool.{true, false}
 use Prim.Native.Nat.{ℕ, _+_, _-_, _*_, _≤_}
 use lib.ListN.{length}
-use Rattle.fillings.specs.Runs.{runCells}
+use Rattle.fillings.specs.Runs.{runCells, Gone, begun, onward, found, lacking}
 use Rattle.fillings.proofs.Foremost.{Sought, sought-first, sought-none, sought-more, sought-step, sought-done}
 use borrow.Author.Needs.{needs}
 use Rattle.fillings.proofs.first_filling.Statement.{statement}
 use Rattle.fillings.proofs.first_filling.Tie as tie
 
 abbrev Inv-loop : tie.InvT-loop
-Inv-loop p capacity cap cells₀ r₀ written₀ from₀ cells r written from = ((length cells ≡ length cells₀) × (written ≤ from * runCells)) ×
-    Sought p capacity (cap - 1) r from
+Inv-loop p capacity cap cells₀ r₀ written₀ from₀ cells r written from = ((length cells ≡ length cells₀) ×
+    ((written ≤ from * runCells) × Gone p capacity cap r from written)) × Sought p capacity (cap - 1) r from
 
 abbrev μ-loop : tie.MeasureT-loop
 μ-loop p capacity cap cells₀ r₀ written₀ from₀ cells r written from = 16 - from
@@ -21,31 +21,37 @@ abbrev μ-loop : tie.MeasureT-loop
 never : false ≡ true → ⊥
 never e = let z : _≡_ {A = ℕ} 0 1 = cc in omega arith
 
+-- from a run, back to the turn of the loop that makes it; from the loop, back to the start
+abbrev turn : tie.After-run-over Inv-loop μ-loop → tie.In-loop Inv-loop μ-loop
+turn ro = ro .before .before
+
+abbrev start : tie.At-loop Inv-loop μ-loop → tie.Start Inv-loop μ-loop
+start w = w .before .before .before
+
 whole-of-requires : tie.Need-whole-of-requires Inv-loop μ-loop
 whole-of-requires c κs = search needs
 
 loop-holds : tie.Need-loop-holds Inv-loop μ-loop
 loop-holds c = let s = c .before .before in (
-  (refl, omega arith),
+  (refl, (omega arith, begun (c .whole-of .result) (c .whole-of .ensures))),
   sought-first (s .args .p) (s .args .capacity) (s .args .cap) (s .pre .0 .0 .long)
       (s .pre .0 .1 .0) (s .pre .0 .1 .1 .1 .1) (c .whole-of .result) (c .whole-of .ensures),
 )
 
 run-over-requires : tie.Need-run-over-requires Inv-loop μ-loop
 run-over-requires c κs =
-    let h = c .before .before .before in
-    let s = h .before .before in
-    let l = c .before .before .loop in
+    let w = c .before .before in
+    let s = start w in
+    let l = w .loop in
     let x = s .pre .0 in
     ((x .0, (l .inv .1 .among, (l .inv .1 .inside, (omega arith, x .1 .1 .0)))), omega (arith, l .inv .0 .0, s .pre .1))
 
 add-written : tie.Need-add-written Inv-loop μ-loop
 add-written c =
-    let h = c .before .before .before in
-    let w = h .before .before .before in
-    let l = w .loop in
-    let n = h .run-over in
-    omega (arith, l .inv .0 .1, n .ensures .few, l .inv .1 .inside)
+    let ro = c .before .before .before in
+    let l = turn ro .before .loop in
+    let n = ro .run-over in
+    omega (arith, l .inv .0 .1 .0, n .ensures .0 .few, l .inv .1 .inside)
 
 same-length : tie.Need-same-length Inv-loop μ-loop
 same-length c = search needs
@@ -54,26 +60,28 @@ returns : tie.Need-returns Inv-loop μ-loop
 returns c =
     let h = c .before .before .before in
     let ro = h .before .before .before in
-    let t = ro .before .before in
+    let t = turn ro in
     let w = t .before in
-    let s = w .before .before .before in
+    let s = start w in
     let l = w .loop in
     let n = ro .run-over in
     let x = s .pre .0 in
     record {
-      few = omega (arith, l .inv .0 .1, n .ensures .few, t .loop-test .taken);
+      few = omega (arith, l .inv .0 .1 .0, n .ensures .0 .few, t .loop-test .taken);
+      writes = lacking (l .r) (l .from) (l .written) (n .result) (l .inv .0 .1 .1) (t .loop-test .taken) (n .ensures .0) (n .ensures .1)
+          (c .before .if1 .taken);
       found = λ e. absurd (never e);
       none = λ e. sought-none (s .args .p) (s .args .capacity) (s .args .cap) (x .0 .long) (x .1 .0) (x .1 .1 .1 .1) (l .r) (l .from) (l .inv .1) (n .result)
-          (n .ensures) (c .before .if1 .taken);
+          (n .ensures .0) (c .before .if1 .taken);
     }
 
 loop-less : tie.Need-loop-less Inv-loop μ-loop
 loop-less c =
     let h = c .before .before .before in
     let ro = h .before .before .before in
-    let t = ro .before .before in
+    let t = turn ro in
     let w = t .before in
-    let s = w .before .before .before in
+    let s = start w in
     let l = w .loop in
     let n = ro .run-over in
     let x = s .pre .0 in
@@ -81,24 +89,30 @@ loop-less c =
       arith,
       t .loop-test .taken,
       sought-more (s .args .p) (s .args .capacity) (s .args .cap) (x .0 .long) (x .1 .0) (x .1 .1 .1 .1) (l .r) (l .from)
-          (l .inv .1) (n .result) (n .ensures) (c .before .if1 .left) (t .loop-test .taken) (x .1 .1 .1 .0),
+          (l .inv .1) (n .result) (n .ensures .0) (c .before .if1 .left) (t .loop-test .taken) (x .1 .1 .1 .0),
     )
 
 loop-again : tie.Need-loop-again Inv-loop μ-loop
 loop-again c =
     let h = c .before .before .before in
     let ro = h .before .before .before in
-    let t = ro .before .before in
+    let t = turn ro in
     let w = t .before in
-    let s = w .before .before .before in
+    let s = start w in
     let l = w .loop in
     let n = ro .run-over in
     let x = s .pre .0 in
     let more = sought-more (s .args .p) (s .args .capacity) (s .args .cap) (x .0 .long) (x .1 .0) (x .1 .1 .1 .1) (l .r) (l .from) (l .inv .1) (n .result)
-    (n .ensures) (c .before .if1 .left) (t .loop-test .taken) (x .1 .1 .1 .0) in (
-      (search needs, omega (arith, l .inv .0 .1, n .ensures .few)),
+    (n .ensures .0) (c .before .if1 .left) (t .loop-test .taken) (x .1 .1 .1 .0) in (
+      (
+        search needs,
+        (
+          omega (arith, l .inv .0 .1 .0, n .ensures .0 .few),
+          onward (l .r) (l .from) (l .written) (n .result) (l .inv .0 .1 .1) (t .loop-test .taken) (n .ensures .0) (n .ensures .1) (c .before .if1 .left),
+        ),
+      ),
       sought-step (s .args .p) (s .args .capacity) (s .args .cap) (x .0 .long) (x .1 .0)
-          (x .1 .1 .1 .1) (l .r) (l .from) (l .inv .1) (n .result) (n .ensures) (c .before .if1 .left) more,
+          (x .1 .1 .1 .1) (l .r) (l .from) (l .inv .1) (n .result) (n .ensures .0) (c .before .if1 .left) more,
     )
 
 same-length-2 : tie.Need-same-length-2 Inv-loop μ-loop
@@ -106,12 +120,13 @@ same-length-2 c = c .before .before .loop .inv .0 .0
 
 returns-2 : tie.Need-returns-2 Inv-loop μ-loop
 returns-2 c =
-    let h = c .before .before .before in
-    let s = h .before .before in
-    let l = c .before .before .loop in
+    let w = c .before .before in
+    let s = start w in
+    let l = w .loop in
     let x = s .pre .0 in
     record {
-      few = omega (arith, l .inv .0 .1, l .inv .1 .inside);
+      few = omega (arith, l .inv .0 .1 .0, l .inv .1 .inside);
+      writes = found (l .r) (l .from) (l .written) (l .inv .0 .1 .1) (omega (arith, c .before .loop-test .left));
       found = λ e. sought-done (s .args .p) (s .args .capacity) (s .args .cap) (x .0 .long) (x .1 .0) (x .1 .1 .1 .1) (l .r) (l .from)
           (omega (arith, c .before .loop-test .left)) (l .inv .1);
       none = λ e. absurd (never (sym e));

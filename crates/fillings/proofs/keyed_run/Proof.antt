@@ -3,7 +3,7 @@ use borrow.Author.Needs.{needs}
 use native.Mathlib.Omega.{arith}
 use mathlib.Core.Path.{_≡_, subst, sym}
 use native.Mathlib.Nat.{mod-lt}
-use Rattle.fillings.specs.Runs.{Runs}
+use Rattle.fillings.specs.Runs.{Runs, ScalesWrite}
 use Rattle.fillings.proofs.Asked.{gathers, base-some}
 use Rattle.fillings.proofs.Runs.{keyed-none, keyed-made, quotient-small}
 use Rattle.fillings.proofs.keyed_run.Statement.{statement}
@@ -28,14 +28,24 @@ nothing-requires c κs = search needs
 same-length : tie.Need-same-length
 same-length c = search needs
 
+-- from where the scales have looked, back to the start
+abbrev start : tie.After-least-keyed → tie.Start
+start l = l .before .before .before .before .before
+
+-- what they wrote
+written : (l : tie.After-least-keyed) → let a = start l .args in ScalesWrite (a .p) (a .r) (a .room) (l .least-keyed .result .written)
+written l = let k = l .least-keyed .ensures in record { top = _; ts = k .ts; ls = k .ls; takes = k .takes }
+
 returns : tie.Need-returns
 returns c =
     let h = c .before .before .before in
     let l = h .before in
     let g = l .before .before in
-    let s = g .before .before .before in
-    subst (λ n. Runs (s .args .p) (s .args .r) (s .args .capacity) (s .args .cap) (s .args .from) (s .args .end) n) (sym (c .nothing .ensures))
-    (keyed-none (s .pre .0) (g .group-of .ensures) (l .least-keyed .ensures) (c .before .if1 .taken))
+    let s = start l in (
+      subst (λ n. Runs (s .args .p) (s .args .r) (s .args .capacity) (s .args .cap) (s .args .from) (s .args .end) n) (sym (c .nothing .ensures))
+          (keyed-none (s .pre .0) (g .group-of .ensures) (l .least-keyed .ensures) (c .before .if1 .taken)),
+      rw (c .nothing .ensures) (written l),
+    )
 
 rem-decoded : tie.Need-rem-decoded
 rem-decoded c =
@@ -78,8 +88,7 @@ returns-2 c =
     let h = c .before .before .before in
     let l = h .before in
     let g = l .before .before in
-    let s = g .before .before .before in
-    keyed-made (s .pre .0) (g .group-of .ensures) (l .least-keyed .ensures) (c .before .if1 .left) (c .decoded .ensures)
+    (keyed-made (start l .pre .0) (g .group-of .ensures) (l .least-keyed .ensures) (c .before .if1 .left) (c .decoded .ensures), written l)
 
 pub keyed-run-spec : {M : Type 1} → statement M
 keyed-run-spec =

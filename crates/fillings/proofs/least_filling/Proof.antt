@@ -24,8 +24,10 @@ returns c =
     let wo = h .before in
     let s = wo .before .before in
     let w = wo .whole-of in
-    let n = c .before .before .run-over in
-    (whole-least (s .args .p) (w .result) (s .args .capacity) (s .args .cap) (n .result) (s .pre .0 .0 .long) (w .ensures) (n .ensures), n .ensures .few)
+    let n = c .before .before .run-over in (
+      whole-least (s .args .p) (w .result) (s .args .capacity) (s .args .cap) (n .result) (s .pre .0 .0 .long) (w .ensures) (n .ensures .0),
+      record { few = n .ensures .0 .few; ranges = w .result; all = w .ensures; run = n .ensures .1 },
+    )
 
 pub least-filling-spec : {M : Type 1} → statement M
 least-filling-spec = tie.close (tie.spec whole-of-requires run-over-requires same-length returns)

@@ -6,6 +6,13 @@ use Rattle.fillings.proofs.least_keyed.Statement.{statement}
 use Rattle.fillings.proofs.least_keyed.Tie as tie
 use Rattle.scales.proofs.least_cost.Reads as least-cost-reads
 
+-- from the scales, back to the costs with keys; from the radices, back to the start
+abbrev keyed : tie.After-least-cost → tie.After-keyed-lefts
+keyed l = l .before .before .before .before .before .before
+
+abbrev start : tie.After-radices → tie.Start
+start e = e .before .before .before .before
+
 radices-requires : tie.Need-radices-requires
 radices-requires c κs = search needs
 
@@ -14,8 +21,7 @@ mul-most c = search needs
 
 keyed-takens-requires : tie.Need-keyed-takens-requires
 keyed-takens-requires c κs =
-    let h = c .before .before .before in
-    let s = h .before in
+    let s = start c in
     let g = s .pre .0 .1 .1 .1 in (
       g .small,
       radices-small (s .args .r .wide) (c .radices .result) (s .args .from) (s .args .left) (s .args .g)
@@ -24,8 +30,7 @@ keyed-takens-requires c κs =
 
 keyed-lefts-requires : tie.Need-keyed-lefts-requires
 keyed-lefts-requires c κs =
-    let h = c .before .before .before in
-    let s = h .before .before in
+    let s = start (c .before) in
     let g = s .pre .0 .1 .1 .1 in (
       g .small,
       radices-small (s .args .r .wide) (c .before .radices .result) (s .args .from) (s .args .left) (s .args .g) g
@@ -50,8 +55,7 @@ least-cost-requires c κs =
     let k = h .before .before in
     let kt = k .before in
     let e = kt .before in
-    let b = e .before .before .before in
-    let s = b .before in
+    let s = start e in
     let x = s .pre .0 in
     let m = k .keyed-lefts in (
       listed (s .args .p) (s .args .r) (s .args .from) (s .args .left) (s .args .g) (e .radices .result) (kt .keyed-takens .result) (m .result) (x .0)
@@ -64,15 +68,13 @@ same-length c = search needs
 
 returns : tie.Need-returns
 returns c =
-    let h = c .before .before .before in
-    let g = h .before .before .before in
-    let k = g .before .before in
+    let lc = c .before .before in
+    let k = keyed lc in
     let kt = k .before in
     let e = kt .before in
-    let b = e .before .before .before in
-    let s = b .before in
+    let s = start e in
     let x = s .pre .0 in
-    let l = c .before .before .least-cost in
+    let l = lc .least-cost in
     record {
       few = written-few (s .args .p) (s .args .r) (kt .keyed-takens .result) (k .keyed-lefts .result) _ _ (l .result .written) (x .0) (x .1 .0) (l .ensures .1);
       rad = e .radices .result;
@@ -82,6 +84,7 @@ returns c =
       takens = kt .keyed-takens .ensures;
       lefts = k .keyed-lefts .ensures;
       least = l .ensures .0;
+      takes = l .ensures .1;
     }
 
 pub least-keyed-spec : {M : Type 1} → statement M

@@ -1,12 +1,12 @@
 -- `fillings::run_over` meets its contract.
 use borrow.Author.Needs.{needs}
 use native.Mathlib.Omega.{arith}
-use mathlib.Core.Path.{_≡_, subst, sym, _∙_}
+use mathlib.Core.Path.{_≡_, subst}
 use Prim.Native.Nat.{ℕ, _+_, _≤_, _<_}
 use native.Mathlib.Decide.{decLt}
 use Rattle.scales.specs.Filling.{load, cost}
 use Rattle.fillings.specs.Ranges.{num, itemsIn, Inside, offsetOf}
-use Rattle.fillings.specs.Runs.{Fills, Runs}
+use Rattle.fillings.specs.Runs.{Fills, costly, heavy, scaled}
 use Rattle.fillings.proofs.Boxes.{offset-least, low-least}
 use Rattle.fillings.proofs.Narrow.{near-among, near-offset, near-keeps}
 use Rattle.fillings.proofs.Runs.{runs-none, runs-wider}
@@ -28,6 +28,18 @@ too-heavy p r n C cap left long among left-is left≥1 near h y i f = go (decLt 
     go (yes l) = absurd (omega (arith, low-least p n long (near-among p r n left long among near) y (near-keeps p r n left long among near y i (omega arith))))
     go (no l) = omega arith
 
+-- from the narrowed ranges, back to the start
+abbrev start : tie.After-narrowed → tie.Start
+start n = n .before .before .before .before
+
+-- they are narrowed to what is left of the cap
+near : (n : tie.After-narrowed) → let a = start n .args in
+    (offsetOf (a .p) (a .r) < a .cap) × Narrows (a .p) (a .cap - offsetOf (a .p) (a .r)) (a .r) (n .narrowed .result)
+near n =
+    let a = start n .args in
+    let m = n .before .before .remaining in
+    (omega (arith, m .ensures, n .before .if1 .left), subst (λ d. Narrows (a .p) d (a .r) (n .narrowed .result)) (m .ensures) (n .narrowed .ensures))
+
 remaining-requires : tie.Need-remaining-requires
 remaining-requires c κs = search needs
 
@@ -40,9 +52,11 @@ returns c =
     let s = h .before in
     let a = s .args in
     let x = s .pre .0 in
-    subst (λ n. Runs (a .p) (a .r) (a .capacity) (a .cap) (a .from) (a .end) n) (sym (c .nothing .ensures))
-    (runs-none (a .p) (a .r) (a .capacity) (a .cap) (a .from) (a .end) 0 (omega arith)
-    (λ y i f. omega (arith, offset-least (a .p) (a .r) (x .0 .long) (x .1 .0) y i, c .before .before .remaining .ensures)))
+    rw (c .nothing .ensures) (
+      runs-none (a .p) (a .r) (a .capacity) (a .cap) (a .from) (a .end) 0 (omega arith)
+          (λ y i f. omega (arith, offset-least (a .p) (a .r) (x .0 .long) (x .1 .0) y i, c .before .before .remaining .ensures)),
+      costly (omega (arith, c .before .before .remaining .ensures)),
+    )
 
 narrowed-requires : tie.Need-narrowed-requires
 narrowed-requires c κs = search needs
@@ -65,10 +79,12 @@ returns-2 c =
     let x = s .pre .0 in
     let m = g .remaining in
     let n = h .narrowed in
-    subst (λ n. Runs (a .p) (a .r) (a .capacity) (a .cap) (a .from) (a .end) n) (sym (c .nothing2 .ensures))
-    (runs-none (a .p) (a .r) (a .capacity) (a .cap) (a .from) (a .end) 0 (omega arith)
-    (too-heavy (a .p) (a .r) (n .result) (a .capacity) (a .cap) (m .result) (x .0 .long) (x .1 .0) (m .ensures) (omega arith) (n .ensures)
-    (omega (arith, c .before .before .low-load .ensures))))
+    let over : a .capacity < load (itemsIn (a .p)) (num (n .result .low)) = omega (arith, c .before .before .low-load .ensures) in
+    rw (c .nothing2 .ensures) (
+      runs-none (a .p) (a .r) (a .capacity) (a .cap) (a .from) (a .end) 0 (omega arith)
+          (too-heavy (a .p) (a .r) (n .result) (a .capacity) (a .cap) (m .result) (x .0 .long) (x .1 .0) (m .ensures) (omega arith) (n .ensures) over),
+      heavy (n .result) (near h .0) (near h .1) over,
+    )
 
 keyed-run-requires : tie.Need-keyed-run-requires
 keyed-run-requires c κs =
@@ -107,8 +123,12 @@ returns-3 c =
     let x = s .pre .0 in
     let m = e .remaining in
     let n = g .narrowed in
-    runs-wider (a .p) (a .r) (n .result) (a .capacity) (a .cap) (a .from) (a .end) (m .result) (c .before .before .keyed-run .result) (x .0 .long) (x .1 .0)
-    (x .1 .1 .0) (omega (arith, x .1 .1 .1 .0)) (m .ensures) (omega (arith, i .if1 .left)) (n .ensures) (c .before .before .keyed-run .ensures)
+    let low = h .before .before .low-load in
+    let k = c .before .before .keyed-run in (
+      runs-wider (a .p) (a .r) (n .result) (a .capacity) (a .cap) (a .from) (a .end) (m .result) (k .result) (x .0 .long) (x .1 .0)
+          (x .1 .1 .0) (omega (arith, x .1 .1 .1 .0)) (m .ensures) (omega (arith, i .if1 .left)) (n .ensures) (k .ensures .0),
+      scaled (n .result) (a .capacity - low .result) (k .result .written) (near g .0) (near g .1) (omega (arith, low .ensures)) (k .ensures .1),
+    )
 
 pub run-over-spec : {M : Type 1} → statement M
 run-over-spec =
