@@ -23,7 +23,7 @@ returns : tie.Need-returns
 returns c =
     let l = c .before .before in
     let h = l .before .before .before .before in
-    let s = h .before .before .before .before .args in
+    let s = h .before .before .before .before .before .args in
     rw (upto-length (s .m .needs .count) (needAt (s .m .needs))) (puts (omega arith) (h .put-heading .ensures) (l .put-need-lines .ensures))
 
 pub put-needs-spec : {M : Type 1} → statement M

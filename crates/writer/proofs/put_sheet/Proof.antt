@@ -26,18 +26,22 @@ put-side-requires c κs = search needs
 put-side-requires-2 : tie.Need-put-side-requires-2
 put-side-requires-2 c κs = search needs
 
+put-needs-requires : tie.Need-put-needs-requires
+put-needs-requires c κs = search needs
+
 same-length : tie.Need-same-length
 same-length c = search needs
 
 returns : tie.Need-returns
 unfolding printing
 returns c =
-    let u = c .before .before in
+    let n = c .before .before in
+    let u = n .before .before .before .before in
     let l = u .before .before .before .before in
     let i = l .before .before .before .before in
     let b = i .before .before .before .before in
-    let f = puts (omega arith) (i .put-items .ensures) (puts (omega arith) (l .put-side .ensures) (u .put-side2 .ensures)) in
-    rw (toZ-ofZ (capacity-fits b)) at (puts (omega arith) (b .put-limit .ensures) f)
+    let sides = puts (omega arith) (l .put-side .ensures) (puts (omega arith) (u .put-side2 .ensures) (n .put-needs .ensures)) in
+    rw (toZ-ofZ (capacity-fits b)) at (puts (omega arith) (b .put-limit .ensures) (puts (omega arith) (i .put-items .ensures) sides))
 
 pub put-sheet-spec : {M : Type 1} → statement M
 put-sheet-spec =
@@ -47,5 +51,6 @@ put-sheet-spec =
     put-items-requires
     put-side-requires
     put-side-requires-2
+    put-needs-requires
     same-length
     returns)
