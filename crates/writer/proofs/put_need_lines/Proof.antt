@@ -25,6 +25,9 @@ abbrev μ-loop : tie.MeasureT-loop
 abbrev start : tie.At-loop Inv-loop μ-loop → tie.Start Inv-loop μ-loop
 start c = c .before .before .before
 
+abbrev turn : tie.After-put-need Inv-loop μ-loop → tie.At-loop Inv-loop μ-loop
+turn c = c .before .before .before .before
+
 -- the lines are at most as many as there are places
 few : (c : tie.At-loop Inv-loop μ-loop) → start c .args .m .needs .count ≤ 16
 few c = unfaulted (start c .args .m) (start c .pre .1) .few-needs
@@ -57,7 +60,7 @@ loop-again : tie.Need-loop-again Inv-loop μ-loop
 unfolding upTo linesText
 loop-again c =
     let p = c .before .before in
-    let l = p .before .before .before .before in
+    let l = turn p in
     (omega arith, (omega arith, rw add-one (roomier (omega arith) (puts (omega arith) (l .loop .inv .1 .1) (p .put-need .ensures)))))
 
 same-length : tie.Need-same-length Inv-loop μ-loop

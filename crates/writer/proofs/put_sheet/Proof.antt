@@ -9,9 +9,23 @@ use borrow.Author.Needs.{needs}
 use Rattle.writer.proofs.put_sheet.Statement.{statement}
 use Rattle.writer.proofs.put_sheet.Tie as tie
 
-capacity-fits : (c : tie.After-put-limit) →
-    let s = c .before .before .before .before in
-    SFits w64 (s .args .m .capacity)
+-- the moments behind the sections, and the one before them
+abbrev start : tie.After-put-limit → tie.Start
+start c = c .before .before .before .before
+
+abbrev limit : tie.After-put-items → tie.After-put-limit
+limit c = c .before .before .before .before
+
+abbrev items : tie.After-put-side → tie.After-put-items
+items c = c .before .before .before .before
+
+abbrev lower : tie.After-put-side2 → tie.After-put-side
+lower c = c .before .before .before .before
+
+abbrev upper : tie.After-put-needs → tie.After-put-side2
+upper c = c .before .before .before .before
+
+capacity-fits : (c : tie.After-put-limit) → SFits w64 (start c .args .m .capacity)
 capacity-fits c = search needs
 
 put-limit-requires : tie.Need-put-limit-requires
@@ -36,10 +50,10 @@ returns : tie.Need-returns
 unfolding printing
 returns c =
     let n = c .before .before in
-    let u = n .before .before .before .before in
-    let l = u .before .before .before .before in
-    let i = l .before .before .before .before in
-    let b = i .before .before .before .before in
+    let u = upper n in
+    let l = lower u in
+    let i = items l in
+    let b = limit i in
     let sides = puts (omega arith) (l .put-side .ensures) (puts (omega arith) (u .put-side2 .ensures) (n .put-needs .ensures)) in
     rw (toZ-ofZ (capacity-fits b)) at (puts (omega arith) (b .put-limit .ensures) (puts (omega arith) (i .put-items .ensures) sides))
 
