@@ -18,9 +18,9 @@ same-length c = search needs
 returns : tie.Need-returns
 returns c =
     let l = c .before .before in
-    let e = l .before .before .before in
+    let e = l .before .before in
     let k = e .before .before in
-    let s = k .before .before .before .before .before in
+    let s = k .before .before .before in
     let f = puts (omega arith) (k .put-natural .ensures) (l .put-natural2 .ensures) in
     record { short = need-short (s .args .need) (s .pre .1 .0) (s .pre .1 .1); next = f .next; bytes = f .bytes }
 

@@ -7,6 +7,13 @@ use borrow.Author.Needs.{needs}
 use Rattle.writer.proofs.put_needs.Statement.{statement}
 use Rattle.writer.proofs.put_needs.Tie as tie
 
+-- the moments before the heading and behind it
+abbrev start : tie.After-put-heading → tie.Start
+start c = c .before .before .before .before .before
+
+abbrev heading : tie.After-put-need-lines → tie.After-put-heading
+heading c = c .before .before .before .before
+
 slice-aggregate-put-heading : tie.Need-slice-aggregate-put-heading
 slice-aggregate-put-heading c = search needs
 
@@ -22,9 +29,9 @@ same-length c = search needs
 returns : tie.Need-returns
 returns c =
     let l = c .before .before in
-    let h = l .before .before .before .before in
-    let s = h .before .before .before .before .args in
-    rw (upto-length (s .m .needs .count) (needAt (s .m .needs))) (puts (omega arith) (h .put-heading .ensures) (l .put-need-lines .ensures))
+    let h = heading l in
+    let ns = start h .args .m .needs in
+    rw (upto-length (ns .count) (needAt ns)) (puts (omega arith) (h .put-heading .ensures) (l .put-need-lines .ensures))
 
 pub put-needs-spec : {M : Type 1} → statement M
 put-needs-spec =
