@@ -4,4 +4,3 @@ pub mod Twigs
 pub mod Parts
 pub mod Exits
 pub mod Ends
-pub mod Alike

@@ -9,9 +9,9 @@ use Rattle.knapsack.specs.Meaning.{pointOf}
 use Rattle.cases.proofs.Searching.{broken-open}
 use Rattle.cases.proofs.Splitting.{without, having}
 use Rattle.cases.proofs.Undecided.{decided}
-use Rattle.cases.specs.declared.Need.{Need}
+use Rattle.model.specs.declared.Need.{Need}
 use Rattle.branching.specs.declared.Best.{Best}
-use Rattle.cases.specs.Needs.{In as Among, Allowed}
+use Rattle.model.specs.Needs.{In as Among, Allowed}
 use Rattle.branching.specs.Branching.{unneeded, known, twigs, countedOf}
 use Rattle.branching.proofs.Breaking.{need-in, breaks-yes, every-kept}
 use Rattle.branching.proofs.Exits.{comparable, plain-comparable, optimal-of, counted-work, own-work, enter, through-behind, through-kept, through-split}

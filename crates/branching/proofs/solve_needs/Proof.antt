@@ -7,7 +7,7 @@ use lib.IntN.{pos}
 use lib.Seq.{length-take-le}
 use Rattle.arith.proofs.Parts.{impossible}
 use Rattle.knapsack.specs.Meaning.{Instance, instanceOf, AnswersAs}
-use Rattle.cases.specs.Needs.{Every, Allowed}
+use Rattle.model.specs.Needs.{Every, Allowed}
 use Rattle.cases.proofs.Endless.{allowed-priced, worthless}
 use Rattle.cases.proofs.Undecided.{undecided, undecided-most}
 use Rattle.branching.specs.Branching.{needsOf, nothingYet, countedOf, twigs, Bounded, Through}
