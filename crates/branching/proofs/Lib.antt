@@ -1,4 +1,5 @@
 pub mod Breaking
+pub mod Naming
 pub mod Ordering
 pub mod Twigs
 pub mod Parts

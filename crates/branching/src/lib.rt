@@ -89,8 +89,8 @@ pub fn named_of(ns: Needs) -> [bool; 16]
         let n = need_at(ns, i);
         let k = n.item;
         let m = n.cover;
-        named[k] = true;
         named[m] = true;
+        named[k] = true;
         i += 1;
     }
     named
