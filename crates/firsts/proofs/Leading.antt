@@ -147,8 +147,8 @@ module _ (s : Setting) (c : Columns) (y : Tying s c) (l : Optimum) (g : IsLosing
   frame-all marks m X x = g .all marks m (scaleOf c t) X (scale-in c t (y .tied .sized) .0) (x .feasible)
 
   pub led-apart : 0 < (scaleOf c t * l .num) % l .den → Led s c l (t + 1) b
-  led-apart r = kept b refl (omega arith) (λ marks m fr. frame-apart c e marks (l .top) (l .q) (l .num) (l .den) (g .priced .q≥1) (g .den≥1) (parts c f) (filling c f)
-      parts-in (h .just marks m) t (frame-all marks m) (frame-rest (scaleOf c t) (l .num) (l .den) (g .den≥1) r))
+  led-apart r = kept b refl (omega arith) (λ marks m fr. frame-apart c e marks (l .top) (l .q) (l .num) (l .den) (g .priced .q≥1) (g .den≥1) (parts c f)
+      (filling c f) parts-in (h .just marks m) t (frame-all marks m) (frame-rest (scaleOf c t) (l .num) (l .den) (g .den≥1) r))
 
   module _ (w : List Bool) (lw : Levelled (s .level) (s .levels) w) where
     marked : (marks : ℕ → Mark) → Marked s marks → ceil.Marked c w marks
@@ -210,8 +210,8 @@ module _ (s : Setting) (c : Columns) (y : Tying s c) (l : Optimum) (g : IsLosing
         pub led-none : x .found ≡ false → (z : Lead) → z .point ≡ b .point → z .written ≡ b .written + x .written → Led s c l (t + 1) z
         led-none n z p i = kept z p (omega (arith, q .few)) (λ marks m fr. frame-none c e marks (y .tied .tied) few (wholeAt w) (marked marks m)
             (unmarked marks m)
-            t (framedEnds c e w t) (framed-ends c e w t few .low) (framed-ends c e w t few .high) (l .top) (l .q) (l .num) (l .den) r (g .priced .q≥1) (g .den≥1) over
-            (frame-all marks m) (parts c f) (filling c f) parts-in (h .just marks m)
+            t (framedEnds c e w t) (framed-ends c e w t few .low) (framed-ends c e w t few .high) (l .top) (l .q) (l .num) (l .den) r (g .priced .q≥1)
+            (g .den≥1) over (frame-all marks m) (parts c f) (filling c f) parts-in (h .just marks m)
             (λ M pt. subst (λ a. pos r <ℤ a) (loss-same marks M) (q .none n (framedEnds c e w t) (framed-ends c e w t few) M (to (framedEnds c e w t) M pt))))
 
         -- ---- the first point of the frame

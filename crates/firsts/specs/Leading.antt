@@ -12,10 +12,10 @@
 --   Sooner s c x xs r   r is the first of x and of the filling at the place of xs
 --   Led s c l t b       b is an optimal point that leads those of the frames before t
 --   FirstBest s r       r is the optimal point that comes first
---   TryWrites c e w l t n m       m cells are told where n were told before frame t, which is looked at if it can lose as much as the optimum
---   ConsiderWrites c e w l t n m  the same, where the frame can be needed
---   LeadWrites c e w l t n        n cells are told for the frames before t
---   PointWrites s P n             n cells are told for all frames of the box, by what the optimal place P loses
+--   TryWrites c e w l t n m       n cells are written before frame t is looked at, and m after it: as many, where it cannot lose as much as the optimum
+--   ConsiderWrites c e w l t n m  the same, or as many, where the frame cannot be needed
+--   LeadWrites c e w l t n        n cells are written for the frames before t
+--   PointWrites s P n             n cells are written for all frames of the box, by what the optimal place P loses
 use mathlib.Core.Path.{_≡_}
 use mathlib.Core.Bool.{Bool}
 use mathlib.Core.List.{List}

@@ -42,8 +42,8 @@ loss-of-requires c κs =
 
 wholes-requires : tie.Need-wholes-requires Inv-loop μ-loop
 wholes-requires c κs =
-    let s = c .before .before .before .before .before in
-    let r = s .pre .0 .0 in (r .few, λ d l. omega (arith, r .level-in d l, r .sized .columns .few))
+    let t = c .before .before .before in
+    let r = t .before .before .pre .0 .0 in (r .few, λ d l. omega (arith, r .level-in d l, r .sized .columns .few))
 
 -- the loss is that of the filling at the place
 loss-is : (o : tie.After-loss-of Inv-loop μ-loop) → let t = o .before .before in let a = t .before .before .args in

@@ -140,8 +140,11 @@ returns-2 c =
     let m = framed (c .before .before .before) in
     let s = entry m in
     let a = s .args in
-    (led-sooner (a .s) (a .c) (s .pre .0 .0) (a .l) (s .pre .0 .1 .0) (a .t) (a .b) (s .pre .0 .1 .1 .1) (a .whole) (s .pre .0 .1 .1 .0) (s .pre .1 .0)
-    (s .pre .1 .1 .0) _ (over (test m)) (m .first-of-frame .result) (m .first-of-frame .ensures) (c .before .before .if2 .taken) _ (c .sooner .ensures) refl, told m)
+    let g = m .first-of-frame in (
+      led-sooner (a .s) (a .c) (s .pre .0 .0) (a .l) (s .pre .0 .1 .0) (a .t) (a .b) (s .pre .0 .1 .1 .1) (a .whole) (s .pre .0 .1 .1 .0) (s .pre .1 .0)
+          (s .pre .1 .1 .0) _ (over (test m)) (g .result) (g .ensures) (c .before .before .if2 .taken) _ (c .sooner .ensures) refl,
+      told m,
+    )
 
 same-length-2 : tie.Need-same-length-2
 same-length-2 c = search needs
@@ -151,8 +154,11 @@ returns-3 c =
     let m = framed (c .before) in
     let s = entry m in
     let a = s .args in
-    (led-none (a .s) (a .c) (s .pre .0 .0) (a .l) (s .pre .0 .1 .0) (a .t) (a .b) (s .pre .0 .1 .1 .1) (a .whole) (s .pre .0 .1 .1 .0) (s .pre .1 .0)
-    (s .pre .1 .1 .0) _ (over (test m)) (m .first-of-frame .result) (m .first-of-frame .ensures) (c .if2 .left) _ refl refl, told m)
+    let g = m .first-of-frame in (
+      led-none (a .s) (a .c) (s .pre .0 .0) (a .l) (s .pre .0 .1 .0) (a .t) (a .b) (s .pre .0 .1 .1 .1) (a .whole) (s .pre .0 .1 .1 .0) (s .pre .1 .0)
+          (s .pre .1 .1 .0) _ (over (test m)) (g .result) (g .ensures) (c .if2 .left) _ refl refl,
+      told m,
+    )
 
 pub tried-spec : {M : Type 1} → statement M
 tried-spec =
