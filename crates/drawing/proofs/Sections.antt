@@ -3,7 +3,7 @@
 --   withItems s, withLowers s     a drawn problem after its items, after its lower bounds
 -- lines-count, lines-capacity, lines-length, lines-beyond: a section's lines leave count, limit, places and every item from the n-th on.
 -- lines-each: of each of the first n items holds what a line makes of it; section-each: of every item.
--- heading-few, heading-some, heading-capacity, heading-length, heading-blank (blank-at): what a heading holds.
+-- heading-some, heading-few, heading-capacity, heading-length, heading-blank (blank-at): what a heading holds.
 -- heading-sized, section-sized, items-sized, lowers-sized: they are Sized.
 use mathlib.Core.Path.{_≡_, refl, _∙_}
 use mathlib.Core.List.{List}
@@ -93,13 +93,13 @@ blank-at zero k = refl
 blank-at (suc n) zero = refl
 blank-at (suc n) (suc k) = blank-at n k
 
-pub heading-few : (s : ℕ) → drawnHeading s .problem .count ≤ 16
-unfolding drawnHeading
-heading-few s = choice-in (nextState (nextState s)) 1 16 (omega arith) .1
-
 pub heading-some : (s : ℕ) → 1 ≤ drawnHeading s .problem .count
 unfolding drawnHeading
 heading-some s = choice-in (nextState (nextState s)) 1 16 (omega arith) .0
+
+pub heading-few : (s : ℕ) → drawnHeading s .problem .count ≤ 16
+unfolding drawnHeading
+heading-few s = choice-in (nextState (nextState s)) 1 16 (omega arith) .1
 
 pub heading-capacity : (s : ℕ) → natAbs (drawnHeading s .problem .capacity) ≤ 100000000
 unfolding drawnHeading
