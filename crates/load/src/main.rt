@@ -4,14 +4,10 @@ use libc::STDOUT_FILENO;
 use text::Text;
 ghost use mathlib.Core.Path.{_≡_};
 ghost use Prim.Native.Nat.{_≤_};
-ghost use lib.ListN.{length};
+ghost use lib.ListN.{length, take};
 ghost use Rattle.text.specs.Buffer.{Shows};
 ghost use Rattle.sheet.specs.Printing.{printing};
 ghost use Rattle.drawing.specs.Drawing.{drawnProblem};
-
-const SEED: u64 = 1;
-
-const SHEETS: u64 = 1000;
 
 // A sheet, and the state after its draws.
 struct DrawnSheet {
@@ -33,18 +29,19 @@ fn draw_sheet(state: u64) -> DrawnSheet
     }
 }
 
-// Whether all of the sheet was written.
+// Whether all of it was written.
 fn print_sheet(t: Text) -> bool
-    requires { ⌜ t .len ≤ length (t .bytes) ⌝ }
+    requires { ⌜ (t .len ≤ length (t .bytes)) × (t .len ≡ length (take (t .len) (t .bytes))) ⌝ }
 {
     let bytes = t.bytes;
     let len = t.len;
     io::write_all(STDOUT_FILENO, &bytes[..len])
 }
 
-fn main() {
-    let mut state = SEED;
-    let mut left = SHEETS;
+// The first sheets for a seed. A failed write ends them, and is told by one line on standard error.
+fn print_load(seed: u64, sheets: u64) {
+    let mut state = seed;
+    let mut left = sheets;
     while 0 < left {
         let d = draw_sheet(state);
         let sheet = d.sheet;
@@ -55,4 +52,8 @@ fn main() {
         state = d.state;
         left -= 1;
     }
+}
+
+fn main() {
+    print_load(1, 1000);
 }
