@@ -15,7 +15,8 @@ use Rattle.model.specs.Records.{plainOf, ItemFigures, FiguresInRange, Admissibl
 use Rattle.drawing.specs.declared.DrawnProblem.{DrawnProblem}
 use Rattle.drawing.specs.declared.Section.{Section}
 use Rattle.drawing.specs.declared.Section.the-variants.{Items, Lower, Upper}
-use Rattle.drawing.specs.Drawing.{nextState, choiceAt, boundBy, drawnBound, drawnItem, drawnLine, withLine, lines, drawnSection, drawnHeading, drawnProblem}
+use Rattle.drawing.specs.Drawing.{nextState, choiceAt, boundBy, drawnBound, drawnItem, drawnLine}
+use Rattle.drawing.specs.Drawing.{withLine, lines, drawnSection, drawnHeading, drawnProblem}
 use Rattle.drawing.proofs.Draws.{around-in}
 use Rattle.drawing.proofs.Sections.{Sized, lines-count, lines-capacity, section-each, withItems, withLowers}
 use Rattle.drawing.proofs.Sections.{heading-few, heading-some, heading-capacity, heading-blank, heading-sized, items-sized, lowers-sized}
@@ -54,7 +55,7 @@ heading-figures s = record {
   some-items = heading-some s;
   few-items = heading-few s;
   capacity-in = heading-capacity s;
-  items-in = λ k h. rw (heading-blank s k) (record { weight-in = omega arith; price-in = omega arith; lower-in = tt; upper-in = tt });
+  items-in = λ k h. rw (heading-blank s k h) (record { weight-in = omega arith; price-in = omega arith; lower-in = tt; upper-in = tt });
 }
 
 -- ---- the needs

@@ -3,7 +3,7 @@
 --   withItems s, withLowers s     a drawn problem after its items, after its lower bounds
 -- lines-count, lines-capacity, lines-length, lines-beyond: a section's lines leave count, limit, places and every item from the n-th on.
 -- lines-each: of each of the first n items holds what a line makes of it; section-each: of every item.
--- heading-some, heading-few, heading-capacity, heading-length, heading-blank (blank-at): what a heading holds.
+-- heading-some, heading-few, heading-capacity, heading-length, heading-blank: what a heading holds.
 -- heading-sized, section-sized, items-sized, lowers-sized: they are Sized.
 use mathlib.Core.Path.{_≡_, refl, _∙_}
 use mathlib.Core.List.{List}
@@ -11,7 +11,7 @@ use Prim.Native.Nat.{ℕ, zero, suc, _≤_, _<_}
 use native.Mathlib.Decide.{ℕ-discrete}
 use native.Mathlib.Omega.{arith}
 use lib.IntN.{natAbs}
-use lib.ListN.{length, getD, set, replicate, length-set}
+use lib.ListN.{length, getD, set, length-set, getD-replicate}
 use lib.Seq.{getD-set-same, getD-set-other}
 use Rattle.arith.specs.Sum.{Each}
 use Rattle.knapsack.specs.declared.Item.{Item}
@@ -88,11 +88,6 @@ section-sized σ d w =
 
 -- ---- the heading, and the problem after its items and after its lower bounds
 
-blank-at : (n k : ℕ) → getD (replicate n blank) k blank ≡ blank
-blank-at zero k = refl
-blank-at (suc n) zero = refl
-blank-at (suc n) (suc k) = blank-at n k
-
 pub heading-some : (s : ℕ) → 1 ≤ drawnHeading s .problem .count
 unfolding drawnHeading
 heading-some s = choice-in (nextState (nextState s)) 1 16 (omega arith) .0
@@ -109,9 +104,9 @@ heading-length : (s : ℕ) → length (drawnHeading s .problem .items) ≡ 16
 unfolding drawnHeading
 heading-length s = refl
 
-pub heading-blank : (s k : ℕ) → itemAt (drawnHeading s .problem) k ≡ blank
+pub heading-blank : (s k : ℕ) → k < drawnHeading s .problem .count → itemAt (drawnHeading s .problem) k ≡ blank
 unfolding drawnHeading
-heading-blank s k = blank-at 16 k
+heading-blank s k h = getD-replicate 16 k blank blank (omega (arith, h, heading-few s))
 
 pub heading-sized : (s : ℕ) → Sized (drawnHeading s)
 heading-sized s = record { few = heading-few s; places = heading-length s }
