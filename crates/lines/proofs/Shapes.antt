@@ -1,7 +1,7 @@
 -- What a line that was read is made of (specs/Lines.antt): each law takes a reading apart.
 -- place-some, field-some: a result that is not the fault's came by a place, by a number.
 -- field-parts, numbers-parts, heading-parts, item-parts: the parts of a field and of a line of each kind.
--- field-range, heading-range: the number of a field that is in lies in its range.
+-- field-range, numbers-range, heading-range: a number that is in lies in its range.
 -- count-parts: so does a count. bound-shape: a bound's field is `none` or a number. bound-parts: the line of a bound has the item number that is due.
 -- need-parts: the line of a need has its two numbers, and is not refused.
 use mathlib.Core.Path.{_≡_, refl, sym, ap, _∙_}
@@ -101,6 +101,12 @@ numbers-parts r q s at x y end h =
     let g : b .0 ≡ y = cc in
     let k : b .1 ≡ end = cc in
     record { next = a .1; first = rw f at (a .2); second = rw (g, k) at (b .2) }
+
+pub numbers-range : (r q : Range) (s : List ℕ) (at : ℕ) (x y : ℤ) (end : ℕ) → numbersLine r q s at ≡ Both (In x) (In y) end →
+    ((r .lo ≤ℤ x) × (x ≤ℤ r .hi)) × ((q .lo ≤ℤ y) × (y ≤ℤ q .hi))
+numbers-range r q s at x y end h =
+    let p = numbers-parts r q s at (In x) (In y) end h in
+    (field-range 32 r s at x (p .next) (p .first), field-range 10 q s (p .next) y end (p .second))
 
 pub record HeadingParts (w : List ℕ) (r : Range) (s : List ℕ) (at : ℕ) (f : Ranged) (end : ℕ) : Type 0 where
   pub blank : ℕ
@@ -267,10 +273,8 @@ need-parts n a s at b end h = go (numbersLine (fromTo 1 n) (fromTo 1 n) s at) re
     -- a number of the range has no sign
     plain : (x y : ℤ) (k : ℕ) → numbersLine (fromTo 1 n) (fromTo 1 n) s at ≡ Both (In x) (In y) k → (x ≡ pos (natAbs x)) × (y ≡ pos (natAbs y))
     plain x y k e =
-        let p = numbers-parts (fromTo 1 n) (fromTo 1 n) s at (In x) (In y) k e in
-        let f = field-range 32 (fromTo 1 n) s at x (p .next) (p .first) in
-        let g = field-range 10 (fromTo 1 n) s (p .next) y k (p .second) in
-        (between 1 n x (f .0) (f .1) .0, between 1 n y (g .0) (g .1) .0)
+        let p = numbers-range (fromTo 1 n) (fromTo 1 n) s at x y k e in
+        (between 1 n x (p .0 .0) (p .0 .1) .0, between 1 n y (p .1 .0) (p .1 .1) .0)
 
     tried : (x y : ℤ) (k : ℕ) → numbersLine (fromTo 1 n) (fromTo 1 n) s at ≡ Both (In x) (In y) k → (t : Bool) →
         badLine n a (record { item = natAbs x; cover = natAbs y }) ≡ t →

@@ -7,7 +7,7 @@ use Prim.Native.Nat.{ℕ, _≤_}
 use native.Mathlib.Omega.{arith}
 use borrow.Author.Tests.{le-ltb}
 use lib.ListN.{length}
-use Rattle.knapsack.specs.Meaning.{instanceOf, AnswersAs, bare}
+use Rattle.knapsack.specs.Meaning.{instanceOf, bare}
 use Rattle.knapsack.specs.declared.Answer.{Answer}
 use Rattle.knapsack.specs.declared.Kind.{Kind}
 use Rattle.knapsack.specs.declared.Kind.the-variants as kind
@@ -19,8 +19,9 @@ use Rattle.text.specs.declared.Listed.the-variants.{Written}
 use Rattle.text.specs.Buffer.{noted, told}
 use Rattle.listing.specs.Printing.{printed, unlessRefused, room}
 use Rattle.listing.proofs.Room.{room-enough}
+use Rattle.model.specs.Needs.{AnswersAsNeeds}
 use Rattle.model.specs.Promises.{Planned}
-use Rattle.model.specs.Records.{plainOf, verdict}
+use Rattle.model.specs.Records.{plainOf, needsOf, verdict}
 use Rattle.sheet.specs.Reading.{readSheet}
 use Rattle.sheet.proofs.Sheets.{accepted-sheet}
 use Rattle.runcefo.specs.Entries.{toldNumber, toldLine, lengthOf, listedVerdict, Plans}
@@ -56,7 +57,8 @@ module _ (s b c : List ℕ) (length-told line number : ℕ) (h : Plans s b c len
       let r : h .reply ≡ Written (length text) = go (answer .kind) refl (rw fair at (p .replies)) ∙ written (omega arith) in
       h .number-is ∙ ap (λ w. toldNumber (listedVerdict w)) r
     where
-      go : (k : Kind) → answer .kind ≡ k → AnswersAs (instanceOf (plainOf (readSheet s .model))) answer k → h .reply ≡ told text b
+      go : (k : Kind) → answer .kind ≡ k → AnswersAsNeeds (instanceOf (plainOf (readSheet s .model))) (needsOf (readSheet s .model .needs)) answer k →
+          h .reply ≡ told text b
       go kind.Optimal e a = h .lists .told-is ∙ ap (λ k. unlessRefused k noted (told text b)) e
       go kind.Infeasible e a = h .lists .told-is ∙ ap (λ k. unlessRefused k noted (told text b)) e
       go kind.Unbounded e a = h .lists .told-is ∙ ap (λ k. unlessRefused k noted (told text b)) e

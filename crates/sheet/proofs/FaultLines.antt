@@ -24,7 +24,7 @@ use Rattle.model.specs.declared.Side.{Side}
 use Rattle.model.specs.declared.Side.the-variants.{Lower, Upper}
 use Rattle.model.specs.Refusals as refusal
 use Rattle.model.specs.Records.{emptyModel}
-use Rattle.model.specs.Setters.{withCount}
+use Rattle.model.specs.Setters.{withCount, withNeedCount}
 use Rattle.text.specs.Decimal.{decimal, integer}
 use Rattle.text.specs.Layout.{field, line}
 use Rattle.lines.specs.declared.Count.{Count}
@@ -41,10 +41,10 @@ use Rattle.lines.proofs.Standing.{Has, Bytes, count-has}
 use Rattle.sheet.specs.declared.Progress.{Progress}
 use Rattle.sheet.specs.declared.Reading.{Reading}
 use Rattle.sheet.specs.Sections.{goesOn, refusedAt, onward, onCount, Gives, fault, gives, LineForm, taken, stepOf, linesOf, sectionOf}
-use Rattle.sheet.specs.Reading.{limit, items, wordOf, limitForm, itemForm, boundForm, limitSection, itemsSection, boundsSection, endOfSheet}
-use Rattle.sheet.specs.Reading.{headOf, lowerOf, upperOf, wholeOf, readSheet}
+use Rattle.sheet.specs.Reading.{limit, items, wordOf, needs, limitForm, itemForm, boundForm, needForm, limitSection, itemsSection, boundsSection}
+use Rattle.sheet.specs.Reading.{needsSection, endOfSheet, headOf, lowerOf, upperOf, lastOf, wholeOf, readSheet}
 use Rattle.sheet.proofs.Sections.{Laws, no-refusal}
-use Rattle.sheet.proofs.Forms.{limit-laws, item-laws, bound-laws}
+use Rattle.sheet.proofs.Forms.{limit-laws, item-laws, bound-laws, need-laws}
 
 -- ---- places where a line begins
 
@@ -197,14 +197,20 @@ upper-reached : (s : List ℕ) → Reached s (upperOf s)
 unfolding upperOf lowerOf
 upper-reached s = side-reached s Upper _ (side-reached s Lower _ (head-reached s))
 
+last-reached : (s : List ℕ) → Reached s (lastOf s)
+unfolding lastOf needsSection
+last-reached s = section-reached needForm _ need-laws (λ b. line-closes (integer (pos (b .item))) (integer (pos (b .cover)) ∷ [])) s
+    needs 0 16 (λ n. withNeedCount (upperOf s .model) n) (upperOf s)
+    (lit< tt, (lit< tt, (lit< tt, (lit< tt, (lit< tt, tt))))) (upper-reached s)
+
 whole-reached : (s : List ℕ) → Reached s (wholeOf s)
 unfolding wholeOf endOfSheet
-whole-reached s = onward-reached s (upperOf s) _ (upper-reached s) (λ v h. go (ltb (upperOf s .at) (length s)) v h)
+whole-reached s = onward-reached s (lastOf s) _ (last-reached s) (λ v h. go (ltb (lastOf s .at) (length s)) v h)
   where
-    go : (b : Bool) → upperOf s .verdict ≡ Accepted → Starts s (met s (upperOf s .at)) →
-        Reached s (cond b (refusedAt s refusal.form (upperOf s .at)) (upperOf s))
-    go true v h = off refusal.form (upperOf s .at) h
-    go false v h = on (upperOf s) v h
+    go : (b : Bool) → lastOf s .verdict ≡ Accepted → Starts s (met s (lastOf s .at)) →
+        Reached s (cond b (refusedAt s refusal.form (lastOf s .at)) (lastOf s))
+    go true v h = off refusal.form (lastOf s .at) h
+    go false v h = on (lastOf s) v h
 
 -- ---- the line that is told
 

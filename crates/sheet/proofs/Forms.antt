@@ -31,9 +31,9 @@ use Rattle.lines.specs.declared.BoundRead.the-variants.{Fault as BoundFault, Re
 use Rattle.lines.specs.declared.NeedRead.{NeedRead}
 use Rattle.lines.specs.declared.NeedRead.the-variants.{Fault as NeedFault, Read as NeedIs}
 use Rattle.lines.specs.Numbers.{fieldAt}
-use Rattle.lines.specs.Lines.{prices, itemRead, boundField, boundRead, needRead}
+use Rattle.lines.specs.Lines.{weights, prices, itemRead, boundField, boundRead, needRead}
 use Rattle.lines.specs.Layout.{itemText, Bounding, bounding, boundText, needText}
-use Rattle.lines.proofs.Shapes.{field-range, numbers-parts, item-parts, bound-shape, bound-parts, need-parts}
+use Rattle.lines.proofs.Shapes.{field-range, numbers-range, item-parts, bound-shape, bound-parts, need-parts}
 use Rattle.lines.proofs.Standing.{Has, field-has, item-has, bound-has, need-has}
 use Rattle.lines.proofs.Rereading.{ranged-within, field-reads, bareOf, item-reads, bound-reads, need-reads}
 use Rattle.sheet.specs.declared.Progress.{Progress}
@@ -105,10 +105,13 @@ fair-side side i h =
 item-bare : (s : List ℕ) (at : ℕ) (i : Item) (n : ℕ) → itemRead s at ≡ ItemIs i n → Bare i
 item-bare s at i n h =
     let p = item-parts s at i n h in
-    let y = numbers-parts _ _ s (p .next) (In (i .weight)) (In (i .price)) n (p .numbers) in
-    let f = field-range 32 _ s (p .next) (i .weight) (y .next) (y .first) in
-    let g = field-range 10 _ s (y .next) (i .price) n (y .second) in
-    record { weight = within-range 999 (i .weight) (f .0) (f .1); price = within-range 9999 (i .price) (g .0) (g .1); lower = p .lower; upper = p .upper }
+    let r = numbers-range weights prices s (p .next) (i .weight) (i .price) n (p .numbers) in
+    record {
+      weight = within-range 999 (i .weight) (r .0 .0) (r .0 .1);
+      price = within-range 9999 (i .price) (r .1 .0) (r .1 .1);
+      lower = p .lower;
+      upper = p .upper;
+    }
 
 pub item-laws : Laws itemForm (λ p i. Bare i)
 item-laws = record {

@@ -1,5 +1,6 @@
 -- A section of any form of line, both ways (specs/Sections.antt).
--- no-refusal: a refusal is no acceptance. went, step-read: what an accepted step did. onward-keeps, step-keeps, lines-keep, section-keeps: what steps keep.
+-- no-refusal: a refusal is no acceptance. went, step-read: what an accepted step did. step-on: a step where nothing was refused.
+-- onward-keeps, step-keeps, lines-keep, section-keeps: what steps keep.
 -- section-before: a section is read where nothing was refused.
 --   Laws f Fits       what a form owes: a line that is read stands there and fits, and a line that stands there and fits is read
 --   Fitting I Fits    each line of a list fits where those before it have been read
@@ -59,10 +60,13 @@ step-read {A} f s p h = let w = went p (taken f s p (f .read s p)) h in go (f .r
     go (fault n) e w k = no-refusal k
     go (gives a n) e w k = record { value = a; next = n; before = w .before; line = e; is = w .is ∙ ap (taken f s p) e }
 
+pub step-on : {A : Type 0} (f : LineForm A) (s : List ℕ) (p : Progress) → p .verdict ≡ Accepted → stepOf f s p ≡ taken f s p (f .read s p)
+unfolding stepOf
+step-on f s p v = ap (λ x. onVerdict x (taken f s p (f .read s p)) p) v
+
 step-taken : {A : Type 0} (f : LineForm A) (s : List ℕ) (p : Progress) (a : A) (n : ℕ) → p .verdict ≡ Accepted → f .read s p ≡ gives a n →
     stepOf f s p ≡ goesOn (f .fill p a) n (f .item p a)
-unfolding stepOf
-step-taken f s p a n v e = ap (λ x. onVerdict x (taken f s p (f .read s p)) p) v ∙ ap (taken f s p) e
+step-taken f s p a n v e = step-on f s p v ∙ ap (taken f s p) e
 
 -- ---- what steps keep
 

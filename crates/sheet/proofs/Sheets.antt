@@ -38,8 +38,8 @@ use Rattle.lines.proofs.Rereading.{bareOf}
 use Rattle.sheet.specs.declared.Progress.{Progress}
 use Rattle.sheet.specs.declared.Reading.{Reading}
 use Rattle.sheet.specs.Sections.{goesOn, refusedAt, sectionText}
-use Rattle.sheet.specs.Reading.{limit, items, wordOf, needs, limitForm, itemForm, boundForm, needForm, limitSection, itemsSection, boundsSection, needsSection}
-use Rattle.sheet.specs.Reading.{endOfSheet, headOf, lowerOf, upperOf, lastOf, wholeOf, readSheet}
+use Rattle.sheet.specs.Reading.{limit, items, wordOf, needs, limitForm, itemForm, boundForm, needForm, limitSection, itemsSection, boundsSection}
+use Rattle.sheet.specs.Reading.{needsSection, endOfSheet, headOf, lowerOf, upperOf, lastOf, wholeOf, readSheet}
 use Rattle.sheet.specs.Printing.{upTo, boundAt, boundingAt, sideText, needsText, printing, Tidy, SheetOf}
 use Rattle.sheet.proofs.Sections.{no-refusal, went, section-before, SectionRead, section-read, Fitting, Back, section-back}
 use Rattle.sheet.proofs.Forms.{LimitFits, limit-laws, Bare, bare-same, bare-of, item-laws, BoundFits, bound-laws, fair-side, NeedFits, need-laws}

@@ -3,9 +3,9 @@
 //   item 2 field 3 "10001"   a field of it
 //   item 2 on "W 9"          the line and all behind it
 //   item 2 before "\0a"      nothing
-// The parts are `limit heading`, `limit 1`, `items heading`, `item 2`, `lower heading`, `lower 1`, `upper heading`, `upper 1` and `sheet end`;
-// a number counts the section's lines. A row has its edits in the order of the sheet. `\0a` is the byte with these two hexadecimal digits,
-// `\*90:0a` has it 90 times.
+// The parts are `limit heading`, `limit 1`, `items heading`, `item 2`, `lower heading`, `lower 1`, `upper heading`, `upper 1`, `needs heading`,
+// `needs 1` and `sheet end`; a number counts the section's lines. A row has its edits in the order of the sheet. `\0a` is the byte with these two
+// hexadecimal digits, `\*90:0a` has it 90 times.
 use lines::scan::Place;
 use lines::scan::after_word;
 use lines::scan::line_at;

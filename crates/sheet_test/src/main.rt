@@ -1,6 +1,6 @@
 // Writes records as sheets, edits what was written, and prints what the reader gives for each, and the part that holds one of its lines.
-// A row of the input is a record, `record b n / W a c lower upper / ..`, or a sheet of the record above it: the number of the line to show,
-// and edits (edits.rt) that name parts of the sheet, so that the rows know nothing of the layout around them. Without a number the line
+// A row of the input is a record, `record b n / W a c lower upper / ..` and its needs, if any, or a sheet of the record above it: the number of the line
+// to show, and edits (edits.rt) that name parts of the sheet, so that the rows know nothing of the layout around them. Without a number the line
 // of the last edit is shown. The writer has to give the very bytes of each sheet that is accepted.
 // Good sheets, every refusal at every place, two faults on one line, long numbers, bytes that are no text, 4,096 and 4,097 bytes.
 mod edits; // a written sheet, edited
@@ -12,6 +12,8 @@ use crate::edits::past;
 use knapsack::Refusal;
 use knapsack::Verdict;
 use libc::STDIN_FILENO;
+use model::Needs;
+use model::setters::with_needs;
 use text::Listed;
 use trials::count::one_more;
 use trials::make::record_of;
@@ -22,6 +24,7 @@ use trials::print::print_problem;
 use trials::read::Number;
 use trials::read::places;
 use trials::read::read_items;
+use trials::read::read_needs;
 use trials::read::read_number;
 
 fn print_refusal(refusal: Refusal) {
@@ -54,6 +57,20 @@ fn comes_back(sheet: &[u8]) -> bool {
     }
 }
 
+fn print_needs(ns: Needs) {
+    let n = ns.count;
+    let mut j: usize = 0;
+    while j < 16 {
+        if j < n {
+            let need = ns.lines[j];
+            print(b" need");
+            print_field(need.item as u64);
+            print_field(need.cover as u64);
+        }
+        j += 1;
+    }
+}
+
 fn print_reading(sheet: &[u8]) {
     let r = sheet::read(sheet);
     let verdict = r.verdict;
@@ -62,6 +79,8 @@ fn print_reading(sheet: &[u8]) {
         Verdict::Accepted => {
             print(b" accepted ");
             print_problem(model);
+            let ns = model.needs;
+            print_needs(ns);
             if !comes_back(sheet) {
                 print(b" and is not written so");
             }
@@ -97,11 +116,14 @@ fn first(s: &[u8], n: usize) -> &[u8] {
 
 // Writes the record of the row at a place.
 fn written(s: &[u8], at: usize, out: &mut [u8]) -> usize {
-    let capacity = read_number(s, find(s, at, b' '));
-    let count = read_number(s, capacity.at);
-    let items = read_items(s, count.at, count.size);
+    let row = first(s, find(s, at, b'\n'));
+    let capacity = read_number(row, find(row, at, b' '));
+    let count = read_number(row, capacity.at);
+    let items = read_items(row, count.at, count.size);
     let list = items.list;
-    let told = writer::write_sheet(record_of(capacity.value, places(count.size), list), out);
+    let needs = read_needs(row, items.at);
+    let ns = needs.needs;
+    let told = writer::write_sheet(with_needs(record_of(capacity.value, places(count.size), list), ns), out);
     match told {
         Listed::Written(n) => n,
         Listed::Refused(_) => 0,

@@ -6,7 +6,8 @@ pub mod enumerate; // the best value of a small problem, by trying every point
 pub mod exact; // sums and products that are exact, or far off
 pub mod holds; // whether a point or a ray is one
 pub mod make; // items and problems made by hand
+pub mod needs; // needs from a seed
 pub mod outcome; // an answer beside plain enumeration
 pub mod print; // numbers, items, problems and kinds in paper 01's words
-pub mod read; // numbers and items from a program's input
+pub mod read; // numbers, items and needs from a program's input
 pub mod tally; // what answers come to, counted

@@ -4,6 +4,7 @@
 --   written-read    reading what was written gives that problem, its unused places as the reader fills them
 --   read-written    writing what was read gives the very bytes, and the record is one that is written
 --   equal-sheets    two accepted problems have equal sheets only if they agree
+--   Sized m         the record has 16 places and 16 lines of needs, as every record that is handed over
 -- agree-text: records that agree have one sheet. agree-accepted: and are accepted together. tidied-agrees: so does the reader's record.
 use mathlib.Core.Path.{_≡_, refl, sym, ap, ap₂, _∙_}
 use mathlib.Core.List.{List, [], _∷_, _++_}

@@ -88,7 +88,7 @@ fn put_bound(out: &mut [u8], at: usize, k: usize, b: Bound) -> usize
 }
 
 fn put_need(out: &mut [u8], at: usize, need: Need) -> usize
-    requires { ⌜ (at + 25 ≤ length (now out)) × ((need .item ≤ 16) × (need .cover ≤ 16)) ⌝ }
+    requires { ⌜ (at + 42 ≤ length (now out)) × ((need .item ≤ 16) × (need .cover ≤ 16)) ⌝ }
     ensures { λ r. ⌜ Put 6 at (needText need) (now (out .entry)) (now (out .exit)) r ⌝ }
 {
     let k = need.item;
@@ -175,7 +175,7 @@ fn put_side(out: &mut [u8], at: usize, side: Side, m: Model) -> usize
 }
 
 fn put_need_lines(out: &mut [u8], at: usize, m: Model) -> usize
-    requires { ⌜ (at + 121 ≤ length (now out)) × (verdict m ≡ Accepted) ⌝ }
+    requires { ⌜ (at + 132 ≤ length (now out)) × (verdict m ≡ Accepted) ⌝ }
     ensures { λ r. ⌜ Put 96 at (linesText needText (upTo (m .needs .count) (needAt (m .needs)))) (now (out .entry)) (now (out .exit)) r ⌝ }
 {
     let ns = m.needs;
@@ -191,7 +191,7 @@ fn put_need_lines(out: &mut [u8], at: usize, m: Model) -> usize
 }
 
 fn put_needs(out: &mut [u8], at: usize, m: Model) -> usize
-    requires { ⌜ (at + 148 ≤ length (now out)) × (verdict m ≡ Accepted) ⌝ }
+    requires { ⌜ (at + 159 ≤ length (now out)) × (verdict m ≡ Accepted) ⌝ }
     ensures { λ r. ⌜ Put 123 at (needsText m) (now (out .entry)) (now (out .exit)) r ⌝ }
 {
     let ns = m.needs;

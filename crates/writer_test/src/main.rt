@@ -1,6 +1,6 @@
 // Tries the writer: write, read, write. What was written is read again as the same problem, and what was read is written as the same bytes;
 // a buffer of just the sheet's length is enough, a byte less is refusal 11 and changes nothing, and behind a sheet the bytes stay.
-//   drawn      records from the seeds that are printed, with rubbish beyond the count
+//   drawn      records from the seeds that are printed, with the needs drawn for them, and rubbish beyond both counts
 //   longest    the longest sheet there is
 //   refused    records out of range, also where the buffer is short
 // `disagreements` counts the records for which one of these fails.
@@ -9,15 +9,20 @@ use knapsack::Item;
 use knapsack::Mark;
 use knapsack::Verdict;
 use model::Model;
+use model::Need;
+use model::naming::no_need;
 use model::setters;
 use sheet::Reading;
 use text::Listed;
 use trials::count::one_more;
 use trials::count::print_count;
+use trials::draw::DrawnProblem;
 use trials::draw::Spans;
 use trials::draw::drawn_problem;
 use trials::draw::small;
 use trials::make;
+use trials::needs::with_all_needs;
+use trials::needs::with_drawn_needs;
 use trials::print::print;
 use trials::print::print_field;
 ghost use mathlib.Core.Path.{_≡_};
@@ -145,8 +150,35 @@ fn item_read(m: Model, k: usize) -> Item {
     knapsack::blank_item()
 }
 
-// Whether o is m as the reader fills it.
-fn is_same(m: Model, o: Model) -> bool {
+// The line of needs that the reader leaves: the record's, or an unused one beyond the count.
+fn need_read(m: Model, j: usize) -> Need {
+    let ns = m.needs;
+    if j < ns.count && j < 16 {
+        return ns.lines[j];
+    }
+    no_need()
+}
+
+fn same_needs(m: Model, o: Model) -> bool {
+    let ms = m.needs;
+    let os = o.needs;
+    if ms.count != os.count {
+        return false;
+    }
+    let mut j: usize = 0;
+    while j < 16 {
+        let x = need_read(m, j);
+        let y = os.lines[j];
+        if x.item != y.item || x.cover != y.cover {
+            return false;
+        }
+        j += 1;
+    }
+    true
+}
+
+// Whether o has m's capacity and items, as the reader fills it.
+fn same_items(m: Model, o: Model) -> bool {
     if m.count != o.count || m.capacity != o.capacity {
         return false;
     }
@@ -178,7 +210,9 @@ fn comes_back(m: Model, k: Kept) -> bool {
     let v = r.verdict;
     let o = r.model;
     match v {
-        Verdict::Accepted => is_same(m, o) && same_bytes(k, written(o, 1500)),
+        Verdict::Accepted => {
+            same_items(m, o) && same_needs(m, o) && same_bytes(k, written(o, 1500))
+        }
         Verdict::Refused(_) => false,
     }
 }
@@ -201,35 +235,60 @@ fn holds(m: Model) -> bool {
 
 // ---- drawn records
 
+// So many lines and a record's, of counts that stay far below 2^64.
+fn more_needs(n: u64, m: Model) -> u64 {
+    let ns = m.needs;
+    if n < 100000000 && ns.count < 17 {
+        n + ns.count as u64
+    } else {
+        n
+    }
+}
+
 // Out of range, with bounds that cross: no entry looks at it beyond the count.
 fn rubbish() -> Item {
     make::held(5000, -70000, 1, -1)
 }
 
-fn print_drawn(seed: u64, problems: u64, n: usize, s: Spans) {
+// The last place is rubbish where it is no item, and the last line of needs where it is none.
+fn with_rubbish(m: Model) -> Model {
+    let n = if m.count < 16 {
+        setters::with_item(m, 15, rubbish())
+    } else {
+        m
+    };
+    let ns = n.needs;
+    if ns.count < 16 {
+        return setters::with_need(n, 15, Need { item: 99, cover: 0 });
+    }
+    n
+}
+
+fn drawn(state: u64, n: usize, among: u64, s: Spans) -> DrawnProblem {
+    let d = drawn_problem(state, n, s);
+    let m = d.problem;
+    with_drawn_needs(m, d.state, among)
+}
+
+fn print_drawn(seed: u64, problems: u64, n: usize, among: u64, s: Spans) {
     let mut state = seed;
+    let mut needs: u64 = 0;
     let mut wrong: u64 = 0;
     let mut k: u64 = 0;
     while k < problems {
-        let d = drawn_problem(state, n, s);
+        let d = drawn(state, n, among, s);
         let m = d.problem;
         state = d.state;
+        needs = more_needs(needs, m);
         wrong = one_more(wrong, !holds(with_rubbish(m)));
         k += 1;
     }
     print_count(b"drawn, seed ", seed);
     print_count(b", problems ", problems);
     print_count(b", items ", n as u64);
+    print_count(b", needs ", needs);
     print_count(b"; disagreements ", wrong);
     print(b"\n");
-}
-
-// The last place is rubbish where it is no item.
-fn with_rubbish(m: Model) -> Model {
-    if m.count < 16 {
-        return setters::with_item(m, 15, rubbish());
-    }
-    m
 }
 
 // Figures over the whole of their ranges.
@@ -280,9 +339,33 @@ fn all_places(x: Item) -> [Item; 16] {
     [x; 16]
 }
 
+// The longest lines of items; five of them may be named, and 16 lines of needs take five.
+fn longest_items() -> [Item; 16] {
+    let x = make::held(-1000, -10000, -10000, -10000);
+    let named = make::held(-1000, -10000, 10000, -10000);
+    let mut items = all_places(x);
+    items[11] = named;
+    items[12] = named;
+    items[13] = named;
+    items[14] = named;
+    items[15] = named;
+    items
+}
+
+// Two items of which the first may be named, and a need.
+fn needy(y: Item, item: usize, cover: usize) -> Model {
+    let m = make::two(0, make::held(1, 1, 0, 1), y);
+    let need = Need {
+        item: item,
+        cover: cover,
+    };
+    setters::with_need_count(setters::with_need(m, 0, need), 1)
+}
+
 fn show_chosen() {
     let x = make::held(-1000, -10000, -10000, -10000);
-    show(b"longest", make::record_of(-100000000, 16, all_places(x)));
+    let longest = make::record_of(-100000000, 16, longest_items());
+    show(b"longest", with_all_needs(longest, 11));
     let free = make::free(0, 0);
     show(b"no bounds", make::record_of(0, 1, all_places(free)));
     show(b"refused, count 0", make::record_of(0, 0, all_places(x)));
@@ -295,12 +378,26 @@ fn show_chosen() {
     show(b"bounds that cross", make::one(0, make::held(1, 1, 1, 0)));
 }
 
+fn show_needs() {
+    let y = make::held(2, 2, 0, 3);
+    show(b"a need", needy(y, 2, 1));
+    show(b"refused, 17 needs", setters::with_need_count(needy(y, 2, 1), 17));
+    show(b"refused, an item that needs itself", needy(y, 2, 2));
+    show(b"refused, no such cover", needy(y, 2, 3));
+    show(b"refused, a continuous item needs", needy(make::loose(y), 2, 1));
+    show(
+        b"refused, a cover from below 0",
+        needy(make::held(2, 2, -1, 3), 1, 2),
+    );
+}
+
 fn main() {
-    print_drawn(1, 200, 1, small(1, 2));
-    print_drawn(2, 200, 3, small(2, 2));
-    print_drawn(3, 200, 5, wide(0));
-    print_drawn(4, 200, 11, wide(2));
-    print_drawn(5, 200, 16, wide(1));
-    print_drawn(6, 100, 16, wide(0));
+    print_drawn(1, 200, 1, 0, small(1, 2));
+    print_drawn(2, 200, 3, 2, small(2, 2));
+    print_drawn(3, 200, 5, 3, wide(0));
+    print_drawn(4, 200, 11, 9, wide(2));
+    print_drawn(5, 200, 16, 30, wide(1));
+    print_drawn(6, 100, 16, 5, wide(0));
     show_chosen();
+    show_needs();
 }

@@ -9,9 +9,23 @@ use borrow.Author.Needs.{needs}
 use Rattle.writer.proofs.put_sheet.Statement.{statement}
 use Rattle.writer.proofs.put_sheet.Tie as tie
 
-capacity-fits : (c : tie.After-put-limit) →
-    let s = c .before .before .before .before in
-    SFits w64 (s .args .m .capacity)
+-- the moments behind the sections, and the one before them
+abbrev start : tie.After-put-limit → tie.Start
+start c = c .before .before .before .before
+
+abbrev limit : tie.After-put-items → tie.After-put-limit
+limit c = c .before .before .before .before
+
+abbrev items : tie.After-put-side → tie.After-put-items
+items c = c .before .before .before .before
+
+abbrev lower : tie.After-put-side2 → tie.After-put-side
+lower c = c .before .before .before .before
+
+abbrev upper : tie.After-put-needs → tie.After-put-side2
+upper c = c .before .before .before .before
+
+capacity-fits : (c : tie.After-put-limit) → SFits w64 (start c .args .m .capacity)
 capacity-fits c = search needs
 
 put-limit-requires : tie.Need-put-limit-requires
@@ -26,18 +40,22 @@ put-side-requires c κs = search needs
 put-side-requires-2 : tie.Need-put-side-requires-2
 put-side-requires-2 c κs = search needs
 
+put-needs-requires : tie.Need-put-needs-requires
+put-needs-requires c κs = search needs
+
 same-length : tie.Need-same-length
 same-length c = search needs
 
 returns : tie.Need-returns
 unfolding printing
 returns c =
-    let u = c .before .before in
-    let l = u .before .before .before .before in
-    let i = l .before .before .before .before in
-    let b = i .before .before .before .before in
-    let f = puts (omega arith) (i .put-items .ensures) (puts (omega arith) (l .put-side .ensures) (u .put-side2 .ensures)) in
-    rw (toZ-ofZ (capacity-fits b)) at (puts (omega arith) (b .put-limit .ensures) f)
+    let n = c .before .before in
+    let u = upper n in
+    let l = lower u in
+    let i = items l in
+    let b = limit i in
+    let sides = puts (omega arith) (l .put-side .ensures) (puts (omega arith) (u .put-side2 .ensures) (n .put-needs .ensures)) in
+    rw (toZ-ofZ (capacity-fits b)) at (puts (omega arith) (b .put-limit .ensures) (puts (omega arith) (i .put-items .ensures) sides))
 
 pub put-sheet-spec : {M : Type 1} → statement M
 put-sheet-spec =
@@ -47,5 +65,6 @@ put-sheet-spec =
     put-items-requires
     put-side-requires
     put-side-requires-2
+    put-needs-requires
     same-length
     returns)

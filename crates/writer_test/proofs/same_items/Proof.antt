@@ -1,8 +1,8 @@
--- `writer_test::is_same` looks at 16 places.
+-- `writer_test::same_items` looks at 16 places.
 use Prim.Native.Nat.{_≤_, _-_}
 use borrow.Author.Needs.{needs}
-use Rattle.writer_test.proofs.is_same.Statement.{statement}
-use Rattle.writer_test.proofs.is_same.Tie as tie
+use Rattle.writer_test.proofs.same_items.Statement.{statement}
+use Rattle.writer_test.proofs.same_items.Tie as tie
 
 abbrev Inv-loop : tie.InvT-loop
 Inv-loop m o k₀ k = k ≤ 16
@@ -43,8 +43,8 @@ loop-again c = search needs
 returns-3 : tie.Need-returns-3 Inv-loop μ-loop
 returns-3 c = search needs
 
-pub is-same-spec : {M : Type 1} → statement M
-is-same-spec =
+pub same-items-spec : {M : Type 1} → statement M
+same-items-spec =
     tie.close
     (tie.spec
     Inv-loop
