@@ -8,7 +8,7 @@
 --   limitAt s, countAt s, markAt s, weightAt s, priceAt s, valueAt s     a figure drawn at s, over its range in paper 01's table
 --   boundBy b s          a bound by whether its first draw, at s, was 3: none, or the number of the next draw;  boundFrom s: its first draw is at s
 --   drawnBound s         a bound after s: a first draw 0 to 3, 3 being none, then the number if present; and the state after
---   itemAfter a b c      an item with its mark, weight and price drawn at a, b, c
+--   figuresAt a b c      an item with its mark, weight and price drawn at a, b, c, no bounds as yet
 --   drawnItem s          mark, weight and price after s; and the state after
 --   drawnSide side b i   the item i with the drawn bound b
 --   drawnLine σ i s      what a section draws for the item i after s
@@ -97,12 +97,12 @@ boundFrom s = boundBy (eqb (choiceAt s (pos 0) (pos 3)) 3) s
 unfoldable pub drawnBound : ℕ → DrawnBound
 drawnBound s = boundFrom (nextState s)
 
-abbrev pub itemAfter : ℕ → ℕ → ℕ → Item
-itemAfter a b c = record { mark = markAt a; weight = weightAt b; price = priceAt c; lower = Absent; upper = Absent }
+abbrev pub figuresAt : ℕ → ℕ → ℕ → Item
+figuresAt a b c = record { mark = markAt a; weight = weightAt b; price = priceAt c; lower = Absent; upper = Absent }
 
 unfoldable pub drawnItem : ℕ → DrawnItem
 drawnItem s = record {
-  item = itemAfter (nextState s) (nextState (nextState s)) (nextState (nextState (nextState s)));
+  item = figuresAt (nextState s) (nextState (nextState s)) (nextState (nextState (nextState s)));
   state = nextState (nextState (nextState s));
 }
 

@@ -37,15 +37,15 @@ ghost use Rattle.drawing.specs.Drawing.{
 };
 
 // A bound, and the state after its draws.
-pub struct DrawnBound {
-    pub bound: Bound,
-    pub state: u64,
+struct DrawnBound {
+    bound: Bound,
+    state: u64,
 }
 
 // An item, and the state after its draws.
-pub struct DrawnItem {
-    pub item: Item,
-    pub state: u64,
+struct DrawnItem {
+    item: Item,
+    state: u64,
 }
 
 // A problem, and the state after its draws.
@@ -55,7 +55,7 @@ pub struct DrawnProblem {
 }
 
 // The sections of a sheet that have a line for each item.
-pub enum Section {
+enum Section {
     Items,
     Lower,
     Upper,
