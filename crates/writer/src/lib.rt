@@ -213,7 +213,8 @@ fn put_sheet(out: &mut [u8], m: Model) -> usize
     put_needs(out, needs, m)
 }
 
-fn sheet_text(m: Model) -> Text
+// The sheet of an accepted record, by value.
+pub fn sheet_text(m: Model) -> Text
     requires { ⌜ verdict m ≡ Accepted ⌝ }
     ensures { λ r. ⌜ Shows (printing m) r ⌝ }
 {
