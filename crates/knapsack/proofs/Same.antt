@@ -1,7 +1,7 @@
 -- The places beyond the count play no part.
 --   Same s t     the instances agree at the items of the problem
 -- same-sym: so they do the other way round. same-relaxed: so do their relaxations. same-answers: they have the same answers.
--- same-first: and a best point that comes first for one does for the other. same-value, same-feasible, same-serves: of each point.
+-- same-first: and a best point that comes first for one does for the other.
 use mathlib.Core.Path.{_≡_, sym, ap, _∙_, subst, subst₂}
 use mathlib.Core.Logic.{_≢_}
 use Prim.Native.Nat.{ℕ, _<_}
@@ -40,16 +40,16 @@ module _ (s t : Instance) (e : Same s t) where
       total-cong (s .count) (λ k. a (s .item k) ·ᶠ x k) (λ k. a (t .item k) ·ᶠ x k) (λ k h. ap (λ i. a i ·ᶠ x k) (e .items k h))
       ∙ ap (λ n. total n (λ k. a (t .item k) ·ᶠ x k)) (e .count)
 
-  pub same-value : (x : Point) → value s x ≡ value t x
+  same-value : (x : Point) → value s x ≡ value t x
   same-value x = same-total (λ i. i .price) x
 
-  pub same-feasible : (x : Point) → Feasible s x → Feasible t x
+  same-feasible : (x : Point) → Feasible s x → Feasible t x
   same-feasible x p = record {
     keeps = λ k h. subst (λ i. Keeps i (x k)) (e .items k (in-s k h)) (p .keeps k (in-s k h));
     fits = subst₂ (λ w b. w ≤ᶠ int b) (same-total (λ i. i .weight) x) (e .capacity) (p .fits);
   }
 
-pub same-serves : (s t : Instance) → Same s t → Serves t s
+same-serves : (s t : Instance) → Same s t → Serves t s
 same-serves s t e = record {
   count = e .count;
   weight = λ k h. ap (λ (i : Item). i .weight) (e .items k (in-s s t e k h));
