@@ -7,7 +7,7 @@ use knapsack::Bound;
 use knapsack::Item;
 use model::Model;
 use planner::STEPS;
-use planner::plan_within;
+use branching::plan_within;
 use trials::count::one_more;
 use trials::count::print_count;
 use trials::draw::Spans;

@@ -7,7 +7,7 @@ mod texts; // the text entry
 use knapsack::Answer;
 use model::Model;
 use planner::STEPS;
-use planner::plan_within;
+use branching::plan_within;
 use trials::draw::Spans;
 use trials::draw::drawn_problem;
 use trials::draw::small;

@@ -11,7 +11,7 @@ use crate::sheets::large;
 use crate::sheets::loosened;
 use crate::sheets::record_of;
 use knapsack::Answer;
-use planner::plan;
+use branching::plan;
 use trials::draw::Spans;
 use trials::draw::small;
 use trials::enumerate::below;

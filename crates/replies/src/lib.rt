@@ -7,7 +7,7 @@ use listing::list_reply;
 use listing::text_of;
 use model::Model;
 use planner::no_point;
-use planner::plan;
+use branching::plan;
 use sheet::Reading;
 use sheet::read;
 use text::Listed;
