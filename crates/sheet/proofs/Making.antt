@@ -4,13 +4,15 @@
 -- bounds-number: the item number is the number of lines.
 --   Kept side i j                  j has all of i but the bound of one side
 -- items-fit, bounds-fit, needs-fit: the lines of a record in range fit, one after the other.
+--   asRecord x                     the verdict of a record for what a line gave
+-- End theorem: need-as-record: a line of two item numbers is refused as it is in the record that has it.
 use mathlib.Core.Path.{_≡_, refl, sym, ap, ap₂, _∙_}
-use mathlib.Core.Bool.{false}
+use mathlib.Core.Bool.{Bool, true, false, cond}
 use mathlib.Core.List.{List, [], _∷_, _++_}
 use Prim.Native.Nat.{ℕ, zero, suc, _≤_, _<_}
 use native.Mathlib.Omega.{arith}
 use native.Mathlib.Decide.{decLt, ℕ-discrete}
-use lib.IntN.{ℤ}
+use lib.IntN.{ℤ, pos}
 use lib.ListN.{length, getD, set, replicate, length-set, length-replicate, getD-replicate, List·getD-eq-default}
 use lib.Seq.{getD-set-same, getD-set-other}
 use Rattle.arith.specs.Sum.{Each}
@@ -18,18 +20,28 @@ use Rattle.knapsack.specs.Ranges.{blank}
 use Rattle.knapsack.specs.declared.Bound.{Bound}
 use Rattle.knapsack.specs.declared.Bound.the-variants.{Absent}
 use Rattle.knapsack.specs.declared.Item.{Item}
+use Rattle.knapsack.specs.declared.Verdict.{Verdict}
+use Rattle.knapsack.specs.declared.Verdict.the-variants.{Accepted}
 use Rattle.model.specs.declared.Model.{Model}
 use Rattle.model.specs.declared.Need.{Need}
 use Rattle.model.specs.declared.Needs.{Needs}
 use Rattle.model.specs.declared.Side.{Side}
 use Rattle.model.specs.declared.Side.the-variants.{Lower, Upper}
 use Rattle.model.specs.Needs.{noNeed, noNeeds}
-use Rattle.model.specs.Records.{emptyModel, itemAt, needAt, outside, badBound, badLine, unfitLine, lineBefore}
+use Rattle.model.specs.Records.{emptyModel, itemAt, needAt, outside, badBound, badLine, unfitLine, lineBefore, refuse, refusedIf, orElse, needVerdict}
+use Rattle.model.specs.Refusals as refusal
 use Rattle.model.specs.Setters.{withCapacity, withItem, bounded, withBound, withNeed}
 use Rattle.model.proofs.NeedLines.{before-next}
+use Rattle.model.proofs.Records.{held-all}
+use Rattle.lines.specs.declared.number.Ranged.the-variants.{In}
+use Rattle.lines.specs.declared.TwoNumbers.the-variants.{Both}
+use Rattle.lines.specs.declared.NeedRead.the-variants.{Fault as NeedFault, Read as NeedIs}
+use Rattle.lines.specs.Numbers.{fromTo}
+use Rattle.lines.specs.Lines.{numbersLine, needRead}
 use Rattle.lines.specs.Layout.{Bounding, bounding}
 use Rattle.sheet.specs.declared.Progress.{Progress}
-use Rattle.sheet.specs.Sections.{goesOn, linesText}
+use Rattle.sheet.specs.Sections.{goesOn, Gives, fault, gives, linesText}
+use Rattle.sheet.specs.Reading.{needGives, needForm}
 use Rattle.sheet.specs.Printing.{upTo, sideOf, boundAt, boundingAt}
 use Rattle.sheet.proofs.Sections.{Fitting}
 use Rattle.sheet.proofs.Forms.{LimitFits, Bare, BoundFits, NeedFits}
@@ -322,3 +334,31 @@ needs-fit o m (suc n) ns h = (
           fair = rw (k, i .count, before-cong (p .model .needs) ns n e) (q .0);
           fit = rw (i .items) (q .1);
         }
+
+-- ---- a line of two item numbers is refused as it is in the record that has it: 5, then 14
+
+abbrev pub asRecord : {A : Type 0} → Gives A → Verdict
+asRecord (fault k) = refuse k
+asRecord (gives a n) = Accepted
+
+pub need-as-record : (s : List ℕ) (p : Progress) (b : Need) (next : ℕ) → p .item < 16 → p .model .count ≤ 16 → length (p .model .needs .lines) ≡ 16 →
+    let n = p .model .count in numbersLine (fromTo 1 n) (fromTo 1 n) s (p .at) ≡ Both (In (pos (b .item))) (In (pos (b .cover))) next →
+    asRecord (needForm .read s p) ≡ needVerdict (withNeed (p .model) (p .item) b) (p .item)
+unfolding needRead
+need-as-record s p b next l few size e =
+    let m = p .model in
+    let j = p .item in
+    let o = withNeed m j b .needs in
+    let here : needAt o j ≡ b = getD-set-same (m .needs .lines) j b noNeed (omega (arith, size)) in
+    let same = before-cong o (m .needs) j (λ i u. getD-set-other (m .needs .lines) j i b noNeed (omega arith)) in
+    rw (e, here, same, held-all (m .count) few) (bad (badLine (m .count) (lineBefore (m .needs) j) b))
+  where
+    unfitted : (u : Bool) → asRecord {A = Need} (cond u (fault refusal.named-item) (gives b next)) ≡ refusedIf u refusal.named-item
+    unfitted true = refl
+    unfitted false = refl
+
+    bad : (t : Bool) → let f = itemAt (p .model) in
+        asRecord (needGives f (cond t (NeedFault refusal.item-number) (NeedIs b next)))
+        ≡ orElse (refusedIf t refusal.item-number) (refusedIf (unfitLine f b) refusal.named-item)
+    bad true = refl
+    bad false = unfitted (unfitLine (itemAt (p .model)) b)
