@@ -8,11 +8,12 @@
 --   standing s f x    the incumbent that the place x is
 --   mostWork          the most cells that the scales write for a problem: those of 305 runs
 --   BestPlace s p n r r is the best place of the box, with the steps of a search that may take n
---   Walked most p n   n steps were taken by the search of p that may take `most`
---   CountsAs most k p n, Counts most p a n
+--   Walked most p named n
+--                     n steps were taken by the search of p that may take `most` and discards by no pair with an item that is named
+--   CountsAs most k p named n, Counts most p named a n
 --                     n steps were taken for an answer of that kind, for the answer a
 --   SolvesWithin most p r
---                     r is the answer of p, with the steps of its search, at most so many;  Solves p r: at most 1,000
+--                     r is the answer of p, after at most so many steps;  Solves p r: at most 1,000
 use mathlib.Core.Path.{_≡_}
 use mathlib.Core.Bool.{Bool, true}
 use mathlib.Core.List.{List}
@@ -100,29 +101,28 @@ pub record BestPlace (s : Setting) (p : Pairs) (n : ℕ) (r : Found) : Type 0 wh
 -- ---- the answer of a problem, and the steps of its search
 
 -- n steps were taken by a search of p's own setting, narrowed to its items' spans, that may take `most`
-pub record Walked (most : ℕ) (p : Problem) (n : ℕ) : Type 0 where
+pub record Walked (most : ℕ) (p : Problem) (named : List Bool) (n : ℕ) : Type 0 where
   pub setting : Setting
   pub prepared : PreparedAt (spanOf p) p setting
   pub pairs : Pairs
-  pub pairs-are : PairsOf p pairs
+  pub pairs-are : PairsOf p named pairs
   pub end : State
   pub stops : Stops setting pairs most end
   pub steps-are : n ≡ end .steps
 
 -- an optimum is searched for; no other answer is
-abbrev pub CountsAs : ℕ → Kind → Problem → ℕ → Type 0
-CountsAs most kind.Optimal p n = Walked most p n
-CountsAs most kind.Infeasible p n = n ≡ 0
-CountsAs most kind.Unbounded p n = n ≡ 0
-CountsAs most (kind.Refused f) p n = ⊥
+abbrev pub CountsAs : ℕ → Kind → Problem → List Bool → ℕ → Type 0
+CountsAs most kind.Optimal p named n = Walked most p named n
+CountsAs most kind.Infeasible p named n = n ≡ 0
+CountsAs most kind.Unbounded p named n = n ≡ 0
+CountsAs most (kind.Refused f) p named n = ⊥
 
-abbrev pub Counts : ℕ → Problem → Answer → ℕ → Type 0
-Counts most p a n = CountsAs most (a .kind) p n
+abbrev pub Counts : ℕ → Problem → List Bool → Answer → ℕ → Type 0
+Counts most p named a n = CountsAs most (a .kind) p named n
 
 pub record SolvesWithin (most : ℕ) (p : Problem) (r : Solved) : Type 0 where
   pub answers : Answers (instanceOf p) (r .answer)
   pub first : ShownFirst (instanceOf p) (r .answer)
-  pub counts : Counts most p (r .answer) (r .steps)
   pub few-steps : r .steps ≤ most
   pub few-cells : r .cells ≤ mostWork
 

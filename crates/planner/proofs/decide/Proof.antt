@@ -37,13 +37,15 @@ returns c =
     let q = a .prepare .ensures in
     let s = a .prepare .result in
     let t = rw (b .begin .ensures, within-back tt (begun-within (s .cols) (s .ends) (q .ready .sized))) at (h .before .if1 .taken) in
-    rw (c .with-work .ensures, h .no-point .ensures) (record {
-      answers = infeasible-corner (a .before .args .p) (a .before .pre) s q (yes-lt t);
-      first = λ low e. absurd (not-infeasible kind.Infeasible refl e);
-      counts = refl;
-      few-steps = omega arith;
-      few-cells = omega arith;
-    })
+    rw (c .with-work .ensures, h .no-point .ensures) (
+      record {
+        answers = infeasible-corner (a .before .args .p) (a .before .pre) s q (yes-lt t);
+        first = λ low e. absurd (not-infeasible kind.Infeasible refl e);
+        few-steps = omega arith;
+        few-cells = omega arith;
+      },
+      refl,
+    )
 
 find-ray-requires : tie.Need-find-ray-requires
 find-ray-requires c κs = search needs
@@ -68,14 +70,16 @@ returns-2 c =
     let q = a .prepare .ensures in
     let s = a .prepare .result in
     let t = rw (b .begin .ensures, within-back tt (begun-within (s .cols) (s .ends) (q .ready .sized))) at (e .if1 .left) in
-    rw (c .with-work2 .ensures) (record {
-      answers = unbounded-corner (a .before .args .p) (a .before .pre) s q (r .find-ray .result) (u .unbounded .result) (no-lt t) (r .find-ray .ensures)
-          (t2 .if2 .taken) (u .unbounded .ensures);
-      first = λ low e. absurd (not-unbounded (u .unbounded .result .kind) (u .unbounded .ensures .kind-is) e);
-      counts = rw (u .unbounded .ensures .kind-is) refl;
-      few-steps = omega arith;
-      few-cells = omega arith;
-    })
+    rw (c .with-work2 .ensures) (
+      record {
+        answers = unbounded-corner (a .before .args .p) (a .before .pre) s q (r .find-ray .result) (u .unbounded .result) (no-lt t) (r .find-ray .ensures)
+            (t2 .if2 .taken) (u .unbounded .ensures);
+        first = λ low e. absurd (not-unbounded (u .unbounded .result .kind) (u .unbounded .ensures .kind-is) e);
+        few-steps = omega arith;
+        few-cells = omega arith;
+      },
+      rw (u .unbounded .ensures .kind-is) refl,
+    )
 
 reach-of-requires : tie.Need-reach-of-requires
 reach-of-requires c κs = search needs
@@ -181,7 +185,7 @@ with-work-requires-3 c κs = search needs
 
 -- the search's own count
 walked : (n : tie.After-best-place) → let w = n .before .before in let s = Prep (w .before .before) .before in
-    Walked (s .args .most) (s .args .p) (n .best-place .result .steps)
+    Walked (s .args .most) (s .args .p) (s .args .named) (n .best-place .result .steps)
 unfolding Prep
 walked n = record {
   setting = n .before .before .narrowed .result;
@@ -203,13 +207,15 @@ returns-3 c =
     let b = n .best-place .ensures in
     let z = f .shown-first .result in
     let h = f .shown-first .ensures in
-    rw (c .with-work3 .ensures) (record {
-      answers = subst (AnswersAs (instanceOf (s .args .p)) (z .answer)) (sym (h .kind-is)) (h .shown);
-      first = h .first;
-      counts = rw (h .kind-is) (walked n);
-      few-steps = omega (arith, b .steps-are, b .stops .steps-are, b .stops .runs .few);
-      few-cells = omega (arith, b .few-cells, h .few);
-    })
+    rw (c .with-work3 .ensures) (
+      record {
+        answers = subst (AnswersAs (instanceOf (s .args .p)) (z .answer)) (sym (h .kind-is)) (h .shown);
+        first = h .first;
+        few-steps = omega (arith, b .steps-are, b .stops .steps-are, b .stops .runs .few);
+        few-cells = omega (arith, b .few-cells, h .few);
+      },
+      rw (h .kind-is) (walked n),
+    )
 
 pub decide-spec : {M : Type 1} → statement M
 decide-spec =
