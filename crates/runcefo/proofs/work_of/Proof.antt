@@ -11,7 +11,7 @@ plain-of-requires : tie.Need-plain-of-requires
 plain-of-requires c κs = search needs
 
 solve-needs-requires : tie.Need-solve-needs-requires
-solve-needs-requires c κs = let e = c .before in rw (c .plain-of .ensures) (e .before .before .before .pre (e .enum-told .given .1))
+solve-needs-requires c κs = let e = c .before .before in rw (c .plain-of .ensures) (e .before .before .before .pre (e .enum-told .given .1))
 
 enum-told-2 : tie.Need-enum-told-2
 enum-told-2 c = search needs
@@ -20,7 +20,7 @@ returns : tie.Need-returns
 returns c =
     let p = c .before in
     let solves = rw (p .plain-of .ensures) at (c .solve-needs .ensures) in
-    rw (p .before .enum-told .given .1) ((c .solve-needs .result, (solves, refl)), (c .solve-needs .result, (solves, refl)))
+    rw (p .before .before .enum-told .given .1) ((c .solve-needs .result, (solves, refl)), (c .solve-needs .result, (solves, refl)))
 
 returns-2 : tie.Need-returns-2
 returns-2 c = rw (c .enum-told2 .given .1) (refl, refl)
