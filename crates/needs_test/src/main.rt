@@ -13,6 +13,7 @@ use model::Need;
 use model::setters;
 use planner::STEPS;
 use branching::plan_within;
+use trials::count::print_count;
 use trials::draw::Spans;
 use trials::draw::drawn_problem;
 use trials::make::first_of;
@@ -65,8 +66,28 @@ fn needing(m: Model, place: usize, item: usize, cover: usize) -> Model
     setters::with_need_count(setters::with_need(m, place, need), place + 1)
 }
 
+fn print_need(need: Need) {
+    print_count(b", ", need.item as u64);
+    print_count(b" needs ", need.cover as u64);
+}
+
+fn print_needs(p: Model) {
+    let ns = p.needs;
+    let t = ns.count;
+    let lines = ns.lines;
+    let mut j: usize = 0;
+    while j < 16 {
+        let need = lines[j];
+        if j < t {
+            print_need(need);
+        }
+        j += 1;
+    }
+}
+
 fn show(p: Model) {
     print_problem(p);
+    print_needs(p);
     let a = plan_within(p, STEPS);
     print(b": ");
     print_kind(a);
@@ -75,8 +96,8 @@ fn show(p: Model) {
     print(b"\n");
 }
 
-// The two on which a pair with a named item would discard the best point, least and of equal value (in the first, 0, 3, 0 is best although 4 of
-// item 1 for 3 of item 2 fit); the lightest point breaks the need; nothing keeps it; a chain; a cycle; a ray beside a need.
+// The two on which a pair with a named item would discard the best point, least and of equal value; the lightest point breaks the
+// need; nothing keeps it; a chain; a cycle; a ray beside a need.
 fn chosen() {
     show(needing(first_of(12, 3, held(3, 5, 0, 10), held(4, 6, 0, 10), held(1, -100, 0, 1)), 0, 1, 3));
     show(needing(first_of(3, 3, held(1, 1, 0, 3), held(1, 1, 0, 3), held(1, -5, 0, 1)), 0, 2, 3));
@@ -132,6 +153,7 @@ fn is_first(p: Model, a: Answer, n: usize) -> bool
 fn print_wrong(p: Model, a: Answer) {
     print(b"disagreement: ");
     print_problem(p);
+    print_needs(p);
     print(b": ");
     print_kind(a);
     print_three(a);

@@ -7,7 +7,7 @@
 --   left s b           the buffer afterwards: the sheet and the bytes behind it, or the buffer as it was
 --   WorkAs f v m n     the work for the record m with that verdict is n, as f counts it; 0 where it is refused
 --   Steps r n, Cells r n
---                      n steps are those of the search for what was read; n cells are those that the scales write for it
+--                      n steps are those of the searches for what was read, of at most 1,000 each; n cells are those that the scales write for it
 --   Plans s b c l k n  the buffer b becomes c, and length l, line k and number n say so, for a true answer to the sheet s
 use mathlib.Core.Path.{_≡_}
 use mathlib.Core.List.{List}
@@ -18,9 +18,9 @@ use Rattle.text.specs.declared.Listed.{Listed}
 use Rattle.text.specs.declared.Listed.the-variants.{Written, Refused as NotWritten}
 use Rattle.text.specs.Buffer.{noted, told, filled}
 use Rattle.model.specs.declared.Model.{Model}
-use Rattle.model.specs.Records.{plainOf}
+use Rattle.model.specs.Records.{plainOf, needsOf}
 use Rattle.planner.specs.declared.Solved.{Solved}
-use Rattle.planner.specs.Outcomes.{Solves}
+use Rattle.branching.specs.Branching.{SolvesNeeds}
 use Rattle.replies.specs.Replies.{SheetLists}
 use Rattle.sheet.specs.declared.Reading.{Reading}
 use Rattle.sheet.specs.Reading.{readSheet}
@@ -49,7 +49,7 @@ abbrev pub left : List ℕ → List ℕ → List ℕ
 left s b = onAccepted (readSheet s .verdict) (λ f. b) (filled s b)
 
 abbrev pub WorkAs : (Solved → ℕ) → Verdict → Model → ℕ → Type 0
-WorkAs f Accepted m n = (r : Solved) × (Solves (plainOf m) r × (n ≡ f r))
+WorkAs f Accepted m n = (r : Solved) × (SolvesNeeds 1000 (plainOf m) (needsOf (m .needs)) r × (n ≡ f r))
 WorkAs f (Refused g) m n = n ≡ 0
 
 abbrev pub Steps : Reading → ℕ → Type 0

@@ -1,9 +1,10 @@
 // Entries for programs in C and Rust, on bytes and numbers: a sheet's verdict, its reply in a lent buffer, and how much work it is.
 // include/runcefo.h declares them. Paper 01, "The sheet" and "What `charge` prints". Nothing is asked of a caller but that each
 // pointer has as many bytes behind it as the length beside it says.
+use branching::solve_needs;
 use knapsack::Verdict;
 use model::plain_of;
-use planner::solve;
+use planner::STEPS;
 use replies::list_sheet;
 use sheet::Reading;
 use sheet::read;
@@ -13,7 +14,8 @@ use writer::rewrite_sheet;
 ghost use mathlib.Core.Path.{_≡_};
 ghost use Rattle.knapsack.specs.declared.Verdict.the-variants.{Accepted};
 ghost use Rattle.listing.specs.Printing.{room};
-ghost use Rattle.model.specs.Records.{plainOf, FiguresInRange};
+ghost use Rattle.model.specs.Records.{plainOf};
+ghost use Rattle.branching.specs.Branching.{Needed};
 ghost use Rattle.sheet.specs.Reading.{readSheet};
 ghost use Rattle.runcefo.specs.Entries.{toldNumber, toldLine, lengthOf, listedVerdict, Plans, Steps, Cells, saved, left};
 
@@ -57,7 +59,7 @@ fn listed_verdict(w: Listed) -> Verdict
     }
 }
 
-// The steps of a search, and the cells that the scales write where it has not ended.
+// The steps of the searches, and the cells that the scales write where one has not ended.
 pub struct Work {
     pub steps: u64,
     pub cells: u64,
@@ -65,14 +67,15 @@ pub struct Work {
 
 // The work for what was read.
 fn work_of(r: Reading) -> Work
-    requires { ⌜ (r .verdict ≡ Accepted → FiguresInRange (plainOf (r .model))) ⌝ }
+    requires { ⌜ (r .verdict ≡ Accepted → Needed (plainOf (r .model)) (r .model .needs)) ⌝ }
     ensures { λ w. ⌜ Steps r (w .steps) × Cells r (w .cells) ⌝ }
 {
     let v = r.verdict;
     let m = r.model;
     match v {
         Verdict::Accepted => {
-            let q = solve(plain_of(m));
+            let ns = m.needs;
+            let q = solve_needs(plain_of(m), ns, STEPS);
             Work {
                 steps: q.steps,
                 cells: q.cells,
@@ -141,7 +144,7 @@ pub extern "C" fn charge_plan(
     told_number(v)
 }
 
-// The steps of the search for a sheet; none where it is refused, or where no search is needed.
+// The steps of the searches for a sheet; none where it is refused, or where no search is needed.
 #[no_mangle]
 pub extern "C" fn charge_steps(sheet: &[u8]) -> u64
     ensures { λ r. ⌜ Steps (readSheet (now (sheet .entry))) r ⌝ }
@@ -150,7 +153,7 @@ pub extern "C" fn charge_steps(sheet: &[u8]) -> u64
     w.steps
 }
 
-// The cells that the scales write for a sheet; none where its search ends, or where there is none.
+// The cells that the scales write for a sheet; none where its searches end, or where there are none.
 #[no_mangle]
 pub extern "C" fn charge_cells(sheet: &[u8]) -> u64
     ensures { λ r. ⌜ Cells (readSheet (now (sheet .entry))) r ⌝ }

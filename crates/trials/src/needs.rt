@@ -13,9 +13,16 @@ use model::naming::is_unfit;
 use model::setters;
 ghost use Prim.Native.Nat.{_≤_};
 
-fn lifted(b: Bound) -> Bound {
+fn lifted_lower(b: Bound) -> Bound {
     match b {
         Bound::Absent => Bound::At(0),
+        Bound::At(v) => Bound::At(if v < 0 { 0 } else { v }),
+    }
+}
+
+fn lifted_upper(b: Bound) -> Bound {
+    match b {
+        Bound::Absent => Bound::At(3),
         Bound::At(v) => Bound::At(if v < 0 { times(v, -1) } else { v }),
     }
 }
@@ -23,8 +30,8 @@ fn lifted(b: Bound) -> Bound {
 fn fit_item(x: Item) -> Item {
     let l = x.lower;
     let u = x.upper;
-    let lower = lifted(l);
-    let upper = lifted(u);
+    let lower = lifted_lower(l);
+    let upper = lifted_upper(u);
     Item {
         mark: Mark::Integer,
         weight: x.weight,

@@ -238,11 +238,11 @@ fn holds(m: Model) -> bool {
 // So many lines and a record's, of counts that stay far below 2^64.
 fn more_needs(n: u64, m: Model) -> u64 {
     let ns = m.needs;
-    if n < 100000000 && ns.count < 17 {
-        n + ns.count as u64
-    } else {
-        n
+    let t = ns.count;
+    if 16 < t {
+        return n;
     }
+    if n < 100000000 { n + t as u64 } else { n }
 }
 
 // Out of range, with bounds that cross: no entry looks at it beyond the count.
@@ -381,10 +381,16 @@ fn show_chosen() {
 fn show_needs() {
     let y = make::held(2, 2, 0, 3);
     show(b"a need", needy(y, 2, 1));
-    show(b"refused, 17 needs", setters::with_need_count(needy(y, 2, 1), 17));
+    show(
+        b"refused, 17 needs",
+        setters::with_need_count(needy(y, 2, 1), 17),
+    );
     show(b"refused, an item that needs itself", needy(y, 2, 2));
     show(b"refused, no such cover", needy(y, 2, 3));
-    show(b"refused, a continuous item needs", needy(make::loose(y), 2, 1));
+    show(
+        b"refused, a continuous item needs",
+        needy(make::loose(y), 2, 1),
+    );
     show(
         b"refused, a cover from below 0",
         needy(make::held(2, 2, -1, 3), 1, 2),

@@ -1,12 +1,14 @@
--- `runcefo::work_for` meets its contract: an accepted sheet's figures are in range.
+-- `runcefo::work_for` meets its contract: an accepted sheet's figures are in range, and its needs allowed.
 use mathlib.Core.Path.{_≡_, ap, subst}
 use mathlib.Core.List.{List}
 use Prim.Native.Nat.{ℕ}
 use borrow.Author.Needs.{needs}
 use Rattle.knapsack.specs.declared.Verdict.{Verdict}
 use Rattle.knapsack.specs.declared.Verdict.the-variants.{Accepted}
-use Rattle.model.specs.Records.{plainOf, FiguresInRange}
+use Rattle.model.specs.Records.{plainOf}
 use Rattle.model.proofs.Records.{accepted}
+use Rattle.branching.specs.Branching.{Needed}
+use Rattle.branching.proofs.Breaking.{needed}
 use Rattle.sheet.specs.declared.Reading.{Reading}
 use Rattle.sheet.specs.Reading.{readSheet}
 use Rattle.sheet.proofs.Sheets.{accepted-sheet}
@@ -14,14 +16,14 @@ use Rattle.runcefo.specs.Entries.{Steps, Cells}
 use Rattle.runcefo.proofs.work_for.Statement.{statement}
 use Rattle.runcefo.proofs.work_for.Tie as tie
 
-in-range : (s : List ℕ) → readSheet s .verdict ≡ Accepted → FiguresInRange (plainOf (readSheet s .model))
-in-range s h = let m = readSheet s .model in accepted m (accepted-sheet s m (ap (λ (v : Verdict). record { verdict = v; model = m }) h) .fair)
+fit : (s : List ℕ) → readSheet s .verdict ≡ Accepted → Needed (plainOf (readSheet s .model)) (readSheet s .model .needs)
+fit s h = let m = readSheet s .model in needed m (accepted m (accepted-sheet s m (ap (λ (v : Verdict). record { verdict = v; model = m }) h) .fair))
 
 read-requires : tie.Need-read-requires
 read-requires c κs = search needs
 
 work-of-requires : tie.Need-work-of-requires
-work-of-requires c κs = rw (c .read .ensures) (in-range _)
+work-of-requires c κs = rw (c .read .ensures) (fit _)
 
 returns : tie.Need-returns
 returns c = subst (λ (x : Reading). Steps x (c .work-of .result .steps) × Cells x (c .work-of .result .cells)) (c .before .read .ensures) (c .work-of .ensures)

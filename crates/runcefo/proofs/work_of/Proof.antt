@@ -10,8 +10,8 @@ enum-told c = search needs
 plain-of-requires : tie.Need-plain-of-requires
 plain-of-requires c κs = search needs
 
-solve-requires : tie.Need-solve-requires
-solve-requires c κs = let e = c .before in rw (c .plain-of .ensures) (e .before .before .before .pre (e .enum-told .given .1))
+solve-needs-requires : tie.Need-solve-needs-requires
+solve-needs-requires c κs = let e = c .before .before in rw (c .plain-of .ensures) (e .before .before .before .pre (e .enum-told .given .1))
 
 enum-told-2 : tie.Need-enum-told-2
 enum-told-2 c = search needs
@@ -19,11 +19,11 @@ enum-told-2 c = search needs
 returns : tie.Need-returns
 returns c =
     let p = c .before in
-    let solves = rw (p .plain-of .ensures) at (c .solve .ensures) in
-    rw (p .before .enum-told .given .1) ((c .solve .result, (solves, refl)), (c .solve .result, (solves, refl)))
+    let solves = rw (p .plain-of .ensures) at (c .solve-needs .ensures) in
+    rw (p .before .before .enum-told .given .1) ((c .solve-needs .result, (solves, refl)), (c .solve-needs .result, (solves, refl)))
 
 returns-2 : tie.Need-returns-2
 returns-2 c = rw (c .enum-told2 .given .1) (refl, refl)
 
 pub work-of-spec : {M : Type 1} → statement M
-work-of-spec = tie.close (tie.spec enum-told plain-of-requires solve-requires enum-told-2 returns returns-2)
+work-of-spec = tie.close (tie.spec enum-told plain-of-requires solve-needs-requires enum-told-2 returns returns-2)

@@ -5,16 +5,19 @@ use Rattle.writer_test.proofs.print_drawn.Statement.{statement}
 use Rattle.writer_test.proofs.print_drawn.Tie as tie
 
 abbrev Inv-loop : tie.InvT-loop
-Inv-loop seed problems n s state₀ wrong₀ k₀ t10 t11 t12 t13 t14 state wrong k = k ≤ problems
+Inv-loop seed problems n among s state₀ needs₀ wrong₀ k₀ t12 t13 t14 t15 t16 t17 state needs wrong k = k ≤ problems
 
 abbrev μ-loop : tie.MeasureT-loop
-μ-loop seed problems n s state₀ wrong₀ k₀ t10 t11 t12 t13 t14 state wrong k = problems - k
+μ-loop seed problems n among s state₀ needs₀ wrong₀ k₀ t12 t13 t14 t15 t16 t17 state needs wrong k = problems - k
 
 loop-holds : tie.Need-loop-holds Inv-loop μ-loop
 loop-holds c = search needs
 
-drawn-problem-requires : tie.Need-drawn-problem-requires Inv-loop μ-loop
-drawn-problem-requires c κs = search needs
+drawn-requires : tie.Need-drawn-requires Inv-loop μ-loop
+drawn-requires c κs = search needs
+
+more-needs-requires : tie.Need-more-needs-requires Inv-loop μ-loop
+more-needs-requires c κs = search needs
 
 with-rubbish-requires : tie.Need-with-rubbish-requires Inv-loop μ-loop
 with-rubbish-requires c κs = search needs
@@ -58,6 +61,12 @@ slice-aggregate-print-count-4 c = search needs
 print-count-requires-4 : tie.Need-print-count-requires-4 Inv-loop μ-loop
 print-count-requires-4 c κs = search needs
 
+slice-aggregate-print-count-5 : tie.Need-slice-aggregate-print-count-5 Inv-loop μ-loop
+slice-aggregate-print-count-5 c = search needs
+
+print-count-requires-5 : tie.Need-print-count-requires-5 Inv-loop μ-loop
+print-count-requires-5 c κs = search needs
+
 slice-aggregate-print : tie.Need-slice-aggregate-print Inv-loop μ-loop
 slice-aggregate-print c = search needs
 
@@ -74,7 +83,8 @@ print-drawn-spec =
     Inv-loop
     μ-loop
     loop-holds
-    drawn-problem-requires
+    drawn-requires
+    more-needs-requires
     with-rubbish-requires
     holds-requires
     one-more-requires
@@ -89,6 +99,8 @@ print-drawn-spec =
     print-count-requires-3
     slice-aggregate-print-count-4
     print-count-requires-4
+    slice-aggregate-print-count-5
+    print-count-requires-5
     slice-aggregate-print
     print-requires
     returns)
