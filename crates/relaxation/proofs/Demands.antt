@@ -10,6 +10,7 @@ use Rattle.knapsack.specs.declared.Item.{Item}
 use Rattle.knapsack.specs.declared.Verdict.{Verdict}
 use Rattle.knapsack.specs.declared.Verdict.the-variants.{Accepted, Refused}
 use Rattle.knapsack.specs.Ranges.{blank}
+use Rattle.model.specs.declared.Needs.{Needs}
 use Rattle.model.specs.Records.{verdict}
 use Rattle.ordering.specs.Order.{order, orderedItems}
 use Rattle.ordering.proofs.Order.{in-order, items-length, items-at}
@@ -38,9 +39,9 @@ ordered-same l = go (inverse (length l) place (in-order items (length l) .place)
       item-is = items-at items (length l);
     }
 
-after-same : (b : ℤ) (l : List Item) → SameItems l (after b l)
+after-same : (b : ℤ) (ns : Needs) (l : List Item) → SameItems l (after b ns l)
 unfolding after
-after-same b l = go (verdict (modelOf b l))
+after-same b ns l = go (verdict (modelOf b ns l))
   where
     go : (v : Verdict) → SameItems l (ifAccepted v (orderedItems (λ k. getD l k blank) (length l)) l)
     go Accepted = ordered-same l
@@ -55,5 +56,5 @@ after-same b l = go (verdict (modelOf b l))
       item-is = λ u h. refl;
     }
 
-pub same-items : (b : ℤ) (l m : List Item) (r : Answer) → Relaxes b l m r → SameItems l m
-same-items b l m r h = rw (h .list) (after-same b l)
+pub same-items : (b : ℤ) (ns : Needs) (l m : List Item) (r : Answer) → Relaxes b ns l m r → SameItems l m
+same-items b ns l m r h = rw (h .list) (after-same b ns l)

