@@ -34,8 +34,8 @@ use Rattle.cases.proofs.Limits.{shown-priced}
 use Rattle.cases.proofs.Searched.{Known, nothing, best}
 use Rattle.cases.proofs.Searching.{SearchedNeeds, WorthBy, worth-order, needs-nothing, needs-best, top-is-optimal}
 use Rattle.cases.proofs.Searching.{PointLeadsBy, first-order, top-is-first}
-use Rattle.cases.specs.declared.Need.{Need}
-use Rattle.cases.specs.Needs.{Every, Allowed, FeasibleNeeds, InfeasibleNeeds, ForemostNeeds, AnswersNeeds, AnswersAsNeeds, ShownFirstNeeds}
+use Rattle.model.specs.declared.Need.{Need}
+use Rattle.model.specs.Needs.{Every, Allowed, FeasibleNeeds, InfeasibleNeeds, ForemostNeeds, AnswersNeeds, AnswersAsNeeds, ShownFirstNeeds}
 use Rattle.branching.specs.declared.Best.{Best}
 use Rattle.branching.specs.Branching.{isOptimal, isUnbounded, knownIf, known, Worthy, Holds, Bounded, Through, unpricedItem, Unpriced, rayFrom}
 

@@ -25,8 +25,8 @@ use Rattle.knapsack.specs.declared.Bound.{Bound}
 use Rattle.knapsack.specs.declared.Bound.the-variants.{Absent}
 use Rattle.knapsack.specs.declared.Item.{Item}
 use Rattle.foremost.proofs.Foremost.{pricedItem, priced}
-use Rattle.cases.specs.declared.Need.{Need}
-use Rattle.cases.specs.Needs.{Every, KeepsNeeds, FeasibleNeeds, UnboundedNeeds, NotNegative, Present, Named, Allowed}
+use Rattle.model.specs.declared.Need.{Need}
+use Rattle.model.specs.Needs.{Every, KeepsNeeds, FeasibleNeeds, UnboundedNeeds, NotNegative, Present, Named, Allowed}
 use Rattle.cases.proofs.Needs.{KeepsNeedsᴰ, needs-agree}
 use Rattle.cases.proofs.Splitting.{cap, raise, without, having, cap-present, raise-not-negative}
 use Rattle.cases.proofs.Points.{inside-allowed, bridge-need}

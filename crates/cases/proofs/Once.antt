@@ -17,8 +17,8 @@ use Rattle.knapsack.proofs.Common.{valueᴰ}
 use Rattle.knapsack.proofs.Rays.{steppedᴰ, over-stepped, sum-stepped}
 use Rattle.knapsack.specs.Meaning.{Instance, Point, value, prices, stepped}
 use Rattle.foremost.proofs.Points.{neither-same}
-use Rattle.cases.specs.declared.Need.{Need}
-use Rattle.cases.specs.Needs.{InfeasibleNeeds, OptimalNeeds, ForemostNeeds, UnboundedNeeds}
+use Rattle.model.specs.declared.Need.{Need}
+use Rattle.model.specs.Needs.{InfeasibleNeeds, OptimalNeeds, ForemostNeeds, UnboundedNeeds}
 
 pub foremost-needs-same : (s : Instance) (ns : List Need) (x y : Point) → OptimalNeeds s ns x → ForemostNeeds s ns x → OptimalNeeds s ns y
     → ForemostNeeds s ns y → (k : ℕ) → k < s .count → x k ≈ᶠ y k

@@ -29,9 +29,9 @@ use Rattle.knapsack.specs.declared.Bound.{Bound}
 use Rattle.knapsack.specs.declared.Bound.the-variants.{Absent, At}
 use Rattle.knapsack.specs.declared.Mark.{Mark}
 use Rattle.knapsack.specs.declared.Mark.the-variants.{Integer, Continuous}
-use Rattle.cases.specs.declared.Need.{Need}
-use Rattle.cases.specs.Needs.{Every, In, here, there, Named, Allowed, names, loosened, relaxedBut, FeasibleNeeds, OptimalNeeds, InfeasibleNeeds}
-use Rattle.cases.specs.Needs.{Inside}
+use Rattle.model.specs.declared.Need.{Need}
+use Rattle.model.specs.Needs.{Every, In, here, there, Named, Allowed, names, loosened, relaxedBut, FeasibleNeeds, OptimalNeeds, InfeasibleNeeds}
+use Rattle.model.specs.Needs.{Inside}
 use Rattle.cases.proofs.Needs.{FeasibleNeedsᴰ, needs-agree}
 use Rattle.cases.proofs.Splitting.{without, having}
 use Rattle.cases.proofs.Points.{bridge-needs, fractions}

@@ -28,8 +28,8 @@ use Rattle.foremost.proofs.Earlier.{not-after, not-after-not}
 use Rattle.foremost.proofs.Leads.{Leads, leads-refl, leads-trans, leads-total}
 use Rattle.knapsack.specs.Meaning.{Earlier, Foremost}
 use Rattle.foremost.proofs.Points.{bridge-earlier, earlier-bridge}
-use Rattle.cases.specs.declared.Need.{Need}
-use Rattle.cases.specs.Needs.{Every, In, KeepsNeed, KeepsNeeds, FeasibleNeeds, InfeasibleNeeds, OptimalNeeds, ForemostNeeds, Inside}
+use Rattle.model.specs.declared.Need.{Need}
+use Rattle.model.specs.Needs.{Every, In, KeepsNeed, KeepsNeeds, FeasibleNeeds, InfeasibleNeeds, OptimalNeeds, ForemostNeeds, Inside}
 use Rattle.cases.proofs.Needs.{FeasibleNeedsᴰ}
 use Rattle.cases.proofs.Splitting.{without, having, cases-in}
 use Rattle.cases.proofs.Tops.{_⊆_, Top, Parts, parts-swap, top-part}
