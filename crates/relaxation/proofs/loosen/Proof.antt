@@ -12,10 +12,10 @@ use Rattle.relaxation.proofs.loosen.Statement.{statement}
 use Rattle.relaxation.proofs.loosen.Tie as tie
 
 abbrev Inv-loop : tie.InvT-loop
-Inv-loop named p n q₀ k₀ q k = (k ≤ n) × ((length (q .items) ≡ 16) × Loosened p named k q)
+Inv-loop p named n q₀ k₀ q k = (k ≤ n) × ((length (q .items) ≡ 16) × Loosened p named k q)
 
 abbrev μ-loop : tie.MeasureT-loop
-μ-loop named p n q₀ k₀ q k = n - k
+μ-loop p named n q₀ k₀ q k = n - k
 
 loop-holds : tie.Need-loop-holds Inv-loop μ-loop
 loop-holds c =
