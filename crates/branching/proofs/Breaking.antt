@@ -1,6 +1,7 @@
 -- What the test of a need says of a point.
 -- breaks-no: a feasible point of which it fails keeps the need; its cover is whole.  breaks-yes: a point of which it holds does not.
--- need-in: a line of needs is one of them.  every-kept: all needs are kept where it fails of each.  allowed-placed: needs that are allowed name places.
+-- need-in: a line of needs is one of them.  every-kept: all needs are kept where it fails of each.  allowed-placed, needed-placed: needs that are allowed name places.
+-- needed: what the solver is given of an accepted record.
 use mathlib.Core.Path.{_≡_, refl, sym, subst}
 use mathlib.Core.Bool.{Bool, true, false, cond, not}
 use mathlib.Core.Logic.{_⊎_, inl, inr}
@@ -18,11 +19,12 @@ use Rattle.knapsack.specs.declared.Answer.{Answer}
 use Rattle.knapsack.specs.declared.Mark.the-variants.{Integer}
 use Rattle.knapsack.specs.declared.Problem.{Problem}
 use Rattle.model.proofs.NeedLines.{needs-in, needs-from}
-use Rattle.model.specs.Records.{needAt, placed, needsOf}
+use Rattle.model.specs.Records.{plainOf, needAt, placed, needsOf, Admissible}
+use Rattle.model.specs.declared.Model.{Model}
 use Rattle.model.specs.declared.Needs.{Needs}
 use Rattle.model.specs.declared.Need.{Need}
 use Rattle.model.specs.Needs.{In, Every, KeepsNeed, KeepsNeeds, Allowed}
-use Rattle.branching.specs.Branching.{Placed, breaks}
+use Rattle.branching.specs.Branching.{Placed, breaks, Needed}
 
 -- ---- the tests
 
@@ -97,3 +99,17 @@ module _ (ns : Needs) where
     few = few;
     places = λ n i. (omega (arith, m, a n i .item .inside), omega (arith, m, a n i .cover .inside));
   }
+
+  pub needed-placed : (p : Problem) → Needed p ns → Placed ns
+  needed-placed p h = allowed-placed p (h .figures .few-items) (h .few) (h .allowed)
+
+-- ---- a record
+
+pub needed : (m : Model) → Admissible m → Needed (plainOf m) (m .needs)
+needed m a = record {
+  figures = a .figures;
+  few = a .few-needs;
+  allowed = λ n i.
+      let j = needs-from (m .needs .count) (needAt (m .needs)) n i in
+      subst (Allowed (instanceOf (plainOf m))) (sym (j .1 .1)) (a .needs (j .0) (j .1 .0) .allowed);
+}

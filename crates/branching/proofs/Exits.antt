@@ -1,14 +1,14 @@
 -- The ways out of a call: what it gives.
 -- kind-of: the test of a kind.  comparable, plain-comparable: answers can be compared.  optimal-of, worthy-of: an answer of that kind.
 -- plain-infeasible: a plain problem with no best point and no ray holds nothing.
--- counted-work, more-work, own-work, countable: the work of one case more.  enter: what a call on a case is given.
+-- counted-work, more-work, own-work, none-worked, few-work, countable: the work of the cases.  enter: what a call on a case is given.
 -- through-behind, through-kept, through-split: nothing is ahead, the point keeps all needs, both cases are gone through.
 use mathlib.Core.Path.{_≡_, refl, sym, subst}
 use mathlib.Core.Bool.{Bool, true, false}
 use mathlib.Core.List.{List}
 use mathlib.Core.Logic.{_⊎_, inl, inr, _≢_}
 use Prim.Native.Nat.{ℕ, _+_, _*_, _≤_, _<_}
-use native.Mathlib.Nat.{mul-le-mul}
+use native.Mathlib.Nat.{mul-le-mul, mul-le-mul-right}
 use native.Mathlib.Omega.{arith}
 use Rattle.arith.proofs.Parts.{impossible}
 use Rattle.arith.specs.Fractions.{Frac}
@@ -33,7 +33,7 @@ use Rattle.cases.proofs.Undecided.{undecided}
 use Rattle.model.specs.declared.Need.{Need}
 use Rattle.model.specs.Needs.{In, Every, Allowed, KeepsNeeds}
 use Rattle.branching.specs.declared.Best.{Best}
-use Rattle.branching.specs.Branching.{isOptimal, Comparable, ShownLeads, countedOf, withBest, knownIf, known, Worthy, Holds, twigs, caseSteps, Countable}
+use Rattle.branching.specs.Branching.{isOptimal, Comparable, ShownLeads, nothingYet, countedOf, withBest, knownIf, known, Worthy, Holds, twigs, caseSteps, Countable}
 use Rattle.branching.specs.Branching.{Worked, Bounded, Branches, Through}
 use Rattle.branching.proofs.Ordering.{leads-points}
 use Rattle.branching.proofs.Parts.{Part}
@@ -96,6 +96,15 @@ pub own-work : {most n : ℕ} {b : Best} → Worked most n b → Worked most (b 
 own-work w = record { cases = omega arith; steps = w .steps; cells = w .cells }
 
 -- ---- a call on a case
+
+pub none-worked : (most : ℕ) → Worked most 0 nothingYet
+none-worked most = record { cases = omega arith; steps = omega arith; cells = omega arith }
+
+-- all of it is little
+pub few-work : {most n : ℕ} {b : Best} → n ≤ 131072 → Worked most n b → (b .steps ≤ 131072 * most) × (b .cells ≤ 131072 * mostWork)
+few-work {most} {n} {b} h w =
+    let c : b .cases ≤ 131072 = omega (arith, h, w .cases) in
+    (omega (arith, w .steps, mul-le-mul-right most c), omega (arith, w .cells, c))
 
 pub enter : (p q : Problem) (ns : Needs) (most : ℕ) (r : Solved) (c : Best) → FiguresInRange q → SolvesWithin most q r → most ≤ caseSteps → ns .count ≤ 16
     → Part (instanceOf p) (needsOf ns) (instanceOf q) → Holds (instanceOf p) c → Worked most (c .cases) c

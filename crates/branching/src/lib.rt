@@ -9,9 +9,14 @@ use knapsack::Bound;
 use knapsack::Item;
 use knapsack::Kind;
 use knapsack::Problem;
+use knapsack::Verdict;
 use knapsack::with_item;
+use model::Model;
 use model::Need;
 use model::Needs;
+use model::check_model;
+use model::plain_of;
+use planner::STEPS;
 use planner::Solved;
 use planner::no_point;
 use planner::solve_within;
@@ -20,6 +25,7 @@ ghost use mathlib.Core.Bool.{true};
 ghost use Prim.Native.Nat.{_-_, _≤_, _<_};
 ghost use Rattle.knapsack.specs.Meaning.{instanceOf};
 ghost use Rattle.knapsack.specs.declared.Kind.the-variants.{Optimal};
+ghost use Rattle.model.specs.Promises.{Planned};
 ghost use Rattle.model.specs.Records.{FiguresInRange, needAt, placed, needsOf};
 ghost use Rattle.planner.specs.Outcomes.{SolvesWithin};
 ghost use Rattle.cases.proofs.Splitting.{cap, raise};
@@ -40,6 +46,7 @@ ghost use Rattle.branching.specs.Branching.{
   countedOf,
   withBest,
   caseSteps,
+  CountsNeeds,
   Branches,
   Through,
   unpricedItem,
@@ -313,12 +320,14 @@ fn few_steps(most: u64) -> u64
     if CASE_STEPS < most { CASE_STEPS } else { most }
 }
 
-// A case, by a search of at most so many steps.
+// A case, by a search of at most so many steps, in which no pair with an item that a need names discards anything.
 fn solve_case(p: Problem, ns: Needs, most: u64) -> Solved
     requires { ⌜ FiguresInRange p × Placed ns ⌝ }
     ensures { λ r. ⌜ SolvesWithin most p r ⌝ }
+    ensures { λ r. ⌜ CountsNeeds most p (needsOf ns) r ⌝ }
 {
-    solve_within(p, most)
+    let named = named_of(ns);
+    solve_within(p, named, most)
 }
 
 // The problem p, whose plain answer is r, gone through with its needs: the best of b and of its points.
@@ -449,4 +458,28 @@ pub fn solve_needs(p: Problem, ns: Needs, most: u64) -> Solved
     }
     let none = nothing_yet();
     told(branch(p, r, ns, few, none))
+}
+
+// ---- records
+
+// The reply to any record, by searches of at most so many steps.
+pub fn plan_within(m: Model, most: u64) -> Answer
+    ensures { λ r. ⌜ Planned m r ⌝ }
+{
+    let v = check_model(m);
+    match v {
+        Verdict::Accepted => {
+            let ns = m.needs;
+            let r = solve_needs(plain_of(m), ns, most);
+            r.answer
+        }
+        Verdict::Refused(f) => no_point(Kind::Refused(f)),
+    }
+}
+
+// The planner's reply to any record.
+pub fn plan(m: Model) -> Answer
+    ensures { λ r. ⌜ Planned m r ⌝ }
+{
+    plan_within(m, STEPS)
 }

@@ -229,7 +229,7 @@ module _ (t : ℕ) where
         subst (λ n. u < n) (s .pre .0) (part .fewer),
         rw (counts (w .before) .counted .ensures)
         (enter (s .args .p) (w .without .result) (s .args .ns) (s .args .most) (c .solve-case .result) (countedOf (s .args .b) (s .args .r))
-        (q-figures w) (c .solve-case .ensures) (b .short) (b .few) part (b .holds) (own-work (more-work s))
+        (q-figures w) (c .solve-case .ensures .0) (b .short) (b .few) part (b .holds) (own-work (more-work s))
         (omega (arith, b .room, twigs-two u u (undecided (instanceOf (s .args .p)) (needsOf (s .args .ns))) (part .fewer) (part .fewer)))),
       )
 
@@ -252,7 +252,7 @@ module _ (t : ℕ) where
           rw (counts n .counted .ensures) at (d .ensures .worked .cases) in
       (
         subst (λ u. undecided (instanceOf (h .having .result)) ns < u) (s .pre .0) (part .fewer),
-        enter (s .args .p) (h .having .result) (s .args .ns) (s .args .most) (c .solve-case2 .result) (d .result) (h-figures h) (c .solve-case2 .ensures)
+        enter (s .args .p) (h .having .result) (s .args .ns) (s .args .most) (c .solve-case2 .result) (d .result) (h-figures h) (c .solve-case2 .ensures .0)
         (b .short) (b .few) part (λ f. q-part (lacks h) .out (d .result .answer) (d .ensures .holds f)) (own-work (d .ensures .worked))
         (omega (arith, b .room, most, both-few h)),
       )
