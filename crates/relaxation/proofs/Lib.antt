@@ -2,3 +2,4 @@ pub mod Lent
 pub mod Calls
 pub mod Loose
 pub mod Demands
+pub mod Beside

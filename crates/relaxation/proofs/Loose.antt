@@ -1,6 +1,6 @@
 -- A record with its items continuous, but for those that its needs name, is its relaxation: it has its figures in range, and its needs stay allowed.
 -- loosened-none, loosened-more: while the items are made continuous. loosened-same, loosened-needed: when all are.
--- needs-allowed, needs-placed: of a record that is accepted. ranged: figures in range are what the order asks for.
+-- ranged: figures in range are what the order asks for.
 use mathlib.Core.Path.{_≡_, refl, sym, ap, _∙_, subst}
 use mathlib.Core.Bool.{Bool, false}
 use mathlib.Core.List.{List}
@@ -20,12 +20,12 @@ use Rattle.knapsack.specs.Items.{withItem}
 use Rattle.knapsack.proofs.Same.{Same}
 use Rattle.model.specs.declared.Model.{Model}
 use Rattle.model.specs.declared.Need.{Need}
-use Rattle.model.specs.Needs.{Every, NotNegative, Present, Named, Allowed, names, relaxedBut}
-use Rattle.model.specs.Records.{plainOf, needAt, needsOf, ItemFigures, FiguresInRange, Admissible}
-use Rattle.model.proofs.NeedLines.{needs-from}
+use Rattle.model.specs.Needs.{NotNegative, Present, Named, Allowed, names, relaxedBut}
+use Rattle.model.specs.Records.{plainOf, needsOf, ItemFigures, FiguresInRange, Admissible}
 use Rattle.ordering.specs.Ranking.{Ranged}
 use Rattle.cases.proofs.Relaxing.{allowed-relaxed}
-use Rattle.branching.specs.Branching.{Placed, NamedBy, Needed}
+use Rattle.branching.specs.Branching.{NamedBy, Needed}
+use Rattle.branching.proofs.Breaking.{needed}
 use Rattle.relaxation.specs.Lent.{loose, Loosened}
 
 pub loosened-none : (p : Problem) (named : List Bool) → Loosened p named 0 p
@@ -42,22 +42,10 @@ loosened-more p q named k size e = record { count = e .count; capacity = e .capa
     go j h (yes i) = rw i (getD-set-same (q .items) k new blank size)
     go j h (no i) = getD-set-other (q .items) k j new blank i ∙ e .items j (omega arith)
 
--- ---- the needs of a record that is accepted
+-- ---- when all are
 
-pub needs-allowed : (m : Model) → Admissible m → Every (Allowed (instanceOf (plainOf m))) (needsOf (m .needs))
-needs-allowed m a n i =
-    let f = needs-from (m .needs .count) (needAt (m .needs)) n i in
-    subst (Allowed (instanceOf (plainOf m))) (sym (f .1 .1)) (a .needs (f .0) (f .1 .0) .allowed)
-
-pub needs-placed : (m : Model) → Admissible m → Placed (m .needs)
-needs-placed m a = record {
-  few = a .few-needs;
-  places = λ n i. (omega (arith, needs-allowed m a n i .item .inside, a .figures .few-items), omega (arith, needs-allowed m a n i .cover .inside, a .figures .few-items));
-}
-
--- ---- its relaxation
-
-module _ (m : Model) (a : Admissible m) (named : List Bool) (by : NamedBy (needsOf (m .needs)) named) (q : Problem) (e : Loosened (plainOf m) named (m .count) q) where
+module _ (m : Model) (a : Admissible m) (named : List Bool) (by : NamedBy (needsOf (m .needs)) named) (q : Problem)
+    (e : Loosened (plainOf m) named (m .count) q) where
   abbrev p : Problem
   p = plainOf m
 
@@ -91,7 +79,7 @@ module _ (m : Model) (a : Admissible m) (named : List Bool) (by : NamedBy (needs
   }
 
   pub loosened-needed : Needed q (m .needs)
-  loosened-needed = record { figures = figures; few = a .few-needs; allowed = λ n i. allowed (allowed-relaxed (instanceOf p) ns (needs-allowed m a) n i) }
+  loosened-needed = record { figures = figures; few = a .few-needs; allowed = λ n i. allowed (allowed-relaxed (instanceOf p) ns (needed m a .allowed) n i) }
     where
       allowed : {n : Need} → Allowed (relaxedBut ns (instanceOf p)) n → Allowed (instanceOf q) n
       allowed {n} h = record { item = still-named (n .item) (h .item); cover = still-named (n .cover) (h .cover) }

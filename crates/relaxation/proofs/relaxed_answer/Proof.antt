@@ -1,14 +1,14 @@
 -- `relaxation::relaxed_answer` meets its contract: what is solved is the relaxation, with its needs.
 use mathlib.Core.Path.{subst}
-use native.Mathlib.Omega.{arith}
 use borrow.Author.Needs.{needs}
 use Rattle.knapsack.specs.declared.Problem.{Problem}
 use Rattle.knapsack.specs.Meaning.{instanceOf}
 use Rattle.model.specs.Needs.{relaxedBut}
 use Rattle.model.specs.Records.{plainOf, needsOf}
 use Rattle.model.proofs.SameNeeds.{same-answers-needs}
+use Rattle.branching.proofs.Breaking.{needed-placed, needed}
 use Rattle.relaxation.specs.Lent.{Loosened}
-use Rattle.relaxation.proofs.Loose.{needs-placed, loosened-same, loosened-needed}
+use Rattle.relaxation.proofs.Loose.{loosened-same, loosened-needed}
 use Rattle.relaxation.proofs.relaxed_answer.Statement.{statement}
 use Rattle.relaxation.proofs.relaxed_answer.Tie as tie
 
@@ -19,7 +19,7 @@ plain-of-requires : tie.Need-plain-of-requires
 plain-of-requires c κs = search needs
 
 named-of-requires : tie.Need-named-of-requires
-named-of-requires c κs = let s = c .before .before in needs-placed (s .args .m) (s .pre)
+named-of-requires c κs = let s = c .before .before in needed-placed (s .args .m .needs) (plainOf (s .args .m)) (needed (s .args .m) (s .pre))
 
 loosen-requires : tie.Need-loosen-requires
 loosen-requires c κs = let a = c .before in rw (a .plain-of .ensures) (a .before .before .pre .figures .few-items)
