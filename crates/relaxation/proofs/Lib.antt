@@ -2,4 +2,3 @@ pub mod Lent
 pub mod Calls
 pub mod Loose
 pub mod Demands
-pub mod Beside
