@@ -5,3 +5,4 @@ pub mod Twigs
 pub mod Parts
 pub mod Exits
 pub mod Ends
+pub mod Demands

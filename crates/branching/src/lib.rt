@@ -433,8 +433,8 @@ fn solve_ray(p: Problem, r: Solved, ns: Needs, most: u64) -> Solved
 {
     let a = r.answer;
     let x = a.point;
-    let i = first_broken(x, ns);
-    if i < ns.count {
+    let broken = first_broken(x, ns);
+    if broken < ns.count {
         let d = a.steps;
         let none = nothing_yet();
         let c = counted(none, r);

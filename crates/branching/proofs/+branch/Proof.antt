@@ -14,7 +14,8 @@ use Rattle.cases.proofs.Undecided.{decided, undecided}
 use Rattle.branching.specs.declared.Best.{Best}
 use Rattle.branching.specs.Branching.{Placed, breaks, known, twigs, countedOf, Worked}
 use Rattle.branching.proofs.Breaking.{need-in, breaks-yes, every-kept, allowed-placed}
-use Rattle.branching.proofs.Exits.{comparable, plain-comparable, optimal-of, counted-work, countable, own-work, enter, through-behind, through-kept, through-split}
+use Rattle.branching.proofs.Exits.{comparable, plain-comparable, optimal-of, counted-work, countable, own-work, enter}
+use Rattle.branching.proofs.Exits.{through-behind, through-kept, through-split}
 use Rattle.branching.proofs.Parts.{capped-is, raised-is, capped-figures, raised-figures, Part, part-without, part-having}
 use Rattle.branching.proofs.Twigs.{twigs-some, twigs-two}
 use borrow.Fn.Kinds.{In}
@@ -66,12 +67,15 @@ calls t = (
 )
 
 module _ (t : ℕ) where
-  -- the moments of a call, and what is known there
+  -- the moments that are spoken of below
   abbrev Start : Type 0
   Start = branch-lts.Start (calls t) (branch-at t) branch.Post
 
   abbrev Counted : Type 0
   Counted = branch-lts.After-counted (calls t) (branch-at t) branch.Post
+
+  abbrev Outdone : Type 0
+  Outdone = branch-lts.After-outdoes (calls t) (branch-at t) branch.Post
 
   abbrev Asked : Type 0
   Asked = branch-lts.After-first-broken (calls t) (branch-at t) branch.Post
@@ -85,11 +89,17 @@ module _ (t : ℕ) where
   abbrev Having : Type 0
   Having = branch-lts.After-having (calls t) (branch-at t) branch.Post
 
+  abbrev after-outdoes : Asked → Outdone
+  after-outdoes f = f .before .before .before
+
+  abbrev after-counted : Outdone → Counted
+  after-counted o = o .before .before
+
   abbrev asked : Needing → Asked
   asked c = c .before .before .before
 
   abbrev counts : Needing → Counted
-  counts c = asked c .before .before .before .before .before
+  counts c = after-counted (after-outdoes (asked c))
 
   abbrev start : Needing → Start
   start c = counts c .before
@@ -124,7 +134,7 @@ module _ (t : ℕ) where
   open-yet c =
       let s = start c in
       let f = asked c in
-      let o = f .before .before .before in
+      let o = after-outdoes f in
       let a = s .args .r .answer in
       let i = instanceOf (s .args .p) in
       let k = o .outdoes .ensures .ahead (f .before .before .if1 .taken) .0 in
@@ -194,7 +204,8 @@ module _ (t : ℕ) where
   branch-counted-requires c κs =
       let b = c .pre .1 in
       countable (c .args .most) (c .args .b) (c .args .r) (b .short)
-      (omega (arith, b .room, twigs-some (undecided (instanceOf (c .args .p)) (needsOf (c .args .ns))))) (b .worked) (b .solved .few-steps) (b .solved .few-cells)
+      (omega (arith, b .room, twigs-some (undecided (instanceOf (c .args .p)) (needsOf (c .args .ns))))) (b .worked) (b .solved .few-steps)
+      (b .solved .few-cells)
 
   branch-outdoes-requires : branch-lts.Need-outdoes-requires (calls t) (branch-at t) branch.Post
   branch-outdoes-requires c κs =
@@ -204,13 +215,12 @@ module _ (t : ℕ) where
       λ f. comparable (instanceOf (s .args .p)) (s .args .b .answer) (b .holds f)))
 
   branch-first-broken-requires : branch-lts.Need-first-broken-requires (calls t) (branch-at t) branch.Post
-  branch-first-broken-requires c κs = let o = c .before .before in places (o .before .before .before)
+  branch-first-broken-requires c κs = places (after-counted (c .before .before) .before)
 
   branch-need-at-requires : branch-lts.Need-need-at-requires (calls t) (branch-at t) branch.Post
   branch-need-at-requires c κs =
-      let f = c .before .before in
-      let o = f .before .before .before in
-      omega (arith, c .if2 .taken, o .before .before .before .pre .1 .few)
+      let s = after-counted (after-outdoes (c .before .before)) .before in
+      omega (arith, c .if2 .taken, s .pre .1 .few)
 
   branch-without-requires : branch-lts.Need-without-requires (calls t) (branch-at t) branch.Post
   branch-without-requires c κs = omega (arith, its c .item .inside, start c .pre .1 .figures .few-items)
@@ -275,8 +285,8 @@ module _ (t : ℕ) where
   branch-returns-2 : branch-lts.Need-returns-2 (calls t) (branch-at t) branch.Post
   branch-returns-2 c =
       let f = c .before .before .before in
-      let o = f .before .before .before in
-      let k = o .before .before in
+      let o = after-outdoes f in
+      let k = after-counted o in
       let s = k .before in
       let b = s .pre .1 in
       let i = instanceOf (s .args .p) in
@@ -287,12 +297,13 @@ module _ (t : ℕ) where
       rw (c .with-best .ensures, k .counted .ensures)
       (through-kept i (needsOf (s .args .ns)) (s .args .most) (s .args .b) (s .args .r) a (b .solved .answers) (b .solved .first) (b .limited) (b .holds)
       (more-work s) ahead
-      (every-kept (s .args .ns) i a (b .allowed) (optimal-of i a (b .solved .answers) (ahead .0) .optimal .feasible) (λ j m. e .kept j (omega (arith, all, m)))))
+      (every-kept (s .args .ns) i a (b .allowed) (optimal-of i a (b .solved .answers) (ahead .0) .optimal .feasible)
+      (λ j m. e .kept j (omega (arith, all, m)))))
 
   branch-returns-3 : branch-lts.Need-returns-3 (calls t) (branch-at t) branch.Post
   branch-returns-3 c =
       let o = c .before in
-      let k = o .before .before in
+      let k = after-counted o in
       let s = k .before in
       let b = s .pre .1 in
       rw (k .counted .ensures)
