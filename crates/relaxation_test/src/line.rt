@@ -9,6 +9,7 @@ use crate::sheets::loosened;
 use crate::sheets::record_of;
 use knapsack::Answer;
 use knapsack::Kind;
+use model::Need;
 use trials::holds::point_holds;
 use trials::holds::ray_holds;
 use trials::print::print;
@@ -34,15 +35,19 @@ fn print_sheet(s: Sheet)
     }
 }
 
+fn print_need(need: Need) {
+    print(b" needs");
+    print_field(need.item as u64);
+    print_field(need.cover as u64);
+}
+
 fn print_needs(s: Sheet) {
     let ns = s.needs;
     let mut j: usize = 0;
     while j < 16 {
         let need = ns.lines[j];
         if j < ns.count {
-            print(b" needs");
-            print_field(need.item as u64);
-            print_field(need.cover as u64);
+            print_need(need);
         }
         j += 1;
     }

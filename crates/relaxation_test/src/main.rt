@@ -183,7 +183,7 @@ fn needing_kinds() {
     );
     show(
         b'8',
-        with_need(three(0, held(1, 1, 1, 1), held(1, 1, 0, 0), free(0, 1)), 1, 1, 2),
+        with_need(three(5, held(1, 1, 1, 1), held(1, 1, 0, 0), free(0, 1)), 1, 1, 2),
     );
 }
 

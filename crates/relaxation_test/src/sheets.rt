@@ -144,14 +144,20 @@ fn with_needs_of(p: Model, s: Sheet) -> Model {
     setters::with_needs(p, needs)
 }
 
-// Whether a line of the first 16 names the item number k.
+fn is_of(need: Need, k: usize) -> bool {
+    if need.item == k { true } else { need.cover == k }
+}
+
+// Whether a need of the record names the item number k.
 fn is_named(p: Model, k: usize) -> bool {
     let ns = p.needs;
     let mut j: usize = 0;
     while j < 16 {
         let need = ns.lines[j];
-        if j < ns.count && (need.item == k || need.cover == k) {
-            return true;
+        if j < ns.count {
+            if is_of(need, k) {
+                return true;
+            }
         }
         j += 1;
     }
