@@ -2,15 +2,17 @@
 // is proved by hand; all others take a sheet by value.
 use knapsack::Answer;
 use knapsack::Item;
+use model::Needs;
 use relaxation::relax_with;
 ghost use Prim.Native.Nat.{_≤_};
 ghost use Rattle.relaxation_test.specs.Lends.{Lends};
 
-// A capacity and a list, of which the first count items are lent.
+// A capacity, a list, of which the first count items are lent, and needs.
 pub struct Sheet {
     pub items: [Item; 18],
     pub count: usize,
     pub capacity: i64,
+    pub needs: Needs,
 }
 
 // What a call leaves: its answer, and the list as it stands afterwards.
@@ -25,7 +27,7 @@ pub fn relaxed(s: Sheet) -> Lent
 {
     let mut items = s.items;
     let n = s.count;
-    let answer = relax_with(s.capacity, &mut items[..n]);
+    let answer = relax_with(s.capacity, &mut items[..n], s.needs);
     Lent {
         answer: answer,
         items: items,

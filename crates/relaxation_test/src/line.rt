@@ -1,4 +1,4 @@
-// A line for a sheet: its capacity, its items as (mark,weight,price,lower,upper) with `..` for an absent bound, the reply in paper
+// A line for a sheet: its capacity, its items as (mark,weight,price,lower,upper) with `..` for an absent bound, its needs, the reply in paper
 // 01's words, and the numbers of the items in the order in which the list stands afterwards.
 // `point yes`: the point check allows the point, at the value told. `ray yes`: it allows the start, and the steps are a ray.
 use crate::lending::Lent;
@@ -9,9 +9,11 @@ use crate::sheets::loosened;
 use crate::sheets::record_of;
 use knapsack::Answer;
 use knapsack::Kind;
+use model::Need;
 use trials::holds::point_holds;
 use trials::holds::ray_holds;
 use trials::print::print;
+use trials::print::print_field;
 use trials::print::print_item;
 use trials::print::print_kind;
 use trials::print::print_signed;
@@ -30,6 +32,24 @@ fn print_sheet(s: Sheet)
         let x = items[k];
         print_item(x);
         k += 1;
+    }
+}
+
+fn print_need(need: Need) {
+    print(b" needs");
+    print_field(need.item as u64);
+    print_field(need.cover as u64);
+}
+
+fn print_needs(s: Sheet) {
+    let ns = s.needs;
+    let mut j: usize = 0;
+    while j < 16 {
+        let need = ns.lines[j];
+        if j < ns.count {
+            print_need(need);
+        }
+        j += 1;
     }
 }
 
@@ -79,6 +99,7 @@ pub fn print_line(s: Sheet, r: Lent)
     requires { ⌜ s .count ≤ 18 ⌝ }
 {
     print_sheet(s);
+    print_needs(s);
     print(b": ");
     print_reply(s, r);
     print(b"\n");

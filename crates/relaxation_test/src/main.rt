@@ -15,6 +15,7 @@ use crate::sheets::one;
 use crate::sheets::three;
 use crate::sheets::two;
 use crate::sheets::with_items;
+use crate::sheets::with_need;
 use trials::draw::Spans;
 use trials::draw::small;
 use trials::make::free;
@@ -156,6 +157,49 @@ fn crossing_bounds() {
     show(b'z', two(5, from_zero(0, 1), loose(held(0, 0, 1, 0))));
 }
 
+// ---- needs
+
+// The items that a need names stay whole: of a charge of item 1, of what its cover costs, and of one item that is not named.
+fn needing_items() {
+    let x = held(3, 5, 0, 10);
+    let y = held(4, 6, 0, 10);
+    show(
+        b'1',
+        with_need(three(12, x, y, held(1, -100, 0, 1)), 1, 1, 3),
+    );
+    show(b'2', with_need(three(10, x, y, held(1, -1, 0, 1)), 1, 1, 3));
+    show(b'3', with_need(three(11, x, y, held(1, 0, 0, 1)), 1, 1, 3));
+    show(b'4', with_need(three(11, x, y, held(1, 0, 0, 1)), 1, 2, 1));
+    show(b'5', with_need(two(11, x, y), 1, 1, 2));
+}
+
+// Infeasible by a need alone, and a ray beside one.
+fn needing_kinds() {
+    let x = held(3, 5, 1, 10);
+    show(b'6', with_need(two(11, x, held(1, 1, 0, 0)), 1, 1, 2));
+    show(
+        b'7',
+        with_need(three(0, held(1, 1, 0, 1), held(-1, -1, 0, 1), free(0, 1)), 1, 1, 2),
+    );
+    show(
+        b'8',
+        with_need(three(5, held(1, 1, 1, 1), held(1, 1, 0, 0), free(0, 1)), 1, 1, 2),
+    );
+}
+
+fn bad_needs() {
+    let x = held(3, 5, 0, 10);
+    show(b'!', with_need(two(11, x, x), 17, 1, 2));
+    show(b'!', with_need(two(11, x, x), 1, 1, 3));
+    show(b'!', with_need(two(11, x, x), 1, 2, 2));
+    show(b'!', with_need(two(11, x, loose(x)), 1, 1, 2));
+    show(b'!', with_need(two(11, x, from_zero(3, 5)), 1, 1, 2));
+    show(
+        b'!',
+        with_need(with_need(two(11, x, x), 1, 2, 1), 2, 1, 2),
+    );
+}
+
 // ---- records that are refused
 
 fn bad_figures() {
@@ -226,6 +270,9 @@ fn main() {
     near_ratios();
     tight_sheets();
     crossing_bounds();
+    needing_items();
+    needing_kinds();
+    bad_needs();
     bad_figures();
     refused_before();
     long_sheets();

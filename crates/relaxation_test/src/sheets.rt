@@ -1,8 +1,11 @@
-// Sheets made by hand or drawn, and their records.
+// Sheets made by hand or drawn, their records, and the relaxations of these.
 use crate::lending::Sheet;
 use knapsack::Item;
 use knapsack::blank_item;
 use model::Model;
+use model::Need;
+use model::naming::no_needs;
+use model::setters;
 use trials::draw::Spans;
 use trials::draw::drawn_capacity;
 use trials::draw::drawn_item;
@@ -23,11 +26,30 @@ pub fn with_items(capacity: i64, count: usize, x: Item, y: Item, z: Item) -> She
     items[0] = x;
     items[1] = y;
     items[2] = z;
+    let needs = no_needs();
     Sheet {
         items: items,
         count: count,
         capacity: capacity,
+        needs: needs,
     }
+}
+
+// With the need of item k for item m as the next line, and so many lines counted.
+pub fn with_need(s: Sheet, count: usize, k: usize, m: usize) -> Sheet
+    requires { ⌜ s .count ≤ 18 ⌝ }
+    ensures { λ r. ⌜ r .count ≤ 18 ⌝ }
+{
+    let need = Need { item: k, cover: m };
+    let mut r = s;
+    let mut ns = r.needs;
+    let j = ns.count;
+    if j < 16 {
+        ns.lines[j] = need;
+    }
+    ns.count = count;
+    r.needs = ns;
+    r
 }
 
 pub fn one(capacity: i64, x: Item) -> Sheet
@@ -88,10 +110,12 @@ pub fn drawn_sheet(state: u64, count: usize, z: Spans) -> DrawnSheet
         now = d.state;
         k += 1;
     }
+    let needs = no_needs();
     let s = Sheet {
         items: items,
         count: count,
         capacity: capacity,
+        needs: needs,
     };
     DrawnSheet {
         sheet: s,
@@ -112,15 +136,48 @@ pub fn record_of(s: Sheet) -> Model {
         items[k] = x;
         k += 1;
     }
-    trials::make::record_of(s.capacity, s.count, items)
+    with_needs_of(trials::make::record_of(s.capacity, s.count, items), s)
 }
 
-// The record with its items continuous.
+fn with_needs_of(p: Model, s: Sheet) -> Model {
+    let needs = s.needs;
+    setters::with_needs(p, needs)
+}
+
+fn is_of(need: Need, k: usize) -> bool {
+    if need.item == k { true } else { need.cover == k }
+}
+
+// Whether a need of the record names the item number k.
+fn is_named(p: Model, k: usize) -> bool {
+    let ns = p.needs;
+    let mut j: usize = 0;
+    while j < 16 {
+        let need = ns.lines[j];
+        if j < ns.count {
+            if is_of(need, k) {
+                return true;
+            }
+        }
+        j += 1;
+    }
+    false
+}
+
+// The item at a place, continuous unless a need names it.
+fn relaxed_item(p: Model, k: usize) -> Item
+    requires { ⌜ k ≤ 15 ⌝ }
+{
+    let x = p.items[k];
+    if is_named(p, k + 1) { x } else { loose(x) }
+}
+
+// The record with its items continuous, but for those that a need names.
 pub fn loosened(p: Model) -> Model {
     let mut q = p;
     let mut k: usize = 0;
     while k < 16 {
-        let x = loose(q.items[k]);
+        let x = relaxed_item(p, k);
         q.items[k] = x;
         k += 1;
     }

@@ -109,6 +109,9 @@ use Rattle.knapsack.proofs.Answer as Q
 use Rattle.knapsack.proofs.Answer.Laws as Q′
 use Rattle.knapsack.proofs.Item as T
 use Rattle.knapsack.proofs.Item.Laws as T′
+use Rattle.model.specs.declared.Needs.{Needs}
+use Rattle.model.proofs.Needs as N
+use Rattle.model.proofs.Needs.Laws as N′
 use Rattle.relaxation.specs.Lent.{Relaxes}
 use Rattle.relaxation.proofs.relax_with as relax′
 use Rattle.relaxation.proofs.relax_with.Symbol as relax-def
@@ -163,6 +166,16 @@ module _ {M : Type 1} (𝓤 : URA M) (H : Heap 𝓤) (A : Atoms 𝓤) (W : Given
   parts : AreAll (fields S.the-type) (S.the-type .to s) (valss (fields S.the-type) (LL.spells (S.the-type .parts) S′.the-laws) (S.the-type .to s))
   parts = LL.owed S.the-type S′.the-laws s _ is
 
+  -- the needs' machine value
+  abbrev ns : Needs
+  ns = s .needs
+
+  abbrev nv : Val
+  nv = S′.the-laws .1 .1 .1 .0 .val (N.the-type .to ns)
+
+  ns-is : Is N.the-row ns (nv ∷ [])
+  ns-is = parts .1 .1 .1 .0
+
   c-fits : mag c < 2 ^ 63
   c-fits = parts .1 .1 .0 .1
 
@@ -197,20 +210,21 @@ module _ {M : Type 1} (𝓤 : URA M) (H : Heap 𝓤) (A : Atoms 𝓤) (W : Given
     x = record { ptr = (b, 0); name = γ; now = ls }
 
     abbrev to-relax : Relax 𝓤 H A mem run .Ghost
-    to-relax = (((κ, tt), (fullShare, tt), tt, (c, (x, tt)), (vint w64 (ofZ w64 c) ∷ [], (sliceVal (b, 0) (length ls) ∷ [], tt))), tt)
+    to-relax = (((κ, tt), (fullShare, tt), tt, (c, (x, (ns, tt))), (vint w64 (ofZ w64 c) ∷ [], (sliceVal (b, 0) (length ls) ∷ [], (nv ∷ [], tt)))), tt)
 
     goes : ent 𝓤 (⋆ 𝓤 H A (‵ (flft κ fullShare) ∷ ‵ (MutSlice (named 0) κ R .own x (sliceVal (b, 0) (length ls) ∷ [])) ∷ []))
         (Relax 𝓤 H A mem run .pre to-relax)
     goes =
         qed W (‵ (flft κ fullShare) ∷ ‵ (MutSlice (named 0) κ R .own x (sliceVal (b, 0) (length ls) ∷ [])) ∷ []) ∵ nothing ! $ move ! (1 ∷ 0 ∷ []) $ join ! $
-        nothing ! $ move ! (2 ∷ 0 ∷ []) $ fjoin ! $ owned ! i64 (Is i64) (sint-makes 𝓤 H A W w64) c _ (refl, c-fits) $ fjoin ! $ move ! (1 ∷ 0 ∷ []) $ join
+        nothing ! $ owned ! N.the-row (Is N.the-row) (LL.makes N.the-type N′.the-plain 𝓤 H A) ns (nv ∷ []) ns-is $ fjoin ! $
+        move ! (2 ∷ 0 ∷ []) $ fjoin ! $ owned ! i64 (Is i64) (sint-makes 𝓤 H A W w64) c _ (refl, c-fits) $ fjoin ! $ move ! (1 ∷ 0 ∷ []) $ join
         ! $ frame ! $ done !
 
   -- what is returned, at the last list ys of the slice
   abbrev left : Answer → List Item → Lent
   left r ys = record { answer = r; items = ys ++ dropList k xs }
 
-  holds : (r : Answer) (ys : List Item) → length ys ≡ length ls → Relaxes c ls ys r → Lends s (left r ys)
+  holds : (r : Answer) (ys : List Item) → length ys ≡ length ls → Relaxes c ns ls ys r → Lends s (left r ys)
   holds r ys l e = record { lent = rw (take-at ys (dropList k xs) k (l ∙ lent)) e; others = drop-at ys (dropList k xs) k (l ∙ lent) }
 
   left-is : (r : Answer) (ys : List Item) (w u : Val) → Is Q.the-row r (w ∷ []) → Is (Tuples 𝓤 H A W T.the-type 18)
@@ -245,12 +259,13 @@ module _ {M : Type 1} (𝓤 : URA M) (H : Heap 𝓤) (A : Atoms 𝓤) (W : Given
         await ! tt $ pick ! (λ γ. split ! $ move ! (2 ∷ 0 ∷ []) $ use2 W (raw (Relax 𝓤 H A mem run .pre (to-relax l₂ α γ))) (goes l₂ α γ) $
         calls-at ! fm (Relax 𝓤 H A mem run) known (to-relax l₂ α γ)
         (and-then ! (load ! (from ! (fld ! refl (stop !))) (look-in ! 14 (sub ! 2 refl (whole !))))
-        (and-then ! (load ! (from ! (stop !)) (look ! 5 refl)) (no-more !))) (λ w.
+        (and-then ! (load ! (from ! (stop !)) (look ! 5 refl))
+        (and-then ! (load ! (from ! (fld ! refl (stop !))) (look-in ! 14 (sub ! 3 refl (whole !)))) (no-more !)))) (λ w.
         use1 W (later (some (λ (r : Answer). ((‵ (flft (α ∷ []) fullShare) ⊛ ‵ ftrue) ⊛ ‵ (Q.the-row .own r (w ∷ []))) ⊛ raw
-        (ensured 𝓤 H A relax′.ended (relax′.clauses 𝓤 H A mem run) (α ∷ [], tt) (c, (x l₂ α γ, tt)) tt r)))) (id⊢ 𝓤 _) $ await ! tt $ pick ! (λ r.
-        split ! $ move ! (1 ∷ []) $ use1 W (some (λ (zs : Unit {0} × (List Item × Unit {0})). ‵ (lasts relax′.ended (α ∷ [], tt) (c, (x l₂ α γ, tt)) zs) ⊛
-        raw (fact 𝓤 (Relaxes c ls (zs .1 .0) r)))) (id⊢ 𝓤 _) $ pick ! (λ zs.
-        split ! $ move ! (1 ∷ []) $ heard ! (Relaxes c ls (zs .1 .0) r) (λ e. fsplit ! $ drop ! $ fsplit ! $ fsplit ! $ move ! (1 ∷ []) $ feqL ! (λ l.
+        (ensured 𝓤 H A relax′.ended (relax′.clauses 𝓤 H A mem run) (α ∷ [], tt) (c, (x l₂ α γ, (ns, tt))) tt r)))) (id⊢ 𝓤 _) $ await ! tt $ pick ! (λ r.
+        split ! $ move ! (1 ∷ []) $ use1 W (some (λ (zs : Unit {0} × (List Item × (Unit {0} × Unit {0}))). ‵ (lasts relax′.ended (α ∷ [], tt) (c, (x l₂ α γ, (ns, tt))) zs) ⊛
+        raw (fact 𝓤 (Relaxes c ns ls (zs .1 .0) r)))) (id⊢ 𝓤 _) $ pick ! (λ zs.
+        split ! $ move ! (1 ∷ []) $ heard ! (Relaxes c ns ls (zs .1 .0) r) (λ e. fsplit ! $ drop ! $ fsplit ! $ fsplit ! $ move ! (1 ∷ []) $ feqL ! (λ l.
         -- [the last list; true; the token and the answer; the lender's part; the other items; _7; …]
         move ! (2 ∷ []) $ split ! $ move ! (1 ∷ []) $ peeks ! Q.the-row (Is Q.the-row) (shows 𝓤 H A Q.the-row) r (w ∷ []) (λ g.
         land ! (from ! (stop !)) (init ! 12 refl (LL.lawful Q.the-type Q′.the-laws 𝓤 H A W .typed r _ g .0)) $ drop ! $

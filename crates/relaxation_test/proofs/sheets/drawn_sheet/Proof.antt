@@ -40,6 +40,9 @@ loop-less c = search needs
 loop-again : tie.Need-loop-again Inv-loop μ-loop
 loop-again c = search needs
 
+no-needs-requires : tie.Need-no-needs-requires Inv-loop μ-loop
+no-needs-requires c κs = search needs
+
 returns : tie.Need-returns Inv-loop μ-loop
 returns c = search needs
 
@@ -59,4 +62,5 @@ drawn-sheet-spec =
     add-k
     loop-less
     loop-again
+    no-needs-requires
     returns)

@@ -5,22 +5,16 @@ use Rattle.relaxation_test.proofs.sheets.loosened.Statement.{statement}
 use Rattle.relaxation_test.proofs.sheets.loosened.Tie as tie
 
 abbrev Inv-loop : tie.InvT-loop
-Inv-loop q₀ k₀ q k = Unit {0}
+Inv-loop p q₀ k₀ q k = Unit {0}
 
 abbrev μ-loop : tie.MeasureT-loop
-μ-loop q₀ k₀ q k = 16 - k
+μ-loop p q₀ k₀ q k = 16 - k
 
 loop-holds : tie.Need-loop-holds Inv-loop μ-loop
 loop-holds c = search needs
 
-mul-loose : tie.Need-mul-loose Inv-loop μ-loop
-mul-loose c = search needs
-
-element-copy-out-loose : tie.Need-element-copy-out-loose Inv-loop μ-loop
-element-copy-out-loose c = search needs
-
-loose-requires : tie.Need-loose-requires Inv-loop μ-loop
-loose-requires c κs = search needs
+relaxed-item-requires : tie.Need-relaxed-item-requires Inv-loop μ-loop
+relaxed-item-requires c κs = search needs
 
 mul-x : tie.Need-mul-x Inv-loop μ-loop
 mul-x c = search needs
@@ -47,9 +41,7 @@ loosened-spec =
     Inv-loop
     μ-loop
     loop-holds
-    mul-loose
-    element-copy-out-loose
-    loose-requires
+    relaxed-item-requires
     mul-x
     element-set-from-x
     add-k

@@ -40,6 +40,9 @@ loop-again c = search needs
 record-of-requires : tie.Need-record-of-requires Inv-loop μ-loop
 record-of-requires c κs = search needs
 
+with-needs-of-requires : tie.Need-with-needs-of-requires Inv-loop μ-loop
+with-needs-of-requires c κs = search needs
+
 returns : tie.Need-returns Inv-loop μ-loop
 returns c = search needs
 
@@ -59,4 +62,5 @@ record-of-spec =
     loop-less
     loop-again
     record-of-requires
+    with-needs-of-requires
     returns)
