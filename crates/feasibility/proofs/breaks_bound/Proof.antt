@@ -39,7 +39,8 @@ enum-told-3 c = search needs
 
 -- the bound times q
 scaled : (c : tie.After-times) →
-    let s = c .before .before .before .before in
+    let at-b = c .before .before in
+    let s = at-b .before .before in
     toZ w64 (ofZ w64 (c .times .result)) ≡ c .before .before .b .given .0 .0 *ℤ pos (s .args .q)
 scaled c =
     let h : SFits w64 (c .before .before .b .given .0 .0) = search needs in

@@ -28,8 +28,12 @@ returns-2 c =
     let d = c .before .before in
     rw (eq-eqb _ _ (d .before .if1 .left), eq-eqb _ _ (sym (d .common-divisor .ensures) ∙ c .before .if2 .taken)) (c .refused2 .ensures)
 
+-- the moments that are spoken of below
+abbrev start : tie.Else1 → tie.Start
+start c = c .before .before .before
+
 served : (c : tie.Else2) →
-    let s = c .before .before .before .before .before in
+    let s = start (c .before .before) in
     Divided (s .args .c .count) (proposedAt (s .args .c))
     (c .before .common-divisor .result)
 served c = let e = c .before .common-divisor .ensures in rw e (divided _ _ (λ z. c .if2 .left (e ∙ z)))
@@ -37,10 +41,9 @@ served c = let e = c .before .common-divisor .ensures in rw e (divided _ _ (λ z
 judge-requires : tie.Need-judge-requires
 judge-requires c κs =
     let d = c .before in
-    let s = d .before .before .before .before in
+    let s = start (d .before) in
     let v = served c in
-    let e = d .before .if1 .left in
-    (
+    let e = d .before .if1 .left in (
       (v .some, v .few),
       (
         record { problem = s .pre .0; amounts = λ k l. v .fine k (rw e l) },

@@ -9,12 +9,16 @@ use Rattle.model.specs.declared.Side.the-variants.{Lower}
 use Rattle.feasibility.proofs.does_break.Statement.{statement}
 use Rattle.feasibility.proofs.does_break.Tie as tie
 
+-- the moments that are spoken of below
+abbrev start : tie.Else1 → tie.Start
+start c = c .before .before .before
+
 lower-test : (c : tie.After-breaks-bound) →
-    let s = c .before .before .before .before in
+    let s = start (c .before) in
     breaksBound Lower (s .args .i .lower) (s .args .x .p)
     (s .args .x .q) ≡ c .breaks-bound .result
 lower-test c =
-    let s = c .before .before .before .before in
+    let s = start (c .before) in
     let h : SFits w64 (s .args .x .p) = search needs in
     sym (rw (toZ-ofZ h) at (c .breaks-bound .ensures))
 

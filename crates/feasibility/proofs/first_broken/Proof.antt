@@ -38,9 +38,13 @@ earlier-requires c κs =
     let s = t .before .before in
     (omega (arith, few s), (s .pre .problem .items-in (t .before .loop .k) (t .loop-test .taken), s .pre .amounts (t .before .loop .k) (t .loop-test .taken)))
 
+-- the moments that are spoken of below
+abbrev start : tie.After-i Inv-loop μ-loop → tie.Start Inv-loop μ-loop
+start c = c .before .before .before
+
 add-k : tie.Need-add-k Inv-loop μ-loop
 add-k c =
-    let s = c .before .before .before .before .before in
+    let s = start (c .before .before) in
     omega (arith, few s)
 
 loop-less : tie.Need-loop-less Inv-loop μ-loop
@@ -49,7 +53,8 @@ loop-less c = omega arith
 loop-again : tie.Need-loop-again Inv-loop μ-loop
 unfolding firstBroken
 loop-again c =
-    let at-loop = c .before .before .before .before in
+    let at-in-loop = c .before .before .before in
+    let at-loop = at-in-loop .before in
     (omega arith, rw add-one (rw (at-loop .loop .inv .1) at (c .earlier .ensures)))
 
 returns : tie.Need-returns Inv-loop μ-loop

@@ -24,8 +24,12 @@ uncovered-at-requires c κs = search needs
 number-or-requires : tie.Need-number-or-requires Inv-loop μ-loop
 number-or-requires c κs = search needs
 
+-- the moments that are spoken of below
+abbrev start : tie.After-uncovered-at Inv-loop μ-loop → tie.Start Inv-loop μ-loop
+start c = c .before .before .before
+
 add-j : tie.Need-add-j Inv-loop μ-loop
-add-j c = omega (arith, c .before .before .before .before .pre .lined .few)
+add-j c = omega (arith, start (c .before) .pre .lined .few)
 
 loop-less : tie.Need-loop-less Inv-loop μ-loop
 loop-less c = omega arith

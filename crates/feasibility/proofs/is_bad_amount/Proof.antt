@@ -22,11 +22,15 @@ either-way true false = refl
 either-way false true = refl
 either-way false false = refl
 
+-- the moments that are spoken of below
+abbrev start : tie.After-struct-told → tie.Start
+start c = c .before .before .before
+
 far-test : (c : tie.After-is-farther) →
-    let s = c .before .before .before .before in
+    let s = start (c .before) in
     c .is-farther .result ≡ farther (s .args .x .p) (s .args .x .q)
 far-test c =
-    let s = c .before .before .before .before in
+    let s = start (c .before) in
     let h : SFits w64 (s .args .x .p) = search needs in
     rw (toZ-ofZ h) at (c .is-farther .ensures)
 
@@ -56,7 +60,7 @@ returns-3 c =
 
 magnitude-requires : tie.Need-magnitude-requires
 magnitude-requires c κs =
-    let s = c .before .before .before .before .before in
+    let s = start (c .before .before) in
     let x = s .args .x in
     let h : SFits w64 (x .p) = search needs in
     let l : natAbs (x .p) ≤ 1000000000 * x .q = ltb-false _ _ (sym (far-test (c .before)) ∙ c .if3 .left) in

@@ -55,22 +55,32 @@ limit s = s .args .p .capacity *ℤ pos (s .args .d)
 abbrev sums : Figure → tie.Start → ℤ
 sums f s = totalOf f (s .args .d) (s .args .p .count) (s .args .p) (s .args .c)
 
+-- the moments that are spoken of below
+abbrev start-of-else1 : tie.Else1 → tie.Start
+start-of-else1 c = c .before .before
+
+abbrev start-of-times : tie.After-times → tie.Start
+start-of-times c = start-of-else1 (c .before .before)
+
+abbrev start-of-total2 : tie.After-total2 → tie.Start
+start-of-total2 c = start-of-times (c .before .before .before)
+
 limit-is : (c : tie.After-times) →
-    let s = c .before .before .before .before in
+    let s = start-of-times c in
     toZ w64 (ofZ w64 (c .times .result)) ≡ limit s
 limit-is c =
-    let s = c .before .before .before .before in
+    let s = start-of-times c in
     let h : SFits w64 (s .args .p .capacity) = search needs in
     back (c .times .result) (c .times .ok) ∙ (rw (toZ-ofZ h) at (c .times .ensures))
 
 weight-is : (c : tie.After-total) →
-    let s = c .before .before .before .before .before in
+    let s = start-of-times (c .before) in
     toZ w64 (ofZ w64 (c .total .result)) ≡ sums Weight s
 weight-is c = back (c .total .result) (c .total .ok) ∙ c .total .ensures
 
 -- the code's test of the weight is the definition's
 compared : (c : tie.After-total) {b : Bool} → ltZ (toZ w64 (ofZ w64 (c .before .times .result))) (toZ w64 (ofZ w64 (c .total .result))) ≡ b →
-    let s = c .before .before .before .before .before in
+    let s = start-of-times (c .before) in
     ltZ (limit s) (sums Weight s) ≡ b
 compared c e = sym (ap₂ ltZ (limit-is (c .before)) (weight-is c)) ∙ e
 
@@ -85,7 +95,7 @@ total-requires-2 : tie.Need-total-requires-2
 total-requires-2 c κs = search needs
 
 worth-is : (c : tie.After-total2) →
-    let s = c .before .before .before .before .before .before .before in
+    let s = start-of-total2 c in
     toZ w64 (ofZ w64 (c .total2 .result)) ≡ sums Price s
 worth-is c = back (c .total2 .result) (c .total2 .ok) ∙ c .total2 .ensures
 
@@ -97,7 +107,7 @@ small s =
 
 reduce-requires : tie.Need-reduce-requires
 reduce-requires c κs =
-    let s = c .before .before .before .before .before .before .before in
+    let s = start-of-total2 c in
     (rw (worth-is c) (small s), s .pre .0 .0)
 
 returns-3 : tie.Need-returns-3

@@ -54,24 +54,28 @@ fits s k l =
     let h = total-within (s .args .f) (s .args .d) k (s .args .t3) (s .args .t4) (s .pre .0) (s .pre .1) l in
     within-sfits {n = 160000000000000000} (lit< tt) (within-more (omega (arith, few s)) h)
 
+-- the moments that are spoken of below
+abbrev at-loop-of-x : tie.After-x Inv-loop μ-loop → tie.At-loop Inv-loop μ-loop
+at-loop-of-x c = c .before .before .before
+
 -- one more
 next : (c : tie.After-one-term Inv-loop μ-loop) →
-    let at-loop = c .before .before .before .before in
+    let at-loop = at-loop-of-x (c .before) in
     let s = at-loop .before in
     toZ w64 (at-loop .loop .sum) +ℤ toZ w64 (ofZ w64 (c .one-term .result)) ≡ S s
     (at-loop .loop .k + 1)
 next c =
-    let l = c .before .before .before .before in
+    let l = at-loop-of-x (c .before) in
     let s = l .before in
     rw add-one (ap₂ _+ℤ_ (ap (toZ w64) (l .loop .inv .1) ∙ toZ-ofZ (fits s (l .loop .k) (l .loop .inv .0)))
     (back (c .one-term .result) (c .one-term .ok) ∙ c .one-term .ensures))
 
 add-sum : tie.Need-add-sum Inv-loop μ-loop
-add-sum c = let l = c .before .before .before .before in rw (next c) (fits (l .before) (l .loop .k + 1) (omega arith))
+add-sum c = let l = at-loop-of-x (c .before) in rw (next c) (fits (l .before) (l .loop .k + 1) (omega arith))
 
 add-k : tie.Need-add-k Inv-loop μ-loop
 add-k c =
-    let s = c .before .before .before .before .before in
+    let s = at-loop-of-x (c .before) .before in
     omega (arith, few s)
 
 loop-less : tie.Need-loop-less Inv-loop μ-loop

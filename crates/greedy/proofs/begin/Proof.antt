@@ -49,44 +49,44 @@ element-copy-out-a : tie.Need-element-copy-out-a Inv-loop μ-loop
 element-copy-out-a c = omega (arith, c .before .before .before .pre .columns .few)
 
 -- the moments that are spoken of below
+abbrev start-of-in-loop : tie.In-loop Inv-loop μ-loop → tie.Start Inv-loop μ-loop
+start-of-in-loop c = c .before .before .before
+
+abbrev start-of-p : tie.After-p Inv-loop μ-loop → tie.Start Inv-loop μ-loop
+start-of-p c = start-of-in-loop (c .before .before)
+
+abbrev start-of-light-end : tie.After-light-end Inv-loop μ-loop → tie.Start Inv-loop μ-loop
+start-of-light-end c = start-of-p (c .before .before .before)
+
+abbrev at-loop-of-p : tie.After-p Inv-loop μ-loop → tie.At-loop Inv-loop μ-loop
+at-loop-of-p c = c .before .before .before
+
 abbrev at-loop : tie.After-light-end Inv-loop μ-loop → tie.At-loop Inv-loop μ-loop
-at-loop c = c .before .before .before .before .before .before
-
-abbrev start-by-a : tie.After-a Inv-loop μ-loop → tie.Start Inv-loop μ-loop
-start-by-a c = c .before .before .before .before
-
-abbrev start-by-p : tie.After-p Inv-loop μ-loop → tie.Start Inv-loop μ-loop
-start-by-p c = c .before .before .before .before .before
-
-abbrev start-by-l : tie.After-l Inv-loop μ-loop → tie.Start Inv-loop μ-loop
-start-by-l c = c .before .before .before .before .before .before
-
-abbrev start-by-light-end : tie.After-light-end Inv-loop μ-loop → tie.Start Inv-loop μ-loop
-start-by-light-end c = c .before .before .before .before .before .before .before .before
+at-loop c = at-loop-of-p (c .before .before .before)
 
 mul-p : tie.Need-mul-p Inv-loop μ-loop
-mul-p c = omega (arith, start-by-a c .pre .columns .few)
+mul-p c = omega (arith, start-of-in-loop (c .before) .pre .columns .few)
 
 element-copy-out-p : tie.Need-element-copy-out-p Inv-loop μ-loop
-element-copy-out-p c = omega (arith, start-by-a c .pre .columns .few)
+element-copy-out-p c = omega (arith, start-of-in-loop (c .before) .pre .columns .few)
 
 mul-l : tie.Need-mul-l Inv-loop μ-loop
-mul-l c = omega (arith, start-by-p c .pre .columns .few)
+mul-l c = omega (arith, start-of-p c .pre .columns .few)
 
 element-copy-out-l : tie.Need-element-copy-out-l Inv-loop μ-loop
-element-copy-out-l c = omega (arith, start-by-p c .pre .columns .few)
+element-copy-out-l c = omega (arith, start-of-p c .pre .columns .few)
 
 mul-u : tie.Need-mul-u Inv-loop μ-loop
-mul-u c = omega (arith, start-by-l c .pre .columns .few)
+mul-u c = omega (arith, start-of-p (c .before) .pre .columns .few)
 
 element-copy-out-u : tie.Need-element-copy-out-u Inv-loop μ-loop
-element-copy-out-u c = omega (arith, start-by-l c .pre .columns .few)
+element-copy-out-u c = omega (arith, start-of-p (c .before) .pre .columns .few)
 
 light-end-requires : tie.Need-light-end-requires Inv-loop μ-loop
 light-end-requires c κs = search needs
 
 -- the light end of the turn's item
-amount : (c : tie.After-light-end Inv-loop μ-loop) → c .light-end .result ≡ lightOf (start-by-light-end c .args .t1) (start-by-light-end c .args .t2)
+amount : (c : tie.After-light-end Inv-loop μ-loop) → c .light-end .result ≡ lightOf (start-of-light-end c .args .t1) (start-of-light-end c .args .t2)
     (at-loop c .loop .k)
 amount c =
     let l = at-loop c in
@@ -101,7 +101,8 @@ amount c =
 
 with-amount-requires : tie.Need-with-amount-requires Inv-loop μ-loop
 with-amount-requires c κs =
-    let l = c .before .before .before .before .before .before in
+    let at-p = c .before .before .before in
+    let l = at-p .before .before .before in
     let s = l .before .before in
     let z = s .pre in
     let k = l .loop .k in
@@ -129,7 +130,9 @@ loop-less c = omega arith
 
 loop-again : tie.Need-loop-again Inv-loop μ-loop
 loop-again c =
-    let l = c .before .before .before .before .before .before .before in
+    let at-l = c .before .before .before in
+    let at-in-loop = at-l .before .before .before in
+    let l = at-in-loop .before in
     let s = l .before .before in
     let z = s .pre in
     let k = l .loop .k in

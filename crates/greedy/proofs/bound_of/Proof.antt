@@ -28,30 +28,27 @@ magnitude-requires c κs =
     rw (within-back tt h) (within-more (omega arith) h)
 
 -- the moments that are spoken of below
-abbrev start-by-magnitude : tie.After-magnitude → tie.Start
-start-by-magnitude c = c .before .before .before .before
+abbrev then1 : tie.After-magnitude → tie.Then1
+then1 c = c .before .before .before
 
-abbrev start-by-magnitude2 : tie.After-magnitude2 → tie.Start
-start-by-magnitude2 c = c .before .before .before .before .before
-
-abbrev then1 : tie.After-magnitude2 → tie.Then1
-then1 c = c .before .before .before .before
+abbrev start : tie.After-magnitude → tie.Start
+start c = then1 c .before
 
 magnitude-requires-2 : tie.Need-magnitude-requires-2
 magnitude-requires-2 c κs =
-    let s = start-by-magnitude c in
+    let s = start c in
     let h = s .pre .columns .rates-in (s .args .f .at) in
     rw (within-back tt h) (within-more (omega arith) h)
 
-size-is : (c : tie.After-magnitude) → c .magnitude .result ≡ natAbs (at (start-by-magnitude c .args .t1 .size) (start-by-magnitude c .args .f .at))
-size-is c = let s = start-by-magnitude c in rw (within-back tt (s .pre .columns .sizes-in (s .args .f .at))) at (c .magnitude .ensures)
+size-is : (c : tie.After-magnitude) → c .magnitude .result ≡ natAbs (at (start c .args .t1 .size) (start c .args .f .at))
+size-is c = let s = start c in rw (within-back tt (s .pre .columns .sizes-in (s .args .f .at))) at (c .magnitude .ensures)
 
-rate-is : (c : tie.After-magnitude2) → c .magnitude2 .result ≡ natAbs (at (start-by-magnitude2 c .args .t1 .rate) (start-by-magnitude2 c .args .f .at))
-rate-is c = let s = start-by-magnitude2 c in rw (within-back tt (s .pre .columns .rates-in (s .args .f .at))) at (c .magnitude2 .ensures)
+rate-is : (c : tie.After-magnitude2) → c .magnitude2 .result ≡ natAbs (at (start (c .before) .args .t1 .rate) (start (c .before) .args .f .at))
+rate-is c = let s = start (c .before) in rw (within-back tt (s .pre .columns .rates-in (s .args .f .at))) at (c .magnitude2 .ensures)
 
 share-requires : tie.Need-share-requires
 share-requires c κs =
-    let t = then1 c in
+    let t = then1 (c .before) in
     let s = t .before in
     let u = s .args .f .at in
     record {
@@ -65,7 +62,7 @@ returns : tie.Need-returns
 unfolding bound
 returns c =
     let d = c .before in
-    let t = then1 d in
+    let t = then1 (d .before) in
     rw (lt-ltb _ _ (t .if1 .taken)) (c .share .ensures ∙ ap₂ (sharedBy (t .before .args .f)) (size-is (d .before)) (rate-is d))
 
 returns-2 : tie.Need-returns-2

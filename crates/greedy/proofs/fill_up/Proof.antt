@@ -74,51 +74,54 @@ begun-room s = begin-filling (s .args .t1) (s .args .t2) (s .pre) .room-in
 begin-requires : tie.Need-begin-requires Inv-loop μ-loop
 begin-requires c κs = c .pre
 
+-- the moments that are spoken of below
+abbrev start-of-told : tie.After-struct-told Inv-loop μ-loop → tie.Start Inv-loop μ-loop
+start-of-told c = c .before .before .before
+
+abbrev start-of-at-loop : tie.At-loop Inv-loop μ-loop → tie.Start Inv-loop μ-loop
+start-of-at-loop c = start-of-told (c .before .before)
+
+abbrev then2-of-h : tie.After-h Inv-loop μ-loop → tie.Then2 Inv-loop μ-loop
+then2-of-h c = c .before .before .before
+
+abbrev then2-of-s : tie.After-s Inv-loop μ-loop → tie.Then2 Inv-loop μ-loop
+then2-of-s c = then2-of-h (c .before)
+
+abbrev at-loop-of-p : tie.After-p Inv-loop μ-loop → tie.At-loop Inv-loop μ-loop
+at-loop-of-p c = then2-of-s (c .before) .before .before
+
+abbrev at-loop-of-raise : tie.After-raise Inv-loop μ-loop → tie.At-loop Inv-loop μ-loop
+at-loop-of-raise c = at-loop-of-p (c .before)
+
+abbrev start-of-raise : tie.After-raise Inv-loop μ-loop → tie.Start Inv-loop μ-loop
+start-of-raise c = start-of-at-loop (at-loop-of-raise c)
+
+abbrev start-of-then3 : tie.Then3 Inv-loop μ-loop → tie.Start Inv-loop μ-loop
+start-of-then3 c = start-of-raise (c .before)
+
+abbrev at-loop-of-then3 : tie.Then3 Inv-loop μ-loop → tie.At-loop Inv-loop μ-loop
+at-loop-of-then3 c = at-loop-of-raise (c .before)
+
+abbrev then2-of-then3 : tie.Then3 Inv-loop μ-loop → tie.Then2 Inv-loop μ-loop
+then2-of-then3 c = then2-of-s (c .before .before .before)
+
 returns : tie.Need-returns Inv-loop μ-loop
 unfolding fill
 returns c =
-    let s = c .before .before .before .before in
+    let s = start-of-told (c .before) in
     let e = c .before .before .before .begin .ensures in
     let t = rw (e, within-back tt (begun-room s)) at (c .if1 .taken) in
     rw (e, t)
 
--- the moments that are spoken of below
-abbrev at-loop-by-raise : tie.After-raise Inv-loop μ-loop → tie.At-loop Inv-loop μ-loop
-at-loop-by-raise c = c .before .before .before .before .before .before .before .before
-
-abbrev at-loop-by-then3 : tie.Then3 Inv-loop μ-loop → tie.At-loop Inv-loop μ-loop
-at-loop-by-then3 c = c .before .before .before .before .before .before .before .before .before
-
-abbrev start-by-else1 : tie.Else1 Inv-loop μ-loop → tie.Start Inv-loop μ-loop
-start-by-else1 c = c .before .before .before .before
-
-abbrev start-by-at-loop : tie.At-loop Inv-loop μ-loop → tie.Start Inv-loop μ-loop
-start-by-at-loop c = c .before .before .before .before .before
-
-abbrev start-by-then2 : tie.Then2 Inv-loop μ-loop → tie.Start Inv-loop μ-loop
-start-by-then2 c = c .before .before .before .before .before .before .before
-
-abbrev start-by-raise : tie.After-raise Inv-loop μ-loop → tie.Start Inv-loop μ-loop
-start-by-raise c = c .before .before .before .before .before .before .before .before .before .before .before .before .before
-
-abbrev start-by-then3 : tie.Then3 Inv-loop μ-loop → tie.Start Inv-loop μ-loop
-start-by-then3 c = c .before .before .before .before .before .before .before .before .before .before .before .before .before .before
-
-abbrev then2-by-s : tie.After-s Inv-loop μ-loop → tie.Then2 Inv-loop μ-loop
-then2-by-s c = c .before .before .before .before
-
-abbrev then2-by-then3 : tie.Then3 Inv-loop μ-loop → tie.Then2 Inv-loop μ-loop
-then2-by-then3 c = c .before .before .before .before .before .before .before
-
 loop-holds : tie.Need-loop-holds Inv-loop μ-loop
-loop-holds c = let s = start-by-else1 c in rw (c .before .before .before .begin .ensures) (begin-filling (s .args .t1) (s .args .t2) (s .pre))
+loop-holds c = let s = start-of-told (c .before) in rw (c .before .before .before .begin .ensures) (begin-filling (s .args .t1) (s .args .t2) (s .pre))
 
 -- the rank of the turn
 rank<16 : (c : tie.Then2 Inv-loop μ-loop) → c .before .before .loop .f .at < 16
-rank<16 c = let l = c .before .before in omega (arith, l .loop .inv .rank-in, start-by-at-loop l .pre .columns .live-few, c .if2 .taken)
+rank<16 c = let l = c .before .before in omega (arith, l .loop .inv .rank-in, start-of-at-loop l .pre .columns .live-few, c .if2 .taken)
 
-item<16 : (c : tie.Then2 Inv-loop μ-loop) → itemOf (start-by-then2 c .args .t1) (c .before .before .loop .f .at) < 16
-item<16 c = start-by-then2 c .pre .columns .items-in (c .before .before .loop .f .at)
+item<16 : (c : tie.Then2 Inv-loop μ-loop) → itemOf (start-of-at-loop (c .before .before) .args .t1) (c .before .before .loop .f .at) < 16
+item<16 c = start-of-at-loop (c .before .before) .pre .columns .items-in (c .before .before .loop .f .at)
 
 mul-k : tie.Need-mul-k Inv-loop μ-loop
 mul-k c = omega (arith, rank<16 c)
@@ -145,15 +148,15 @@ element-copy-out-s : tie.Need-element-copy-out-s Inv-loop μ-loop
 element-copy-out-s c = rank<16 (c .before .before .before)
 
 mul-p : tie.Need-mul-p Inv-loop μ-loop
-mul-p c = small (rank<16 (then2-by-s c))
+mul-p c = small (rank<16 (then2-of-s c))
 
 element-copy-out-p : tie.Need-element-copy-out-p Inv-loop μ-loop
-element-copy-out-p c = rank<16 (then2-by-s c)
+element-copy-out-p c = rank<16 (then2-of-s c)
 
 sub-raise : tie.Need-sub-raise Inv-loop μ-loop
 sub-raise c =
-    let l = c .before .before .before .before .before .before .before in
-    let s = start-by-at-loop l in
+    let l = at-loop-of-p c in
+    let s = start-of-at-loop l in
     let k = itemOf (s .args .t1) (l .loop .f .at) in
     rw (within-back tt (s .pre .ends .hi-in k), within-back tt (s .pre .ends .lo-in k))
     (within-sfits (lit< tt) (width-within (s .args .t1) (s .args .t2) (s .pre) (l .loop .f .at)))
@@ -168,9 +171,9 @@ module _ {c : Columns} {e : Ends} {f : Fill} (i : Filling c e f) (few : c .live 
 
 raise-requires : tie.Need-raise-requires Inv-loop μ-loop
 raise-requires c κs =
-    let t = c .before .before .before .before .before in
+    let t = then2-of-s (c .before) in
     let l = t .before .before in
-    let s = start-by-at-loop l in
+    let s = start-of-at-loop l in
     let u = l .loop .f .at in
     let k = itemOf (s .args .t1) u in
     let w = width-within (s .args .t1) (s .args .t2) (s .pre) u in
@@ -190,12 +193,12 @@ raise-requires c κs =
     })
 
 -- what a turn gives
-raise-is : (c : tie.After-raise Inv-loop μ-loop) → c .raise .result ≡ raiseBy (at-loop-by-raise c .loop .f)
-    (at (start-by-raise c .args .t1 .size) (at-loop-by-raise c .loop .f .at)) (at (start-by-raise c .args .t1 .rate) (at-loop-by-raise c .loop .f .at))
-    (width (start-by-raise c .args .t1) (start-by-raise c .args .t2) (at-loop-by-raise c .loop .f .at))
+raise-is : (c : tie.After-raise Inv-loop μ-loop) → c .raise .result ≡ raiseBy (at-loop-of-raise c .loop .f)
+    (at (start-of-raise c .args .t1 .size) (at-loop-of-raise c .loop .f .at)) (at (start-of-raise c .args .t1 .rate) (at-loop-of-raise c .loop .f .at))
+    (width (start-of-raise c .args .t1) (start-of-raise c .args .t2) (at-loop-of-raise c .loop .f .at))
 raise-is c =
-    let l = at-loop-by-raise c in
-    let s = start-by-at-loop l in
+    let l = at-loop-of-raise c in
+    let s = start-of-at-loop l in
     let u = l .loop .f .at in
     let k = itemOf (s .args .t1) u in
     let w = width-within (s .args .t1) (s .args .t2) (s .pre) u in
@@ -233,12 +236,12 @@ more-filling c e f z l h i = record {
 
 -- after a turn that fits
 module _ (c : tie.Then3 Inv-loop μ-loop) where
-  raised-to : (c .before .raise .result .fill ≡ raised (start-by-then3 c .args .t1) (start-by-then3 c .args .t2) (at-loop-by-then3 c .loop .f))
-      × (ltZ (at-loop-by-then3 c .loop .f .room) (at (start-by-then3 c .args .t1 .size) (at-loop-by-then3 c .loop .f .at) *ℤ width (start-by-then3 c .args .t1)
-      (start-by-then3 c .args .t2) (at-loop-by-then3 c .loop .f .at)) ≡ false)
+  raised-to : (c .before .raise .result .fill ≡ raised (start-of-then3 c .args .t1) (start-of-then3 c .args .t2) (at-loop-of-then3 c .loop .f))
+      × (ltZ (at-loop-of-then3 c .loop .f .room) (at (start-of-then3 c .args .t1 .size) (at-loop-of-then3 c .loop .f .at) *ℤ width (start-of-then3 c .args .t1)
+      (start-of-then3 c .args .t2) (at-loop-of-then3 c .loop .f .at)) ≡ false)
   raised-to =
-      let l = at-loop-by-then3 c in
-      let s = start-by-at-loop l in
+      let l = at-loop-of-then3 c in
+      let s = start-of-at-loop l in
       let u = l .loop .f .at in
       let e = raise-is (c .before) in
       let t = raise-fits (l .loop .f) (at (s .args .t1 .size) u) (at (s .args .t1 .rate) u) (width (s .args .t1) (s .args .t2) u) (rw e at (c .if3 .taken)) in
@@ -247,9 +250,9 @@ module _ (c : tie.Then3 Inv-loop μ-loop) where
 loop-less : tie.Need-loop-less Inv-loop μ-loop
 loop-less c =
     let t = c .before in
-    let l = at-loop-by-then3 t in
-    let k = then2-by-then3 t in
-    let s = start-by-at-loop l in
+    let l = at-loop-of-then3 t in
+    let k = then2-of-then3 t in
+    let s = start-of-at-loop l in
     rw (raised-to t .0) (falls (s .args .t1 .live) (l .loop .f .at) (k .if2 .taken))
   where
     falls : (m k : ℕ) → k < m → m - (k + 1) < m - k
@@ -258,25 +261,25 @@ loop-less c =
 loop-again : tie.Need-loop-again Inv-loop μ-loop
 loop-again c =
     let t = c .before in
-    let l = at-loop-by-then3 t in
-    let k = then2-by-then3 t in
-    let s = start-by-at-loop l in
+    let l = at-loop-of-then3 t in
+    let k = then2-of-then3 t in
+    let s = start-of-at-loop l in
     rw (raised-to t .0) (more-filling (s .args .t1) (s .args .t2) (l .loop .f) (s .pre) (k .if2 .taken) (raised-to t .1) (l .loop .inv))
 
 -- the box is not empty where the loop is entered
-entered : (l : tie.At-loop Inv-loop μ-loop) → fill (start-by-at-loop l .args .t1) (start-by-at-loop l .args .t2) ≡ fillFrom (start-by-at-loop l .args .t1)
-    (start-by-at-loop l .args .t2) (start-by-at-loop l .args .t1 .live) (begun (start-by-at-loop l .args .t1) (start-by-at-loop l .args .t2))
+entered : (l : tie.At-loop Inv-loop μ-loop) → fill (start-of-at-loop l .args .t1) (start-of-at-loop l .args .t2) ≡ fillFrom (start-of-at-loop l .args .t1)
+    (start-of-at-loop l .args .t2) (start-of-at-loop l .args .t1 .live) (begun (start-of-at-loop l .args .t1) (start-of-at-loop l .args .t2))
 unfolding fill
 entered l =
     let b = l .before in
-    let s = start-by-else1 b in
+    let s = start-of-told (b .before) in
     let t = rw (b .before .before .before .begin .ensures, within-back tt (begun-room s)) at (b .if1 .left) in
     rw t
 
 returns-2 : tie.Need-returns-2 Inv-loop μ-loop
 returns-2 c =
-    let l = c .before .before .before .before .before .before .before .before .before in
-    let s = start-by-at-loop l in
+    let l = at-loop-of-raise (c .before) in
+    let s = start-of-at-loop l in
     let u = l .loop .f .at in
     let t = raise-stops (l .loop .f) (at (s .args .t1 .size) u) (at (s .args .t1 .rate) u) (width (s .args .t1) (s .args .t2) u)
     (rw (raise-is (c .before)) at (c .if3 .left)) in
@@ -285,7 +288,7 @@ returns-2 c =
 returns-3 : tie.Need-returns-3 Inv-loop μ-loop
 returns-3 c =
     let l = c .before .before in
-    let s = start-by-at-loop l in
+    let s = start-of-at-loop l in
     sym (all-ranks (s .args .t1) (s .args .t2) (l .loop .f) (c .if2 .left)) ∙ l .loop .inv .rest ∙ sym (entered l)
   where
     nothing : (m k : ℕ) → m ≤ k → m - k ≡ 0

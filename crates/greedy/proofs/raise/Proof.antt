@@ -44,29 +44,29 @@ add-t8 : tie.Need-add-t8
 add-t8 c = search needs
 
 -- the moments that are spoken of below
-abbrev start-by-struct-told2 : tie.After-struct-told2 → tie.Start
-start-by-struct-told2 c = c .before .before .before .before .before .before
+abbrev else1 : tie.After-struct-told2 → tie.Else1
+else1 c = c .before .before .before
 
-abbrev start-by-struct-told3 : tie.After-struct-told3 → tie.Start
-start-by-struct-told3 c = c .before .before .before .before .before .before .before .before
+abbrev start : tie.After-struct-told2 → tie.Start
+start c = else1 c .before .before .before
 
 sub-t9 : tie.Need-sub-t9
 sub-t9 c =
-    let s = start-by-struct-told2 c in
+    let s = start c in
     rw (within-back tt (s .pre .room-in), need s, within-back tt (need-within s)) (within-sfits (lit< tt) (room-within s))
 
 mul-t10 : tie.Need-mul-t10
-mul-t10 c = let s = start-by-struct-told2 c in rw (gain s) (within-sfits (lit< tt) (gain-within s))
+mul-t10 c = let s = start c in rw (gain s) (within-sfits (lit< tt) (gain-within s))
 
 add-t11 : tie.Need-add-t11
 add-t11 c =
-    let s = start-by-struct-told3 c in
+    let s = start (c .before .before) in
     rw (within-back tt (s .pre .worth-in), gain s, within-back tt (gain-within s)) (within-sfits (lit< tt) (worth-within s))
 
 returns-2 : tie.Need-returns-2
 returns-2 c =
-    let at-if1 = c .before .before .before .before .before in
-    let s = start-by-struct-told3 c in
+    let at-if1 = else1 (c .before .before) in
+    let s = start (c .before .before) in
     let t = rw (within-back tt (s .pre .room-in), need s, within-back tt (need-within s)) at (at-if1 .if1 .left) in
     rw (
       within-back tt (s .pre .room-in),

@@ -21,6 +21,10 @@ light-end-requires c κs = search needs
 abbrev S : tie.After-light-end → tie.Start
 S c = c .before .before
 
+-- the moments that are spoken of below
+abbrev start-of-then3 : tie.Then3 → tie.Start
+start-of-then3 c = S (c .before .before .before)
+
 light-is : (c : tie.After-light-end) → toZ w64 (ofZ w64 (c .light-end .result)) ≡ lightest (S c .args .a) (S c .args .c) (S c .args .l) (S c .args .u)
 light-is c =
     let s = S c in
@@ -46,19 +50,15 @@ returns-2 c =
     let e = rw (toZ-ofZ (s .fits .a), toZ-ofZ (s .fits .l), toZ-ofZ (s .fits .u)) at (c .heavy-end .ensures) in
     rw (not-empty (t .before), lt-ltb _ _ (t .if2 .taken)) (back (c .heavy-end .result) (c .heavy-end .ok) ∙ e)
 
--- the moments that are spoken of below
-abbrev after-light-end : tie.Then4 → tie.After-light-end
-after-light-end c = c .before .before .before .before
-
 fitting-requires : tie.Need-fitting-requires
 fitting-requires c κs =
-    let s = S (after-light-end c) in
+    let s = start-of-then3 (c .before) in
     rw (toZ-ofZ (s .fits .l), toZ-ofZ (s .fits .u), within-back tt (s .pre .room-in)) (s .pre)
 
 returns-3 : tie.Need-returns-3
 returns-3 c =
     let t = c .before in
-    let s = S (after-light-end t) in
+    let s = start-of-then3 (t .before) in
     let e = rw (toZ-ofZ (s .fits .a), toZ-ofZ (s .fits .l), toZ-ofZ (s .fits .u), within-back tt (s .pre .room-in)) at (c .fitting .ensures) in
     rw (not-empty (t .before .before .before), le-ltb _ _ (t .before .before .if2 .left), eq-eqb _ _ (t .before .if3 .taken), lt-ltb _ _ (t .if4 .taken))
     (back (c .fitting .result) (c .fitting .ok) ∙ e)

@@ -50,9 +50,13 @@ terms c = toZ-pos w64 (omega (arith, quotient c))
 add-t8 : tie.Need-add-t8
 add-t8 c = let d = c .before .before in rw (within-back tt (d .before .before .pre .worth-in), terms d) (within-sfits (lit< tt) (whole-within d))
 
+-- the moments that are spoken of below
+abbrev start : tie.After-magnitude → tie.Start
+start c = c .before .before
+
 rem-t9 : tie.Need-rem-t9
 rem-t9 c =
-    let s = c .before .before .before .before in
+    let s = start (c .before .before) in
     s .pre .size-in
 
 returns : tie.Need-returns

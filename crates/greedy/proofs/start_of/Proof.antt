@@ -43,8 +43,9 @@ element-copy-out-v c = search needs
 
 rounded-requires : tie.Need-rounded-requires
 rounded-requires c κs =
-    let at-fill-up = c .before .before .before .before .before in
-    let s = c .before .before .before .before .before .before in
+    let at-c = c .before .before .before in
+    let at-fill-up = at-c .before .before in
+    let s = at-fill-up .before in
     let k = s .args .k in
     let z = s .pre .0 .ends in
     rw (within-back tt (z .lo-in k), within-back tt (z .hi-in k), at-fill-up .fill-up .ensures)
@@ -53,8 +54,9 @@ rounded-requires c κs =
 returns : tie.Need-returns
 unfolding start
 returns c =
-    let at-fill-up = c .before .before .before .before .before .before in
-    let s = c .before .before .before .before .before .before .before in
+    let at-l = c .before .before .before in
+    let at-fill-up = at-l .before .before .before in
+    let s = at-fill-up .before in
     let k = s .args .k in
     let z = s .pre .0 in
     let e = rw (

@@ -44,15 +44,15 @@ mul-t7 : tie.Need-mul-t7
 mul-t7 c = let s = c .before .before in rw (price-term s) (price-in s)
 
 -- the moments that are spoken of below
-abbrev start : tie.After-struct-told2 → tie.Start
-start c = c .before .before .before .before
+abbrev start : tie.After-struct-known2 → tie.Start
+start c = c .before .before .before
 
 add-t8 : tie.Need-add-t8
-add-t8 c = let s = start c in rw (worth-back s, price-term s, toZ-ofZ (price-in s)) (worth-in s)
+add-t8 c = let s = start (c .before) in rw (worth-back s, price-term s, toZ-ofZ (price-in s)) (worth-in s)
 
 returns : tie.Need-returns
 returns c =
-    let s = start c in
+    let s = start (c .before) in
     rw (room-back s, weight-term s, toZ-ofZ (weight-in s), toZ-ofZ (room-in s), worth-back s, price-term s, toZ-ofZ (price-in s), toZ-ofZ (worth-in s))
 
 pub with-amount-spec : {M : Type 1} → statement M

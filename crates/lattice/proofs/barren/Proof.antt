@@ -44,9 +44,22 @@ whole c = let s = c .before .before .before in rw (test c, toZ-ofZ (s .fits .b),
 first-rung-requires : tie.Need-first-rung-requires Inv-loop μ-loop
 first-rung-requires c κs = rw (within-back tt (c .before .before .before .pre .1 .1)) (starts c)
 
+-- the moments that are spoken of below
+abbrev start-of-then1 : tie.Then1 Inv-loop μ-loop → tie.Start Inv-loop μ-loop
+start-of-then1 c = c .before .before .before
+
+abbrev start-of-at-loop : tie.At-loop Inv-loop μ-loop → tie.Start Inv-loop μ-loop
+start-of-at-loop c = start-of-then1 (c .before .before)
+
+abbrev start-of-judge : tie.After-judge Inv-loop μ-loop → tie.Start Inv-loop μ-loop
+start-of-judge c = start-of-at-loop (c .before .before)
+
+abbrev at-loop : tie.At-match-keys3 Inv-loop μ-loop → tie.At-loop Inv-loop μ-loop
+at-loop c = c .before .before .before
+
 loop-holds : tie.Need-loop-holds Inv-loop μ-loop
 loop-holds c =
-    let s = c .before .before .before .before in
+    let s = start-of-then1 (c .before) in
     let r = s .args .room in
     let e = rw (within-back tt (s .pre .1 .1)) at (c .first-rung .ensures) in (
       omega arith,
@@ -59,17 +72,10 @@ loop-holds c =
 sub-n : tie.Need-sub-n Inv-loop μ-loop
 sub-n c = search needs
 
--- the moments that are spoken of below
-abbrev start-by-at-loop : tie.At-loop Inv-loop μ-loop → tie.Start Inv-loop μ-loop
-start-by-at-loop c = c .before .before .before .before .before
-
-abbrev start-by-judge : tie.After-judge Inv-loop μ-loop → tie.Start Inv-loop μ-loop
-start-by-judge c = c .before .before .before .before .before .before .before
-
 judge-requires : tie.Need-judge-requires Inv-loop μ-loop
 judge-requires c κs =
     let a = c .before in
-    let s = start-by-at-loop a in
+    let s = start-of-at-loop a in
     record {
       tame = s .pre .0;
       steep = s .pre .1 .0;
@@ -79,12 +85,12 @@ judge-requires c κs =
 
 -- what is judged here, and what is below
 rest : (c : tie.After-judge Inv-loop μ-loop) → verdict (c .judge .result)
-    (barrenFrom (c .before .before .loop .n - 1) (start-by-judge c .args .l) (start-by-judge c .args .f) (toZ w64 (ofZ w64 (start-by-judge c .args .b)))
-    (lower (start-by-judge c .args .l) (c .before .before .loop .r))) ≡ barrenFrom tries (start-by-judge c .args .l) (start-by-judge c .args .f)
-    (toZ w64 (ofZ w64 (start-by-judge c .args .b))) (firstRung (start-by-judge c .args .l) (toZ w64 (ofZ w64 (start-by-judge c .args .room))))
+    (barrenFrom (c .before .before .loop .n - 1) (start-of-judge c .args .l) (start-of-judge c .args .f) (toZ w64 (ofZ w64 (start-of-judge c .args .b)))
+    (lower (start-of-judge c .args .l) (c .before .before .loop .r))) ≡ barrenFrom tries (start-of-judge c .args .l) (start-of-judge c .args .f)
+    (toZ w64 (ofZ w64 (start-of-judge c .args .b))) (firstRung (start-of-judge c .args .l) (toZ w64 (ofZ w64 (start-of-judge c .args .room))))
 rest c =
     let a = c .before .before in
-    let s = start-by-at-loop a in
+    let s = start-of-at-loop a in
     ap (λ y. verdict y (barrenFrom (a .loop .n - 1) (s .args .l) (s .args .f) (toZ w64 (ofZ w64 (s .args .b))) (lower (s .args .l) (a .loop .r))))
     (c .judge .ensures)
     ∙ sym (step-of (a .loop .n) (s .args .l) (s .args .f) (toZ w64 (ofZ w64 (s .args .b))) (a .loop .r) (c .before .loop-test .taken))
@@ -97,7 +103,7 @@ returns : tie.Need-returns Inv-loop μ-loop
 returns c =
     let j = c .before .before in
     let a = j .before .before in
-    let s = start-by-at-loop a in
+    let s = start-of-at-loop a in
     let below = barrenFrom (a .loop .n - 1) (s .args .l) (s .args .f) (toZ w64 (ofZ w64 (s .args .b))) (lower (s .args .l) (a .loop .r)) in
     sym (whole (a .before .before) ∙ sym (rest j) ∙ ap (λ y. verdict y below) (c .enum-told .given .1))
 
@@ -108,7 +114,7 @@ returns-2 : tie.Need-returns-2 Inv-loop μ-loop
 returns-2 c =
     let j = c .before .before in
     let a = j .before .before in
-    let s = start-by-at-loop a in
+    let s = start-of-at-loop a in
     let below = barrenFrom (a .loop .n - 1) (s .args .l) (s .args .f) (toZ w64 (ofZ w64 (s .args .b))) (lower (s .args .l) (a .loop .r)) in
     sym (whole (a .before .before) ∙ sym (rest j) ∙ ap (λ y. verdict y below) (c .enum-told2 .given .1))
 
@@ -117,8 +123,8 @@ enum-told-3 c = search needs
 
 less-stride-requires : tie.Need-less-stride-requires Inv-loop μ-loop
 less-stride-requires c κs =
-    let a = c .before .before .before .before in
-    let s = start-by-at-loop a in
+    let a = at-loop (c .before) in
+    let s = start-of-at-loop a in
     record { tame = s .pre .0; weight-in = within-more (omega arith) (a .loop .inv .1 .1 .0); worth-in = within-more (omega arith) (a .loop .inv .1 .1 .1) }
 
 loop-less : tie.Need-loop-less Inv-loop μ-loop
@@ -130,7 +136,7 @@ loop-again c =
     let j = t .before .before in
     let i = j .before in
     let a = i .before in
-    let s = start-by-at-loop a in
+    let s = start-of-at-loop a in
     let n = a .loop .n in
     let below = barrenFrom (n - 1) (s .args .l) (s .args .f) (toZ w64 (ofZ w64 (s .args .b))) (lower (s .args .l) (a .loop .r)) in
     let less : tries - (n - 1) ≡ (tries - n) + 1 = omega (arith, a .loop .inv .0, i .loop-test .taken) in (
@@ -149,7 +155,7 @@ returns-3 : tie.Need-returns-3 Inv-loop μ-loop
 unfolding barrenFrom
 returns-3 c =
     let a = c .before in
-    let s = start-by-at-loop a in
+    let s = start-of-at-loop a in
     let none : a .loop .n ≡ 0 = omega (arith, c .loop-test .left) in
     sym (whole (a .before .before) ∙ sym (a .loop .inv .1 .0) ∙ ap (λ n. barrenFrom n (s .args .l) (s .args .f) (toZ w64 (ofZ w64 (s .args .b))) (a .loop .r))
     none)

@@ -37,16 +37,19 @@ abbrev S : tie.Start → ℤ
 S s = floorDiv (s .args .room) (s .args .l .stride)
 
 -- the moments that are spoken of below
+abbrev start-of-floor-div : tie.After-floor-div → tie.Start
+start-of-floor-div c = c .before .before .before
+
 abbrev start : tie.After-floor-div2 → tie.Start
-start c = c .before .before .before .before
+start c = start-of-floor-div (c .before)
 
 -- the gap times the second quotient, as the local holds it
 multiple : (c : tie.After-floor-div2) →
-    let s = c .before .before .before .before in
+    let s = start c in
     toZ w64 (ofZ w64 (s .args .l .gap)) *ℤ toZ w64 (ofZ w64 (c .floor-div2 .result))
     ≡ s .args .l .gap *ℤ floorDiv (S s) (s .args .l .gap)
 multiple c =
-    let s = c .before .before .before .before in
+    let s = start c in
     let e = rw (held (c .before), within-back tt (s .pre .tame .gap-in)) at (c .floor-div2 .ensures) in
     rw (within-back tt (s .pre .tame .gap-in), back (c .floor-div2 .result) (c .floor-div2 .ok), e)
 

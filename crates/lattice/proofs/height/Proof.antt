@@ -23,9 +23,13 @@ floor-div-requires c κs =
     rw (within-back tt (s .pre .steep .rate-in), within-back tt (s .pre .weight-in), within-back tt (product s), within-back tt (s .pre .steep .size-in))
     (within-more (omega arith) (product s), nonzero (s .args .f .size) (s .pre .steep .size≥1))
 
+-- the moments that are spoken of below
+abbrev start : tie.After-struct-told2 → tie.Start
+start c = c .before .before .before
+
 returns : tie.Need-returns
 returns c =
-    let s = c .before .before .before .before in
+    let s = start (c .before) in
     let e = rw (
       within-back tt (s .pre .steep .rate-in),
       within-back tt (s .pre .weight-in),

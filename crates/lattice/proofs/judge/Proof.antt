@@ -49,13 +49,13 @@ highest-requires c κs =
     rw (held h, within-back tt (s .pre .worth-in)) (record { tame = s .pre .tame; base-in = s .pre .worth-in; height-in = height-in s })
 
 -- the moments that are spoken of below
-abbrev start-by-then1 : tie.Then1 → tie.Start
-start-by-then1 c = c .before .before .before .before
+abbrev start-of-height : tie.After-height → tie.Start
+start-of-height c = c .before .before .before
 
-abbrev start-by-highest : tie.After-highest → tie.Start
-start-by-highest c = c .before .before .before .before .before .before
+abbrev start : tie.Then1 → tie.Start
+start c = start-of-height (c .before)
 
-held-highest : (c : tie.After-highest) → toZ w64 (ofZ w64 (c .highest .result)) ≡ T (start-by-highest c)
+held-highest : (c : tie.After-highest) → toZ w64 (ofZ w64 (c .highest .result)) ≡ T (start (c .before .before))
 held-highest c =
     let h = c .before .before .before in
     let s = h .before .before .before in
@@ -65,12 +65,12 @@ snapped : (s : tie.Start) → Within 250200000100000000 (s .args .f .worth +ℤ 
 snapped s = within-add (s .pre .steep .worth-in) (highest-in s)
 
 add-if2 : tie.Need-add-if2
-add-if2 c = let s = start-by-highest c in rw (held-highest c, within-back tt (s .pre .steep .worth-in))
+add-if2 c = let s = start (c .before .before) in rw (held-highest c, within-back tt (s .pre .steep .worth-in))
     (within-sfits (lit< tt) (snapped s))
 
 -- the first test, and the second
-above : (c : tie.Then1) → ltZ (start-by-then1 c .args .b) (start-by-then1 c .args .f .worth +ℤ H (start-by-then1 c)) ≡ true
-above c = let s = start-by-then1 c in rw (
+above : (c : tie.Then1) → ltZ (start c .args .b) (start c .args .f .worth +ℤ H (start c)) ≡ true
+above c = let s = start c in rw (
   toZ-ofZ (s .fits .b),
   held (c .before),
   within-back tt (s .pre .steep .worth-in),
@@ -82,7 +82,7 @@ unfolding judged
 returns c =
     let d = c .before in
     let o = d .before .before in
-    let s = start-by-then1 o in
+    let s = start o in
     let k = rw (toZ-ofZ (s .fits .b), held-highest d, within-back tt (s .pre .steep .worth-in), within-back tt (snapped s)) at (c .if2 .taken) in
     rw (above o, k)
 
@@ -91,7 +91,7 @@ unfolding judged
 returns-2 c =
     let d = c .before in
     let o = d .before .before in
-    let s = start-by-then1 o in
+    let s = start o in
     let k = rw (toZ-ofZ (s .fits .b), held-highest d, within-back tt (s .pre .steep .worth-in), within-back tt (snapped s)) at (c .if2 .left) in
     rw (above o, k)
 

@@ -21,7 +21,8 @@ same-length c = search needs
 returns : tie.Need-returns
 returns c =
     let h = c .before .before in
-    let told = h .before .before .before .before in
+    let at-bytes = h .before .before .before in
+    let told = at-bytes .before in
     rw (told .text-of .ensures .shown) at (h .hand-over .ensures)
 
 pub list-answer-spec : {M : Type 1} → statement M

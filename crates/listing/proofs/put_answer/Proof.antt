@@ -59,7 +59,8 @@ same-length c = search needs
 returns : tie.Need-returns
 returns c =
     let i = c .before .before in
-    let b = i .before .before .before .before in
+    let at-out = i .before .before .before in
+    let b = at-out .before in
     let t = b .before .before .before in
     let m = t .before .before in
     let s = m .before .before .args in
@@ -70,11 +71,15 @@ returns c =
 same-length-2 : tie.Need-same-length-2
 same-length-2 c = search needs
 
+-- the moments that are spoken of below
+abbrev start : tie.After-listed-items → tie.Start
+start c = c .before .before
+
 returns-2 : tie.Need-returns-2
 returns-2 c =
     let w = c .before .before in
     let t = w .before .before .before in
-    let s = t .before .before .before .before .args in
+    let s = start (t .before .before) .args in
     rw (as-kind (s .n) (s .a) (t .enum-told2 .given .1)) (roomier (omega arith) (w .put-word .ensures))
 
 same-length-3 : tie.Need-same-length-3
@@ -83,7 +88,8 @@ same-length-3 c = search needs
 returns-3 : tie.Need-returns-3
 returns-3 c =
     let i = c .before .before in
-    let w = i .before .before .before .before in
+    let at-out4 = i .before .before .before in
+    let w = at-out4 .before in
     let t = w .before .before .before in
     let m = t .before .before in
     let s = m .before .before .args in
@@ -98,7 +104,7 @@ returns-4 : tie.Need-returns-4
 returns-4 c =
     let f = c .before .before in
     let t = f .before .before .before in
-    let s = t .before .before .before .before .args in
+    let s = start (t .before .before) .args in
     rw (as-kind (s .n) (s .a) (t .kind .given .1)) (roomier (omega arith) (f .put-refused .ensures))
 
 pub put-answer-spec : {M : Type 1} → statement M

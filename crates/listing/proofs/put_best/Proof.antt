@@ -23,12 +23,22 @@ put-natural-requires c κs = search needs
 same-length : tie.Need-same-length
 same-length c = search needs
 
+-- the moments that are spoken of below
+abbrev start : tie.After-put-word-arg → tie.Start
+start c = c .before .before .before
+
+abbrev after-put-word : tie.After-put-integer-arg → tie.After-put-word
+after-put-word c = c .before .before .before
+
+abbrev after-put-integer : tie.After-put-natural-arg → tie.After-put-integer
+after-put-integer c = c .before .before .before
+
 returns : tie.Need-returns
 returns c =
     let n = c .before .before in
-    let i = n .before .before .before .before in
-    let w = i .before .before .before .before in
-    let s = w .before .before .before .before .before in
+    let i = after-put-integer (n .before) in
+    let w = after-put-word (i .before) in
+    let s = start (w .before .before) in
     let h : SFits w64 (s .args .value .p) = search needs in
     rw (toZ-ofZ h) at (puts (omega arith) (w .put-word .ensures) (puts (omega arith) (i .put-integer .ensures) (n .put-natural .ensures)))
 

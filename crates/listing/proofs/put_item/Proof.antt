@@ -31,14 +31,24 @@ put-natural-requires-3 c κs = search needs
 same-length : tie.Need-same-length
 same-length c = search needs
 
+-- the moments that are spoken of below
+abbrev start : tie.After-put-natural-arg → tie.Start
+start c = c .before .before .before
+
+abbrev after-put-natural : tie.After-put-integer-arg → tie.After-put-natural
+after-put-natural c = c .before .before .before
+
+abbrev after-put-natural2 : tie.After-put-integer-arg2 → tie.After-put-natural2
+after-put-natural2 c = c .before .before .before
+
 returns : tie.Need-returns
 returns c =
     let r = c .before .before in
-    let q = r .before .before .before .before in
+    let q = after-put-natural2 (r .before) in
     let t = q .before .before in
     let p = t .before .before .before in
-    let n = p .before .before .before .before in
-    let s = n .before .before .before .before in
+    let n = after-put-natural (p .before) in
+    let s = start (n .before) in
     let hp : SFits w64 (s .args .x .p) = search needs in
     let l = puts (omega arith) (q .put-natural2 .ensures) (r .put-integer2 .ensures) in
     let f = puts (omega arith) (n .put-natural .ensures) (puts (omega arith) (p .put-integer .ensures) l) in
@@ -52,8 +62,8 @@ returns-2 c =
     let q = c .before .before in
     let t = q .before .before in
     let p = t .before .before .before in
-    let n = p .before .before .before .before in
-    let s = n .before .before .before .before in
+    let n = after-put-natural (p .before) in
+    let s = start (n .before) in
     let hp : SFits w64 (s .args .x .p) = search needs in
     let f = puts (omega arith) (n .put-natural .ensures) (puts (omega arith) (p .put-integer .ensures) (q .put-natural3 .ensures)) in
     rw (t .if1 .left, sym (add-one (s .args .k))) (roomier (omega arith) (rw (toZ-ofZ hp) at f))

@@ -20,11 +20,18 @@ put-natural-requires-2 c κs = search needs
 same-length : tie.Need-same-length
 same-length c = search needs
 
+-- the moments that are spoken of below
+abbrev after-put-word : tie.After-put-natural-arg → tie.After-put-word
+after-put-word c = c .before .before .before
+
+abbrev after-put-natural : tie.After-put-natural-arg2 → tie.After-put-natural
+after-put-natural c = c .before .before .before
+
 returns : tie.Need-returns
 returns c =
     let l = c .before .before in
-    let n = l .before .before .before .before in
-    let w = n .before .before .before .before in
+    let n = after-put-natural (l .before) in
+    let w = after-put-word (n .before) in
     puts (omega arith) (w .put-word .ensures) (puts (omega arith) (n .put-natural .ensures) (l .put-natural2 .ensures))
 
 pub put-refused-spec : {M : Type 1} → statement M

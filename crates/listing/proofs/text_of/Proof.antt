@@ -21,7 +21,8 @@ put-answer-requires c κs = search needs
 
 returns : tie.Need-returns
 returns c =
-    let s = c .before .before .before .before in
+    let at-space = c .before .before .before in
+    let s = at-space .before in
     let p = c .before .put-answer in
     let a = s .args in
     let e : p .result ≡ length (printed (a .n) (a .a)) = omega arith in

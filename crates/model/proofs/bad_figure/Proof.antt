@@ -14,11 +14,15 @@ weight-test c =
     let h : SFits w64 (c .before .before .args .i .weight) = search needs in
     sym (rw (toZ-ofZ h) at (c .beyond .ensures))
 
+-- the moments that are spoken of below
+abbrev start : tie.Else1 → tie.Start
+start c = c .before .before .before
+
 price-test : (c : tie.After-beyond2) →
-    let s = c .before .before .before .before .before in
+    let s = start (c .before .before) in
     outside 10000 (s .args .i .price) ≡ c .beyond2 .result
 price-test c =
-    let s = c .before .before .before .before .before in
+    let s = start (c .before .before) in
     let h : SFits w64 (s .args .i .price) = search needs in
     sym (rw (toZ-ofZ h) at (c .beyond2 .ensures))
 
@@ -39,7 +43,7 @@ bad-bound-requires c κs = search needs
 
 -- both figures are in range
 figures : (c : tie.Else2) →
-    let s = c .before .before .before .before .before .before in
+    let s = start (c .before .before .before) in
     (outside 1000 (s .args .i .weight) ≡ false) ×
     (outside 10000 (s .args .i .price) ≡ false)
 figures c = let e = c .before .before .before in (weight-test (e .before) ∙ e .if1 .left, price-test (c .before) ∙ c .if2 .left)

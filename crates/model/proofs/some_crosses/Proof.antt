@@ -30,9 +30,13 @@ element-copy-out-i c = omega arith
 does-cross-requires : tie.Need-does-cross-requires Inv-loop μ-loop
 does-cross-requires c κs = search needs
 
+-- the moments that are spoken of below
+abbrev at-loop : tie.After-does-cross Inv-loop μ-loop → tie.At-loop Inv-loop μ-loop
+at-loop c = c .before .before .before
+
 returns : tie.Need-returns Inv-loop μ-loop
 returns c =
-    let l = c .before .before .before .before in
+    let l = at-loop (c .before) in
     let a = l .before .args in
     sym (some-found (a .t1 .count) (l .loop .k) (itemAt (a .t1)) crosses (omega arith) (sym (c .before .does-cross .ensures) ∙ c .if1 .taken))
 
@@ -44,7 +48,7 @@ loop-less c = omega arith
 
 loop-again : tie.Need-loop-again Inv-loop μ-loop
 loop-again c =
-    let l = c .before .before .before .before in
+    let l = at-loop (c .before) in
     let a = l .before .args in
     (omega arith, rw add-one (some-more (l .loop .k) (itemAt (a .t1)) crosses (l .loop .inv .1) (sym (c .before .does-cross .ensures) ∙ c .if1 .left)))
 

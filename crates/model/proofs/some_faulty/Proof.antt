@@ -34,7 +34,8 @@ bad-figure-requires c κs = search needs
 
 returns : tie.Need-returns Inv-loop μ-loop
 returns c =
-    let l = c .before .before .before .before in
+    let at-in-loop = c .before .before .before in
+    let l = at-in-loop .before in
     let h = l .before in
     let a = h .before .args in
     let found = some-found (h .held-of .result) (l .loop .k) (itemAt (a .t1)) badFigure (omega arith)
@@ -47,9 +48,13 @@ add-k c = omega arith
 loop-less : tie.Need-loop-less Inv-loop μ-loop
 loop-less c = omega arith
 
+-- the moments that are spoken of below
+abbrev at-loop : tie.After-bad-figure Inv-loop μ-loop → tie.At-loop Inv-loop μ-loop
+at-loop c = c .before .before .before
+
 loop-again : tie.Need-loop-again Inv-loop μ-loop
 loop-again c =
-    let l = c .before .before .before .before in
+    let l = at-loop (c .before) in
     let a = l .before .before .args in
     (omega arith, rw add-one (some-more (l .loop .k) (itemAt (a .t1)) badFigure (l .loop .inv .1) (sym (c .before .bad-figure .ensures) ∙ c .if1 .left)))
 

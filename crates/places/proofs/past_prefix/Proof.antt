@@ -53,13 +53,16 @@ enum-known-o : tie.Need-enum-known-o Inv-loop μ-loop
 enum-known-o c = search needs
 
 -- the moments that are spoken of below
-abbrev at-loop : tie.After-next-value-arg4 Inv-loop μ-loop → tie.At-loop Inv-loop μ-loop
-at-loop c = c .before .before .before .before .before
+abbrev at-loop : tie.After-next-value-arg2 Inv-loop μ-loop → tie.At-loop Inv-loop μ-loop
+at-loop c = c .before .before .before
+
+abbrev after-next-value-arg4 : tie.After-o Inv-loop μ-loop → tie.After-next-value-arg4 Inv-loop μ-loop
+after-next-value-arg4 c = c .before .before .before
 
 returns : tie.Need-returns Inv-loop μ-loop
 returns c =
-    let p = c .before .before .before .before in
-    let l = at-loop p in
+    let p = after-next-value-arg4 (c .before) in
+    let l = at-loop (p .before .before) in
     let a = l .before .args in
     let i = l .loop .j - 1 in
     rw (back (c .before .o .given .0 .0) (c .known-told .given .0 .1), l .loop .inv .1)
@@ -81,7 +84,7 @@ loop-less c = search needs
 loop-again : tie.Need-loop-again Inv-loop μ-loop
 loop-again c =
     let p = c .before .before .before in
-    let l = at-loop p in
+    let l = at-loop (p .before .before) in
     let a = l .before .args in
     let i = l .loop .j - 1 in (
       omega arith,

@@ -37,9 +37,16 @@ enum-told c = search needs
 past-prefix-requires : tie.Need-past-prefix-requires
 past-prefix-requires c κs = search needs
 
+-- the moments that are spoken of below
+abbrev after-next-segment-arg3-of-at-match-keys2 : tie.At-match-keys2 → tie.After-next-segment-arg3
+after-next-segment-arg3-of-at-match-keys2 c = c .before .before
+
+abbrev after-next-segment-arg3-of-o : tie.After-o → tie.After-next-segment-arg3
+after-next-segment-arg3-of-o c = c .before .before .before
+
 returns : tie.Need-returns
 returns c =
-    let p = c .before .before .before .before in
+    let p = after-next-segment-arg3-of-o (c .before) in
     let a = p .before .before .before .args in
     rw (back (c .before .o .given .0 .0) (c .known-told .given .0 .1))
     (segment-here (at (a .t3)) (at (a .hi)) (at (a .t5)) (at (a .t1)) (a .d) (c .before .o .given .0 .0)
@@ -52,7 +59,7 @@ returns c =
 
 returns-2 : tie.Need-returns-2
 returns-2 c =
-    let p = c .before .before .before .before in
+    let p = after-next-segment-arg3-of-at-match-keys2 (c .before .before) in
     let a = p .before .before .before .args in
     rw (← segment-on (at (a .t3)) (at (a .hi)) (at (a .t5)) (at (a .t1)) (a .d)
     (simp (

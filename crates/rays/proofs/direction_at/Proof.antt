@@ -27,33 +27,46 @@ stop-of-requires c κs = search needs
 is-absent-requires : tie.Need-is-absent-requires
 is-absent-requires c κs = search needs
 
+-- the figures of the direction's item, where they are read
+weight-fits : (c : tie.After-struct-told) →
+    let at-is-absent = c .before in
+    let s = at-is-absent .before .before .before in
+    SFits w64 (itemAt (s .args .t1) (s .args .u / 2) .weight)
+weight-fits c = search needs
+
+price-fits : (c : tie.After-struct-told2) →
+    let at-is-absent = c .before .before .before in
+    let s = at-is-absent .before .before .before in
+    SFits w64 (itemAt (s .args .t1) (s .args .u / 2) .price)
+price-fits c = search needs
+
+-- the moments that are spoken of below
+abbrev start : tie.After-is-absent → tie.Start
+start c = c .before .before .before
+
 turned-requires : tie.Need-turned-requires
 turned-requires c κs =
-    let s = c .before .before .before .before in
-    let f : SFits w64 (itemAt (s .args .t1) (s .args .u / 2) .weight) = search needs in
-    rw (toZ-ofZ f) (abs-within (itemAt (s .args .t1) (s .args .u / 2) .weight) (omega (arith, item-in s .weight-in)))
+    let s = start (c .before) in
+    rw (toZ-ofZ (weight-fits c)) (abs-within (itemAt (s .args .t1) (s .args .u / 2) .weight) (omega (arith, item-in s .weight-in)))
 
 turned-requires-2 : tie.Need-turned-requires-2
 turned-requires-2 c κs =
-    let s = c .before .before .before .before .before .before in
-    let f : SFits w64 (itemAt (s .args .t1) (s .args .u / 2) .price) = search needs in
-    rw (toZ-ofZ f) (abs-within (itemAt (s .args .t1) (s .args .u / 2) .price) (item-in s .price-in))
+    let s = start (c .before .before .before) in
+    rw (toZ-ofZ (price-fits c)) (abs-within (itemAt (s .args .t1) (s .args .u / 2) .price) (item-in s .price-in))
 
 returns : tie.Need-returns
 unfolding directionOf
 returns c =
-    let at-is-absent = c .before .before .before .before in
+    let at-turned = c .before .before in
+    let at-is-absent = at-turned .before .before in
     let at-stop-of = at-is-absent .before in
-    let s = c .before .before .before .before .before .before .before in
-    let f : SFits w64 (itemAt (s .args .t1) (s .args .u / 2) .weight) = search needs in
-    let g : SFits w64 (itemAt (s .args .t1) (s .args .u / 2) .price) = search needs in
     rw (
       back (c .before .before .turned .result) (c .before .before .turned .ok),
       back (c .turned2 .result) (c .turned2 .ok),
       c .before .before .turned .ensures,
       c .turned2 .ensures,
-      toZ-ofZ f,
-      toZ-ofZ g,
+      toZ-ofZ (weight-fits (at-turned .before)),
+      toZ-ofZ (price-fits (c .before)),
       at-is-absent .is-absent .ensures,
       at-stop-of .stop-of .ensures,
     )

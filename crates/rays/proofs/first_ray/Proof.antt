@@ -28,10 +28,14 @@ ray-from-requires c κs = search needs
 is-ray-requires : tie.Need-is-ray-requires Inv-loop μ-loop
 is-ray-requires c κs = search needs
 
+-- the moments that are spoken of below
+abbrev at-loop-of-is-ray : tie.After-is-ray Inv-loop μ-loop → tie.At-loop Inv-loop μ-loop
+at-loop-of-is-ray c = c .before .before .before
+
 returns : tie.Need-returns Inv-loop μ-loop
 unfolding rayOf
 returns c =
-    let at-loop = c .before .before .before .before in
+    let at-loop = at-loop-of-is-ray (c .before) in
     let l = at-loop .loop in
     first-here _ (l .u) _ _ _ (omega arith) (l .inv .1) (c .before .before .ray-from .ensures) (c .before .is-ray .ensures) (c .if1 .taken)
 
@@ -43,7 +47,7 @@ loop-less c = omega arith
 
 loop-again : tie.Need-loop-again Inv-loop μ-loop
 loop-again c =
-    let at-loop = c .before .before .before .before in
+    let at-loop = at-loop-of-is-ray (c .before) in
     let l = at-loop .loop in
     (omega arith, first-past (l .u) _ _ _ (l .inv .1) (c .before .before .ray-from .ensures) (c .before .is-ray .ensures) (c .if1 .left))
 

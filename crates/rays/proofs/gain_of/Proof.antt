@@ -49,12 +49,18 @@ module _ (c : tie.Start) where
 sub-result : tie.Need-sub-result
 sub-result c = let s = c .before .before in rw (negated (lit< tt) (e-weight s)) (within-sfits (lit< tt) (negation s))
 
-mul-result : tie.Need-mul-result
-mul-result c = let s = c .before .before .before .before in rw (there s) (within-sfits (lit< tt) (there-in s))
-
 -- the moments that are spoken of below
+abbrev start-of-known2 : tie.After-struct-known2 → tie.Start
+start-of-known2 c = c .before .before .before
+
+abbrev start-of-told3 : tie.After-struct-told3 → tie.Start
+start-of-told3 c = start-of-known2 (c .before .before .before)
+
 abbrev start : tie.After-struct-told4 → tie.Start
-start c = c .before .before .before .before .before .before .before .before
+start c = start-of-told3 (c .before .before)
+
+mul-result : tie.Need-mul-result
+mul-result c = let s = start-of-known2 (c .before) in rw (there s) (within-sfits (lit< tt) (there-in s))
 
 mul-result-2 : tie.Need-mul-result-2
 mul-result-2 c = let s = start c in rw (here s) (within-sfits (lit< tt) (here-in s))

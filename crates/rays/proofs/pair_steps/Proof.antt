@@ -42,16 +42,21 @@ moved-requires c κs =
     let e = c .before .before .before in
     (omega arith, rw (negated (lit< tt) (e-weight e), read-back (lit< tt) (e-negated e)) (e-negated e))
 
+-- the moments that are spoken of below
+abbrev after-direction-at2 : tie.After-struct-told → tie.After-direction-at2
+after-direction-at2 c = c .before .before .before
+
 moved-requires-2 : tie.Need-moved-requires-2
 moved-requires-2 c κs =
-    let e = c .before .before .before .before .before in
+    let e = after-direction-at2 (c .before .before) in
     (omega arith, rw (read-back (lit< tt) (d-weight e)) (d-weight e))
 
 returns : tie.Need-returns
 unfolding stepsBy
 returns c =
-    let at-no-steps = c .before .before .before .before .before in
-    let e = c .before .before .before .before .before .before in
+    let at-moved = c .before .before in
+    let at-no-steps = at-moved .before .before .before in
+    let e = at-no-steps .before in
     rw (
       c .moved2 .ensures,
       c .before .before .moved .ensures,

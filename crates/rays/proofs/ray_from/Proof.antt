@@ -22,15 +22,20 @@ does-gain-requires c κs = search needs
 
 partner-requires : tie.Need-partner-requires
 partner-requires c κs =
-    let d = c .before .before .before .before .before in
+    let at-then1 = c .before .before .before in
+    let d = at-then1 .before .before in
     let s = d .before in
     (s .pre .0, rw (d .direction-at .ensures) (direction-in (s .args .p) (s .args .u) (s .pre .0) (s .pre .1)))
+
+-- the moments that are spoken of below
+abbrev then1 : tie.Then2 → tie.Then1
+then1 c = c .before .before .before
 
 returns : tie.Need-returns
 unfolding rayFrom
 returns c =
-    let at-if1 = c .before .before .before .before in
-    let g = c .before .before .before .before .before in
+    let at-if1 = then1 (c .before) in
+    let g = at-if1 .before in
     let h : SFits w64 (g .before .direction-at .result .weight) = search needs in
     rw (
       ← g .before .direction-at .ensures,
@@ -41,7 +46,8 @@ returns c =
 returns-2 : tie.Need-returns-2
 unfolding rayFrom
 returns-2 c =
-    let g = c .before .before .before .before in
+    let at-then1 = c .before .before .before in
+    let g = at-then1 .before in
     let h : SFits w64 (g .before .direction-at .result .weight) = search needs in
     rw (← g .before .direction-at .ensures, sym (g .does-gain .ensures) ∙ c .before .before .before .if1 .taken, on-values zero-fits h (c .if2 .left))
 

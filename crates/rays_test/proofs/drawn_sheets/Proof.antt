@@ -29,19 +29,29 @@ first-of-requires c κs = search needs
 show-requires : tie.Need-show-requires Inv-loop μ-loop
 show-requires c κs = search needs
 
+-- the moments that are spoken of below
+abbrev at-loop-of-draw-item2 : tie.After-draw-item2 Inv-loop μ-loop → tie.At-loop Inv-loop μ-loop
+at-loop-of-draw-item2 c = c .before .before .before
+
+abbrev at-loop-of-second : tie.After-second Inv-loop μ-loop → tie.At-loop Inv-loop μ-loop
+at-loop-of-second c = at-loop-of-draw-item2 (c .before .before .before)
+
+abbrev at-loop : tie.After-show Inv-loop μ-loop → tie.At-loop Inv-loop μ-loop
+at-loop c = at-loop-of-second (c .before .before .before)
+
 add-k : tie.Need-add-k Inv-loop μ-loop
 add-k c =
-    let s = c .before .before .before .before .before .before .before .before .before in
+    let s = at-loop c in
     omega (arith, s)
 
 loop-less : tie.Need-loop-less Inv-loop μ-loop
 loop-less c =
-    let s = c .before .before .before .before .before .before .before .before .before in
+    let s = at-loop c in
     omega (arith, s)
 
 loop-again : tie.Need-loop-again Inv-loop μ-loop
 loop-again c =
-    let s = c .before .before .before .before .before .before .before .before .before in
+    let s = at-loop c in
     omega (arith, s)
 
 returns : tie.Need-returns Inv-loop μ-loop

@@ -23,27 +23,37 @@ fill-up-requires c κs = search needs
 sized : (s : tie.Start) → SizedFill (s .args .t1) (fill (s .args .t1) (s .args .e))
 sized s = fill-sized (s .args .t1) (s .args .e) (s .pre .0 .sized)
 
+-- the moments that are spoken of below
+abbrev start-of-told : tie.After-struct-told → tie.Start
+start-of-told c = c .before .before .before
+
+abbrev start-of-else1 : tie.Else1 → tie.Start
+start-of-else1 c = start-of-told (c .before)
+
+abbrev after-fill-up : tie.Else1 → tie.After-fill-up
+after-fill-up c = c .before .before .before
+
 returns : tie.Need-returns
 unfolding cutBy
 returns c =
-    let s = c .before .before .before .before in
+    let s = start-of-told (c .before) in
     let f = c .before .before .before .fill-up .ensures in
     let t = rw (f, within-back tt (sized s .room-in)) at (c .if1 .taken) in
     rw t
 
 not-empty : (c : tie.Else1) →
-    let s = c .before .before .before .before in
+    let s = start-of-else1 c in
     ltZ (fill (s .args .t1) (s .args .e) .room) (pos 0) ≡ false
 not-empty c =
-    let s = c .before .before .before .before in
+    let s = start-of-else1 c in
     rw (c .before .before .before .fill-up .ensures, within-back tt (sized s .room-in)) at (c .if1 .left)
 
 -- the filling ended at a live rank
 rank<16 : (c : tie.Then3) →
-    let at-fill-up = c .before .before .before .before .before .before in
+    let at-fill-up = after-fill-up (c .before .before .before) in
     at-fill-up .fill-up .result .at < 16
 rank<16 c =
-    let s = c .before .before .before .before .before .before .before in
+    let s = start-of-else1 (c .before .before .before) in
     omega (arith, c .if3 .taken, s .pre .0 .sized .columns .live-few)
 
 mul-s : tie.Need-mul-s
@@ -61,7 +71,8 @@ element-copy-out-p c = rank<16 (c .before)
 hopeless-requires : tie.Need-hopeless-requires
 hopeless-requires c κs =
     let h = c .before .before in
-    let g = h .before .before .before .before .before .before in
+    let at-else1 = h .before .before .before in
+    let g = at-else1 .before .before .before in
     let s = g .before in
     let z : SizedFill (s .args .t1) (g .fill-up .result) = rw (g .fill-up .ensures) (sized s) in
     let u = g .fill-up .result .at in
@@ -77,7 +88,8 @@ returns-2 : tie.Need-returns-2
 unfolding cutBy sparseBy bound
 returns-2 c =
     let h = c .before .before .before in
-    let g = h .before .before .before .before .before .before in
+    let at-else1 = h .before .before .before in
+    let g = at-else1 .before .before .before in
     let s = g .before in
     let u = g .fill-up .result .at in
     let z = s .pre .0 .sized .columns in
@@ -88,7 +100,7 @@ returns-2 c =
 less-requires : tie.Need-less-requires
 less-requires c κs =
     let h = c .before in
-    let s = h .before .before .before .before .before .before .before in
+    let s = start-of-else1 (h .before .before .before) in
     (s .pre .0 .proper (h .before .before .if2 .taken), record { low = omega arith; few = omega arith })
 
 turned : (b : Bool) → not b ≡ cond b false true
@@ -99,7 +111,8 @@ returns-3 : tie.Need-returns-3
 unfolding cutBy sparseBy bound
 returns-3 c =
     let h = c .before .before in
-    let g = h .before .before .before .before .before .before in
+    let at-else1 = h .before .before .before in
+    let g = at-else1 .before .before .before in
     let s = g .before in
     let l = rw (g .fill-up .ensures) at (h .if3 .left) in
     let e = rw (g .fill-up .ensures, within-back tt (sized s .worth-in)) at (c .less .ensures) in

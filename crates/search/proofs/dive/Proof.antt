@@ -24,9 +24,13 @@ long s = record { lo-long = search needs; hi-long = search needs }
 long-path : (s : tie.Start Inv-loop μ-loop) → LongPath (s .args .p)
 long-path s = record { place-long = search needs; starts-long = search needs }
 
+-- the moments that are spoken of below
+abbrev start-of-ends : tie.After-ends Inv-loop μ-loop → tie.Start Inv-loop μ-loop
+start-of-ends c = c .before .before .before
+
 -- what the function was given, at the loop
 abbrev Of : tie.At-loop Inv-loop μ-loop → tie.Start Inv-loop μ-loop
-Of l = l .before .before .before .before .before .before
+Of l = start-of-ends (l .before .before .before)
 
 k<16 : (c : tie.In-loop Inv-loop μ-loop) → c .before .loop .k < 16
 k<16 c = omega (arith, c .loop-test .taken, Of (c .before) .pre .0 .few)
@@ -37,12 +41,12 @@ item c = let s = Of (c .before) in item<16 (s .args .t1) (s .pre .0) (long s) (c
 
 fixed-in-requires : tie.Need-fixed-in-requires Inv-loop μ-loop
 fixed-in-requires c κs =
-    let s = c .before .before .before .before in
+    let s = start-of-ends (c .before) in
     let r = s .pre .0 in
     (omega (arith, s .pre .1 .0, r .few), λ k h. item<16 (s .args .t1) r (long s) k (omega (arith, s .pre .1 .0)))
 
 loop-holds : tie.Need-loop-holds Inv-loop μ-loop
-loop-holds c = let s = c .before .before .before .before .before in diving-first (s .args .t1) (s .args .j) (s .args .p) (c .fixed-in .result) (s .pre .1 .0)
+loop-holds c = let s = start-of-ends (c .before .before) in diving-first (s .args .t1) (s .args .j) (s .args .p) (c .fixed-in .result) (s .pre .1 .0)
     (long-path s) (c .fixed-in .ensures) (s .pre .1 .1)
 
 mul-i : tie.Need-mul-i Inv-loop μ-loop

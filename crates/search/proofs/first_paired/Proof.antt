@@ -111,73 +111,70 @@ element-copy-out-t : tie.Need-element-copy-out-t Inv-loop μ-loop
 element-copy-out-t c = index<256 (c .before .before .before)
 
 -- the moments that are spoken of below
-abbrev then1-by-t : tie.After-t Inv-loop μ-loop → tie.Then1 Inv-loop μ-loop
-then1-by-t c = c .before .before .before .before
+abbrev then1-of-k2 : tie.After-k2 Inv-loop μ-loop → tie.Then1 Inv-loop μ-loop
+then1-of-k2 c = c .before .before
 
-abbrev then1-by-removable-arg : tie.After-removable-arg Inv-loop μ-loop → tie.Then1 Inv-loop μ-loop
-then1-by-removable-arg c = c .before .before .before .before .before
+abbrev then1-of-t : tie.After-t Inv-loop μ-loop → tie.Then1 Inv-loop μ-loop
+then1-of-t c = then1-of-k2 (c .before .before)
 
-abbrev then1-by-removable-arg2 : tie.After-removable-arg2 Inv-loop μ-loop → tie.Then1 Inv-loop μ-loop
-then1-by-removable-arg2 c = c .before .before .before .before .before .before
+abbrev then1-of-removable-arg2 : tie.After-removable-arg2 Inv-loop μ-loop → tie.Then1 Inv-loop μ-loop
+then1-of-removable-arg2 c = then1-of-t (c .before .before)
 
-abbrev then1-by-removable-arg3 : tie.After-removable-arg3 Inv-loop μ-loop → tie.Then1 Inv-loop μ-loop
-then1-by-removable-arg3 c = c .before .before .before .before .before .before .before
+abbrev then1-of-removable-arg4 : tie.After-removable-arg4 Inv-loop μ-loop → tie.Then1 Inv-loop μ-loop
+then1-of-removable-arg4 c = then1-of-removable-arg2 (c .before .before)
 
-abbrev then1-by-removable-arg4 : tie.After-removable-arg4 Inv-loop μ-loop → tie.Then1 Inv-loop μ-loop
-then1-by-removable-arg4 c = c .before .before .before .before .before .before .before .before
+abbrev then1-of-removable : tie.After-removable Inv-loop μ-loop → tie.Then1 Inv-loop μ-loop
+then1-of-removable c = then1-of-removable-arg4 (c .before .before .before)
 
-abbrev then1-by-removable-arg5 : tie.After-removable-arg5 Inv-loop μ-loop → tie.Then1 Inv-loop μ-loop
-then1-by-removable-arg5 c = c .before .before .before .before .before .before .before .before .before
+abbrev after-removable-arg3 : tie.After-removable-arg6 Inv-loop μ-loop → tie.After-removable-arg3 Inv-loop μ-loop
+after-removable-arg3 c = c .before .before .before
 
-abbrev then1-by-removable : tie.After-removable Inv-loop μ-loop → tie.Then1 Inv-loop μ-loop
-then1-by-removable c = c .before .before .before .before .before .before .before .before .before .before .before
-
-abbrev then1-by-else2 : tie.Else2 Inv-loop μ-loop → tie.Then1 Inv-loop μ-loop
-then1-by-else2 c = c .before .before .before .before .before .before .before .before .before .before .before .before
+-- where the loop was
+abbrev At : tie.After-removable Inv-loop μ-loop → tie.At-loop Inv-loop μ-loop
+At c = then1-of-removable c .before .before
 
 cast-t : tie.Need-cast-t Inv-loop μ-loop
-cast-t c = let t = then1-by-t c in let s =
-    t .before .before .before in rw (second-back s (K t)) (within-sfits (lit< tt) (second-within s (K t)))
+cast-t c = let t = then1-of-t c in let s = t .before .before .before in rw (second-back s (K t)) (within-sfits (lit< tt) (second-within s (K t)))
 
 mul-removable : tie.Need-mul-removable Inv-loop μ-loop
-mul-removable c = record { fits = omega (arith, d<16 (then1-by-t c)) }
+mul-removable c = record { fits = omega (arith, d<16 (then1-of-t c)) }
 
 array-copy-out-removable : tie.Need-array-copy-out-removable Inv-loop μ-loop
-array-copy-out-removable c = d<16 (then1-by-t c)
+array-copy-out-removable c = d<16 (then1-of-t c)
 
 mul-removable-2 : tie.Need-mul-removable-2 Inv-loop μ-loop
-mul-removable-2 c = record { fits = omega (arith, j<16 (then1-by-removable-arg c)) }
+mul-removable-2 c = record { fits = omega (arith, j<16 (then1-of-t (c .before))) }
 
 array-copy-out-removable-2 : tie.Need-array-copy-out-removable-2 Inv-loop μ-loop
-array-copy-out-removable-2 c = j<16 (then1-by-removable-arg c)
+array-copy-out-removable-2 c = j<16 (then1-of-t (c .before))
 
 mul-removable-3 : tie.Need-mul-removable-3 Inv-loop μ-loop
-mul-removable-3 c = record { fits = omega (arith, d<16 (then1-by-removable-arg2 c)) }
+mul-removable-3 c = record { fits = omega (arith, d<16 (then1-of-removable-arg2 c)) }
 
 element-copy-out-removable : tie.Need-element-copy-out-removable Inv-loop μ-loop
-element-copy-out-removable c = d<16 (then1-by-removable-arg2 c)
+element-copy-out-removable c = d<16 (then1-of-removable-arg2 c)
 
 mul-removable-4 : tie.Need-mul-removable-4 Inv-loop μ-loop
-mul-removable-4 c = record { fits = omega (arith, d<16 (then1-by-removable-arg3 c)) }
+mul-removable-4 c = record { fits = omega (arith, d<16 (then1-of-removable-arg2 (c .before))) }
 
 element-copy-out-removable-2 : tie.Need-element-copy-out-removable-2 Inv-loop μ-loop
-element-copy-out-removable-2 c = d<16 (then1-by-removable-arg3 c)
+element-copy-out-removable-2 c = d<16 (then1-of-removable-arg2 (c .before))
 
 mul-removable-5 : tie.Need-mul-removable-5 Inv-loop μ-loop
-mul-removable-5 c = record { fits = omega (arith, j<16 (then1-by-removable-arg4 c)) }
+mul-removable-5 c = record { fits = omega (arith, j<16 (then1-of-removable-arg4 c)) }
 
 element-copy-out-removable-3 : tie.Need-element-copy-out-removable-3 Inv-loop μ-loop
-element-copy-out-removable-3 c = j<16 (then1-by-removable-arg4 c)
+element-copy-out-removable-3 c = j<16 (then1-of-removable-arg4 c)
 
 mul-removable-6 : tie.Need-mul-removable-6 Inv-loop μ-loop
-mul-removable-6 c = record { fits = omega (arith, j<16 (then1-by-removable-arg5 c)) }
+mul-removable-6 c = record { fits = omega (arith, j<16 (then1-of-removable-arg4 (c .before))) }
 
 element-copy-out-removable-4 : tie.Need-element-copy-out-removable-4 Inv-loop μ-loop
-element-copy-out-removable-4 c = j<16 (then1-by-removable-arg5 c)
+element-copy-out-removable-4 c = j<16 (then1-of-removable-arg4 (c .before))
 
 removable-requires : tie.Need-removable-requires Inv-loop μ-loop
 removable-requires c κs =
-    let t = c .before .before .before .before .before .before .before .before .before .before in
+    let t = then1-of-removable-arg4 (c .before .before) in
     let l = t .before .before in
     let s = l .before in
     let k = pairIndex (levelAt (s .args .t1) (l .loop .d)) (levelAt (s .args .t1) (l .loop .j)) in
@@ -188,15 +185,11 @@ removable-requires c κs =
     rw (first-back s k, second-back s k, within-back tt r, within-back tt u, within-back tt x, within-back tt y) (r, (u, (x, y)))
 
 -- what the test decides, of the figures themselves
--- where the loop was
-abbrev At : tie.After-removable Inv-loop μ-loop → tie.At-loop Inv-loop μ-loop
-At c = c .before .before .before .before .before .before .before .before .before .before .before .before .before
-
 decided : (c : tie.After-removable Inv-loop μ-loop) → Reflects (AppliesAt (At c .before .args .t1) (At c .before .args .t2) (at (At c .before .args .t3))
     (At c .loop .d) (At c .loop .j)) (c .removable .result)
 decided c =
-    let at-removable-arg3 = c .before .before .before .before in
-    let t = then1-by-removable c in
+    let at-removable-arg3 = after-removable-arg3 (c .before) in
+    let t = then1-of-removable c in
     let l = At c in
     let s = l .before in
     let k = pairIndex (levelAt (s .args .t1) (l .loop .d)) (levelAt (s .args .t1) (l .loop .j)) in
@@ -217,27 +210,27 @@ returns : tie.Need-returns Inv-loop μ-loop
 returns c =
     let a = c .before in
     let l = At a in
-    let i = a .before .before .before .before .before .before .before .before .before .before .before .before in
+    let i = then1-of-removable a .before in
     record {
       most = omega (arith, i .loop-test .taken);
       here = λ h. record {
         above = l .loop .j;
-        is-above = then1-by-removable a .if1 .taken;
+        is-above = then1-of-removable a .if1 .taken;
         here = decided a .holds (c .if2 .taken);
       };
       before = l .loop .inv .1 .1 .0;
     }
 
 add-j : tie.Need-add-j Inv-loop μ-loop
-add-j c = record { fits = omega (arith, j<16 (then1-by-else2 c)) }
+add-j c = record { fits = omega (arith, j<16 (then1-of-removable (c .before))) }
 
 loop-less : tie.Need-loop-less Inv-loop μ-loop
-loop-less c = omega (arith, j<16 (then1-by-else2 c))
+loop-less c = omega (arith, j<16 (then1-of-removable (c .before)))
 
 loop-again : tie.Need-loop-again Inv-loop μ-loop
 loop-again c =
     let a = c .before in
-    let t = then1-by-removable a in
+    let t = then1-of-removable a in
     let l = At a in
     let v = l .loop .inv in (
       v .0,

@@ -53,35 +53,44 @@ less-requires c κs =
     )
 
 -- the moments that are spoken of below
-abbrev start-by-less : tie.After-less → tie.Start
-start-by-less c = c .before .before .before .before
+abbrev start-of-magnitude2 : tie.After-magnitude2 → tie.Start
+start-of-magnitude2 c = c .before .before
 
-abbrev start-by-barren : tie.After-barren → tie.Start
-start-by-barren c = c .before .before .before .before .before .before .before .before .before
+abbrev start-of-less : tie.After-less → tie.Start
+start-of-less c = start-of-magnitude2 (c .before .before)
+
+abbrev start-of-told2 : tie.After-struct-told2 → tie.Start
+start-of-told2 c = start-of-less (c .before .before .before)
+
+abbrev start-of-barren : tie.After-barren → tie.Start
+start-of-barren c = start-of-told2 (c .before .before)
+
+abbrev then1 : tie.After-struct-told3 → tie.Then1
+then1 c = c .before .before .before
 
 -- what the comparison said
-less-is : (c : tie.After-less) → c .less .result ≡ lessMixed (start-by-less c .args .b)
-    (sharedBy (start-by-less c .args .f) (natAbs (start-by-less c .args .size)) (natAbs (start-by-less c .args .rate)))
-less-is c = c .less .ensures ∙ ap (lessMixed (start-by-less c .args .b)) (promise (c .before))
+less-is : (c : tie.After-less) → c .less .result ≡ lessMixed (start-of-less c .args .b)
+    (sharedBy (start-of-less c .args .f) (natAbs (start-of-less c .args .size)) (natAbs (start-of-less c .args .rate)))
+less-is c = c .less .ensures ∙ ap (lessMixed (start-of-less c .args .b)) (promise (c .before))
 
 barren-requires : tie.Need-barren-requires
 barren-requires c κs =
-    let s = c .before .before .before .before .before .before .before .before in
+    let s = start-of-told2 (c .before) in
     rw (within-back tt (s .pre .steep .worth-in), toZ-ofZ (s .fits .rate), toZ-ofZ (s .fits .size), within-back tt (s .pre .room-in))
     (s .pre .tame, (s .pre .steep, s .pre .room-in))
 
 barren-is : (c : tie.After-barren) →
-    let s = c .before .before .before .before .before .before .before .before .before in
-    c .barren .result ≡ barrenBy (start-by-barren c .args .l)
+    let s = start-of-barren c in
+    c .barren .result ≡ barrenBy (start-of-barren c .args .l)
     (record {
-      worth = start-by-barren c .args .f .worth;
+      worth = start-of-barren c .args .f .worth;
       rate = s .args .rate;
       size = s .args .size;
     })
-    (start-by-barren c .args .f .room)
-    (start-by-barren c .args .b .whole)
+    (start-of-barren c .args .f .room)
+    (start-of-barren c .args .b .whole)
 barren-is c =
-    let s = start-by-barren c in
+    let s = start-of-barren c in
     rw (
       within-back tt (s .pre .steep .worth-in),
       toZ-ofZ (s .fits .rate),
@@ -92,7 +101,7 @@ barren-is c =
 
 -- the relaxation promises more
 promised : (c : tie.After-barren) → tie.Then1
-promised c = c .before .before .before .before
+promised c = then1 (c .before)
 
 returns : tie.Need-returns
 unfolding promised

@@ -30,9 +30,38 @@ Inv-loop best from s n x v m e₀ d₀ e d =
 abbrev μ-loop : tie.MeasureT-loop
 μ-loop best from s n x v m e₀ d₀ e d = n - d
 
+-- the moments that are spoken of below
+abbrev start : tie.After-first-paired Inv-loop μ-loop → tie.Start Inv-loop μ-loop
+start c = c .before .before .before
+
+abbrev after-by-side2 : tie.After-cut Inv-loop μ-loop → tie.After-by-side2 Inv-loop μ-loop
+after-by-side2 c = c .before .before .before
+
+abbrev after-a : tie.After-by-side-arg Inv-loop μ-loop → tie.After-a Inv-loop μ-loop
+after-a c = c .before .before .before
+
+abbrev in-loop-of-by-side : tie.After-by-side Inv-loop μ-loop → tie.In-loop Inv-loop μ-loop
+in-loop-of-by-side c = after-a (c .before) .before
+
+-- where a turn of the loop began
+abbrev Round : tie.After-by-side2 Inv-loop μ-loop → tie.In-loop Inv-loop μ-loop
+Round c = in-loop-of-by-side (c .before .before)
+
+abbrev at-loop : tie.Else1 Inv-loop μ-loop → tie.At-loop Inv-loop μ-loop
+at-loop c = Round (after-by-side2 (c .before)) .before
+
+abbrev after-first-paired : tie.After-fixed-in Inv-loop μ-loop → tie.After-first-paired Inv-loop μ-loop
+after-first-paired c = c .before .before .before
+
 -- what the function was given, at the loop
 abbrev Of : tie.At-loop Inv-loop μ-loop → tie.Start Inv-loop μ-loop
-Of l = l .before .before .before .before .before .before .before
+Of l = start (after-first-paired (l .before))
+
+abbrev start-of-else1 : tie.Else1 Inv-loop μ-loop → tie.Start Inv-loop μ-loop
+start-of-else1 c = Of (at-loop c)
+
+abbrev in-loop-of-else2 : tie.Else2 Inv-loop μ-loop → tie.In-loop Inv-loop μ-loop
+in-loop-of-else2 c = Round (after-by-side2 (c .before .before))
 
 d<16 : (c : tie.In-loop Inv-loop μ-loop) → c .before .loop .d < 16
 d<16 c = omega (arith, c .loop-test .taken, Of (c .before) .pre .ready .setting .few)
@@ -45,22 +74,6 @@ first-paired-requires c κs =
       from-in = s .pre .from-in;
       unpaired = s .pre .passed .unpaired;
     }
-
--- the moments that are spoken of below
-abbrev after-a : tie.After-by-side Inv-loop μ-loop → tie.After-a Inv-loop μ-loop
-after-a c = c .before .before .before .before
-
-abbrev after-by-side2-by-else1 : tie.Else1 Inv-loop μ-loop → tie.After-by-side2 Inv-loop μ-loop
-after-by-side2-by-else1 c = c .before .before .before .before
-
-abbrev after-by-side2-by-else2 : tie.Else2 Inv-loop μ-loop → tie.After-by-side2 Inv-loop μ-loop
-after-by-side2-by-else2 c = c .before .before .before .before .before
-
-abbrev in-loop : tie.After-by-side Inv-loop μ-loop → tie.In-loop Inv-loop μ-loop
-in-loop c = c .before .before .before .before .before
-
-abbrev start : tie.After-first-paired Inv-loop μ-loop → tie.Start Inv-loop μ-loop
-start c = c .before .before .before
 
 -- no level above the first that is looked at is paired
 least : (c : tie.After-first-paired Inv-loop μ-loop) → start c .args .from ≤ c .first-paired .result
@@ -78,7 +91,7 @@ least c = go (decLt m (s .args .from))
 
 fixed-in-requires : tie.Need-fixed-in-requires Inv-loop μ-loop
 fixed-in-requires c κs =
-    let s = c .before .before .before .before .before in
+    let s = start (c .before .before) in
     let r = s .pre .ready .setting in
     (omega (arith, s .pre .from-in, r .few), λ k h. item<16 (s .args .t1) r (s .pre .started .long) k (omega (arith, s .pre .from-in)))
 
@@ -116,10 +129,10 @@ by-side-requires : tie.Need-by-side-requires Inv-loop μ-loop
 by-side-requires c κs = tt
 
 mul-by-side-2 : tie.Need-mul-by-side-2 Inv-loop μ-loop
-mul-by-side-2 c = record { fits = omega (arith, d<16 (in-loop c)) }
+mul-by-side-2 c = record { fits = omega (arith, d<16 (in-loop-of-by-side c)) }
 
 element-copy-out-by-side-2 : tie.Need-element-copy-out-by-side-2 Inv-loop μ-loop
-element-copy-out-by-side-2 c = d<16 (in-loop c)
+element-copy-out-by-side-2 c = d<16 (in-loop-of-by-side c)
 
 by-side-requires-2 : tie.Need-by-side-requires-2 Inv-loop μ-loop
 by-side-requires-2 c κs = tt
@@ -127,10 +140,6 @@ by-side-requires-2 c κs = tt
 -- the level's item has a place
 item : (c : tie.In-loop Inv-loop μ-loop) → levelAt (Of (c .before) .args .t1) (c .before .loop .d) < 16
 item c = let s = Of (c .before) in item<16 (s .args .t1) (s .pre .ready .setting) (s .pre .started .long) (c .before .loop .d) (c .loop-test .taken)
-
--- where a turn of the loop began
-abbrev Round : tie.After-by-side2 Inv-loop μ-loop → tie.In-loop Inv-loop μ-loop
-Round c = c .before .before .before .before .before .before .before
 
 -- the ends of the run
 low-is : (c : tie.After-by-side2 Inv-loop μ-loop) → c .before .before .by-side .result ≡ bySide
@@ -142,7 +151,7 @@ low-is c =
     let d = l .loop .d in
     let b = c .before .before in
     rw (
-      back (at (s .args .t .place) d) (after-a b .a .given),
+      back (at (s .args .t .place) d) (after-a (b .before) .a .given),
       back (at (s .args .t .starts) d) (b .before .before .before .b .given),
       back (at (s .args .t1 .low) d) (b .before .by-side-arg .given),
     ) at (b .by-side .ensures)
@@ -156,7 +165,7 @@ high-is c =
     let d = l .loop .d in
     let b = c .before .before in
     rw (
-      back (at (s .args .t .place) d) (after-a b .a .given),
+      back (at (s .args .t .place) d) (after-a (b .before) .a .given),
       back (at (s .args .t .starts) d) (b .before .before .before .b .given),
       back (at (s .args .t1 .high) d) (c .before .by-side-arg2 .given),
     ) at (c .by-side2 .ensures)
@@ -211,7 +220,7 @@ cut-requires c κs =
 -- the levels above settle nothing
 passed : (l : tie.At-loop Inv-loop μ-loop) (d : ℕ) → d ≤ l .loop .d → Passed (Of l .args .t1) (Of l .args .p) (Of l .args .t) (Of l .args .best) d
 passed l d h =
-    let at-first-paired = l .before .before .before .before in
+    let at-first-paired = after-first-paired (l .before) in
     record {
       uncut = λ i g. l .loop .inv .1 .1 .1 i (omega arith);
       unpaired = λ i g. at-first-paired .first-paired .ensures .before i (omega (arith, l .loop .inv .1 .1 .0));
@@ -229,24 +238,24 @@ cut-is c =
 
 returns : tie.Need-returns Inv-loop μ-loop
 returns c =
-    let s = c .before .before .before .before in
+    let s = after-by-side2 (c .before) in
     let i = Round s in
     let l = i .before in
     (refl, record { level-in = i .loop-test .taken; passed = passed l (l .loop .d) (omega arith); cut = sym (cut-is (c .before)) ∙ c .if1 .taken })
 
 add-t50 : tie.Need-add-t50 Inv-loop μ-loop
 add-t50 c =
-    let s = c .before .before .before .before .before in
+    let s = after-by-side2 (c .before .before) in
     record { fits = omega (arith, d<16 (Round s)) }
 
 -- the level that a pair discards
 returns-2 : tie.Need-returns-2 Inv-loop μ-loop
 returns-2 c =
     let e = c .before in
-    let i = Round (after-by-side2-by-else1 e) in
+    let i = Round (after-by-side2 (e .before)) in
     let l = i .before in
     let s = Of l in
-    let paired = l .before .before .before .before in
+    let paired = after-first-paired (l .before) in
     let f = paired .first-paired in
     let q = c .if2 .taken in
     inr (
@@ -262,43 +271,43 @@ returns-2 c =
     )
 
 mul-a-2 : tie.Need-mul-a-2 Inv-loop μ-loop
-mul-a-2 c = record { fits = omega (arith, item (Round (after-by-side2-by-else2 c))) }
+mul-a-2 c = record { fits = omega (arith, item (in-loop-of-else2 c)) }
 
 element-set-from-a : tie.Need-element-set-from-a Inv-loop μ-loop
-element-set-from-a c = item (Round (after-by-side2-by-else2 c))
+element-set-from-a c = item (in-loop-of-else2 c)
 
 mul-a-3 : tie.Need-mul-a-3 Inv-loop μ-loop
-mul-a-3 c = record { fits = omega (arith, item (Round (after-by-side2-by-else2 c))) }
+mul-a-3 c = record { fits = omega (arith, item (in-loop-of-else2 c)) }
 
 element-set-from-a-2 : tie.Need-element-set-from-a-2 Inv-loop μ-loop
-element-set-from-a-2 c = item (Round (after-by-side2-by-else2 c))
+element-set-from-a-2 c = item (in-loop-of-else2 c)
 
 add-d : tie.Need-add-d Inv-loop μ-loop
-add-d c = record { fits = omega (arith, d<16 (Round (after-by-side2-by-else2 c))) }
+add-d c = record { fits = omega (arith, d<16 (in-loop-of-else2 c)) }
 
 loop-less : tie.Need-loop-less Inv-loop μ-loop
-loop-less c = let i = Round (after-by-side2-by-else2 c) in omega (arith, i .loop-test .taken)
+loop-less c = let i = in-loop-of-else2 c in omega (arith, i .loop-test .taken)
 
 -- ends written twice are those written last
 rewritten : (e : Ends) (k : ℕ) (l h u : ℤ) → spanned (spanned e k l h) k u u ≡ spanned e k u u
 rewritten e k l h u = ap₂ (λ (x y : List ℤ). record { lo = x; hi = y }) (set-set (e .lo) k l u) (set-set (e .hi) k h u)
 
 -- so does the level itself
-still : (c : tie.Else1 Inv-loop μ-loop) (i : ℕ) → i ≤ Round (after-by-side2-by-else1 c) .before .loop .d
-    → Dec (i ≡ Round (after-by-side2-by-else1 c) .before .loop .d) → cutAt (Of (Round (after-by-side2-by-else1 c) .before) .args .t1)
-    (Of (Round (after-by-side2-by-else1 c) .before) .args .t) (Of (Round (after-by-side2-by-else1 c) .before) .args .best) i ≡ false
+still : (c : tie.Else1 Inv-loop μ-loop) (i : ℕ) → i ≤ at-loop c .loop .d
+    → Dec (i ≡ at-loop c .loop .d) → cutAt (start-of-else1 c .args .t1)
+    (start-of-else1 c .args .t) (start-of-else1 c .args .best) i ≡ false
 still c i h (yes e) = rw e (sym (cut-is (c .before)) ∙ c .if1 .left)
-still c i h (no e) = Round (after-by-side2-by-else1 c) .before .loop .inv .1 .1 .1 i (omega (arith, e))
+still c i h (no e) = at-loop c .loop .inv .1 .1 .1 i (omega (arith, e))
 
 loop-again : tie.Need-loop-again Inv-loop μ-loop
 unfolding fixedIn
 loop-again c =
     let u = c .before in
-    let b = after-by-side2-by-else1 u in
+    let b = after-by-side2 (u .before) in
     let i = Round b in
     let l = i .before in
     let s = Of l in
-    let read = b .before .before .before .before .before .before in
+    let read = after-a (b .before .before .before) in
     let x = at (s .args .t .place) (l .loop .d) in
     let k = levelAt (s .args .t1) (l .loop .d) in (
       omega (arith, i .loop-test .taken),

@@ -28,9 +28,32 @@ settled-in : (c : tie.After-look) → SettledIn (c .before .before .before .args
 settled-in c = let s = c .before .before .before in looked-in (s .args .s) (s .args .p) (s .args .q .path) (s .args .q .best)
     (record { best = c .look .result .best; better = c .look .result .better }) (c .look .result .settled) (c .look .ensures)
 
+-- the moments that are spoken of below
+abbrev after-counted-of-lo : tie.After-lo → tie.After-counted
+after-counted-of-lo c = c .before .before .before
+
+abbrev after-counted-of-past : tie.After-past → tie.After-counted
+after-counted-of-past c = after-counted-of-lo (c .before .before)
+
+abbrev after-counted-of-o : tie.After-o → tie.After-counted
+after-counted-of-o c = after-counted-of-past (c .before .before)
+
+abbrev after-look : tie.After-known-told → tie.After-look
+after-look c = after-counted-of-o (c .before) .before .before
+
+abbrev start : tie.After-known-told → tie.Start
+start c = after-look c .before .before .before
+
+abbrev after-look-of-hi : tie.After-hi → tie.After-look
+after-look-of-hi c = after-counted-of-lo (c .before) .before .before
+
+-- where the move was found
+abbrev Told : tie.After-fresh → tie.After-known-told
+Told f = f .before .before
+
 past-requires : tie.Need-past-requires
 past-requires c κs =
-    let k = c .before .before .before .before .before .before in
+    let k = after-look-of-hi c in
     let s = k .before .before .before in
     wider (k .look .result .settled) (s .args .s .levels) (s .pre .ready .setting .few) (settled-in k)
 
@@ -40,23 +63,13 @@ enum-known-o c = search needs
 -- where the verdict leads
 abbrev goal : tie.After-past → Option (ℕ × ℤ)
 goal c =
-    let at-look = c .before .before .before .before .before .before .before in
+    let at-look = after-look-of-hi (c .before) in
     let start = at-look .before .before .before in
     pastOf (at-look .look .result .settled)
     (at (start .args .s .low))
     (at (start .args .s .high))
     (at (start .args .q .path .starts))
     (at (start .args .q .path .place))
-
--- the moments that are spoken of below
-abbrev after-counted : tie.After-known-told → tie.After-counted
-after-counted c = c .before .before .before .before .before .before .before .before
-
-abbrev after-look : tie.After-known-told → tie.After-look
-after-look c = after-counted c .before .before
-
-abbrev start : tie.After-known-told → tie.Start
-start c = after-look c .before .before .before
 
 module _ (c : tie.After-known-told) where
   went : goal (c .before .before .before) ≡ some (c .before .o .given .0 .0, c .before .o .given .0 .1 .0)
@@ -79,7 +92,7 @@ module _ (c : tie.After-known-told) where
 
 move-to-requires : tie.Need-move-to-requires
 move-to-requires c κs =
-    let s = c .before .before .before .before .before .before .before .before .before .before .before .before .before in
+    let s = start c in
     omega (
       arith,
       moves c .level-in,
@@ -88,7 +101,7 @@ move-to-requires c κs =
 
 -- the path that the dive goes on from
 moved : (c : tie.After-move-to) →
-    let s = c .before .before .before .before .before .before .before .before .before .before .before .before .before .before in
+    let s = start (c .before) in
     c .move-to .result ≡ movedAt
     (s .args .q .path)
     (c .before .before .o .given .0 .0) (c .before .before .o .given .0 .1 .0)
@@ -96,10 +109,6 @@ moved c = let t = c .before in rw (back (t .before .o .given .0 .1 .0) (t .known
 
 fresh-requires : tie.Need-fresh-requires
 fresh-requires c κs = search needs
-
--- where the move was found
-abbrev Told : tie.After-fresh → tie.After-known-told
-Told f = f .before .before
 
 next-in : (f : tie.After-fresh) → Told f .before .o .given .0 .0 + 1 ≤ 16
 next-in f = let t = Told f in omega (
@@ -138,7 +147,7 @@ onward : (f : tie.After-fresh) (r : Path) → Dived
     (record {
       path = r;
       best = after-look (Told f) .look .result .best;
-      steps = after-counted (Told f) .counted .result;
+      steps = after-counted-of-o (f .before .before .before) .counted .result;
       from = f .fresh .result;
       done = false;
     })
@@ -159,7 +168,7 @@ onward f r d =
           f .fresh .ensures,
         ),
       );
-      counted = after-counted t .counted .ensures;
+      counted = after-counted-of-o (t .before) .counted .ensures;
     }
 
 returns : tie.Need-returns
@@ -182,7 +191,7 @@ returns-2 c =
 returns-3 : tie.Need-returns-3
 returns-3 c =
     let p = c .before .before in
-    let done = p .before .before .before .before .before in
+    let done = after-counted-of-past p in
     let k = done .before .before in
     record {
       verdict = k .look .result .settled;

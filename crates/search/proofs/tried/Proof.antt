@@ -20,42 +20,46 @@ fill-up-requires c κs = search needs
 sized : (s : tie.Start) → SizedFill (s .args .c) (fill (s .args .c) (s .args .e))
 sized s = fill-sized (s .args .c) (s .args .e) (s .pre .sized)
 
+-- the moments that are spoken of below
+abbrev start-of-told : tie.After-struct-told → tie.Start
+start-of-told c = c .before .before .before
+
+abbrev start-of-else1 : tie.Else1 → tie.Start
+start-of-else1 c = start-of-told (c .before)
+
+abbrev start-of-bound-of : tie.After-bound-of → tie.Start
+start-of-bound-of c = start-of-else1 (c .before)
+
+abbrev start-of-less : tie.After-less → tie.Start
+start-of-less c = start-of-bound-of (c .before .before .before)
+
 returns : tie.Need-returns
 unfolding triedBy betterBy
 returns c =
-    let s = c .before .before .before .before in
+    let s = start-of-told (c .before) in
     let f = c .before .before .before .fill-up .ensures in
     let t = rw (f, within-back tt (sized s .room-in)) at (c .if1 .taken) in
     record { best-is = rw t; better-is = rw t }
 
--- the moments that are spoken of below
-abbrev start-by-else1 : tie.Else1 → tie.Start
-start-by-else1 c = c .before .before .before .before
-
-abbrev start-by-bound-of : tie.After-bound-of → tie.Start
-start-by-bound-of c = c .before .before .before .before .before
-
-abbrev start-by-less : tie.After-less → tie.Start
-start-by-less c = c .before .before .before .before .before .before .before .before
-
-not-empty : (c : tie.Else1) → ltZ (fill (start-by-else1 c .args .c) (start-by-else1 c .args .e) .room) (pos 0) ≡ false
+not-empty : (c : tie.Else1) → ltZ (fill (start-of-else1 c .args .c) (start-of-else1 c .args .e) .room) (pos 0) ≡ false
 not-empty c =
-    let s = start-by-else1 c in
+    let s = start-of-else1 c in
     rw (c .before .before .before .fill-up .ensures, within-back tt (sized s .room-in)) at (c .if1 .left)
 
 bound-of-requires : tie.Need-bound-of-requires
-bound-of-requires c κs = let s = start-by-else1 c in rw (c .before .before .before .fill-up .ensures) (sized s)
+bound-of-requires c κs = let s = start-of-else1 c in rw (c .before .before .before .fill-up .ensures) (sized s)
 
-bound-is : (c : tie.After-bound-of) → c .bound-of .result ≡ bound (start-by-bound-of c .args .c)
-    (fill (start-by-bound-of c .args .c) (start-by-bound-of c .args .e))
+bound-is : (c : tie.After-bound-of) → c .bound-of .result ≡ bound (start-of-bound-of c .args .c)
+    (fill (start-of-bound-of c .args .c) (start-of-bound-of c .args .e))
 bound-is c =
-    let at-fill-up = c .before .before .before .before in
+    let at-else1 = c .before in
+    let at-fill-up = at-else1 .before .before .before in
     rw (at-fill-up .fill-up .ensures) at (c .bound-of .ensures)
 
 less-requires : tie.Need-less-requires
 less-requires c κs =
     let t = c .before in
-    let s = t .before .before .before .before .before .before in
+    let s = start-of-bound-of (t .before) in
     (s .pre .proper (t .if2 .taken), rw (bound-is (t .before)) (bound-proper _ _ (sized s)))
 
 -- a test that is turned round
@@ -67,9 +71,9 @@ not-false : (b : Bool) → not b ≡ false → b ≡ true
 not-false true h = refl
 not-false false h = sym h
 
-compared : (c : tie.After-less) → c .less .result ≡ lessMixed (start-by-less c .args .best .value)
-    (bound (start-by-less c .args .c) (fill (start-by-less c .args .c) (start-by-less c .args .e)))
-compared c = c .less .ensures ∙ ap (λ v. lessMixed (start-by-less c .args .best .value) v)
+compared : (c : tie.After-less) → c .less .result ≡ lessMixed (start-of-less c .args .best .value)
+    (bound (start-of-less c .args .c) (fill (start-of-less c .args .c) (start-of-less c .args .e)))
+compared c = c .less .ensures ∙ ap (λ v. lessMixed (start-of-less c .args .best .value) v)
     (bound-is (c .before .before .before))
 
 returns-2 : tie.Need-returns-2
@@ -85,7 +89,7 @@ unfolding triedBy betterBy
 returns-3 c =
     let d = c .before in
     let t = d .before .before in
-    let s = t .before .before .before .before .before .before in
+    let s = start-of-bound-of (t .before) in
     let l = sym (compared d) ∙ not-false (d .less .result) (c .if3 .left) in
     record {
       best-is = rw (not-empty (t .before .before), t .if2 .taken, l) (ap (λ v. record {
@@ -99,7 +103,7 @@ returns-3 c =
 returns-4 : tie.Need-returns-4
 unfolding triedBy betterBy
 returns-4 c =
-    let s = c .before .before .before .before .before .before in
+    let s = start-of-bound-of (c .before) in
     record {
       best-is = rw (not-empty (c .before .before), c .if2 .left) (ap (λ v. record {
         found = true;

@@ -22,11 +22,15 @@ put-word-requires c κs = omega arith
 same-length : tie.Need-same-length
 same-length c = search needs
 
+-- the moments that are spoken of below
+abbrev start : tie.Else1 → tie.Start
+start c = c .before .before .before
+
 returns-2 : tie.Need-returns-2
 unfolding told filled
 returns-2 c =
     let w = c .before .before in
-    let a = w .before .before .before .before .before .args in
+    let a = start (w .before .before) .args in
     let e : tooShort (a .text .now) (a .out .now) ≡ false = omega (arith, le-ltb) in
     (rw e, rw e (w .put-word .ensures .bytes ∙ put-start (a .text .now) (a .out .now)))
 

@@ -33,7 +33,8 @@ same-length c = search needs
 returns : tie.Need-returns
 returns c =
     let n = c .before .before in
-    let b = n .before .before .before .before in
+    let at-out = n .before .before .before in
+    let b = at-out .before in
     let m = b .before .before .before in
     let z = m .before .before .args .z in
     let e : integer z ≡ 45 ∷ decimal (natAbs z) = integer-below z (omega (arith, zs)) in

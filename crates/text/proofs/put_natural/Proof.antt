@@ -32,11 +32,18 @@ put-byte-requires c κs = search needs
 same-length : tie.Need-same-length
 same-length c = search needs
 
+-- the moments that are spoken of below
+abbrev after-digits-of : tie.After-bytes2 → tie.After-digits-of
+after-digits-of c = c .before .before .before
+
+abbrev after-put-word : tie.After-put-byte-arg → tie.After-put-word
+after-put-word c = c .before .before .before
+
 returns : tie.Need-returns
 returns c =
     let b = c .before .before in
-    let w = b .before .before .before .before in
-    let d = w .before .before .before .before .before in
+    let w = after-put-word (b .before) in
+    let d = after-digits-of (w .before .before) in
     let a = d .before .before .args in
     let s = d .digits-of .ensures in
     let r = d .digits-of .result in

@@ -45,16 +45,23 @@ mul-v c = search needs
 element-copy-out-v : tie.Need-element-copy-out-v
 element-copy-out-v c = search needs
 
+-- the moments that are spoken of below
+abbrev start-of-l : tie.After-l → tie.Start
+start-of-l c = c .before .before .before
+
+abbrev start : tie.After-standing → tie.Start
+start c = start-of-l (c .before .before .before)
+
 -- what the function was given
 S : tie.After-taking → tie.Start
-S c = c .before .before .before .before .before .before .before .before
+S c = start (c .before .before)
 
 standing-requires : tie.Need-standing-requires
 standing-requires c κs = search needs
 
 taking-requires : tie.Need-taking-requires
 taking-requires c κs =
-    let s = c .before .before .before .before .before .before .before in rw (within-back tt (s .pre .filled .room-in)) (s .pre .filled .room-in)
+    let s = start (c .before) in rw (within-back tt (s .pre .filled .room-in)) (s .pre .filled .room-in)
 
 cast-result : tie.Need-cast-result
 cast-result c = search needs

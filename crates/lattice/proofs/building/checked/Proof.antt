@@ -19,26 +19,30 @@ closed-requires c κs = search needs
 tame : (c : tie.After-closed) → Tame (closedBy (c .before .args .l))
 tame c = closed-tame (c .before .args .l) (c .before .pre .0)
 
+-- the moments that are spoken of below
+abbrev start-of-told : tie.After-struct-told → tie.Start
+start-of-told c = c .before .before .before
+
+abbrev start : tie.After-held-from → tie.Start
+start c = start-of-told (c .before .before)
+
 -- the test of the stride
 positive : (c : tie.Then1) →
-    let s = c .before .before .before .before in
+    let s = start-of-told (c .before) in
     ltZ (pos 0) (closedBy (s .args .l) .stride) ≡ true
 positive c = let k = c .before .before .before in rw (k .closed .ensures, within-back tt (tame k .stride-in)) at (c .if1 .taken)
 
 held-from-requires : tie.Need-held-from-requires
 held-from-requires c κs = let k = c .before .before .before in rw (k .closed .ensures) (tame k, (yes-lt (positive c), k .before .pre .1))
 
--- the moments that are spoken of below
-abbrev start : tie.After-held-from → tie.Start
-start c = c .before .before .before .before .before
-
 -- the test of the items
 held : (c : tie.After-held-from) →
-    let s = c .before .before .before .before .before in
+    let s = start c in
     c .held-from .result ≡ heldFrom (closedBy (start c .args .l)) (entry (start c .args .weight)) (entry (start c .args .price))
     (start c .args .d) (start c .args .n - s .args .d)
 held c =
-    let at-closed = c .before .before .before .before in
+    let at-then1 = c .before in
+    let at-closed = at-then1 .before .before .before in
     rw (at-closed .closed .ensures) at (c .held-from .ensures)
 
 returns : tie.Need-returns
@@ -61,7 +65,8 @@ unknown-lattice-requires-2 c κs = search needs
 
 returns-3 : tie.Need-returns-3
 returns-3 c =
-    let k = c .before .before .before .before in
+    let at-else1 = c .before in
+    let k = at-else1 .before .before .before in
     let t = rw (k .closed .ensures, within-back tt (tame k .stride-in)) at (c .before .if1 .left) in
     rw (c .unknown-lattice2 .ensures, t)
 

@@ -9,9 +9,13 @@ returns c =
     let t = rw (within-back tt (j .gap-in)) at (c .if1 .taken) in
     rw t
 
+-- the moments that are spoken of below
+abbrev start : tie.Else1 → tie.Start
+start c = c .before .before .before
+
 returns-2 : tie.Need-returns-2
 returns-2 c =
-    let s = c .before .before .before .before in
+    let s = start (c .before) in
     let j = s .pre .joined in
     let t = rw (within-back tt (j .gap-in)) at (c .before .if1 .left) in
     rw (within-back tt (j .stride-in), within-back tt (j .slant-in), t)

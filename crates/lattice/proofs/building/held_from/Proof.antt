@@ -38,11 +38,14 @@ holds-requires c κs =
     rw (within-back tt w, within-back tt p) (record { tame = s .pre .0; stride≥1 = s .pre .1 .0; weight-in = w; price-in = p })
 
 -- the moments that are spoken of below
+abbrev at-loop-of-a : tie.After-a Inv-loop μ-loop → tie.At-loop Inv-loop μ-loop
+at-loop-of-a c = c .before .before
+
 abbrev at-loop : tie.After-holds Inv-loop μ-loop → tie.At-loop Inv-loop μ-loop
-at-loop c = c .before .before .before .before
+at-loop c = at-loop-of-a (c .before .before)
 
 abbrev start : tie.After-holds Inv-loop μ-loop → tie.Start Inv-loop μ-loop
-start c = c .before .before .before .before .before
+start c = at-loop c .before
 
 -- what `holds` says of the item at j
 found : (c : tie.After-holds Inv-loop μ-loop) → c .holds .result ≡ holdsBy (start c .args .l) (entry (start c .args .t2) (at-loop c .loop .j))
@@ -54,7 +57,7 @@ found c =
 
 add-j : tie.Need-add-j Inv-loop μ-loop
 add-j c =
-    let s = c .before .before .before .before .before .before in
+    let s = start (c .before) in
     omega (arith, s .pre .1 .1 .few)
 
 loop-less : tie.Need-loop-less Inv-loop μ-loop
@@ -62,14 +65,14 @@ loop-less c = omega arith
 
 loop-again : tie.Need-loop-again Inv-loop μ-loop
 loop-again c =
-    let i = c .before .before .before .before .before in
+    let i = at-loop (c .before) in
     let s = i .before in
     held-step (s .args .l) (entry (s .args .t2)) (entry (s .args .t3)) (i .loop .j) (s .args .n) (omega arith) (sym (found (c .before)) ∙ c .if1 .taken)
     ∙ i .loop .inv
 
 returns : tie.Need-returns Inv-loop μ-loop
 returns c =
-    let i = c .before .before .before .before .before in
+    let i = at-loop (c .before) in
     let s = i .before in
     sym (sym (i .loop .inv) ∙ held-stop (s .args .l) (entry (s .args .t2)) (entry (s .args .t3)) (i .loop .j) (s .args .n) (omega arith)
     (sym (found (c .before)) ∙ c .if1 .left))

@@ -51,16 +51,22 @@ floor-div-requires c κs =
     (within-more (omega arith) (s .pre .weight-in), nonzero (s .args .l .stride) (s .pre .stride≥1))
 
 -- the moments that are spoken of below
+abbrev start-of-rest : tie.After-rest → tie.Start
+start-of-rest c = c .before .before
+
 abbrev start : tie.After-floor-div → tie.Start
-start c = c .before .before .before .before
+start c = start-of-rest (c .before .before)
+
+abbrev after-floor-div : tie.After-struct-told3 → tie.After-floor-div
+after-floor-div c = c .before .before .before
 
 -- the slant times the strides, as the locals hold them
 multiple : (c : tie.After-floor-div) →
-    let s = c .before .before .before .before in
+    let s = start c in
     toZ w64 (ofZ w64 (s .args .l .slant)) *ℤ toZ w64 (ofZ w64 (c .floor-div .result))
     ≡ s .args .l .slant *ℤ S s
 multiple c =
-    let s = c .before .before .before .before in
+    let s = start c in
     let e = rw (within-back tt (s .pre .weight-in), within-back tt (s .pre .tame .stride-in)) at (c .floor-div .ensures) in
     rw (within-back tt (s .pre .tame .slant-in), back (c .floor-div .result) (c .floor-div .ok), e)
 
@@ -83,7 +89,7 @@ rest-requires-2 c κs =
 returns-2 : tie.Need-returns-2
 unfolding holdsBy
 returns-2 c =
-    let f = c .before .before .before .before in
+    let f = after-floor-div (c .before) in
     let s = start f in
     let k = rw (left (f .before .before)) at (f .before .if1 .left) in
     let e = rw (multiple f, within-back tt (product s), within-back tt (s .pre .price-in), within-back tt (over s), within-back tt (s .pre .tame .gap-in)) at

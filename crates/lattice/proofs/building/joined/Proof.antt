@@ -29,9 +29,16 @@ loop-holds c =
       record { steps = natAbs (s .args .v .weight); enough = omega arith; is = refl },
     )
 
+-- the moments that are spoken of below
+abbrev start : tie.At-loop Inv-loop μ-loop → tie.Start Inv-loop μ-loop
+start c = c .before .before .before
+
+abbrev at-loop : tie.Then1 Inv-loop μ-loop → tie.At-loop Inv-loop μ-loop
+at-loop c = c .before .before .before
+
 -- what a step is given
 steps : (c : tie.Then1 Inv-loop μ-loop) →
-    let s = c .before .before .before .before .before .before in
+    let s = start (c .before .before .before) in
     Reduces (c .before .before .before .loop .x) (c .before .before .before .loop .y)
     (s .args .l .gap)
 steps c =
@@ -49,7 +56,7 @@ reduced-requires c κs = rw (within-back tt (steps c .gap-in)) (steps c)
 
 loop-less : tie.Need-loop-less Inv-loop μ-loop
 loop-less c =
-    let a = c .before .before .before .before in
+    let a = at-loop (c .before) in
     let i = a .loop .inv .0 in
     let r = steps (c .before) in
     let u = reduced-upright (a .loop .x) (a .loop .y) _ r in
@@ -74,7 +81,8 @@ loop-again c =
 
 returns : tie.Need-returns Inv-loop μ-loop
 returns c =
-    let a = c .before .before .before .before .before in
+    let at-else1 = c .before .before in
+    let a = at-else1 .before .before .before in
     let s = a .before .before .before in
     let i = a .loop .inv .0 in
     let e = rw (within-back tt (i .1 .weight-in)) at (c .before .before .if1 .left) in

@@ -14,9 +14,22 @@ Inv-loop n weight price to₀ l₀ d₀ to l d = Built (entry weight) (entry pri
 abbrev μ-loop : tie.MeasureT-loop
 μ-loop n weight price to₀ l₀ d₀ to l d = d
 
+-- the moments that are spoken of below
+abbrev start-of-at-loop : tie.At-loop Inv-loop μ-loop → tie.Start Inv-loop μ-loop
+start-of-at-loop c = c .before .before .before
+
+abbrev in-loop : tie.After-widen Inv-loop μ-loop → tie.In-loop Inv-loop μ-loop
+in-loop c = c .before .before .before
+
+abbrev at-loop : tie.After-widen Inv-loop μ-loop → tie.At-loop Inv-loop μ-loop
+at-loop c = in-loop c .before
+
+abbrev start-of-widen : tie.After-widen Inv-loop μ-loop → tie.Start Inv-loop μ-loop
+start-of-widen c = start-of-at-loop (at-loop c)
+
 level<16 : (c : tie.In-loop Inv-loop μ-loop) → c .before .loop .d - 1 < 16
 level<16 c =
-    let s = c .before .before .before .before in
+    let s = start-of-at-loop (c .before) in
     omega (arith, c .before .loop .inv .most, s .pre .few)
 
 unknown-lattices-requires : tie.Need-unknown-lattices-requires Inv-loop μ-loop
@@ -61,19 +74,9 @@ widen-requires c κs =
     let p = s .pre .prices-in (i .loop .d - 1) in
     rw (within-back tt a, within-back tt p) (guessed n, (a, p))
 
--- the moments that are spoken of below
-abbrev at-loop : tie.After-widen Inv-loop μ-loop → tie.At-loop Inv-loop μ-loop
-at-loop c = c .before .before .before .before
-
-abbrev in-loop : tie.After-checked Inv-loop μ-loop → tie.In-loop Inv-loop μ-loop
-in-loop c = c .before .before .before .before
-
-abbrev start : tie.After-widen Inv-loop μ-loop → tie.Start Inv-loop μ-loop
-start c = c .before .before .before .before .before .before .before
-
 -- the guess with the level's item
-wider : (c : tie.After-widen Inv-loop μ-loop) → c .widen .result ≡ widenedBy (at-loop c .loop .l) (entry (start c .args .t1) (at-loop c .loop .d - 1))
-    (entry (start c .args .t2) (at-loop c .loop .d - 1))
+wider : (c : tie.After-widen Inv-loop μ-loop) → c .widen .result ≡ widenedBy (at-loop c .loop .l) (entry (start-of-widen c .args .t1) (at-loop c .loop .d - 1))
+    (entry (start-of-widen c .args .t2) (at-loop c .loop .d - 1))
 wider c =
     let i = at-loop c in
     let s = i .before .before .before in
@@ -88,10 +91,10 @@ checked-requires c κs =
     rw (wider c) (widened-guess (i .loop .l) (entry (s .args .t1) k) (entry (s .args .t2) k) (guessed n) (s .pre .weights-in k) (s .pre .prices-in k), s .pre)
 
 mul-to : tie.Need-mul-to Inv-loop μ-loop
-mul-to c = omega (arith, level<16 (in-loop c))
+mul-to c = omega (arith, level<16 (in-loop (c .before)))
 
 array-set-from-to : tie.Need-array-set-from-to Inv-loop μ-loop
-array-set-from-to c = level<16 (in-loop c)
+array-set-from-to c = level<16 (in-loop (c .before))
 
 loop-less : tie.Need-loop-less Inv-loop μ-loop
 loop-less c = omega arith

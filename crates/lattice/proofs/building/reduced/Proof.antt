@@ -41,15 +41,25 @@ multiple c =
 mul-z : tie.Need-mul-z
 mul-z c = let f = c .before .before in rw (multiple f) (within-sfits (lit< tt) (product (f .before .before .before)))
 
+-- the moments that are spoken of below
+abbrev after-floor-div : tie.After-struct-known2 → tie.After-floor-div
+after-floor-div c = c .before .before .before
+
+abbrev start-of-told4 : tie.After-struct-told4 → tie.Start
+start-of-told4 c = after-floor-div (c .before) .before .before .before
+
+abbrev start : tie.After-rest → tie.Start
+start c = start-of-told4 (c .before)
+
 sub-z : tie.Need-sub-z
 sub-z c =
-    let f = c .before .before .before .before in
+    let f = after-floor-div (c .before) in
     let s = f .before .before .before in
     rw (multiple f, within-back tt (product s), within-back tt (s .pre .first .worth-in)) (within-sfits (lit< tt) (worth s))
 
 rest-requires : tie.Need-rest-requires
 rest-requires c κs =
-    let s = c .before .before .before .before .before .before .before in
+    let s = start-of-told4 c in
     rw (within-back tt (s .pre .first .weight-in), within-back tt (s .pre .second .weight-in))
     (record {
       dividend-in = within-more (omega arith) (s .pre .first .weight-in);
@@ -57,16 +67,9 @@ rest-requires c κs =
       divisor≥1 = s .pre .weight≥1;
     })
 
--- the moments that are spoken of below
-abbrev after-floor-div : tie.After-rest → tie.After-floor-div
-after-floor-div c = c .before .before .before .before .before
-
-abbrev start : tie.After-rest → tie.Start
-start c = c .before .before .before .before .before .before .before .before
-
 tame-requires : tie.Need-tame-requires
 tame-requires c κs =
-    let f = after-floor-div c in
+    let f = after-floor-div (c .before .before) in
     let s = f .before .before .before in
     rw (multiple f, within-back tt (product s), within-back tt (s .pre .first .worth-in), within-back tt (worth s), within-back tt (s .pre .gap-in))
     (within-more (omega arith) (worth s), s .pre .gap-in)
@@ -80,7 +83,7 @@ left c =
 returns : tie.Need-returns
 returns c =
     let d = c .before in
-    let f = after-floor-div d in
+    let f = after-floor-div (d .before .before) in
     let s = f .before .before .before in
     let e = rw (multiple f, within-back tt (product s), within-back tt (s .pre .first .worth-in), within-back tt (worth s), within-back tt (s .pre .gap-in)) at
     (c .tame .ensures) in

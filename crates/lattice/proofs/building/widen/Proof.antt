@@ -34,7 +34,8 @@ common-gap-requires c κs =
 
 -- the gap of both
 wide : (c : tie.After-common-gap) →
-    let s = c .before .before .before .before .before in
+    let at-joined = c .before .before .before in
+    let s = at-joined .before .before in
     c .common-gap .result ≡ commonGap (s .args .l .gap)
     (joinedBy (s .args .l) (uprightBy (s .args .a)
     (s .args .c)) .gap)

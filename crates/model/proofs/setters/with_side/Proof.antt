@@ -12,9 +12,16 @@ enum-told c = search needs
 enum-told-2 : tie.Need-enum-told-2
 enum-told-2 c = search needs
 
+-- the moments that are spoken of below
+abbrev start-of-at-match-keys1 : tie.At-match-keys1 → tie.Start
+start-of-at-match-keys1 c = c .before .before .before
+
+abbrev start-of-at-match-keys2 : tie.At-match-keys2 → tie.Start
+start-of-at-match-keys2 c = c .before .before .before
+
 returns : tie.Need-returns
 returns c =
-    let s = c .before .before .before .before in
+    let s = start-of-at-match-keys1 (c .before) in
     let i = s .args .item in
     let f : SFits w64 (i .weight) = search needs in
     let g : SFits w64 (i .price) = search needs in
@@ -22,7 +29,7 @@ returns c =
 
 returns-2 : tie.Need-returns-2
 returns-2 c =
-    let s = c .before .before .before .before in
+    let s = start-of-at-match-keys2 (c .before) in
     let i = s .args .item in
     let f : SFits w64 (i .weight) = search needs in
     let g : SFits w64 (i .price) = search needs in
