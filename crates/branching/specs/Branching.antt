@@ -14,7 +14,8 @@
 --   twigs u               the most cases that u undecided needs come to
 --   caseSteps             the most steps of a case
 --   Countable b r         the work of r can be added to that of b
---   CountsNeeds m p ns r  the steps of r are those of a search of at most m, in which pairs with an item that ns names discard nothing
+--   CountsNeeds m p ns r  the steps of r are those of a search of at most m, in which pairs with an item that ns names discard nothing, and the cells
+--                         of r those that the scales write after it
 --   Worked m n b          the work of at most n cases of m steps
 --   Bounded s             no steps are unbounded
 --   Branches p r ns m b   what a call is given;  Through s ns m b c: what it gives
@@ -47,7 +48,7 @@ use Rattle.model.specs.Needs.{Every, Allowed, AnswersNeeds, ShownFirstNeeds, na
 use Rattle.model.specs.Records.{FiguresInRange, needAt, placed, needsOf}
 use Rattle.model.specs.declared.Need.{Need}
 use Rattle.model.specs.declared.Needs.{Needs}
-use Rattle.planner.specs.Outcomes.{mostWork, Counts, SolvesWithin}
+use Rattle.planner.specs.Outcomes.{mostWork, Counts, Cells, SolvesWithin}
 use Rattle.planner.specs.declared.Solved.{Solved}
 use Rattle.comparing.specs.Comparing.{amountIn, Divided}
 use Rattle.cases.proofs.Limits.{bounded}
@@ -161,7 +162,8 @@ pub record Countable (b : Best) (r : Solved) : Type 0 where
   pub few-cells : r .cells ≤ mostWork
 
 abbrev pub CountsNeeds : ℕ → Problem → List Need → Solved → Type 0
-CountsNeeds most p ns r = (named : List Bool) × (NamedBy ns named × Counts most p named (r .answer) (r .steps))
+CountsNeeds most p ns r =
+    (named : List Bool) × (NamedBy ns named × (Counts most p named (r .answer) (r .steps) × Cells most p named (r .answer) (r .cells)))
 
 pub record Worked (most n : ℕ) (b : Best) : Type 0 where
   pub cases : b .cases ≤ n

@@ -337,7 +337,6 @@ led-done s c y l b h = record {
       (filling c (endsAt s (h .place))) (place-parts s c y (h .place) (h .inside) marks m (h .room))
       (place-feasible s c y (h .place) (h .inside) marks m (h .room))
       (λ t fr. h .leads marks m t (below marks fr) fr);
-  few = omega (arith, h .few, y .tied .sized .live-few);
 }
   where
     below : (marks : ℕ → Mark) {t : ℕ} → Frame c (s .ends) marks t → t < c .live + 1

@@ -4,3 +4,4 @@ pub mod Places
 pub mod Shown
 pub mod Worth
 pub mod Leading
+pub mod Cells

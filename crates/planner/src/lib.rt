@@ -36,8 +36,8 @@ ghost use Rattle.ceiling.specs.Sizes.{Spanned};
 ghost use Rattle.search.specs.Steps.{GoodBest};
 ghost use Rattle.setting.specs.Ready.{ReadySetting, Ready};
 ghost use Rattle.setting.specs.Box.{Inside};
-ghost use Rattle.settling.specs.Settling.{Settles};
-ghost use Rattle.planner.specs.Outcomes.{Joinable, Cornered, Best, BestPlace, Counts, SolvesWithin, Solves};
+ghost use Rattle.settling.specs.Settling.{Settles, SettleWrites};
+ghost use Rattle.planner.specs.Outcomes.{Joinable, Cornered, Best, BestPlace, Counts, Cells, SolvesWithin, Solves};
 
 // How many steps a search may take before the scales answer. Nearly all searches end before; one that has not may take for ever.
 pub const STEPS: u64 = 1000;
@@ -116,6 +116,7 @@ pub struct Found {
 fn settled(s: Setting, b: Incumbent) -> Settled
     requires { ⌜ ReadySetting s × (Spanned (s .cols) (s .ends) × GoodBest s b) ⌝ }
     ensures { λ r. ⌜ Settles (s .cols) (s .ends) (s .level) (s .levels) r ⌝ }
+    ensures { λ r. ⌜ SettleWrites (s .cols) (s .ends) (s .level) (s .levels) (b .found) (b .value) (r .written) ⌝ }
 {
     let cols = s.cols;
     let ends = s.ends;
@@ -175,6 +176,7 @@ fn decide(p: Problem, named: [bool; 16], most: u64) -> Solved
     requires { ⌜ InRange p ⌝ }
     ensures { λ r. ⌜ SolvesWithin most p r ⌝ }
     ensures { λ r. ⌜ Counts most p named (r .answer) (r .steps) ⌝ }
+    ensures { λ r. ⌜ Cells most p named (r .answer) (r .cells) ⌝ }
 {
     let s = prepare(p);
     let f = begin(s.cols, s.ends);
@@ -205,6 +207,7 @@ pub fn solve_within(p: Problem, named: [bool; 16], most: u64) -> Solved
     requires { ⌜ FiguresInRange p ⌝ }
     ensures { λ r. ⌜ SolvesWithin most p r ⌝ }
     ensures { λ r. ⌜ Counts most p named (r .answer) (r .steps) ⌝ }
+    ensures { λ r. ⌜ Cells most p named (r .answer) (r .cells) ⌝ }
 {
     if some_crosses(p) {
         let none = no_point(Kind::Infeasible);
@@ -217,6 +220,7 @@ pub fn solve(p: Problem, named: [bool; 16]) -> Solved
     requires { ⌜ FiguresInRange p ⌝ }
     ensures { λ r. ⌜ Solves p r ⌝ }
     ensures { λ r. ⌜ Counts 1000 p named (r .answer) (r .steps) ⌝ }
+    ensures { λ r. ⌜ Cells 1000 p named (r .answer) (r .cells) ⌝ }
 {
     solve_within(p, named, STEPS)
 }

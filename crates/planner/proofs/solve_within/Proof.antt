@@ -39,7 +39,7 @@ returns c =
         few-steps = omega arith;
         few-cells = omega arith;
       },
-      refl,
+      (refl, refl),
     )
 
 returns-2 : tie.Need-returns-2

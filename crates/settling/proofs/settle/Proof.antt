@@ -131,7 +131,7 @@ returns-2 c =
     let writes : SettleWrites (a .cols) (a .ends) (a .level) (a .levels) (a .known) (a .value) (m .ceiling .result .written + g .result .written)
       = framed (w .result) (m .ceiling .result) (g .result) (roomy e) (w .ensures) b (t .if2 .taken) (g .ensures) in (
       record {
-        few = settle-most writes;
+        few = omega (arith, settle-most writes);
         found = λ i. found-best (a .cols) (a .ends) (a .level) (a .levels) (box (e .before)) (w .result) (w .ensures) (a .known) (a .value)
             (m .ceiling .result) b (best-frame t) (g .result .place) (y .result) (g .ensures .found some) (y .ensures);
         none = λ i. absurd (impossible (sym i));
@@ -153,7 +153,7 @@ returns-3 c =
     let writes : SettleWrites (a .cols) (a .ends) (a .level) (a .levels) (a .known) (a .value) (m .ceiling .result .written)
       = kept (w .result) (m .ceiling .result) (roomy e) (w .ensures) (bounded m) (c .if2 .left) in (
       record {
-        few = settle-most writes;
+        few = omega (arith, settle-most writes);
         found = λ i. kept-best (a .cols) (a .ends) (a .level) (a .levels) (box (e .before)) (at (a .x)) (a .value) (w .result) (w .ensures)
             (s .pre .0 .1 (k .0)) (k .1);
         none = λ i. absurd (impossible (sym i));
