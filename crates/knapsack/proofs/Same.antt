@@ -1,21 +1,17 @@
 -- The places beyond the count play no part.
 --   Same s t     the instances agree at the items of the problem
--- same-sym: so they do the other way round. same-relaxed: so do their relaxations. same-answers: they have the same answers.
--- same-first: and a best point that comes first for one does for the other.
+-- same-sym: so they do the other way round. same-value, same-feasible: a point is worth as much in both, and feasible in both.
+-- same-serves: what answers one answers the other.
 use mathlib.Core.Path.{_≡_, sym, ap, _∙_, subst, subst₂}
-use mathlib.Core.Logic.{_≢_}
 use Prim.Native.Nat.{ℕ, _<_}
 use native.Mathlib.Omega.{arith}
 use lib.IntN.{ℤ}
 use Rattle.arith.proofs.Fractions.{total-cong}
 use Rattle.arith.specs.Fractions.{int, _·ᶠ_, _≤ᶠ_, total}
 use Rattle.arith.specs.Sum.{Each}
-use Rattle.knapsack.proofs.Serve.{Serves, serve-answers}
-use Rattle.knapsack.specs.declared.Answer.{Answer}
-use Rattle.knapsack.specs.declared.Bound.the-variants.{Absent}
+use Rattle.knapsack.proofs.Serve.{Serves}
 use Rattle.knapsack.specs.declared.Item.{Item}
-use Rattle.knapsack.specs.declared.Mark.the-variants.{Continuous}
-use Rattle.knapsack.specs.Meaning.{Instance, Point, Keeps, value, Feasible, Optimal, Earlier, relaxed, pointOf, Answers, ShownFirst}
+use Rattle.knapsack.specs.Meaning.{Instance, Point, Keeps, value, Feasible}
 
 pub record Same (s t : Instance) : Type 0 where
   pub capacity : s .capacity ≡ t .capacity
@@ -24,12 +20,6 @@ pub record Same (s t : Instance) : Type 0 where
 
 pub same-sym : (s t : Instance) → Same s t → Same t s
 same-sym s t e = record { capacity = sym (e .capacity); count = sym (e .count); items = λ k h. sym (e .items k (omega (arith, e .count))) }
-
-pub same-relaxed : (s t : Instance) → Same s t → Same (relaxed s) (relaxed t)
-same-relaxed s t e = record { capacity = e .capacity; count = e .count; items = λ k h. ap loose (e .items k h) }
-  where
-    loose : Item → Item
-    loose i = record { mark = Continuous; weight = i .weight; price = i .price; lower = i .lower; upper = i .upper }
 
 module _ (s t : Instance) (e : Same s t) where
   in-s : (k : ℕ) → k < t .count → k < s .count
@@ -40,16 +30,16 @@ module _ (s t : Instance) (e : Same s t) where
       total-cong (s .count) (λ k. a (s .item k) ·ᶠ x k) (λ k. a (t .item k) ·ᶠ x k) (λ k h. ap (λ i. a i ·ᶠ x k) (e .items k h))
       ∙ ap (λ n. total n (λ k. a (t .item k) ·ᶠ x k)) (e .count)
 
-  same-value : (x : Point) → value s x ≡ value t x
+  pub same-value : (x : Point) → value s x ≡ value t x
   same-value x = same-total (λ i. i .price) x
 
-  same-feasible : (x : Point) → Feasible s x → Feasible t x
+  pub same-feasible : (x : Point) → Feasible s x → Feasible t x
   same-feasible x p = record {
     keeps = λ k h. subst (λ i. Keeps i (x k)) (e .items k (in-s k h)) (p .keeps k (in-s k h));
     fits = subst₂ (λ w b. w ≤ᶠ int b) (same-total (λ i. i .weight) x) (e .capacity) (p .fits);
   }
 
-same-serves : (s t : Instance) → Same s t → Serves t s
+pub same-serves : (s t : Instance) → Same s t → Serves t s
 same-serves s t e = record {
   count = e .count;
   weight = λ k h. ap (λ (i : Item). i .weight) (e .items k (in-s s t e k h));
@@ -57,17 +47,3 @@ same-serves s t e = record {
   within = same-feasible s t e;
   exchange = λ y h. record { point = y; feasible = same-feasible t s (same-sym s t e) y h; as-good = λ z l. subst (λ v. v ≤ᶠ z) (same-value s t e y) l };
 }
-
-same-optimal : (s t : Instance) → Same s t → (x : Point) → Optimal s x → Optimal t x
-same-optimal s t e x o = record {
-  feasible = same-feasible s t e x (o .feasible);
-  highest = λ y h. subst₂ _≤ᶠ_ (same-value s t e y) (same-value s t e x) (o .highest y (same-feasible t s (same-sym s t e) y h));
-}
-
-pub same-first : (s t : Instance) → Same s t → (a : Answer) → ShownFirst s a → ShownFirst t a
-same-first s t e a h lower k y o earlier =
-    h (λ j l. subst (λ (i : Item). i .lower ≢ Absent) (sym (e .items j l)) (lower j (omega (arith, e .count)))) k y
-    (same-optimal t s (same-sym s t e) y o) (subst (λ n. Earlier n y (pointOf a)) (sym (e .count)) earlier)
-
-pub same-answers : (s t : Instance) → Same s t → (a : Answer) → Answers s a → Answers t a
-same-answers s t e = serve-answers t s (same-serves s t e)

@@ -2,7 +2,7 @@
 -- are feasible, and every feasible point of the other can be exchanged for one of its own without loss.
 --   Exchange s t y    a feasible point of t that is worth as much as the point y of s
 --   Serves s t        t serves for s
--- serve-answers: what answers t answers s.
+-- serve-answers: what answers t answers s; serve-unbounded, serve-shown: what is unbounded in it, and what it shows.
 use mathlib.Core.Path.{_≡_, ap, _∙_, subst, subst₂}
 use Prim.Native.Nat.{ℕ, suc, _<_}
 use native.Mathlib.Omega.{arith}
@@ -65,7 +65,7 @@ module _ (s t : Instance) (f : Serves s t) where
   serve-infeasible : Infeasible t → Infeasible s
   serve-infeasible none y h = let e = f .exchange y h in none (e .point) (e .feasible)
 
-  serve-unbounded : (x : Point) (d : ℕ → ℤ) → Unbounded t x d → Unbounded s x d
+  pub serve-unbounded : (x : Point) (d : ℕ → ℤ) → Unbounded t x d → Unbounded s x d
   serve-unbounded x d u = record {
     i = u .i;
     j = u .j;
@@ -80,7 +80,7 @@ module _ (s t : Instance) (f : Serves s t) where
   }
 
   -- what is shown depends on the count and the weights alone
-  serve-shown : (x : ℕ → Fraction) → Shown t x → Shown s x
+  pub serve-shown : (x : ℕ → Fraction) → Shown t x → Shown s x
   serve-shown x p = record {
     small = λ k h. p .small k (in-t k h);
     divisor = λ k h. p .divisor k (in-t k h);
