@@ -8,6 +8,5 @@ pub mod Reach
 pub mod Rays
 pub mod Escape
 pub mod Starred
-pub mod Serve
 pub mod Same
 pub mod Demands

@@ -1,17 +1,18 @@
 -- The places beyond the count play no part.
 --   Same s t     the instances agree at the items of the problem
 -- same-sym: so they do the other way round. same-value, same-feasible: a point is worth as much in both, and feasible in both.
--- same-serves: what answers one answers the other.
+-- same-unbounded, same-shown: so are what is unbounded, and what an answer shows.
 use mathlib.Core.Path.{_≡_, sym, ap, _∙_, subst, subst₂}
-use Prim.Native.Nat.{ℕ, _<_}
+use Prim.Native.Nat.{ℕ, suc, _<_}
 use native.Mathlib.Omega.{arith}
-use lib.IntN.{ℤ}
+use lib.IntN.{ℤ, natAbs}
 use Rattle.arith.proofs.Fractions.{total-cong}
-use Rattle.arith.specs.Fractions.{int, _·ᶠ_, _≤ᶠ_, total}
+use Rattle.arith.specs.Fractions.{int, _·ᶠ_, _≤ᶠ_, _<ᶠ_, total}
+use Rattle.arith.specs.Gcd.{Divides}
 use Rattle.arith.specs.Sum.{Each}
-use Rattle.knapsack.proofs.Serve.{Serves}
+use Rattle.arith.specs.declared.Fraction.{Fraction}
 use Rattle.knapsack.specs.declared.Item.{Item}
-use Rattle.knapsack.specs.Meaning.{Instance, Point, Keeps, value, Feasible}
+use Rattle.knapsack.specs.Meaning.{Instance, Point, Keeps, value, Feasible, Unbounded, stepped, Shown}
 
 pub record Same (s t : Instance) : Type 0 where
   pub capacity : s .capacity ≡ t .capacity
@@ -39,11 +40,28 @@ module _ (s t : Instance) (e : Same s t) where
     fits = subst₂ (λ w b. w ≤ᶠ int b) (same-total (λ i. i .weight) x) (e .capacity) (p .fits);
   }
 
-pub same-serves : (s t : Instance) → Same s t → Serves t s
-same-serves s t e = record {
-  count = e .count;
-  weight = λ k h. ap (λ (i : Item). i .weight) (e .items k (in-s s t e k h));
-  price = λ k h. ap (λ (i : Item). i .price) (e .items k (in-s s t e k h));
-  within = same-feasible s t e;
-  exchange = λ y h. record { point = y; feasible = same-feasible t s (same-sym s t e) y h; as-good = λ z l. subst (λ v. v ≤ᶠ z) (same-value s t e y) l };
-}
+  pub same-unbounded : (x : Point) (d : ℕ → ℤ) → Unbounded s x d → Unbounded t x d
+  same-unbounded x d u = record {
+    i = u .i;
+    j = u .j;
+    i-in = omega (arith, e .count, u .i-in);
+    j-in = omega (arith, e .count, u .j-in);
+    i-moves = u .i-moves;
+    j-moves = u .j-moves;
+    others = u .others;
+    from = same-feasible x (u .from);
+    stays = λ n. same-feasible (stepped x d n) (u .stays n);
+    rises = λ n. subst₂ _<ᶠ_ (same-value (stepped x d n)) (same-value (stepped x d (suc n))) (u .rises n);
+  }
+
+  -- what is shown depends on the count and the weights alone
+  pub same-shown : (x : ℕ → Fraction) → Shown s x → Shown t x
+  same-shown x h = record {
+    small = λ k l. h .small k (in-s k l);
+    divisor = λ k l. h .divisor k (in-s k l);
+    lowest = λ k l. h .lowest k (in-s k l);
+    single = λ j k l n. h .single j k (in-s j l) (in-s k n);
+    divides = λ k l n. subst (λ (i : Item). Divides (x k .q) (natAbs (i .weight))) (e .items k (in-s k l)) (h .divides k (in-s k l) n);
+    weightless = λ k l w. h .weightless k (in-s k l) (ap (λ (i : Item). i .weight) (e .items k (in-s k l)) ∙ w);
+    beyond = λ k l. h .beyond k (omega (arith, e .count));
+  }

@@ -8,8 +8,7 @@ use mathlib.Core.Logic.{_≢_}
 use Prim.Native.Nat.{ℕ}
 use native.Mathlib.Omega.{arith}
 use Rattle.arith.specs.Fractions.{frac, _≤ᶠ_, _≈ᶠ_}
-use Rattle.knapsack.proofs.Same.{Same, same-sym, same-value, same-feasible, same-serves}
-use Rattle.knapsack.proofs.Serve.{serve-unbounded, serve-shown}
+use Rattle.knapsack.proofs.Same.{Same, same-sym, same-value, same-feasible, same-unbounded, same-shown}
 use Rattle.knapsack.specs.Meaning.{Instance, Point, Feasible, stepped, amountAt, pointOf, stepsOf, Answers, AnswersAs, Earlier}
 use Rattle.knapsack.specs.declared.Answer.{Answer}
 use Rattle.knapsack.specs.declared.Bound.the-variants.{Absent}
@@ -75,7 +74,7 @@ same-answers-needs s t e ns a = go (a .kind)
         feasible = same-needs s t e ns (pointOf a) (h .optimal .feasible);
         highest = λ y f. subst₂ _≤ᶠ_ (same-value s t e y) (same-value s t e (pointOf a)) (h .optimal .highest y (back y f));
       };
-      shown = serve-shown t s (same-serves s t e) (amountAt a) (h .shown);
+      shown = same-shown s t e (amountAt a) (h .shown);
       exact = subst (λ v. frac (a .value .p) (a .value .q) ≈ᶠ v) (same-value s t e (pointOf a)) (h .exact);
       divisor = h .divisor;
       lowest = h .lowest;
@@ -84,11 +83,11 @@ same-answers-needs s t e ns a = go (a .kind)
     go kind.Infeasible h = (λ x f. h .0 x (back x f), h .1)
     go kind.Unbounded h = record {
       unbounded = record {
-        plain = serve-unbounded t s (same-serves s t e) (pointOf a) (stepsOf a) (h .unbounded .plain);
+        plain = same-unbounded s t e (pointOf a) (stepsOf a) (h .unbounded .plain);
         from = same-needs s t e ns (pointOf a) (h .unbounded .from);
         stays = λ n. same-needs s t e ns (stepped (pointOf a) (stepsOf a) n) (h .unbounded .stays n);
       };
-      shown = serve-shown t s (same-serves s t e) (amountAt a) (h .shown);
+      shown = same-shown s t e (amountAt a) (h .shown);
       steps = λ k l. h .steps k (omega (arith, e .count));
       endless = h .endless;
     }
