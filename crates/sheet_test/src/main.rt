@@ -128,7 +128,8 @@ fn written(s: &[u8], at: usize, out: &mut [u8]) -> usize {
     let list = items.list;
     let needs = read_needs(row, items.at);
     let ns = needs.needs;
-    let told = writer::write_sheet(with_needs(record_of(capacity.value, places(count.size), list), ns), out);
+    let plain = record_of(capacity.value, places(count.size), list);
+    let told = writer::write_sheet(with_needs(plain, ns), out);
     match told {
         Listed::Written(n) => n,
         Listed::Refused(_) => 0,
