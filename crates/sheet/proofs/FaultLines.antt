@@ -174,7 +174,7 @@ side-reached : (s : List ℕ) (side : Side) (p : Progress) → Reached s p → R
 unfolding boundsSection
 side-reached s side p r =
     section-reached (boundForm side) _ (bound-laws side) (λ b. line-closes (decimal (b .number)) (boundWord (b .bound) ∷ [])) s
-    (wordOf side) (p .model .count) (p .model .count) (λ n. p .model) p (bytes side) r
+    (wordOf side) _ (p .model .count) (λ n. p .model) p (bytes side) r
   where
     bytes : (side : Side) → Bytes (wordOf side)
     bytes Lower = (lit< tt, (lit< tt, (lit< tt, (lit< tt, (lit< tt, tt)))))

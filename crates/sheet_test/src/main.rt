@@ -12,6 +12,7 @@ use crate::edits::past;
 use knapsack::Refusal;
 use knapsack::Verdict;
 use libc::STDIN_FILENO;
+use model::Need;
 use model::Needs;
 use model::setters::with_needs;
 use text::Listed;
@@ -57,15 +58,19 @@ fn comes_back(sheet: &[u8]) -> bool {
     }
 }
 
+fn print_need(need: Need) {
+    print(b" need");
+    print_field(need.item as u64);
+    print_field(need.cover as u64);
+}
+
 fn print_needs(ns: Needs) {
     let n = ns.count;
     let mut j: usize = 0;
     while j < 16 {
         if j < n {
             let need = ns.lines[j];
-            print(b" need");
-            print_field(need.item as u64);
-            print_field(need.cover as u64);
+            print_need(need);
         }
         j += 1;
     }
@@ -123,7 +128,8 @@ fn written(s: &[u8], at: usize, out: &mut [u8]) -> usize {
     let list = items.list;
     let needs = read_needs(row, items.at);
     let ns = needs.needs;
-    let told = writer::write_sheet(with_needs(record_of(capacity.value, places(count.size), list), ns), out);
+    let plain = record_of(capacity.value, places(count.size), list);
+    let told = writer::write_sheet(with_needs(plain, ns), out);
     match told {
         Listed::Written(n) => n,
         Listed::Refused(_) => 0,

@@ -33,11 +33,13 @@ loop-again c =
     let l = c .before .before in
     let s = l .before .before .args .s .now in
     let e = c .need-step .ensures in
-    let r = l .loop .r in
-    (omega arith, (
-      rw e (omega (arith, step-item needForm s r (λ i. refl)), need-few s r (l .loop .inv .1 .0 .1)),
-      rw add-one (e ∙ ap (stepOf needForm s) (l .loop .inv .1 .1)),
-    ))
+    let r = l .loop .r in (
+      omega arith,
+      (
+        rw e (omega (arith, step-item needForm s r (λ i. refl)), need-few s r (l .loop .inv .1 .0 .1)),
+        rw add-one (e ∙ ap (stepOf needForm s) (l .loop .inv .1 .1)),
+      ),
+    )
 
 returns : tie.Need-returns Inv-loop μ-loop
 returns c =

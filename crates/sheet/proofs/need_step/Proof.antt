@@ -54,14 +54,16 @@ need-judged-requires c κs =
     let k = c .before in
     let l = k .before .before in
     let n = line-numbers _ _ _ (need-parts _ _ _ _ _ _ (sym (line l) ∙ k .r2 .given .1) .fair) in
-    let few = start l .pre .1 in
-    (start l .pre .0, record {
-      first-least = n .first-least;
-      first-most = omega (arith, n .first-most);
-      second-least = n .second-least;
-      second-most = omega (arith, n .second-most);
-      different = n .different;
-    })
+    let few = start l .pre .1 in (
+      start l .pre .0,
+      record {
+        first-least = n .first-least;
+        first-most = omega (arith, n .first-most);
+        second-least = n .second-least;
+        second-most = omega (arith, n .second-most);
+        different = n .different;
+      },
+    )
 
 returns : tie.Need-returns
 unfolding stepOf
