@@ -1,6 +1,7 @@
 -- What the test of a need says of a point.
 -- breaks-no: a feasible point of which it fails keeps the need; its cover is whole.  breaks-yes: a point of which it holds does not.
--- need-in: a line of needs is one of them.  every-kept: all needs are kept where it fails of each.  allowed-placed, needed-placed: needs that are allowed name places.
+-- need-in: a line of needs is one of them.  every-kept: all needs are kept where it fails of each.
+-- allowed-placed, needed-placed: needs that are allowed name places.
 -- needed: what the solver is given of an accepted record.
 use mathlib.Core.Path.{_≡_, refl, sym, subst}
 use mathlib.Core.Bool.{Bool, true, false, cond, not}
@@ -13,7 +14,7 @@ use lib.Signed.{_≤ℤ_, _<ℤ_, ltZ}
 use Rattle.arith.proofs.Integers.{split, split2, zed, ≤ℤ-or-<}
 use Rattle.arith.proofs.Parts.{impossible}
 use Rattle.arith.proofs.Words.{yes-lt, no-lt, lt-yes}
-use Rattle.arith.specs.Fractions.{Frac, int, frac, _≤ᶠ_, _<ᶠ_}
+use Rattle.arith.specs.Fractions.{_≤ᶠ_, _<ᶠ_}
 use Rattle.knapsack.specs.Meaning.{Instance, instanceOf, KeepsMark, Feasible, amountAt, pointOf}
 use Rattle.knapsack.specs.declared.Answer.{Answer}
 use Rattle.knapsack.specs.declared.Mark.the-variants.{Integer}
@@ -70,7 +71,8 @@ module _ (s : Instance) (a : Answer) (n : Need) where
   pub breaks-no : Allowed s n → Feasible s (pointOf a) → breaks (a .point) n ≡ false → KeepsNeed n (pointOf a)
   unfolding _<ᶠ_ _≤ᶠ_
   breaks-no allowed f h l = whole-least (max 1 (amountAt a (n .cover) .q)) (amountAt a (n .cover) .p) (whole .0) (whole .1)
-      (yes-lt (fails (ltZ (pos 0) (amountAt a (n .item) .p)) (ltZ (pos 0) (amountAt a (n .cover) .p)) h (lt-yes (some-of (max 1 (amountAt a (n .item) .q)) (amountAt a (n .item) .p) l))))
+      (yes-lt (fails (ltZ (pos 0) (amountAt a (n .item) .p)) (ltZ (pos 0) (amountAt a (n .cover) .p)) h
+      (lt-yes (some-of (max 1 (amountAt a (n .item) .q)) (amountAt a (n .item) .p) l))))
     where
       whole : KeepsMark Integer (pointOf a (n .cover))
       whole = subst (λ m. KeepsMark m (pointOf a (n .cover))) (allowed .cover .whole) (f .keeps (n .cover) (allowed .cover .inside) .marked)

@@ -7,7 +7,7 @@ use mathlib.Core.Path.{_≡_, refl, sym, subst}
 use mathlib.Core.Bool.{Bool, true, false}
 use mathlib.Core.List.{List}
 use mathlib.Core.Logic.{_⊎_, inl, inr, _≢_}
-use Prim.Native.Nat.{ℕ, _+_, _*_, _≤_, _<_}
+use Prim.Native.Nat.{ℕ, _+_, _*_, _≤_}
 use native.Mathlib.Nat.{mul-le-mul, mul-le-mul-right}
 use native.Mathlib.Omega.{arith}
 use Rattle.arith.proofs.Parts.{impossible}
@@ -33,8 +33,8 @@ use Rattle.cases.proofs.Undecided.{undecided}
 use Rattle.model.specs.declared.Need.{Need}
 use Rattle.model.specs.Needs.{In, Every, Allowed, KeepsNeeds}
 use Rattle.branching.specs.declared.Best.{Best}
-use Rattle.branching.specs.Branching.{isOptimal, Comparable, ShownLeads, nothingYet, countedOf, withBest, knownIf, known, Worthy, Holds, twigs, caseSteps, Countable}
-use Rattle.branching.specs.Branching.{Worked, Bounded, Branches, Through}
+use Rattle.branching.specs.Branching.{isOptimal, Comparable, ShownLeads, nothingYet, countedOf, withBest, knownIf, known, Worthy, Holds, twigs}
+use Rattle.branching.specs.Branching.{caseSteps, Countable, Worked, Bounded, Branches, Through}
 use Rattle.branching.proofs.Ordering.{leads-points}
 use Rattle.branching.proofs.Parts.{Part}
 use Rattle.branching.proofs.Twigs.{twigs-some, twigs-two}

@@ -31,7 +31,7 @@ use Prim.Native.Nat.{ℕ, zero, suc, _+_, _*_, _≤_, _<_}
 use lib.IntN.{ℤ, pos, natAbs}
 use lib.ListN.{length, getD, replicate}
 use lib.Signed.{ltZ}
-use Rattle.arith.specs.Fractions.{frac, _≤ᶠ_, _≈ᶠ_}
+use Rattle.arith.specs.Fractions.{_≤ᶠ_, _≈ᶠ_}
 use Rattle.arith.specs.Gcd.{gcdOf}
 use Rattle.arith.specs.declared.Fraction.{Fraction}
 use Rattle.knapsack.specs.Demands.{shownValue}

@@ -9,7 +9,7 @@
 use mathlib.Core.Path.{_≡_, refl, sym, ap, _∙_, subst}
 use mathlib.Core.List.{List}
 use mathlib.Core.Logic.{_⊎_, inl, inr}
-use Prim.Native.Nat.{ℕ, _≤_, _<_}
+use Prim.Native.Nat.{ℕ, _<_}
 use native.Mathlib.Decide.{decLt}
 use native.Mathlib.Omega.{arith}
 use lib.IntN.{ℤ, pos}
@@ -17,7 +17,7 @@ use lib.ListN.{length}
 use lib.Seq.{ext-getD}
 use Rattle.arith.proofs.Fractions.{<ᶠ-not-≤, ≤ᶠ-trans, ≤ᶠ-antisym, ≈ᶠ-≤, ≈ᶠ-≥}
 use Rattle.arith.proofs.Lowest.{same-fraction}
-use Rattle.arith.specs.Fractions.{int, _≤ᶠ_, _<ᶠ_, _≈ᶠ_}
+use Rattle.arith.specs.Fractions.{int, _≤ᶠ_, _≈ᶠ_}
 use Rattle.arith.specs.declared.Fraction.{Fraction}
 use Rattle.knapsack.specs.Demands.{shownValue}
 use Rattle.knapsack.specs.Meaning.{Instance, Point, instanceOf, value, nought, amountAt, pointOf, stepsOf, AllLower}

@@ -16,7 +16,7 @@ use mathlib.Core.List.{List}
 use mathlib.Core.Logic.{_⊎_, inl, inr, _↔_}
 use Prim.Native.Nat.{ℕ}
 use native.Mathlib.Nat.{mul-le-mul, mul-comm}
-use lib.IntN.{ℤ, pos, _*ℤ_}
+use lib.IntN.{pos, _*ℤ_}
 use lib.Signed.{_≤ℤ_}
 use Rattle.arith.proofs.Fractions.{Over, over-≤, over-total, over-scale, Common, common, ≤ᶠ-trans, <ᶠ-not-≤}
 use Rattle.arith.specs.Fractions.{Frac, _≤ᶠ_, _<ᶠ_}

@@ -1,5 +1,5 @@
 -- `branching::branch` meets its contract: each case leaves fewer needs undecided.
-use mathlib.Core.Path.{_≡_, refl, sym, ap, subst, _∙_}
+use mathlib.Core.Path.{_≡_, sym, ap, subst, _∙_}
 use mathlib.Core.Bool.{true, false}
 use Prim.Native.Nat.{ℕ, suc, _+_, _≤_, _<_}
 use native.Mathlib.Omega.{arith}
@@ -285,8 +285,8 @@ module _ (t : ℕ) where
   branch-returns-2 : branch-lts.Need-returns-2 (calls t) (branch-at t) branch.Post
   branch-returns-2 c =
       let f = c .before .before .before in
-      let o = after-outdoes f in
-      let k = after-counted o in
+      let o = f .before .before .before in
+      let k = o .before .before in
       let s = k .before in
       let b = s .pre .1 in
       let i = instanceOf (s .args .p) in

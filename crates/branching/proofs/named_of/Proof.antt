@@ -29,10 +29,10 @@ inside c =
     s .pre .places (c .need-at .result) (rw (c .need-at .ensures) (need-in (s .args .ns) (l .before .loop .i) (l .loop-test .taken)))
 
 array-write-named : tie.Need-array-write-named Inv-loop μ-loop
-array-write-named c = inside c .1
+array-write-named c = omega (arith, inside c .0, inside c .1)
 
 array-write-named-2 : tie.Need-array-write-named-2 Inv-loop μ-loop
-array-write-named-2 c = inside c .0
+array-write-named-2 c = omega (arith, inside c .0, inside c .1)
 
 add-i : tie.Need-add-i Inv-loop μ-loop
 add-i c = record { fits = omega (arith, c .before .loop-test .taken, c .before .before .before .pre .few) }

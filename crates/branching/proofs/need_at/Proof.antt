@@ -1,5 +1,5 @@
 -- `branching::need_at` meets its contract.
-use mathlib.Core.Path.{_≡_, refl}
+use mathlib.Core.Path.{refl}
 use borrow.Author.Needs.{needs}
 use Rattle.branching.proofs.need_at.Statement.{statement}
 use Rattle.branching.proofs.need_at.Tie as tie

@@ -17,7 +17,7 @@ use Rattle.branching.proofs.Twigs.{few-twigs}
 use Rattle.branching.proofs.solve_ray.Statement.{statement}
 use Rattle.branching.proofs.solve_ray.Tie as tie
 
--- the start, from where nothing is found yet
+-- the test of the point, and the start, from where nothing is found yet
 abbrev asked : tie.After-nothing-yet → tie.After-first-broken
 asked c = c .before .before .before .before
 
