@@ -59,6 +59,20 @@ static size_t depth(struct call c) {
     return STACK - i;
 }
 
+/* The bounds of sixteen items. */
+static char *bounds(char *at) {
+    int k;
+    at += sprintf(at, "lower 16\n");
+    for (k = 1; k <= 16; k++) {
+        at += sprintf(at, "%d 0\n", k);
+    }
+    at += sprintf(at, "upper 16\n");
+    for (k = 1; k <= 16; k++) {
+        at += sprintf(at, "%d 10\n", k);
+    }
+    return at;
+}
+
 /* Sixteen items with both bounds, prices near weights. If hard, all are integer and of like weight, so that the scales end the search; else every
    third one is continuous. */
 static const char *crowd(char *text, int step, int hard) {
@@ -70,15 +84,26 @@ static const char *crowd(char *text, int step, int hard) {
         int price = hard ? 5 * like + 300 : 100 + step * k + k % 5;
         at += sprintf(at, "%c %d %d\n", k % 3 == 2 && !hard ? 'L' : 'W', weight, price);
     }
-    at += sprintf(at, "lower 16\n");
-    for (k = 1; k <= 16; k++) {
-        at += sprintf(at, "%d 0\n", k);
-    }
-    at += sprintf(at, "upper 16\n");
-    for (k = 1; k <= 16; k++) {
-        at += sprintf(at, "%d 10\n", k);
-    }
+    at = bounds(at);
     sprintf(at, "needs 0\n");
+    return text;
+}
+
+/* Eight items that are worth having, and eight that are not; each of the first needs two of the others. So the cases of the needs are as deep as they
+   can be, and if hard the scales end the search of each. */
+static const char *needy(char *text, int step, int hard) {
+    char *at = text;
+    int k;
+    at += sprintf(at, "limit 1\n%d\nitems 16\n", hard ? 37601 : 9001);
+    for (k = 0; k < 16; k++) {
+        int like = 930 + (7 * k + step) % 21, weight = hard ? like : 97 + step * k;
+        at += sprintf(at, "W %d %d\n", weight, k < 8 ? 5 * weight + 300 : 0);
+    }
+    at = bounds(at);
+    at += sprintf(at, "needs 16\n");
+    for (k = 1; k <= 8; k++) {
+        at += sprintf(at, "%d %d\n%d 16\n", k, k == 8 ? 9 : k + 8, k);
+    }
     return text;
 }
 
@@ -87,13 +112,13 @@ int main(void) {
         "limit 1\n20\nitems 2\nW 9 13\nL 3 2\nlower 2\n1 0\n2 0\nupper 2\n1 2\n2 5\nneeds 0\n",       /* optimal */
         "limit 1\n-15\nitems 2\nW -9 -13\nL -1 -2\nlower 2\n1 0\n2 0\nupper 2\n1 1\n2 5\nneeds 0\n",  /* infeasible */
         "limit 1\n0\nitems 2\nW 2 3\nW -3 -4\nlower 2\n1 0\n2 0\nupper 2\n1 none\n2 none\nneeds 0\n", /* unbounded */
-        "limit 1\n0\nitems 17\n",                                                                     /* refused */
+        "limit 1\n0\nitems 17\n",                                                                       /* refused */
     };
     char text[4096];
     size_t most = 0, none = depth((struct call){'n', ""});
     size_t i, n = sizeof few / sizeof few[0];
-    for (i = 0; i < n + 40; i++) {
-        const char *sheet = i < n ? few[i] : crowd(text, (int)(i - n), i % 2);
+    for (i = 0; i < n + 80; i++) {
+        const char *sheet = i < n ? few[i] : i < n + 40 ? crowd(text, (int)(i - n), i % 2) : needy(text, (int)(i - n - 40), i % 2);
         const char *e;
         for (e = "prsc"; *e != '\0'; e++) {
             size_t d = depth((struct call){*e, sheet}) - none;
