@@ -64,7 +64,9 @@ module _ (m : Model) (a : Admissible m) (named : List Bool) (by : NamedBy (needs
     some-items = omega (arith, e .count, a .figures .some-items);
     few-items = omega (arith, e .count, a .figures .few-items);
     capacity-in = subst (λ b. natAbs b ≤ 100000000) (sym (e .capacity)) (a .figures .capacity-in);
-    items-in = λ k g. let h : k < m .count = omega (arith, e .count) in subst ItemFigures (sym (item-is k h)) (in-range (names ns k) (itemAt p k) (a .figures .items-in k h));
+    items-in = λ k g.
+        let h : k < m .count = omega (arith, e .count) in
+        subst ItemFigures (sym (item-is k h)) (in-range (names ns k) (itemAt p k) (a .figures .items-in k h));
   }
     where
       in-range : (b : Bool) (x : Item) → ItemFigures x → ItemFigures (loose b x)

@@ -50,7 +50,8 @@ loop-again c =
     let named = b .before .args .t2 in
     let k = b .loop .k in
     let x : c .before .loose-item .result ≡ loose (getD named k false) (itemAt p k) = c .before .loose-item .ensures in
-    let q : c .with-item .result ≡ withItem (b .loop .q) k (loose (getD named k false) (itemAt p k)) = c .with-item .ensures ∙ ap (withItem (b .loop .q) k) x in (
+    let q : c .with-item .result ≡ withItem (b .loop .q) k (loose (getD named k false) (itemAt p k)) = c .with-item .ensures ∙
+    ap (withItem (b .loop .q) k) x in (
       omega arith,
       rw q (
         simp length-set (b .loop .inv .1 .0),

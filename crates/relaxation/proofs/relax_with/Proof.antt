@@ -232,7 +232,8 @@ record Loading (c : ℤ) (ns : Needs) (ys : List Item) : Type 0 where
   got : p ≡ loaded c (length ys) ns (take i ys)
 
 module _ {M : Type 1} (𝓤 : URA M) (H : Heap 𝓤) (A : Atoms 𝓤) (W : Given 𝓤 H A) (mem : Memory → SProp 𝓤) (run : Routine → Fun 𝓤) (κ : Lft) (q : Share) (c : ℤ)
-    (c-fits : mag c < 2 ^ 63) (ns : Needs) (ns-is : Is N.the-row ns (LL.vals N.the-type N′.the-laws ns)) (b o : ℕ) (γ : GName) (ys : List Item) (room : Room T.the-row (length ys)) where
+    (c-fits : mag c < 2 ^ 63) (ns : Needs) (ns-is : Is N.the-row ns (LL.vals N.the-type N′.the-laws ns))
+    (b o : ℕ) (γ : GName) (ys : List Item) (room : Room T.the-row (length ys)) where
   abbrev R : RattleType
   R = T.the-row
 
@@ -266,8 +267,8 @@ module _ {M : Type 1} (𝓤 : URA M) (H : Heap 𝓤) (A : Atoms 𝓤) (W : Given
       [])) (Post v)
   exits r v e =
       qed W (‵ (fobs γ (codedHoleys R .code (heres R zs))) ∷ ‵ (fbor κ (Held R (length zs) b o γ)) ∷ ‵ (flft κ q) ∷ ‵ (Q.the-row .own r (v ∷ [])) ∷ []) ∵
-      suffices ! _ (ends-at 𝓤 H A relax′.ended stayed (relax′.clauses 𝓤 H A mem run) W (((κ, tt), (q, tt), tt, (c, (x ys, (ns, tt))), at), tt) v r (tt, (zs, (tt, tt)))
-      (tt, (after-length c ns ys, (tt, tt)))) $ says ! e $
+      suffices ! _ (ends-at 𝓤 H A relax′.ended stayed (relax′.clauses 𝓤 H A mem run) W (((κ, tt), (q, tt), tt, (c, (x ys, (ns, tt))), at), tt) v r
+      (tt, (zs, (tt, tt))) (tt, (after-length c ns ys, (tt, tt)))) $ says ! e $
       nothing ! $ move ! (3 ∷ 0 ∷ []) $ join ! $
       frame ! $ fjoin ! $ pureI ! (at-slice R (x zs) (at .1 .0)) (tt, (tt, tt))
       (ap (λ (k : ℕ). sliceVal (b, o) k ∷ []) (sym (after-length c ns ys)), subst (Room R) (sym (after-length c ns ys)) room) $ fjoin ! $
@@ -283,7 +284,8 @@ module _ {M : Type 1} (𝓤 : URA M) (H : Heap 𝓤) (A : Atoms 𝓤) (W : Given
   goes-opened : ent 𝓤 (sem 𝓤 H A ftrue)
       (Opened 𝓤 H A mem run .pre ((tt, tt, tt, (c, (len, (ns, tt))), (vint w64 (ofZ w64 c) ∷ [], (vint w64 len ∷ [], (nv ∷ [], tt)))), tt))
   goes-opened =
-      qed W (‵ ftrue ∷ []) ∵ nothing ! $ owned ! N.the-row (Is N.the-row) (LL.makes N.the-type N′.the-plain 𝓤 H A) ns _ ns-is $ fjoin ! $ owned ! usize (Is usize) (uint-makes 𝓤 H A W w64) len _ (refl, room .0) $ fjoin ! $
+      qed W (‵ ftrue ∷ []) ∵ nothing ! $ owned ! N.the-row (Is N.the-row) (LL.makes N.the-type N′.the-plain 𝓤 H A) ns _ ns-is $ fjoin ! $
+      owned ! usize (Is usize) (uint-makes 𝓤 H A W w64) len _ (refl, room .0) $ fjoin ! $
       owned ! i64 (Is i64) (sint-makes 𝓤 H A W w64) c _ (refl, c-fits) $ fjoin ! $
       move ! (1 ∷ 0 ∷ []) $ join ! $ frame ! $ done !
 
@@ -332,13 +334,14 @@ module _ {M : Type 1} (𝓤 : URA M) (H : Heap 𝓤) (A : Atoms 𝓤) (W : Given
 
     module _ (l₀ l₁ l₂ lₙ l₃ l₄ l₅ l₆ l₇ l₈ l₉ l₁₀ l₁₁ l₁₂ l₁₃ l₁₄ l₁₅ : ℕ) where
       abbrev En : Env 𝓤 H
-      En = (Q′.mir, l₀) ∷ (word, l₁) ∷ (slice, l₂) ∷ (N′.mir, lₙ) ∷ (word, l₃) ∷ (word, l₄) ∷ (P′.mir, l₅) ∷ (word, l₆) ∷ (O′.mir, l₇) ∷ (tyBool, l₈) ∷ (word, l₉) ∷
+      En = (Q′.mir, l₀) ∷ (word, l₁) ∷ (slice, l₂) ∷ (N′.mir, lₙ) ∷ (word, l₃) ∷ (word, l₄) ∷ (P′.mir, l₅) ∷ (word, l₆) ∷ (O′.mir, l₇) ∷
+          (tyBool, l₈) ∷ (word, l₉) ∷
           (tyPtr, l₁₀) ∷ (T′.mir, l₁₁) ∷ (tyBool, l₁₂) ∷ (T′.mir, l₁₃) ∷ (word, l₁₄) ∷ (tyPtr, l₁₅) ∷ []
 
       -- each local dies
       abbrev Dies : List (Entry 𝓤)
-      Dies = ‵ (fdies Q′.mir l₀) ∷ ‵ (fdies word l₁) ∷ ‵ (fdies slice l₂) ∷ ‵ (fdies N′.mir lₙ) ∷ ‵ (fdies word l₃) ∷ ‵ (fdies word l₄) ∷ ‵ (fdies P′.mir l₅) ∷ ‵ (fdies word l₆) ∷
-          ‵ (fdies O′.mir l₇)
+      Dies = ‵ (fdies Q′.mir l₀) ∷ ‵ (fdies word l₁) ∷ ‵ (fdies slice l₂) ∷ ‵ (fdies N′.mir lₙ) ∷ ‵ (fdies word l₃) ∷ ‵ (fdies word l₄) ∷
+          ‵ (fdies P′.mir l₅) ∷ ‵ (fdies word l₆) ∷ ‵ (fdies O′.mir l₇)
           ∷ ‵ (fdies tyBool l₈) ∷ ‵ (fdies word l₉) ∷ ‵ (fdies tyPtr l₁₀) ∷ ‵ (fdies T′.mir l₁₁) ∷ ‵ (fdies tyBool l₁₂) ∷ ‵ (fdies T′.mir l₁₃) ∷
           ‵ (fdies word l₁₄) ∷ ‵ (fdies tyPtr l₁₅) ∷ []
 
@@ -435,8 +438,8 @@ module _ {M : Type 1} (𝓤 : URA M) (H : Heap 𝓤) (A : Atoms 𝓤) (W : Given
             returns ! (look ! 12 refl) $ forget ! 4 refl $ forget ! 5 refl $ forget ! 6 refl $ forget ! 7 refl $ forget ! 8 refl $ forget ! 12 refl $
             move ! (12 ∷ 21 ∷ 18 ∷ 22 ∷ 6 ∷ 23 ∷ 20 ∷ 24 ∷ 19 ∷ 25 ∷ 7 ∷ 26 ∷ 13 ∷ 27 ∷ 4 ∷ 28 ∷ 5 ∷ 29 ∷ 14 ∷ 30 ∷ 15 ∷ 31 ∷ 16 ∷ 32 ∷ 17 ∷ 33 ∷ 8 ∷ 34 ∷ 11 ∷
             35 ∷ 9 ∷ 36 ∷ 10 ∷ 37 ∷ []) $
-            free1 ! $ free1 ! $ free1 ! $ free1 ! $ free1 ! $ free1 ! $ free1 ! $ free1 ! $ free1 ! $ free1 ! $ free1 ! $ free1 ! $ free1 ! $ free1 ! $ free1 ! $
-            free1 ! $ free1 ! $ free0 ! $
+            free1 ! $ free1 ! $ free1 ! $ free1 ! $ free1 ! $ free1 ! $ free1 ! $ free1 ! $ free1 ! $ free1 ! $ free1 ! $ free1 ! $ free1 ! $ free1 ! $
+            free1 ! $ free1 ! $ free1 ! $ free0 ! $
             by ! (exits r v (record { list = refl; reply = rw e (does .reply) })))
 
         -- a turn from j leaves the loop, or ends at j + 1
@@ -625,8 +628,9 @@ module _ {M : Type 1} (𝓤 : URA M) (H : Heap 𝓤) (A : Atoms 𝓤) (W : Given
           ‵ (fdies T′.mir l₁₃) ∷ ‵ (froom tyBool l₁₂ 0) ∷ ‵ (fdies tyBool l₁₂) ∷ ‵ (froom T′.mir l₁₁ 0) ∷ ‵ (fdies T′.mir l₁₁) ∷ ‵ (froom tyPtr l₁₀ 0) ∷
           ‵ (fdies tyPtr l₁₀) ∷ ‵ (froom word l₉ 0) ∷ ‵ (fdies word l₉) ∷ ‵ (froom tyBool l₈ 0) ∷ ‵ (fdies tyBool l₈) ∷ ‵ (froom O′.mir l₇ 0) ∷
           ‵ (fdies O′.mir l₇) ∷ ‵ (froom word l₆ 0) ∷ ‵ (fdies word l₆) ∷ ‵ (froom P′.mir l₅ 0) ∷ ‵ (fdies P′.mir l₅) ∷ ‵ (froom word l₄ 0) ∷
-          ‵ (fdies word l₄) ∷ ‵ (froom word l₃ 0) ∷ ‵ (fdies word l₃) ∷ ‵ (froom N′.mir lₙ 0) ∷ ‵ (fdies N′.mir lₙ) ∷ ‵ (froom slice l₂ 0) ∷ ‵ (fdies slice l₂) ∷ ‵ (froom word l₁ 0) ∷
-          ‵ (fdies word l₁) ∷ ‵ (froom Q′.mir l₀ 0) ∷ ‵ (fdies Q′.mir l₀) ∷ (‵ (flft κ q) ⊛ ‵ ftrue) ∷
+          ‵ (fdies word l₄) ∷ ‵ (froom word l₃ 0) ∷ ‵ (fdies word l₃) ∷ ‵ (froom N′.mir lₙ 0) ∷ ‵ (fdies N′.mir lₙ) ∷
+          ‵ (froom slice l₂ 0) ∷ ‵ (fdies slice l₂) ∷ ‵ (froom word l₁ 0) ∷ ‵ (fdies word l₁) ∷ ‵ (froom Q′.mir l₀ 0) ∷
+          ‵ (fdies Q′.mir l₀) ∷ (‵ (flft κ q) ⊛ ‵ ftrue) ∷
           ‵ (owns (i64 ∷ MutSlice (named 0) κ R ∷ N.the-row ∷ []) (c, (x ys, (ns, tt))) at) ∷ []) (params′ En
           (vint w64 (ofZ w64 c) ∷ sliceVal (b, o) len ∷ nv ∷ []) (runs C Λ En (code.function .body) (atRet En Post)))
       passed = params1 ! $ pass1 ! (init ! 30 refl (tt, ofZ-fits w64 c (record { sfits = c-fits }))) $
@@ -636,8 +640,9 @@ module _ {M : Type 1} (𝓤 : URA M) (H : Heap 𝓤) (A : Atoms 𝓤) (W : Given
     -- the later locals are allocated
     allocated : (l₀ l₁ l₂ lₙ l₃ l₄ l₅ l₆ l₇ : ℕ) →
         Seq Go W (‵ (froom O′.mir l₇ 0) ∷ ‵ (fdies O′.mir l₇) ∷ ‵ (froom word l₆ 0) ∷ ‵ (fdies word l₆) ∷ ‵ (froom P′.mir l₅ 0) ∷ ‵ (fdies P′.mir l₅) ∷
-        ‵ (froom word l₄ 0) ∷ ‵ (fdies word l₄) ∷ ‵ (froom word l₃ 0) ∷ ‵ (fdies word l₃) ∷ ‵ (froom N′.mir lₙ 0) ∷ ‵ (fdies N′.mir lₙ) ∷ ‵ (froom slice l₂ 0) ∷ ‵ (fdies slice l₂) ∷
-        ‵ (froom word l₁ 0) ∷ ‵ (fdies word l₁) ∷ ‵ (froom Q′.mir l₀ 0) ∷ ‵ (fdies Q′.mir l₀) ∷ (‵ (flft κ q) ⊛ ‵ ftrue) ∷
+        ‵ (froom word l₄ 0) ∷ ‵ (fdies word l₄) ∷ ‵ (froom word l₃ 0) ∷ ‵ (fdies word l₃) ∷ ‵ (froom N′.mir lₙ 0) ∷ ‵ (fdies N′.mir lₙ) ∷
+        ‵ (froom slice l₂ 0) ∷ ‵ (fdies slice l₂) ∷ ‵ (froom word l₁ 0) ∷ ‵ (fdies word l₁) ∷ ‵ (froom Q′.mir l₀ 0) ∷
+        ‵ (fdies Q′.mir l₀) ∷ (‵ (flft κ q) ⊛ ‵ ftrue) ∷
         ‵ (owns (i64 ∷ MutSlice (named 0) κ R ∷ N.the-row ∷ []) (c, (x ys, (ns, tt))) at) ∷ [])
         (allocs (local tyBool valueLocal ∷ local word valueLocal ∷ local tyPtr valueLocal ∷ local T′.mir valueLocal ∷ local tyBool valueLocal ∷
         local T′.mir valueLocal ∷ local word valueLocal ∷ local tyPtr valueLocal ∷ []) (λ E.
@@ -667,8 +672,8 @@ module _ {M : Type 1} (𝓤 : URA M) (H : Heap 𝓤) (A : Atoms 𝓤) (W : Given
       (λ κs. (sint-vals w64, (slice-vals, (LL.vals N.the-type N′.the-laws, tt))))
       (λ κs. (sint-tells w64, (mut-slice-tells (named 0) (κs .0) T.the-row, (LL.tells N.the-type N′.the-laws, tt))))
       (λ κs qs bounds a g are. via 𝓤 _ (fst∗ 𝓤 _ (emp 𝓤))
-      (walk 𝓤 H A W mem run (κs .0) (qs .0) (a .0) (are .0 .1) (a .1 .1 .0) (are .1 .1 .0) (a .1 .0 .ptr .0) (a .1 .0 .ptr .1) (a .1 .0 .name) (a .1 .0 .now) (are .1 .0 .0 .1) 𝓣
-      known-usable known-opened known-with known-core known-nth known-answer))
+      (walk 𝓤 H A W mem run (κs .0) (qs .0) (a .0) (are .0 .1) (a .1 .1 .0) (are .1 .1 .0) (a .1 .0 .ptr .0) (a .1 .0 .ptr .1) (a .1 .0 .name)
+      (a .1 .0 .now) (are .1 .0 .0 .1) 𝓣 known-usable known-opened known-with known-core known-nth known-answer))
 
   relax-meets : Meets 𝓤 H A relax′.signature (WpFn 𝓤 H (𝓣 .C) (𝓣 .Λ) code.function) (relax′.spec 𝓤 H A mem run)
   relax-meets =

@@ -26,7 +26,8 @@ loosen-requires c κs = let a = c .before in rw (a .plain-of .ensures) (a .befor
 
 -- the record's own items are made continuous
 loosened : (c : tie.After-loosen) → Loosened (plainOf (start c .args .m)) (c .before .named-of .result) (start c .args .m .count) (c .loosen .result)
-loosened c = subst (λ (p : Problem). Loosened p (c .before .named-of .result) (p .count) (c .loosen .result)) (c .before .before .plain-of .ensures) (c .loosen .ensures)
+loosened c = subst (λ (p : Problem). Loosened p (c .before .named-of .result) (p .count) (c .loosen .result)) (c .before .before .plain-of .ensures)
+    (c .loosen .ensures)
 
 solve-needs-requires : tie.Need-solve-needs-requires
 solve-needs-requires c κs =
