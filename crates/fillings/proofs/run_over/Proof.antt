@@ -1,12 +1,12 @@
 -- `fillings::run_over` meets its contract.
 use borrow.Author.Needs.{needs}
 use native.Mathlib.Omega.{arith}
-use mathlib.Core.Path.{_≡_, subst, sym, _∙_}
+use mathlib.Core.Path.{_≡_, subst}
 use Prim.Native.Nat.{ℕ, _+_, _≤_, _<_}
 use native.Mathlib.Decide.{decLt}
 use Rattle.scales.specs.Filling.{load, cost}
 use Rattle.fillings.specs.Ranges.{num, itemsIn, Inside, offsetOf}
-use Rattle.fillings.specs.Runs.{Fills, Runs, RunWrites, costly, heavy, scaled}
+use Rattle.fillings.specs.Runs.{Fills, costly, heavy, scaled}
 use Rattle.fillings.proofs.Boxes.{offset-least, low-least}
 use Rattle.fillings.proofs.Narrow.{near-among, near-offset, near-keeps}
 use Rattle.fillings.proofs.Runs.{runs-none, runs-wider}
