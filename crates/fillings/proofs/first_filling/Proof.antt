@@ -4,15 +4,17 @@ use mathlib.Core.Path.{_≡_, refl, _∙_, sym}
 use mathlib.Core.Bool.{true, false}
 use Prim.Native.Nat.{ℕ, _+_, _-_, _*_, _≤_}
 use lib.ListN.{length}
-use Rattle.fillings.specs.Runs.{runCells, Gone, begun, onward, found, lacking}
-use Rattle.fillings.proofs.Foremost.{Sought, sought-first, sought-none, sought-more, sought-step, sought-done}
+use Rattle.fillings.specs.Runs.{runCells}
+use Rattle.fillings.specs.Leaps.{Sought}
+use Rattle.fillings.specs.Foremost.{Gone, begun, onward, found, lacking}
+use Rattle.fillings.proofs.Foremost.{sought-none, sought-more, sought-step, sought-done}
 use borrow.Author.Needs.{needs}
 use Rattle.fillings.proofs.first_filling.Statement.{statement}
 use Rattle.fillings.proofs.first_filling.Tie as tie
 
 abbrev Inv-loop : tie.InvT-loop
 Inv-loop p capacity cap cells₀ r₀ written₀ from₀ cells r written from = ((length cells ≡ length cells₀) ×
-    ((written ≤ from * runCells) × Gone p capacity cap r from written)) × Sought p capacity (cap - 1) r from
+    ((written ≤ (3 + from) * runCells) × Gone p capacity cap r from written)) × Sought p capacity (cap - 1) r from
 
 abbrev μ-loop : tie.MeasureT-loop
 μ-loop p capacity cap cells₀ r₀ written₀ from₀ cells r written from = 16 - from
