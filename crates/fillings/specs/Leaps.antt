@@ -11,7 +11,7 @@
 --   Leapt p C cap n        what the first leap that finds anything has found, or all amounts
 use mathlib.Core.Path.{_≡_}
 use mathlib.Core.Logic.{_⊎_}
-use Prim.Native.Nat.{ℕ, suc, _+_, _-_, _*_, _≤_, _<_}
+use Prim.Native.Nat.{ℕ, _+_, _-_, _*_, _≤_, _<_}
 use Rattle.scales.specs.Filling.{cost, Within}
 use Rattle.fillings.specs.declared.Parts.{Parts}
 use Rattle.fillings.specs.declared.Ranges.{Ranges}
@@ -55,7 +55,7 @@ pub data LeapWrites (p : Parts) (C cap t : ℕ) : ℕ → Type 0 where
 
 pub data TriedWrite (p : Parts) (C cap : ℕ) : ℕ → ℕ → Type 0 where
   untried : TriedWrite p C cap 3 0
-  another : (i w n : ℕ) → TriedWrite p C cap (suc i) w → LeapWrites p C cap (4 * suc i) n → TriedWrite p C cap i (w + n)
+  another : (i w n : ℕ) → 0 < i → TriedWrite p C cap i w → LeapWrites p C cap (4 * i) n → TriedWrite p C cap (i - 1) (w + n)
 
 pub record Leaps (p : Parts) (C cap t : ℕ) (n : Run) : Type 0 where
   pub head : Ranges
