@@ -3,37 +3,43 @@
 --   Removable s D N i j r t   two different items, and N / D keeps their bounds without the steps r of i and t of j
 --   without D N i r j t       N / D without those steps, over D
 --   ComesFirst N M f          N comes before M, item by item: equal before place f and less there
--- cost-discard: without a cost pair's steps a feasible point is feasible, and worth at least 1 more.
--- cost-not-optimalᴰ, cost-not-optimal: so it was not optimal; the second says so of points, without a common divisor.
--- tabled-not-optimal: the table's entries are such steps.
+--   taken x i r j t           the point x without those steps
+--   Apart ns k                no need of ns names item k;  MarkedIn named ns: the items that a need of ns names are marked
+-- cost-discard: without a cost pair's steps a feasible point is feasible, and worth at least 1 more;  cost-gain: the same of points.
+-- cost-not-optimal: so it was not optimal, if no need names one of the two items (paper 02, request 7). tabled-not-optimal: the table's entries are such
+-- steps, whatever the needs are. Of a pair with an item that a need names nothing is claimed.
 -- equal-discard: without an equal-value pair's steps it is feasible, with the same weight and value.
 -- equal-first: and comes first, if the step of the first of the two items is above zero.
 -- first-once: no two points come before each other.
-use mathlib.Core.Path.{_≡_, sym, ap, _∙_}
+use mathlib.Core.Path.{_≡_, refl, sym, ap, _∙_, subst₂}
+use mathlib.Core.Bool.{Bool, true, false}
+use mathlib.Core.List.{List}
 use mathlib.Core.Logic.{_≢_}
 use Prim.Native.Nat.{ℕ, _*_, _≤_, _<_}
-use native.Mathlib.Decide.{decLt}
+use native.Mathlib.Decide.{decLt, ℕ-discrete}
 use native.Mathlib.Nat.{mul-le-mul-left}
 use native.Mathlib.Omega.{arith}
 use lib.IntN.{ℤ, pos, negℤ, _+ℤ_, _-ℤ_, _*ℤ_}
 use lib.Signed.{_≤ℤ_, _<ℤ_, clashℤ}
-use Rattle.arith.specs.Fractions.{Frac, int, frac, _+ᶠ_}
-use Rattle.arith.specs.Sum.{sum, Each, bump}
-use Rattle.arith.proofs.Fractions.{Over, over-int, over-frac, over-+, common}
+use Rattle.arith.specs.Fractions.{Frac, int, _+ᶠ_, _≤ᶠ_, _<ᶠ_}
+use Rattle.arith.specs.Sum.{sum, Each, pick, bump}
+use Rattle.arith.proofs.Fractions.{Over, over-int, over-+, over-<, over-total, common, <ᶠ-not-≤}
 use Rattle.arith.proofs.Integers.{split, split2, split3, split4, zed, ≤ℤ-reflexive}
-use Rattle.arith.proofs.Parts.{lt-le}
+use Rattle.arith.proofs.Parts.{impossible, lt-le}
 use Rattle.arith.proofs.Sums.{bump-same, bump-other}
 use Rattle.knapsack.specs.declared.Item.{Item}
 use Rattle.knapsack.specs.declared.Problem.{Problem}
 use Rattle.knapsack.specs.Ranges.{itemAt}
+use Rattle.model.specs.declared.Need.{Need}
+use Rattle.model.specs.Needs.{Every, KeepsNeed, FeasibleNeeds, OptimalNeeds}
 use Rattle.model.specs.Records.{FiguresInRange}
-use Rattle.knapsack.specs.Meaning.{Instance, instanceOf, Point, Keeps, weights, prices, Optimal, CostPair, EqualPair}
+use Rattle.knapsack.specs.Meaning.{Instance, instanceOf, Point, Keeps, weights, prices, value, Feasible, CostPair, EqualPair}
 use Rattle.knapsack.proofs.Common.{Keepsᴰ, weighsᴰ, valueᴰ, Feasibleᴰ}
-use Rattle.knapsack.proofs.Bridge.{over-lower, over-upper, Reads, bridge-feasible, bridge-value}
+use Rattle.knapsack.proofs.Bridge.{over-lower, over-upper, Reads, bridge-feasible}
 use Rattle.knapsack.proofs.Dual.{Within}
 use Rattle.knapsack.proofs.Moves.{shift, sum-shift, keeps-shift}
 use Rattle.domination.specs.declared.Pair.the-variants.{Steps}
-use Rattle.domination.specs.Pairs.{tabled}
+use Rattle.domination.specs.Pairs.{isNamed, tabled}
 use Rattle.domination.proofs.Entry.{tabled-steps}
 
 pub record Removable (s : Instance) (D : ℕ) (N : ℕ → ℤ) (i j : ℕ) (r t : ℤ) : Type 0 where
@@ -45,6 +51,12 @@ pub record Removable (s : Instance) (D : ℕ) (N : ℕ → ℤ) (i j : ℕ) (r t
 
 abbrev pub without : ℕ → (ℕ → ℤ) → ℕ → ℤ → ℕ → ℤ → ℕ → ℤ
 without D N i r j t = shift D N i (negℤ r) j (negℤ t)
+
+abbrev pub Apart : List Need → ℕ → Type 0
+Apart ns k = Every (λ n. (n .item ≢ k) × (n .cover ≢ k)) ns
+
+abbrev pub MarkedIn : List Bool → List Need → Type 0
+MarkedIn named ns = Every (λ n. (isNamed named (n .item) ≡ true) × (isNamed named (n .cover) ≡ true)) ns
 
 -- to take a step away is to add its opposite
 away : (D : ℕ) (n r : ℤ) → n -ℤ r *ℤ pos D ≡ n +ℤ negℤ r *ℤ pos D
@@ -93,41 +105,82 @@ module _ (s : Instance) (D : ℕ) (N : ℕ → ℤ) (i j : ℕ) (r t : ℤ) (h :
       worth : valueᴰ s N′ ≡ valueᴰ s N
       worth = sum-without (prices s) ∙ same (valueᴰ s N) (s .item i .price *ℤ r +ℤ s .item j .price *ℤ t) (c .even)
 
-  pub cost-not-optimalᴰ : CostPair (s .item i) (s .item j) r t → 1 ≤ D → (x : Point) → Reads s D x N → ¬ Optimal s x
-  cost-not-optimalᴰ c d x reads o =
-      let g = cost-discard c (bridge-feasible s D x N d reads .0 (o .feasible)) in
-      let y : Point = λ k. frac (N′ k) D in
-      let read : Reads s D y N′ = λ k l. over-frac (N′ k) D d in
-      clash (valueᴰ s N) (valueᴰ s N′) (g .1) (bridge-value s D y x N′ N d read reads .0 (o .highest y (bridge-feasible s D y N′ d read .1 (g .0))))
-    where
-      clash : (v w : ℤ) → (v +ℤ pos D) ≤ℤ w → w ≤ℤ v → ⊥
-      clash = split2 _ (λ a b c e. simp zed (omega (arith, d)))
-
 -- ---- the same of points
+
+abbrev pub taken : Point → ℕ → ℤ → ℕ → ℤ → Point
+taken x i r j t k = pick (ℕ-discrete k j) (x k +ᶠ int (negℤ t)) (pick (ℕ-discrete k i) (x k +ᶠ int (negℤ r)) (x k))
+
+-- all other amounts stay
+taken-other : (x : Point) (i : ℕ) (r : ℤ) (j : ℕ) (t : ℤ) (k : ℕ) → k ≢ i → k ≢ j → taken x i r j t k ≡ x k
+taken-other x i r j t k p q = go (ℕ-discrete k j) (ℕ-discrete k i)
+  where
+    go : (d : Dec (k ≡ j)) (e : Dec (k ≡ i)) → pick d (x k +ᶠ int (negℤ t)) (pick e (x k +ᶠ int (negℤ r)) (x k)) ≡ x k
+    go (yes e) d = absurd (q e)
+    go (no n) (yes e) = absurd (p e)
+    go (no n) (no m) = refl
+
+taken-reads : (s : Instance) (D : ℕ) (x : Point) (N : ℕ → ℤ) (i j : ℕ) (r t : ℤ) → j ≢ i → Reads s D x N → Reads s D (taken x i r j t) (without D N i r j t)
+unfolding bump
+taken-reads s D x N i j r t ne h k l = go (ℕ-discrete k j) (ℕ-discrete k i)
+  where
+    go : (d : Dec (k ≡ j)) (e : Dec (k ≡ i)) → Over D (pick d (x k +ᶠ int (negℤ t)) (pick e (x k +ᶠ int (negℤ r)) (x k)))
+        (pick d (pick e (N k +ℤ negℤ r *ℤ pos D) (N k) +ℤ negℤ t *ℤ pos D) (pick e (N k +ℤ negℤ r *ℤ pos D) (N k)))
+    go (yes e) (yes d) = absurd (ne (sym e ∙ d))
+    go (yes e) (no m) = over-+ (h k l) (over-int D (negℤ t))
+    go (no n) (yes e) = over-+ (h k l) (over-int D (negℤ r))
+    go (no n) (no m) = h k l
 
 within-over : (D : ℕ) (x : Frac) (n r : ℤ) (i : Item) → 1 ≤ D → Over D x n → Keeps i (x +ᶠ int (negℤ r)) → Within D i (n -ℤ r *ℤ pos D)
 within-over D x n r i d h k =
     let o = over-+ h (over-int D (negℤ r)) in
     rw (away D n r) (record { above = over-lower d o (i .lower) .0 (k .above); below = over-upper d o (i .upper) .0 (k .below) })
 
-pub cost-not-optimal : (s : Instance) (x : Point) (i j : ℕ) (r t : ℤ) → i < s .count → j < s .count → j ≢ i → CostPair (s .item i) (s .item j) r t
-    → Keeps (s .item i) (x i +ᶠ int (negℤ r)) → Keeps (s .item j) (x j +ᶠ int (negℤ t)) → ¬ Optimal s x
-cost-not-optimal s x i j r t l m ne c ki kj =
-    let z = common (s .count) x in
-    cost-not-optimalᴰ s (z .D) (z .N) i j r t (record {
-      first-in = l;
-      second-in = m;
-      different = ne;
-      first-within = within-over (z .D) (x i) (z .N i) r (s .item i) (z .D≥1) (z .reads i l) ki;
-      second-within = within-over (z .D) (x j) (z .N j) t (s .item j) (z .D≥1) (z .reads j m) kj;
-    }) c (z .D≥1) x (z .reads)
+module _ (s : Instance) (x : Point) (i j : ℕ) (r t : ℤ) (l : i < s .count) (m : j < s .count) (ne : j ≢ i) (c : CostPair (s .item i) (s .item j) r t)
+    (ki : Keeps (s .item i) (x i +ᶠ int (negℤ r))) (kj : Keeps (s .item j) (x j +ᶠ int (negℤ t))) where
+  abbrev y : Point
+  y = taken x i r j t
 
--- End theorem: an entry of the table discards.
-pub tabled-not-optimal : (p : Problem) → FiguresInRange p → (i j : ℕ) (r t : ℤ) → tabled p i j ≡ Steps r t → (x : Point) →
-    Keeps (itemAt p i) (x i +ᶠ int (negℤ r)) → Keeps (itemAt p j) (x j +ᶠ int (negℤ t)) → ¬ Optimal (instanceOf p) x
-tabled-not-optimal p range i j r t e x ki kj =
-    let a = tabled-steps r t p range i j e in
-    cost-not-optimal (instanceOf p) x i j r t (a .first-place) (a .second-place) (λ n. a .different (sym n)) (a .pair) ki kj
+  pub cost-gain : Feasible s x → Feasible s y × (value s x <ᶠ value s y)
+  cost-gain f =
+      let z = common (s .count) x in
+      let h : Removable s (z .D) (z .N) i j r t = record {
+        first-in = l;
+        second-in = m;
+        different = ne;
+        first-within = within-over (z .D) (x i) (z .N i) r (s .item i) (z .D≥1) (z .reads i l) ki;
+        second-within = within-over (z .D) (x j) (z .N j) t (s .item j) (z .D≥1) (z .reads j m) kj;
+      } in
+      let g = cost-discard s (z .D) (z .N) i j r t h c (bridge-feasible s (z .D) x (z .N) (z .D≥1) (z .reads) .0 f) in
+      let n = without (z .D) (z .N) i r j t in
+      let read = taken-reads s (z .D) x (z .N) i j r t ne (z .reads) in (
+        bridge-feasible s (z .D) y n (z .D≥1) read .1 (g .0),
+        over-< (z .D≥1) (over-total (z .D) (s .count) x (z .N) (z .reads) (prices s)) (over-total (z .D) (s .count) y n read (prices s))
+            (more (z .D) (z .D≥1) (valueᴰ s (z .N)) (valueᴰ s n) (g .1)),
+      )
+    where
+      more : (D : ℕ) → 1 ≤ D → (v w : ℤ) → (v +ℤ pos D) ≤ℤ w → v <ℤ w
+      more D d = split2 _ (λ a b c e. simp zed (omega (arith, d)))
+
+  pub cost-not-optimal : (ns : List Need) → Apart ns i → Apart ns j → ¬ OptimalNeeds s ns x
+  cost-not-optimal ns p q o =
+      let g = cost-gain (o .feasible .plain) in
+      <ᶠ-not-≤ (value s x) (value s y) (g .1) (o .highest y (record { plain = g .0; kept = λ n h. kept n (p n h) (q n h) (o .feasible .kept n h) }))
+    where
+      kept : (n : Need) → (n .item ≢ i) × (n .cover ≢ i) → (n .item ≢ j) × (n .cover ≢ j) → KeepsNeed n x → KeepsNeed n y
+      kept n a b = subst₂ (λ u v. int (pos 0) <ᶠ u → int (pos 1) ≤ᶠ v) (sym (taken-other x i r j t (n .item) (a .0) (b .0)))
+          (sym (taken-other x i r j t (n .cover) (a .1) (b .1)))
+
+-- End theorem: an entry of the table discards, whatever needs there are whose items are marked.
+pub tabled-not-optimal : (p : Problem) → FiguresInRange p → (named : List Bool) (ns : List Need) → MarkedIn named ns
+    → (i j : ℕ) (r t : ℤ) → tabled p named i j ≡ Steps r t → (x : Point) → Keeps (itemAt p i) (x i +ᶠ int (negℤ r)) → Keeps (itemAt p j) (x j +ᶠ int (negℤ t))
+    → ¬ OptimalNeeds (instanceOf p) ns x
+tabled-not-optimal p range named ns marks i j r t e x ki kj =
+    let a = tabled-steps r t p range named i j e in
+    cost-not-optimal (instanceOf p) x i j r t (a .first-place) (a .second-place) (λ n. a .different (sym n)) (a .pair) ki kj ns
+    (apart i (a .first-unnamed)) (apart j (a .second-unnamed))
+  where
+    apart : (k : ℕ) → isNamed named k ≡ false → Apart ns k
+    apart k f n h = (λ e. impossible (sym f ∙ sym (ap (isNamed named) e) ∙ marks n h .0), λ e. impossible (sym f ∙ sym (ap (isNamed named) e) ∙ marks n h .1))
 
 -- ---- which of two points of equal value comes first
 

@@ -1,11 +1,12 @@
 -- The entry's replies and the table's entries, in 01's words.
---   Applies p i j r s    what a search uses of an entry that holds steps: two items of the problem, and a cost pair
+--   Applies p named i j r s   what a search uses of an entry that holds steps: two items of the problem that no need names, and a cost pair
 -- refused-record, refused-numbers, refused-items, answered: which reply when; the four cases are all.
 -- least-pair-steps, least-pair-missing: an answer is 01's least pair exactly.
 -- told: what the reply says, by its case, holds.
 -- tabled-steps: an entry of the table with steps applies.
 use mathlib.Core.Path.{_≡_, refl, sym, ap, subst}
 use mathlib.Core.Bool.{Bool, true, false, cond}
+use mathlib.Core.List.{List}
 use mathlib.Core.Logic.{_↔_}
 use Prim.Native.Nat.{ℕ, _+_, _-_, _<_}
 use native.Mathlib.Omega.{arith}
@@ -28,7 +29,7 @@ use Rattle.domination.specs.declared.Pair.the-variants.{Missing, Steps}
 use Rattle.domination.specs.declared.PairReply.{PairReply}
 use Rattle.domination.specs.declared.PairReply.the-variants.{Refused, Found}
 use Rattle.domination.specs.Eligible.{Eligible}
-use Rattle.domination.specs.Pairs.{pairOf, eligible, refusePair, paired, numbered, leastPair, orMissing, tabled}
+use Rattle.domination.specs.Pairs.{pairOf, eligible, refusePair, paired, numbered, leastPair, orMissing, isNamed, tabled}
 use Rattle.domination.specs.Told.{Answerable, by-record, by-numbers, by-items, Told}
 use Rattle.domination.proofs.Minimal.{Outcome, pair-outcome, pair-steps, pair-missing}
 use Rattle.domination.proofs.Sizes.{Small, pair-small}
@@ -128,10 +129,12 @@ module _ (m : Model) (i j : ℕ) where
 
 -- ---- the table
 
-pub record Applies (p : Problem) (i j : ℕ) (r s : ℤ) : Type 0 where
+pub record Applies (p : Problem) (named : List Bool) (i j : ℕ) (r s : ℤ) : Type 0 where
   pub first-place : i < p .count
   pub second-place : j < p .count
   pub different : i ≡ j → ⊥
+  pub first-unnamed : isNamed named i ≡ false
+  pub second-unnamed : isNamed named j ≡ false
   pub first-integer : itemAt p i .mark ≡ Integer
   pub second-integer : itemAt p j .mark ≡ Integer
   pub pair : CostPair (itemAt p i) (itemAt p j) r s
@@ -164,15 +167,22 @@ module _ (r s : ℤ) where
       go true e h = absurd (let z : _≡_ {A = ℕ} 0 1 = cc in omega arith)
       go false e h = (numbers-iff (p .count) i j .0 e, h)
 
-  pub tabled-steps : (p : Problem) → FiguresInRange p → (i j : ℕ) → tabled p i j ≡ Steps r s → Applies p i j r s
-  tabled-steps p range i j e =
-      let n = numbers-of p (i + 1) (j + 1) (answer (numbered p (i + 1) (j + 1)) e) in
-      go (range .items-in) (n .0) (items (itemAt p (i + 1 - 1)) (itemAt p (j + 1 - 1)) (n .1))
+  -- an entry with steps is not barred
+  open-to : (a b : Bool) (q : Pair) → cond (cond a true b) Missing q ≡ Steps r s → (a ≡ false) × (b ≡ false) × (q ≡ Steps r s)
+  open-to true b q e = absurd (let z : _≡_ {A = ℕ} 0 1 = cc in omega arith)
+  open-to false true q e = absurd (let z : _≡_ {A = ℕ} 0 1 = cc in omega arith)
+  open-to false false q e = (refl, refl, e)
+
+  pub tabled-steps : (p : Problem) → FiguresInRange p → (named : List Bool) (i j : ℕ) → tabled p named i j ≡ Steps r s → Applies p named i j r s
+  tabled-steps p range named i j e =
+      let o = open-to (isNamed named i) (isNamed named j) (orMissing (numbered p (i + 1) (j + 1))) e in
+      let n = numbers-of p (i + 1) (j + 1) (answer (numbered p (i + 1) (j + 1)) (o .2)) in
+      go (o .0) (o .1) (range .items-in) (n .0) (items (itemAt p (i + 1 - 1)) (itemAt p (j + 1 - 1)) (n .1))
     where
-      go : ((k : ℕ) → k < p .count → ItemFigures (itemAt p k)) → Numbers (p .count) (i + 1) (j + 1) →
+      go : isNamed named i ≡ false → isNamed named j ≡ false → ((k : ℕ) → k < p .count → ItemFigures (itemAt p k)) → Numbers (p .count) (i + 1) (j + 1) →
           (Eligible (itemAt p (i + 1 - 1))) × (Eligible (itemAt p (j + 1 - 1))) × (pairOf (itemAt p (i + 1 - 1)) (itemAt p (j + 1 - 1)) ≡ Steps r s) →
-          Applies p i j r s
-      go f n h =
+          Applies p named i j r s
+      go a b f n h =
           let u : i + 1 - 1 ≡ i = omega arith in
           let v : j + 1 - 1 ≡ j = omega arith in
           let li : i < p .count = omega (arith, n .first-most) in
@@ -185,6 +195,8 @@ module _ (r s : ℤ) where
             first-place = li;
             second-place = lj;
             different = λ e. n .different (omega arith);
+            first-unnamed = a;
+            second-unnamed = b;
             first-integer = k .0 .integer;
             second-integer = k .1 .integer;
             pair = m .pair;

@@ -14,12 +14,15 @@
 --   after v q            the record's refusal, or q
 --   leastPair m i j      the reply for items i and j, from 1: a refusal of the record, 9, 10, or a pair
 --   orMissing q          the pair of a reply
---   tabled p i j         the table's entry for places i and j, from 0, of a plain problem: Missing where 9 or 10 is due
+--   isNamed named k      a need names the item at place k, from 0;  barred named i j: one of two items
+--   tabled p named i j   the table's entry for places i and j, from 0, of a plain problem: Missing where a need names one of the items, or 9 or 10 is due
 use mathlib.Core.Path.{_≡_}
 use mathlib.Core.Bool.{Bool, true, false, cond}
+use mathlib.Core.List.{List}
 use Prim.Native.Nat.{ℕ, _+_, _*_, _-_}
 use lib.Dec.{ltb, eqb}
 use lib.IntN.{ℤ, pos, negℤ, natAbs, _-ℤ_}
+use lib.ListN.{getD}
 use lib.Signed.{leZ, ltZ}
 use Rattle.arith.specs.Gcd.{signed}
 use Rattle.knapsack.specs.declared.Bound.{Bound}
@@ -125,5 +128,11 @@ abbrev pub orMissing : PairReply → Pair
 orMissing (Refused f) = Missing
 orMissing (Found q) = q
 
-abbrev pub tabled : Problem → ℕ → ℕ → Pair
-tabled p i j = orMissing (numbered p (i + 1) (j + 1))
+abbrev pub isNamed : List Bool → ℕ → Bool
+isNamed named k = getD named k false
+
+abbrev pub barred : List Bool → ℕ → ℕ → Bool
+barred named i j = cond (isNamed named i) true (isNamed named j)
+
+abbrev pub tabled : Problem → List Bool → ℕ → ℕ → Pair
+tabled p named i j = cond (barred named i j) Missing (orMissing (numbered p (i + 1) (j + 1)))

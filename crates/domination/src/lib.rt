@@ -17,7 +17,7 @@ ghost use mathlib.Core.Path.{_≡_};
 ghost use Prim.Native.Nat.{ℕ, _+_, _*_, _<_};
 ghost use lib.ListN.{getD, replicate};
 ghost use Rattle.model.specs.Records.{ItemFigures, FiguresInRange};
-ghost use Rattle.domination.specs.Pairs.{refusePair, paired, numbered, leastPair, orMissing, tabled};
+ghost use Rattle.domination.specs.Pairs.{refusePair, paired, numbered, leastPair, orMissing, barred, tabled};
 ghost use Rattle.domination.specs.Told.{Told};
 
 mod pairing; // pairing.rt: the least pair of two items
@@ -98,25 +98,41 @@ fn or_missing(q: PairReply) -> Pair
     }
 }
 
-// The table's entry for places i and j.
-fn entry_at(p: Problem, i: usize, j: usize) -> Pair
-    requires { ⌜ FiguresInRange p × ((i < 16) × (j < 16)) ⌝ }
-    ensures { λ r. ⌜ r ≡ tabled p i j ⌝ }
+// Whether a need names one of the items at places i and j.
+fn is_barred(named: [bool; 16], i: usize, j: usize) -> bool
+    requires { ⌜ (i < 16) × (j < 16) ⌝ }
+    ensures { λ r. ⌜ r ≡ barred named i j ⌝ }
 {
+    let first = named[i];
+    let second = named[j];
+    if first {
+        return true;
+    }
+    second
+}
+
+// The table's entry for places i and j: none if a need names one of the two, for then a point may need what the steps take away.
+fn entry_at(p: Problem, named: [bool; 16], i: usize, j: usize) -> Pair
+    requires { ⌜ FiguresInRange p × ((i < 16) × (j < 16)) ⌝ }
+    ensures { λ r. ⌜ r ≡ tabled p named i j ⌝ }
+{
+    if is_barred(named, i, j) {
+        return Pair::Missing;
+    }
     let q = pair_numbered(p, i + 1, j + 1);
     or_missing(q)
 }
 
-// The least pairs of all places i and j, from 0: entry 16 i + j. Filled once, before a search: it serves the solver and is no public
-// entry, so it takes the plain problem and asks for its ranges.
-pub fn pair_table(p: Problem) -> [Pair; 256]
+// The pairs of all places i and j, from 0, that may discard points where needs name the items `named`: entry 16 i + j. Filled once, before a search: it
+// serves the solver and is no public entry, so it takes the plain problem and asks for its ranges.
+pub fn pair_table(p: Problem, named: [bool; 16]) -> [Pair; 256]
     requires { ⌜ FiguresInRange p ⌝ }
-    ensures { λ r. ⌜ ((i j : ℕ) → i < 16 → j < 16 → getD r (16 * i + j) Pair.Missing ≡ tabled p i j) ⌝ }
+    ensures { λ r. ⌜ ((i j : ℕ) → i < 16 → j < 16 → getD r (16 * i + j) Pair.Missing ≡ tabled p named i j) ⌝ }
 {
     let mut t = no_pairs();
     let mut k: usize = 0;
     while k < 256 {
-        t[k] = entry_at(p, k / 16, k % 16);
+        t[k] = entry_at(p, named, k / 16, k % 16);
         k += 1;
     }
     t

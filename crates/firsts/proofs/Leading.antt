@@ -147,8 +147,8 @@ module _ (s : Setting) (c : Columns) (y : Tying s c) (l : Optimum) (g : IsLosing
   frame-all marks m X x = g .all marks m (scaleOf c t) X (scale-in c t (y .tied .sized) .0) (x .feasible)
 
   pub led-apart : 0 < (scaleOf c t * l .num) % l .den → Led s c l (t + 1) b
-  led-apart r = kept b refl (omega arith) (λ marks m fr. frame-apart c e marks (l .top) (l .q) (l .num) (l .den) (g .q≥1) (g .den≥1) (parts c f) (filling c f)
-      parts-in (h .just marks m) t (frame-all marks m) (frame-rest (scaleOf c t) (l .num) (l .den) (g .den≥1) r))
+  led-apart r = kept b refl (omega arith) (λ marks m fr. frame-apart c e marks (l .top) (l .q) (l .num) (l .den) (g .priced .q≥1) (g .den≥1) (parts c f)
+      (filling c f) parts-in (h .just marks m) t (frame-all marks m) (frame-rest (scaleOf c t) (l .num) (l .den) (g .den≥1) r))
 
   module _ (w : List Bool) (lw : Levelled (s .level) (s .levels) w) where
     marked : (marks : ℕ → Mark) → Marked s marks → ceil.Marked c w marks
@@ -202,7 +202,7 @@ module _ (s : Setting) (c : Columns) (y : Tying s c) (l : Optimum) (g : IsLosing
         floor = λ e′ fr M p. subst (λ z. pos r ≤ℤ z) (sym (loss-same (some-marks s .0) M))
             (frame-floor c e (some-marks s .0) (y .tied .tied) few (wholeAt w) (marked (some-marks s .0) (some-marks s .1))
             (unmarked (some-marks s .0) (some-marks s .1))
-            t e′ (fr .low) (fr .high) (l .top) (l .q) (l .num) (l .den) r (g .q≥1) (g .den≥1) over (frame-all (some-marks s .0) (some-marks s .1))
+            t e′ (fr .low) (fr .high) (l .top) (l .q) (l .num) (l .den) r (g .priced .q≥1) (g .den≥1) over (frame-all (some-marks s .0) (some-marks s .1))
             (tied-order s c y) (free (some-marks s .0) (some-marks s .1)) M (from e′ M p));
       }
 
@@ -210,8 +210,8 @@ module _ (s : Setting) (c : Columns) (y : Tying s c) (l : Optimum) (g : IsLosing
         pub led-none : x .found ≡ false → (z : Lead) → z .point ≡ b .point → z .written ≡ b .written + x .written → Led s c l (t + 1) z
         led-none n z p i = kept z p (omega (arith, q .few)) (λ marks m fr. frame-none c e marks (y .tied .tied) few (wholeAt w) (marked marks m)
             (unmarked marks m)
-            t (framedEnds c e w t) (framed-ends c e w t few .low) (framed-ends c e w t few .high) (l .top) (l .q) (l .num) (l .den) r (g .q≥1) (g .den≥1) over
-            (frame-all marks m) (parts c f) (filling c f) parts-in (h .just marks m)
+            t (framedEnds c e w t) (framed-ends c e w t few .low) (framed-ends c e w t few .high) (l .top) (l .q) (l .num) (l .den) r (g .priced .q≥1)
+            (g .den≥1) over (frame-all marks m) (parts c f) (filling c f) parts-in (h .just marks m)
             (λ M pt. subst (λ a. pos r <ℤ a) (loss-same marks M) (q .none n (framedEnds c e w t) (framed-ends c e w t few) M (to (framedEnds c e w t) M pt))))
 
         -- ---- the first point of the frame
@@ -245,7 +245,7 @@ module _ (s : Setting) (c : Columns) (y : Tying s c) (l : Optimum) (g : IsLosing
           -- it leads its frame
           leads-own : (marks : ℕ → Mark) → Marked s marks → LeadsFrame c e marks E Y t
           leads-own marks m = frame-leads c e marks (y .tied .tied) few (wholeAt w) (marked marks m) (unmarked marks m) t (first .ends) (first .framed .low)
-              (first .framed .high) (l .top) (l .q) (l .num) (l .den) r (g .q≥1) (g .den≥1) over (frame-all marks m) Y
+              (first .framed .high) (l .top) (l .q) (l .num) (l .den) r (g .priced .q≥1) (g .den≥1) over (frame-all marks m) Y
               (sym (loss-same marks Y) ∙ first .loses)
               (λ M p i. turn (first .first M (to (first .ends) M p) (loss-same marks M ∙ i)))
             where
@@ -285,7 +285,7 @@ module _ (s : Setting) (c : Columns) (y : Tying s c) (l : Optimum) (g : IsLosing
             more-old marks m = g .all marks m (parts c f) (filling c f) parts-in (place-feasible s c y (h .place) (h .inside) marks m (h .room))
 
             just-new : (marks : ℕ → Mark) → Marked s marks → LosesJust (l .top) (l .q) (worth marks) (l .num) (l .den) (parts c f′) (filling c f′)
-            just-new marks m = loses-as-much (l .top) (l .q) (worth marks) (l .num) (l .den) (g .q≥1) (g .den≥1) E (parts c f′) Y (filling c f′)
+            just-new marks m = loses-as-much (l .top) (l .q) (worth marks) (l .num) (l .den) (g .priced .q≥1) (g .den≥1) E (parts c f′) Y (filling c f′)
                 (is-loss (l .num) (l .den) E r (lossBy (l .top) (l .q) (worth marks) E Y) over (sym (loss-same marks Y) ∙ first .loses)) E≥1
                 (more-new marks m)
                 (over-own marks m .worth)
@@ -298,7 +298,7 @@ module _ (s : Setting) (c : Columns) (y : Tying s c) (l : Optimum) (g : IsLosing
                 go (inl (i, n)) = kept z i (omega (arith, q .few, few-z)) (λ marks m fr. frame-trans c e marks (y .tied .tied) (parts c f) (parts c f′)
                     (filling c f)
                     (filling c f′) t parts-in parts′ (record {
-                      worth = loses-worth (l .top) (l .q) (worth marks) (l .num) (l .den) (g .q≥1) (g .den≥1) (parts c f) (parts c f′) (filling c f)
+                      worth = loses-worth (l .top) (l .q) (worth marks) (l .num) (l .den) (g .priced .q≥1) (g .den≥1) (parts c f) (parts c f′) (filling c f)
                           (filling c f′)
                           (h .just marks m) (more-new marks m);
                       sooner = λ k. no-later c f f′ (place-sized s c y (h .place) (h .inside)) (place-sized s c y P inside) (b .point) (o .other) (h .shows)
@@ -312,7 +312,7 @@ module _ (s : Setting) (c : Columns) (y : Tying s c) (l : Optimum) (g : IsLosing
                   just = just-new;
                   leads = λ marks m. next (λ u. Frame c e marks u → LeadsFrame c e marks (parts c f′) (filling c f′) u)
                       (λ u j fr. frame-trans c e marks (y .tied .tied) (parts c f′) (parts c f) (filling c f′) (filling c f) u parts′ parts-in (record {
-                        worth = loses-worth (l .top) (l .q) (worth marks) (l .num) (l .den) (g .q≥1) (g .den≥1) (parts c f′) (parts c f) (filling c f′)
+                        worth = loses-worth (l .top) (l .q) (worth marks) (l .num) (l .den) (g .priced .q≥1) (g .den≥1) (parts c f′) (parts c f) (filling c f′)
                             (filling c f)
                             (just-new marks m) (more-old marks m);
                         sooner = λ k. no-later c f′ f (place-sized s c y P inside) (place-sized s c y (h .place) (h .inside)) (o .other) (b .point)

@@ -223,12 +223,11 @@ fits-made top q v q-in t pv f = go (top -ℤ pos q *ℤ v .whole) refl
 
 -- ---- the least loss
 
-pub losing-made : (s : Setting) (c : Columns) (y : Tying s c) (v : Mixed) → IsWorth s c v → (l : Optimum) → l .p ≤ 10000 → l .q ≤ 1000 → 1 ≤ l .q
-    → l .top ≡ topOf (l .p) (l .q) c (s .ends) → Within 100000000000000000 (l .top) → LossOf v l → l .num < 10000000 * l .den → IsLosing s c l
-losing-made s c y v b l p-in q-in q≥1 top-is top-in lv small = record {
-  p-in = p-in;
-  q-in = q-in;
-  q≥1 = q≥1;
+pub losing-made : (s : Setting) (c : Columns) (y : Tying s c) (v : Mixed) → IsWorth s c v → (l : Optimum)
+    → Priced (s .cols) (s .ends) (record { p = l .p; q = l .q }) → l .top ≡ topOf (l .p) (l .q) c (s .ends) → Within 100000000000000000 (l .top)
+    → LossOf v l → l .num < 10000000 * l .den → IsLosing s c l
+losing-made s c y v b l priced top-is top-in lv small = record {
+  priced = priced;
   top-is = top-is;
   top-in = top-in;
   den≥1 = omega (arith, lv .den-is, b .proper .low);

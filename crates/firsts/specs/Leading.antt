@@ -12,10 +12,15 @@
 --   Sooner s c x xs r   r is the first of x and of the filling at the place of xs
 --   Led s c l t b       b is an optimal point that leads those of the frames before t
 --   FirstBest s r       r is the optimal point that comes first
+--   TryWrites c e w l t n m       n cells are written before frame t is looked at, and m after it: as many, where it cannot lose as much as the optimum
+--   ConsiderWrites c e w l t n m  the same, or as many, where the frame cannot be needed
+--   LeadWrites c e w l t n        n cells are written for the frames before t
+--   PointWrites s P n             n cells are written for all frames of the box, by what the optimal place P loses
 use mathlib.Core.Path.{_≡_}
+use mathlib.Core.Bool.{Bool}
 use mathlib.Core.List.{List}
 use mathlib.Core.Logic.{_⊎_}
-use Prim.Native.Nat.{ℕ, _*_, _≤_, _<_}
+use Prim.Native.Nat.{ℕ, _+_, _*_, _/_, _%_, _≤_, _<_}
 use lib.IntN.{ℤ, pos, _-ℤ_, _*ℤ_}
 use lib.Signed.{_≤ℤ_, _<ℤ_}
 use Rattle.arith.specs.Mixed.{Proper}
@@ -31,6 +36,10 @@ use Rattle.greedy.specs.Amounts.{Amounts}
 use Rattle.greedy.specs.Fill.{at, fill, bound}
 use Rattle.greedy.proofs.Relaxed.{boxOf}
 use Rattle.fillings.specs.Runs.{runCells}
+use Rattle.ceiling.specs.declared.Seen.{Seen}
+use Rattle.ceiling.specs.Bound.{Priced}
+use Rattle.ceiling.specs.Frames.{scaleOf, Usable, Levelled}
+use Rattle.ceiling.specs.Least.{FrameFirst}
 use Rattle.ceiling.specs.Loss.{topOf, valueOf}
 use Rattle.ceiling.specs.Sizes.{Spanned}
 use Rattle.foremost.specs.Order.{TiedOf}
@@ -86,9 +95,7 @@ pub record Fair (top : ℤ) (q : ℕ) (v : Mixed) : Type 0 where
   pub below : (top *ℤ pos (v .parts) -ℤ pos q *ℤ over v) <ℤ pos (10000000 * v .parts)
 
 pub record IsLosing (s : Setting) (c : Columns) (l : Optimum) : Type 0 where
-  pub p-in : l .p ≤ 10000
-  pub q-in : l .q ≤ 1000
-  pub q≥1 : 1 ≤ l .q
+  pub priced : Priced (s .cols) (s .ends) (record { p = l .p; q = l .q })
   pub top-is : l .top ≡ topOf (l .p) (l .q) c (s .ends)
   pub top-in : Within 100000000000000000 (l .top)
   pub den≥1 : 1 ≤ l .den
@@ -134,3 +141,29 @@ pub record FirstBest (s : Setting) (r : Lead) : Type 0 where
   pub shows : Shows s cols place (r .point)
   pub first : (marks : ℕ → Mark) → Marked s marks → Foremostᴰ (boxOf cols (s .ends) marks) (parts cols (endsAt s place)) (filling cols (endsAt s place))
   pub few : r .written ≤ 272 * runCells
+
+-- ---- what is written
+
+pub data TryWrites (c : Columns) (e : Ends) (w : List Bool) (l : Optimum) (t n : ℕ) : ℕ → Type 0 where
+  apart : 0 < (scaleOf c t * l .num) % l .den → TryWrites c e w l t n n
+  asked : (x : Seen) → (scaleOf c t * l .num) % l .den ≡ 0 → FrameFirst (l .p) (l .q) c e w t ((scaleOf c t * l .num) / l .den) x →
+      TryWrites c e w l t n (n + x .written)
+
+abbrev pub ConsiderWrites : Columns → Ends → List Bool → Optimum → ℕ → ℕ → ℕ → Type 0
+ConsiderWrites c e w l t n m = (Usable c e w t × TryWrites c e w l t n m) ⊎ ((Usable c e w t → ⊥) × (m ≡ n))
+
+pub data LeadWrites (c : Columns) (e : Ends) (w : List Bool) (l : Optimum) : ℕ → ℕ → Type 0 where
+  begun : LeadWrites c e w l 0 0
+  onward : (t n m : ℕ) → LeadWrites c e w l t n → ConsiderWrites c e w l t n m → LeadWrites c e w l (t + 1) m
+
+pub record PointWrites (s : Setting) (P : ℕ → ℤ) (n : ℕ) : Type 0 where
+  pub cols : Columns
+  pub tied : TiedOf (s .cols) cols
+  pub loss : Optimum
+  pub losing : IsLosing s cols loss
+  pub loss-is : LossOf (bound cols (fill cols (endsAt s P))) loss
+  pub whole : List Bool
+  pub levelled : Levelled (s .level) (s .levels) whole
+  pub sofar : ℕ
+  pub frames : LeadWrites cols (s .ends) whole loss (cols .live) sofar
+  pub last : TryWrites cols (s .ends) whole loss (cols .live) sofar n

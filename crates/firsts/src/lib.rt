@@ -32,6 +32,7 @@ ghost use Rattle.setting.specs.Box.{Inside};
 ghost use Rattle.setting.specs.Ready.{ReadySetting};
 ghost use Rattle.firsts.specs.Order.{Comparable, Compares, SmallFraction};
 ghost use Rattle.firsts.specs.Leading.{Tying, OptimalAt, Fills, IsWorth, Fair, IsLosing, LossOf, Led, Sooner, InsideBy, FirstBest};
+ghost use Rattle.firsts.specs.Leading.{TryWrites, ConsiderWrites, PointWrites};
 
 // The filling at a place: its point, and what it is worth.
 pub struct Filled {
@@ -170,6 +171,7 @@ fn tried(
     requires { ⌜ Tying s c × (IsLosing s c l × (Levelled (s .level) (s .levels) whole × Led s c l t b)) ⌝ }
     requires { ⌜ (t ≤ c .live) × ((t < c .live → Usable c (s .ends) whole t) × (65535 ≤ length (now cells))) ⌝ }
     ensures { λ r. ⌜ Led s c l (t + 1) r ⌝ }
+    ensures { λ r. ⌜ TryWrites c (s .ends) whole l t (b .written) (r .written) ⌝ }
 {
     let scale = scale_of(c, t);
     let m = scale * l.num;
@@ -208,6 +210,7 @@ fn considered(
     requires { ⌜ Tying s c × (IsLosing s c l × (Levelled (s .level) (s .levels) whole × Led s c l t b)) ⌝ }
     requires { ⌜ (t < c .live) × (65535 ≤ length (now cells)) ⌝ }
     ensures { λ r. ⌜ Led s c l (t + 1) r ⌝ }
+    ensures { λ r. ⌜ ConsiderWrites c (s .ends) whole l t (b .written) (r .written) ⌝ }
 {
     let ends = s.ends;
     if is_usable(c, ends, whole, t) {
@@ -230,6 +233,7 @@ pub fn first_point(s: Setting, x: [i64; 16], cells: &mut [u64]) -> Lead
     requires { ⌜ ReadySetting s × (Spanned (s .cols) (s .ends) × OptimalAt s (at x)) ⌝ }
     requires { ⌜ 65535 ≤ length (now cells) ⌝ }
     ensures { λ r. ⌜ FirstBest s r ⌝ }
+    ensures { λ r. ⌜ PointWrites s (at x) (r .written) ⌝ }
 {
     let c = tied(s.cols);
     let z = filling_at(s, c, x);

@@ -1,6 +1,7 @@
 -- The first best point of a problem, as an answer shows it.
 --   HasLower p b        b says whether every item has a lower bound
 --   Showable p s P a    a is an optimal answer of p; s is p prepared, and an optimal point of its box has the integer amounts P
+--   ShownWrites p n     n cells are written for the first point of p, by its own setting and an optimal place of that; none where a lower bound lacks
 --   FirstShown p r      r is an optimal answer of p, by the point that comes first where every item has a lower bound
 use mathlib.Core.Path.{_≡_}
 use mathlib.Core.Bool.{Bool, true, false}
@@ -8,7 +9,7 @@ use Prim.Native.Nat.{ℕ, _*_, _≤_}
 use lib.IntN.{ℤ}
 use Rattle.ceiling.specs.Sizes.{Spanned}
 use Rattle.fillings.specs.Runs.{runCells}
-use Rattle.firsts.specs.Leading.{OptimalAt}
+use Rattle.firsts.specs.Leading.{OptimalAt, PointWrites}
 use Rattle.knapsack.specs.Meaning.{instanceOf, ShownOptimal, AllLower, ShownFirst}
 use Rattle.knapsack.specs.Ranges.{InRange}
 use Rattle.knapsack.specs.declared.Answer.{Answer}
@@ -33,8 +34,13 @@ pub record Showable (p : Problem) (s : Setting) (P : ℕ → ℤ) (a : Answer) :
   pub kind-is : a .kind ≡ kind.Optimal
   pub shown : ShownOptimal (instanceOf p) a
 
+pub data ShownWrites (p : Problem) : ℕ → Type 0 where
+  kept : ¬ AllLower (instanceOf p) → ShownWrites p 0
+  placed : (s : Setting) (P : ℕ → ℤ) (n : ℕ) → AllLower (instanceOf p) → PreparedAt (spanOf p) p s → OptimalAt s P → PointWrites s P n → ShownWrites p n
+
 pub record FirstShown (p : Problem) (r : Placed) : Type 0 where
   pub kind-is : r .answer .kind ≡ kind.Optimal
   pub shown : ShownOptimal (instanceOf p) (r .answer)
   pub first : ShownFirst (instanceOf p) (r .answer)
   pub few : r .cells ≤ 272 * runCells
+  pub writes : ShownWrites p (r .cells)

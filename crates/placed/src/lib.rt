@@ -10,7 +10,7 @@ use setting::Setting;
 ghost use mathlib.Core.Path.{_≡_};
 ghost use Prim.Native.Nat.{_≤_};
 ghost use Rattle.ceiling.specs.Sizes.{Spanned};
-ghost use Rattle.firsts.specs.Leading.{OptimalAt, FirstBest};
+ghost use Rattle.firsts.specs.Leading.{OptimalAt, FirstBest, PointWrites};
 ghost use Rattle.greedy.specs.Fill.{at};
 ghost use Rattle.setting.specs.Ready.{ReadySetting};
 ghost use Rattle.placed.specs.Placed.{HasLower, Showable, FirstShown};
@@ -37,6 +37,7 @@ pub fn all_lower(p: Problem) -> bool
 fn first_lead(s: Setting, x: [i64; 16]) -> Lead
     requires { ⌜ ReadySetting s × (Spanned (s .cols) (s .ends) × OptimalAt s (at x)) ⌝ }
     ensures { λ r. ⌜ FirstBest s r ⌝ }
+    ensures { λ r. ⌜ PointWrites s (at x) (r .written) ⌝ }
 {
     let mut cells = [0u64; 65535];
     first_point(s, x, &mut cells)

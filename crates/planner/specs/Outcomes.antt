@@ -7,16 +7,23 @@
 --   Best s x a        a shows the relaxation of the place x and its value in lowest terms, and no steps
 --   standing s f x    the incumbent that the place x is
 --   mostWork          the most cells that the scales write for a problem: those of 305 runs
+--   PlaceWrites s end k
+--                     k cells are written for the best place of a box, where its search has come to `end`: none if that is done
 --   BestPlace s p n r r is the best place of the box, with the steps of a search that may take n
---   Walked most p n   n steps were taken by the search of p that may take `most`
---   CountsAs most k p n, Counts most p a n
+--   Walked most p named n
+--                     n steps were taken by the search of p that may take `most` and discards by no pair with an item that is named
+--   CountsAs most k p named n, Counts most p named a n
 --                     n steps were taken for an answer of that kind, for the answer a
+--   Scaled most p named k
+--                     k cells are written for an optimum: those of its place, after the search, and those of the first point
+--   CellsAs most k p named n, Cells most p named a n
+--                     n cells are written for an answer of that kind, for the answer a
 --   SolvesWithin most p r
---                     r is the answer of p, with the steps of its search, at most so many;  Solves p r: at most 1,000
+--                     r is the answer of p, after at most so many steps;  Solves p r: at most 1,000
 use mathlib.Core.Path.{_≡_}
-use mathlib.Core.Bool.{Bool, true}
+use mathlib.Core.Bool.{Bool, true, false}
 use mathlib.Core.List.{List}
-use Prim.Native.Nat.{ℕ, _≤_}
+use Prim.Native.Nat.{ℕ, _+_, _≤_}
 use lib.IntN.{ℤ, pos, _*ℤ_}
 use lib.ListN.{replicate}
 use Rattle.arith.specs.Within.{Within}
@@ -33,6 +40,7 @@ use Rattle.knapsack.specs.declared.Answer.{Answer}
 use Rattle.knapsack.specs.declared.Kind.{Kind}
 use Rattle.knapsack.specs.declared.Kind.the-variants as kind
 use Rattle.knapsack.specs.declared.Problem.{Problem}
+use Rattle.placed.specs.Placed.{ShownWrites}
 use Rattle.prepare.specs.Pairs.{PairsOf}
 use Rattle.prepare.specs.Narrowing.{spanOf}
 use Rattle.prepare.specs.Prepared.{PreparedAt}
@@ -43,7 +51,7 @@ use Rattle.search.specs.declared.State.{State}
 use Rattle.setting.specs.Box.{fixedBy}
 use Rattle.search.specs.Searched.{Searched}
 use Rattle.search.specs.Steps.{Stops}
-use Rattle.settling.specs.Settling.{mostCells}
+use Rattle.settling.specs.Settling.{mostCells, SettleWrites}
 use Rattle.planner.specs.declared.Found.{Found}
 use Rattle.planner.specs.declared.Solved.{Solved}
 
@@ -88,6 +96,12 @@ standing s f x = record { found = f; place = x; value = valueAt s x }
 abbrev pub mostWork : ℕ
 mostWork = 28960188895
 
+-- the scales go on from the search's incumbent
+pub data PlaceWrites (s : Setting) (end : State) : ℕ → Type 0 where
+  ended : end .done ≡ true → PlaceWrites s end 0
+  stopped : (k : ℕ) → end .done ≡ false → SettleWrites (s .cols) (s .ends) (s .level) (s .levels) (end .best .found) (end .best .value) k →
+      PlaceWrites s end k
+
 -- the place is best in the box, or there is none; the steps are those of a search that may take n, and the cells few
 pub record BestPlace (s : Setting) (p : Pairs) (n : ℕ) (r : Found) : Type 0 where
   pub searched : Searched s (standing s (r .found) (r .place))
@@ -96,33 +110,51 @@ pub record BestPlace (s : Setting) (p : Pairs) (n : ℕ) (r : Found) : Type 0 wh
   pub stops : Stops s p n end
   pub steps-are : r .steps ≡ end .steps
   pub few-cells : r .cells ≤ mostCells
+  pub writes : PlaceWrites s end (r .cells)
 
 -- ---- the answer of a problem, and the steps of its search
 
 -- n steps were taken by a search of p's own setting, narrowed to its items' spans, that may take `most`
-pub record Walked (most : ℕ) (p : Problem) (n : ℕ) : Type 0 where
+pub record Walked (most : ℕ) (p : Problem) (named : List Bool) (n : ℕ) : Type 0 where
   pub setting : Setting
   pub prepared : PreparedAt (spanOf p) p setting
   pub pairs : Pairs
-  pub pairs-are : PairsOf p pairs
+  pub pairs-are : PairsOf p named pairs
   pub end : State
   pub stops : Stops setting pairs most end
   pub steps-are : n ≡ end .steps
 
 -- an optimum is searched for; no other answer is
-abbrev pub CountsAs : ℕ → Kind → Problem → ℕ → Type 0
-CountsAs most kind.Optimal p n = Walked most p n
-CountsAs most kind.Infeasible p n = n ≡ 0
-CountsAs most kind.Unbounded p n = n ≡ 0
-CountsAs most (kind.Refused f) p n = ⊥
+abbrev pub CountsAs : ℕ → Kind → Problem → List Bool → ℕ → Type 0
+CountsAs most kind.Optimal p named n = Walked most p named n
+CountsAs most kind.Infeasible p named n = n ≡ 0
+CountsAs most kind.Unbounded p named n = n ≡ 0
+CountsAs most (kind.Refused f) p named n = ⊥
 
-abbrev pub Counts : ℕ → Problem → Answer → ℕ → Type 0
-Counts most p a n = CountsAs most (a .kind) p n
+abbrev pub Counts : ℕ → Problem → List Bool → Answer → ℕ → Type 0
+Counts most p named a n = CountsAs most (a .kind) p named n
+
+pub record Scaled (most : ℕ) (p : Problem) (named : List Bool) (k : ℕ) : Type 0 where
+  pub steps : ℕ
+  pub walked : Walked most p named steps
+  pub placing : ℕ
+  pub place-writes : PlaceWrites (walked .setting) (walked .end) placing
+  pub showing : ℕ
+  pub show-writes : ShownWrites p showing
+  pub cells-are : k ≡ placing + showing
+
+abbrev pub CellsAs : ℕ → Kind → Problem → List Bool → ℕ → Type 0
+CellsAs most kind.Optimal p named n = Scaled most p named n
+CellsAs most kind.Infeasible p named n = n ≡ 0
+CellsAs most kind.Unbounded p named n = n ≡ 0
+CellsAs most (kind.Refused f) p named n = ⊥
+
+abbrev pub Cells : ℕ → Problem → List Bool → Answer → ℕ → Type 0
+Cells most p named a n = CellsAs most (a .kind) p named n
 
 pub record SolvesWithin (most : ℕ) (p : Problem) (r : Solved) : Type 0 where
   pub answers : Answers (instanceOf p) (r .answer)
   pub first : ShownFirst (instanceOf p) (r .answer)
-  pub counts : Counts most p (r .answer) (r .steps)
   pub few-steps : r .steps ≤ most
   pub few-cells : r .cells ≤ mostWork
 

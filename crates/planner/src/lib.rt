@@ -1,4 +1,5 @@
-// The solver of plain problems. Paper 01, "The problem": optimal, infeasible and unbounded are said exactly when they are true.
+// The solver of plain problems. Paper 01, "The problem": optimal, infeasible and unbounded are said exactly when they are true. A problem with needs is
+// solved by cases, each a plain problem; `named` tells which items its needs name: no pair with one of them discards a point (paper 02, request 7).
 use arith::Fraction;
 use arith::Mixed;
 use arith::reduce;
@@ -35,8 +36,8 @@ ghost use Rattle.ceiling.specs.Sizes.{Spanned};
 ghost use Rattle.search.specs.Steps.{GoodBest};
 ghost use Rattle.setting.specs.Ready.{ReadySetting, Ready};
 ghost use Rattle.setting.specs.Box.{Inside};
-ghost use Rattle.settling.specs.Settling.{Settles};
-ghost use Rattle.planner.specs.Outcomes.{Joinable, Cornered, Best, BestPlace, SolvesWithin, Solves};
+ghost use Rattle.settling.specs.Settling.{Settles, SettleWrites};
+ghost use Rattle.planner.specs.Outcomes.{Joinable, Cornered, Best, BestPlace, Counts, Cells, SolvesWithin, Solves};
 
 // How many steps a search may take before the scales answer. Nearly all searches end before; one that has not may take for ever.
 pub const STEPS: u64 = 1000;
@@ -115,6 +116,7 @@ pub struct Found {
 fn settled(s: Setting, b: Incumbent) -> Settled
     requires { ⌜ ReadySetting s × (Spanned (s .cols) (s .ends) × GoodBest s b) ⌝ }
     ensures { λ r. ⌜ Settles (s .cols) (s .ends) (s .level) (s .levels) r ⌝ }
+    ensures { λ r. ⌜ SettleWrites (s .cols) (s .ends) (s .level) (s .levels) (b .found) (b .value) (r .written) ⌝ }
 {
     let cols = s.cols;
     let ends = s.ends;
@@ -170,9 +172,11 @@ fn with_work(a: Answer, steps: u64, cells: u64) -> Solved
 
 // The answer of a problem in range as it stands, by a search of at most so many steps. No search is needed where its lightest point is too heavy, or
 // where it has a ray; else there is a best place, for the lightest point is feasible: see proofs/Outcomes (must-find).
-fn decide(p: Problem, most: u64) -> Solved
+fn decide(p: Problem, named: [bool; 16], most: u64) -> Solved
     requires { ⌜ InRange p ⌝ }
     ensures { λ r. ⌜ SolvesWithin most p r ⌝ }
+    ensures { λ r. ⌜ Counts most p named (r .answer) (r .steps) ⌝ }
+    ensures { λ r. ⌜ Cells most p named (r .answer) (r .cells) ⌝ }
 {
     let s = prepare(p);
     let f = begin(s.cols, s.ends);
@@ -187,7 +191,7 @@ fn decide(p: Problem, most: u64) -> Solved
         return with_work(a, 0, 0);
     }
     let near = narrowed(s, reach_of(p));
-    let pairs = pairs_of(p);
+    let pairs = pairs_of(p, named);
     let b = best_place(near, pairs, most);
     let place = b.place;
     let a = optimal(near, place);
@@ -199,20 +203,24 @@ fn decide(p: Problem, most: u64) -> Solved
 
 // The answer of a problem whose figures are in range, by a search of at most so many steps. Where bounds cross it is infeasible, even if there is a
 // ray: see model's proofs/Crossings (crossed-infeasible).
-pub fn solve_within(p: Problem, most: u64) -> Solved
+pub fn solve_within(p: Problem, named: [bool; 16], most: u64) -> Solved
     requires { ⌜ FiguresInRange p ⌝ }
     ensures { λ r. ⌜ SolvesWithin most p r ⌝ }
+    ensures { λ r. ⌜ Counts most p named (r .answer) (r .steps) ⌝ }
+    ensures { λ r. ⌜ Cells most p named (r .answer) (r .cells) ⌝ }
 {
     if some_crosses(p) {
         let none = no_point(Kind::Infeasible);
         return with_work(none, 0, 0);
     }
-    decide(p, most)
+    decide(p, named, most)
 }
 
-pub fn solve(p: Problem) -> Solved
+pub fn solve(p: Problem, named: [bool; 16]) -> Solved
     requires { ⌜ FiguresInRange p ⌝ }
     ensures { λ r. ⌜ Solves p r ⌝ }
+    ensures { λ r. ⌜ Counts 1000 p named (r .answer) (r .steps) ⌝ }
+    ensures { λ r. ⌜ Cells 1000 p named (r .answer) (r .cells) ⌝ }
 {
-    solve_within(p, STEPS)
+    solve_within(p, named, STEPS)
 }

@@ -2,6 +2,7 @@
 -- spread-first, spread-step: the turns of the loop that spreads them.
 -- all-short: no step is long. ready: what is spread from the table of a problem's least pairs is true of its columns.
 use mathlib.Core.Path.{_≡_, refl, sym, _∙_, subst}
+use mathlib.Core.Bool.{Bool}
 use mathlib.Core.List.{List}
 use mathlib.Core.Logic.{_≢_}
 use Prim.Native.Nat.{ℕ, zero, suc, _+_, _*_, _/_, _%_, _≤_, _<_}
@@ -76,38 +77,38 @@ spread-step t n r l s = record {
 
 -- ---- the least pairs of a problem
 
-abbrev Tabled : Problem → List Pair → Type 0
-Tabled p t = (i j : ℕ) → i < 16 → j < 16 → getD t (16 * i + j) Missing ≡ tabled p i j
+abbrev Tabled : Problem → List Bool → List Pair → Type 0
+Tabled p named t = (i j : ℕ) → i < 16 → j < 16 → getD t (16 * i + j) Missing ≡ tabled p named i j
 
-module _ (p : Problem) (range : FiguresInRange p) where
-  steps-small : (i j : ℕ) (q : Pair) → tabled p i j ≡ q → Short q
+module _ (p : Problem) (range : FiguresInRange p) (named : List Bool) where
+  steps-small : (i j : ℕ) (q : Pair) → tabled p named i j ≡ q → Short q
   steps-small i j Missing e = (omega arith, omega arith)
-  steps-small i j (Steps a b) e = let h = tabled-steps a b p range i j e in (within-abs a (h .first-small), within-abs b (h .second-small))
+  steps-small i j (Steps a b) e = let h = tabled-steps a b p range named i j e in (within-abs a (h .first-small), within-abs b (h .second-small))
 
-  entry : (t : List Pair) → Tabled p t → (k : ℕ) → k < 256 → getD t k Missing ≡ tabled p (k / 16) (k % 16)
+  entry : (t : List Pair) → Tabled p named t → (k : ℕ) → k < 256 → getD t k Missing ≡ tabled p named (k / 16) (k % 16)
   entry t f k l = let e : 16 * (k / 16) + k % 16 ≡ k = omega arith in rw e at (f (k / 16) (k % 16) (omega arith) (omega arith))
 
-  pub all-short : (t : List Pair) → Tabled p t → (k : ℕ) → k < 256 → Short (getD t k Missing)
+  pub all-short : (t : List Pair) → Tabled p named t → (k : ℕ) → k < 256 → Short (getD t k Missing)
   all-short t f k l = steps-small (k / 16) (k % 16) (getD t k Missing) (sym (entry t f k l))
 
   module _ (r : Pairs) where
     small-at : (k : ℕ) (q : Pair) → Holds r k q → Short q → (natAbs (at (r .first) k) ≤ 1000) × (natAbs (at (r .second) k) ≤ 1000)
     small-at k q h s = rw (h .first-step, h .second-step) s
 
-    true-pair : (c : Columns) → Agrees p c → (i j : ℕ) (q : Pair) → tabled p i j ≡ q → Holds r (pairIndex i j) q → at (r .first) (pairIndex i j) ≢ pos 0
+    true-pair : (c : Columns) → Agrees p c → (i j : ℕ) (q : Pair) → tabled p named i j ≡ q → Holds r (pairIndex i j) q → at (r .first) (pairIndex i j) ≢ pos 0
         → TruePair c r i j
     true-pair c g i j Missing e h ne = absurd (ne (h .first-step))
     true-pair c g i j (Steps a b) e h ne =
-        let s = tabled-steps a b p range i j e in
+        let s = tabled-steps a b p range named i j e in
         record {
           heavy = rw (h .first-step, h .second-step, g .weights-agree i (s .first-place), g .weights-agree j (s .second-place)) (s .pair .heavy);
           loss = rw (h .first-step, h .second-step, g .prices-agree i (s .first-place), g .prices-agree j (s .second-place)) (s .pair .loss);
         }
 
-    pub held : (t : List Pair) → Tabled p t → Spread t 256 r → (k : ℕ) → k < 256 → Holds r k (tabled p (k / 16) (k % 16))
+    pub held : (t : List Pair) → Tabled p named t → Spread t 256 r → (k : ℕ) → k < 256 → Holds r k (tabled p named (k / 16) (k % 16))
     held t f s k l = subst (Holds r k) (entry t f k l) (s .held k l)
 
-    pub ready : (t : List Pair) → Tabled p t → Spread t 256 r → (c : Columns) → Agrees p c → ReadyPairs c r
+    pub ready : (t : List Pair) → Tabled p named t → Spread t 256 r → (c : Columns) → Agrees p c → ReadyPairs c r
     ready t f s c g = record {
       steps-in = λ k. steps-in k (decLt k 256);
       pairs = λ i j hi hj. true-pair c g i j (getD t (16 * i + j) Missing) (sym (f i j hi hj)) (s .held (16 * i + j) (omega arith));

@@ -6,8 +6,9 @@
 --   Holds r k q                 the tables hold the steps of q at k
 --   Spread t n r                the tables hold the first n entries of t, and zeros from there on
 --   Agrees p c                  the columns hold the weights and prices of the problem's items
---   PairsOf p r                 the tables hold the least pairs of p, and are true of all columns of p
+--   PairsOf p named r           the tables hold the least pairs of p but those with an item that a need names, and are true of all columns of p
 use mathlib.Core.Path.{_≡_}
+use mathlib.Core.Bool.{Bool}
 use mathlib.Core.List.{List}
 use Prim.Native.Nat.{ℕ, _/_, _%_, _≤_, _<_}
 use lib.IntN.{ℤ, pos, natAbs}
@@ -55,6 +56,6 @@ pub record Agrees (p : Problem) (c : Columns) : Type 0 where
   pub weights-agree : (k : ℕ) → k < p .count → weightOf c k ≡ itemAt p k .weight
   pub prices-agree : (k : ℕ) → k < p .count → priceOf c k ≡ itemAt p k .price
 
-pub record PairsOf (p : Problem) (r : Pairs) : Type 0 where
-  pub held : (k : ℕ) → k < 256 → Holds r k (tabled p (k / 16) (k % 16))
+pub record PairsOf (p : Problem) (named : List Bool) (r : Pairs) : Type 0 where
+  pub held : (k : ℕ) → k < 256 → Holds r k (tabled p named (k / 16) (k % 16))
   pub ready : (c : Columns) → Agrees p c → ReadyPairs c r

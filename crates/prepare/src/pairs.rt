@@ -1,4 +1,4 @@
-// The least pairs of a problem as a search reads them: a table for each of the two steps, zero where there is no pair.
+// The pairs of a problem that may discard points, as a search reads them: a table for each of the two steps, zero where there is no pair.
 // Paper 01, "Least pair": "All 16 by 16 replies may be tabled before a search."
 use domination::Pair;
 use domination::pair_table;
@@ -51,11 +51,11 @@ fn spread(t: [Pair; 256]) -> Pairs
     r
 }
 
-// The least pairs of a problem, true of every columns that hold its weights and prices.
-pub fn pairs_of(p: Problem) -> Pairs
+// The least pairs of a problem but those with an item that a need names, true of every columns that hold its weights and prices.
+pub fn pairs_of(p: Problem, named: [bool; 16]) -> Pairs
     requires { ⌜ InRange p ⌝ }
-    ensures { λ r. ⌜ PairsOf p r ⌝ }
+    ensures { λ r. ⌜ PairsOf p named r ⌝ }
 {
-    let t = pair_table(p);
+    let t = pair_table(p, named);
     spread(t)
 }

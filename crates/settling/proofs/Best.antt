@@ -1,6 +1,6 @@
 -- Why a place is best: a feasible point that nothing beats has its whole amounts, and its filling is worth no less.
 -- best-of: of such a point. kept-best: of an incumbent that nothing beats. found-best: of the first point of the frame that loses least.
--- most-cells (end theorem): the most cells of `Settles` are those of 33 runs.
+-- most-cells (end theorem): the most cells of `Settles` are those of 33 runs. settle-most: no box has more of them written.
 use mathlib.Core.Path.{_≡_, refl, sym, ap, _∙_, subst, subst₂}
 use mathlib.Core.Bool.{Bool, true, false}
 use mathlib.Core.List.{List}
@@ -32,7 +32,7 @@ use Rattle.ceiling.specs.Bound.{BestFrame, Bounded}
 use Rattle.ceiling.proofs.Framing.{scale-in, frame-feasible, loose-cut}
 use Rattle.ceiling.proofs.Limits.{levels-marked, levels-unmarked}
 use Rattle.fillings.specs.Runs.{runCells}
-use Rattle.settling.specs.Settling.{Boxes, Levels, Fixes, Between, Tried, BestAt, Best, mostCells}
+use Rattle.settling.specs.Settling.{Boxes, Levels, Fixes, Between, Tried, BestAt, Best, mostCells, SettleWrites, empty, kept, framed}
 
 -- ---- levels
 
@@ -281,3 +281,8 @@ module _ (c : Columns) (e : Ends) (level : List ℕ) (n : ℕ) (bx : Boxes c e l
 
 pub most-cells : mostCells ≡ 33 * runCells
 most-cells = refl
+
+pub settle-most : {c : Columns} {e : Ends} {level : List ℕ} {n : ℕ} {known : Bool} {v : Mixed} {k : ℕ} → SettleWrites c e level n known v k → k ≤ mostCells
+settle-most (empty h) = omega arith
+settle-most (kept w b r l h f) = omega (arith, h .few)
+settle-most (framed w b s r l h f g) = omega (arith, h .few, g .few)

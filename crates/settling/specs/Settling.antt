@@ -7,14 +7,15 @@
 --   BestAt c e marks f        the filling of the ends f is one, and worth its bound
 --   Best c e level n P        the filling of P is an optimal point of the box
 --   mostCells                 the most cells that are written for any box: those of 33 runs
+--   SettleWrites c e level n known v k   k cells are written for a box where the value v is known: those of its bound, and of the first point of a frame
 --   Settles c e level n r     the place of r is best, or nothing in the box is feasible; and few cells were written for it
 use mathlib.Core.Path.{_≡_}
-use mathlib.Core.Bool.{true, false}
+use mathlib.Core.Bool.{Bool, true, false}
 use mathlib.Core.List.{List}
 use mathlib.Core.Logic.{_≢_}
-use Prim.Native.Nat.{ℕ, _≤_, _<_}
+use Prim.Native.Nat.{ℕ, _+_, _≤_, _<_}
 use lib.IntN.{ℤ, pos}
-use lib.Signed.{_≤ℤ_}
+use lib.Signed.{_≤ℤ_, _<ℤ_}
 use Rattle.arith.specs.Mixed.{Proper}
 use Rattle.arith.specs.declared.Mixed.{Mixed}
 use Rattle.arith.proofs.Mixes.{over}
@@ -27,6 +28,11 @@ use Rattle.greedy.specs.Fill.{at, place, fill, bound, solution}
 use Rattle.greedy.specs.Ordered.{Ordered}
 use Rattle.greedy.specs.Sized.{Sized}
 use Rattle.greedy.proofs.Relaxed.{boxOf, InOrder}
+use Rattle.ceiling.specs.declared.Limit.{Limit}
+use Rattle.ceiling.specs.declared.Seen.{Seen}
+use Rattle.ceiling.specs.Bound.{Bounded}
+use Rattle.ceiling.specs.Frames.{Levelled}
+use Rattle.ceiling.specs.Least.{FrameFirst}
 use Rattle.ceiling.specs.Sizes.{Spanned}
 use Rattle.settling.specs.declared.Settled.{Settled}
 
@@ -67,9 +73,16 @@ pub record Best (c : Columns) (e : Ends) (level : List ℕ) (n : ℕ) (P : ℕ �
   pub between : Between e level n P
   pub best : (f : Ends) → Fixes e level n P f → (marks : ℕ → Mark) → Levels c level n marks → BestAt c e marks f
 
--- one run for each of 17 frames, and one for each of 16 groups of keys (proofs/Best, most-cells)
+-- one run for each of 17 frames, and one for each of 16 groups of keys (proofs/Best, most-cells, settle-most)
 abbrev pub mostCells : ℕ
 mostCells = 3133397487
+
+pub data SettleWrites (c : Columns) (e : Ends) (level : List ℕ) (n : ℕ) (known : Bool) (v : Mixed) : ℕ → Type 0 where
+  empty : fill c e .room <ℤ pos 0 → SettleWrites c e level n known v 0
+  kept : (w : List Bool) (b : Limit) → pos 0 ≤ℤ fill c e .room → Levelled level n w → Bounded c e w known v b → b .found ≡ false →
+      SettleWrites c e level n known v (b .written)
+  framed : (w : List Bool) (b : Limit) (s : Seen) → pos 0 ≤ℤ fill c e .room → Levelled level n w → Bounded c e w known v b → b .found ≡ true →
+      FrameFirst (b .p) (b .q) c e w (b .at) (b .lost .num) s → SettleWrites c e level n known v (b .written + s .written)
 
 pub record Settles (c : Columns) (e : Ends) (level : List ℕ) (n : ℕ) (r : Settled) : Type 0 where
   pub few : r .written ≤ mostCells

@@ -14,7 +14,7 @@ ghost use Prim.Native.Nat.{ℕ, _≤_, _<_};
 ghost use lib.ListN.{length};
 ghost use Rattle.greedy.specs.Fill.{at, place};
 ghost use Rattle.ceiling.specs.Least.{Placed};
-ghost use Rattle.settling.specs.Settling.{Boxes, Tried, Settles};
+ghost use Rattle.settling.specs.Settling.{Boxes, Tried, SettleWrites, Settles};
 
 // An optimal place by level, if anything in the box is feasible; and how many cells were written.
 pub struct Settled {
@@ -54,6 +54,7 @@ pub fn settle(
     requires { ⌜ Boxes cols ends level levels × (known ≡ true → Tried cols ends level levels (at x) value) ⌝ }
     requires { ⌜ 65535 ≤ length (now cells) ⌝ }
     ensures { λ r. ⌜ Settles cols ends level levels r ⌝ }
+    ensures { λ r. ⌜ SettleWrites cols ends level levels known value (r .written) ⌝ }
 {
     let f = fill_up(cols, ends);
     if f.room < 0 {

@@ -12,10 +12,10 @@ use Rattle.domination.proofs.pair_table.Statement.{statement}
 use Rattle.domination.proofs.pair_table.Tie as tie
 
 abbrev Inv-loop : tie.InvT-loop
-Inv-loop p t₀ k₀ t k = (k ≤ 256) × ((length t ≡ 256) × ((j : ℕ) → j < k → getD t j Missing ≡ tabled p (j / 16) (j % 16)))
+Inv-loop p named t₀ k₀ t k = (k ≤ 256) × ((length t ≡ 256) × ((j : ℕ) → j < k → getD t j Missing ≡ tabled p named (j / 16) (j % 16)))
 
 abbrev μ-loop : tie.MeasureT-loop
-μ-loop p t₀ k₀ t k = 256 - k
+μ-loop p named t₀ k₀ t k = 256 - k
 
 no-pairs-requires : tie.Need-no-pairs-requires Inv-loop μ-loop
 no-pairs-requires c κs = search needs

@@ -4,16 +4,16 @@ use Prim.Native.Nat.{_-_, _≤_}
 use native.Mathlib.Omega.{arith}
 use lib.ListN.{length}
 use borrow.Author.Needs.{needs}
-use Rattle.greedy.specs.Fill.{at}
+use Rattle.greedy.specs.Fill.{at, fill, bound}
 use Rattle.setting.specs.Box.{Long}
-use Rattle.firsts.specs.Leading.{Tying, IsWorth, LossOf, Led}
+use Rattle.firsts.specs.Leading.{Tying, IsWorth, endsAt, LossOf, Led, LeadWrites, begun, onward}
 use Rattle.firsts.proofs.Worth.{worth-made}
 use Rattle.firsts.proofs.Leading.{led-first, led-done}
 use Rattle.firsts.proofs.first_point.Statement.{statement}
 use Rattle.firsts.proofs.first_point.Tie as tie
 
 abbrev Inv-loop : tie.InvT-loop
-Inv-loop s cells₀ c l whole n b₀ t₀ cells b t = (t ≤ n) × ((length cells ≡ length cells₀) × Led s c l t b)
+Inv-loop s cells₀ c l whole n b₀ t₀ cells b t = (t ≤ n) × ((length cells ≡ length cells₀) × (Led s c l t b × LeadWrites c (s .ends) whole l t (b .written)))
 
 abbrev μ-loop : tie.MeasureT-loop
 μ-loop s cells₀ c l whole n b₀ t₀ cells b t = n - t
@@ -42,70 +42,93 @@ loss-of-requires c κs =
 
 wholes-requires : tie.Need-wholes-requires Inv-loop μ-loop
 wholes-requires c κs =
-    let s = c .before .before .before .before .before in
-    let r = s .pre .0 .0 in (r .few, λ d l. omega (arith, r .level-in d l, r .sized .columns .few))
+    let t = c .before .before .before in
+    let r = t .before .before .pre .0 .0 in (r .few, λ d l. omega (arith, r .level-in d l, r .sized .columns .few))
+
+-- the loss is that of the filling at the place
+loss-is : (o : tie.After-loss-of Inv-loop μ-loop) → let t = o .before .before in let a = t .before .before .args in
+    LossOf (bound (t .tied .result) (fill (t .tied .result) (endsAt (a .s) (at (a .x))))) (o .loss-of .result)
+loss-is o = subst (λ v. LossOf v (o .loss-of .result)) (o .before .filling-at .ensures .value-is) (o .loss-of .ensures .1)
+
+-- from the first lead, back to the whole items, the loss, the order of filling and the start
+abbrev wholed : tie.After-lead-of Inv-loop μ-loop → tie.After-wholes Inv-loop μ-loop
+wholed k = k .before .before
+
+abbrev lossed : tie.After-lead-of Inv-loop μ-loop → tie.After-loss-of Inv-loop μ-loop
+lossed k = k .before .before .before .before
+
+abbrev ordered : tie.After-lead-of Inv-loop μ-loop → tie.After-tied Inv-loop μ-loop
+ordered k = lossed k .before .before
+
+abbrev start : tie.After-lead-of Inv-loop μ-loop → tie.Start Inv-loop μ-loop
+start k = ordered k .before .before
 
 lead-of-requires : tie.Need-lead-of-requires Inv-loop μ-loop
 lead-of-requires c κs = tt
 
 loop-holds : tie.Need-loop-holds Inv-loop μ-loop
 loop-holds c =
-    let o = c .before .before .before .before in
+    let o = lossed c in
     let f = o .before in
-    let t = f .before in
-    let s = t .before .before in
+    let t = ordered c in
+    let s = start c in
     let a = s .args in (
       omega arith,
       (
         refl,
-        subst (λ r. Led (a .s) (t .tied .result) (o .loss-of .result) 0 r) (sym (c .lead-of .ensures))
-            (led-first (a .s) (t .tied .result) (tying t) (at (a .x)) (s .pre .0 .1 .1) (o .loss-of .result)
-            (subst (λ v. LossOf v (o .loss-of .result)) (f .filling-at .ensures .value-is) (o .loss-of .ensures .1))
-            (record { point = f .filling-at .result .point; written = 0 }) (f .filling-at .ensures .shows) refl),
+        rw (c .lead-of .ensures) (
+          led-first (a .s) (t .tied .result) (tying t) (at (a .x)) (s .pre .0 .1 .1) (o .loss-of .result) (loss-is o)
+              (record { point = f .filling-at .result .point; written = 0 }) (f .filling-at .ensures .shows) refl,
+          begun,
+        ),
       ),
     )
+
+-- a turn of the loop, from where it has considered its frame
+abbrev turn : tie.After-considered Inv-loop μ-loop → tie.In-loop Inv-loop μ-loop
+turn r = r .before .before
 
 considered-requires : tie.Need-considered-requires Inv-loop μ-loop
 considered-requires c κs =
     let l = c .before .before in
-    let w = l .before .before .before in
-    let o = w .before .before in
-    let t = o .before .before in
-    let s = t .before .before in (
-      (tying t, (o .loss-of .ensures .0, (w .wholes .ensures, l .loop .inv .1 .1))),
-      (c .before .loop-test .taken, omega (arith, l .loop .inv .1 .0, s .pre .1)),
+    let k = l .before in (
+      (tying (ordered k), (lossed k .loss-of .ensures .0, (wholed k .wholes .ensures, l .loop .inv .1 .1 .0))),
+      (c .before .loop-test .taken, omega (arith, l .loop .inv .1 .0, start k .pre .1)),
     )
 
 add-t : tie.Need-add-t Inv-loop μ-loop
 add-t c =
-    let l = c .before .before .before .before in
-    let w = l .before .before .before .before in
-    let t = w .before .before .before .before in
-    record { fits = omega (arith, l .loop-test .taken, t .tied .ensures .sized .live-few) }
+    let l = turn (c .before .before) in
+    record { fits = omega (arith, l .loop-test .taken, ordered (l .before .before) .tied .ensures .sized .live-few) }
 
 loop-less : tie.Need-loop-less Inv-loop μ-loop
-loop-less c = let l = c .before .before .before .before in omega (arith, l .loop-test .taken)
+loop-less c = omega (arith, turn (c .before .before) .loop-test .taken)
 
 loop-again : tie.Need-loop-again Inv-loop μ-loop
 loop-again c =
-    let l = c .before .before .before .before in (omega (arith, l .loop-test .taken), (search needs, c .before .before .considered .ensures))
+    let r = c .before .before .considered .ensures in
+    let l = turn (c .before .before) in
+    (omega (arith, l .loop-test .taken), (search needs, (r .0, onward _ _ _ (l .before .loop .inv .1 .1 .1) (r .1))))
+
+-- at the end of the loop
+all-frames : (e : tie.After-loop Inv-loop μ-loop) → e .before .loop .t ≡ ordered (e .before .before) .tied .result .live
+all-frames e = omega (arith, e .loop-test .left, e .before .loop .inv .0)
 
 tried-requires : tie.Need-tried-requires Inv-loop μ-loop
 tried-requires c κs =
     let l = c .before .before in
-    let w = l .before .before .before in
-    let o = w .before .before in
-    let t = o .before .before in
-    let s = t .before .before in
-    let e : l .loop .t ≡ t .tied .result .live = omega (arith, c .before .loop-test .left, l .loop .inv .0) in (
+    let k = l .before in
+    let o = lossed k in
+    let t = ordered k in
+    let s = start k in (
       (
         tying t,
         (
           o .loss-of .ensures .0,
           (
-            w .wholes .ensures,
-            subst (λ u. Led (s .args .s) (t .tied .result) (o .loss-of .result) u (l .loop .b)) e
-                (l .loop .inv .1 .1),
+            wholed k .wholes .ensures,
+            subst (λ u. Led (s .args .s) (t .tied .result) (o .loss-of .result) u (l .loop .b)) (all-frames (c .before))
+                (l .loop .inv .1 .1 .0),
           ),
         ),
       ),
@@ -118,9 +141,26 @@ same-length c = search needs
 returns : tie.Need-returns Inv-loop μ-loop
 returns c =
     let r = c .before .before in
-    let o = r .before .before .before .before .before .before .before .before in
-    let t = o .before .before in
-    led-done (t .before .before .args .s) (t .tied .result) (tying t) (o .loss-of .result) (r .tried .result) (r .tried .ensures)
+    let e = r .before .before in
+    let k = e .before .before in
+    let o = lossed k in
+    let t = ordered k in
+    let s = start k .args .s in (
+      led-done s (t .tied .result) (tying t) (o .loss-of .result) (r .tried .result) (r .tried .ensures .0),
+      record {
+        cols = t .tied .result;
+        tied = t .tied .ensures;
+        loss = o .loss-of .result;
+        losing = o .loss-of .ensures .0;
+        loss-is = loss-is o;
+        whole = wholed k .wholes .result;
+        levelled = wholed k .wholes .ensures;
+        sofar = e .before .loop .b .written;
+        frames = subst (λ u. LeadWrites (t .tied .result) (s .ends) (wholed k .wholes .result) (o .loss-of .result) u (e .before .loop .b .written))
+            (all-frames e) (e .before .loop .inv .1 .1 .1);
+        last = r .tried .ensures .1;
+      },
+    )
 
 pub first-point-spec : {M : Type 1} → statement M
 first-point-spec =

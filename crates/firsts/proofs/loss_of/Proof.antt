@@ -34,7 +34,7 @@ returns c =
     let s = t .before .before in
     let e = rw (within-back tt (t .top-of .ensures .1)) at (c .lost .ensures) in
     rw (within-back tt (t .top-of .ensures .1)) (
-      losing-made (s .args .s) (s .args .c) (s .pre .0) (s .args .v) (s .pre .1) _ (r .ensures .p-in) (r .ensures .q-in) (r .ensures .q≥1)
+      losing-made (s .args .s) (s .args .c) (s .pre .0) (s .args .v) (s .pre .1) _ (r .ensures)
           (t .top-of .ensures .0)
           (t .top-of .ensures .1) (record { den-is = refl; num-is = e .0 }) (e .1),
       record { den-is = refl; num-is = e .0 },

@@ -3,6 +3,7 @@ use mathlib.Core.Path.{refl}
 use native.Mathlib.Omega.{arith}
 use Rattle.greedy.specs.Fill.{at}
 use Rattle.knapsack.specs.declared.Answer.{Answer}
+use Rattle.placed.specs.Placed.{kept, placed}
 use Rattle.placed.proofs.Firstly.{first-optimal, first-foremost}
 use borrow.Author.Needs.{needs}
 use Rattle.placed.proofs.shown_first.Statement.{statement}
@@ -30,13 +31,14 @@ returns c =
     let a = s .args in
     let low = l .all-lower .ensures .all (t .if1 .taken) in
     let r = d .first-lead .result in
-    let b = d .first-lead .ensures in
+    let b = d .first-lead .ensures .0 in
     let z : Answer = record { kind = a .a .kind; point = r .point; steps = a .a .steps; value = a .a .value } in
     rw (c .placed-at .ensures, w .with-point .ensures) (record {
       kind-is = s .pre .kind-is;
       shown = first-optimal (a .p) (a .s) (at (a .x)) (a .a) (s .pre) low r b z refl refl refl;
       first = λ _ e. first-foremost (a .p) (a .s) (at (a .x)) (a .a) (s .pre) low r b z refl refl refl;
       few = b .few;
+      writes = placed (a .s) (at (a .x)) (r .written) low (s .pre .prepared) (s .pre .optimal-at) (d .first-lead .ensures .1);
     })
 
 placed-at-requires-2 : tie.Need-placed-at-requires-2
@@ -52,6 +54,7 @@ returns-2 c =
       shown = h .shown;
       first = λ low i. absurd (l .all-lower .ensures .some (e .if1 .left) low);
       few = omega arith;
+      writes = kept (l .all-lower .ensures .some (e .if1 .left));
     })
 
 pub shown-first-spec : {M : Type 1} → statement M

@@ -3,7 +3,7 @@ use mathlib.Core.Path.{refl}
 use native.Mathlib.Omega.{arith}
 use borrow.Author.Needs.{needs}
 use Rattle.setting.specs.Box.{Long}
-use Rattle.planner.specs.Outcomes.{standing}
+use Rattle.planner.specs.Outcomes.{standing, ended, stopped}
 use Rattle.planner.proofs.Scales.{standing-searched, settled-searched, optimal-at}
 use Rattle.planner.proofs.best_place.Statement.{statement}
 use Rattle.planner.proofs.best_place.Tie as tie
@@ -28,6 +28,7 @@ returns c =
       stops = e .stops;
       steps-are = refl;
       few-cells = omega arith;
+      writes = ended (t .if1 .taken);
     }
 
 settled-requires : tie.Need-settled-requires
@@ -38,14 +39,15 @@ returns-2 c =
     let t = c .before in
     let m = t .before .before .before in
     let s = m .before in
-    let g = settled-searched (s .args .s) (s .pre .0 .setting) (long s) (t .settled .result) (t .settled .ensures) in
+    let g = settled-searched (s .args .s) (s .pre .0 .setting) (long s) (t .settled .result) (t .settled .ensures .0) in
     record {
       searched = g;
       at-place = optimal-at (s .args .s) (s .pre .0 .setting) (long s) (standing (s .args .s) (t .settled .result .found) (t .settled .result .place)) g;
       end = m .run .result;
       stops = m .run .ensures .stops;
       steps-are = refl;
-      few-cells = t .settled .ensures .few;
+      few-cells = t .settled .ensures .0 .few;
+      writes = stopped (t .settled .result .written) (t .before .if1 .left) (t .settled .ensures .1);
     }
 
 pub best-place-spec : {M : Type 1} → statement M

@@ -1,6 +1,7 @@
 -- `planner::decide` meets its contract.
 use mathlib.Core.Path.{_≡_, refl, sym, subst}
 use mathlib.Core.Bool.{true}
+use Prim.Native.Nat.{_+_}
 use native.Mathlib.Omega.{arith}
 use borrow.Author.Needs.{needs}
 use Rattle.arith.proofs.Parts.{within-back}
@@ -10,7 +11,7 @@ use Rattle.knapsack.specs.declared.Kind.the-variants as kind
 use Rattle.prepare.specs.Narrowing.{spanOf, Narrowed}
 use Rattle.prepare.specs.Prepared.{PreparedAt}
 use Rattle.prepare.proofs.Nearer.{reach-small, narrowed-prepared, near-spanned}
-use Rattle.planner.specs.Outcomes.{standing, Walked}
+use Rattle.planner.specs.Outcomes.{standing, Walked, Scaled}
 use Rattle.planner.proofs.Outcomes.{infeasible-corner, corner-feasible-at, unbounded-corner, must-find, optimal-found, not-unbounded, not-infeasible}
 use Rattle.planner.proofs.Values.{begun-within}
 use Rattle.planner.proofs.decide.Statement.{statement}
@@ -37,13 +38,15 @@ returns c =
     let q = a .prepare .ensures in
     let s = a .prepare .result in
     let t = rw (b .begin .ensures, within-back tt (begun-within (s .cols) (s .ends) (q .ready .sized))) at (h .before .if1 .taken) in
-    rw (c .with-work .ensures, h .no-point .ensures) (record {
-      answers = infeasible-corner (a .before .args .p) (a .before .pre) s q (yes-lt t);
-      first = λ low e. absurd (not-infeasible kind.Infeasible refl e);
-      counts = refl;
-      few-steps = omega arith;
-      few-cells = omega arith;
-    })
+    rw (c .with-work .ensures, h .no-point .ensures) (
+      record {
+        answers = infeasible-corner (a .before .args .p) (a .before .pre) s q (yes-lt t);
+        first = λ low e. absurd (not-infeasible kind.Infeasible refl e);
+        few-steps = omega arith;
+        few-cells = omega arith;
+      },
+      (refl, refl),
+    )
 
 find-ray-requires : tie.Need-find-ray-requires
 find-ray-requires c κs = search needs
@@ -68,14 +71,23 @@ returns-2 c =
     let q = a .prepare .ensures in
     let s = a .prepare .result in
     let t = rw (b .begin .ensures, within-back tt (begun-within (s .cols) (s .ends) (q .ready .sized))) at (e .if1 .left) in
-    rw (c .with-work2 .ensures) (record {
-      answers = unbounded-corner (a .before .args .p) (a .before .pre) s q (r .find-ray .result) (u .unbounded .result) (no-lt t) (r .find-ray .ensures)
-          (t2 .if2 .taken) (u .unbounded .ensures);
-      first = λ low e. absurd (not-unbounded (u .unbounded .result .kind) (u .unbounded .ensures .kind-is) e);
-      counts = rw (u .unbounded .ensures .kind-is) refl;
-      few-steps = omega arith;
-      few-cells = omega arith;
-    })
+    rw (c .with-work2 .ensures) (
+      record {
+        answers = unbounded-corner (a .before .args .p) (a .before .pre) s q (r .find-ray .result) (u .unbounded .result) (no-lt t) (r .find-ray .ensures)
+            (t2 .if2 .taken) (u .unbounded .ensures);
+        first = λ low e. absurd (not-unbounded (u .unbounded .result .kind) (u .unbounded .ensures .kind-is) e);
+        few-steps = omega arith;
+        few-cells = omega arith;
+      },
+      rw (u .unbounded .ensures .kind-is) (refl, refl),
+    )
+
+-- from the best place, back to where there is no ray; from the first point, back to the best place
+abbrev rayless : tie.After-best-place → tie.Else2
+rayless n = n .before .before .before .before
+
+abbrev placed-at : tie.After-shown-first → tie.After-best-place
+placed-at f = f .before .before .before
 
 reach-of-requires : tie.Need-reach-of-requires
 reach-of-requires c κs = search needs
@@ -140,8 +152,7 @@ optimal-requires c κs =
 
 -- the answer of the best place is an optimal one
 shown : (o : tie.After-optimal) →
-    let s = o .before .before .before .before .before .before in
-    ShownOptimal (instanceOf (Prep (s) .before .args .p)) (o .optimal .result)
+    ShownOptimal (instanceOf (Prep (rayless (o .before .before)) .before .args .p)) (o .optimal .result)
 unfolding Prep
 shown o =
     let n = o .before .before in
@@ -174,14 +185,14 @@ shown-first-requires c κs =
 add-cells : tie.Need-add-cells
 add-cells c =
     let f = c .before .before .before in
-    record { fits = omega (arith, f .before .before .before .best-place .ensures .few-cells, f .shown-first .ensures .few) }
+    record { fits = omega (arith, placed-at f .best-place .ensures .few-cells, f .shown-first .ensures .few) }
 
 with-work-requires-3 : tie.Need-with-work-requires-3
 with-work-requires-3 c κs = search needs
 
 -- the search's own count
-walked : (n : tie.After-best-place) → let w = n .before .before in let s = Prep (w .before .before) .before in
-    Walked (s .args .most) (s .args .p) (n .best-place .result .steps)
+walked : (n : tie.After-best-place) → let s = Prep (rayless n) .before in
+    Walked (s .args .most) (s .args .p) (s .args .named) (n .best-place .result .steps)
 unfolding Prep
 walked n = record {
   setting = n .before .before .narrowed .result;
@@ -193,23 +204,39 @@ walked n = record {
   steps-are = n .best-place .ensures .steps-are;
 }
 
+-- and the scales'
+scaled : (f : tie.After-shown-first) → let n = placed-at f in let s = Prep (rayless n) .before in
+    Scaled (s .args .most) (s .args .p) (s .args .named) (n .best-place .result .cells + f .shown-first .result .cells)
+unfolding Prep walked
+scaled f = let b = placed-at f .best-place in record {
+  steps = b .result .steps;
+  walked = walked (placed-at f);
+  placing = b .result .cells;
+  place-writes = b .ensures .writes;
+  showing = f .shown-first .result .cells;
+  show-writes = f .shown-first .ensures .writes;
+  cells-are = refl;
+}
+
 returns-3 : tie.Need-returns-3
 unfolding Prep
 returns-3 c =
-    let f = c .before .before .before .before in
-    let o = f .before in
-    let n = o .before .before in
-    let s = Prep (n .before .before .before .before) .before in
+    let w = c .before .before .before in
+    let f = w .before in
+    let n = placed-at f in
+    let s = Prep (rayless n) .before in
     let b = n .best-place .ensures in
     let z = f .shown-first .result in
     let h = f .shown-first .ensures in
-    rw (c .with-work3 .ensures) (record {
-      answers = subst (AnswersAs (instanceOf (s .args .p)) (z .answer)) (sym (h .kind-is)) (h .shown);
-      first = h .first;
-      counts = rw (h .kind-is) (walked n);
-      few-steps = omega (arith, b .steps-are, b .stops .steps-are, b .stops .runs .few);
-      few-cells = omega (arith, b .few-cells, h .few);
-    })
+    rw (c .with-work3 .ensures) (
+      record {
+        answers = subst (AnswersAs (instanceOf (s .args .p)) (z .answer)) (sym (h .kind-is)) (h .shown);
+        first = h .first;
+        few-steps = omega (arith, b .steps-are, b .stops .steps-are, b .stops .runs .few);
+        few-cells = omega (arith, b .few-cells, h .few);
+      },
+      rw (h .kind-is) (walked n, scaled f),
+    )
 
 pub decide-spec : {M : Type 1} → statement M
 decide-spec =

@@ -32,13 +32,15 @@ returns c =
     let x = a .before .before in
     let p = x .before .args .p in
     let crosses = sym (x .some-crosses .ensures) ∙ a .before .if1 .taken in
-    rw (c .with-work .ensures, a .no-point .ensures) (record {
-      answers = (crossed-infeasible p crosses, refl);
-      first = λ low e. absurd (not-infeasible kind.Infeasible refl e);
-      counts = refl;
-      few-steps = omega arith;
-      few-cells = omega arith;
-    })
+    rw (c .with-work .ensures, a .no-point .ensures) (
+      record {
+        answers = (crossed-infeasible p crosses, refl);
+        first = λ low e. absurd (not-infeasible kind.Infeasible refl e);
+        few-steps = omega arith;
+        few-cells = omega arith;
+      },
+      (refl, refl),
+    )
 
 returns-2 : tie.Need-returns-2
 returns-2 c = c .decide .ensures

@@ -3,7 +3,7 @@ use borrow.Author.Needs.{needs}
 use native.Mathlib.Omega.{arith}
 use mathlib.Core.Path.{_≡_, refl, sym, ap, _∙_, subst}
 use mathlib.Core.Bool.{true, false}
-use Prim.Native.Nat.{ℕ, _<_}
+use Prim.Native.Nat.{ℕ, _+_, _<_}
 use lib.IntN.{pos}
 use mir.Syntax.{w64}
 use mir.Val.{toZ, ofZ}
@@ -15,8 +15,8 @@ use Rattle.greedy.specs.Fill.{at, fill, place}
 use Rattle.greedy.proofs.Relaxed.{fill-empty}
 use Rattle.ceiling.specs.Bound.{Bounded, BestFrame}
 use Rattle.ceiling.proofs.Framing.{ordered-ranked}
-use Rattle.settling.specs.Settling.{Boxes}
-use Rattle.settling.proofs.Best.{kept-best, found-some, found-best}
+use Rattle.settling.specs.Settling.{Boxes, SettleWrites, empty, kept, framed}
+use Rattle.settling.proofs.Best.{kept-best, found-some, found-best, settle-most}
 use Rattle.settling.proofs.settle.Statement.{statement}
 use Rattle.settling.proofs.settle.Tie as tie
 use Rattle.ceiling.proofs.ceiling.Reads as ceiling-reads
@@ -29,6 +29,13 @@ abbrev entry : tie.After-struct-told → tie.Start
 entry c =
     let h = c .before .before .before in
     h .before
+
+-- from the ceiling, back to where there is room; from the frame's first point, back to the ceiling
+abbrev clear : tie.After-ceiling → tie.Else1
+clear m = m .before .before .before
+
+abbrev ceiled : tie.After-first-of-frame → tie.After-ceiling
+ceiled f = f .before .before .before .before .before .before
 
 box : (c : tie.After-struct-told) → let a = entry c .args in Boxes (a .cols) (a .ends) (a .level) (a .levels)
 box c = entry c .pre .0 .0
@@ -45,11 +52,11 @@ level-in : (c : tie.Else1) → let s = entry (c .before) in (d : ℕ) → d < s 
 level-in c d l = let x = box (c .before) in omega (arith, x .level-in d l, x .sized .columns .few)
 
 -- what the ceiling says
-bounded : (c : tie.After-ceiling) → let e = c .before .before .before in let a = entry (e .before) .args in
+bounded : (c : tie.After-ceiling) → let a = entry (clear c .before) .args in
     Bounded (a .cols) (a .ends) (c .before .before .wholes .result) (a .known) (a .value) (c .ceiling .result)
 bounded c = c .ceiling .ensures
 
-best-frame : (c : tie.Then2) → let m = c .before .before .before in let e = m .before .before .before in let a = entry (e .before) .args in
+best-frame : (c : tie.Then2) → let m = c .before .before .before in let a = entry (clear m .before) .args in
     BestFrame (a .cols) (a .ends) (m .before .before .wholes .result) (m .ceiling .result)
 best-frame c = bounded (c .before .before .before) .found (c .if2 .taken)
 
@@ -58,14 +65,16 @@ fill-up-requires c κs = search needs
 
 returns : tie.Need-returns
 returns c =
-    let s = entry (c .before) in
+    let a = entry (c .before) .args in
     let x = box (c .before) in
-    record {
-      few = omega arith;
-      found = λ i. absurd (impossible i);
-      none = λ i marks D N d p. fill-empty (s .args .cols) (s .args .ends) marks (x .ordered) (x .in-order)
-          (yes-lt (rw (room-back (c .before)) at (c .if1 .taken))) D N d p;
-    }
+    let none : fill (a .cols) (a .ends) .room <ℤ pos 0 = yes-lt (rw (room-back (c .before)) at (c .if1 .taken)) in (
+      record {
+        few = omega arith;
+        found = λ i. absurd (impossible i);
+        none = λ i marks D N d p. fill-empty (a .cols) (a .ends) marks (x .ordered) (x .in-order) none D N d p;
+      },
+      empty none,
+    )
 
 wholes-requires : tie.Need-wholes-requires
 wholes-requires c κs = (box (c .before) .few, level-in c)
@@ -81,7 +90,7 @@ first-of-frame-requires : tie.Need-first-of-frame-requires
 first-of-frame-requires c κs =
     let t = c .before .before in
     let m = t .before .before .before in
-    let e = m .before .before .before in
+    let e = clear m in
     let s = entry (e .before) in
     let x = box (e .before) in
     let b = bounded m in
@@ -96,10 +105,7 @@ first-of-frame-requires c κs =
 
 by-level-requires : tie.Need-by-level-requires
 by-level-requires c κs =
-    let h = c .before .before .before in
-    let g = h .before .before .before in
-    let b = g .before .before .before in
-    let e = b .before .before .before in
+    let e = clear (ceiled (c .before .before .before)) in
     (box (e .before) .few, level-in e)
 
 add-t20 : tie.Need-add-t20
@@ -113,8 +119,8 @@ returns-2 c =
     let h = c .before .before .before in
     let f = h .before .before .before in
     let t = f .before .before .before in
-    let m = t .before .before .before in
-    let e = m .before .before .before in
+    let m = ceiled f in
+    let e = clear m in
     let a = entry (e .before) .args in
     let w = m .before .before .wholes in
     let g = f .first-of-frame in
@@ -122,12 +128,16 @@ returns-2 c =
     let b = bounded m in
     let some = found-some (a .cols) (a .ends) (a .level) (a .levels) (box (e .before)) (w .result) (w .ensures) (a .known) (a .value) (m .ceiling .result) b
     (best-frame t) (g .result) (g .ensures) in
-    record {
-      few = omega (arith, b .few, g .ensures .few);
-      found = λ i. found-best (a .cols) (a .ends) (a .level) (a .levels) (box (e .before)) (w .result) (w .ensures) (a .known) (a .value)
-          (m .ceiling .result) b (best-frame t) (g .result .place) (y .result) (g .ensures .found some) (y .ensures);
-      none = λ i. absurd (impossible (sym i));
-    }
+    let writes : SettleWrites (a .cols) (a .ends) (a .level) (a .levels) (a .known) (a .value) (m .ceiling .result .written + g .result .written)
+      = framed (w .result) (m .ceiling .result) (g .result) (roomy e) (w .ensures) b (t .if2 .taken) (g .ensures) in (
+      record {
+        few = omega (arith, settle-most writes);
+        found = λ i. found-best (a .cols) (a .ends) (a .level) (a .levels) (box (e .before)) (w .result) (w .ensures) (a .known) (a .value)
+            (m .ceiling .result) b (best-frame t) (g .result .place) (y .result) (g .ensures .found some) (y .ensures);
+        none = λ i. absurd (impossible (sym i));
+      },
+      writes,
+    )
 
 same-length-2 : tie.Need-same-length-2
 same-length-2 c = search needs
@@ -135,17 +145,21 @@ same-length-2 c = search needs
 returns-3 : tie.Need-returns-3
 returns-3 c =
     let m = c .before .before .before in
-    let e = m .before .before .before in
+    let e = clear m in
     let s = entry (e .before) in
     let a = s .args in
     let w = m .before .before .wholes in
     let k = bounded m .kept (c .if2 .left) in
-    record {
-      few = omega (arith, bounded m .few);
-      found = λ i. kept-best (a .cols) (a .ends) (a .level) (a .levels) (box (e .before)) (at (a .x)) (a .value) (w .result) (w .ensures)
-          (s .pre .0 .1 (k .0)) (k .1);
-      none = λ i. absurd (impossible (sym i));
-    }
+    let writes : SettleWrites (a .cols) (a .ends) (a .level) (a .levels) (a .known) (a .value) (m .ceiling .result .written)
+      = kept (w .result) (m .ceiling .result) (roomy e) (w .ensures) (bounded m) (c .if2 .left) in (
+      record {
+        few = omega (arith, settle-most writes);
+        found = λ i. kept-best (a .cols) (a .ends) (a .level) (a .levels) (box (e .before)) (at (a .x)) (a .value) (w .result) (w .ensures)
+            (s .pre .0 .1 (k .0)) (k .1);
+        none = λ i. absurd (impossible (sym i));
+      },
+      writes,
+    )
 
 pub settle-spec : {M : Type 1} → statement M
 settle-spec =

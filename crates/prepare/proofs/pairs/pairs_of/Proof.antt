@@ -13,15 +13,15 @@ pair-table-requires : tie.Need-pair-table-requires
 pair-table-requires c κs = ranged c
 
 spread-requires : tie.Need-spread-requires
-spread-requires c κs = all-short (c .before .args .p) (ranged (c .before)) (c .pair-table .result) (c .pair-table .ensures)
+spread-requires c κs = all-short (c .before .args .p) (ranged (c .before)) (c .before .args .named) (c .pair-table .result) (c .pair-table .ensures)
 
 returns : tie.Need-returns
 returns c =
     let t = c .before .pair-table in
     let s = c .before .before in
     record {
-      held = held (s .args .p) (ranged s) (c .spread .result) (t .result) (t .ensures) (c .spread .ensures);
-      ready = ready (s .args .p) (ranged s) (c .spread .result) (t .result) (t .ensures) (c .spread .ensures);
+      held = held (s .args .p) (ranged s) (s .args .named) (c .spread .result) (t .result) (t .ensures) (c .spread .ensures);
+      ready = ready (s .args .p) (ranged s) (s .args .named) (c .spread .result) (t .result) (t .ensures) (c .spread .ensures);
     }
 
 pub pairs-of-spec : {M : Type 1} → statement M
