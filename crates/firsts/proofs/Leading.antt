@@ -26,7 +26,7 @@ use Rattle.greedy.proofs.Relaxed.{boxOf}
 use Rattle.knapsack.proofs.Common.{valueᴰ, Feasibleᴰ}
 use Rattle.knapsack.specs.declared.Mark.{Mark}
 use Rattle.knapsack.specs.declared.Mark.the-variants.{Integer, Continuous}
-use Rattle.fillings.specs.Runs.{runCells}
+use Rattle.fillings.specs.Foremost.{firstCells}
 use Rattle.ceiling.specs.Frames as ceil
 use Rattle.ceiling.specs.Frames.{wholeAt, cutOf, scaleOf, Framed, Usable, FrameFloor, Levelled}
 use Rattle.ceiling.specs.Least as least
@@ -126,7 +126,7 @@ module _ (s : Setting) (c : Columns) (y : Tying s c) (l : Optimum) (g : IsLosing
       go (no q) = old u (omega arith)
 
   -- the same point, where it leads frame t
-  kept : (r : Lead) → r .point ≡ b .point → r .written ≤ b .written + 16 * runCells
+  kept : (r : Lead) → r .point ≡ b .point → r .written ≤ b .written + firstCells
       → ((marks : ℕ → Mark) → Marked s marks → Frame c e marks t → LeadsFrame c e marks (parts c f) (filling c f) t) → Led s c l (t + 1) r
   kept r p w new = record {
     place = h .place;

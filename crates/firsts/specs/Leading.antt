@@ -35,7 +35,7 @@ use Rattle.greedy.specs.declared.Ends.{Ends}
 use Rattle.greedy.specs.Amounts.{Amounts}
 use Rattle.greedy.specs.Fill.{at, fill, bound}
 use Rattle.greedy.proofs.Relaxed.{boxOf}
-use Rattle.fillings.specs.Runs.{runCells}
+use Rattle.fillings.specs.Foremost.{firstCells}
 use Rattle.ceiling.specs.declared.Seen.{Seen}
 use Rattle.ceiling.specs.Bound.{Priced}
 use Rattle.ceiling.specs.Frames.{scaleOf, Usable, Levelled}
@@ -129,7 +129,7 @@ pub record Led (s : Setting) (c : Columns) (l : Optimum) (t : ℕ) (b : Lead) : 
       → LosesJust (l .top) (l .q) (valueᴰ (boxOf c (s .ends) marks)) (l .num) (l .den) (parts c (endsAt s place)) (filling c (endsAt s place))
   pub leads : (marks : ℕ → Mark) → Marked s marks → (u : ℕ) → u < t → Frame c (s .ends) marks u
       → LeadsFrame c (s .ends) marks (parts c (endsAt s place)) (filling c (endsAt s place)) u
-  pub few : b .written ≤ t * (16 * runCells)
+  pub few : b .written ≤ t * firstCells
 
 pub record FirstBest (s : Setting) (r : Lead) : Type 0 where
   pub long : Long (s .ends)
@@ -140,7 +140,7 @@ pub record FirstBest (s : Setting) (r : Lead) : Type 0 where
   pub room : pos 0 ≤ℤ fill cols (endsAt s place) .room
   pub shows : Shows s cols place (r .point)
   pub first : (marks : ℕ → Mark) → Marked s marks → Foremostᴰ (boxOf cols (s .ends) marks) (parts cols (endsAt s place)) (filling cols (endsAt s place))
-  pub few : r .written ≤ 272 * runCells
+  pub few : r .written ≤ 17 * firstCells
 
 -- ---- what is written
 

@@ -8,7 +8,7 @@ use mathlib.Core.Bool.{Bool, true, false}
 use Prim.Native.Nat.{ℕ, _*_, _≤_}
 use lib.IntN.{ℤ}
 use Rattle.ceiling.specs.Sizes.{Spanned}
-use Rattle.fillings.specs.Runs.{runCells}
+use Rattle.fillings.specs.Foremost.{firstCells}
 use Rattle.firsts.specs.Leading.{OptimalAt, PointWrites}
 use Rattle.knapsack.specs.Meaning.{instanceOf, ShownOptimal, AllLower, ShownFirst}
 use Rattle.knapsack.specs.Ranges.{InRange}
@@ -42,5 +42,5 @@ pub record FirstShown (p : Problem) (r : Placed) : Type 0 where
   pub kind-is : r .answer .kind ≡ kind.Optimal
   pub shown : ShownOptimal (instanceOf p) (r .answer)
   pub first : ShownFirst (instanceOf p) (r .answer)
-  pub few : r .cells ≤ 272 * runCells
+  pub few : r .cells ≤ 17 * firstCells
   pub writes : ShownWrites p (r .cells)
