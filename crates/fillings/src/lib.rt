@@ -569,7 +569,11 @@ fn excess(total: u64, capacity: u64) -> u64
     requires { ⌜ total < 2 ^ 63 ⌝ }
     ensures { λ n. ⌜ n ≡ (total + 1) - capacity ⌝ }
 {
-    if total < capacity { 0 } else { total - capacity + 1 }
+    if total < capacity {
+        0
+    } else {
+        total - capacity + 1
+    }
 }
 
 fn by_weight(p: Parts, capacity: u64) -> Weighing
@@ -651,7 +655,8 @@ fn leap(p: Parts, w: Weighing, cap: u64, to: usize, cells: &mut [u64]) -> Run
     requires { ⌜ 65535 ≤ length (now cells) ⌝ }
     ensures { λ n. ⌜ Leaps p (w .capacity) cap to n ⌝ }
 {
-    let h = head(p, w, cap, to);
+    let f = head(p, w, cap, to);
+    let h = nearer(p, w, cap, f);
     let down = w.down;
     let spare = remaining(down, h, w.spare);
     if spare == 0 {

@@ -28,7 +28,7 @@ returns c =
     let a = s .args in
     let x = s .pre in
     heads-fixed (a .p) (a .w .capacity) (a .cap - 1) (n .result) (c .fixed .result) (a .k) zeros (x .0 .1 .1 .1)
-        (heads-kept (a .p) (a .w .capacity) (a .cap) (a .r) (n .result) (a .k) (x .0 .1 .1 .0) (n .ensures) (x .1)) (num-zeros 17) (c .fixed .ensures)
+    (heads-kept (a .p) (a .w .capacity) (a .cap) (a .r) (n .result) (a .k) (x .0 .1 .1 .0) (n .ensures) (x .1)) (num-zeros 17) (c .fixed .ensures)
 
 pub ahead-spec : {M : Type 1} → statement M
 ahead-spec = tie.close (tie.spec nearer-requires add-fixed fixed-requires returns)

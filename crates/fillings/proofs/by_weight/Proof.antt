@@ -27,8 +27,7 @@ returns : tie.Need-returns
 returns c =
     let low = c .before .before .low-load in
     let s = start c in
-    let a = s .args in
-    (
+    let a = s .args in (
       record {
         up = rw (c .before .lesser .ensures)
             (caps-taken (a .p) _ (a .capacity) (low .result) (s .pre) refl refl (low .ensures .0) refl (num-zeros 17));

@@ -102,8 +102,8 @@ loop-again c =
     let l = w .loop in
     let n = ro .run-over in
     let x = s .pre .0 in
-    let more = sought-more (s .args .p) (s .args .capacity) (s .args .cap) (x .0 .long) (x .1 .0) (x .1 .1 .1 .1) (l .r) (l .from) (l .inv .1 .heads) (n .result)
-    (n .ensures .0) (c .before .if1 .left) (t .loop-test .taken) (x .1 .1 .1 .0) in (
+    let more = sought-more (s .args .p) (s .args .capacity) (s .args .cap) (x .0 .long) (x .1 .0) (x .1 .1 .1 .1) (l .r) (l .from) (l .inv .1 .heads)
+    (n .result) (n .ensures .0) (c .before .if1 .left) (t .loop-test .taken) (x .1 .1 .1 .0) in (
       (
         search needs,
         (
