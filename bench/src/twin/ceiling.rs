@@ -108,13 +108,8 @@ impl Shape {
     }
 
     /// One for each soft item; one if there is none.
-    fn frames(&self) -> usize {
+    pub fn frames(&self) -> usize {
         self.soft.len().max(1)
-    }
-
-    /// The frames in which a soft item is cut, and that in which none is.
-    pub fn all_frames(&self) -> std::ops::RangeInclusive<usize> {
-        0..=self.soft.len()
     }
 
     /// Into how many pieces a unit of the item that frame l cuts goes.

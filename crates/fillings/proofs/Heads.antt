@@ -1,5 +1,6 @@
 -- Ranges whose first parts are fixed at their first amounts, one after the other.
--- caps-among: the same ranges. nears-kept: narrowed by costs and by weights. heads-kept: narrowed ranges. heads-fixed: the next part fixed. heads-shut: what no filling is in.
+-- caps-among: the same ranges. nears-kept: narrowed by costs and by weights. heads-kept: narrowed ranges.
+-- heads-fixed: the next part fixed. heads-shut: what no filling is in.
 use mathlib.Core.Path.{_≡_, refl, sym, subst, _∙_}
 use mathlib.Core.Bool.{Bool, true, false, cond}
 use mathlib.Core.List.{List}
@@ -101,7 +102,9 @@ module _ (p : Parts) (C c : ℕ) (r n : Ranges) (k : ℕ) (ds : List ℕ) (k-in 
   inside a i j l = go (ℕ-discrete j k)
     where
       go : Dec (j ≡ k) → (low j ≤ a j) × (a j ≤ low j + wide j)
-      go (yes e) = rw e (let u : k < 17 = omega arith in (omega (arith, i k u .0, low-here, first-in .0), omega (arith, i k u .1, low-here, wide-here, first-in .1)))
+      go (yes e) =
+          let u : k < 17 = omega arith in
+          rw e (omega (arith, i k u .0, low-here, first-in .0), omega (arith, i k u .1, low-here, wide-here, first-in .1))
       go (no ne) = (omega (arith, i j l .0, low-other j l ne), omega (arith, i j l .1, low-other j l ne, wide-other j l ne))
 
   -- an amount within the ranges is the first one, or comes later

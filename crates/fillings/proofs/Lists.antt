@@ -1,5 +1,6 @@
 -- Lists as loops make them.
--- num-zeros: nothing everywhere. made-first, made-step, made-done: place by place from the front. begun-first, -step, -done: the same with nothing at the other places.
+-- num-zeros: nothing everywhere. made-first, made-step, made-done: place by place from the front.
+-- begun-first, -step, -done: the same with nothing at the other places.
 use mathlib.Core.Path.{_≡_, refl, subst, _∙_}
 use mathlib.Core.List.{List}
 use Prim.Native.Nat.{ℕ, zero, suc, _+_, _≤_, _<_}

@@ -3,4 +3,5 @@ pub mod Order
 pub mod Places
 pub mod Shown
 pub mod Worth
+pub mod Uncut
 pub mod Leading
