@@ -1,28 +1,31 @@
 -- What the test of a need says of a point.
 -- breaks-no: a feasible point of which it fails keeps the need; its cover is whole.  breaks-yes: a point of which it holds does not.
--- every-kept: all needs are kept where it fails of each.
+-- need-in: a line of needs is one of them.  every-kept: all needs are kept where it fails of each.
+-- allowed-placed, needed-placed: needs that are allowed name places.
+-- needed: what the solver is given of an accepted record.
 use mathlib.Core.Path.{_≡_, refl, sym, subst}
 use mathlib.Core.Bool.{Bool, true, false, cond, not}
-use mathlib.Core.List.{List}
 use mathlib.Core.Logic.{_⊎_, inl, inr}
 use Prim.Native.Nat.{ℕ, _≤_, _<_, max}
 use native.Mathlib.Omega.{arith}
 use native.Mathlib.Nat.{mul-le-mul-right}
 use lib.IntN.{ℤ, pos, _*ℤ_}
-use lib.ListN.{getD, length, take}
-use lib.Seq.{getD-take, length-take-le}
 use lib.Signed.{_≤ℤ_, _<ℤ_, ltZ}
 use Rattle.arith.proofs.Integers.{split, split2, zed, ≤ℤ-or-<}
 use Rattle.arith.proofs.Parts.{impossible}
 use Rattle.arith.proofs.Words.{yes-lt, no-lt, lt-yes}
-use Rattle.arith.specs.Fractions.{Frac, int, frac, _≤ᶠ_, _<ᶠ_}
-use Rattle.knapsack.specs.Meaning.{Instance, KeepsMark, Feasible, amountAt, pointOf}
+use Rattle.arith.specs.Fractions.{_≤ᶠ_, _<ᶠ_}
+use Rattle.knapsack.specs.Meaning.{Instance, instanceOf, KeepsMark, Feasible, amountAt, pointOf}
 use Rattle.knapsack.specs.declared.Answer.{Answer}
 use Rattle.knapsack.specs.declared.Mark.the-variants.{Integer}
-use Rattle.cases.proofs.Needs.{every-places, in-place}
-use Rattle.cases.specs.declared.Need.{Need}
-use Rattle.cases.specs.Needs.{In, Every, KeepsNeed, KeepsNeeds, Allowed}
-use Rattle.branching.specs.Branching.{breaks, unneeded, needsOf}
+use Rattle.knapsack.specs.declared.Problem.{Problem}
+use Rattle.model.proofs.NeedLines.{needs-in, needs-from}
+use Rattle.model.specs.Records.{plainOf, needAt, placed, needsOf, Admissible}
+use Rattle.model.specs.declared.Model.{Model}
+use Rattle.model.specs.declared.Needs.{Needs}
+use Rattle.model.specs.declared.Need.{Need}
+use Rattle.model.specs.Needs.{In, Every, KeepsNeed, KeepsNeeds, Allowed}
+use Rattle.branching.specs.Branching.{Placed, breaks, Needed}
 
 -- ---- the tests
 
@@ -68,7 +71,8 @@ module _ (s : Instance) (a : Answer) (n : Need) where
   pub breaks-no : Allowed s n → Feasible s (pointOf a) → breaks (a .point) n ≡ false → KeepsNeed n (pointOf a)
   unfolding _<ᶠ_ _≤ᶠ_
   breaks-no allowed f h l = whole-least (max 1 (amountAt a (n .cover) .q)) (amountAt a (n .cover) .p) (whole .0) (whole .1)
-      (yes-lt (fails (ltZ (pos 0) (amountAt a (n .item) .p)) (ltZ (pos 0) (amountAt a (n .cover) .p)) h (lt-yes (some-of (max 1 (amountAt a (n .item) .q)) (amountAt a (n .item) .p) l))))
+      (yes-lt (fails (ltZ (pos 0) (amountAt a (n .item) .p)) (ltZ (pos 0) (amountAt a (n .cover) .p)) h
+      (lt-yes (some-of (max 1 (amountAt a (n .item) .q)) (amountAt a (n .item) .p) l))))
     where
       whole : KeepsMark Integer (pointOf a (n .cover))
       whole = subst (λ m. KeepsMark m (pointOf a (n .cover))) (allowed .cover .whole) (f .keeps (n .cover) (allowed .cover .inside) .marked)
@@ -80,16 +84,34 @@ module _ (s : Instance) (a : Answer) (n : Need) where
       nothing-less (max 1 (amountAt a (n .cover) .q)) (omega arith) (amountAt a (n .cover) .p) (no-lt (t .1))
       (k (of-some (max 1 (amountAt a (n .item) .q)) (amountAt a (n .item) .p) (yes-lt (t .0))))
 
--- ---- the first t needs
+-- ---- the needs of a record
 
-module _ (l : List Need) (t : ℕ) (room : t ≤ length l) where
-  pub need-in : (i : ℕ) → i < t → In (getD l i unneeded) (needsOf l t)
-  need-in i m = subst (λ n. In n (take t l)) (getD-take t l i unneeded m) (in-place (take t l) i unneeded (rw (length-take-le t l room) m))
+module _ (ns : Needs) where
+  pub need-in : (i : ℕ) → i < ns .count → In (placed (needAt ns i)) (needsOf ns)
+  need-in = needs-in (ns .count) (needAt ns)
 
-  pub every-of : (P : Need → Type 0) → ((i : ℕ) → i < t → P (getD l i unneeded)) → Every P (needsOf l t)
-  every-of P h = every-places P (take t l) unneeded
-      (λ i m. let k : i < t = rw (length-take-le t l room) at m in subst P (sym (getD-take t l i unneeded k)) (h i k))
+  pub every-kept : (s : Instance) (a : Answer) → Every (Allowed s) (needsOf ns) → Feasible s (pointOf a)
+      → ((i : ℕ) → i < ns .count → breaks (a .point) (placed (needAt ns i)) ≡ false) → KeepsNeeds (needsOf ns) (pointOf a)
+  every-kept s a allowed f h n i =
+      let j = needs-from (ns .count) (needAt ns) n i in
+      breaks-no s a n (allowed n i) f (subst (λ m. breaks (a .point) m ≡ false) (sym (j .1 .1)) (h (j .0) (j .1 .0)))
 
-  pub every-kept : (s : Instance) (a : Answer) → Every (Allowed s) (needsOf l t) → Feasible s (pointOf a)
-      → ((i : ℕ) → i < t → breaks (a .point) (getD l i unneeded) ≡ false) → KeepsNeeds (needsOf l t) (pointOf a)
-  every-kept s a allowed f h = every-of (λ n. KeepsNeed n (pointOf a)) (λ i m. breaks-no s a (getD l i unneeded) (allowed (getD l i unneeded) (need-in i m)) f (h i m))
+  pub allowed-placed : (p : Problem) → p .count ≤ 16 → ns .count ≤ 16 → Every (Allowed (instanceOf p)) (needsOf ns) → Placed ns
+  allowed-placed p m few a = record {
+    few = few;
+    places = λ n i. (omega (arith, m, a n i .item .inside), omega (arith, m, a n i .cover .inside));
+  }
+
+  pub needed-placed : (p : Problem) → Needed p ns → Placed ns
+  needed-placed p h = allowed-placed p (h .figures .few-items) (h .few) (h .allowed)
+
+-- ---- a record
+
+pub needed : (m : Model) → Admissible m → Needed (plainOf m) (m .needs)
+needed m a = record {
+  figures = a .figures;
+  few = a .few-needs;
+  allowed = λ n i.
+      let j = needs-from (m .needs .count) (needAt (m .needs)) n i in
+      subst (Allowed (instanceOf (plainOf m))) (sym (j .1 .1)) (a .needs (j .0) (j .1 .0) .allowed);
+}

@@ -1,26 +1,26 @@
 -- The answer of a problem with needs, from what is found from nothing.
 -- ray-kind: the test of a kind.  limited-by: a plain problem that is not unbounded has no ray.  limited-worthless: nor has one at price 0.
 -- unpriced-none, unpriced-more, unpriced-is, unpriced-figures: the problem at price 0.
--- told-answers, ray-answers: the answers.  told-first: the point is the first best.  ray-first: of steps there is none to be shown.
+-- told-answers, ray-answers, ray-kept: the answers.  told-first: the point is the first best.  ray-first, no-first: of steps there is none to be shown.
+-- more-steps: with more steps allowed.
 use mathlib.Core.Path.{_≡_, refl, sym, ap, subst, _∙_, fun-ext}
 use mathlib.Core.Bool.{Bool, true, false}
 use mathlib.Core.List.{List}
-use mathlib.Core.Logic.{_⊎_, inl, inr}
 use Prim.Native.Nat.{ℕ, _+_, _≤_, _<_}
 use native.Mathlib.Decide.{ℕ-discrete, decLt}
 use native.Mathlib.Omega.{arith}
 use lib.IntN.{ℤ, pos, natAbs, _*ℤ_}
 use lib.ListN.{length, length-set, getD, set, List·getD-eq-default}
 use lib.Seq.{getD-set-same, getD-set-other}
-use lib.Signed.{_≤ℤ_, _<ℤ_, clashℤ}
+use lib.Signed.{_≤ℤ_, clashℤ}
 use Rattle.arith.proofs.Integers.{split, zed}
 use Rattle.arith.proofs.Parts.{impossible}
 use Rattle.arith.proofs.Sums.{sum-scale}
 use Rattle.arith.specs.Sum.{sum}
 use Rattle.knapsack.proofs.Demands.{demands}
-use Rattle.knapsack.proofs.Rays.{Ray, ray-unbounded, unbounded-ray}
+use Rattle.knapsack.proofs.Rays.{ray-unbounded, unbounded-ray}
 use Rattle.knapsack.specs.Items.{withItem}
-use Rattle.knapsack.specs.Meaning.{Instance, Point, instanceOf, Feasible, Unbounded, ShownUnbounded, amountAt, pointOf, stepsOf, bare, Answers, AnswersAs}
+use Rattle.knapsack.specs.Meaning.{Instance, instanceOf, Unbounded, ShownUnbounded, amountAt, pointOf, stepsOf, bare, Answers, AnswersAs}
 use Rattle.knapsack.specs.Meaning.{AllLower}
 use Rattle.knapsack.specs.Ranges.{blank, itemAt}
 use Rattle.knapsack.specs.declared.Answer.{Answer}
@@ -29,15 +29,16 @@ use Rattle.knapsack.specs.declared.Kind.{Kind}
 use Rattle.knapsack.specs.declared.Kind.the-variants as kind
 use Rattle.knapsack.specs.declared.Problem.{Problem}
 use Rattle.model.specs.Records.{ItemFigures, FiguresInRange}
+use Rattle.planner.specs.declared.Solved.{Solved}
 use Rattle.cases.proofs.Endless.{unbounded-needs, needs-priced, worthless}
 use Rattle.cases.proofs.Limits.{shown-priced}
-use Rattle.cases.proofs.Searched.{Known, nothing, best}
+use Rattle.cases.proofs.Searched.{nothing}
 use Rattle.cases.proofs.Searching.{SearchedNeeds, WorthBy, worth-order, needs-nothing, needs-best, top-is-optimal}
 use Rattle.cases.proofs.Searching.{PointLeadsBy, first-order, top-is-first}
-use Rattle.cases.specs.declared.Need.{Need}
-use Rattle.cases.specs.Needs.{Every, Allowed, FeasibleNeeds, InfeasibleNeeds, ForemostNeeds, AnswersNeeds, AnswersAsNeeds, ShownFirstNeeds}
+use Rattle.model.specs.declared.Need.{Need}
+use Rattle.model.specs.Needs.{Every, Allowed, KeepsNeeds, ForemostNeeds, AnswersNeeds, AnswersAsNeeds, ShownFirstNeeds}
 use Rattle.branching.specs.declared.Best.{Best}
-use Rattle.branching.specs.Branching.{isOptimal, isUnbounded, knownIf, known, Worthy, Holds, Bounded, Through, unpricedItem, Unpriced, rayFrom}
+use Rattle.branching.specs.Branching.{isOptimal, isUnbounded, knownIf, known, Holds, Bounded, unpricedItem, Unpriced, rayFrom, SolvesNeeds}
 
 -- ---- no ray
 
@@ -88,7 +89,8 @@ module _ (p q : Problem) (long : length (p .items) ≡ 16) (e : Unpriced p 16 q)
     where
       go : Dec (j < 16) → itemAt q j ≡ unpricedItem (itemAt p j)
       go (yes h) = e .items j h
-      go (no h) = List·getD-eq-default (q .items) blank (omega (arith, e .long)) ∙ sym (ap unpricedItem (List·getD-eq-default (p .items) blank (omega (arith, long))))
+      go (no h) = List·getD-eq-default (q .items) blank (omega (arith, e .long))
+          ∙ sym (ap unpricedItem (List·getD-eq-default (p .items) blank (omega (arith, long))))
 
   pub unpriced-is : instanceOf q ≡ worthless (instanceOf p)
   unpriced-is = go (q .count) (q .capacity) (itemAt q) (e .count) (e .capacity) (fun-ext same-item)
@@ -171,3 +173,18 @@ module _ (s : Instance) (ns : List Need) (c : Best) (r : Answer) where
         go : (t : Bool) → c .found ≡ t → ⊥
         go true e = impossible (ap isOptimal (sym (ap (λ (x : Answer). x .kind) (yes-is e)) ∙ k))
         go false e = impossible (ap isOptimal (sym (ap (λ (x : Answer). x .kind) (no-is e)) ∙ k))
+
+    -- or from a point of its own that keeps the needs
+    pub ray-kept : a .kind ≡ kind.Unbounded → KeepsNeeds ns (pointOf a) → AnswersNeeds s ns a
+    ray-kept k h = subst (AnswersAsNeeds s ns a) (sym k) (record {
+      unbounded = unbounded-needs s (pointOf a) (stepsOf a) (u .unbounded) ns allowed (record { plain = u .unbounded .from; kept = h });
+      shown = u .shown;
+      steps = u .steps;
+      endless = u .endless;
+    })
+
+pub no-first : (s : Instance) (ns : List Need) (a : Answer) → a .kind ≡ kind.Unbounded → ShownFirstNeeds s ns a
+no-first s ns a k low e = absurd (impossible (ap isOptimal (sym k ∙ e)))
+
+pub more-steps : {m n : ℕ} {p : Problem} {ns : List Need} {r : Solved} → m ≤ n → SolvesNeeds m p ns r → SolvesNeeds n p ns r
+more-steps h r = record { answers = r .answers; first = r .first; few-steps = omega (arith, h, r .few-steps); few-cells = r .few-cells }

@@ -1,11 +1,14 @@
 -- The ways out of a call: what it gives.
--- kind-of: the test of a kind.  comparable, plain-comparable: answers can be compared.  plain-infeasible: a plain problem with no best point and no ray holds nothing.
--- enter: what a call on a case is given.  through-behind, through-kept, through-split: nothing is ahead, the point keeps all needs, both cases are gone through.
+-- kind-of: the test of a kind.  comparable, plain-comparable: answers can be compared.  optimal-of, worthy-of: an answer of that kind.
+-- plain-infeasible: a plain problem with no best point and no ray holds nothing.
+-- counted-work, more-work, own-work, none-worked, few-work, countable: the work of the cases.  enter: what a call on a case is given.
+-- through-behind, through-kept, through-split: nothing is ahead, the point keeps all needs, both cases are gone through.
 use mathlib.Core.Path.{_≡_, refl, sym, subst}
 use mathlib.Core.Bool.{Bool, true, false}
 use mathlib.Core.List.{List}
 use mathlib.Core.Logic.{_⊎_, inl, inr, _≢_}
-use Prim.Native.Nat.{ℕ, _+_, _*_, _≤_, _<_}
+use Prim.Native.Nat.{ℕ, _+_, _*_, _≤_}
+use native.Mathlib.Nat.{mul-le-mul, mul-le-mul-right}
 use native.Mathlib.Omega.{arith}
 use Rattle.arith.proofs.Parts.{impossible}
 use Rattle.arith.specs.Fractions.{Frac}
@@ -15,8 +18,9 @@ use Rattle.knapsack.specs.declared.Answer.{Answer}
 use Rattle.knapsack.specs.declared.Kind.{Kind}
 use Rattle.knapsack.specs.declared.Kind.the-variants as kind
 use Rattle.knapsack.specs.declared.Problem.{Problem}
-use Rattle.model.specs.Records.{FiguresInRange}
-use Rattle.planner.specs.Outcomes.{Solves}
+use Rattle.model.specs.Records.{FiguresInRange, needsOf}
+use Rattle.model.specs.declared.Needs.{Needs}
+use Rattle.planner.specs.Outcomes.{mostWork, SolvesWithin}
 use Rattle.planner.specs.declared.Solved.{Solved}
 use Rattle.cases.proofs.Limits.{lower-without, lower-having}
 use Rattle.cases.proofs.Points.{inside-allowed}
@@ -26,11 +30,11 @@ use Rattle.cases.proofs.Searching.{needs-infeasible, needs-behind, needs-kept, 
 use Rattle.cases.proofs.Splitting.{without, having}
 use Rattle.cases.proofs.Tops.{Top}
 use Rattle.cases.proofs.Undecided.{undecided}
-use Rattle.cases.specs.declared.Need.{Need}
-use Rattle.cases.specs.Needs.{In, Every, Allowed, KeepsNeeds}
+use Rattle.model.specs.declared.Need.{Need}
+use Rattle.model.specs.Needs.{In, Every, Allowed, KeepsNeeds}
 use Rattle.branching.specs.declared.Best.{Best}
-use Rattle.branching.specs.Branching.{isOptimal, needsOf, Comparable, ShownLeads, Outdoes, countedOf, withBest, knownIf, known, Worthy, Holds, twigs, Worked}
-use Rattle.branching.specs.Branching.{caseCells, Bounded, Branches, Through}
+use Rattle.branching.specs.Branching.{isOptimal, Comparable, ShownLeads, nothingYet, countedOf, withBest, knownIf, known, Worthy, Holds, twigs}
+use Rattle.branching.specs.Branching.{caseSteps, Countable, Worked, Bounded, Branches, Through}
 use Rattle.branching.proofs.Ordering.{leads-points}
 use Rattle.branching.proofs.Parts.{Part}
 use Rattle.branching.proofs.Twigs.{twigs-some, twigs-two}
@@ -70,23 +74,45 @@ module _ (s : Instance) (a : Answer) (answers : Answers s a) where
 
 -- ---- one case more
 
-pub counted-work : (b : Best) (r : Solved) → Worked (b .cases) b → r .steps ≤ 1000 → r .cells ≤ caseCells → Worked (b .cases + 1) (countedOf b r)
-counted-work b r w h k = record { cases = omega arith; steps = omega (arith, w .steps, h); cells = omega (arith, w .cells, k) }
+pub counted-work : (most : ℕ) (b : Best) (r : Solved) → Worked most (b .cases) b → r .steps ≤ most → r .cells ≤ mostWork
+    → Worked most (b .cases + 1) (countedOf b r)
+counted-work most b r w h k = record { cases = omega arith; steps = omega (arith, w .steps, h); cells = omega (arith, w .cells, k) }
 
-pub more-work : {m n : ℕ} {b : Best} → m ≤ n → Worked m b → Worked n b
+-- it can be counted
+pub countable : (most : ℕ) (b : Best) (r : Solved) → most ≤ caseSteps → b .cases ≤ 131071 → Worked most (b .cases) b → r .steps ≤ most → r .cells ≤ mostWork
+    → Countable b r
+countable most b r short few w h k = record {
+  cases = few;
+  steps = omega (arith, w .steps, mul-le-mul few short);
+  cells = omega (arith, w .cells, few);
+  few-steps = omega arith;
+  few-cells = k;
+}
+
+pub more-work : {most m n : ℕ} {b : Best} → m ≤ n → Worked most m b → Worked most n b
 more-work h w = record { cases = omega (arith, h, w .cases); steps = w .steps; cells = w .cells }
 
-pub own-work : {n : ℕ} {b : Best} → Worked n b → Worked (b .cases) b
+pub own-work : {most n : ℕ} {b : Best} → Worked most n b → Worked most (b .cases) b
 own-work w = record { cases = omega arith; steps = w .steps; cells = w .cells }
 
 -- ---- a call on a case
 
-pub enter : (p q : Problem) (l : List Need) (t : ℕ) (r : Solved) (c : Best) → FiguresInRange q → Solves q r → t ≤ 16
-    → Part (instanceOf p) (needsOf l t) (instanceOf q) → Holds (instanceOf p) c → Worked (c .cases) c
-    → c .cases + twigs (undecided (instanceOf q) (needsOf l t)) ≤ 131072 → Branches q r l t c
-enter p q l t r c f so few part h w room = record {
+pub none-worked : (most : ℕ) → Worked most 0 nothingYet
+none-worked most = record { cases = omega arith; steps = omega arith; cells = omega arith }
+
+-- all of it is little
+pub few-work : {most n : ℕ} {b : Best} → n ≤ 131072 → Worked most n b → (b .steps ≤ 131072 * most) × (b .cells ≤ 131072 * mostWork)
+few-work {most} {n} {b} h w =
+    let c : b .cases ≤ 131072 = omega (arith, h, w .cases) in
+    (omega (arith, w .steps, mul-le-mul-right most c), omega (arith, w .cells, c))
+
+pub enter : (p q : Problem) (ns : Needs) (most : ℕ) (r : Solved) (c : Best) → FiguresInRange q → SolvesWithin most q r → most ≤ caseSteps → ns .count ≤ 16
+    → Part (instanceOf p) (needsOf ns) (instanceOf q) → Holds (instanceOf p) c → Worked most (c .cases) c
+    → c .cases + twigs (undecided (instanceOf q) (needsOf ns)) ≤ 131072 → Branches q r ns most c
+enter p q ns most r c f so short few part h w room = record {
   figures = f;
   solved = so;
+  short = short;
   few = few;
   allowed = part .allowed;
   limited = part .limited;
@@ -123,8 +149,8 @@ module _ {L : (Point → Frac) → ℕ → Point → Point → Type 0} (order : 
 
 -- ---- nothing is ahead, or the point keeps all needs
 
-module _ (s : Instance) (ns : List Need) (b : Best) (r : Solved) (a : Answer) (answers : Answers s a) (first : ShownFirst s a) (limited : Bounded s)
-    (holds : Holds s b) (work : Worked (b .cases + 1) (countedOf b r)) where
+module _ (s : Instance) (ns : List Need) (most : ℕ) (b : Best) (r : Solved) (a : Answer) (answers : Answers s a) (first : ShownFirst s a)
+    (limited : Bounded s) (holds : Holds s b) (work : Worked most (b .cases + 1) (countedOf b r)) where
   by-worth : a .kind ≡ kind.Optimal → Top (WorthBy (value s) (s .count)) (Feasible s) (pointOf a)
   by-worth k = optimal-is-top s (pointOf a) (optimal-of s a answers k .optimal)
 
@@ -135,7 +161,7 @@ module _ (s : Instance) (ns : List Need) (b : Best) (r : Solved) (a : Answer) (a
   room = omega (arith, twigs-some (undecided s ns))
 
   pub through-behind : (a .kind ≢ kind.Optimal) ⊎ ((b .found ≡ true) × ((a .kind ≡ kind.Optimal) × ShownLeads (s .count) (b .answer) a))
-      → Through s ns b (countedOf b r)
+      → Through s ns most b (countedOf b r)
   through-behind h = record {
     worth = searched-behind worth-order s ns b a answers limited holds by-worth h;
     first = λ low. searched-behind first-order s ns b a answers limited holds (by-place low) h;
@@ -144,7 +170,7 @@ module _ (s : Instance) (ns : List Need) (b : Best) (r : Solved) (a : Answer) (a
   }
 
   pub through-kept : (a .kind ≡ kind.Optimal) × (b .found ≡ true → ShownLeads (s .count) a (b .answer)) → KeepsNeeds ns (pointOf a)
-      → Through s ns b (withBest (countedOf b r) a)
+      → Through s ns most b (withBest (countedOf b r) a)
   through-kept (k, l) kept = record {
     worth = searched-kept worth-order s ns b a answers limited holds by-worth k l kept;
     first = λ low. searched-kept first-order s ns b a answers limited holds (by-place low) k l kept;
@@ -154,10 +180,10 @@ module _ (s : Instance) (ns : List Need) (b : Best) (r : Solved) (a : Answer) (a
 
 -- ---- both cases are gone through
 
-pub through-split : (s : Instance) (ns : List Need) → Every (Allowed s) ns → (n : Need) → In n ns → (v w : Instance) → v ≡ without s (n .item)
+pub through-split : (s : Instance) (ns : List Need) (most : ℕ) → Every (Allowed s) ns → (n : Need) → In n ns → (v w : Instance) → v ≡ without s (n .item)
     → w ≡ having s (n .cover) → Part s ns v → Part s ns w → (b c d e : Best) → known c ≡ known b → c .cases ≡ b .cases + 1
-    → Through v ns c d → Through w ns d e → Through s ns b e
-through-split s ns allowed n i v w v-is w-is pv pw b c d e same more x y = record {
+    → Through v ns most c d → Through w ns most d e → Through s ns most b e
+through-split s ns most allowed n i v w v-is w-is pv pw b c d e same more x y = record {
   worth = subst (λ k. SearchedNeeds WorthBy s ns k (known e)) same
       (searched-split worth-order s ns allowed n i v w v-is w-is (known c) (known d) (known e) (x .worth) (y .worth));
   first = λ low. subst (λ k. SearchedNeeds PointLeadsBy s ns k (known e)) same

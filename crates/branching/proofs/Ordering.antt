@@ -1,11 +1,11 @@
 -- Which of two answers leads: the tests on what they show are the order of points.
 -- less-yes, less-no: the test of fractions.  led-above, led-below, led-level: the ways out of the test of two answers.
 -- leads-points: by exact values the answers are ordered as their points.
-use mathlib.Core.Path.{_≡_, ap, subst, subst₂}
+use mathlib.Core.Path.{_≡_, ap, subst₂}
 use mathlib.Core.Bool.{true, false}
 use Prim.Native.Nat.{ℕ, _≤_, max}
 use native.Mathlib.Omega.{arith}
-use lib.IntN.{ℤ, pos, _*ℤ_}
+use lib.IntN.{pos, _*ℤ_}
 use lib.Signed.{_≤ℤ_, _<ℤ_}
 use Rattle.arith.proofs.Fractions.{≤ᶠ-trans, <ᶠ-not-≤, ≈ᶠ-≤, ≈ᶠ-≥}
 use Rattle.arith.proofs.Parts.{lt-le}

@@ -27,8 +27,8 @@ use Rattle.cases.proofs.Limits.{bounded, record-narrow, shown-narrow}
 use Rattle.cases.proofs.Splitting.{cap, raise, without, having, without-out, having-out, allowed-without, allowed-having}
 use Rattle.cases.proofs.Tops.{_⊆_}
 use Rattle.cases.proofs.Undecided.{decided, undecided, undecided-without, undecided-having}
-use Rattle.cases.specs.declared.Need.{Need}
-use Rattle.cases.specs.Needs.{In, Every, Allowed}
+use Rattle.model.specs.declared.Need.{Need}
+use Rattle.model.specs.Needs.{In, Every, Allowed}
 use Rattle.branching.specs.Branching.{cappedAt, raisedAt, Worthy, Bounded}
 
 -- ---- the problems

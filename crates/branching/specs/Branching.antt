@@ -1,8 +1,9 @@
 -- Problems with needs, by cases: what each function of the crate gives.
 --   isOptimal, isUnbounded k   the kind of an answer
---   unneeded, Named16, needsOf  what stands beyond the needs; the first t needs name places of 16; the first t needs
+--   Placed ns             there are at most 16 lines of needs, and they name places of 16
+--   NamedBy ns l          l says of each place of 16 whether a need of ns names it
 --   breaks x n            there is some of the item of n in x, and nothing of its cover
---   FirstBroken x l t r   the place of the first of t needs that x breaks, or t
+--   FirstBroken x ns r    the line of the first need that x breaks, or their number
 --   cappedAt p k, raisedAt p m   none of item k; at least 1 of item m
 --   Comparable n a        an answer whose value and first n amounts have divisors
 --   ShownLeads n a c      a is worth no less than c, and if it is worth as much its point does not come after c's
@@ -11,25 +12,27 @@
 --   knownIf t x, known b  what is known of points
 --   Worthy s a            a shows a point of s and its value, as an optimal answer does;  Holds s b: so does what b has found
 --   twigs u               the most cases that u undecided needs come to
---   caseCells             the most cells of a case
---   Worked n b            the work of at most n cases
+--   caseSteps             the most steps of a case
+--   Countable b r         the work of r can be added to that of b
+--   CountsNeeds m p ns r  the steps of r are those of a search of at most m, in which pairs with an item that ns names discard nothing, and the cells
+--                         of r those that the scales write after it
+--   Worked m n b          the work of at most n cases of m steps
 --   Bounded s             no steps are unbounded
---   Branches p r l t b    what a call is given;  Through s ns b c: what it gives
+--   Branches p r ns m b   what a call is given;  Through s ns m b c: what it gives
 --   unpricedItem, Unpriced p k q   an item at price 0; so are the first k of q, and the others are those of p
 --   rayFrom a d           the steps d from the point of a
 --   Told b r, FromRay b d r   an answer of the best, and of steps from it
---   Needed p l t, SolvesNeeds p ns r   what the entry is given, and gives
---   loosenedItem b i, Loosening p ns k q   an item that keeps its mark or not; so are the first k of q those of p
---   RelaxesNeeds p ns r   what the entry of the relaxation gives
+--   Needed p ns           what the entry is given;  Endless p r ns m: and for an answer with steps
+--   SolvesNeeds m p ns r  what the entry gives
 use mathlib.Core.Path.{_≡_}
 use mathlib.Core.Bool.{Bool, true, false, cond, not}
 use mathlib.Core.List.{List}
 use mathlib.Core.Logic.{_⊎_, _≢_}
 use Prim.Native.Nat.{ℕ, zero, suc, _+_, _*_, _≤_, _<_}
 use lib.IntN.{ℤ, pos, natAbs}
-use lib.ListN.{length, getD, take, replicate}
+use lib.ListN.{length, getD, replicate}
 use lib.Signed.{ltZ}
-use Rattle.arith.specs.Fractions.{frac, _≤ᶠ_, _≈ᶠ_}
+use Rattle.arith.specs.Fractions.{_≤ᶠ_, _≈ᶠ_}
 use Rattle.arith.specs.Gcd.{gcdOf}
 use Rattle.arith.specs.declared.Fraction.{Fraction}
 use Rattle.knapsack.specs.Demands.{shownValue}
@@ -41,12 +44,13 @@ use Rattle.knapsack.specs.declared.Item.{Item}
 use Rattle.knapsack.specs.declared.Kind.{Kind}
 use Rattle.knapsack.specs.declared.Kind.the-variants as kind
 use Rattle.knapsack.specs.declared.Problem.{Problem}
-use Rattle.model.specs.Records.{FiguresInRange}
-use Rattle.planner.specs.Outcomes.{Solves}
+use Rattle.model.specs.Needs.{Every, Allowed, AnswersNeeds, ShownFirstNeeds, names}
+use Rattle.model.specs.Records.{FiguresInRange, needAt, placed, needsOf}
+use Rattle.model.specs.declared.Need.{Need}
+use Rattle.model.specs.declared.Needs.{Needs}
+use Rattle.planner.specs.Outcomes.{mostWork, Counts, Cells, SolvesWithin}
 use Rattle.planner.specs.declared.Solved.{Solved}
 use Rattle.comparing.specs.Comparing.{amountIn, Divided}
-use Rattle.cases.specs.declared.Need.{Need}
-use Rattle.cases.specs.Needs.{Every, Allowed, AnswersNeeds, ShownFirstNeeds, names, loosened, relaxedBut}
 use Rattle.cases.proofs.Limits.{bounded}
 use Rattle.cases.proofs.Searched.{Known, nothing, best}
 use Rattle.cases.proofs.Searching.{SearchedNeeds, WorthBy, PointLeadsBy}
@@ -66,24 +70,25 @@ isUnbounded kind.Infeasible = false
 isUnbounded kind.Unbounded = true
 isUnbounded (kind.Refused f) = false
 
+-- ---- needs by places
+
+pub record Placed (ns : Needs) : Type 0 where
+  pub few : ns .count ≤ 16
+  pub places : Every (λ n. (n .item < 16) × (n .cover < 16)) (needsOf ns)
+
+pub record NamedBy (ns : List Need) (l : List Bool) : Type 0 where
+  pub long : length l ≡ 16
+  pub each : (k : ℕ) → k < 16 → getD l k false ≡ names ns k
+
 -- ---- needs that a point breaks
-
-abbrev pub unneeded : Need
-unneeded = record { item = 0; cover = 0 }
-
-abbrev pub Named16 : List Need → ℕ → Type 0
-Named16 l t = (i : ℕ) → i < t → (getD l i unneeded .item < 16) × (getD l i unneeded .cover < 16)
-
-abbrev pub needsOf : List Need → ℕ → List Need
-needsOf l t = take t l
 
 abbrev pub breaks : List Fraction → Need → Bool
 breaks x n = cond (ltZ (pos 0) (amountIn x (n .item) .p)) (not (ltZ (pos 0) (amountIn x (n .cover) .p))) false
 
-pub record FirstBroken (x : List Fraction) (l : List Need) (t r : ℕ) : Type 0 where
-  pub most : r ≤ t
-  pub kept : (j : ℕ) → j < r → breaks x (getD l j unneeded) ≡ false
-  pub broken : r < t → breaks x (getD l r unneeded) ≡ true
+pub record FirstBroken (x : List Fraction) (ns : Needs) (r : ℕ) : Type 0 where
+  pub most : r ≤ ns .count
+  pub kept : (j : ℕ) → j < r → breaks x (placed (needAt ns j)) ≡ false
+  pub broken : r < ns .count → breaks x (placed (needAt ns r)) ≡ true
 
 -- ---- the two cases
 
@@ -146,34 +151,46 @@ unfoldable pub twigs : ℕ → ℕ
 twigs zero = 1
 twigs (suc u) = suc (twigs u + twigs u)
 
-abbrev pub caseCells : ℕ
-caseCells = 1000000000000
+abbrev pub caseSteps : ℕ
+caseSteps = 1000000000000
 
-pub record Worked (n : ℕ) (b : Best) : Type 0 where
+pub record Countable (b : Best) (r : Solved) : Type 0 where
+  pub cases : b .cases ≤ 131071
+  pub steps : b .steps ≤ 131071 * caseSteps
+  pub cells : b .cells ≤ 131071 * mostWork
+  pub few-steps : r .steps ≤ caseSteps
+  pub few-cells : r .cells ≤ mostWork
+
+abbrev pub CountsNeeds : ℕ → Problem → List Need → Solved → Type 0
+CountsNeeds most p ns r =
+    (named : List Bool) × (NamedBy ns named × (Counts most p named (r .answer) (r .steps) × Cells most p named (r .answer) (r .cells)))
+
+pub record Worked (most n : ℕ) (b : Best) : Type 0 where
   pub cases : b .cases ≤ n
-  pub steps : b .steps ≤ 1000 * b .cases
-  pub cells : b .cells ≤ caseCells * b .cases
+  pub steps : b .steps ≤ b .cases * most
+  pub cells : b .cells ≤ b .cases * mostWork
 
 -- ---- the cases
 
 abbrev pub Bounded : Instance → Type 0
 Bounded s = (x : Point) (d : ℕ → ℤ) → ¬ Unbounded s x d
 
-pub record Branches (p : Problem) (r : Solved) (l : List Need) (t : ℕ) (b : Best) : Type 0 where
+pub record Branches (p : Problem) (r : Solved) (ns : Needs) (most : ℕ) (b : Best) : Type 0 where
   pub figures : FiguresInRange p
-  pub solved : Solves p r
-  pub few : t ≤ 16
-  pub allowed : Every (Allowed (instanceOf p)) (needsOf l t)
+  pub solved : SolvesWithin most p r
+  pub short : most ≤ caseSteps
+  pub few : ns .count ≤ 16
+  pub allowed : Every (Allowed (instanceOf p)) (needsOf ns)
   pub limited : Bounded (instanceOf p)
   pub holds : Holds (instanceOf p) b
-  pub worked : Worked (b .cases) b
-  pub room : b .cases + twigs (undecided (instanceOf p) (needsOf l t)) ≤ 131072
+  pub worked : Worked most (b .cases) b
+  pub room : b .cases + twigs (undecided (instanceOf p) (needsOf ns)) ≤ 131072
 
-pub record Through (s : Instance) (ns : List Need) (b c : Best) : Type 0 where
+pub record Through (s : Instance) (ns : List Need) (most : ℕ) (b c : Best) : Type 0 where
   pub worth : SearchedNeeds WorthBy s ns (known b) (known c)
   pub first : AllLower s → SearchedNeeds PointLeadsBy s ns (known b) (known c)
   pub holds : Holds s c
-  pub worked : Worked (b .cases + twigs (undecided s ns)) c
+  pub worked : Worked most (b .cases + twigs (undecided s ns)) c
 
 -- ---- the answer
 
@@ -201,28 +218,19 @@ pub record FromRay (b : Best) (d : List ℤ) (r : Solved) : Type 0 where
   pub steps : r .steps ≡ b .steps
   pub cells : r .cells ≡ b .cells
 
-pub record Needed (p : Problem) (l : List Need) (t : ℕ) : Type 0 where
+pub record Needed (p : Problem) (ns : Needs) : Type 0 where
   pub figures : FiguresInRange p
-  pub few : t ≤ 16
-  pub allowed : Every (Allowed (instanceOf p)) (needsOf l t)
+  pub few : ns .count ≤ 16
+  pub allowed : Every (Allowed (instanceOf p)) (needsOf ns)
 
-pub record SolvesNeeds (p : Problem) (ns : List Need) (r : Solved) : Type 0 where
+pub record Endless (p : Problem) (r : Solved) (ns : Needs) (most : ℕ) : Type 0 where
+  pub needed : Needed p ns
+  pub solved : SolvesWithin most p r
+  pub short : most ≤ caseSteps
+  pub kind-is : r .answer .kind ≡ kind.Unbounded
+
+pub record SolvesNeeds (most : ℕ) (p : Problem) (ns : List Need) (r : Solved) : Type 0 where
   pub answers : AnswersNeeds (instanceOf p) ns (r .answer)
   pub first : ShownFirstNeeds (instanceOf p) ns (r .answer)
-  pub few-steps : r .steps ≤ 131072000
-  pub few-cells : r .cells ≤ 131072 * caseCells
-
--- ---- the relaxation
-
-abbrev pub loosenedItem : Bool → Item → Item
-loosenedItem b i = record { mark = loosened b (i .mark); weight = i .weight; price = i .price; lower = i .lower; upper = i .upper }
-
-pub record Loosening (p : Problem) (ns : List Need) (k : ℕ) (q : Problem) : Type 0 where
-  pub count : q .count ≡ p .count
-  pub capacity : q .capacity ≡ p .capacity
-  pub items : (j : ℕ) → j < k → itemAt q j ≡ loosenedItem (names ns j) (itemAt p j)
-
-pub record RelaxesNeeds (p : Problem) (ns : List Need) (r : Solved) : Type 0 where
-  pub answers : AnswersNeeds (relaxedBut ns (instanceOf p)) ns (r .answer)
-  pub few-steps : r .steps ≤ 131072000
-  pub few-cells : r .cells ≤ 131072 * caseCells
+  pub few-steps : r .steps ≤ 131072 * most
+  pub few-cells : r .cells ≤ 131072 * mostWork

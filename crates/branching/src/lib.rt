@@ -1,33 +1,107 @@
-// One item needs another (paper 02): the answer of a problem with needs. A need is kept exactly if there is none of its item, or at least 1 of its cover.
-// So the plain problem is solved; if its point keeps all needs it is the best, else the two cases of the first broken need are gone through, each a plain
-// problem with one bound narrowed. A case whose best point is not ahead of what is known is left. See crate cases for the mathematics.
+// One item needs another (paper 02, request 7): the planner's entries, for records with needs. A need is kept exactly if there is none of its item, or at
+// least 1 of its cover. So the plain problem is solved; if its point keeps all needs it is the best, else the two cases of the first broken need are gone
+// through, each a plain problem with one bound narrowed. A case whose best point is not ahead of what is known is left. See crate cases for the mathematics.
 use arith::Fraction;
-use cases::Need;
 use comparing::comes_before;
 use comparing::less_fraction;
 use knapsack::Answer;
 use knapsack::Bound;
 use knapsack::Item;
 use knapsack::Kind;
-use knapsack::Mark;
 use knapsack::Problem;
+use knapsack::Verdict;
 use knapsack::with_item;
+use model::Model;
+use model::Need;
+use model::Needs;
+use model::check_model;
+use model::plain_of;
+use planner::STEPS;
 use planner::Solved;
 use planner::no_point;
-use planner::solve;
+use planner::solve_within;
 ghost use mathlib.Core.Path.{_≡_};
 ghost use mathlib.Core.Bool.{true};
-ghost use Prim.Native.Nat.{_≤_, _<_};
-ghost use lib.ListN.{getD};
+ghost use Prim.Native.Nat.{_-_, _≤_, _<_};
 ghost use Rattle.knapsack.specs.Meaning.{instanceOf};
 ghost use Rattle.knapsack.specs.declared.Kind.the-variants.{Optimal};
-ghost use Rattle.model.specs.Records.{FiguresInRange};
-ghost use Rattle.planner.specs.Outcomes.{Solves};
-ghost use Rattle.cases.specs.Needs.{names, loosened};
+ghost use Rattle.model.specs.Promises.{Planned};
+ghost use Rattle.model.specs.Records.{FiguresInRange, needAt, placed, needsOf};
+ghost use Rattle.planner.specs.Outcomes.{SolvesWithin};
 ghost use Rattle.cases.proofs.Splitting.{cap, raise};
-ghost use Rattle.branching.specs.Branching.{isOptimal, isUnbounded, breaks, unneeded, FirstBroken, Named16, needsOf, Comparable, Leading, Outdoes, nothingYet};
-ghost use Rattle.branching.specs.Branching.{countedOf, Worked, withBest, cappedAt, raisedAt, unpricedItem, Unpriced, Branches, Through, Told, FromRay, Needed, SolvesNeeds};
-ghost use Rattle.branching.specs.Branching.{loosenedItem, Loosening, RelaxesNeeds};
+ghost use Rattle.branching.specs.Branching.{
+  isOptimal,
+  isUnbounded,
+  Placed,
+  NamedBy,
+  breaks,
+  FirstBroken,
+  cappedAt,
+  raisedAt,
+  Comparable,
+  Leading,
+  Outdoes,
+  nothingYet,
+  Countable,
+  countedOf,
+  withBest,
+  caseSteps,
+  CountsNeeds,
+  Branches,
+  Through,
+  unpricedItem,
+  Unpriced,
+  Told,
+  FromRay,
+  Needed,
+  Endless,
+  SolvesNeeds,
+};
+
+// ---- needs by places
+
+// The place of item number k.
+fn place_of(k: usize) -> usize
+    ensures { λ r. ⌜ r ≡ k - 1 ⌝ }
+{
+    if k == 0 {
+        return 0;
+    }
+    k - 1
+}
+
+// The need of line i, by places from 0.
+fn need_at(ns: Needs, i: usize) -> Need
+    requires { ⌜ i < 16 ⌝ }
+    ensures { λ r. ⌜ r ≡ placed (needAt ns i) ⌝ }
+{
+    let n = ns.lines[i];
+    let k = n.item;
+    let m = n.cover;
+    Need {
+        item: place_of(k),
+        cover: place_of(m),
+    }
+}
+
+// The items that a need names.
+pub fn named_of(ns: Needs) -> [bool; 16]
+    requires { ⌜ Placed ns ⌝ }
+    ensures { λ r. ⌜ NamedBy (needsOf ns) r ⌝ }
+{
+    let t = ns.count;
+    let mut named = [false; 16];
+    let mut i: usize = 0;
+    while i < t {
+        let n = need_at(ns, i);
+        let k = n.item;
+        let m = n.cover;
+        named[m] = true;
+        named[k] = true;
+        i += 1;
+    }
+    named
+}
 
 // ---- needs that a point breaks
 
@@ -49,14 +123,15 @@ fn breaks(x: [Fraction; 16], n: Need) -> bool
     false
 }
 
-// The place of the first need that x breaks, or t.
-fn first_broken(x: [Fraction; 16], needs: [Need; 16], t: usize) -> usize
-    requires { ⌜ (t ≤ 16) × Named16 needs t ⌝ }
-    ensures { λ r. ⌜ FirstBroken x needs t r ⌝ }
+// The line of the first need that x breaks, or their number.
+fn first_broken(x: [Fraction; 16], ns: Needs) -> usize
+    requires { ⌜ Placed ns ⌝ }
+    ensures { λ r. ⌜ FirstBroken x ns r ⌝ }
 {
+    let t = ns.count;
     let mut i: usize = 0;
     while i < t {
-        let n = needs[i];
+        let n = need_at(ns, i);
         if breaks(x, n) {
             return i;
         }
@@ -151,7 +226,7 @@ fn nothing_yet() -> Best
 
 // One case more.
 fn counted(b: Best, r: Solved) -> Best
-    requires { ⌜ Worked 131071 b × ((r .steps ≤ 1000) × (r .cells ≤ 1000000000000)) ⌝ }
+    requires { ⌜ Countable b r ⌝ }
     ensures { λ c. ⌜ c ≡ countedOf b r ⌝ }
 {
     let a = b.answer;
@@ -236,22 +311,41 @@ fn outdoes(a: Answer, b: Best, n: usize) -> bool
 
 // ---- the cases
 
+// How many steps the search of a case may take, whatever is asked: all of them together can then be counted.
+const CASE_STEPS: u64 = 1000000000000;
+
+fn few_steps(most: u64) -> u64
+    ensures { λ r. ⌜ (r ≤ most) × (r ≤ caseSteps) ⌝ }
+{
+    if CASE_STEPS < most { CASE_STEPS } else { most }
+}
+
+// A case, by a search of at most so many steps, in which no pair with an item that a need names discards anything.
+fn solve_case(p: Problem, ns: Needs, most: u64) -> Solved
+    requires { ⌜ FiguresInRange p × Placed ns ⌝ }
+    ensures { λ r. ⌜ SolvesWithin most p r ⌝ }
+    ensures { λ r. ⌜ CountsNeeds most p (needsOf ns) r ⌝ }
+{
+    let named = named_of(ns);
+    solve_within(p, named, most)
+}
+
 // The problem p, whose plain answer is r, gone through with its needs: the best of b and of its points.
-fn branch(p: Problem, r: Solved, needs: [Need; 16], t: usize, b: Best) -> Best
-    requires { ⌜ Branches p r needs t b ⌝ }
-    ensures { λ c. ⌜ Through (instanceOf p) (needsOf needs t) b c ⌝ }
+fn branch(p: Problem, r: Solved, ns: Needs, most: u64, b: Best) -> Best
+    requires { ⌜ Branches p r ns most b ⌝ }
+    ensures { λ c. ⌜ Through (instanceOf p) (needsOf ns) most b c ⌝ }
 {
     let c = counted(b, r);
     let a = r.answer;
     if outdoes(a, c, p.count) {
         let x = a.point;
-        let i = first_broken(x, needs, t);
-        if i < t {
-            let n = needs[i];
+        let i = first_broken(x, ns);
+        if i < ns.count {
+            let n = need_at(ns, i);
             let q = without(p, n.item);
-            let d = branch(q, solve(q), needs, t, c);
+            let d = branch(q, solve_case(q, ns, most), ns, most, c);
             let h = having(p, n.cover);
-            return branch(h, solve(h), needs, t, d);
+            return branch(h, solve_case(h, ns, most), ns, most, d);
         }
         return with_best(c, a);
     }
@@ -331,87 +425,61 @@ fn from_ray(b: Best, d: [i64; 16]) -> Solved
     told(b)
 }
 
-// The answer of a problem with its first t needs. Steps that are unbounded never move an item that a need may name; so where the plain problem has them,
-// any point that keeps the needs is a start.
-pub fn solve_needs(p: Problem, needs: [Need; 16], t: usize) -> Solved
-    requires { ⌜ Needed p needs t ⌝ }
-    ensures { λ r. ⌜ SolvesNeeds p (needsOf needs t) r ⌝ }
+// The answer of a problem whose plain answer r shows steps that are unbounded. They never move an item that a need may name, so any point that keeps the
+// needs is a start: r's own, or else the best at price 0.
+fn solve_ray(p: Problem, r: Solved, ns: Needs, most: u64) -> Solved
+    requires { ⌜ Endless p r ns most ⌝ }
+    ensures { λ s. ⌜ SolvesNeeds most p (needsOf ns) s ⌝ }
 {
-    let r = solve(p);
     let a = r.answer;
-    let none = nothing_yet();
-    if is_unbounded(a) {
+    let x = a.point;
+    let broken = first_broken(x, ns);
+    if broken < ns.count {
         let d = a.steps;
+        let none = nothing_yet();
         let c = counted(none, r);
         let q = unpriced(p);
-        return from_ray(branch(q, solve(q), needs, t, c), d);
+        let b = branch(q, solve_case(q, ns, most), ns, most, c);
+        return from_ray(b, d);
     }
-    told(branch(p, r, needs, t, none))
+    r
 }
 
-// ---- the relaxation: items that a need names keep their marks
-
-// Whether one of the first t needs names item k.
-fn names(needs: [Need; 16], t: usize, k: usize) -> bool
-    requires { ⌜ t ≤ 16 ⌝ }
-    ensures { λ r. ⌜ r ≡ names (needsOf needs t) k ⌝ }
+// The answer of a problem with needs, by searches of at most so many steps, one for each case.
+pub fn solve_needs(p: Problem, ns: Needs, most: u64) -> Solved
+    requires { ⌜ Needed p ns ⌝ }
+    ensures { λ r. ⌜ SolvesNeeds most p (needsOf ns) r ⌝ }
 {
-    let mut i: usize = 0;
-    while i < t {
-        let n = needs[i];
-        if n.item == k {
-            return true;
+    let few = few_steps(most);
+    let r = solve_case(p, ns, few);
+    let a = r.answer;
+    if is_unbounded(a) {
+        return solve_ray(p, r, ns, few);
+    }
+    let none = nothing_yet();
+    told(branch(p, r, ns, few, none))
+}
+
+// ---- records
+
+// The reply to any record, by searches of at most so many steps.
+pub fn plan_within(m: Model, most: u64) -> Answer
+    ensures { λ r. ⌜ Planned m r ⌝ }
+{
+    let v = check_model(m);
+    match v {
+        Verdict::Accepted => {
+            let ns = m.needs;
+            let r = solve_needs(plain_of(m), ns, most);
+            r.answer
         }
-        if n.cover == k {
-            return true;
-        }
-        i += 1;
-    }
-    false
-}
-
-fn loosened_mark(kept: bool, m: Mark) -> Mark
-    ensures { λ r. ⌜ r ≡ loosened kept m ⌝ }
-{
-    if kept { m } else { Mark::Continuous }
-}
-
-fn loosened_item(kept: bool, i: Item) -> Item
-    ensures { λ r. ⌜ r ≡ loosenedItem kept i ⌝ }
-{
-    let m = i.mark;
-    let mark = loosened_mark(kept, m);
-    let lower = i.lower;
-    let upper = i.upper;
-    Item {
-        mark: mark,
-        weight: i.weight,
-        price: i.price,
-        lower: lower,
-        upper: upper,
+        Verdict::Refused(f) => no_point(Kind::Refused(f)),
     }
 }
 
-fn relaxed_but(p: Problem, needs: [Need; 16], t: usize) -> Problem
-    requires { ⌜ (p .count ≤ 16) × (t ≤ 16) ⌝ }
-    ensures { λ r. ⌜ Loosening p (needsOf needs t) (p .count) r ⌝ }
+// The planner's reply to any record.
+pub fn plan(m: Model) -> Answer
+    ensures { λ r. ⌜ Planned m r ⌝ }
 {
-    let n = p.count;
-    let mut q = p;
-    let mut k: usize = 0;
-    while k < n {
-        let i = p.items[k];
-        let kept = names(needs, t, k);
-        q = with_item(q, k, loosened_item(kept, i));
-        k += 1;
-    }
-    q
-}
-
-// The relaxed answer of a problem with its first t needs.
-pub fn relax_needs(p: Problem, needs: [Need; 16], t: usize) -> Solved
-    requires { ⌜ Needed p needs t ⌝ }
-    ensures { λ r. ⌜ RelaxesNeeds p (needsOf needs t) r ⌝ }
-{
-    solve_needs(relaxed_but(p, needs, t), needs, t)
+    plan_within(m, STEPS)
 }

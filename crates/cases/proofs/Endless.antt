@@ -2,33 +2,28 @@
 --   Still d n            the steps d do not move the items of the need n
 --   worthless s          s at price 0
 -- unbounded-still: an item with both bounds is not moved.  still-keeps: so needs stay kept.  unbounded-needs: and the steps are unbounded with needs.
--- End theorems: unbounded-needs and these. no-ray-without, no-ray-having: where there is no ray, the cases have none.
--- needs-priced: prices play no part in what is feasible with needs.  no-ray-worthless, allowed-priced: at price 0 there is no ray, so that a search there
--- finds a start, or says that there is none.
-use mathlib.Core.Path.{_≡_, refl, sym, ap, subst, _∙_}
+-- passes, unbounded-passes: along the steps the value passes every number.
+-- needs-priced, allowed-priced: prices play no part in what is feasible with needs, nor in what a need may name.
+use mathlib.Core.Path.{_≡_, sym, ap, subst, _∙_}
 use mathlib.Core.List.{List}
 use mathlib.Core.Logic.{_⊎_, inl, inr, _↔_}
 use Prim.Native.Nat.{ℕ, _*_, _≤_}
 use native.Mathlib.Omega.{arith}
-use native.Mathlib.Decide.{ℕ-discrete}
+use native.Mathlib.Nat.{mul-le-mul, mul-le-mul-left}
 use lib.IntN.{ℤ, pos, _+ℤ_, _*ℤ_}
-use lib.Signed.{_≤ℤ_, _<ℤ_, clashℤ}
-use Rattle.arith.proofs.Fractions.{Common, common}
-use Rattle.arith.proofs.Integers.{split, zed, ≤ℤ-or-<, ≤ℤ-antisym, ≤ℤ-reflexive}
-use Rattle.arith.proofs.Sums.{pick-ind}
-use Rattle.arith.specs.Fractions.{Frac}
-use Rattle.knapsack.proofs.Branch.{narrow}
-use Rattle.knapsack.proofs.Rays.{steppedᴰ, over-stepped, Ray, unbounded-ray}
-use Rattle.knapsack.proofs.Reach.{Way, fore, aft, turn, Free, NoRay}
-use Rattle.knapsack.specs.Meaning.{Instance, Point, Keeps, stepped, Unbounded}
-use Rattle.knapsack.specs.declared.Bound.{Bound}
-use Rattle.knapsack.specs.declared.Bound.the-variants.{Absent}
+use lib.Signed.{_≤ℤ_, _<ℤ_}
+use Rattle.arith.proofs.Fractions.{Over, over-<, over-own, over-scale, over-total, Common, common}
+use Rattle.arith.proofs.Integers.{split, split3, zed, ≤ℤ-or-<, ≤ℤ-antisym}
+use Rattle.arith.specs.Fractions.{Frac, _<ᶠ_}
+use Rattle.knapsack.proofs.Climb.{gap}
+use Rattle.knapsack.proofs.Common.{valueᴰ}
+use Rattle.knapsack.proofs.Rays.{steppedᴰ, over-stepped, sum-stepped, Ray, unbounded-ray}
+use Rattle.knapsack.specs.Meaning.{Instance, Point, Keeps, value, prices, stepped, Unbounded}
 use Rattle.knapsack.specs.declared.Item.{Item}
 use Rattle.foremost.proofs.Foremost.{pricedItem, priced}
-use Rattle.cases.specs.declared.Need.{Need}
-use Rattle.cases.specs.Needs.{Every, KeepsNeeds, FeasibleNeeds, UnboundedNeeds, NotNegative, Present, Named, Allowed}
+use Rattle.model.specs.Needs.{Every, KeepsNeeds, FeasibleNeeds, UnboundedNeeds, NotNegative, Present, Named, Allowed}
+use Rattle.model.specs.declared.Need.{Need}
 use Rattle.cases.proofs.Needs.{KeepsNeedsᴰ, needs-agree}
-use Rattle.cases.proofs.Splitting.{cap, raise, without, having, cap-present, raise-not-negative}
 use Rattle.cases.proofs.Points.{inside-allowed, bridge-need}
 
 -- ---- steps
@@ -61,7 +56,7 @@ module _ (s : Instance) (x : Point) (d : ℕ → ℤ) (u : Unbounded s x d) wher
       high (inl h) = h
       high (inr h) = absurd (subst NotNegative (r .down k (n .inside) h) (n .above))
 
-  -- End theorem: so steps that are unbounded are so with needs, from every point that keeps them
+  -- so steps that are unbounded are so with needs, from every point that keeps them
   pub unbounded-needs : (ns : List Need) → Every (Allowed s) ns → FeasibleNeeds s ns x → UnboundedNeeds s ns x d
   unbounded-needs ns a p = record { plain = u; from = p; stays = λ t. record { plain = u .stays t; kept = kept t (common (s .count) x) } }
     where
@@ -73,28 +68,28 @@ module _ (s : Instance) (x : Point) (d : ℕ → ℤ) (u : Unbounded s x d) wher
           (inside-allowed s ns a n i) .1
           (still-keeps d ns still (c .D) (c .N) t (λ m j. bridge-need s (c .D) x (c .N) (c .D≥1) (c .reads) m (inside-allowed s ns a m j) .0 (p .kept m j)) n i)
 
--- ---- no ray
+-- ---- along the steps the value passes every number
 
-free-out : (s : Instance) (k : ℕ) (l u : Bound) → (l ≡ Absent → s .item k .lower ≡ Absent) → (u ≡ Absent → s .item k .upper ≡ Absent) → (w : Way) (j : ℕ)
-    → Free w (narrow s k l u .item j) → Free w (s .item j)
-free-out s k l u fl fu fore j = pick-ind (λ b. b ≡ Absent → s .item j .upper ≡ Absent) (ℕ-discrete j k) u (s .item j .upper)
-    (λ e h. subst (λ i. s .item i .upper ≡ Absent) (sym e) (fu h)) (λ e h. h)
-free-out s k l u fl fu aft j = pick-ind (λ b. b ≡ Absent → s .item j .lower ≡ Absent) (ℕ-discrete j k) l (s .item j .lower)
-    (λ e h. subst (λ i. s .item i .lower ≡ Absent) (sym e) (fl h)) (λ e h. h)
+pub passes : (s : Instance) (x : Point) (d : ℕ → ℤ) → Ray s d → (v : Frac) → (t : ℕ) × (v <ᶠ value s (stepped x d t))
+passes s x d r v = go (common (s .count) x)
+  where
+    -- t steps are enough if t is at least what is missing
+    enough : (D E t : ℕ) → 1 ≤ D → 1 ≤ E → (n g u : ℤ) → pos 0 <ℤ g → (u +ℤ pos 1) ≤ℤ (n *ℤ pos E +ℤ pos t) → u <ℤ ((n +ℤ pos (t * D) *ℤ g) *ℤ pos E)
+    enough D E t d e = split3 _ (λ a b c f h i. simp zed (λ k l. omega (arith, mul-le-mul-left (t * D * E) k, mul-le-mul-left t (mul-le-mul d e))))
 
-no-ray-narrow : (s : Instance) (k : ℕ) (l u : Bound) → (l ≡ Absent → s .item k .lower ≡ Absent) → (u ≡ Absent → s .item k .upper ≡ Absent) → NoRay s
-    → NoRay (narrow s k l u)
-no-ray-narrow s k l u fl fu h = record {
-  one = λ j m w f. h .one j m w (free-out s k l u fl fu w j f);
-  two = λ i j m m′ v w f f′. h .two i j m m′ v w (free-out s k l u fl fu v i f) (free-out s k l u fl fu w j f′);
-}
+    worth : (c : Common (s .count) x) (t : ℕ) → Over (c .D) (value s (stepped x d t)) (valueᴰ s (c .N) +ℤ pos (t * c .D) *ℤ valueᴰ s d)
+    worth c t = rw (sum-stepped (s .count) (c .D) (prices s) (c .N) d t) at
+        (over-total (c .D) (s .count) (stepped x d t) (steppedᴰ (c .D) (c .N) d t) (over-stepped s (c .D) x (c .N) d t (c .reads)) (prices s))
 
-pub no-ray-without : (s : Instance) (k : ℕ) → NoRay s → NoRay (without s k)
-no-ray-without s k = no-ray-narrow s k (s .item k .lower) (cap (s .item k .upper)) (λ e. e) (λ e. absurd (subst Present e (cap-present (s .item k .upper))))
+    go : Common (s .count) x → (t : ℕ) × (v <ᶠ value s (stepped x d t))
+    go c =
+        let g = gap (v .num *ℤ pos (c .D) +ℤ pos 1) (valueᴰ s (c .N) *ℤ pos (v .den)) in
+        (g .0, over-< (mul-le-mul (c .D≥1) (v .den≥1)) (over-own (c .D) v) (over-scale (v .den) (worth c (g .0)))
+        (enough (c .D) (v .den) (g .0) (c .D≥1) (v .den≥1) (valueᴰ s (c .N)) (valueᴰ s d) (v .num *ℤ pos (c .D)) (r .gain) (g .1)))
 
-pub no-ray-having : (s : Instance) (m : ℕ) → NoRay s → NoRay (having s m)
-no-ray-having s m = no-ray-narrow s m (raise (s .item m .lower)) (s .item m .upper)
-    (λ e. absurd (subst NotNegative e (raise-not-negative (s .item m .lower)))) (λ e. e)
+pub unbounded-passes : (s : Instance) (ns : List Need) (x : Point) (d : ℕ → ℤ) → UnboundedNeeds s ns x d → (v : Frac)
+    → (y : Point) × FeasibleNeeds s ns y × (v <ᶠ value s y)
+unbounded-passes s ns x d u v = let z = passes s x d (unbounded-ray s x d (u .plain)) v in (stepped x d (z .0), u .stays (z .0), z .1)
 
 -- ---- other prices
 
@@ -119,10 +114,3 @@ allowed-priced s p ns a n i = record {
 
 abbrev pub worthless : Instance → Instance
 worthless s = priced s (λ k. pos 0)
-
-turn-zero : (w : Way) → turn w (pos 0) ≡ pos 0
-turn-zero fore = refl
-turn-zero aft = refl
-
-pub no-ray-worthless : (s : Instance) → NoRay (worthless s)
-no-ray-worthless s = record { one = λ k l w f a. ≤ℤ-reflexive (turn-zero w); two = λ i j l m v w f g a b. absurd (clashℤ b (≤ℤ-reflexive (turn-zero v))) }

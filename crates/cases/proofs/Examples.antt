@@ -20,8 +20,8 @@ use Rattle.knapsack.specs.Meaning.{Instance, Point, value, prices, Feasible}
 use Rattle.knapsack.specs.declared.Bound.the-variants.{At}
 use Rattle.knapsack.specs.declared.Item.{Item}
 use Rattle.knapsack.specs.declared.Mark.the-variants.{Integer}
-use Rattle.cases.specs.declared.Need.{Need}
-use Rattle.cases.specs.Needs.{here, Every, KeepsNeeds, OptimalNeeds, Allowed, Inside}
+use Rattle.model.specs.declared.Need.{Need}
+use Rattle.model.specs.Needs.{here, Every, KeepsNeeds, OptimalNeeds, Allowed, Inside}
 use Rattle.cases.proofs.Needs.{every-none, every-also, KeepsNeedᴰ, KeepsNeedsᴰ}
 use Rattle.cases.proofs.Splitting.{without, having}
 use Rattle.cases.proofs.Undecided.{undecided}

@@ -9,4 +9,5 @@ pub mod Endless
 pub mod Limits
 pub mod Relaxing
 pub mod Once
+pub mod Demands
 pub mod Examples

@@ -4,7 +4,7 @@
 use mathlib.Core.Path.{_≡_, subst}
 use mathlib.Core.List.{List}
 use mathlib.Core.Logic.{_↔_}
-use Prim.Native.Nat.{ℕ, _*_, _≤_, _<_}
+use Prim.Native.Nat.{ℕ, _≤_}
 use native.Mathlib.Omega.{arith}
 use lib.IntN.{ℤ, pos, _*ℤ_}
 use lib.Signed.{_≤ℤ_, _<ℤ_}
@@ -14,8 +14,8 @@ use Rattle.arith.specs.Fractions.{int, frac, _≤ᶠ_}
 use Rattle.knapsack.proofs.Bridge.{Reads, bridge-feasible}
 use Rattle.knapsack.specs.Meaning.{Instance, Point}
 use Rattle.foremost.proofs.Points.{over-<-back}
-use Rattle.cases.specs.declared.Need.{Need}
-use Rattle.cases.specs.Needs.{Every, Allowed, KeepsNeed, FeasibleNeeds, Inside}
+use Rattle.model.specs.declared.Need.{Need}
+use Rattle.model.specs.Needs.{Every, Allowed, KeepsNeed, FeasibleNeeds, Inside}
 use Rattle.cases.proofs.Needs.{KeepsNeedᴰ, FeasibleNeedsᴰ}
 
 pub bridge-need : (s : Instance) (D : ℕ) (x : Point) (N : ℕ → ℤ) → 1 ≤ D → Reads s D x N → (n : Need) → Inside s n → KeepsNeed n x ↔ KeepsNeedᴰ D n N

@@ -1,15 +1,14 @@
 -- The relaxation of a problem with needs: items that a need names keep their marks, all others become continuous.
--- End theorems: all but relaxed-needs, names-item and names-cover.
 -- relaxed-needs: what is feasible with needs stays so.  relaxed-never-below: so the relaxed value is never below the best.
--- relaxed-infeasible, relaxed-no-ray: it is infeasible, and has a ray, exactly if the problem is and has: bounds are whole, so that amounts can be rounded.
--- allowed-relaxed: allowed needs stay allowed, so that it is solved by the same cases.  relaxed-without, relaxed-having: which are the cases' relaxations.
--- relaxed-none: where there are no needs every item becomes continuous.  names-item, names-cover: the items of a need are named.
+-- rounded-needs, relaxed-ray: where it has a point, or a ray, the problem has: bounds are whole, so that amounts can be rounded.
+-- allowed-relaxed: allowed needs stay allowed, so that it is solved by the same cases.
+-- relaxed-none (end theorem): where there are no needs every item becomes continuous.  names-item, names-cover: the items of a need are named.
 --   Rounded D w n r     r / D is whole, weighs no more than n / D at weight w, and keeps every whole bound that n / D keeps
 use mathlib.Core.Path.{_≡_, refl, sym, ap, subst, _∙_}
 use mathlib.Core.Bool.{Bool, true, false, cond}
 use mathlib.Core.List.{List, []}
-use mathlib.Core.Logic.{_⊎_, inl, inr, _↔_}
-use Prim.Native.Nat.{ℕ, _≤_, _<_}
+use mathlib.Core.Logic.{_⊎_, inl, inr}
+use Prim.Native.Nat.{ℕ, _≤_}
 use native.Mathlib.Omega.{arith}
 use native.Mathlib.Nat.{mul-le-mul-left, mul-le-mul-right}
 use lib.Dec.{eqb}
@@ -23,18 +22,17 @@ use Rattle.arith.specs.Division.{floorDiv}
 use Rattle.arith.specs.Fractions.{Frac, frac, _≤ᶠ_}
 use Rattle.arith.proofs.Fractions.{Common, common}
 use Rattle.knapsack.proofs.Common.{KeepsMarkᴰ, KeepsLowerᴰ, KeepsUpperᴰ}
-use Rattle.knapsack.proofs.Reach.{Way, fore, aft, Free, NoRay}
-use Rattle.knapsack.specs.Meaning.{Instance, Point, KeepsMark, weights, value, relaxed}
+use Rattle.knapsack.proofs.Rays.{ray-unbounded, unbounded-ray}
+use Rattle.knapsack.specs.Meaning.{Instance, Point, KeepsMark, Unbounded, weights, value, relaxed}
 use Rattle.knapsack.specs.declared.Bound.{Bound}
 use Rattle.knapsack.specs.declared.Bound.the-variants.{Absent, At}
 use Rattle.knapsack.specs.declared.Mark.{Mark}
 use Rattle.knapsack.specs.declared.Mark.the-variants.{Integer, Continuous}
-use Rattle.cases.specs.declared.Need.{Need}
-use Rattle.cases.specs.Needs.{Every, In, here, there, Named, Allowed, names, loosened, relaxedBut, FeasibleNeeds, OptimalNeeds, InfeasibleNeeds}
-use Rattle.cases.specs.Needs.{Inside}
+use Rattle.model.specs.Needs.{In, here, there, Every, Named, Allowed, Inside, names, loosened, relaxedBut, FeasibleNeeds, OptimalNeeds, UnboundedNeeds}
+use Rattle.model.specs.declared.Need.{Need}
+use Rattle.cases.proofs.Endless.{unbounded-needs}
 use Rattle.cases.proofs.Needs.{FeasibleNeedsᴰ, needs-agree}
-use Rattle.cases.proofs.Splitting.{without, having}
-use Rattle.cases.proofs.Points.{bridge-needs, fractions}
+use Rattle.cases.proofs.Points.{inside-allowed, bridge-needs, fractions}
 
 -- ---- the items of a need are named
 
@@ -96,16 +94,10 @@ allowed-relaxed s ns a n i = record {
   cover = named-relaxed s ns (n .cover) (names-cover i) (a n i .cover);
 }
 
-pub relaxed-without : (ns : List Need) (s : Instance) (k : ℕ) → without (relaxedBut ns s) k ≡ relaxedBut ns (without s k)
-relaxed-without ns s k = refl
-
-pub relaxed-having : (ns : List Need) (s : Instance) (m : ℕ) → having (relaxedBut ns s) m ≡ relaxedBut ns (having s m)
-relaxed-having ns s m = refl
-
 pub relaxed-none : (s : Instance) → relaxedBut [] s ≡ relaxed s
 relaxed-none s = refl
 
--- ---- it is infeasible, and has a ray, exactly if the problem is and has
+-- ---- where it has a point the problem has, and where it has a ray
 
 -- r / D is whole, weighs no more than n / D at weight w, and keeps every whole bound that n / D keeps
 record Rounded (D : ℕ) (w n r : ℤ) : Type 0 where
@@ -250,24 +242,24 @@ module _ (D : ℕ) (d : 1 ≤ D) where
       stays : (k : ℕ) → names ns k ≡ true → N k ≡ M k
       stays k e = settled-same (names ns k) (s .item k .mark) (weights s k) (N k) e
 
-pub relaxed-infeasible : (s : Instance) (ns : List Need) → Every (Inside s) ns → InfeasibleNeeds s ns ↔ InfeasibleNeeds (relaxedBut ns s) ns
-relaxed-infeasible s ns inside = (λ h y p. to h y p (common (s .count) y), λ h x p. h x (relaxed-needs s ns ns x p))
+-- so the problem has a point where the relaxation has
+pub rounded-needs : (s : Instance) (ns : List Need) → Every (Inside s) ns → (y : Point) → FeasibleNeeds (relaxedBut ns s) ns y
+    → (x : Point) × FeasibleNeeds s ns x
+rounded-needs s ns inside y p = go (common (s .count) y)
   where
-    to : InfeasibleNeeds s ns → (y : Point) → FeasibleNeeds (relaxedBut ns s) ns y → Common (s .count) y → ⊥
-    to h y p c = let r = relaxed-rounded (c .D) (c .D≥1) s ns (c .N) (bridge-needs (relaxedBut ns s) ns inside (c .D) y (c .N) (c .D≥1) (c .reads) .0 p) in
-        h (λ k. frac (r .0 k) (c .D))
-        (bridge-needs s ns inside (c .D) (λ k. frac (r .0 k) (c .D)) (r .0) (c .D≥1) (fractions s (c .D) (r .0) (c .D≥1)) .1 (r .1))
+    go : Common (s .count) y → (x : Point) × FeasibleNeeds s ns x
+    go c =
+        let r = relaxed-rounded (c .D) (c .D≥1) s ns (c .N) (bridge-needs (relaxedBut ns s) ns inside (c .D) y (c .N) (c .D≥1) (c .reads) .0 p) in
+        let x : Point = λ k. frac (r .0 k) (c .D) in
+        (x, bridge-needs s ns inside (c .D) x (r .0) (c .D≥1) (fractions s (c .D) (r .0) (c .D≥1)) .1 (r .1))
 
-pub relaxed-no-ray : (s : Instance) (ns : List Need) → NoRay s ↔ NoRay (relaxedBut ns s)
-relaxed-no-ray s ns = (
-  λ h. record { one = λ k l w f. h .one k l w (into w k f); two = λ i j l m v w f g. h .two i j l m v w (into v i f) (into w j g) },
-  λ h. record { one = λ k l w f. h .one k l w (back w k f); two = λ i j l m v w f g. h .two i j l m v w (back v i f) (back w j g) },
-)
-  where
-    into : (w : Way) (k : ℕ) → Free w (relaxedBut ns s .item k) → Free w (s .item k)
-    into fore k f = f
-    into aft k f = f
-
-    back : (w : Way) (k : ℕ) → Free w (s .item k) → Free w (relaxedBut ns s .item k)
-    back fore k f = f
-    back aft k f = f
+-- and steps that are unbounded in it are so in the problem
+pub relaxed-ray : (s : Instance) (ns : List Need) → Every (Allowed s) ns → (y : Point) (d : ℕ → ℤ) → UnboundedNeeds (relaxedBut ns s) ns y d
+    → (x : Point) × UnboundedNeeds s ns x d
+relaxed-ray s ns a y d u =
+    let v = u .plain in
+    let r = unbounded-ray (relaxedBut ns s) y d v in
+    let p = rounded-needs s ns (inside-allowed s ns a) y (u .from) in
+    let w : Unbounded s (p .0) d = ray-unbounded s (p .0) d (v .i) (v .j) (v .i-in) (v .j-in) (v .i-moves) (v .j-moves) (v .others)
+        (record { up = r .up; down = r .down; light = r .light; gain = r .gain }) (p .1 .plain) in
+    (p .0, unbounded-needs s (p .0) d w ns a (p .1))

@@ -8,7 +8,7 @@
 -- End theorems:
 -- top-is-optimal, top-is-first: who leads all with needs is the best, the first best, with needs.
 -- broken-open: a need that a feasible point breaks is not decided, so each case leaves fewer undecided.
--- needs-infeasible, needs-behind, needs-bounded, needs-kept, needs-split, needs-split-turned: the ways out of a call.
+-- needs-infeasible, needs-behind, needs-bounded, needs-kept, needs-split: the ways out of a call.
 -- needs-nothing, needs-best: what is found from nothing is the answer.
 use mathlib.Core.Path.{_≡_, subst}
 use mathlib.Core.Bool.{false}
@@ -16,7 +16,7 @@ use mathlib.Core.List.{List}
 use mathlib.Core.Logic.{_⊎_, inl, inr, _↔_}
 use Prim.Native.Nat.{ℕ}
 use native.Mathlib.Nat.{mul-le-mul, mul-comm}
-use lib.IntN.{ℤ, pos, _*ℤ_}
+use lib.IntN.{pos, _*ℤ_}
 use lib.Signed.{_≤ℤ_}
 use Rattle.arith.proofs.Fractions.{Over, over-≤, over-total, over-scale, Common, common, ≤ᶠ-trans, <ᶠ-not-≤}
 use Rattle.arith.specs.Fractions.{Frac, _≤ᶠ_, _<ᶠ_}
@@ -28,11 +28,11 @@ use Rattle.foremost.proofs.Earlier.{not-after, not-after-not}
 use Rattle.foremost.proofs.Leads.{Leads, leads-refl, leads-trans, leads-total}
 use Rattle.knapsack.specs.Meaning.{Earlier, Foremost}
 use Rattle.foremost.proofs.Points.{bridge-earlier, earlier-bridge}
-use Rattle.cases.specs.declared.Need.{Need}
-use Rattle.cases.specs.Needs.{Every, In, KeepsNeed, KeepsNeeds, FeasibleNeeds, InfeasibleNeeds, OptimalNeeds, ForemostNeeds, Inside}
+use Rattle.model.specs.declared.Need.{Need}
+use Rattle.model.specs.Needs.{Every, In, KeepsNeed, KeepsNeeds, FeasibleNeeds, InfeasibleNeeds, OptimalNeeds, ForemostNeeds, Inside}
 use Rattle.cases.proofs.Needs.{FeasibleNeedsᴰ}
 use Rattle.cases.proofs.Splitting.{without, having, cases-in}
-use Rattle.cases.proofs.Tops.{_⊆_, Top, Parts, parts-swap, top-part}
+use Rattle.cases.proofs.Tops.{_⊆_, Top, Parts, top-part}
 use Rattle.cases.proofs.Searched.{Known, nothing, best, Settles, Follows, Searched, settles-part, settles-empty, searched-passed, searched-top}
 use Rattle.cases.proofs.Searched.{searched-of-two, searched-tells}
 use Rattle.cases.proofs.Points.{bridge-need, bridge-needs}
@@ -219,9 +219,6 @@ module _ {L : (Point → Frac) → ℕ → Point → Point → Type 0} (order : 
   module _ (inside : Every (Inside s) ns) (n : Need) (i : In n ns) (b c d : Known Point) where
     pub needs-split : SearchedNeeds L (without s (n .item)) ns b c → SearchedNeeds L (having s (n .cover)) ns c d → SearchedNeeds L s ns b d
     needs-split x y = searched-of-two On same (order .transitive s) (parts-needs s ns inside n i) b c d x y
-
-    pub needs-split-turned : SearchedNeeds L (having s (n .cover)) ns b c → SearchedNeeds L (without s (n .item)) ns c d → SearchedNeeds L s ns b d
-    needs-split-turned x y = searched-of-two On same (order .transitive s) (parts-swap (parts-needs s ns inside n i)) b c d x y
 
   pub needs-nothing : SearchedNeeds L s ns nothing nothing → InfeasibleNeeds s ns
   needs-nothing h = searched-tells On same (order .transitive s) nothing h

@@ -20,8 +20,8 @@ use Rattle.knapsack.proofs.Common.{KeepsLowerᴰ, KeepsUpperᴰ, Feasibleᴰ}
 use Rattle.knapsack.specs.Meaning.{Instance}
 use Rattle.knapsack.specs.declared.Bound.{Bound}
 use Rattle.knapsack.specs.declared.Bound.the-variants.{Absent, At}
-use Rattle.cases.specs.declared.Need.{Need}
-use Rattle.cases.specs.Needs.{Every, In, NotNegative, Present, Named, Allowed}
+use Rattle.model.specs.declared.Need.{Need}
+use Rattle.model.specs.Needs.{Every, In, NotNegative, Present, Named, Allowed}
 use Rattle.cases.proofs.Needs.{KeepsNeedᴰ, FeasibleNeedsᴰ}
 
 -- ---- bounds

@@ -6,7 +6,7 @@
 --   Parts R P Q        R is what P and Q have together
 -- top-part: the best of all, if it is in a part, is the best of the part.
 -- empty-part, empty-of-two, ahead-part, ahead-of-two, ahead-empty, ahead-trans: by parts.
-use mathlib.Core.Logic.{_⊎_, inl, inr, ⊎-elim}
+use mathlib.Core.Logic.{_⊎_, ⊎-elim}
 
 infix 4 _⊆_
 abbrev pub _⊆_ : {A : Type 0} → (A → Type 0) → (A → Type 0) → Type 0
@@ -26,13 +26,6 @@ pub record Parts {A : Type 0} (R P Q : A → Type 0) : Type 0 where
   pub cut : (x : A) → R x → P x ⊎ Q x
   pub left : P ⊆ R
   pub right : Q ⊆ R
-
-pub parts-swap : {A : Type 0} {R P Q : A → Type 0} → Parts R P Q → Parts R Q P
-parts-swap {A} {R} {P} {Q} c = record { cut = λ x r. turn x (c .cut x r); left = c .right; right = c .left }
-  where
-    turn : (x : A) → P x ⊎ Q x → Q x ⊎ P x
-    turn x (inl p) = inr p
-    turn x (inr q) = inl q
 
 -- ---- nothing is there
 

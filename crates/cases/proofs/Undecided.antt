@@ -21,8 +21,8 @@ use Rattle.knapsack.proofs.Common.{KeepsLowerᴰ, KeepsUpperᴰ, Feasibleᴰ}
 use Rattle.knapsack.specs.Meaning.{Instance}
 use Rattle.knapsack.specs.declared.Bound.{Bound}
 use Rattle.knapsack.specs.declared.Bound.the-variants.{Absent, At}
-use Rattle.cases.specs.declared.Need.{Need}
-use Rattle.cases.specs.Needs.{In, here, there}
+use Rattle.model.specs.declared.Need.{Need}
+use Rattle.model.specs.Needs.{In, here, there}
 use Rattle.cases.proofs.Needs.{KeepsNeedᴰ}
 use Rattle.cases.proofs.Splitting.{cap, raise, without, having, upper-here, lower-here}
 

@@ -13,7 +13,7 @@ use lib.Signed.{_≤ℤ_, _<ℤ_, ltZ, clashℤ}
 use mir.Syntax.{w64}
 use mir.Val.{SFits}
 use borrow.Author.Tests.{lt-ltb, le-ltb, ltb-true, ltb-false}
-use Rattle.arith.proofs.Integers.{split, split2, zed}
+use Rattle.arith.proofs.Integers.{split, zed}
 use Rattle.arith.proofs.Words.{lt-yes, le-no, yes-lt, no-lt, more-fits}
 
 module _ (n d m e a b i j : ℕ) (n-is : n ≡ a * d + i) (m-is : m ≡ b * e + j) (i-in : i < d) (j-in : j < e) where

@@ -5,14 +5,13 @@
 -- default-free: an element that is there is the same whatever stands for those that are not.
 use mathlib.Core.Path.{_≡_, refl, sym, ap, subst, subst₂}
 use mathlib.Core.List.{List, [], _∷_}
-use mathlib.Core.Logic.{_⊎_, inl, inr}
 use Prim.Native.Nat.{ℕ, zero, suc, _+_, _≤_, _<_, max}
 use native.Mathlib.Omega.{arith}
 use native.Mathlib.Decide.{ℕ-discrete, decLt}
 use lib.IntN.{ℤ, pos, _*ℤ_}
 use lib.ListN.{length, getD}
-use lib.Signed.{_≤ℤ_, _<ℤ_, clashℤ}
-use Rattle.arith.specs.Fractions.{Frac, frac, _<ᶠ_, _≈ᶠ_}
+use lib.Signed.{_≤ℤ_, _<ℤ_}
+use Rattle.arith.specs.Fractions.{Frac, _<ᶠ_, _≈ᶠ_}
 use Rattle.arith.specs.declared.Fraction.{Fraction}
 use Rattle.arith.proofs.Integers.{split2, zed, ≤ℤ-antisym}
 use Rattle.knapsack.specs.Meaning.{Point}

@@ -1,6 +1,7 @@
-// Prints the least pairs of the problems on standard input, by the entry and by the table. A problem is `lines count capacity` and then
-// so many items `W a c lower upper` (`..` is an absent bound). Its replies are a matrix of the item numbers 0 to lines + 1, each `none`,
-// `r,s` or `!` and the refusal's number; behind a bar stand the table's entries of the lines' items.
+// Prints the least pairs of the problems on standard input, by the entry and by the table. A problem is `lines count capacity`, then so many
+// items `W a c lower upper` (`..` is an absent bound), then the count of its needs, the number of lines given, and each as `k m`. Its replies are a
+// matrix of the item numbers 0 to lines + 1, each `none`, `r,s` or `!` and the refusal's number; behind a bar stand the table's entries of the lines'
+// items, `none` where a need names one of the two.
 use domination::Pair;
 use domination::PairReply;
 use domination::least_pair;
@@ -10,12 +11,14 @@ use libc::STDIN_FILENO;
 use model::Model;
 use model::check_model;
 use model::plain_of;
+use model::setters::with_needs;
 use trials::make::record_of;
 use trials::print::print;
 use trials::print::print_number;
 use trials::print::print_signed;
 use trials::read::places;
 use trials::read::read_items;
+use trials::read::read_needs;
 use trials::read::read_number;
 use trials::read::skip;
 ghost use Prim.Native.Nat.{_≤_, _<_};
@@ -34,11 +37,13 @@ fn read_problem(s: &[u8], from: usize) -> ProblemRead
     let capacity = read_number(s, count.at);
     let i = read_items(s, capacity.at, given.size);
     let list = i.list;
-    let p = record_of(capacity.value, count.size as usize, list);
+    let a = read_needs(s, i.at);
+    let needs = a.needs;
+    let p = with_needs(record_of(capacity.value, count.size as usize, list), needs);
     ProblemRead {
         problem: p,
         lines: places(given.size),
-        at: i.at,
+        at: a.at,
     }
 }
 
@@ -75,11 +80,37 @@ fn print_replies(p: Model, i: usize, lines: usize)
     }
 }
 
+// With the item number k.
+fn with_named(named: [bool; 16], k: usize) -> [bool; 16] {
+    let mut r = named;
+    if 0 < k {
+        if k <= 16 {
+            r[k - 1] = true;
+        }
+    }
+    r
+}
+
+// The items that the needs of a record name.
+fn named_by(m: Model) -> [bool; 16] {
+    let ns = m.needs;
+    let mut named = [false; 16];
+    let mut i: usize = 0;
+    while i < 16 {
+        let n = ns.lines[i];
+        if i < ns.count {
+            named = with_named(with_named(named, n.item), n.cover);
+        }
+        i += 1;
+    }
+    named
+}
+
 // The table of a record; no pairs where it is refused.
 fn table_of(p: Model) -> [Pair; 256] {
     let v = check_model(p);
     match v {
-        Verdict::Accepted => pair_table(plain_of(p)),
+        Verdict::Accepted => pair_table(plain_of(p), named_by(p)),
         Verdict::Refused(_) => [Pair::Missing; 256],
     }
 }

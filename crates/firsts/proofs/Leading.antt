@@ -327,9 +327,9 @@ module _ (s : Setting) (c : Columns) (y : Tying s c) (l : Optimum) (g : IsLosing
 
 module _ (s : Setting) (c : Columns) (y : Tying s c) (l : Optimum) (b : Lead) (t : ℕ) (h : Led s c l t b) where
   -- what leads all frames
-  led-all : t ≤ c .live + 1 → ((marks : ℕ → Mark) → Marked s marks → (u : ℕ) → Frame c (s .ends) marks u
+  led-all : ((marks : ℕ → Mark) → Marked s marks → (u : ℕ) → Frame c (s .ends) marks u
       → LeadsFrame c (s .ends) marks (parts c (endsAt s (h .place))) (filling c (endsAt s (h .place))) u) → FirstBest s b
-  led-all i all = record {
+  led-all all = record {
     long = y .long;
     cols = c;
     tied = y .tied;
@@ -341,11 +341,10 @@ module _ (s : Setting) (c : Columns) (y : Tying s c) (l : Optimum) (b : Lead) (t
         (filling c (endsAt s (h .place))) (place-parts s c y (h .place) (h .inside) marks m (h .room))
         (place-feasible s c y (h .place) (h .inside) marks m (h .room))
         (all marks m);
-    few = omega (arith, h .few, y .tied .sized .live-few);
   }
 
   pub led-done : t ≡ c .live + 1 → FirstBest s b
-  led-done q = led-all (omega arith) (λ marks m u fr. h .leads marks m u (below marks fr) fr)
+  led-done q = led-all (λ marks m u fr. h .leads marks m u (below marks fr) fr)
     where
       below : (marks : ℕ → Mark) {u : ℕ} → Frame c (s .ends) marks u → u < t
       below marks (last e) = omega arith
@@ -353,7 +352,7 @@ module _ (s : Setting) (c : Columns) (y : Tying s c) (l : Optimum) (b : Lead) (t
 
   -- without the last one, where another can be needed
   pub led-short : (w : List Bool) → Levelled (s .level) (s .levels) w → t ≡ c .live → Cutting c (s .ends) w → FirstBest s b
-  led-short w lw q k = led-all (omega arith) each
+  led-short w lw q k = led-all each
     where
       free : (marks : ℕ → Mark) → Marked s marks → (marks (itemOf c (k .frame)) ≡ Integer) ⊎ (marks (itemOf c (k .frame)) ≡ Continuous)
           → marks (itemOf c (k .frame)) ≡ Continuous

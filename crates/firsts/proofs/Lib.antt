@@ -5,3 +5,4 @@ pub mod Shown
 pub mod Worth
 pub mod Uncut
 pub mod Leading
+pub mod Cells

@@ -142,7 +142,6 @@ pub record FirstBest (s : Setting) (r : Lead) : Type 0 where
   pub room : pos 0 ≤ℤ fill cols (endsAt s place) .room
   pub shows : Shows s cols place (r .point)
   pub first : (marks : ℕ → Mark) → Marked s marks → Foremostᴰ (boxOf cols (s .ends) marks) (parts cols (endsAt s place)) (filling cols (endsAt s place))
-  pub few : r .written ≤ 17 * firstCells
 
 -- some frame can be needed in which an item is cut
 pub record Cutting (c : Columns) (e : Ends) (w : List Bool) : Type 0 where

@@ -13,7 +13,6 @@ pub mod Framed
 pub mod Points
 pub mod Losses
 pub mod First
-pub mod Once
 pub mod Examples
 pub mod Counting
 pub mod Order

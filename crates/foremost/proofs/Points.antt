@@ -1,7 +1,7 @@
 -- The order of points, each amount with its own divisor, and the first best point, by those over a common divisor.
 -- bridge-earlier, earlier-bridge, bridge-agree, agree-bridge: the two orders are the same.
 -- bridge-foremost: so the first best point over a common divisor is Optimal and Foremost.
--- neither-same: points neither of which comes before the other are the same.  foremost-same: so an optimal point that is Foremost is the only one.
+-- neither-same: points neither of which comes before the other are the same.
 use mathlib.Core.Path.{_≡_, sym, subst}
 use mathlib.Core.Logic.{_⊎_, inl, inr}
 use Prim.Native.Nat.{ℕ, _*_, _≤_, _<_}
@@ -90,6 +90,3 @@ neither-same n x y f g = go (common n x) (common n y)
         pick (before e) = absurd (f (earlier-bridge n (a .D) (b .D) x y (a .N) (b .N) (a .D≥1) (b .D≥1) (a .reads) (b .reads) e))
         pick (agree e) = agree-bridge n (a .D) (b .D) x y (a .N) (b .N) (a .D≥1) (b .D≥1) (a .reads) (b .reads) e
         pick (after e) = absurd (g (earlier-bridge n (b .D) (a .D) y x (b .N) (a .N) (b .D≥1) (a .D≥1) (b .reads) (a .reads) e))
-
-pub foremost-same : (s : Instance) (x y : Point) → Optimal s x → Foremost s x → Optimal s y → Foremost s y → (k : ℕ) → k < s .count → x k ≈ᶠ y k
-foremost-same s x y o f p g = neither-same (s .count) x y (g x o) (f y p)

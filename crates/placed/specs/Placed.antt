@@ -5,10 +5,9 @@
 --   FirstShown p r      r is an optimal answer of p, by the point that comes first where every item has a lower bound
 use mathlib.Core.Path.{_≡_}
 use mathlib.Core.Bool.{Bool, true, false}
-use Prim.Native.Nat.{ℕ, _*_, _≤_}
+use Prim.Native.Nat.{ℕ}
 use lib.IntN.{ℤ}
 use Rattle.ceiling.specs.Sizes.{Spanned}
-use Rattle.fillings.specs.Foremost.{firstCells}
 use Rattle.firsts.specs.Leading.{OptimalAt, PointWrites}
 use Rattle.knapsack.specs.Meaning.{instanceOf, ShownOptimal, AllLower, ShownFirst}
 use Rattle.knapsack.specs.Ranges.{InRange}
@@ -42,5 +41,4 @@ pub record FirstShown (p : Problem) (r : Placed) : Type 0 where
   pub kind-is : r .answer .kind ≡ kind.Optimal
   pub shown : ShownOptimal (instanceOf p) (r .answer)
   pub first : ShownFirst (instanceOf p) (r .answer)
-  pub few : r .cells ≤ 17 * firstCells
   pub writes : ShownWrites p (r .cells)

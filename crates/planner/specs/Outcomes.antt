@@ -51,7 +51,7 @@ use Rattle.search.specs.declared.State.{State}
 use Rattle.setting.specs.Box.{fixedBy}
 use Rattle.search.specs.Searched.{Searched}
 use Rattle.search.specs.Steps.{Stops}
-use Rattle.settling.specs.Settling.{mostCells, SettleWrites}
+use Rattle.settling.specs.Settling.{SettleWrites}
 use Rattle.planner.specs.declared.Found.{Found}
 use Rattle.planner.specs.declared.Solved.{Solved}
 
@@ -92,7 +92,7 @@ pub record Best (s : Setting) (x : List ℤ) (a : Answer) : Type 0 where
 abbrev pub standing : Setting → Bool → List ℤ → Incumbent
 standing s f x = record { found = f; place = x; value = valueAt s x }
 
--- the cells of a best place, and those of the first point: 33 runs and 272
+-- the cells of a best place, and those of the first point: 36 runs and 323 (proofs/Cells)
 abbrev pub mostWork : ℕ
 mostWork = 34087566601
 
@@ -102,14 +102,13 @@ pub data PlaceWrites (s : Setting) (end : State) : ℕ → Type 0 where
   stopped : (k : ℕ) → end .done ≡ false → SettleWrites (s .cols) (s .ends) (s .level) (s .levels) (end .best .found) (end .best .value) k →
       PlaceWrites s end k
 
--- the place is best in the box, or there is none; the steps are those of a search that may take n, and the cells few
+-- the place is best in the box, or there is none; the steps are those of a search that may take n
 pub record BestPlace (s : Setting) (p : Pairs) (n : ℕ) (r : Found) : Type 0 where
   pub searched : Searched s (standing s (r .found) (r .place))
   pub at-place : r .found ≡ true → OptimalAt s (at (r .place))
   pub end : State
   pub stops : Stops s p n end
   pub steps-are : r .steps ≡ end .steps
-  pub few-cells : r .cells ≤ mostCells
   pub writes : PlaceWrites s end (r .cells)
 
 -- ---- the answer of a problem, and the steps of its search

@@ -1,4 +1,5 @@
--- What the relaxation's entry owes, in paper 01's words. Its answer owes what `demands` says (knapsack, proofs/Demands).
+-- What the relaxation's entry owes, in paper 01's words. Its answer has the planner's kind and is worth no less: relaxed-kind and relaxed-value of
+-- `planned-demands` (branching, proofs/Demands).
 -- same-items (end theorem): the lent list holds the same items afterwards, whether its problem is accepted or not.
 use mathlib.Core.List.{List}
 use mathlib.Core.Path.{_≡_, refl}
@@ -10,6 +11,7 @@ use Rattle.knapsack.specs.declared.Item.{Item}
 use Rattle.knapsack.specs.declared.Verdict.{Verdict}
 use Rattle.knapsack.specs.declared.Verdict.the-variants.{Accepted, Refused}
 use Rattle.knapsack.specs.Ranges.{blank}
+use Rattle.model.specs.declared.Needs.{Needs}
 use Rattle.model.specs.Records.{verdict}
 use Rattle.ordering.specs.Order.{order, orderedItems}
 use Rattle.ordering.proofs.Order.{in-order, items-length, items-at}
@@ -38,9 +40,9 @@ ordered-same l = go (inverse (length l) place (in-order items (length l) .place)
       item-is = items-at items (length l);
     }
 
-after-same : (b : ℤ) (l : List Item) → SameItems l (after b l)
+after-same : (b : ℤ) (ns : Needs) (l : List Item) → SameItems l (after b ns l)
 unfolding after
-after-same b l = go (verdict (modelOf b l))
+after-same b ns l = go (verdict (modelOf b ns l))
   where
     go : (v : Verdict) → SameItems l (ifAccepted v (orderedItems (λ k. getD l k blank) (length l)) l)
     go Accepted = ordered-same l
@@ -55,5 +57,5 @@ after-same b l = go (verdict (modelOf b l))
       item-is = λ u h. refl;
     }
 
-pub same-items : (b : ℤ) (l m : List Item) (r : Answer) → Relaxes b l m r → SameItems l m
-same-items b l m r h = rw (h .list) (after-same b l)
+pub same-items : (b : ℤ) (ns : Needs) (l m : List Item) (r : Answer) → Relaxes b ns l m r → SameItems l m
+same-items b ns l m r h = rw (h .list) (after-same b ns l)

@@ -15,6 +15,7 @@ use Rattle.knapsack.specs.declared.Verdict.{Verdict}
 use Rattle.knapsack.specs.declared.Verdict.the-variants.{Accepted, Refused}
 use Rattle.knapsack.specs.Ranges.{blank, itemAt}
 use Rattle.model.specs.declared.Model.{Model}
+use Rattle.model.specs.declared.Needs.{Needs}
 use Rattle.model.specs.Records.{plainOf, verdict}
 use Rattle.model.specs.Setters.{withItem}
 use Rattle.model.proofs.Records.{accepted}
@@ -44,12 +45,12 @@ pub load-none : filled 16 [] ≡ replicate 16 blank
 unfolding filled
 load-none = refl
 
-pub load-more : (b : ℤ) (l : List Item) (i : ℕ) → i < usable (length l) →
-    withItem (loaded b (length l) (take i l)) i (getD l i blank) ≡ loaded b (length l) (take (suc i) l)
-load-more b l i h = rw (fill-more 16 i l (omega arith) (omega arith))
+pub load-more : (b : ℤ) (ns : Needs) (l : List Item) (i : ℕ) → i < usable (length l) →
+    withItem (loaded b (length l) ns (take i l)) i (getD l i blank) ≡ loaded b (length l) ns (take (suc i) l)
+load-more b ns l i h = rw (fill-more 16 i l (omega arith) (omega arith))
 
-pub load-all : (b : ℤ) (l : List Item) → loaded b (length l) (take (usable (length l)) l) ≡ modelOf b l
-load-all b l = rw (fill-all 16 (usable (length l)) l (omega arith))
+pub load-all : (b : ℤ) (ns : Needs) (l : List Item) → loaded b (length l) ns (take (usable (length l)) l) ≡ modelOf b ns l
+load-all b ns l = rw (fill-all 16 (usable (length l)) l (omega arith))
 
 -- ---- what is stored back
 
@@ -82,9 +83,9 @@ pub settled-refused : (m : Model) (f : Refusal) → verdict m ≡ Refused f → 
 unfolding settled
 settled-refused m f e = rw e
 
-module _ (b : ℤ) (l : List Item) where
+module _ (b : ℤ) (ns : Needs) (l : List Item) where
   abbrev m : Model
-  m = modelOf b l
+  m = modelOf b ns l
 
   abbrev p : Problem
   p = plainOf m
@@ -103,7 +104,7 @@ module _ (b : ℤ) (l : List Item) where
       go Accepted e = simp (length-append, length-drop, items-length, filled-length) (omega (arith, accepted-few e))
       go (Refused f) e = filled-length 16 l
 
-  pub stored : take n (settled m .items) ++ drop n l ≡ after b l
+  pub stored : take n (settled m .items) ++ drop n l ≡ after b ns l
   unfolding settled arranged after
   stored = go (verdict m) refl
     where
@@ -121,7 +122,7 @@ module _ (b : ℤ) (l : List Item) where
           (items-cong (itemAt p) (λ k. getD l k blank) (length l) (λ k h. filled-at 16 k l (omega arith)))
       go (Refused f) e = rw (filled-take 16 n l (omega arith) (omega arith)) (take-append-drop n l)
 
-  pub after-length : length (after b l) ≡ length l
+  pub after-length : length (after b ns l) ≡ length l
   unfolding after
   after-length = go (verdict m)
     where

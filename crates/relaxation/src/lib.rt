@@ -1,6 +1,9 @@
-// The relaxation's public entry (paper 01, "Relaxation"): a capacity and a lent list of items, which is left in order.
+// The relaxation's public entry (paper 01, "Relaxation"): a capacity, a lent list of items, which is left in order, and needs: the items that they name
+// keep their marks (paper 02, request 7).
 // One thin function, proved by hand, over a core that is covered: the list is copied into a record, the core answers it and puts its
 // items in order, and the items are stored back.
+use branching::named_of;
+use branching::solve_needs;
 use knapsack::Answer;
 use knapsack::Item;
 use knapsack::Kind;
@@ -9,19 +12,20 @@ use knapsack::Problem;
 use knapsack::Verdict;
 use knapsack::with_item;
 use model::Model;
+use model::Needs;
 use model::check_model;
 use model::plain_of;
 use model::setters;
 use ordering::arrange;
+use planner::STEPS;
 use planner::no_point;
-use planner::solve;
 ghost use mathlib.Core.Path.{_≡_};
 ghost use Prim.Native.Nat.{_≤_, _<_};
 ghost use mathlib.Core.List.{[]};
-ghost use Rattle.knapsack.specs.Meaning.{instanceOf, relaxed, Answers};
 ghost use Rattle.knapsack.specs.Ranges.{itemAt};
-ghost use Rattle.model.specs.Records.{FiguresInRange};
-ghost use Rattle.relaxation.specs.Lent.{usable, loaded, loose, Loosened, Settles, Relaxes};
+ghost use Rattle.model.specs.Needs.{loosened};
+ghost use Rattle.model.specs.Records.{Admissible};
+ghost use Rattle.relaxation.specs.Lent.{usable, loaded, loose, Loosened, AnswersRelaxed, Settles, Relaxes};
 
 // What the core gives: the answer, and the problem whose items are stored back.
 pub struct Outcome {
@@ -37,11 +41,12 @@ fn usable_of(n: usize) -> usize
 }
 
 // A record with no items loaded yet.
-fn opened(capacity: i64, count: usize) -> Model
-    ensures { λ r. ⌜ r ≡ loaded capacity count [] ⌝ }
+fn opened(capacity: i64, count: usize, ns: Needs) -> Model
+    ensures { λ r. ⌜ r ≡ loaded capacity count ns [] ⌝ }
 {
     let m = setters::with_capacity(setters::empty_model(), capacity);
-    setters::with_count(m, count)
+    let n = setters::with_count(m, count);
+    setters::with_needs(n, ns)
 }
 
 // The item that is stored back at a place.
@@ -59,14 +64,22 @@ fn answer_of(o: Outcome) -> Answer
     o.answer
 }
 
-// The item, continuous.
-fn loose_item(x: Item) -> Item
-    ensures { λ r. ⌜ r ≡ loose x ⌝ }
+// An item that is not kept becomes continuous.
+fn loose_mark(kept: bool, m: Mark) -> Mark
+    ensures { λ r. ⌜ r ≡ loosened kept m ⌝ }
 {
+    if kept { m } else { Mark::Continuous }
+}
+
+fn loose_item(kept: bool, x: Item) -> Item
+    ensures { λ r. ⌜ r ≡ loose kept x ⌝ }
+{
+    let m = x.mark;
+    let mark = loose_mark(kept, m);
     let lower = x.lower;
     let upper = x.upper;
     Item {
-        mark: Mark::Continuous,
+        mark: mark,
         weight: x.weight,
         price: x.price,
         lower: lower,
@@ -74,29 +87,31 @@ fn loose_item(x: Item) -> Item
     }
 }
 
-// The problem with its items continuous.
-fn loosen(p: Problem) -> Problem
+// The problem with its items continuous, but for those that are named.
+fn loosen(p: Problem, named: [bool; 16]) -> Problem
     requires { ⌜ p .count ≤ 16 ⌝ }
-    ensures { λ r. ⌜ Loosened p (p .count) r ⌝ }
+    ensures { λ r. ⌜ Loosened p named (p .count) r ⌝ }
 {
     let n = p.count;
     let mut q = p;
     let mut k: usize = 0;
     while k < n {
-        let x = loose_item(p.items[k]);
+        let kept = named[k];
+        let x = loose_item(kept, p.items[k]);
         q = with_item(q, k, x);
         k += 1;
     }
     q
 }
 
-// The answer of the relaxation of a problem whose figures are in range.
-fn relaxed_answer(p: Problem) -> Answer
-    requires { ⌜ FiguresInRange p ⌝ }
-    ensures { λ r. ⌜ Answers (relaxed (instanceOf p)) r ⌝ }
+// The answer of the relaxation of a record that is accepted. Its named items are whole, so that it is solved by cases as the record is.
+fn relaxed_answer(m: Model) -> Answer
+    requires { ⌜ Admissible m ⌝ }
+    ensures { λ r. ⌜ AnswersRelaxed m r ⌝ }
 {
-    let q = loosen(p);
-    let r = solve(q);
+    let ns = m.needs;
+    let q = loosen(plain_of(m), named_of(ns));
+    let r = solve_needs(q, ns, STEPS);
     r.answer
 }
 
@@ -108,7 +123,7 @@ fn core(m: Model) -> Outcome
     let v = check_model(m);
     match v {
         Verdict::Accepted => {
-            let a = relaxed_answer(p);
+            let a = relaxed_answer(m);
             let q = arrange(p);
             Outcome {
                 answer: a,
@@ -125,13 +140,13 @@ fn core(m: Model) -> Outcome
     }
 }
 
-// The relaxation of the problem that a capacity and a list of items make; the list is left in order where the problem is accepted.
-pub fn relax_with(capacity: i64, items: &mut [Item]) -> Answer
-    ensures { λ r. ⌜ Relaxes capacity (now (items .entry)) (now (items .exit)) r ⌝ }
+// The relaxation of the problem that a capacity, a list of items and needs make; the list is left in order where the problem is accepted.
+pub fn relax_with(capacity: i64, items: &mut [Item], ns: Needs) -> Answer
+    ensures { λ r. ⌜ Relaxes capacity ns (now (items .entry)) (now (items .exit)) r ⌝ }
 {
     let len = items.len();
     let n = usable_of(len);
-    let mut m = opened(capacity, len);
+    let mut m = opened(capacity, len, ns);
     let mut i: usize = 0;
     while i < n {
         m = setters::with_item(m, i, items[i]);

@@ -1,26 +1,23 @@
 -- `branching::branch` meets its contract: each case leaves fewer needs undecided.
-use mathlib.Core.Path.{_≡_, refl, sym, ap, subst, _∙_}
-use mathlib.Core.Bool.{false}
-use Prim.Native.Nat.{suc, _+_, _*_, _≤_}
+use mathlib.Core.Path.{_≡_, sym, ap, subst, _∙_}
+use mathlib.Core.Bool.{true, false}
+use Prim.Native.Nat.{ℕ, suc, _+_, _≤_, _<_}
 use native.Mathlib.Omega.{arith}
-use lib.ListN.{length, length-map, getD}
-use borrow.Author.Needs.{needs}
-use Rattle.knapsack.specs.Meaning.{pointOf}
+use lib.ListN.{length, length-map}
+use Rattle.knapsack.specs.Meaning.{instanceOf, pointOf}
+use Rattle.model.specs.Needs.{In as Among, Allowed}
+use Rattle.model.specs.Records.{FiguresInRange, needsOf}
+use Rattle.model.specs.declared.Need.{Need}
 use Rattle.cases.proofs.Searching.{broken-open}
 use Rattle.cases.proofs.Splitting.{without, having}
-use Rattle.cases.proofs.Undecided.{decided}
-use Rattle.cases.specs.declared.Need.{Need}
+use Rattle.cases.proofs.Undecided.{decided, undecided}
 use Rattle.branching.specs.declared.Best.{Best}
-use Rattle.cases.specs.Needs.{In as Among, Allowed}
-use Rattle.branching.specs.Branching.{unneeded, known, twigs, countedOf}
-use Rattle.branching.proofs.Breaking.{need-in, breaks-yes, every-kept}
-use Rattle.branching.proofs.Exits.{comparable, plain-comparable, optimal-of, counted-work, own-work, enter, through-behind, through-kept, through-split}
+use Rattle.branching.specs.Branching.{Placed, breaks, known, twigs, countedOf, Worked}
+use Rattle.branching.proofs.Breaking.{need-in, breaks-yes, every-kept, allowed-placed}
+use Rattle.branching.proofs.Exits.{comparable, plain-comparable, optimal-of, counted-work, countable, own-work, enter}
+use Rattle.branching.proofs.Exits.{through-behind, through-kept, through-split}
 use Rattle.branching.proofs.Parts.{capped-is, raised-is, capped-figures, raised-figures, Part, part-without, part-having}
 use Rattle.branching.proofs.Twigs.{twigs-some, twigs-two}
-use Rattle.knapsack.specs.Meaning.{instanceOf}
-use Rattle.cases.proofs.Undecided.{undecided}
-use Rattle.branching.specs.Branching.{needsOf}
-use Prim.Native.Nat.{ℕ, _<_}
 use borrow.Fn.Kinds.{In}
 use borrow.Fn.PlainCycle.{Measures, is, falls, and}
 use Rattle.branching.proofs.branch.Reads as branch
@@ -29,15 +26,16 @@ use Rattle.branching.proofs.+branch.Lts-branch as branch-lts
 use Rattle.branching.proofs.counted.Reads as counted-reads
 use Rattle.branching.proofs.first_broken.Reads as first-broken-reads
 use Rattle.branching.proofs.having.Reads as having-reads
+use Rattle.branching.proofs.need_at.Reads as need-at-reads
 use Rattle.branching.proofs.outdoes.Reads as outdoes-reads
+use Rattle.branching.proofs.solve_case.Reads as solve-case-reads
 use Rattle.branching.proofs.with_best.Reads as with-best-reads
 use Rattle.branching.proofs.without.Reads as without-reads
-use Rattle.planner.proofs.solve.Reads as solve-reads
 use Rattle.branching.proofs.+branch.{statement}
 use Rattle.branching.proofs.+branch.Tie.{close}
 
 abbrev μ-branch : Measures 0 branch-kinds.ps ℕ
-μ-branch κs a = undecided (instanceOf (a .0)) (needsOf (a .1 .1 .0) (a .1 .1 .1 .0))
+μ-branch κs a = undecided (instanceOf (a .0)) (needsOf (a .1 .1 .0))
 
 abbrev branch-at : ℕ → In 0 branch-kinds.ps
 branch-at t = and 0 branch-kinds.ps (is 0 branch-kinds.ps μ-branch t) branch.Pre
@@ -45,530 +43,21 @@ branch-at t = and 0 branch-kinds.ps (is 0 branch-kinds.ps μ-branch t) branch.Pr
 abbrev branch-below : ℕ → In 0 branch-kinds.ps
 branch-below t = and 0 branch-kinds.ps (falls 0 branch-kinds.ps _<_ μ-branch t) branch.Pre
 
--- the needs stand in their list, the items in theirs
-room : (t : ℕ) (s : branch-lts.Start (counted-reads.Asked, counted-reads.Learnt, outdoes-reads.Asked, outdoes-reads.Learnt, first-broken-reads.Asked, first-broken-reads.Learnt, without-reads.Asked,
-    without-reads.Learnt, solve-reads.Asked, solve-reads.Learnt, branch-below t, branch.Post, having-reads.Asked, having-reads.Learnt, with-best-reads.Asked,
-    with-best-reads.Learnt) (branch-at t) branch.Post) → s .args .t ≤ length (s .args .t3)
-room t s = let h : length (s .args .t3) ≡ 16 = search needs in omega (arith, h, s .pre .1 .few)
-
-long : (t : ℕ) (s : branch-lts.Start (counted-reads.Asked, counted-reads.Learnt, outdoes-reads.Asked, outdoes-reads.Learnt, first-broken-reads.Asked, first-broken-reads.Learnt, without-reads.Asked,
-    without-reads.Learnt, solve-reads.Asked, solve-reads.Learnt, branch-below t, branch.Post, having-reads.Asked, having-reads.Learnt, with-best-reads.Asked,
-    with-best-reads.Learnt) (branch-at t) branch.Post) → length (s .args .p .items) ≡ 16
-long t s = simp length-map at (s .good .0 .1 .1 .0 .1 .0 .1)
-
--- a need of the list
-need-at : (t : ℕ) (s : branch-lts.Start (counted-reads.Asked, counted-reads.Learnt, outdoes-reads.Asked, outdoes-reads.Learnt, first-broken-reads.Asked, first-broken-reads.Learnt, without-reads.Asked,
-    without-reads.Learnt, solve-reads.Asked, solve-reads.Learnt, branch-below t, branch.Post, having-reads.Asked, having-reads.Learnt, with-best-reads.Asked,
-    with-best-reads.Learnt) (branch-at t) branch.Post) (i : ℕ) → i < s .args .t → Allowed (instanceOf (s .args .p)) (getD (s .args .t3) i unneeded)
-need-at t s i h = s .pre .1 .allowed (getD (s .args .t3) i unneeded) (need-in (s .args .t3) (s .args .t) (room t s) i h)
-
--- the start, from the broken need
-abbrev from : (t : ℕ) → branch-lts.After-n (counted-reads.Asked, counted-reads.Learnt, outdoes-reads.Asked, outdoes-reads.Learnt, first-broken-reads.Asked, first-broken-reads.Learnt, without-reads.Asked,
-    without-reads.Learnt, solve-reads.Asked, solve-reads.Learnt, branch-below t, branch.Post, having-reads.Asked, having-reads.Learnt, with-best-reads.Asked,
-    with-best-reads.Learnt) (branch-at t) branch.Post → branch-lts.Start (counted-reads.Asked, counted-reads.Learnt, outdoes-reads.Asked, outdoes-reads.Learnt, first-broken-reads.Asked, first-broken-reads.Learnt, without-reads.Asked,
-    without-reads.Learnt, solve-reads.Asked, solve-reads.Learnt, branch-below t, branch.Post, having-reads.Asked, having-reads.Learnt, with-best-reads.Asked,
-    with-best-reads.Learnt) (branch-at t) branch.Post
-from t c = c .before .before .before .before .before .before .before .before
-
-abbrev broken : (t : ℕ) → branch-lts.After-n (counted-reads.Asked, counted-reads.Learnt, outdoes-reads.Asked, outdoes-reads.Learnt, first-broken-reads.Asked, first-broken-reads.Learnt, without-reads.Asked,
-    without-reads.Learnt, solve-reads.Asked, solve-reads.Learnt, branch-below t, branch.Post, having-reads.Asked, having-reads.Learnt, with-best-reads.Asked,
-    with-best-reads.Learnt) (branch-at t) branch.Post → Need
-broken t c = getD (from t c .args .t3) (c .before .before .first-broken .result) unneeded
-
-its : (t : ℕ) (c : branch-lts.After-n (counted-reads.Asked, counted-reads.Learnt, outdoes-reads.Asked, outdoes-reads.Learnt, first-broken-reads.Asked, first-broken-reads.Learnt, without-reads.Asked,
-    without-reads.Learnt, solve-reads.Asked, solve-reads.Learnt, branch-below t, branch.Post, having-reads.Asked, having-reads.Learnt, with-best-reads.Asked,
-    with-best-reads.Learnt) (branch-at t) branch.Post) → Allowed (instanceOf (from t c .args .p)) (broken t c)
-its t c = need-at t (from t c) (c .before .before .first-broken .result) (c .before .if2 .taken)
-
-among : (t : ℕ) (c : branch-lts.After-n (counted-reads.Asked, counted-reads.Learnt, outdoes-reads.Asked, outdoes-reads.Learnt, first-broken-reads.Asked, first-broken-reads.Learnt, without-reads.Asked,
-    without-reads.Learnt, solve-reads.Asked, solve-reads.Learnt, branch-below t, branch.Post, having-reads.Asked, having-reads.Learnt, with-best-reads.Asked,
-    with-best-reads.Learnt) (branch-at t) branch.Post) → Among (broken t c) (needsOf (from t c .args .t3) (from t c .args .t))
-among t c = need-in (from t c .args .t3) (from t c .args .t) (room t (from t c)) (c .before .before .first-broken .result) (c .before .if2 .taken)
-
--- it is not decided yet
-open-yet : (t : ℕ) (c : branch-lts.After-n (counted-reads.Asked, counted-reads.Learnt, outdoes-reads.Asked, outdoes-reads.Learnt, first-broken-reads.Asked, first-broken-reads.Learnt, without-reads.Asked,
-    without-reads.Learnt, solve-reads.Asked, solve-reads.Learnt, branch-below t, branch.Post, having-reads.Asked, having-reads.Learnt, with-best-reads.Asked,
-    with-best-reads.Learnt) (branch-at t) branch.Post) → decided (instanceOf (from t c .args .p)) (broken t c) ≡ false
-open-yet t c =
-    let s = from t c in
-    let f = c .before .before in
-    let o = f .before .before .before in
-    let a = s .args .r .answer in
-    let i = instanceOf (s .args .p) in
-    let k = o .outdoes .ensures .ahead (f .before .before .if1 .taken) .0 in
-    broken-open i (broken t c) (its t c .item .inside, its t c .cover .inside) (pointOf a)
-    (optimal-of i a (s .pre .1 .solved .answers) k .optimal .feasible) (breaks-yes i a (broken t c) (f .first-broken .ensures .broken (c .before .if2 .taken)))
-
--- the two cases
-q-is : (t : ℕ) (w : branch-lts.After-without (counted-reads.Asked, counted-reads.Learnt, outdoes-reads.Asked, outdoes-reads.Learnt, first-broken-reads.Asked, first-broken-reads.Learnt, without-reads.Asked,
-    without-reads.Learnt, solve-reads.Asked, solve-reads.Learnt, branch-below t, branch.Post, having-reads.Asked, having-reads.Learnt, with-best-reads.Asked,
-    with-best-reads.Learnt) (branch-at t) branch.Post) → let s = from t (w .before) in instanceOf (w .without .result) ≡ without (instanceOf (s .args .p)) (broken t (w .before) .item)
-q-is t w = let s = from t (w .before) in ap instanceOf (w .without .ensures) ∙ capped-is (s .args .p) (broken t (w .before) .item)
-    (omega (arith, long t s, its t (w .before) .item .inside, s .pre .1 .figures .few-items))
-
-q-part : (t : ℕ) (w : branch-lts.After-without (counted-reads.Asked, counted-reads.Learnt, outdoes-reads.Asked, outdoes-reads.Learnt, first-broken-reads.Asked, first-broken-reads.Learnt, without-reads.Asked,
-    without-reads.Learnt, solve-reads.Asked, solve-reads.Learnt, branch-below t, branch.Post, having-reads.Asked, having-reads.Learnt, with-best-reads.Asked,
-    with-best-reads.Learnt) (branch-at t) branch.Post) → let s = from t (w .before) in
-    Part (instanceOf (s .args .p)) (needsOf (s .args .t3) (s .args .t)) (instanceOf (w .without .result))
-q-part t w = let s = from t (w .before) in subst (Part (instanceOf (s .args .p)) (needsOf (s .args .t3) (s .args .t))) (sym (q-is t w))
-    (part-without (instanceOf (s .args .p)) (needsOf (s .args .t3) (s .args .t)) (s .pre .1 .allowed) (s .pre .1 .limited) (broken t (w .before))
-    (among t (w .before)) (open-yet t (w .before)))
-
--- one case more
-abbrev counts : (t : ℕ) → branch-lts.After-n (counted-reads.Asked, counted-reads.Learnt, outdoes-reads.Asked, outdoes-reads.Learnt, first-broken-reads.Asked, first-broken-reads.Learnt, without-reads.Asked,
-    without-reads.Learnt, solve-reads.Asked, solve-reads.Learnt, branch-below t, branch.Post, having-reads.Asked, having-reads.Learnt, with-best-reads.Asked,
-    with-best-reads.Learnt) (branch-at t) branch.Post → branch-lts.After-counted (counted-reads.Asked, counted-reads.Learnt, outdoes-reads.Asked, outdoes-reads.Learnt, first-broken-reads.Asked, first-broken-reads.Learnt, without-reads.Asked,
-    without-reads.Learnt, solve-reads.Asked, solve-reads.Learnt, branch-below t, branch.Post, having-reads.Asked, having-reads.Learnt, with-best-reads.Asked,
-    with-best-reads.Learnt) (branch-at t) branch.Post
-counts t c = c .before .before .before .before .before .before .before
-
-abbrev need-of : (t : ℕ) → branch-lts.After-having (counted-reads.Asked, counted-reads.Learnt, outdoes-reads.Asked, outdoes-reads.Learnt, first-broken-reads.Asked, first-broken-reads.Learnt, without-reads.Asked,
-    without-reads.Learnt, solve-reads.Asked, solve-reads.Learnt, branch-below t, branch.Post, having-reads.Asked, having-reads.Learnt, with-best-reads.Asked,
-    with-best-reads.Learnt) (branch-at t) branch.Post → branch-lts.After-n (counted-reads.Asked, counted-reads.Learnt, outdoes-reads.Asked, outdoes-reads.Learnt, first-broken-reads.Asked, first-broken-reads.Learnt, without-reads.Asked,
-    without-reads.Learnt, solve-reads.Asked, solve-reads.Learnt, branch-below t, branch.Post, having-reads.Asked, having-reads.Learnt, with-best-reads.Asked,
-    with-best-reads.Learnt) (branch-at t) branch.Post
-need-of t h = h .before .before .before .before
-
-h-is : (t : ℕ) (h : branch-lts.After-having (counted-reads.Asked, counted-reads.Learnt, outdoes-reads.Asked, outdoes-reads.Learnt, first-broken-reads.Asked, first-broken-reads.Learnt, without-reads.Asked,
-    without-reads.Learnt, solve-reads.Asked, solve-reads.Learnt, branch-below t, branch.Post, having-reads.Asked, having-reads.Learnt, with-best-reads.Asked,
-    with-best-reads.Learnt) (branch-at t) branch.Post) → let s = from t (need-of t h) in instanceOf (h .having .result) ≡ having (instanceOf (s .args .p)) (broken t (need-of t h) .cover)
-h-is t h = let s = from t (need-of t h) in ap instanceOf (h .having .ensures) ∙ raised-is (s .args .p) (broken t (need-of t h) .cover)
-    (omega (arith, long t s, its t (need-of t h) .cover .inside, s .pre .1 .figures .few-items))
-
-h-part : (t : ℕ) (h : branch-lts.After-having (counted-reads.Asked, counted-reads.Learnt, outdoes-reads.Asked, outdoes-reads.Learnt, first-broken-reads.Asked, first-broken-reads.Learnt, without-reads.Asked,
-    without-reads.Learnt, solve-reads.Asked, solve-reads.Learnt, branch-below t, branch.Post, having-reads.Asked, having-reads.Learnt, with-best-reads.Asked,
-    with-best-reads.Learnt) (branch-at t) branch.Post) → let s = from t (need-of t h) in
-    Part (instanceOf (s .args .p)) (needsOf (s .args .t3) (s .args .t)) (instanceOf (h .having .result))
-h-part t h = let s = from t (need-of t h) in subst (Part (instanceOf (s .args .p)) (needsOf (s .args .t3) (s .args .t))) (sym (h-is t h))
-    (part-having (instanceOf (s .args .p)) (needsOf (s .args .t3) (s .args .t)) (s .pre .1 .allowed) (s .pre .1 .limited) (broken t (need-of t h))
-    (among t (need-of t h)) (open-yet t (need-of t h)))
-
--- both cases are few enough
-both-few : (t : ℕ) (h : branch-lts.After-having (counted-reads.Asked, counted-reads.Learnt, outdoes-reads.Asked, outdoes-reads.Learnt, first-broken-reads.Asked, first-broken-reads.Learnt, without-reads.Asked,
-    without-reads.Learnt, solve-reads.Asked, solve-reads.Learnt, branch-below t, branch.Post, having-reads.Asked, having-reads.Learnt, with-best-reads.Asked,
-    with-best-reads.Learnt) (branch-at t) branch.Post) → let s = from t (need-of t h) in let ns = needsOf (s .args .t3) (s .args .t) in
-    suc (twigs (undecided (instanceOf (h .before .before .before .without .result)) ns) + twigs (undecided (instanceOf (h .having .result)) ns))
-    ≤ twigs (undecided (instanceOf (s .args .p)) ns)
-both-few t h = let s = from t (need-of t h) in let ns = needsOf (s .args .t3) (s .args .t) in
-    twigs-two (undecided (instanceOf (h .before .before .before .without .result)) ns) (undecided (instanceOf (h .having .result)) ns)
-    (undecided (instanceOf (s .args .p)) ns) (q-part t (h .before .before .before) .fewer) (h-part t h .fewer)
-
--- src/lib.rt:244:9
-branch-counted-requires : (t : ℕ) → branch-lts.Need-counted-requires (
+-- what the calls are given, and what they give
+abbrev calls : ℕ → branch-lts.Claims
+calls t = (
   counted-reads.Asked,
   counted-reads.Learnt,
   outdoes-reads.Asked,
   outdoes-reads.Learnt,
   first-broken-reads.Asked,
   first-broken-reads.Learnt,
+  need-at-reads.Asked,
+  need-at-reads.Learnt,
   without-reads.Asked,
   without-reads.Learnt,
-  solve-reads.Asked,
-  solve-reads.Learnt,
-  branch-below t,
-  branch.Post,
-  having-reads.Asked,
-  having-reads.Learnt,
-  with-best-reads.Asked,
-  with-best-reads.Learnt,
-) (branch-at t) branch.Post
-branch-counted-requires t c κs =
-    let b = c .pre .1 in
-    (
-      record {
-        cases = omega (arith, b .room, twigs-some (undecided (instanceOf (c .args .p)) (needsOf (c .args .t3) (c .args .t))));
-        steps = b .worked .steps;
-        cells = b .worked .cells;
-      },
-      (b .solved .few-steps, omega (arith, b .solved .few-cells)),
-    )
-
--- src/lib.rt:246:8
-branch-outdoes-requires : (t : ℕ) → branch-lts.Need-outdoes-requires (
-  counted-reads.Asked,
-  counted-reads.Learnt,
-  outdoes-reads.Asked,
-  outdoes-reads.Learnt,
-  first-broken-reads.Asked,
-  first-broken-reads.Learnt,
-  without-reads.Asked,
-  without-reads.Learnt,
-  solve-reads.Asked,
-  solve-reads.Learnt,
-  branch-below t,
-  branch.Post,
-  having-reads.Asked,
-  having-reads.Learnt,
-  with-best-reads.Asked,
-  with-best-reads.Learnt,
-) (branch-at t) branch.Post
-branch-outdoes-requires t c κs =
-    let s = c .before .before in
-    let b = s .pre .1 in
-    rw (c .before .counted .ensures) (b .figures .few-items, (plain-comparable (instanceOf (s .args .p)) (s .args .r .answer) (b .solved .answers),
-    λ f. comparable (instanceOf (s .args .p)) (s .args .b .answer) (b .holds f)))
-
--- src/lib.rt:248:13
-branch-first-broken-requires : (t : ℕ) → branch-lts.Need-first-broken-requires (
-  counted-reads.Asked,
-  counted-reads.Learnt,
-  outdoes-reads.Asked,
-  outdoes-reads.Learnt,
-  first-broken-reads.Asked,
-  first-broken-reads.Learnt,
-  without-reads.Asked,
-  without-reads.Learnt,
-  solve-reads.Asked,
-  solve-reads.Learnt,
-  branch-below t,
-  branch.Post,
-  having-reads.Asked,
-  having-reads.Learnt,
-  with-best-reads.Asked,
-  with-best-reads.Learnt,
-) (branch-at t) branch.Post
-branch-first-broken-requires t c κs =
-    let s = c .before .before .before .before .before in
-    let few = s .pre .1 .figures .few-items in
-    (s .pre .1 .few, λ i h. (omega (arith, few, need-at t s i h .item .inside), omega (arith, few, need-at t s i h .cover .inside)))
-
--- src/lib.rt:250:21
-branch-mul-n : (t : ℕ) → branch-lts.Need-mul-n (
-  counted-reads.Asked,
-  counted-reads.Learnt,
-  outdoes-reads.Asked,
-  outdoes-reads.Learnt,
-  first-broken-reads.Asked,
-  first-broken-reads.Learnt,
-  without-reads.Asked,
-  without-reads.Learnt,
-  solve-reads.Asked,
-  solve-reads.Learnt,
-  branch-below t,
-  branch.Post,
-  having-reads.Asked,
-  having-reads.Learnt,
-  with-best-reads.Asked,
-  with-best-reads.Learnt,
-) (branch-at t) branch.Post
-branch-mul-n t c = let s = c .before .before .before .before .before .before .before in record { fits = omega (arith, c .if2 .taken, s .pre .1 .few) }
-
--- src/lib.rt:250:21
-branch-array-copy-out-n : (t : ℕ) → branch-lts.Need-array-copy-out-n (
-  counted-reads.Asked,
-  counted-reads.Learnt,
-  outdoes-reads.Asked,
-  outdoes-reads.Learnt,
-  first-broken-reads.Asked,
-  first-broken-reads.Learnt,
-  without-reads.Asked,
-  without-reads.Learnt,
-  solve-reads.Asked,
-  solve-reads.Learnt,
-  branch-below t,
-  branch.Post,
-  having-reads.Asked,
-  having-reads.Learnt,
-  with-best-reads.Asked,
-  with-best-reads.Learnt,
-) (branch-at t) branch.Post
-branch-array-copy-out-n t c = let s = c .before .before .before .before .before .before .before in omega (arith, c .if2 .taken, s .pre .1 .few)
-
--- src/lib.rt:251:17
-branch-without-requires : (t : ℕ) → branch-lts.Need-without-requires (
-  counted-reads.Asked,
-  counted-reads.Learnt,
-  outdoes-reads.Asked,
-  outdoes-reads.Learnt,
-  first-broken-reads.Asked,
-  first-broken-reads.Learnt,
-  without-reads.Asked,
-  without-reads.Learnt,
-  solve-reads.Asked,
-  solve-reads.Learnt,
-  branch-below t,
-  branch.Post,
-  having-reads.Asked,
-  having-reads.Learnt,
-  with-best-reads.Asked,
-  with-best-reads.Learnt,
-) (branch-at t) branch.Post
-branch-without-requires t c κs = omega (arith, its t c .item .inside, from t c .pre .1 .figures .few-items)
-
--- src/lib.rt:252:31
-branch-solve-requires : (t : ℕ) → branch-lts.Need-solve-requires (
-  counted-reads.Asked,
-  counted-reads.Learnt,
-  outdoes-reads.Asked,
-  outdoes-reads.Learnt,
-  first-broken-reads.Asked,
-  first-broken-reads.Learnt,
-  without-reads.Asked,
-  without-reads.Learnt,
-  solve-reads.Asked,
-  solve-reads.Learnt,
-  branch-below t,
-  branch.Post,
-  having-reads.Asked,
-  having-reads.Learnt,
-  with-best-reads.Asked,
-  with-best-reads.Learnt,
-) (branch-at t) branch.Post
-branch-solve-requires t c κs =
-    let s = from t (c .before) in
-    let l = its t (c .before) .item .inside in
-    rw (c .without .ensures) (capped-figures (s .args .p) (broken t (c .before) .item) (omega (arith, long t s, l, s .pre .1 .figures .few-items)) l (s .pre .1 .figures))
-
--- src/lib.rt:252:17
-branch-branch-requires : (t : ℕ) → branch-lts.Need-branch-requires (
-  counted-reads.Asked,
-  counted-reads.Learnt,
-  outdoes-reads.Asked,
-  outdoes-reads.Learnt,
-  first-broken-reads.Asked,
-  first-broken-reads.Learnt,
-  without-reads.Asked,
-  without-reads.Learnt,
-  solve-reads.Asked,
-  solve-reads.Learnt,
-  branch-below t,
-  branch.Post,
-  having-reads.Asked,
-  having-reads.Learnt,
-  with-best-reads.Asked,
-  with-best-reads.Learnt,
-) (branch-at t) branch.Post
-branch-branch-requires t c κs =
-    let w = c .before in
-    let s = from t (w .before) in
-    let b = s .pre .1 in
-    let ns = needsOf (s .args .t3) (s .args .t) in
-    let part = q-part t w in
-    let k = counts t (w .before) .counted .ensures in
-    (
-      subst (λ u. undecided (instanceOf (w .without .result)) ns < u) (s .pre .0) (part .fewer),
-      rw k (enter (s .args .p) (w .without .result) (s .args .t3) (s .args .t) (c .solve .result) (countedOf (s .args .b) (s .args .r))
-      (rw (w .without .ensures) (capped-figures (s .args .p) (broken t (w .before) .item)
-      (omega (arith, long t s, its t (w .before) .item .inside, b .figures .few-items)) (its t (w .before) .item .inside) (b .figures)))
-      (c .solve .ensures) (b .few) part (b .holds)
-      (own-work (counted-work (s .args .b) (s .args .r) (b .worked) (b .solved .few-steps) (omega (arith, b .solved .few-cells))))
-      (omega (arith, b .room, twigs-two (undecided (instanceOf (w .without .result)) ns) (undecided (instanceOf (w .without .result)) ns)
-      (undecided (instanceOf (s .args .p)) ns) (part .fewer) (part .fewer)))),
-    )
-
--- src/lib.rt:253:17
-branch-having-requires : (t : ℕ) → branch-lts.Need-having-requires (
-  counted-reads.Asked,
-  counted-reads.Learnt,
-  outdoes-reads.Asked,
-  outdoes-reads.Learnt,
-  first-broken-reads.Asked,
-  first-broken-reads.Learnt,
-  without-reads.Asked,
-  without-reads.Learnt,
-  solve-reads.Asked,
-  solve-reads.Learnt,
-  branch-below t,
-  branch.Post,
-  having-reads.Asked,
-  having-reads.Learnt,
-  with-best-reads.Asked,
-  with-best-reads.Learnt,
-) (branch-at t) branch.Post
-branch-having-requires t c κs = let n = c .before .before .before in omega (arith, its t n .cover .inside, from t n .pre .1 .figures .few-items)
-
--- src/lib.rt:254:30
-branch-solve-requires-2 : (t : ℕ) → branch-lts.Need-solve-requires-2 (
-  counted-reads.Asked,
-  counted-reads.Learnt,
-  outdoes-reads.Asked,
-  outdoes-reads.Learnt,
-  first-broken-reads.Asked,
-  first-broken-reads.Learnt,
-  without-reads.Asked,
-  without-reads.Learnt,
-  solve-reads.Asked,
-  solve-reads.Learnt,
-  branch-below t,
-  branch.Post,
-  having-reads.Asked,
-  having-reads.Learnt,
-  with-best-reads.Asked,
-  with-best-reads.Learnt,
-) (branch-at t) branch.Post
-branch-solve-requires-2 t c κs =
-    let n = need-of t c in
-    let s = from t n in
-    let l = its t n .cover .inside in
-    rw (c .having .ensures) (raised-figures (s .args .p) (broken t n .cover) (omega (arith, long t s, l, s .pre .1 .figures .few-items)) l (s .pre .1 .figures))
-
--- src/lib.rt:254:13
-branch-branch-requires-2 : (t : ℕ) → branch-lts.Need-branch-requires-2 (
-  counted-reads.Asked,
-  counted-reads.Learnt,
-  outdoes-reads.Asked,
-  outdoes-reads.Learnt,
-  first-broken-reads.Asked,
-  first-broken-reads.Learnt,
-  without-reads.Asked,
-  without-reads.Learnt,
-  solve-reads.Asked,
-  solve-reads.Learnt,
-  branch-below t,
-  branch.Post,
-  having-reads.Asked,
-  having-reads.Learnt,
-  with-best-reads.Asked,
-  with-best-reads.Learnt,
-) (branch-at t) branch.Post
-branch-branch-requires-2 t c κs =
-    let h = c .before in
-    let n = need-of t h in
-    let s = from t n in
-    let b = s .pre .1 in
-    let ns = needsOf (s .args .t3) (s .args .t) in
-    let part = h-part t h in
-    let d = h .before .branch in
-    let k = counts t n .counted .ensures in
-    let most : d .result .cases ≤ s .args .b .cases + 1 + twigs (undecided (instanceOf (h .before .before .before .without .result)) ns) =
-        rw k at (d .ensures .worked .cases) in
-    (
-      subst (λ u. undecided (instanceOf (h .having .result)) ns < u) (s .pre .0) (part .fewer),
-      enter (s .args .p) (h .having .result) (s .args .t3) (s .args .t) (c .solve2 .result) (d .result)
-      (rw (h .having .ensures) (raised-figures (s .args .p) (broken t n .cover)
-      (omega (arith, long t s, its t n .cover .inside, b .figures .few-items)) (its t n .cover .inside) (b .figures)))
-      (c .solve2 .ensures) (b .few) part (λ f. q-part t (h .before .before .before) .out (d .result .answer) (d .ensures .holds f)) (own-work (d .ensures .worked))
-      (omega (arith, b .room, most, both-few t h)),
-    )
-
--- src/lib.rt:254:13
-branch-returns : (t : ℕ) → branch-lts.Need-returns (
-  counted-reads.Asked,
-  counted-reads.Learnt,
-  outdoes-reads.Asked,
-  outdoes-reads.Learnt,
-  first-broken-reads.Asked,
-  first-broken-reads.Learnt,
-  without-reads.Asked,
-  without-reads.Learnt,
-  solve-reads.Asked,
-  solve-reads.Learnt,
-  branch-below t,
-  branch.Post,
-  having-reads.Asked,
-  having-reads.Learnt,
-  with-best-reads.Asked,
-  with-best-reads.Learnt,
-) (branch-at t) branch.Post
-branch-returns t c =
-    let h = c .before .before in
-    let n = need-of t h in
-    let s = from t n in
-    let w = h .before .before .before in
-    let k = counts t n .counted .ensures in
-    through-split (instanceOf (s .args .p)) (needsOf (s .args .t3) (s .args .t)) (s .pre .1 .allowed) (broken t n) (among t n) (instanceOf (w .without .result))
-    (instanceOf (h .having .result)) (q-is t w) (h-is t h) (q-part t w) (h-part t h) (s .args .b) (counts t n .counted .result) (h .before .branch .result)
-    (c .branch2 .result) (ap known k) (ap (λ (x : Best). x .cases) k) (h .before .branch .ensures) (c .branch2 .ensures)
-
--- src/lib.rt:256:9
-branch-with-best-requires : (t : ℕ) → branch-lts.Need-with-best-requires (
-  counted-reads.Asked,
-  counted-reads.Learnt,
-  outdoes-reads.Asked,
-  outdoes-reads.Learnt,
-  first-broken-reads.Asked,
-  first-broken-reads.Learnt,
-  without-reads.Asked,
-  without-reads.Learnt,
-  solve-reads.Asked,
-  solve-reads.Learnt,
-  branch-below t,
-  branch.Post,
-  having-reads.Asked,
-  having-reads.Learnt,
-  with-best-reads.Asked,
-  with-best-reads.Learnt,
-) (branch-at t) branch.Post
-branch-with-best-requires t c κs = tt
-
--- src/lib.rt:256:9
-branch-returns-2 : (t : ℕ) → branch-lts.Need-returns-2 (
-  counted-reads.Asked,
-  counted-reads.Learnt,
-  outdoes-reads.Asked,
-  outdoes-reads.Learnt,
-  first-broken-reads.Asked,
-  first-broken-reads.Learnt,
-  without-reads.Asked,
-  without-reads.Learnt,
-  solve-reads.Asked,
-  solve-reads.Learnt,
-  branch-below t,
-  branch.Post,
-  having-reads.Asked,
-  having-reads.Learnt,
-  with-best-reads.Asked,
-  with-best-reads.Learnt,
-) (branch-at t) branch.Post
-branch-returns-2 t c =
-    let f = c .before .before in
-    let o = f .before .before .before in
-    let k = o .before .before in
-    let s = k .before in
-    let b = s .pre .1 in
-    let i = instanceOf (s .args .p) in
-    let a = s .args .r .answer in
-    let e = f .first-broken .ensures in
-    let all : f .first-broken .result ≡ s .args .t = omega (arith, e .most, c .before .if2 .left) in
-    let ahead = rw (k .counted .ensures) at (o .outdoes .ensures .ahead (f .before .before .if1 .taken)) in
-    rw (c .with-best .ensures, k .counted .ensures)
-    (through-kept i (needsOf (s .args .t3) (s .args .t)) (s .args .b) (s .args .r) a (b .solved .answers) (b .solved .first) (b .limited) (b .holds)
-    (counted-work (s .args .b) (s .args .r) (b .worked) (b .solved .few-steps) (omega (arith, b .solved .few-cells))) ahead
-    (every-kept (s .args .t3) (s .args .t) (room t s) i a (b .allowed) (optimal-of i a (b .solved .answers) (ahead .0) .optimal .feasible)
-    (λ j m. e .kept j (omega (arith, all, m)))))
-
--- src/lib.rt:240:1
-branch-returns-3 : (t : ℕ) → branch-lts.Need-returns-3 (
-  counted-reads.Asked,
-  counted-reads.Learnt,
-  outdoes-reads.Asked,
-  outdoes-reads.Learnt,
-  first-broken-reads.Asked,
-  first-broken-reads.Learnt,
-  without-reads.Asked,
-  without-reads.Learnt,
-  solve-reads.Asked,
-  solve-reads.Learnt,
-  branch-below t,
-  branch.Post,
-  having-reads.Asked,
-  having-reads.Learnt,
-  with-best-reads.Asked,
-  with-best-reads.Learnt,
-) (branch-at t) branch.Post
-branch-returns-3 t c =
-    let o = c .before in
-    let k = o .before .before in
-    let s = k .before in
-    let b = s .pre .1 in
-    rw (k .counted .ensures)
-    (through-behind (instanceOf (s .args .p)) (needsOf (s .args .t3) (s .args .t)) (s .args .b) (s .args .r) (s .args .r .answer) (b .solved .answers)
-    (b .solved .first) (b .limited) (b .holds)
-    (counted-work (s .args .b) (s .args .r) (b .worked) (b .solved .few-steps) (omega (arith, b .solved .few-cells)))
-    (rw (k .counted .ensures) at (o .outdoes .ensures .behind (c .if1 .left))))
-
-pub +branch-spec : {M : Type 1} → statement M
-+branch-spec = close μ-branch λ t. branch-lts.spec (
-  counted-reads.Asked,
-  counted-reads.Learnt,
-  outdoes-reads.Asked,
-  outdoes-reads.Learnt,
-  first-broken-reads.Asked,
-  first-broken-reads.Learnt,
-  without-reads.Asked,
-  without-reads.Learnt,
-  solve-reads.Asked,
-  solve-reads.Learnt,
+  solve-case-reads.Asked,
+  solve-case-reads.Learnt,
   branch-below t,
   branch.Post,
   having-reads.Asked,
@@ -576,18 +65,264 @@ pub +branch-spec : {M : Type 1} → statement M
   with-best-reads.Asked,
   with-best-reads.Learnt,
 )
+
+module _ (t : ℕ) where
+  -- the moments that are spoken of below
+  abbrev Start : Type 0
+  Start = branch-lts.Start (calls t) (branch-at t) branch.Post
+
+  abbrev Counted : Type 0
+  Counted = branch-lts.After-counted (calls t) (branch-at t) branch.Post
+
+  abbrev Outdone : Type 0
+  Outdone = branch-lts.After-outdoes (calls t) (branch-at t) branch.Post
+
+  abbrev Asked : Type 0
+  Asked = branch-lts.After-first-broken (calls t) (branch-at t) branch.Post
+
+  abbrev Needing : Type 0
+  Needing = branch-lts.After-need-at (calls t) (branch-at t) branch.Post
+
+  abbrev Lacking : Type 0
+  Lacking = branch-lts.After-without (calls t) (branch-at t) branch.Post
+
+  abbrev Having : Type 0
+  Having = branch-lts.After-having (calls t) (branch-at t) branch.Post
+
+  abbrev after-outdoes : Asked → Outdone
+  after-outdoes f = f .before .before .before
+
+  abbrev after-counted : Outdone → Counted
+  after-counted o = o .before .before
+
+  abbrev asked : Needing → Asked
+  asked c = c .before .before .before
+
+  abbrev counts : Needing → Counted
+  counts c = after-counted (after-outdoes (asked c))
+
+  abbrev start : Needing → Start
+  start c = counts c .before
+
+  abbrev lacks : Having → Lacking
+  lacks h = h .before .before .before
+
+  abbrev broken : Needing → Need
+  broken c = c .need-at .result
+
+  long : (s : Start) → length (s .args .p .items) ≡ 16
+  long s = simp length-map at (s .good .0 .1 .1 .0 .1 .0 .1)
+
+  -- the needs name places
+  places : (s : Start) → Placed (s .args .ns)
+  places s = let b = s .pre .1 in allowed-placed (s .args .ns) (s .args .p) (b .figures .few-items) (b .few) (b .allowed)
+
+  -- one case more
+  more-work : (s : Start) → Worked (s .args .most) (s .args .b .cases + 1) (countedOf (s .args .b) (s .args .r))
+  more-work s = let b = s .pre .1 in counted-work (s .args .most) (s .args .b) (s .args .r) (b .worked) (b .solved .few-steps) (b .solved .few-cells)
+
+  among : (c : Needing) → Among (broken c) (needsOf (start c .args .ns))
+  among c =
+      let ns = start c .args .ns in
+      subst (λ n. Among n (needsOf ns)) (sym (c .need-at .ensures)) (need-in ns (asked c .first-broken .result) (c .before .if2 .taken))
+
+  its : (c : Needing) → Allowed (instanceOf (start c .args .p)) (broken c)
+  its c = start c .pre .1 .allowed (broken c) (among c)
+
+  -- the need is not decided yet
+  open-yet : (c : Needing) → decided (instanceOf (start c .args .p)) (broken c) ≡ false
+  open-yet c =
+      let s = start c in
+      let f = asked c in
+      let o = after-outdoes f in
+      let a = s .args .r .answer in
+      let i = instanceOf (s .args .p) in
+      let k = o .outdoes .ensures .ahead (f .before .before .if1 .taken) .0 in
+      let b : breaks (a .point) (broken c) ≡ true =
+          subst (λ n. breaks (a .point) n ≡ true) (sym (c .need-at .ensures)) (f .first-broken .ensures .broken (c .before .if2 .taken)) in
+      broken-open i (broken c) (its c .item .inside, its c .cover .inside) (pointOf a) (optimal-of i a (s .pre .1 .solved .answers) k .optimal .feasible)
+      (breaks-yes i a (broken c) b)
+
+  -- the two cases
+  q-is : (w : Lacking) → let c = w .before in instanceOf (w .without .result) ≡ without (instanceOf (start c .args .p)) (broken c .item)
+  q-is w =
+      let c = w .before in
+      let s = start c in
+      ap instanceOf (w .without .ensures) ∙ capped-is (s .args .p) (broken c .item)
+      (omega (arith, long s, its c .item .inside, s .pre .1 .figures .few-items))
+
+  q-figures : (w : Lacking) → FiguresInRange (w .without .result)
+  q-figures w =
+      let c = w .before in
+      let s = start c in
+      let f = s .pre .1 .figures in
+      let l = its c .item .inside in
+      rw (w .without .ensures) (capped-figures (s .args .p) (broken c .item) (omega (arith, long s, l, f .few-items)) l f)
+
+  q-part : (w : Lacking) → let s = start (w .before) in Part (instanceOf (s .args .p)) (needsOf (s .args .ns)) (instanceOf (w .without .result))
+  q-part w =
+      let c = w .before in
+      let s = start c in
+      subst (Part (instanceOf (s .args .p)) (needsOf (s .args .ns))) (sym (q-is w))
+      (part-without (instanceOf (s .args .p)) (needsOf (s .args .ns)) (s .pre .1 .allowed) (s .pre .1 .limited) (broken c) (among c) (open-yet c))
+
+  h-is : (h : Having) → let c = lacks h .before in instanceOf (h .having .result) ≡ having (instanceOf (start c .args .p)) (broken c .cover)
+  h-is h =
+      let c = lacks h .before in
+      let s = start c in
+      ap instanceOf (h .having .ensures) ∙ raised-is (s .args .p) (broken c .cover)
+      (omega (arith, long s, its c .cover .inside, s .pre .1 .figures .few-items))
+
+  h-figures : (h : Having) → FiguresInRange (h .having .result)
+  h-figures h =
+      let c = lacks h .before in
+      let s = start c in
+      let f = s .pre .1 .figures in
+      let l = its c .cover .inside in
+      rw (h .having .ensures) (raised-figures (s .args .p) (broken c .cover) (omega (arith, long s, l, f .few-items)) l f)
+
+  h-part : (h : Having) → let s = start (lacks h .before) in Part (instanceOf (s .args .p)) (needsOf (s .args .ns)) (instanceOf (h .having .result))
+  h-part h =
+      let c = lacks h .before in
+      let s = start c in
+      subst (Part (instanceOf (s .args .p)) (needsOf (s .args .ns))) (sym (h-is h))
+      (part-having (instanceOf (s .args .p)) (needsOf (s .args .ns)) (s .pre .1 .allowed) (s .pre .1 .limited) (broken c) (among c) (open-yet c))
+
+  -- both cases are few enough
+  both-few : (h : Having) → let s = start (lacks h .before) in let ns = needsOf (s .args .ns) in
+      suc (twigs (undecided (instanceOf (lacks h .without .result)) ns) + twigs (undecided (instanceOf (h .having .result)) ns))
+      ≤ twigs (undecided (instanceOf (s .args .p)) ns)
+  both-few h =
+      let s = start (lacks h .before) in
+      let ns = needsOf (s .args .ns) in
+      twigs-two (undecided (instanceOf (lacks h .without .result)) ns) (undecided (instanceOf (h .having .result)) ns)
+      (undecided (instanceOf (s .args .p)) ns) (q-part (lacks h) .fewer) (h-part h .fewer)
+
+  -- ---- what the code owes
+
+  branch-counted-requires : branch-lts.Need-counted-requires (calls t) (branch-at t) branch.Post
+  branch-counted-requires c κs =
+      let b = c .pre .1 in
+      countable (c .args .most) (c .args .b) (c .args .r) (b .short)
+      (omega (arith, b .room, twigs-some (undecided (instanceOf (c .args .p)) (needsOf (c .args .ns))))) (b .worked) (b .solved .few-steps)
+      (b .solved .few-cells)
+
+  branch-outdoes-requires : branch-lts.Need-outdoes-requires (calls t) (branch-at t) branch.Post
+  branch-outdoes-requires c κs =
+      let s = c .before .before in
+      let b = s .pre .1 in
+      rw (c .before .counted .ensures) (b .figures .few-items, (plain-comparable (instanceOf (s .args .p)) (s .args .r .answer) (b .solved .answers),
+      λ f. comparable (instanceOf (s .args .p)) (s .args .b .answer) (b .holds f)))
+
+  branch-first-broken-requires : branch-lts.Need-first-broken-requires (calls t) (branch-at t) branch.Post
+  branch-first-broken-requires c κs = places (after-counted (c .before .before) .before)
+
+  branch-need-at-requires : branch-lts.Need-need-at-requires (calls t) (branch-at t) branch.Post
+  branch-need-at-requires c κs =
+      let s = after-counted (after-outdoes (c .before .before)) .before in
+      omega (arith, c .if2 .taken, s .pre .1 .few)
+
+  branch-without-requires : branch-lts.Need-without-requires (calls t) (branch-at t) branch.Post
+  branch-without-requires c κs = omega (arith, its c .item .inside, start c .pre .1 .figures .few-items)
+
+  branch-solve-case-requires : branch-lts.Need-solve-case-requires (calls t) (branch-at t) branch.Post
+  branch-solve-case-requires c κs = (q-figures c, places (start (c .before)))
+
+  branch-branch-requires : branch-lts.Need-branch-requires (calls t) (branch-at t) branch.Post
+  branch-branch-requires c κs =
+      let w = c .before in
+      let s = start (w .before) in
+      let b = s .pre .1 in
+      let u = undecided (instanceOf (w .without .result)) (needsOf (s .args .ns)) in
+      let part = q-part w in
+      (
+        subst (λ n. u < n) (s .pre .0) (part .fewer),
+        rw (counts (w .before) .counted .ensures)
+        (enter (s .args .p) (w .without .result) (s .args .ns) (s .args .most) (c .solve-case .result) (countedOf (s .args .b) (s .args .r))
+        (q-figures w) (c .solve-case .ensures .0) (b .short) (b .few) part (b .holds) (own-work (more-work s))
+        (omega (arith, b .room, twigs-two u u (undecided (instanceOf (s .args .p)) (needsOf (s .args .ns))) (part .fewer) (part .fewer)))),
+      )
+
+  branch-having-requires : branch-lts.Need-having-requires (calls t) (branch-at t) branch.Post
+  branch-having-requires c κs = let n = c .before .before .before in omega (arith, its n .cover .inside, start n .pre .1 .figures .few-items)
+
+  branch-solve-case-requires-2 : branch-lts.Need-solve-case-requires-2 (calls t) (branch-at t) branch.Post
+  branch-solve-case-requires-2 c κs = (h-figures c, places (start (lacks c .before)))
+
+  branch-branch-requires-2 : branch-lts.Need-branch-requires-2 (calls t) (branch-at t) branch.Post
+  branch-branch-requires-2 c κs =
+      let h = c .before in
+      let n = lacks h .before in
+      let s = start n in
+      let b = s .pre .1 in
+      let ns = needsOf (s .args .ns) in
+      let part = h-part h in
+      let d = h .before .branch in
+      let most : d .result .cases ≤ s .args .b .cases + 1 + twigs (undecided (instanceOf (lacks h .without .result)) ns) =
+          rw (counts n .counted .ensures) at (d .ensures .worked .cases) in
+      (
+        subst (λ u. undecided (instanceOf (h .having .result)) ns < u) (s .pre .0) (part .fewer),
+        enter (s .args .p) (h .having .result) (s .args .ns) (s .args .most) (c .solve-case2 .result) (d .result) (h-figures h) (c .solve-case2 .ensures .0)
+        (b .short) (b .few) part (λ f. q-part (lacks h) .out (d .result .answer) (d .ensures .holds f)) (own-work (d .ensures .worked))
+        (omega (arith, b .room, most, both-few h)),
+      )
+
+  branch-returns : branch-lts.Need-returns (calls t) (branch-at t) branch.Post
+  branch-returns c =
+      let h = c .before .before in
+      let w = lacks h in
+      let n = w .before in
+      let s = start n in
+      let k = counts n .counted in
+      through-split (instanceOf (s .args .p)) (needsOf (s .args .ns)) (s .args .most) (s .pre .1 .allowed) (broken n) (among n)
+      (instanceOf (w .without .result)) (instanceOf (h .having .result)) (q-is w) (h-is h) (q-part w) (h-part h) (s .args .b) (k .result)
+      (h .before .branch .result) (c .branch2 .result) (ap known (k .ensures)) (ap (λ (x : Best). x .cases) (k .ensures)) (h .before .branch .ensures)
+      (c .branch2 .ensures)
+
+  branch-with-best-requires : branch-lts.Need-with-best-requires (calls t) (branch-at t) branch.Post
+  branch-with-best-requires c κs = tt
+
+  branch-returns-2 : branch-lts.Need-returns-2 (calls t) (branch-at t) branch.Post
+  branch-returns-2 c =
+      let f = c .before .before .before in
+      let o = f .before .before .before in
+      let k = o .before .before in
+      let s = k .before in
+      let b = s .pre .1 in
+      let i = instanceOf (s .args .p) in
+      let a = s .args .r .answer in
+      let e = f .first-broken .ensures in
+      let all : f .first-broken .result ≡ s .args .ns .count = omega (arith, e .most, c .before .if2 .left) in
+      let ahead = rw (k .counted .ensures) at (o .outdoes .ensures .ahead (f .before .before .if1 .taken)) in
+      rw (c .with-best .ensures, k .counted .ensures)
+      (through-kept i (needsOf (s .args .ns)) (s .args .most) (s .args .b) (s .args .r) a (b .solved .answers) (b .solved .first) (b .limited) (b .holds)
+      (more-work s) ahead
+      (every-kept (s .args .ns) i a (b .allowed) (optimal-of i a (b .solved .answers) (ahead .0) .optimal .feasible)
+      (λ j m. e .kept j (omega (arith, all, m)))))
+
+  branch-returns-3 : branch-lts.Need-returns-3 (calls t) (branch-at t) branch.Post
+  branch-returns-3 c =
+      let o = c .before in
+      let k = after-counted o in
+      let s = k .before in
+      let b = s .pre .1 in
+      rw (k .counted .ensures)
+      (through-behind (instanceOf (s .args .p)) (needsOf (s .args .ns)) (s .args .most) (s .args .b) (s .args .r) (s .args .r .answer) (b .solved .answers)
+      (b .solved .first) (b .limited) (b .holds) (more-work s) (rw (k .counted .ensures) at (o .outdoes .ensures .behind (c .if1 .left))))
+
+pub +branch-spec : {M : Type 1} → statement M
++branch-spec = close μ-branch λ t. branch-lts.spec (calls t)
     (branch-at t)
     branch.Post
     (branch-counted-requires t)
     (branch-outdoes-requires t)
     (branch-first-broken-requires t)
-    (branch-mul-n t)
-    (branch-array-copy-out-n t)
+    (branch-need-at-requires t)
     (branch-without-requires t)
-    (branch-solve-requires t)
+    (branch-solve-case-requires t)
     (branch-branch-requires t)
     (branch-having-requires t)
-    (branch-solve-requires-2 t)
+    (branch-solve-case-requires-2 t)
     (branch-branch-requires-2 t)
     (branch-returns t)
     (branch-with-best-requires t)

@@ -16,8 +16,6 @@ use Rattle.comparing.proofs.Order.{default-free}
 use borrow.Author.Needs.{needs}
 use Rattle.branching.proofs.breaks.Statement.{statement}
 use Rattle.branching.proofs.breaks.Tie as tie
-use Rattle.branching.proofs.breaks.Reads as reads
-use Rattle.branching.proofs.breaks.Lts as lts
 
 -- a test of an amount, as the code has it
 tested : (l : List Fraction) (k : ℕ) (t : Bool) → k < length l → mag (getD l k (record { p = pos 0; q = 0 }) .p) < 2 ^ 63
@@ -28,49 +26,46 @@ tested l k t h f e = subst (λ (x : Fraction). ltZ (pos 0) (x .p) ≡ t) (defaul
 long : (s : tie.Start) → length (s .args .t1) ≡ 16
 long s = search needs
 
-item-fits : (c : tie.Then1) → let s = c .before .before .before .before .before in mag (getD (s .args .t1) (s .args .n .item) (record { p = pos 0; q = 0 }) .p) < 2 ^ 63
+-- the start, from the test of the item's amount
+abbrev start : tie.After-struct-told → tie.Start
+start c = c .before .before .before .before
+
+item-fits : (c : tie.Then1) → let s = start (c .before) in mag (getD (s .args .t1) (s .args .n .item) (record { p = pos 0; q = 0 }) .p) < 2 ^ 63
 item-fits c = search needs
 
--- src/lib.rt:41:13
 mul-a : tie.Need-mul-a
 mul-a c = search needs
 
--- src/lib.rt:41:13
 array-copy-out-a : tie.Need-array-copy-out-a
 array-copy-out-a c = search needs
 
--- src/lib.rt:42:13
 mul-b : tie.Need-mul-b
 mul-b c = search needs
 
--- src/lib.rt:42:13
 array-copy-out-b : tie.Need-array-copy-out-b
 array-copy-out-b c = search needs
 
--- src/lib.rt:45:13
 returns : tie.Need-returns
 returns c =
     let y = c .before .before .before in
-    let s = y .before .before .before .before .before in
+    let s = start (y .before) in
     let f : mag (getD (s .args .t1) (s .args .n .cover) (record { p = pos 0; q = 0 }) .p) < 2 ^ 63 = search needs in
     let a = tested (s .args .t1) (s .args .n .item) _ (omega (arith, long s, s .pre .0)) (item-fits y) (y .if1 .taken) in
     let b = tested (s .args .t1) (s .args .n .cover) _ (omega (arith, long s, s .pre .1)) f (c .if2 .taken) in
     sym (ap₂ (λ (u v : Bool). cond u (not v) false) a b)
 
--- src/lib.rt:47:9
 returns-2 : tie.Need-returns-2
 returns-2 c =
     let y = c .before .before .before in
-    let s = y .before .before .before .before .before in
+    let s = start (y .before) in
     let f : mag (getD (s .args .t1) (s .args .n .cover) (record { p = pos 0; q = 0 }) .p) < 2 ^ 63 = search needs in
     let a = tested (s .args .t1) (s .args .n .item) _ (omega (arith, long s, s .pre .0)) (item-fits y) (y .if1 .taken) in
     let b = tested (s .args .t1) (s .args .n .cover) _ (omega (arith, long s, s .pre .1)) f (c .if2 .left) in
     sym (ap₂ (λ (u v : Bool). cond u (not v) false) a b)
 
--- src/lib.rt:35:1
 returns-3 : tie.Need-returns-3
 returns-3 c =
-    let s = c .before .before .before .before .before in
+    let s = start (c .before) in
     let f : mag (getD (s .args .t1) (s .args .n .item) (record { p = pos 0; q = 0 }) .p) < 2 ^ 63 = search needs in
     let a = tested (s .args .t1) (s .args .n .item) _ (omega (arith, long s, s .pre .0)) f (c .if1 .left) in
     sym (ap (λ (u : Bool). cond u (not (ltZ (pos 0) (amountIn (s .args .t1) (s .args .n .cover) .p))) false) a)

@@ -1,36 +1,30 @@
 -- `branching::cap` meets its contract.
-use mathlib.Core.Path.{_≡_, refl, sym, ap, _∙_}
+use mathlib.Core.Path.{_≡_, sym, ap, _∙_}
 use mathlib.Core.Bool.{Bool, cond}
 use lib.IntN.{ℤ, pos}
 use lib.Signed.{ltZ}
-use Rattle.arith.proofs.Integers.{minℤ, maxℤ}
+use Rattle.arith.proofs.Integers.{minℤ}
 use Rattle.arith.proofs.Words.{back}
-use Rattle.knapsack.specs.declared.Bound.the-variants.{Absent, At}
+use Rattle.knapsack.specs.declared.Bound.the-variants.{At}
 use Rattle.cases.proofs.Splitting.{cap}
 use borrow.Author.Needs.{needs}
 use Rattle.branching.proofs.cap.Statement.{statement}
 use Rattle.branching.proofs.cap.Tie as tie
-use Rattle.branching.proofs.cap.Reads as reads
-use Rattle.branching.proofs.cap.Lts as lts
 
 -- of a bound that is there
 held : (v : ℤ) (t : Bool) → ltZ (pos 0) v ≡ t → At (cond t (pos 0) (v)) ≡ cap (At v)
 unfolding minℤ
 held v t h = ap (λ (x : Bool). At (cond x (pos 0) (v))) (sym h)
 
--- src/lib.rt:74:26
 enum-told : tie.Need-enum-told
 enum-told c = search needs
 
--- src/lib.rt:75:19
 enum-known-b : tie.Need-enum-known-b
 enum-known-b c = search needs
 
--- src/lib.rt:70:1
 returns : tie.Need-returns
 returns c = sym (ap cap (c .enum-told .given .1))
 
--- src/lib.rt:70:1
 returns-2 : tie.Need-returns-2
 returns-2 c =
     let b = c .before .before in
@@ -38,7 +32,6 @@ returns-2 c =
     let e = back v (c .before .known-told .given .0 .1) in
     held v _ (rw e at (c .if1 .taken)) ∙ ap cap (sym (b .b .given .1))
 
--- src/lib.rt:70:1
 returns-3 : tie.Need-returns-3
 returns-3 c =
     let b = c .before .before in

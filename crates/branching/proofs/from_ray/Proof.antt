@@ -1,22 +1,16 @@
 -- `branching::from_ray` meets its contract.
-use mathlib.Core.Path.{_≡_, refl, sym, _∙_}
+use mathlib.Core.Path.{refl, sym, _∙_}
 use Rattle.arith.proofs.Parts.{impossible}
 use borrow.Author.Needs.{needs}
 use Rattle.branching.proofs.from_ray.Statement.{statement}
 use Rattle.branching.proofs.from_ray.Tie as tie
-use Rattle.branching.proofs.from_ray.Reads as reads
-use Rattle.branching.proofs.from_ray.Lts as lts
-use Rattle.branching.proofs.told.Reads as told-reads
 
--- src/lib.rt:325:9
 returns : tie.Need-returns
 returns c = record { found = λ e. refl; none = λ e. absurd (impossible (sym e ∙ c .before .before .if1 .taken)); steps = refl; cells = refl }
 
--- src/lib.rt:331:5
 told-requires : tie.Need-told-requires
 told-requires c κs = search needs
 
--- src/lib.rt:312:1
 returns-2 : tie.Need-returns-2
 returns-2 c = let t = c .told .ensures in
     record { found = λ e. absurd (impossible (sym (c .before .if1 .left) ∙ e)); none = t .none; steps = t .steps; cells = t .cells }

@@ -1,5 +1,4 @@
 -- `branching::having` meets its contract.
-use mathlib.Core.Path.{_≡_}
 use Prim.Native.Nat.{_^_, _<_}
 use lib.Signed.{mag}
 use Rattle.arith.proofs.Words.{back}
@@ -7,39 +6,34 @@ use Rattle.knapsack.specs.Ranges.{itemAt}
 use borrow.Author.Needs.{needs}
 use Rattle.branching.proofs.having.Statement.{statement}
 use Rattle.branching.proofs.having.Tie as tie
-use Rattle.branching.proofs.having.Reads as reads
-use Rattle.branching.proofs.having.Lts as lts
-use Rattle.branching.proofs.raise.Reads as raise-reads
-use Rattle.knapsack.proofs.with_item.Reads as with-item-reads
 
-weighs : (c : tie.After-with-item) → let s = c .before .before .before .before in mag (itemAt (s .args .t1) (s .args .m) .weight) < 2 ^ 63
+abbrev start : tie.After-with-item → tie.Start
+start c = c .before .before .before .before
+
+weighs : (c : tie.After-with-item) → mag (itemAt (start c .args .t1) (start c .args .m) .weight) < 2 ^ 63
 weighs c = search needs
 
-costs : (c : tie.After-with-item) → let s = c .before .before .before .before in mag (itemAt (s .args .t1) (s .args .m) .price) < 2 ^ 63
+costs : (c : tie.After-with-item) → mag (itemAt (start c .args .t1) (start c .args .m) .price) < 2 ^ 63
 costs c = search needs
 
--- src/lib.rt:113:13
 mul-i : tie.Need-mul-i
 mul-i c = search needs
 
--- src/lib.rt:113:13
 element-copy-out-i : tie.Need-element-copy-out-i
 element-copy-out-i c = search needs
 
--- src/lib.rt:117:9
 raise-requires : tie.Need-raise-requires
 raise-requires c κs = search needs
 
--- src/lib.rt:125:5
 with-item-requires : tie.Need-with-item-requires
 with-item-requires c κs = search needs
 
--- src/lib.rt:109:1
 returns : tie.Need-returns
 returns c =
-    let s = c .before .before .before .before in
+    let b = c .before .before in
+    let s = b .before .before in
     let i = itemAt (s .args .t1) (s .args .m) in
-    rw (back (i .weight) (weighs c), back (i .price) (costs c), c .before .before .raise .ensures) at (c .with-item .ensures)
+    rw (back (i .weight) (weighs c), back (i .price) (costs c), b .raise .ensures) at (c .with-item .ensures)
 
 pub having-spec : {M : Type 1} → statement M
 having-spec =

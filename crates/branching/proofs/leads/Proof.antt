@@ -1,5 +1,5 @@
 -- `branching::leads` meets its contract: the values decide, then the points.
-use mathlib.Core.Path.{_≡_, sym, _∙_}
+use mathlib.Core.Path.{sym, _∙_}
 use Rattle.arith.proofs.Parts.{impossible}
 use Rattle.knapsack.specs.Meaning.{pointOf}
 use Rattle.comparing.proofs.Order.{earlier-not}
@@ -7,59 +7,54 @@ use Rattle.branching.proofs.Ordering.{less-yes, less-no, led-above, led
 use borrow.Author.Needs.{needs}
 use Rattle.branching.proofs.leads.Statement.{statement}
 use Rattle.branching.proofs.leads.Tie as tie
-use Rattle.branching.proofs.leads.Reads as reads
-use Rattle.branching.proofs.leads.Lts as lts
-use Rattle.comparing.proofs.comes_before.Reads as comes-before-reads
-use Rattle.comparing.proofs.less_fraction.Reads as less-fraction-reads
 
--- src/lib.rt:211:8
+abbrev start : tie.After-less-fraction → tie.Start
+start a = a .before .before .before
+
 less-fraction-requires : tie.Need-less-fraction-requires
 less-fraction-requires c κs = search needs
 
--- src/lib.rt:212:9
 returns : tie.Need-returns
 returns c =
     let a = c .before in
-    let s = a .before .before .before in
+    let s = start a in
     record {
-      ahead = λ e. led-above (s .args .n) (s .args .a) (s .args .c) (less-yes (s .args .c .value) (s .args .a .value) (s .pre .1 .1 .value) (s .pre .1 .0 .value)
-          (sym (a .less-fraction .ensures) ∙ c .if1 .taken));
+      ahead = λ e. led-above (s .args .n) (s .args .a) (s .args .c)
+          (less-yes (s .args .c .value) (s .args .a .value) (s .pre .1 .1 .value) (s .pre .1 .0 .value) (sym (a .less-fraction .ensures) ∙ c .if1 .taken));
       behind = λ e. absurd (impossible (sym e));
     }
 
--- src/lib.rt:214:8
 less-fraction-requires-2 : tie.Need-less-fraction-requires-2
 less-fraction-requires-2 c κs = search needs
 
--- src/lib.rt:215:9
 returns-2 : tie.Need-returns-2
 returns-2 c =
     let a = c .before in
-    let s = a .before .before .before .before .before in
+    let s = start (a .before .before) in
     record {
       ahead = λ e. absurd (impossible e);
-      behind = λ e. led-above (s .args .n) (s .args .c) (s .args .a) (less-yes (s .args .a .value) (s .args .c .value) (s .pre .1 .0 .value) (s .pre .1 .1 .value)
-          (sym (a .less-fraction2 .ensures) ∙ c .if2 .taken));
+      behind = λ e. led-above (s .args .n) (s .args .c) (s .args .a)
+          (less-yes (s .args .a .value) (s .args .c .value) (s .pre .1 .0 .value) (s .pre .1 .1 .value) (sym (a .less-fraction2 .ensures) ∙ c .if2 .taken));
     }
 
--- src/lib.rt:219:5
 comes-before-requires : tie.Need-comes-before-requires
 comes-before-requires c κs = search needs
 
--- src/lib.rt:205:1
 returns-3 : tie.Need-returns-3
 returns-3 c =
     let e2 = c .before .before .before in
     let a2 = e2 .before in
     let e1 = a2 .before in
     let a1 = e1 .before in
-    let s = a1 .before .before .before in
+    let s = start a1 in
     let av = s .pre .1 .0 .value in
     let cv = s .pre .1 .1 .value in
     record {
-      ahead = λ e. led-level (s .args .n) (s .args .a) (s .args .c) (less-no (s .args .a .value) (s .args .c .value) av cv (sym (a2 .less-fraction2 .ensures) ∙ e2 .if2 .left))
+      ahead = λ e. led-level (s .args .n) (s .args .a) (s .args .c)
+          (less-no (s .args .a .value) (s .args .c .value) av cv (sym (a2 .less-fraction2 .ensures) ∙ e2 .if2 .left))
           (earlier-not (s .args .n) (pointOf (s .args .c)) (pointOf (s .args .a)) (c .comes-before .ensures .before e));
-      behind = λ e. led-level (s .args .n) (s .args .c) (s .args .a) (less-no (s .args .c .value) (s .args .a .value) cv av (sym (a1 .less-fraction .ensures) ∙ e1 .if1 .left))
+      behind = λ e. led-level (s .args .n) (s .args .c) (s .args .a)
+          (less-no (s .args .c .value) (s .args .a .value) cv av (sym (a1 .less-fraction .ensures) ∙ e1 .if1 .left))
           (c .comes-before .ensures .after e);
     }
 

@@ -1,5 +1,5 @@
 -- `branching::outdoes` meets its contract.
-use mathlib.Core.Path.{_≡_, refl, sym, ap, _∙_}
+use mathlib.Core.Path.{sym, ap, _∙_}
 use mathlib.Core.Logic.{inl, inr}
 use Rattle.arith.proofs.Parts.{impossible}
 use Rattle.branching.specs.Branching.{isOptimal}
@@ -7,20 +7,17 @@ use Rattle.branching.proofs.Exits.{kind-of}
 use borrow.Author.Needs.{needs}
 use Rattle.branching.proofs.outdoes.Statement.{statement}
 use Rattle.branching.proofs.outdoes.Tie as tie
-use Rattle.branching.proofs.outdoes.Reads as reads
-use Rattle.branching.proofs.outdoes.Lts as lts
-use Rattle.branching.proofs.is_optimal.Reads as is-optimal-reads
-use Rattle.branching.proofs.leads.Reads as leads-reads
 
--- src/lib.rt:227:8
 is-optimal-requires : tie.Need-is-optimal-requires
 is-optimal-requires c κs = search needs
 
--- src/lib.rt:230:13
 leads-requires : tie.Need-leads-requires
-leads-requires c κs = let t = c .before in let s = t .before .before .before in (s .pre .0, (s .pre .1 .0 (kind-of (s .args .a .kind) (sym (t .before .before .is-optimal .ensures) ∙ t .before .if1 .taken)), s .pre .1 .1 (t .if2 .taken)))
+leads-requires c κs =
+    let t = c .before in
+    let o = t .before .before in
+    let s = o .before in
+    (s .pre .0, (s .pre .1 .0 (kind-of (s .args .a .kind) (sym (o .is-optimal .ensures) ∙ t .before .if1 .taken)), s .pre .1 .1 (t .if2 .taken)))
 
--- src/lib.rt:230:13
 returns : tie.Need-returns
 returns c =
     let t = c .before .before in
@@ -28,16 +25,15 @@ returns c =
     let k = kind-of (o .before .args .a .kind) (sym (o .is-optimal .ensures) ∙ t .before .if1 .taken) in
     record { ahead = λ e. (k, λ f. c .leads .ensures .ahead e); behind = λ e. inr (t .if2 .taken, (k, c .leads .ensures .behind e)) }
 
--- src/lib.rt:232:9
 returns-2 : tie.Need-returns-2
 returns-2 c =
     let o = c .before .before in
+    let k = kind-of (o .before .args .a .kind) (sym (o .is-optimal .ensures) ∙ c .before .if1 .taken) in
     record {
-      ahead = λ e. (kind-of (o .before .args .a .kind) (sym (o .is-optimal .ensures) ∙ c .before .if1 .taken), λ f. absurd (impossible (sym (c .if2 .left) ∙ f)));
+      ahead = λ e. (k, λ f. absurd (impossible (sym (c .if2 .left) ∙ f)));
       behind = λ e. absurd (impossible (sym e));
     }
 
--- src/lib.rt:223:1
 returns-3 : tie.Need-returns-3
 returns-3 c =
     let o = c .before in

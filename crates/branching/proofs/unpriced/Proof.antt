@@ -10,10 +10,6 @@ use Rattle.branching.specs.Branching.{unpricedItem, Unpriced}
 use Rattle.branching.proofs.Ends.{unpriced-none, unpriced-more}
 use Rattle.branching.proofs.unpriced.Statement.{statement}
 use Rattle.branching.proofs.unpriced.Tie as tie
-use Rattle.branching.proofs.unpriced.Reads as reads
-use Rattle.branching.proofs.unpriced.Lts as lts
-use Rattle.branching.proofs.unpriced_item.Reads as unpriced-item-reads
-use Rattle.knapsack.proofs.with_item.Reads as with-item-reads
 
 abbrev Inv-loop : tie.InvT-loop
 Inv-loop p q₀ k₀ q k = (k ≤ 16) × Unpriced p k q
@@ -21,45 +17,39 @@ Inv-loop p q₀ k₀ q k = (k ≤ 16) × Unpriced p k q
 abbrev μ-loop : tie.MeasureT-loop
 μ-loop p q₀ k₀ q k = 16 - k
 
--- src/lib.rt:284:5
 loop-holds : tie.Need-loop-holds Inv-loop μ-loop
-loop-holds c = let size : length (c .args .t1 .items) ≡ 16 = simp length-map at (c .good .0 .1 .1 .0 .1 .0 .1) in (omega arith, unpriced-none (c .args .t1) size)
+loop-holds c =
+    let size : length (c .args .t1 .items) ≡ 16 = simp length-map at (c .good .0 .1 .1 .0 .1 .0 .1) in
+    (omega arith, unpriced-none (c .args .t1) size)
 
--- src/lib.rt:285:17
 mul-i : tie.Need-mul-i Inv-loop μ-loop
 mul-i c = omega arith
 
--- src/lib.rt:285:17
 element-copy-out-i : tie.Need-element-copy-out-i Inv-loop μ-loop
 element-copy-out-i c = omega arith
 
--- src/lib.rt:286:29
 unpriced-item-requires : tie.Need-unpriced-item-requires Inv-loop μ-loop
 unpriced-item-requires c κs = search needs
 
--- src/lib.rt:286:9
 with-item-requires : tie.Need-with-item-requires Inv-loop μ-loop
 with-item-requires c κs = omega arith
 
--- src/lib.rt:287:9
 add-k : tie.Need-add-k Inv-loop μ-loop
 add-k c = omega arith
 
--- src/lib.rt:284:5
 loop-less : tie.Need-loop-less Inv-loop μ-loop
 loop-less c = omega arith
 
--- src/lib.rt:284:5
 loop-again : tie.Need-loop-again Inv-loop μ-loop
 loop-again c =
-    let b = c .before .before .before .before in
+    let i = c .before .before in
+    let b = i .before .before in
     let p = b .before .args .t1 in
     let x : c .before .unpriced-item .result ≡ unpricedItem (itemAt p (b .loop .k)) = c .before .unpriced-item .ensures in
-    let q : c .with-item .result ≡ withItem (b .loop .q) (b .loop .k) (unpricedItem (itemAt p (b .loop .k))) = c .with-item .ensures ∙
-    ap (withItem (b .loop .q) (b .loop .k)) x in
+    let q : c .with-item .result ≡ withItem (b .loop .q) (b .loop .k) (unpricedItem (itemAt p (b .loop .k))) =
+        c .with-item .ensures ∙ ap (withItem (b .loop .q) (b .loop .k)) x in
     (omega arith, rw q (unpriced-more p (b .loop .q) (b .loop .k) (omega arith) (b .loop .inv .1)))
 
--- src/lib.rt:279:1
 returns : tie.Need-returns Inv-loop μ-loop
 returns c = let b = c .before in subst (λ k. Unpriced (b .before .args .t1) k (b .loop .q)) (omega arith) (b .loop .inv .1)
 

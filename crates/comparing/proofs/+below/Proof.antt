@@ -1,9 +1,8 @@
 -- `comparing::below` meets its contract: Euclid's turns make the divisors smaller.
-use mathlib.Core.Path.{_≡_, sym, _∙_}
-use Prim.Native.Nat.{ℕ, _+_, _*_, _/_, _%_, _≤_, _<_}
-use native.Mathlib.Nat.{div-add-mod, mod-lt}
+use mathlib.Core.Path.{_≡_, _∙_}
+use Prim.Native.Nat.{ℕ, _+_, _/_, _<_}
+use native.Mathlib.Nat.{mod-lt}
 use native.Mathlib.Omega.{arith}
-use borrow.Author.Needs.{needs}
 use Rattle.comparing.proofs.Euclid.{below-whole, above-whole, none-left, all-left, turned-left}
 use borrow.Fn.Kinds.{In}
 use borrow.Fn.PlainCycle.{Measures, is, falls, and}
@@ -22,47 +21,48 @@ below-at t = and 0 below-kinds.ps (is 0 below-kinds.ps μ-below t) below.Pre
 abbrev below-below : ℕ → In 0 below-kinds.ps
 below-below t = and 0 below-kinds.ps (falls 0 below-kinds.ps _<_ μ-below t) below.Pre
 
--- src/lib.rt:15:13
 below-div-a : (t : ℕ) → below-lts.Need-div-a (below-below t, below.Post) (below-at t) below.Post
 below-div-a t c = omega (arith, c .pre .1 .0)
 
--- src/lib.rt:16:13
 below-div-b : (t : ℕ) → below-lts.Need-div-b (below-below t, below.Post) (below-at t) below.Post
 below-div-b t c = omega (arith, c .pre .1 .1)
 
--- src/lib.rt:18:9
 below-returns :
     (t : ℕ) → below-lts.Need-returns (below-below t, below.Post) (below-at t) below.Post
 below-returns t c = let s = c .before in below-whole (s .args .n) (s .args .d) (s .args .m) (s .args .e) (s .pre .1 .0) (s .pre .1 .1) (c .if1 .taken)
 
--- src/lib.rt:21:9
 below-returns-2 :
     (t : ℕ) → below-lts.Need-returns-2 (below-below t, below.Post) (below-at t) below.Post
-below-returns-2 t c = let s = c .before .before in above-whole (s .args .n) (s .args .d) (s .args .m) (s .args .e) (s .pre .1 .0) (s .pre .1 .1) (c .if2 .taken)
+below-returns-2 t c =
+    let s = c .before .before in
+    above-whole (s .args .n) (s .args .d) (s .args .m) (s .args .e) (s .pre .1 .0) (s .pre .1 .1) (c .if2 .taken)
 
--- src/lib.rt:23:13
 below-rem-i : (t : ℕ) → below-lts.Need-rem-i (below-below t, below.Post) (below-at t) below.Post
 below-rem-i t c = omega (arith, c .before .before .pre .1 .0)
 
--- src/lib.rt:24:13
 below-rem-j : (t : ℕ) → below-lts.Need-rem-j (below-below t, below.Post) (below-at t) below.Post
 below-rem-j t c = omega (arith, c .before .before .pre .1 .1)
 
 -- the whole parts are equal
-same : (t : ℕ) (e : below-lts.Else2 (below-below t, below.Post) (below-at t) below.Post) → let s = e .before .before in s .args .n / s .args .d ≡ s .args .m / s .args .e
+same : (t : ℕ) (e : below-lts.Else2 (below-below t, below.Post) (below-at t) below.Post) →
+    let s = e .before .before in
+    s .args .n / s .args .d ≡ s .args .m / s .args .e
 same t e = omega (arith, e .before .if1 .left, e .if2 .left)
 
--- src/lib.rt:26:9
 below-returns-3 :
     (t : ℕ) → below-lts.Need-returns-3 (below-below t, below.Post) (below-at t) below.Post
-below-returns-3 t c = let e = c .before in let s = e .before .before in none-left (s .args .n) (s .args .d) (s .args .m) (s .args .e) (s .pre .1 .0) (s .pre .1 .1) (same t e) (c .if3 .taken)
+below-returns-3 t c =
+    let e = c .before in
+    let s = e .before .before in
+    none-left (s .args .n) (s .args .d) (s .args .m) (s .args .e) (s .pre .1 .0) (s .pre .1 .1) (same t e) (c .if3 .taken)
 
--- src/lib.rt:29:9
 below-returns-4 :
     (t : ℕ) → below-lts.Need-returns-4 (below-below t, below.Post) (below-at t) below.Post
-below-returns-4 t c = let e = c .before .before in let s = e .before .before in all-left (s .args .n) (s .args .d) (s .args .m) (s .args .e) (s .pre .1 .0) (s .pre .1 .1) (same t e) (omega (arith, c .before .if3 .left)) (c .if4 .taken)
+below-returns-4 t c =
+    let e = c .before .before in
+    let s = e .before .before in
+    all-left (s .args .n) (s .args .d) (s .args .m) (s .args .e) (s .pre .1 .0) (s .pre .1 .1) (same t e) (omega (arith, c .before .if3 .left)) (c .if4 .taken)
 
--- src/lib.rt:31:5
 below-below-requires :
     (t : ℕ) → below-lts.Need-below-requires (below-below t, below.Post) (below-at t) below.Post
 below-below-requires t c κs =
@@ -73,10 +73,12 @@ below-below-requires t c κs =
       (omega (arith, c .before .if3 .left), omega (arith, c .if4 .left)),
     )
 
--- src/lib.rt:11:1
 below-returns-5 :
     (t : ℕ) → below-lts.Need-returns-5 (below-below t, below.Post) (below-at t) below.Post
-below-returns-5 t c = let e = c .before .before .before in let s = e .before .before in c .below .ensures ∙ turned-left (s .args .n) (s .args .d) (s .args .m) (s .args .e) (s .pre .1 .0) (s .pre .1 .1) (same t e)
+below-returns-5 t c =
+    let e = c .before .before .before in
+    let s = e .before .before in
+    c .below .ensures ∙ turned-left (s .args .n) (s .args .d) (s .args .m) (s .args .e) (s .pre .1 .0) (s .pre .1 .1) (same t e)
 
 pub +below-spec : {M : Type 1} → statement M
 +below-spec =

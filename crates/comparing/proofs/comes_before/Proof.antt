@@ -1,12 +1,10 @@
 -- `comparing::comes_before` meets its contract: the amounts before item k are the same.
-use mathlib.Core.Path.{_≡_, refl, sym, ap₂, _∙_, subst}
+use mathlib.Core.Path.{_≡_, sym, ap₂, _∙_, subst}
 use Prim.Native.Nat.{ℕ, _-_, _≤_, _<_}
 use native.Mathlib.Omega.{arith}
-use lib.IntN.{pos, _*ℤ_}
+use lib.IntN.{pos}
 use lib.ListN.{length, getD}
-use lib.Signed.{ltZ}
 use borrow.Author.Needs.{needs}
-use Rattle.arith.specs.declared.Fraction.{Fraction}
 use Rattle.arith.proofs.Parts.{impossible}
 use Rattle.arith.proofs.Words.{yes-lt, no-lt}
 use Rattle.comparing.specs.Comparing.{lessFraction, amountIn, pointIn}

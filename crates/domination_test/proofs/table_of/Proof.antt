@@ -14,10 +14,14 @@ enum-told c = search needs
 plain-of-requires : tie.Need-plain-of-requires
 plain-of-requires c κs = search needs
 
+named-by-requires : tie.Need-named-by-requires
+named-by-requires c κs = search needs
+
 pair-table-requires : tie.Need-pair-table-requires
 pair-table-requires c κs =
-    let e = c .before in
-    rw (c .plain-of .ensures) (accepted _ (sym (e .before .before .check-model .ensures) ∙ e .enum-told .given .1) .figures)
+    let n = c .before in
+    let e = n .before in
+    rw (n .plain-of .ensures) (accepted _ (sym (e .before .before .check-model .ensures) ∙ e .enum-told .given .1) .figures)
 
 enum-told-2 : tie.Need-enum-told-2
 enum-told-2 c = search needs
@@ -35,6 +39,7 @@ table-of-spec =
     check-model-requires
     enum-told
     plain-of-requires
+    named-by-requires
     pair-table-requires
     enum-told-2
     returns

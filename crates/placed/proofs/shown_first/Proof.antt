@@ -37,7 +37,6 @@ returns c =
       kind-is = s .pre .kind-is;
       shown = first-optimal (a .p) (a .s) (at (a .x)) (a .a) (s .pre) low r b z refl refl refl;
       first = λ _ e. first-foremost (a .p) (a .s) (at (a .x)) (a .a) (s .pre) low r b z refl refl refl;
-      few = b .few;
       writes = placed (a .s) (at (a .x)) (r .written) low (s .pre .prepared) (s .pre .optimal-at) (d .first-lead .ensures .1);
     })
 
@@ -53,7 +52,6 @@ returns-2 c =
       kind-is = h .kind-is;
       shown = h .shown;
       first = λ low i. absurd (l .all-lower .ensures .some (e .if1 .left) low);
-      few = omega arith;
       writes = kept (l .all-lower .ensures .some (e .if1 .left));
     })
 

@@ -27,7 +27,6 @@ returns c =
       end = m .run .result;
       stops = e .stops;
       steps-are = refl;
-      few-cells = omega arith;
       writes = ended (t .if1 .taken);
     }
 
@@ -46,7 +45,6 @@ returns-2 c =
       end = m .run .result;
       stops = m .run .ensures .stops;
       steps-are = refl;
-      few-cells = t .settled .ensures .0 .few;
       writes = stopped (t .settled .result .written) (t .before .if1 .left) (t .settled .ensures .1);
     }
 

@@ -12,6 +12,7 @@ use Rattle.prepare.specs.Narrowing.{spanOf, Narrowed}
 use Rattle.prepare.specs.Prepared.{PreparedAt}
 use Rattle.prepare.proofs.Nearer.{reach-small, narrowed-prepared, near-spanned}
 use Rattle.planner.specs.Outcomes.{standing, Walked, Scaled}
+use Rattle.planner.proofs.Cells.{place-most, shown-most, scaled-most}
 use Rattle.planner.proofs.Outcomes.{infeasible-corner, corner-feasible-at, unbounded-corner, must-find, optimal-found, not-unbounded, not-infeasible}
 use Rattle.planner.proofs.Values.{begun-within}
 use Rattle.planner.proofs.decide.Statement.{statement}
@@ -185,7 +186,7 @@ shown-first-requires c κs =
 add-cells : tie.Need-add-cells
 add-cells c =
     let f = c .before .before .before in
-    record { fits = omega (arith, placed-at f .best-place .ensures .few-cells, f .shown-first .ensures .few) }
+    record { fits = omega (arith, place-most (placed-at f .best-place .ensures .writes), shown-most (f .shown-first .ensures .writes)) }
 
 with-work-requires-3 : tie.Need-with-work-requires-3
 with-work-requires-3 c κs = search needs
@@ -233,7 +234,7 @@ returns-3 c =
         answers = subst (AnswersAs (instanceOf (s .args .p)) (z .answer)) (sym (h .kind-is)) (h .shown);
         first = h .first;
         few-steps = omega (arith, b .steps-are, b .stops .steps-are, b .stops .runs .few);
-        few-cells = omega (arith, b .few-cells, h .few);
+        few-cells = scaled-most (scaled f);
       },
       rw (h .kind-is) (walked n, scaled f),
     )

@@ -1,11 +1,12 @@
 -- `relaxation::core` meets its contract.
 use mathlib.Core.Path.{_≡_, sym, ap, _∙_, subst}
 use borrow.Author.Needs.{needs}
-use Rattle.knapsack.specs.Meaning.{instanceOf, relaxed, Answers}
+use Rattle.knapsack.specs.Meaning.{Instance, instanceOf}
 use Rattle.knapsack.specs.declared.Verdict.the-variants.{Accepted}
 use Rattle.model.specs.declared.Model.{Model}
+use Rattle.model.specs.Needs.{relaxedBut}
 use Rattle.model.specs.Promises.{RepliesAs}
-use Rattle.model.specs.Records.{plainOf, verdict, FiguresInRange}
+use Rattle.model.specs.Records.{plainOf, needsOf, verdict, FiguresInRange}
 use Rattle.model.proofs.Records.{accepted}
 use Rattle.ordering.specs.Ranking.{arranged}
 use Rattle.relaxation.proofs.Lent.{settled-accepted, settled-refused}
@@ -25,6 +26,10 @@ enum-told c = search needs
 abbrev asked : tie.After-check-model → Model
 asked k = k .before .before .args .m
 
+-- the problem that is answered
+abbrev relaxation : Model → Instance
+relaxation m = relaxedBut (needsOf (m .needs)) (instanceOf (plainOf m))
+
 -- the record is accepted, so its figures are in range
 taken : (t : tie.After-enum-told) → verdict (asked (t .before .before)) ≡ Accepted
 taken t = sym (t .before .before .check-model .ensures) ∙ t .enum-told .given .1
@@ -33,7 +38,7 @@ figures : (t : tie.After-enum-told) → FiguresInRange (t .before .before .befor
 figures t = rw (t .before .before .before .plain-of .ensures) (accepted _ (taken t) .figures)
 
 relaxed-answer-requires : tie.Need-relaxed-answer-requires
-relaxed-answer-requires c κs = figures c
+relaxed-answer-requires c κs = accepted _ (taken c)
 
 arrange-requires : tie.Need-arrange-requires
 arrange-requires c κs = ranged _ (figures (c .before))
@@ -50,9 +55,8 @@ returns c =
     let k = a .before .before .before in
     let m = asked k in
     let plain = k .before .plain-of .ensures in
-    let answers : Answers (relaxed (instanceOf (plainOf m))) (a .relaxed-answer .result) = rw plain at (a .relaxed-answer .ensures) in
     record {
-      reply = subst (RepliesAs (relaxed (instanceOf (plainOf m))) (a .relaxed-answer .result)) (sym (taken (a .before))) answers;
+      reply = subst (RepliesAs (relaxation m) (needsOf (m .needs)) (a .relaxed-answer .result)) (sym (taken (a .before))) (a .relaxed-answer .ensures);
       problem = c .arrange .ensures ∙ ap arranged plain ∙ sym (settled-accepted m (taken (a .before)));
     }
 
@@ -63,7 +67,7 @@ returns-2 c =
     let m = asked k in
     let is = sym (k .check-model .ensures) ∙ v .v .given .1 in
     record {
-      reply = subst (RepliesAs (relaxed (instanceOf (plainOf m))) (c .no-point .result)) (sym is) (c .no-point .ensures);
+      reply = subst (RepliesAs (relaxation m) (needsOf (m .needs)) (c .no-point .result)) (sym is) (c .no-point .ensures);
       problem = k .before .plain-of .ensures ∙ sym (settled-refused m _ is);
     }
 

@@ -1,7 +1,8 @@
 use mathlib.Core.Path.{_≡_, ap, _∙_, subst}
+use mathlib.Core.Bool.{false}
 use Prim.Native.Nat.{_≤_, _-_}
 use native.Mathlib.Omega.{arith}
-use lib.ListN.{length, length-map, length-set}
+use lib.ListN.{length, getD, length-map, length-set}
 use borrow.Author.Needs.{needs}
 use Rattle.knapsack.specs.Ranges.{itemAt}
 use Rattle.knapsack.specs.Items.{withItem}
@@ -11,15 +12,18 @@ use Rattle.relaxation.proofs.loosen.Statement.{statement}
 use Rattle.relaxation.proofs.loosen.Tie as tie
 
 abbrev Inv-loop : tie.InvT-loop
-Inv-loop p n q₀ k₀ q k = (k ≤ n) × ((length (q .items) ≡ 16) × Loosened p k q)
+Inv-loop p named n q₀ k₀ q k = (k ≤ n) × ((length (q .items) ≡ 16) × Loosened p named k q)
 
 abbrev μ-loop : tie.MeasureT-loop
-μ-loop p n q₀ k₀ q k = n - k
+μ-loop p named n q₀ k₀ q k = n - k
 
 loop-holds : tie.Need-loop-holds Inv-loop μ-loop
 loop-holds c =
     let size : length (c .args .t1 .items) ≡ 16 = simp length-map at (c .good .0 .1 .1 .0 .1 .0 .1) in
-    (omega arith, (size, loosened-none (c .args .t1)))
+    (omega arith, (size, loosened-none (c .args .t1) (c .args .t2)))
+
+array-read-kept : tie.Need-array-read-kept Inv-loop μ-loop
+array-read-kept c = omega arith
 
 mul-loose-item : tie.Need-mul-loose-item Inv-loop μ-loop
 mul-loose-item c = omega arith
@@ -43,13 +47,14 @@ loop-again : tie.Need-loop-again Inv-loop μ-loop
 loop-again c =
     let b = c .before .before .before .before in
     let p = b .before .args .t1 in
-    let x : c .before .loose-item .result ≡ loose (itemAt p (b .loop .k)) = c .before .loose-item .ensures in
-    let q : c .with-item .result ≡ withItem (b .loop .q) (b .loop .k) (loose (itemAt p (b .loop .k))) = c .with-item .ensures ∙
-    ap (withItem (b .loop .q) (b .loop .k)) x in (
+    let named = b .before .args .t2 in
+    let k = b .loop .k in
+    let x : c .before .loose-item .result ≡ loose (getD named k false) (itemAt p k) = c .before .loose-item .ensures in
+    let q : c .with-item .result ≡ withItem (b .loop .q) k (loose (getD named k false) (itemAt p k)) = c .with-item .ensures ∙ ap (withItem (b .loop .q) k) x in (
       omega arith,
       rw q (
         simp length-set (b .loop .inv .1 .0),
-        loosened-more p (b .loop .q) (b .loop .k) (omega (arith, b .loop .inv .1 .0))
+        loosened-more p (b .loop .q) named k (omega (arith, b .loop .inv .1 .0))
             (b .loop .inv .1 .1),
       ),
     )
@@ -57,7 +62,7 @@ loop-again c =
 returns : tie.Need-returns Inv-loop μ-loop
 returns c =
     let b = c .before in
-    subst (λ k. Loosened (b .before .args .t1) k (b .loop .q)) (omega arith) (b .loop .inv .1 .1)
+    subst (λ k. Loosened (b .before .args .t1) (b .before .args .t2) k (b .loop .q)) (omega arith) (b .loop .inv .1 .1)
 
 pub loosen-spec : {M : Type 1} → statement M
 loosen-spec =
@@ -66,6 +71,7 @@ loosen-spec =
     Inv-loop
     μ-loop
     loop-holds
+    array-read-kept
     mul-loose-item
     element-copy-out-loose-item
     loose-item-requires

@@ -14,12 +14,16 @@ with-capacity-requires c κs = search needs
 with-count-requires : tie.Need-with-count-requires
 with-count-requires c κs = search needs
 
+with-needs-requires : tie.Need-with-needs-requires
+with-needs-requires c κs = search needs
+
 returns : tie.Need-returns
 returns c =
-    let m = c .before in
+    let n = c .before in
+    let m = n .before in
     let s = m .before .before in
-    rw (c .with-count .ensures, m .with-capacity .ensures, m .before .empty-model .ensures, toZ-ofZ (s .fits .capacity), load-none)
+    rw (c .with-needs .ensures, n .with-count .ensures, m .with-capacity .ensures, m .before .empty-model .ensures, toZ-ofZ (s .fits .capacity), load-none)
 
 pub opened-spec : {M : Type 1} → statement M
 opened-spec =
-    tie.close (tie.spec empty-model-requires with-capacity-requires with-count-requires returns)
+    tie.close (tie.spec empty-model-requires with-capacity-requires with-count-requires with-needs-requires returns)

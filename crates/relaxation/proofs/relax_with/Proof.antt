@@ -117,6 +117,7 @@ use denote.Signature.{plain}
 use Rattle.knapsack.specs.declared.Answer.{Answer}
 use Rattle.knapsack.specs.declared.Item.{Item}
 use Rattle.model.specs.declared.Model.{Model}
+use Rattle.model.specs.declared.Needs.{Needs}
 use Rattle.knapsack.specs.Ranges.{blank, itemAt}
 use Rattle.knapsack.proofs.Answer as Q
 use Rattle.knapsack.proofs.Answer.Laws as Q′
@@ -124,6 +125,8 @@ use Rattle.knapsack.proofs.Item as T
 use Rattle.knapsack.proofs.Item.Laws as T′
 use Rattle.model.proofs.Model as P
 use Rattle.model.proofs.Model.Laws as P′
+use Rattle.model.proofs.Needs as N
+use Rattle.model.proofs.Needs.Laws as N′
 use Rattle.ordering.proofs.Lists.{store-more, store-length}
 use Rattle.relaxation.specs.declared.Outcome.{Outcome}
 use Rattle.model.specs.Setters.{withItem}
@@ -163,7 +166,7 @@ use Rattle.relaxation.proofs.relax_with.Code as code
 use Rattle.relaxation.proofs.relax_with.Code.Mir as mir′
 
 abbrev stayed : Stays (relax′.ended .signature .params) (relax′.ended .kept)
-stayed = (stay-none (λ _. i64) kept-as-is, (stay-slice (0 ∷ []) tt (plain (λ _. T.the-row)), tt))
+stayed = (stay-none (λ _. i64) kept-as-is, (stay-slice (0 ∷ []) tt (plain (λ _. T.the-row)), (stay-none (λ _. N.the-row) kept-as-is, tt)))
 
 -- the machine value of an item
 abbrev val : Item → Val
@@ -201,9 +204,9 @@ module _ {M : Type 1} (𝓤 : URA M) (H : Heap 𝓤) (A : Atoms 𝓤) (mem : Mem
   usable-of : (m r : ℕ) → ent 𝓤 (ensured 𝓤 H A usable′.ended (usable′.clauses 𝓤 H A mem run) tt (m, tt) tt r) (fact 𝓤 (r ≡ usable m))
   usable-of m r = exE 𝓤 _ (λ ws. snd∗ 𝓤 (sem 𝓤 H A (lasts usable′.ended tt (m, tt) ws)) (fact 𝓤 (r ≡ usable m)))
 
-  opened-of : (c : ℤ) (m : ℕ) (r : Model) →
-      ent 𝓤 (ensured 𝓤 H A opened′.ended (opened′.clauses 𝓤 H A mem run) tt (c, (m, tt)) tt r) (fact 𝓤 (r ≡ loaded c m []))
-  opened-of c m r = exE 𝓤 _ (λ ws. snd∗ 𝓤 (sem 𝓤 H A (lasts opened′.ended tt (c, (m, tt)) ws)) (fact 𝓤 (r ≡ loaded c m [])))
+  opened-of : (c : ℤ) (m : ℕ) (ns : Needs) (r : Model) →
+      ent 𝓤 (ensured 𝓤 H A opened′.ended (opened′.clauses 𝓤 H A mem run) tt (c, (m, (ns, tt))) tt r) (fact 𝓤 (r ≡ loaded c m ns []))
+  opened-of c m ns r = exE 𝓤 _ (λ ws. snd∗ 𝓤 (sem 𝓤 H A (lasts opened′.ended tt (c, (m, (ns, tt))) ws)) (fact 𝓤 (r ≡ loaded c m ns [])))
 
   with-of : (p : Model) (i : ℕ) (x : Item) (r : Model) →
       ent 𝓤 (ensured 𝓤 H A with′.ended (with′.clauses 𝓤 H A mem run) tt (p, (i, (x, tt))) tt r) (fact 𝓤 (r ≡ withItem p i x))
@@ -220,16 +223,16 @@ module _ {M : Type 1} (𝓤 : URA M) (H : Heap 𝓤) (A : Atoms 𝓤) (mem : Mem
   answer-of o r = exE 𝓤 _ (λ ws. snd∗ 𝓤 (sem 𝓤 H A (lasts answer′.ended tt (o, tt) ws)) (fact 𝓤 (r ≡ o .answer)))
 
 -- ---- where the first loop stands
-record Loading (c : ℤ) (ys : List Item) : Type 0 where
+record Loading (c : ℤ) (ns : Needs) (ys : List Item) : Type 0 where
   i : ℕ
   p : Model
   v : Val
   is : Is P.the-row p (v ∷ [])
   le : i ≤ usable (length ys)
-  got : p ≡ loaded c (length ys) (take i ys)
+  got : p ≡ loaded c (length ys) ns (take i ys)
 
 module _ {M : Type 1} (𝓤 : URA M) (H : Heap 𝓤) (A : Atoms 𝓤) (W : Given 𝓤 H A) (mem : Memory → SProp 𝓤) (run : Routine → Fun 𝓤) (κ : Lft) (q : Share) (c : ℤ)
-    (c-fits : mag c < 2 ^ 63) (b o : ℕ) (γ : GName) (ys : List Item) (room : Room T.the-row (length ys)) where
+    (c-fits : mag c < 2 ^ 63) (ns : Needs) (ns-is : Is N.the-row ns (LL.vals N.the-type N′.the-laws ns)) (b o : ℕ) (γ : GName) (ys : List Item) (room : Room T.the-row (length ys)) where
   abbrev R : RattleType
   R = T.the-row
 
@@ -240,31 +243,36 @@ module _ {M : Type 1} (𝓤 : URA M) (H : Heap 𝓤) (A : Atoms 𝓤) (W : Given
   n = usable (length ys)
 
   abbrev zs : List Item
-  zs = after c ys
+  zs = after c ns ys
 
   abbrev os : List Item
-  os = settled (modelOf c ys) .items
+  os = settled (modelOf c ns ys) .items
 
   abbrev x : List Item → RefT (List Item)
   x l = record { ptr = (b, o); name = γ; now = l }
 
-  abbrev at : List Val × (List Val × Unit {0})
-  at = (vint w64 (ofZ w64 c) ∷ [], (sliceVal (b, o) len ∷ [], tt))
+  -- the machine value of the needs
+  abbrev nv : Val
+  nv = LL.val N.the-type N′.the-laws ns
+
+  abbrev at : List Val × (List Val × (List Val × Unit {0}))
+  at = (vint w64 (ofZ w64 c) ∷ [], (sliceVal (b, o) len ∷ [], (nv ∷ [], tt)))
 
   abbrev Post : Val → SProp 𝓤
-  Post = walkOf 𝓤 H A relax′.ended stayed (relax′.clauses 𝓤 H A mem run) .post (((κ, tt), (q, tt), tt, (c, (x ys, tt)), at), tt)
+  Post = walkOf 𝓤 H A relax′.ended stayed (relax′.clauses 𝓤 H A mem run) .post (((κ, tt), (q, tt), tt, (c, (x ys, (ns, tt))), at), tt)
 
-  exits : (r : Answer) (v : Val) → Relaxes c ys zs r →
+  exits : (r : Answer) (v : Val) → Relaxes c ns ys zs r →
       ent 𝓤 (⋆ 𝓤 H A (‵ (fobs γ (codedHoleys R .code (heres R zs))) ∷ ‵ (fbor κ (Held R (length zs) b o γ)) ∷ ‵ (flft κ q) ∷ ‵ (Q.the-row .own r (v ∷ [])) ∷
       [])) (Post v)
   exits r v e =
       qed W (‵ (fobs γ (codedHoleys R .code (heres R zs))) ∷ ‵ (fbor κ (Held R (length zs) b o γ)) ∷ ‵ (flft κ q) ∷ ‵ (Q.the-row .own r (v ∷ [])) ∷ []) ∵
-      suffices ! _ (ends-at 𝓤 H A relax′.ended stayed (relax′.clauses 𝓤 H A mem run) W (((κ, tt), (q, tt), tt, (c, (x ys, tt)), at), tt) v r (tt, (zs, tt))
-      (tt, (after-length c ys, tt))) $ says ! e $
+      suffices ! _ (ends-at 𝓤 H A relax′.ended stayed (relax′.clauses 𝓤 H A mem run) W (((κ, tt), (q, tt), tt, (c, (x ys, (ns, tt))), at), tt) v r (tt, (zs, (tt, tt)))
+      (tt, (after-length c ns ys, (tt, tt)))) $ says ! e $
       nothing ! $ move ! (3 ∷ 0 ∷ []) $ join ! $
       frame ! $ fjoin ! $ pureI ! (at-slice R (x zs) (at .1 .0)) (tt, (tt, tt))
-      (ap (λ (k : ℕ). sliceVal (b, o) k ∷ []) (sym (after-length c ys)), subst (Room R) (sym (after-length c ys)) room) $ fjoin ! $
-      nothing ! $ move ! (1 ∷ 0 ∷ []) $ fjoin ! $ owned ! i64 (Is i64) (sint-makes 𝓤 H A W w64) c _ (refl, c-fits) $ fjoin ! $ done !
+      (ap (λ (k : ℕ). sliceVal (b, o) k ∷ []) (sym (after-length c ns ys)), subst (Room R) (sym (after-length c ns ys)) room) $ fjoin ! $
+      nothing ! $ owned ! N.the-row (Is N.the-row) (LL.makes N.the-type N′.the-plain 𝓤 H A) ns _ ns-is $ fjoin ! $
+      move ! (1 ∷ 0 ∷ []) $ fjoin ! $ owned ! i64 (Is i64) (sint-makes 𝓤 H A W w64) c _ (refl, c-fits) $ fjoin ! $ done !
 
   -- what each call is handed
   goes-usable : ent 𝓤 (sem 𝓤 H A ftrue) (Usable 𝓤 H A mem run .pre ((tt, tt, tt, (len, tt), (vint w64 len ∷ [], tt)), tt))
@@ -272,9 +280,10 @@ module _ {M : Type 1} (𝓤 : URA M) (H : Heap 𝓤) (A : Atoms 𝓤) (W : Given
       qed W (‵ ftrue ∷ []) ∵ nothing ! $ owned ! usize (Is usize) (uint-makes 𝓤 H A W w64) len _ (refl, room .0) $ fjoin ! $ move ! (1 ∷ 0 ∷ []) $ join ! $
       frame ! $ done !
 
-  goes-opened : ent 𝓤 (sem 𝓤 H A ftrue) (Opened 𝓤 H A mem run .pre ((tt, tt, tt, (c, (len, tt)), (vint w64 (ofZ w64 c) ∷ [], (vint w64 len ∷ [], tt))), tt))
+  goes-opened : ent 𝓤 (sem 𝓤 H A ftrue)
+      (Opened 𝓤 H A mem run .pre ((tt, tt, tt, (c, (len, (ns, tt))), (vint w64 (ofZ w64 c) ∷ [], (vint w64 len ∷ [], (nv ∷ [], tt)))), tt))
   goes-opened =
-      qed W (‵ ftrue ∷ []) ∵ nothing ! $ owned ! usize (Is usize) (uint-makes 𝓤 H A W w64) len _ (refl, room .0) $ fjoin ! $
+      qed W (‵ ftrue ∷ []) ∵ nothing ! $ owned ! N.the-row (Is N.the-row) (LL.makes N.the-type N′.the-plain 𝓤 H A) ns _ ns-is $ fjoin ! $ owned ! usize (Is usize) (uint-makes 𝓤 H A W w64) len _ (refl, room .0) $ fjoin ! $
       owned ! i64 (Is i64) (sint-makes 𝓤 H A W w64) c _ (refl, c-fits) $ fjoin ! $
       move ! (1 ∷ 0 ∷ []) $ join ! $ frame ! $ done !
 
@@ -321,14 +330,14 @@ module _ {M : Type 1} (𝓤 : URA M) (H : Heap 𝓤) (A : Atoms 𝓤) (W : Given
     fm : FmC 𝓤 H (W .laws) C
     fm = fmOf 𝓤 H (W .laws) 𝓣
 
-    module _ (l₀ l₁ l₂ l₃ l₄ l₅ l₆ l₇ l₈ l₉ l₁₀ l₁₁ l₁₂ l₁₃ l₁₄ l₁₅ : ℕ) where
+    module _ (l₀ l₁ l₂ lₙ l₃ l₄ l₅ l₆ l₇ l₈ l₉ l₁₀ l₁₁ l₁₂ l₁₃ l₁₄ l₁₅ : ℕ) where
       abbrev En : Env 𝓤 H
-      En = (Q′.mir, l₀) ∷ (word, l₁) ∷ (slice, l₂) ∷ (word, l₃) ∷ (word, l₄) ∷ (P′.mir, l₅) ∷ (word, l₆) ∷ (O′.mir, l₇) ∷ (tyBool, l₈) ∷ (word, l₉) ∷
+      En = (Q′.mir, l₀) ∷ (word, l₁) ∷ (slice, l₂) ∷ (N′.mir, lₙ) ∷ (word, l₃) ∷ (word, l₄) ∷ (P′.mir, l₅) ∷ (word, l₆) ∷ (O′.mir, l₇) ∷ (tyBool, l₈) ∷ (word, l₉) ∷
           (tyPtr, l₁₀) ∷ (T′.mir, l₁₁) ∷ (tyBool, l₁₂) ∷ (T′.mir, l₁₃) ∷ (word, l₁₄) ∷ (tyPtr, l₁₅) ∷ []
 
       -- each local dies
       abbrev Dies : List (Entry 𝓤)
-      Dies = ‵ (fdies Q′.mir l₀) ∷ ‵ (fdies word l₁) ∷ ‵ (fdies slice l₂) ∷ ‵ (fdies word l₃) ∷ ‵ (fdies word l₄) ∷ ‵ (fdies P′.mir l₅) ∷ ‵ (fdies word l₆) ∷
+      Dies = ‵ (fdies Q′.mir l₀) ∷ ‵ (fdies word l₁) ∷ ‵ (fdies slice l₂) ∷ ‵ (fdies N′.mir lₙ) ∷ ‵ (fdies word l₃) ∷ ‵ (fdies word l₄) ∷ ‵ (fdies P′.mir l₅) ∷ ‵ (fdies word l₆) ∷
           ‵ (fdies O′.mir l₇)
           ∷ ‵ (fdies tyBool l₈) ∷ ‵ (fdies word l₉) ∷ ‵ (fdies tyPtr l₁₀) ∷ ‵ (fdies T′.mir l₁₁) ∷ ‵ (fdies tyBool l₁₂) ∷ ‵ (fdies T′.mir l₁₃) ∷
           ‵ (fdies word l₁₄) ∷ ‵ (fdies tyPtr l₁₅) ∷ []
@@ -343,7 +352,7 @@ module _ {M : Type 1} (𝓤 : URA M) (H : Heap 𝓤) (A : Atoms 𝓤) (W : Given
           ‵ (fat fullShare slice l₂ 0 (sliceVal (b, o) len)) ∷ ‵ (fat fullShare word l₄ 0 (vint w64 n))
           ∷ ‵ (froom tyBool l₁₂ 0) ∷ ‵ (froom word l₁₄ 0) ∷ ‵ (froom tyPtr l₁₅ 0) ∷ ‵ (froom T′.mir l₁₃ 0) ∷ ‵ (froom Q′.mir l₀ 0)
           ∷ ‵ (froom P′.mir l₅ 0) ∷ ‵ (froom tyBool l₈ 0) ∷ ‵ (froom word l₉ 0) ∷ ‵ (froom tyPtr l₁₀ 0) ∷ ‵ (froom T′.mir l₁₁ 0) ∷ ‵ (froom word l₁ 0) ∷
-          ‵ (froom word l₃ 0) ∷ Open
+          ‵ (froom word l₃ 0) ∷ ‵ (froom N′.mir lₙ 0) ∷ Open
 
       -- the first loop's context: i items are loaded
       abbrev At1 : ℕ → Val → List (Entry 𝓤)
@@ -351,7 +360,7 @@ module _ {M : Type 1} (𝓤 : URA M) (H : Heap 𝓤) (A : Atoms 𝓤) (W : Given
           ‵ (fat fullShare slice l₂ 0 (sliceVal (b, o) len)) ∷ ‵ (fat fullShare word l₄ 0 (vint w64 n))
           ∷ ‵ (froom tyBool l₈ 0) ∷ ‵ (froom word l₉ 0) ∷ ‵ (froom tyPtr l₁₀ 0) ∷ ‵ (froom T′.mir l₁₁ 0) ∷ ‵ (froom Q′.mir l₀ 0)
           ∷ ‵ (froom O′.mir l₇ 0) ∷ ‵ (froom tyBool l₁₂ 0) ∷ ‵ (froom T′.mir l₁₃ 0) ∷ ‵ (froom word l₁₄ 0) ∷ ‵ (froom tyPtr l₁₅ 0) ∷ ‵ (froom word l₁ 0) ∷
-          ‵ (froom word l₃ 0) ∷ Open
+          ‵ (froom word l₃ 0) ∷ ‵ (froom N′.mir lₙ 0) ∷ Open
 
       abbrev Left1 : Out → SProp 𝓤
       Left1 = afterBlock 𝓤 H (afterSeq 𝓤 H (Wp 𝓤 H C Λ En mir′.t-6 (atReturn 𝓤 H En Post)) (atReturn 𝓤 H En Post))
@@ -366,16 +375,16 @@ module _ {M : Type 1} (𝓤 : URA M) (H : Heap 𝓤) (A : Atoms 𝓤) (W : Given
       next-fits i h = omega arith
 
       -- ---- the second loop
-      module _ (a : Outcome) (w : Val) (ga : Is O.the-row a (w ∷ [])) (does : Settles (modelOf c ys) a) where
+      module _ (a : Outcome) (w : Val) (ga : Is O.the-row a (w ∷ [])) (does : Settles (modelOf c ns ys) a) where
         abbrev part : ℕ → List Item
         part j = take j os ++ dropList j ys
 
         inside : (j : ℕ) → j < n → j < length (part j)
-        inside j h = omega (arith, store-length os ys j (omega (arith, settled-length c ys)) (omega arith))
+        inside j h = omega (arith, store-length os ys j (omega (arith, settled-length c ns ys)) (omega arith))
 
         put-back : (j : ℕ) → j < n → (r : Item) → r ≡ itemAt (a .problem) j → set (part j) j r ≡ part (j + 1)
         put-back j h r e = ap (λ t. set (part j) j t) (e ∙ ap (λ p. itemAt p j) (does .problem)) ∙
-            rw add-one (store-more blank os ys j (omega (arith, settled-length c ys)) (omega arith))
+            rw add-one (store-more blank os ys j (omega (arith, settled-length c ns ys)) (omega arith))
 
         more2 : (j : ℕ) → j < n → (X : SProp 𝓤) → ent 𝓤 (⋆ 𝓤 H A (At2 (j + 1) w (part (j + 1)))) X →
             ent 𝓤 (⋆ 𝓤 H A (At2 j w (part j))) (Wp 𝓤 H C Λ En mir′.turn-2 (afterTurn 𝓤 H X Left2))
@@ -421,12 +430,12 @@ module _ {M : Type 1} (𝓤 : URA M) (H : Heap 𝓤) (A : Atoms 𝓤) (W : Given
             Q.the-row (ensured 𝓤 H A answer′.ended (answer′.clauses 𝓤 H A mem run) tt (a, tt) tt) (λ r. r ≡ a .answer) (λ _. id⊢ 𝓤 _)
             (answer-of 𝓤 H A mem run a) (λ v r e is.
             land ! (from ! (stop !)) (init ! 10 refl (LL.lawful Q.the-type Q′.the-laws 𝓤 H A W .typed r _ is .0)) $
-            rewrite ! 1 (λ (l : List Item). ‵ (row R fullShare l b o)) (stored c ys) refl $
-            move ! (1 ∷ 18 ∷ 19 ∷ 20 ∷ []) $ closes-slice ! tt R ys zs (after-length c ys) b o $
+            rewrite ! 1 (λ (l : List Item). ‵ (row R fullShare l b o)) (stored c ns ys) refl $
+            move ! (1 ∷ 19 ∷ 20 ∷ 21 ∷ []) $ closes-slice ! tt R ys zs (after-length c ns ys) b o $
             returns ! (look ! 12 refl) $ forget ! 4 refl $ forget ! 5 refl $ forget ! 6 refl $ forget ! 7 refl $ forget ! 8 refl $ forget ! 12 refl $
-            move ! (12 ∷ 20 ∷ 18 ∷ 21 ∷ 6 ∷ 22 ∷ 19 ∷ 23 ∷ 7 ∷ 24 ∷ 13 ∷ 25 ∷ 4 ∷ 26 ∷ 5 ∷ 27 ∷ 14 ∷ 28 ∷ 15 ∷ 29 ∷ 16 ∷ 30 ∷ 17 ∷ 31 ∷ 8 ∷ 32 ∷ 11 ∷ 33 ∷ 9 ∷
-            34 ∷ 10 ∷ 35 ∷ []) $
-            free1 ! $ free1 ! $ free1 ! $ free1 ! $ free1 ! $ free1 ! $ free1 ! $ free1 ! $ free1 ! $ free1 ! $ free1 ! $ free1 ! $ free1 ! $ free1 ! $
+            move ! (12 ∷ 21 ∷ 18 ∷ 22 ∷ 6 ∷ 23 ∷ 20 ∷ 24 ∷ 19 ∷ 25 ∷ 7 ∷ 26 ∷ 13 ∷ 27 ∷ 4 ∷ 28 ∷ 5 ∷ 29 ∷ 14 ∷ 30 ∷ 15 ∷ 31 ∷ 16 ∷ 32 ∷ 17 ∷ 33 ∷ 8 ∷ 34 ∷ 11 ∷
+            35 ∷ 9 ∷ 36 ∷ 10 ∷ 37 ∷ []) $
+            free1 ! $ free1 ! $ free1 ! $ free1 ! $ free1 ! $ free1 ! $ free1 ! $ free1 ! $ free1 ! $ free1 ! $ free1 ! $ free1 ! $ free1 ! $ free1 ! $ free1 ! $
             free1 ! $ free1 ! $ free0 ! $
             by ! (exits r v (record { list = refl; reply = rw e (does .reply) })))
 
@@ -460,7 +469,7 @@ module _ {M : Type 1} (𝓤 : URA M) (H : Heap 𝓤) (A : Atoms 𝓤) (W : Given
             (loop-rule 𝓤 H (W .laws) 𝓣 _<_ (Nat·lt-wfRel .wf) En mir′.turn-2 Left2 I2 turn2 n)
 
       -- ---- the first loop
-      more1 : (u : Loading c ys) → u .i < n → (X : SProp 𝓤) →
+      more1 : (u : Loading c ns ys) → u .i < n → (X : SProp 𝓤) →
           ((r : Model) (w : Val) → Is P.the-row r (w ∷ []) → r ≡ withItem (u .p) (u .i) (getD ys (u .i) blank) → ent 𝓤 (⋆ 𝓤 H A (At1 (u .i + 1) w)) X)
           → ent 𝓤 (⋆ 𝓤 H A (At1 (u .i) (u .v))) (Wp 𝓤 H C Λ En mir′.turn-1 (afterTurn 𝓤 H X Left1))
       unfolding afterTurn
@@ -501,7 +510,7 @@ module _ {M : Type 1} (𝓤 : URA M) (H : Heap 𝓤) (A : Atoms 𝓤) (W : Given
           (store ! 1 refl (tt, record { fits = next-fits (u .i) h })) $
           forget ! 5 refl $ forget ! 6 refl $ forget ! 7 refl $ forget ! 8 refl $ by ! (k r w is e)))
 
-      ends1 : (u : Loading c ys) → u .i ≡ n → (X : SProp 𝓤) → ent 𝓤 (⋆ 𝓤 H A (At1 (u .i) (u .v))) (Wp 𝓤 H C Λ En mir′.turn-1 (afterTurn 𝓤 H X Left1))
+      ends1 : (u : Loading c ns ys) → u .i ≡ n → (X : SProp 𝓤) → ent 𝓤 (⋆ 𝓤 H A (At1 (u .i) (u .v))) (Wp 𝓤 H C Λ En mir′.turn-1 (afterTurn 𝓤 H X Left1))
       unfolding afterTurn
       ends1 u e X =
           qed W (At1 (u .i) (u .v)) ∵ exec ! C Λ En mir′.turn-1 (anyQ (afterTurn 𝓤 H X Left1)) $
@@ -517,37 +526,37 @@ module _ {M : Type 1} (𝓤 : URA M) (H : Heap 𝓤) (A : Atoms 𝓤) (W : Given
           assigns ! (of-opd ! (lit ! tt)) (from ! (stop !)) (store ! 1 refl (tt, record { fits = lit< tt })) $
           forget ! 2 refl $ forget ! 5 refl $
           keep ! (0 ∷ 1 ∷ 10 ∷ 3 ∷ 4 ∷ 11 ∷ 13 ∷ 14 ∷ 12 ∷ 9 ∷ 2 ∷ 5 ∷ 6 ∷ 7 ∷ 8 ∷ 15 ∷ 16 ∷ 17 ∷ 18 ∷ 19 ∷ 20 ∷ 21 ∷ 22 ∷ 23 ∷ 24 ∷ 25 ∷ 26 ∷ 27 ∷ 28 ∷ 29 ∷
-          30 ∷ 31 ∷ 32 ∷ 33 ∷ 34 ∷ 35 ∷ []) $
-          by ! (loop2 r w is (subst (λ p. Settles p r) (u .got ∙ rw e (load-all c ys)) f)))
+          30 ∷ 31 ∷ 32 ∷ 33 ∷ 34 ∷ 35 ∷ 36 ∷ 37 ∷ []) $
+          by ! (loop2 r w is (subst (λ p. Settles p r) (u .got ∙ rw e (load-all c ns ys)) f)))
 
       -- a turn from u leaves the loop, or ends with one item more
-      abbrev ≺ : Loading c ys → Loading c ys → Type 0
+      abbrev ≺ : Loading c ns ys → Loading c ns ys → Type 0
       ≺ t u = n - t .i < n - u .i
 
       ≺-wf : WellFounded ≺
-      ≺-wf = InvImage·wf (λ (u : Loading c ys). n - u .i) (Nat·lt-wfRel .wf)
+      ≺-wf = InvImage·wf (λ (u : Loading c ns ys). n - u .i) (Nat·lt-wfRel .wf)
 
-      abbrev I1 : Loading c ys → SProp 𝓤
+      abbrev I1 : Loading c ns ys → SProp 𝓤
       I1 u = ⋆ 𝓤 H A (At1 (u .i) (u .v))
 
-      turn1 : (u : Loading c ys) → ent 𝓤 (I1 u) (Wp 𝓤 H C Λ En mir′.turn-1 (afterTurn 𝓤 H (ex 𝓤 (λ (t : Loading c ys). guard 𝓤 (≺ t u) (I1 t))) Left1))
+      turn1 : (u : Loading c ns ys) → ent 𝓤 (I1 u) (Wp 𝓤 H C Λ En mir′.turn-1 (afterTurn 𝓤 H (ex 𝓤 (λ (t : Loading c ns ys). guard 𝓤 (≺ t u) (I1 t))) Left1))
       turn1 u = go (decLt (u .i) n)
         where
-          go : Dec (u .i < n) → ent 𝓤 (I1 u) (Wp 𝓤 H C Λ En mir′.turn-1 (afterTurn 𝓤 H (ex 𝓤 (λ (t : Loading c ys). guard 𝓤 (≺ t u) (I1 t))) Left1))
+          go : Dec (u .i < n) → ent 𝓤 (I1 u) (Wp 𝓤 H C Λ En mir′.turn-1 (afterTurn 𝓤 H (ex 𝓤 (λ (t : Loading c ns ys). guard 𝓤 (≺ t u) (I1 t))) Left1))
           go (yes h) =
-              more1 u h (ex 𝓤 (λ (t : Loading c ys). guard 𝓤 (≺ t u) (I1 t))) (λ r w is e.
-              let t : Loading c ys = record {
+              more1 u h (ex 𝓤 (λ (t : Loading c ns ys). guard 𝓤 (≺ t u) (I1 t))) (λ r w is e.
+              let t : Loading c ns ys = record {
                 i = u .i + 1;
                 p = r;
                 v = w;
                 is = is;
                 le = omega arith;
-                got = e ∙ ap (λ p. withItem p (u .i) (getD ys (u .i) blank)) (u .got) ∙ rw add-one (load-more c ys (u .i) h);
+                got = e ∙ ap (λ p. withItem p (u .i) (getD ys (u .i) blank)) (u .got) ∙ rw add-one (load-more c ns ys (u .i) h);
               } in
-              via 𝓤 (guard 𝓤 (≺ t u) (I1 t)) (guardI 𝓤 (≺ t u) (I1 t) (omega arith)) (exI 𝓤 (λ (t : Loading c ys). guard 𝓤 (≺ t u) (I1 t)) t))
-          go (no h) = ends1 u (omega (arith, u .le)) (ex 𝓤 (λ (t : Loading c ys). guard 𝓤 (≺ t u) (I1 t)))
+              via 𝓤 (guard 𝓤 (≺ t u) (I1 t)) (guardI 𝓤 (≺ t u) (I1 t) (omega arith)) (exI 𝓤 (λ (t : Loading c ns ys). guard 𝓤 (≺ t u) (I1 t)) t))
+          go (no h) = ends1 u (omega (arith, u .le)) (ex 𝓤 (λ (t : Loading c ns ys). guard 𝓤 (≺ t u) (I1 t)))
 
-      loop1 : (u : Loading c ys) → ent 𝓤 (⋆ 𝓤 H A (At1 (u .i) (u .v))) (Wp 𝓤 H C Λ En (loop mir′.turn-1) Left1)
+      loop1 : (u : Loading c ns ys) → ent 𝓤 (⋆ 𝓤 H A (At1 (u .i) (u .v))) (Wp 𝓤 H C Λ En (loop mir′.turn-1) Left1)
       loop1 u = loop-rule 𝓤 H (W .laws) 𝓣 ≺ ≺-wf En mir′.turn-1 Left1 I1 turn1 u
 
       -- ---- the body, from where the parameters are passed
@@ -555,7 +564,8 @@ module _ {M : Type 1} (𝓤 : URA M) (H : Heap 𝓤) (A : Atoms 𝓤) (W : Given
       At0 = ‵ (froom word l₆ 0) ∷ ‵ (froom P′.mir l₅ 0) ∷ ‵ (fat fullShare slice l₂ 0 (sliceVal (b, o) len)) ∷ ‵ (froom word l₄ 0) ∷ ‵ (froom tyBool l₈ 0) ∷
           ‵ (froom word l₉ 0) ∷ ‵ (froom tyPtr l₁₀ 0) ∷ ‵ (froom T′.mir l₁₁ 0) ∷ ‵ (froom Q′.mir l₀ 0) ∷ ‵ (froom O′.mir l₇ 0) ∷ ‵ (froom tyBool l₁₂ 0) ∷
           ‵ (froom T′.mir l₁₃ 0) ∷ ‵ (froom word l₁₄ 0) ∷ ‵ (froom tyPtr l₁₅ 0) ∷ ‵ (fat fullShare word l₁ 0 (vint w64 (ofZ w64 c))) ∷ ‵ (froom word l₃ 0)
-          ∷ (‵ (flft κ q) ⊛ ‵ ftrue) ∷ ‵ (owns (i64 ∷ MutSlice (named 0) κ R ∷ []) (c, (x ys, tt)) at) ∷ Dies
+          ∷ ‵ (fat fullShare N′.mir lₙ 0 nv)
+          ∷ (‵ (flft κ q) ⊛ ‵ ftrue) ∷ ‵ (owns (i64 ∷ MutSlice (named 0) κ R ∷ N.the-row ∷ []) (c, (x ys, (ns, tt))) at) ∷ Dies
 
       begins : ent 𝓤 (⋆ 𝓤 H A At0) (Wp 𝓤 H C Λ En mir′.t-1 (atReturn 𝓤 H En Post))
       begins =
@@ -568,17 +578,19 @@ module _ {M : Type 1} (𝓤 : URA M) (H : Heap 𝓤) (A : Atoms 𝓤) (W : Given
           (λ w m e is.
           land ! (from ! (stop !)) (init ! 4 refl (uint-lawful 𝓤 H A W w64 .typed m _ is .0)) $ drop ! $
           rewrite ! 3 (λ (v : Val). ‵ (fat fullShare word l₄ 0 v)) (first w (vint w64 n) (is .0 ∙ ap (λ (k : ℕ). vint w64 k ∷ []) e)) refl $
-          asks ! fm (Opened 𝓤 H A mem run) known-opened ((tt, tt, tt, (c, (len, tt)), (vint w64 (ofZ w64 c) ∷ [], (vint w64 len ∷ [], tt))), tt) goes-opened
-          (and-then ! (load ! (from ! (stop !)) (look ! 15 refl)) (and-then ! (load ! (from ! (stop !)) (look ! 16 refl)) (no-more !)))
-          P.the-row (ensured 𝓤 H A opened′.ended (opened′.clauses 𝓤 H A mem run) tt (c, (len, tt)) tt) (λ r. r ≡ loaded c len []) (λ _. id⊢ 𝓤 _)
-          (opened-of 𝓤 H A mem run c len) (λ v r f ir.
+          asks ! fm (Opened 𝓤 H A mem run) known-opened
+          ((tt, tt, tt, (c, (len, (ns, tt))), (vint w64 (ofZ w64 c) ∷ [], (vint w64 len ∷ [], (nv ∷ [], tt)))), tt) goes-opened
+          (and-then ! (load ! (from ! (stop !)) (look ! 15 refl))
+          (and-then ! (load ! (from ! (stop !)) (look ! 16 refl)) (and-then ! (load ! (from ! (stop !)) (look ! 17 refl)) (no-more !))))
+          P.the-row (ensured 𝓤 H A opened′.ended (opened′.clauses 𝓤 H A mem run) tt (c, (len, (ns, tt))) tt) (λ r. r ≡ loaded c len ns []) (λ _. id⊢ 𝓤 _)
+          (opened-of 𝓤 H A mem run c len ns) (λ v r f ir.
           land ! (from ! (stop !)) (init ! 2 refl (LL.lawful P.the-type P′.the-laws 𝓤 H A W .typed r _ ir .0)) $ drop ! $
-          forget ! 14 refl $ forget ! 15 refl $
+          forget ! 14 refl $ forget ! 15 refl $ forget ! 16 refl $
           assigns ! (of-opd ! (lit ! tt)) (from ! (stop !)) (init ! 0 refl (tt, record { fits = lit< tt })) $
-          move ! (17 ∷ []) $ fsplit ! $ drop ! $ fsplit ! $ fsplit ! $ move ! (1 ∷ []) $ fsplit ! $ move ! (20 ∷ []) $ split ! $ move ! (2 ∷ 3 ∷ 0 ∷ []) $
+          move ! (18 ∷ []) $ fsplit ! $ drop ! $ fsplit ! $ fsplit ! $ move ! (1 ∷ []) $ fsplit ! $ move ! (21 ∷ []) $ split ! $ move ! (2 ∷ 3 ∷ 0 ∷ []) $
           opens-slice ! tt R ys b o $
-          keep ! (0 ∷ 7 ∷ 8 ∷ 9 ∷ 10 ∷ 11 ∷ 12 ∷ 13 ∷ 14 ∷ 15 ∷ 16 ∷ 17 ∷ 18 ∷ 19 ∷ 20 ∷ 21 ∷ 22 ∷ 1 ∷ 2 ∷ 3 ∷ 23 ∷ 24 ∷ 25 ∷ 26 ∷ 27 ∷ 28 ∷ 29 ∷ 30 ∷ 31 ∷ 32 ∷
-          33 ∷ 34 ∷ 35 ∷ 36 ∷ 37 ∷ 38 ∷ []) $
+          keep ! (0 ∷ 7 ∷ 8 ∷ 9 ∷ 10 ∷ 11 ∷ 12 ∷ 13 ∷ 14 ∷ 15 ∷ 16 ∷ 17 ∷ 18 ∷ 19 ∷ 20 ∷ 21 ∷ 22 ∷ 23 ∷ 1 ∷ 2 ∷ 3 ∷ 24 ∷ 25 ∷ 26 ∷ 27 ∷ 28 ∷ 29 ∷ 30 ∷ 31 ∷ 32 ∷
+          33 ∷ 34 ∷ 35 ∷ 36 ∷ 37 ∷ 38 ∷ 39 ∷ 40 ∷ []) $
           by ! (loop1 (record { i = 0; p = r; v = v; is = ir; le = omega arith; got = f }))))
 
       -- the same in the order in which the locals are allocated
@@ -596,15 +608,16 @@ module _ {M : Type 1} (𝓤 : URA M) (H : Heap 𝓤) (A : Atoms 𝓤) (W : Given
           ∷ ‵ (froom P′.mir l₅ 0) ∷ ‵ (fdies P′.mir l₅)
           ∷ ‵ (froom word l₄ 0) ∷ ‵ (fdies word l₄)
           ∷ ‵ (froom word l₃ 0) ∷ ‵ (fdies word l₃)
+          ∷ ‵ (fat fullShare N′.mir lₙ 0 nv) ∷ ‵ (fdies N′.mir lₙ)
           ∷ ‵ (fat fullShare slice l₂ 0 (sliceVal (b, o) len)) ∷ ‵ (fdies slice l₂)
           ∷ ‵ (fat fullShare word l₁ 0 (vint w64 (ofZ w64 c))) ∷ ‵ (fdies word l₁)
           ∷ ‵ (froom Q′.mir l₀ 0) ∷ ‵ (fdies Q′.mir l₀)
-          ∷ (‵ (flft κ q) ⊛ ‵ ftrue) ∷ ‵ (owns (i64 ∷ MutSlice (named 0) κ R ∷ []) (c, (x ys, tt)) at) ∷ []
+          ∷ (‵ (flft κ q) ⊛ ‵ ftrue) ∷ ‵ (owns (i64 ∷ MutSlice (named 0) κ R ∷ N.the-row ∷ []) (c, (x ys, (ns, tt))) at) ∷ []
 
       starts : ent 𝓤 (⋆ 𝓤 H A Fresh) (Wp 𝓤 H C Λ En (code.function .body) (atReturn 𝓤 H En Post))
       starts =
-          qed W Fresh ∵ keep ! (18 ∷ 20 ∷ 26 ∷ 22 ∷ 14 ∷ 12 ∷ 10 ∷ 8 ∷ 30 ∷ 16 ∷ 6 ∷ 4 ∷ 2 ∷ 0 ∷ 28 ∷ 24 ∷ 32 ∷ 33 ∷ 31 ∷ 29 ∷ 27 ∷ 25 ∷ 23 ∷ 21 ∷ 19 ∷ 17 ∷
-          15 ∷ 13 ∷ 11 ∷ 9 ∷ 7 ∷ 5 ∷ 3 ∷ 1 ∷ []) $
+          qed W Fresh ∵ keep ! (18 ∷ 20 ∷ 28 ∷ 22 ∷ 14 ∷ 12 ∷ 10 ∷ 8 ∷ 32 ∷ 16 ∷ 6 ∷ 4 ∷ 2 ∷ 0 ∷ 30 ∷ 24 ∷ 26 ∷ 34 ∷ 35 ∷ 33 ∷ 31 ∷ 29 ∷ 27 ∷ 25 ∷ 23 ∷ 21 ∷
+          19 ∷ 17 ∷ 15 ∷ 13 ∷ 11 ∷ 9 ∷ 7 ∷ 5 ∷ 3 ∷ 1 ∷ []) $
           by ! begins
 
       -- the parameters are passed
@@ -612,36 +625,37 @@ module _ {M : Type 1} (𝓤 : URA M) (H : Heap 𝓤) (A : Atoms 𝓤) (W : Given
           ‵ (fdies T′.mir l₁₃) ∷ ‵ (froom tyBool l₁₂ 0) ∷ ‵ (fdies tyBool l₁₂) ∷ ‵ (froom T′.mir l₁₁ 0) ∷ ‵ (fdies T′.mir l₁₁) ∷ ‵ (froom tyPtr l₁₀ 0) ∷
           ‵ (fdies tyPtr l₁₀) ∷ ‵ (froom word l₉ 0) ∷ ‵ (fdies word l₉) ∷ ‵ (froom tyBool l₈ 0) ∷ ‵ (fdies tyBool l₈) ∷ ‵ (froom O′.mir l₇ 0) ∷
           ‵ (fdies O′.mir l₇) ∷ ‵ (froom word l₆ 0) ∷ ‵ (fdies word l₆) ∷ ‵ (froom P′.mir l₅ 0) ∷ ‵ (fdies P′.mir l₅) ∷ ‵ (froom word l₄ 0) ∷
-          ‵ (fdies word l₄) ∷ ‵ (froom word l₃ 0) ∷ ‵ (fdies word l₃) ∷ ‵ (froom slice l₂ 0) ∷ ‵ (fdies slice l₂) ∷ ‵ (froom word l₁ 0) ∷
+          ‵ (fdies word l₄) ∷ ‵ (froom word l₃ 0) ∷ ‵ (fdies word l₃) ∷ ‵ (froom N′.mir lₙ 0) ∷ ‵ (fdies N′.mir lₙ) ∷ ‵ (froom slice l₂ 0) ∷ ‵ (fdies slice l₂) ∷ ‵ (froom word l₁ 0) ∷
           ‵ (fdies word l₁) ∷ ‵ (froom Q′.mir l₀ 0) ∷ ‵ (fdies Q′.mir l₀) ∷ (‵ (flft κ q) ⊛ ‵ ftrue) ∷
-          ‵ (owns (i64 ∷ MutSlice (named 0) κ R ∷ []) (c, (x ys, tt)) at) ∷ []) (params′ En
-          (vint w64 (ofZ w64 c) ∷ sliceVal (b, o) len ∷ []) (runs C Λ En (code.function .body) (atRet En Post)))
-      passed = params1 ! $ pass1 ! (init ! 28 refl (tt, ofZ-fits w64 c (record { sfits = c-fits }))) $
-          pass1 ! (init ! 26 refl (tt, (tt, (record { fits = room .0 }, tt)))) $ pass0 ! $ by ! starts
+          ‵ (owns (i64 ∷ MutSlice (named 0) κ R ∷ N.the-row ∷ []) (c, (x ys, (ns, tt))) at) ∷ []) (params′ En
+          (vint w64 (ofZ w64 c) ∷ sliceVal (b, o) len ∷ nv ∷ []) (runs C Λ En (code.function .body) (atRet En Post)))
+      passed = params1 ! $ pass1 ! (init ! 30 refl (tt, ofZ-fits w64 c (record { sfits = c-fits }))) $
+          pass1 ! (init ! 28 refl (tt, (tt, (record { fits = room .0 }, tt)))) $
+          pass1 ! (init ! 26 refl (LL.lawful N.the-type N′.the-laws 𝓤 H A W .typed ns _ ns-is .0)) $ pass0 ! $ by ! starts
 
     -- the later locals are allocated
-    allocated : (l₀ l₁ l₂ l₃ l₄ l₅ l₆ l₇ : ℕ) →
+    allocated : (l₀ l₁ l₂ lₙ l₃ l₄ l₅ l₆ l₇ : ℕ) →
         Seq Go W (‵ (froom O′.mir l₇ 0) ∷ ‵ (fdies O′.mir l₇) ∷ ‵ (froom word l₆ 0) ∷ ‵ (fdies word l₆) ∷ ‵ (froom P′.mir l₅ 0) ∷ ‵ (fdies P′.mir l₅) ∷
-        ‵ (froom word l₄ 0) ∷ ‵ (fdies word l₄) ∷ ‵ (froom word l₃ 0) ∷ ‵ (fdies word l₃) ∷ ‵ (froom slice l₂ 0) ∷ ‵ (fdies slice l₂) ∷
+        ‵ (froom word l₄ 0) ∷ ‵ (fdies word l₄) ∷ ‵ (froom word l₃ 0) ∷ ‵ (fdies word l₃) ∷ ‵ (froom N′.mir lₙ 0) ∷ ‵ (fdies N′.mir lₙ) ∷ ‵ (froom slice l₂ 0) ∷ ‵ (fdies slice l₂) ∷
         ‵ (froom word l₁ 0) ∷ ‵ (fdies word l₁) ∷ ‵ (froom Q′.mir l₀ 0) ∷ ‵ (fdies Q′.mir l₀) ∷ (‵ (flft κ q) ⊛ ‵ ftrue) ∷
-        ‵ (owns (i64 ∷ MutSlice (named 0) κ R ∷ []) (c, (x ys, tt)) at) ∷ [])
+        ‵ (owns (i64 ∷ MutSlice (named 0) κ R ∷ N.the-row ∷ []) (c, (x ys, (ns, tt))) at) ∷ [])
         (allocs (local tyBool valueLocal ∷ local word valueLocal ∷ local tyPtr valueLocal ∷ local T′.mir valueLocal ∷ local tyBool valueLocal ∷
         local T′.mir valueLocal ∷ local word valueLocal ∷ local tyPtr valueLocal ∷ []) (λ E.
-        params′ ((Q′.mir, l₀) ∷ (word, l₁) ∷ (slice, l₂) ∷ (word, l₃) ∷ (word, l₄) ∷ (P′.mir, l₅) ∷ (word, l₆) ∷ (O′.mir, l₇) ∷ E)
-        (vint w64 (ofZ w64 c) ∷ sliceVal (b, o) len ∷ []) (runs C Λ
-        ((Q′.mir, l₀) ∷ (word, l₁) ∷ (slice, l₂) ∷ (word, l₃) ∷ (word, l₄) ∷ (P′.mir, l₅) ∷ (word, l₆) ∷ (O′.mir, l₇) ∷ E) (code.function .body)
-        (atRet ((Q′.mir, l₀) ∷ (word, l₁) ∷ (slice, l₂) ∷ (word, l₃) ∷ (word, l₄) ∷ (P′.mir, l₅) ∷ (word, l₆) ∷ (O′.mir, l₇) ∷ E) Post))))
-    allocated l₀ l₁ l₂ l₃ l₄ l₅ l₆ l₇ = alloc1 ! (λ l₈. alloc1 !
+        params′ ((Q′.mir, l₀) ∷ (word, l₁) ∷ (slice, l₂) ∷ (N′.mir, lₙ) ∷ (word, l₃) ∷ (word, l₄) ∷ (P′.mir, l₅) ∷ (word, l₆) ∷ (O′.mir, l₇) ∷ E)
+        (vint w64 (ofZ w64 c) ∷ sliceVal (b, o) len ∷ nv ∷ []) (runs C Λ
+        ((Q′.mir, l₀) ∷ (word, l₁) ∷ (slice, l₂) ∷ (N′.mir, lₙ) ∷ (word, l₃) ∷ (word, l₄) ∷ (P′.mir, l₅) ∷ (word, l₆) ∷ (O′.mir, l₇) ∷ E) (code.function .body)
+        (atRet ((Q′.mir, l₀) ∷ (word, l₁) ∷ (slice, l₂) ∷ (N′.mir, lₙ) ∷ (word, l₃) ∷ (word, l₄) ∷ (P′.mir, l₅) ∷ (word, l₆) ∷ (O′.mir, l₇) ∷ E) Post))))
+    allocated l₀ l₁ l₂ lₙ l₃ l₄ l₅ l₆ l₇ = alloc1 ! (λ l₈. alloc1 !
         (λ l₉. alloc1 ! (λ l₁₀. alloc1 ! (λ l₁₁. alloc1 ! (λ l₁₂. alloc1 !
-        (λ l₁₃. alloc1 ! (λ l₁₄. alloc1 ! (λ l₁₅. alloc0 ! $ passed l₀ l₁ l₂ l₃ l₄ l₅ l₆ l₇ l₈ l₉ l₁₀ l₁₁ l₁₂ l₁₃ l₁₄ l₁₅))))))))
+        (λ l₁₃. alloc1 ! (λ l₁₄. alloc1 ! (λ l₁₅. alloc0 ! $ passed l₀ l₁ l₂ lₙ l₃ l₄ l₅ l₆ l₇ l₈ l₉ l₁₀ l₁₁ l₁₂ l₁₃ l₁₄ l₁₅))))))))
 
-    walk : ent 𝓤 (onEntry 𝓤 H A relax′.signature (κ, tt) (q, tt) (c, (x ys, tt)) at)
-        (WpFn 𝓤 H C Λ code.function (vint w64 (ofZ w64 c) ∷ sliceVal (b, o) len ∷ []) Post)
+    walk : ent 𝓤 (onEntry 𝓤 H A relax′.signature (κ, tt) (q, tt) (c, (x ys, (ns, tt))) at)
+        (WpFn 𝓤 H C Λ code.function (vint w64 (ofZ w64 c) ∷ sliceVal (b, o) len ∷ nv ∷ []) Post)
     walk =
-        qed W ((‵ (flft κ q) ⊛ ‵ ftrue) ∷ ‵ (owns (i64 ∷ MutSlice (named 0) κ R ∷ []) (c, (x ys, tt)) at) ∷ []) ∵ enter ! C Λ code.function
-        (vint w64 (ofZ w64 c) ∷ sliceVal (b, o) len ∷ []) _ $
-        alloc1 ! (λ l₀. alloc1 ! (λ l₁. alloc1 ! (λ l₂. alloc1 !
-        (λ l₃. alloc1 ! (λ l₄. alloc1 ! (λ l₅. alloc1 ! (λ l₆. alloc1 ! (λ l₇. allocated l₀ l₁ l₂ l₃ l₄ l₅ l₆ l₇))))))))
+        qed W ((‵ (flft κ q) ⊛ ‵ ftrue) ∷ ‵ (owns (i64 ∷ MutSlice (named 0) κ R ∷ N.the-row ∷ []) (c, (x ys, (ns, tt))) at) ∷ []) ∵ enter ! C Λ code.function
+        (vint w64 (ofZ w64 c) ∷ sliceVal (b, o) len ∷ nv ∷ []) _ $
+        alloc1 ! (λ l₀. alloc1 ! (λ l₁. alloc1 ! (λ l₂. alloc1 ! (λ lₙ. alloc1 !
+        (λ l₃. alloc1 ! (λ l₄. alloc1 ! (λ l₅. alloc1 ! (λ l₆. alloc1 ! (λ l₇. allocated l₀ l₁ l₂ lₙ l₃ l₄ l₅ l₆ l₇)))))))))
 
 module _ {M : Type 1} (𝓤 : URA M) (H : Heap 𝓤) (A : Atoms 𝓤) (W : Given 𝓤 H A) (mem : Memory → SProp 𝓤) (run : Routine → Fun 𝓤) (𝓣 : Tables 𝓤 H)
     (known-usable : Triple 𝓤 (𝓣 .C #usable-of) (Usable 𝓤 H A mem run)) (known-opened : Triple 𝓤 (𝓣 .C #opened) (Opened 𝓤 H A mem run))
@@ -650,16 +664,17 @@ module _ {M : Type 1} (𝓤 : URA M) (H : Heap 𝓤) (A : Atoms 𝓤) (W : Given
     (known-answer : Triple 𝓤 (𝓣 .C #answer-of) (AnswerOf 𝓤 H A mem run)) where
   relax-walks : Walks 𝓤 H A relax′.ended stayed (WpFn 𝓤 H (𝓣 .C) (𝓣 .Λ) code.function) (relax′.clauses 𝓤 H A mem run)
   relax-walks = walked 𝓤 H A relax′.ended stayed (relax′.clauses 𝓤 H A mem run) (WpFn 𝓤 H (𝓣 .C) (𝓣 .Λ) code.function)
-      (λ κs. (sint-vals w64, (slice-vals, tt))) (λ κs. (sint-tells w64, (mut-slice-tells (named 0) (κs .0) T.the-row, tt)))
+      (λ κs. (sint-vals w64, (slice-vals, (LL.vals N.the-type N′.the-laws, tt))))
+      (λ κs. (sint-tells w64, (mut-slice-tells (named 0) (κs .0) T.the-row, (LL.tells N.the-type N′.the-laws, tt))))
       (λ κs qs bounds a g are. via 𝓤 _ (fst∗ 𝓤 _ (emp 𝓤))
-      (walk 𝓤 H A W mem run (κs .0) (qs .0) (a .0) (are .0 .1) (a .1 .0 .ptr .0) (a .1 .0 .ptr .1) (a .1 .0 .name) (a .1 .0 .now) (are .1 .0 .0 .1) 𝓣
+      (walk 𝓤 H A W mem run (κs .0) (qs .0) (a .0) (are .0 .1) (a .1 .1 .0) (are .1 .1 .0) (a .1 .0 .ptr .0) (a .1 .0 .ptr .1) (a .1 .0 .name) (a .1 .0 .now) (are .1 .0 .0 .1) 𝓣
       known-usable known-opened known-with known-core known-nth known-answer))
 
   relax-meets : Meets 𝓤 H A relax′.signature (WpFn 𝓤 H (𝓣 .C) (𝓣 .Λ) code.function) (relax′.spec 𝓤 H A mem run)
   relax-meets =
       walk-meets 𝓤 H A relax′.ended stayed W (
         goes-none 𝓤 H A W 1 (λ _. i64) kept-as-is (λ κs x f. refl),
-        (goes-slice 𝓤 H A W 1 0 tt (plain (λ _. T.the-row)), tt),
+        (goes-slice 𝓤 H A W 1 0 tt (plain (λ _. T.the-row)), (goes-none 𝓤 H A W 1 (λ _. N.the-row) kept-as-is (λ κs x f. refl), tt)),
       ) (relax′.clauses 𝓤 H A mem run)
       (WpFn 𝓤 H (𝓣 .C) (𝓣 .Λ) code.function) (WpFn-mono 𝓤 H (W .laws) 𝓣 code.function) relax-walks
 
