@@ -108,13 +108,8 @@ impl Shape {
     }
 
     /// One for each soft item; one if there is none.
-    fn frames(&self) -> usize {
+    pub fn frames(&self) -> usize {
         self.soft.len().max(1)
-    }
-
-    /// The frames in which a soft item is cut, and that in which none is.
-    pub fn all_frames(&self) -> std::ops::RangeInclusive<usize> {
-        0..=self.soft.len()
     }
 
     /// Into how many pieces a unit of the item that frame l cuts goes.
@@ -211,6 +206,42 @@ impl Frame {
     /// The room that is left when every part has its least amount.
     fn rest(&self) -> i64 {
         (0..PARTS).fold(self.room as i64, |rest, k| rest - (self.weight[k] * self.low[k]) as i64)
+    }
+
+    /// By how much the room is exceeded when every part has its highest amount.
+    fn spare(&self) -> i64 {
+        (0..PARTS).fold(-(self.room as i64), |spare, k| spare + (self.weight[k] * (self.low[k] + self.range[k])) as i64)
+    }
+
+    /// How many units of part k weigh no more than that.
+    fn units(&self, k: usize, weight: i64) -> u64 {
+        self.range[k].min((weight as u64).checked_div(self.weight[k]).unwrap_or(u64::MAX))
+    }
+
+    /// Amounts that alone would lose too much, weigh too much, or leave too little weight are taken out.
+    fn near(&mut self, cap: u64) {
+        let left = self.remaining(cap);
+        if left > 0 {
+            self.narrow(left);
+        }
+        let rest = self.rest();
+        for k in (0..PARTS).filter(|_| rest >= 0) {
+            self.range[k] = self.units(k, rest);
+        }
+        let spare = self.spare();
+        for k in (0..PARTS).filter(|_| spare >= 0) {
+            let range = self.units(k, spare);
+            self.low[k] += self.range[k] - range;
+            self.range[k] = range;
+        }
+    }
+
+    /// Part after part before `to` at the first amount that is left to it.
+    fn fix_first(&mut self, cap: u64, to: usize) {
+        for k in 0..to {
+            self.near(cap);
+            self.fix(k, self.low[k] + if self.falls[k] { self.range[k] } else { 0 });
+        }
     }
 }
 
@@ -310,11 +341,33 @@ fn least_loss(h: &Shape, known: Loss, cells: &mut Cells) -> Option<(Loss, usize)
     found
 }
 
+/// So many parts are tried at their first amounts.
+const LEAPS: [usize; 3] = [12, 8, 4];
+
+/// A run with the first parts at their first amounts; if it finds a loss below the cap, it is that of the first point. The first part that is
+/// not fixed is told; 0 if no leap finds any.
+fn leap(f: &mut Frame, cap: u64, cells: &mut Cells) -> usize {
+    for to in LEAPS {
+        let mut n = *f;
+        n.fix_first(cap, to);
+        n.near(cap);
+        if n.spare() < 0 {
+            continue;
+        }
+        let (loss, next) = run(&mut n, cap, to, ITEMS, cells);
+        if loss < cap {
+            *f = n;
+            return next;
+        }
+    }
+    0
+}
+
 /// The first point of frame l that has exactly the loss t, if one has; none has less. The items are decoded group by group.
 pub fn first_of_frame(h: &Shape, l: usize, t: Loss, cells: &mut Cells) -> Option<Frame> {
     let mut f = h.frame(l);
     let cap = f.scale * t.num / t.den + 1;
-    let mut from = 0;
+    let mut from = leap(&mut f, cap, cells);
     while from < ITEMS {
         let (loss, to) = run(&mut f, cap, from, ITEMS, cells);
         if loss == cap && from == 0 {

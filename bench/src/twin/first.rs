@@ -31,7 +31,7 @@ pub fn first_point(mut h: Shape, best: Mixed, cells: &mut Cells) -> Point {
     h.fill_early();
     let least = h.loss(best);
     let mut first: Option<Point> = None;
-    for l in h.all_frames() {
+    for l in 0..h.frames() {
         if !h.can_lose(l, least) {
             continue;
         }

@@ -19,7 +19,7 @@ use Rattle.scales.specs.Filling as filling
 use Rattle.scales.proofs.Sums.{sum-most}
 use Rattle.fillings.specs.declared.Parts.{Parts}
 use Rattle.fillings.specs.Ranges.{num, flag, Fair}
-use Rattle.fillings.specs.Runs.{Keyable}
+use Rattle.fillings.specs.Foremost.{Keyable}
 use Rattle.arith.specs.Within.{Within}
 use Rattle.arith.proofs.Parts.{within-abs, within-sub}
 use Rattle.greedy.specs.declared.Columns.{Columns}

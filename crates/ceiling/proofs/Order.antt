@@ -18,6 +18,7 @@ use Rattle.fillings.specs.declared.Parts.{Parts}
 use Rattle.fillings.specs.declared.First.{First}
 use Rattle.fillings.specs.Ranges.{num, flag, itemsIn}
 use Rattle.fillings.specs.Runs as runs
+use Rattle.fillings.specs.Foremost.{FirstAt}
 use Rattle.greedy.specs.declared.Columns.{Columns}
 use Rattle.greedy.specs.declared.Ends.{Ends}
 use Rattle.greedy.specs.Fill.{at, weightOf, priceOf}
@@ -74,7 +75,7 @@ module _ (p q : ℕ) (c : Columns) (e : Ends) (E cut : ℕ) (few : c .count ≤ 
       up : (m n : ℕ) → m + 1 ≤ n → pos m <ℤ pos n
       up m n h = simp zed (omega arith)
 
-  module _ (s : First) (h : runs.FirstAt ps room r (s .amounts)) where
+  module _ (s : First) (h : FirstAt ps room r (s .amounts)) where
     abbrev y : ℕ → ℕ
     y = h .amounts
 

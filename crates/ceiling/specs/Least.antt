@@ -33,7 +33,8 @@ use Rattle.scales.specs.declared.Cost.{Cost}
 use Rattle.fillings.specs.declared.First.{First}
 use Rattle.fillings.specs.declared.Parts.{Parts}
 use Rattle.fillings.specs.Ranges.{num}
-use Rattle.fillings.specs.Runs.{runCells, WholeWrites, FirstWrites}
+use Rattle.fillings.specs.Runs.{runCells, WholeWrites}
+use Rattle.fillings.specs.Foremost.{firstCells, FirstWrites}
 use Rattle.greedy.specs.declared.Columns.{Columns}
 use Rattle.greedy.specs.declared.Ends.{Ends}
 use Rattle.greedy.specs.Fill.{at, itemOf}
@@ -88,7 +89,7 @@ pub record FirstPoint (p q : ℕ) (c : Columns) (e : Ends) (E cut r : ℕ) (N : 
   pub first : (M : ℕ → ℤ) → Point c e E cut M → lossOf p q c e E M ≡ pos r → NotAfter (c .count) N M
 
 pub record Firsts (p q : ℕ) (c : Columns) (e : Ends) (E cut r : ℕ) (s : First) : Type 0 where
-  pub few : s .written ≤ 16 * runCells
+  pub few : s .written ≤ firstCells
   pub writes : PiecesWrite (byFirst r) p q c e E cut (s .written)
   pub found : s .found ≡ true → FirstPoint p q c e E cut r (amountOf c e E cut (num (s .amounts)))
   pub small : s .found ≡ true → (k : ℕ) → k < 16 → num (s .amounts) k ≤ 900000000
@@ -190,7 +191,7 @@ pub record FirstIn (p q : ℕ) (c : Columns) (e : Ends) (w : List Bool) (t r : �
   pub shown : (k : ℕ) → k < c .count → k ≢ cutOf c t → point k ≡ at place k *ℤ pos (scaleOf c t)
 
 pub record FrameFirst (p q : ℕ) (c : Columns) (e : Ends) (w : List Bool) (t r : ℕ) (s : Seen) : Type 0 where
-  pub few : s .written ≤ 16 * runCells
+  pub few : s .written ≤ firstCells
   pub writes : FrameWrites byFirst p q c e w t r (s .written)
   pub found : s .found ≡ true → FirstIn p q c e w t r (s .place)
   pub none : s .found ≡ false → (e′ : Ends) → Framed c e w t e′ → (M : ℕ → ℤ) → Point c e′ (scaleOf c t) (cutOf c t) M → pos r <ℤ lossOf p q c e (scaleOf c t) M

@@ -1,7 +1,6 @@
 -- The first filling, group after group.
 -- whole-among, whole-inside, whole-least: all amounts.
---   Sought p C c r f    the fillings that cost c are within the ranges r, whose parts before f are fixed, or come later
--- sought-first, sought-step, sought-done, sought-none: from run to run.
+-- heads-first, sought-first, sought-step, sought-more, sought-done, sought-none: from run to run.
 use mathlib.Core.Path.{_≡_, refl, sym, ap, _∙_}
 use mathlib.Core.Bool.{true, false}
 use mathlib.Core.List.{List}
@@ -16,7 +15,9 @@ use Rattle.fillings.specs.declared.Parts.{Parts}
 use Rattle.fillings.specs.declared.Ranges.{Ranges}
 use Rattle.fillings.specs.declared.Run.{Run}
 use Rattle.fillings.specs.Ranges.{num, itemsIn, Inside, Among}
-use Rattle.fillings.specs.Runs.{Earlier, Fills, Filling, Runs, Whole, Keyable, FirstAt}
+use Rattle.fillings.specs.Runs.{Earlier, Fills, Filling, Runs, Whole}
+use Rattle.fillings.specs.Leaps.{Heads, Sought}
+use Rattle.fillings.specs.Foremost.{Keyable, FirstAt}
 
 pub whole-among : (p : Parts) (r : Ranges) → Whole p r → Among p r
 whole-among p r w j l = rw (w .all) (omega (arith, w .none j))
@@ -24,10 +25,10 @@ whole-among p r w j l = rw (w .all) (omega (arith, w .none j))
 pub whole-inside : (p : Parts) (r : Ranges) → length (p .weight) ≡ 17 → Whole p r → (y : ℕ → ℕ) → Within (itemsIn p) y → Inside r y
 whole-inside p r long w y h j l = (omega (arith, w .none j), rw (w .all) (omega (arith, w .none j, h j (omega (arith, long)))))
 
-inside-within : (p : Parts) (r : Ranges) → length (p .weight) ≡ 17 → Among p r → (y : ℕ → ℕ) → Inside r y → Within (itemsIn p) y
+pub inside-within : (p : Parts) (r : Ranges) → length (p .weight) ≡ 17 → Among p r → (y : ℕ → ℕ) → Inside r y → Within (itemsIn p) y
 inside-within p r long a y h j l = let m : j < 17 = omega (arith, long) in omega (arith, h j m .1, a j m)
 
-among-less : (p : Parts) (r r′ : Ranges) → Among p r → ((y : ℕ → ℕ) → Inside r′ y → Inside r y) → Among p r′
+pub among-less : (p : Parts) (r r′ : Ranges) → Among p r → ((y : ℕ → ℕ) → Inside r′ y → Inside r y) → Among p r′
 among-less p r r′ a h j l = omega (arith, a j l, h (λ i. num (r′ .low) i + num (r′ .wide) i) (λ i m. (omega arith, omega arith)) j l .1)
 
 pub whole-least : (p : Parts) (r : Ranges) (C cap : ℕ) (n : Run) → length (p .weight) ≡ 17 → Whole p r → Runs p r C cap 0 0 n →
@@ -43,40 +44,34 @@ whole-least p r C cap n long w h = record {
   };
 }
 
-pub record Sought (p : Parts) (C c : ℕ) (r : Ranges) (f : ℕ) : Type 0 where
-  pub inside : f ≤ 16
-  pub among : Among p r
-  pub fixed : (j : ℕ) → j < f → num (r .wide) j ≡ 0
-  pub whole : f ≡ 0 → (y : ℕ → ℕ) → Within (itemsIn p) y → Inside r y
-  pub some : 0 < f → Filling p r C c
-  pub kept : (y : ℕ → ℕ) → Within (itemsIn p) y → Fills p C y → cost (itemsIn p) y ≡ c → Inside r y ⊎ ((a : ℕ → ℕ) → Inside r a → Earlier p f a y)
-
-earlier-more : {p : Parts} {m n : ℕ} {y z : ℕ → ℕ} → m ≤ n → Earlier p m y z → Earlier p n y z
+pub earlier-more : {p : Parts} {m n : ℕ} {y z : ℕ → ℕ} → m ≤ n → Earlier p m y z → Earlier p n y z
 earlier-more l h = record { place = h .place; below = omega (arith, h .below); same = h .same; less = h .less }
+
+pub heads-first : (p : Parts) (C c : ℕ) (r : Ranges) → length (p .weight) ≡ 17 → Whole p r → Heads p C c r 0
+heads-first p C c r long w = record {
+  inside = omega arith;
+  among = whole-among p r w;
+  fixed = λ j l. absurd (omega arith);
+  kept = λ y i f e. inl (whole-inside p r long w y i);
+}
 
 module _ (p : Parts) (C cap : ℕ) (long : length (p .weight) ≡ 17) (cap≥1 : 1 ≤ cap) (least : Bounds (itemsIn p) C (cap - 1)) where
   abbrev c : ℕ
   c = cap - 1
 
   pub sought-first : (r : Ranges) → Whole p r → Sought p C c r 0
-  sought-first r w = record {
-    inside = omega arith;
-    among = whole-among p r w;
-    fixed = λ j l. absurd (omega arith);
-    whole = λ e. whole-inside p r long w;
-    some = λ l. absurd (omega arith);
-    kept = λ y i f e. inl (whole-inside p r long w y i);
-  }
+  sought-first r w = record { heads = heads-first p C c r long w; whole = λ e. whole-inside p r long w; some = λ l. absurd (omega arith) }
 
-  module _ (r : Ranges) (f : ℕ) (s : Sought p C c r f) (n : Run) (h : Runs p r C cap f 16 n) where
-    -- nothing was found
-    pub sought-none : n .cost ≡ cap → (y : ℕ → ℕ) → Within (itemsIn p) y → Fills p C y → cap ≤ cost (itemsIn p) y
-    sought-none e y i fl = go (ℕ-discrete f 0)
-      where
-        go : Dec (f ≡ 0) → cap ≤ cost (itemsIn p) y
-        go (yes q) = omega (arith, h .bounds y (s .whole q y i) fl)
-        go (no q) = let v = s .some (omega arith) in absurd (omega (arith, h .bounds (v .amounts) (v .inside) (v .fills), v .costs))
+  -- nothing was found
+  pub sought-none : (r : Ranges) (f : ℕ) (s : Sought p C c r f) (n : Run) (h : Runs p r C cap f 16 n) → n .cost ≡ cap → (y : ℕ → ℕ) →
+      Within (itemsIn p) y → Fills p C y → cap ≤ cost (itemsIn p) y
+  sought-none r f s n h e y i fl = go (ℕ-discrete f 0)
+    where
+      go : Dec (f ≡ 0) → cap ≤ cost (itemsIn p) y
+      go (yes q) = omega (arith, h .bounds y (s .whole q y i) fl)
+      go (no q) = let v = s .some (omega arith) in absurd (omega (arith, h .bounds (v .amounts) (v .inside) (v .fills), v .costs))
 
+  module _ (r : Ranges) (f : ℕ) (s : Heads p C c r f) (n : Run) (h : Runs p r C cap f 16 n) where
     -- something was
     module _ (ne : n .cost ≡ cap → ⊥) where
       found : n .cost < cap
@@ -101,14 +96,16 @@ module _ (p : Parts) (C cap : ℕ) (long : length (p .weight) ≡ 17) (cap≥1 :
               up : (w v : ℕ) → w ≤ v → suc w ≤ suc v
               up w v i = omega arith
 
-      pub sought-step : f < n .to → Sought p C c (n .ranges) (n .to)
+      pub sought-step : 0 < n .to → Sought p C c (n .ranges) (n .to)
       sought-step l = record {
-        inside = h .end .1 (s .inside);
-        among = among-less p r (n .ranges) (s .among) (h .among found);
-        fixed = λ j k. fixed j k (decLt j f);
+        heads = record {
+          inside = h .end .1 (s .inside);
+          among = among-less p r (n .ranges) (s .among) (h .among found);
+          fixed = λ j k. fixed j k (decLt j f);
+          kept = λ y i fl e. kept y fl e (s .kept y i fl e);
+        };
         whole = λ e. absurd (omega arith);
         some = λ k. let v = h .reached found in record { amounts = v .amounts; inside = v .inside; fills = v .fills; costs = v .costs ∙ cost-is };
-        kept = λ y i fl e. kept y fl e (s .kept y i fl e);
       }
         where
           -- the parts before f stay fixed
@@ -137,18 +134,18 @@ module _ (p : Parts) (C cap : ℕ) (long : length (p .weight) ≡ 17) (cap≥1 :
   sought-done r f l s = record {
     amounts = v .amounts;
     shown = λ j k. shown (v .amounts) (v .inside) j k;
-    within = inside-within p r long (s .among) (v .amounts) (v .inside);
+    within = inside-within p r long (s .heads .among) (v .amounts) (v .inside);
     fills = v .fills;
     costs = v .costs;
-    first = λ y i fl e. go y (s .kept y i fl e);
+    first = λ y i fl e. go y (s .heads .kept y i fl e);
   }
     where
       v : Filling p r C c
       v = s .some (omega arith)
 
       shown : (a : ℕ → ℕ) → Inside r a → (j : ℕ) → j < 16 → num (r .low) j ≡ a j
-      shown a i j k = let m : j < 17 = omega arith in omega (arith, i j m .0, i j m .1, s .fixed j (omega arith))
+      shown a i j k = let m : j < 17 = omega arith in omega (arith, i j m .0, i j m .1, s .heads .fixed j (omega arith))
 
       go : (y : ℕ → ℕ) → Inside r y ⊎ ((a : ℕ → ℕ) → Inside r a → Earlier p f a y) → ((j : ℕ) → j < 16 → v .amounts j ≡ y j) ⊎ Earlier p 16 (v .amounts) y
       go y (inl i) = inl (λ j k. sym (shown (v .amounts) (v .inside) j k) ∙ shown y i j k)
-      go y (inr g) = inr (earlier-more (s .inside) (g (v .amounts) (v .inside)))
+      go y (inr g) = inr (earlier-more (s .heads .inside) (g (v .amounts) (v .inside)))

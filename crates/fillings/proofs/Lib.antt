@@ -7,3 +7,5 @@ pub mod Costs
 pub mod Runs
 pub mod Asked
 pub mod Foremost
+pub mod Heads
+pub mod Weights

@@ -1,5 +1,6 @@
 -- Lists as loops make them.
--- made-first, made-step, made-done: place by place from the front. begun-first, -step, -done: the same with nothing at the other places.
+-- num-zeros: nothing everywhere. made-first, made-step, made-done: place by place from the front.
+-- begun-first, -step, -done: the same with nothing at the other places.
 use mathlib.Core.Path.{_≡_, refl, subst, _∙_}
 use mathlib.Core.List.{List}
 use Prim.Native.Nat.{ℕ, zero, suc, _+_, _≤_, _<_}
@@ -31,13 +32,13 @@ pub record Begun (k : ℕ) (f : ℕ → ℕ) (xs : List ℕ) : Type 0 where
   pub before : (j : ℕ) → j < k → num xs j ≡ f j
   pub behind : (j : ℕ) → k ≤ j → num xs j ≡ 0
 
-none : (n k : ℕ) → num (replicate n 0) k ≡ 0
-none zero k = refl
-none (suc n) zero = refl
-none (suc n) (suc k) = none n k
+pub num-zeros : (n k : ℕ) → num (replicate n 0) k ≡ 0
+num-zeros zero k = refl
+num-zeros (suc n) zero = refl
+num-zeros (suc n) (suc k) = num-zeros n k
 
 pub begun-first : (f : ℕ → ℕ) (k : ℕ) → ((j : ℕ) → j < k → f j ≡ 0) → Begun k f zeros
-begun-first f k h = record { long = refl; before = λ j l. rw (h j l) (none 17 j); behind = λ j l. none 17 j }
+begun-first f k h = record { long = refl; before = λ j l. rw (h j l) (num-zeros 17 j); behind = λ j l. num-zeros 17 j }
 
 pub begun-step : (f : ℕ → ℕ) (k v : ℕ) {xs : List ℕ} → k < 17 → v ≡ f k → Begun k f xs → Begun (k + 1) f (set xs k v)
 begun-step f k v {xs} l e h = record {

@@ -1,6 +1,6 @@
 // Fillings of a capacity at least cost, and the first of them. A load has 17 parts, of which the last is the slack. Amounts that alone cost too much
 // are taken out before the scales look for the least cost. Which of the fillings that have it comes first is read off a key that is added to the
-// costs: the amounts of some parts as digits of one number.
+// costs: the amounts of some parts as digits of one number. Before that, leaps try the first amounts of many parts at once.
 use scales::Cost;
 use scales::least_cost;
 ghost use mathlib.Core.Path.{_≡_};
@@ -12,7 +12,9 @@ ghost use Rattle.fillings.specs.Ranges.{num, flag, itemsIn, Among, offse
 ghost use Rattle.fillings.specs.Ranges.{nearWideOf, nearLowOf, Made, Narrows, Fair};
 ghost use Rattle.fillings.specs.Runs.{Grouped, Gathers, inGroup, keyedBy, takenKey, leftKey, keyedTaken, keyedLeft};
 ghost use Rattle.fillings.specs.Runs.{fixedLow, fixedWide, Fixable, Fixes, Begins, LeastKeyed, Decodes, Runs};
-ghost use Rattle.fillings.specs.Runs.{ScalesWrite, RunWrites, Whole, WholeWrites, Keyable, FirstOf};
+ghost use Rattle.fillings.specs.Runs.{ScalesWrite, RunWrites, Whole, WholeWrites};
+ghost use Rattle.fillings.specs.Leaps.{Nears, Keeps, Weighs, Heads, Leaps, Leapt};
+ghost use Rattle.fillings.specs.Foremost.{Keyable, FirstOf};
 
 // The parts of a load, and for each whether its amount falls where more of it is taken.
 pub struct Parts {
@@ -41,6 +43,15 @@ pub struct Run {
     pub ranges: Ranges,
     pub to: usize,
     pub written: u64,
+}
+
+// Weights as costs, of what is taken and of what is left, each with a cap that every filling of the capacity is below.
+pub struct Weighing {
+    pub capacity: u64,
+    pub up: Parts,
+    pub most: u64,
+    pub down: Parts,
+    pub spare: u64,
 }
 
 // The amounts of the first filling, if there is one, and how many cells were written.
@@ -105,6 +116,7 @@ fn remaining(p: Parts, r: Ranges, cap: u64) -> u64
 fn low_load(p: Parts, r: Ranges) -> u64
     requires { ⌜ Fair p × Among p r ⌝ }
     ensures { λ n. ⌜ n ≡ load (itemsIn p) (num (r .low)) ⌝ }
+    ensures { λ n. ⌜ n < 2 ^ 63 ⌝ }
 {
     let mut sum: u64 = 0;
     let mut k: usize = 0;
@@ -538,15 +550,159 @@ pub fn least_filling(p: Parts, capacity: u64, cap: u64, cells: &mut [u64]) -> Co
     }
 }
 
+// ---- leaps
+
+// The same fillings that cost less than cap, within ranges from which what alone costs too much is taken out.
+fn near(p: Parts, r: Ranges, cap: u64) -> Ranges
+    requires { ⌜ Fair p × Among p r ⌝ }
+    ensures { λ n. ⌜ Nears p cap r n ⌝ }
+{
+    let left = remaining(p, r, cap);
+    if left == 0 {
+        return r;
+    }
+    narrowed(p, r, left)
+}
+
+// By how much the first is above the second, and one more; 0 if it is less.
+fn excess(total: u64, capacity: u64) -> u64
+    requires { ⌜ total < 2 ^ 63 ⌝ }
+    ensures { λ n. ⌜ n ≡ (total + 1) - capacity ⌝ }
+{
+    if total < capacity {
+        0
+    } else {
+        total - capacity + 1
+    }
+}
+
+fn by_weight(p: Parts, capacity: u64) -> Weighing
+    requires { ⌜ Fair p ⌝ }
+    ensures { λ w. ⌜ Weighs p w × (w .capacity ≡ capacity) ⌝ }
+{
+    let weight = p.weight;
+    let range = p.range;
+    let falls = p.falls;
+    let none = [0; 17];
+    let up = Parts {
+        weight: weight,
+        range: range,
+        taken: weight,
+        left: none,
+        falls: falls,
+    };
+    let down = Parts {
+        weight: weight,
+        range: range,
+        taken: none,
+        left: weight,
+        falls: falls,
+    };
+    let full = Ranges {
+        low: range,
+        wide: none,
+    };
+    let total = low_load(p, full);
+    Weighing {
+        capacity: capacity,
+        up: up,
+        most: lesser(capacity, total) + 1,
+        down: down,
+        spare: excess(total, capacity),
+    }
+}
+
+// By costs and by weights.
+fn nearer(p: Parts, w: Weighing, cap: u64, r: Ranges) -> Ranges
+    requires { ⌜ Fair p × (Among p r × Weighs p w) ⌝ }
+    ensures { λ n. ⌜ Keeps p (w .capacity) cap r n ⌝ }
+{
+    let up = w.up;
+    let down = w.down;
+    let a = near(p, r, cap);
+    let b = near(up, a, w.most);
+    near(down, b, w.spare)
+}
+
+// With part k at the first amount that is left to it.
+fn ahead(p: Parts, w: Weighing, cap: u64, r: Ranges, k: usize) -> Ranges
+    requires { ⌜ Fair p × (Weighs p w × ((1 ≤ cap) × (k < 16))) ⌝ }
+    requires { ⌜ Heads p (w .capacity) (cap - 1) r k ⌝ }
+    ensures { λ n. ⌜ Heads p (w .capacity) (cap - 1) n (k + 1) ⌝ }
+{
+    let n = nearer(p, w, cap, r);
+    let ds = [0; 17];
+    fixed(p, n, k, k + 1, ds)
+}
+
+// The parts before `to` at the first amounts, one after the other.
+fn head(p: Parts, w: Weighing, cap: u64, to: usize) -> Ranges
+    requires { ⌜ Fair p × (Weighs p w × ((1 ≤ cap) × (to ≤ 16))) ⌝ }
+    ensures { λ n. ⌜ Heads p (w .capacity) (cap - 1) n to ⌝ }
+{
+    let mut r = whole_of(p);
+    let mut k: usize = 0;
+    while k < to {
+        r = ahead(p, w, cap, r, k);
+        k += 1;
+    }
+    r
+}
+
+// A run with the parts before `to` at the first amounts. What it finds is the first of all fillings of that cost.
+fn leap(p: Parts, w: Weighing, cap: u64, to: usize, cells: &mut [u64]) -> Run
+    requires { ⌜ Fair p × (Weighs p w × ((1 ≤ cap) × ((cap < 2 ^ 63) × (to ≤ 16)))) ⌝ }
+    requires { ⌜ 65535 ≤ length (now cells) ⌝ }
+    ensures { λ n. ⌜ Leaps p (w .capacity) cap to n ⌝ }
+{
+    let f = head(p, w, cap, to);
+    let h = nearer(p, w, cap, f);
+    let down = w.down;
+    let spare = remaining(down, h, w.spare);
+    if spare == 0 {
+        return nothing(h, cap, to, 0);
+    }
+    run_over(p, h, w.capacity, cap, to, 16, cells)
+}
+
+// The ranges of the first leap that finds a filling, with 12, 8 or 4 parts fixed; all amounts if none does.
+fn leaps(p: Parts, capacity: u64, cap: u64, cells: &mut [u64]) -> Run
+    requires { ⌜ Fair p × ((1 ≤ cap) × ((cap < 2 ^ 63) × Bounds (itemsIn p) capacity (cap - 1))) ⌝ }
+    requires { ⌜ 65535 ≤ length (now cells) ⌝ }
+    ensures { λ n. ⌜ Leapt p capacity cap n ⌝ }
+{
+    let w = by_weight(p, capacity);
+    let mut written: u64 = 0;
+    let mut i: usize = 3;
+    while 0 < i {
+        let n = leap(p, w, cap, 4 * i, cells);
+        written += n.written;
+        if n.cost < cap {
+            let ranges = n.ranges;
+            return Run {
+                cost: n.cost,
+                ranges: ranges,
+                to: n.to,
+                written: written,
+            };
+        }
+        i -= 1;
+    }
+    let r = whole_of(p);
+    nothing(r, cap, 0, written)
+}
+
 // The first filling that costs less than cap, where none costs less than cap - 1: by the first part whose amount differs.
 pub fn first_filling(p: Parts, capacity: u64, cap: u64, cells: &mut [u64]) -> First
     requires { ⌜ Fair p × ((1 ≤ cap) × ((cap < 2 ^ 63) × (Keyable p cap × Bounds (itemsIn p) capacity (cap - 1)))) ⌝ }
     requires { ⌜ 65535 ≤ length (now cells) ⌝ }
     ensures { λ r. ⌜ FirstOf p capacity cap r ⌝ }
 {
-    let mut r = whole_of(p);
-    let mut written: u64 = 0;
-    let mut from: usize = 0;
+    let s = leaps(p, capacity, cap, cells);
+    let ranges = s.ranges;
+    let mut r = ranges;
+    let mut written = s.written;
+    let mut from = s.to;
     while from < 16 {
         let n = run_over(p, r, capacity, cap, from, 16, cells);
         written += n.written;

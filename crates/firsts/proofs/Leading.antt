@@ -3,7 +3,7 @@
 -- frame-over, frame-rest, frame-few, floor-made: what the scales are asked for in a frame.
 -- led-skip: a frame that cannot be needed has no points that matter.  led-apart: nor has one that cannot lose as much as the optimum.
 -- led-none: nor has one that does not.  seen-inside: the first point of a frame has a place.  led-sooner: with it, the first of the two leads.
--- led-done: what leads all frames is the optimal point that comes first.
+-- led-done: what leads all frames is the optimal point that comes first.  led-short: so is what leads all but the last, where another can be needed.
 use mathlib.Core.Path.{_≡_, refl, sym, ap, _∙_, subst}
 use mathlib.Core.Bool.{Bool, true, false}
 use mathlib.Core.List.{List}
@@ -26,7 +26,7 @@ use Rattle.greedy.proofs.Relaxed.{boxOf}
 use Rattle.knapsack.proofs.Common.{valueᴰ, Feasibleᴰ}
 use Rattle.knapsack.specs.declared.Mark.{Mark}
 use Rattle.knapsack.specs.declared.Mark.the-variants.{Integer, Continuous}
-use Rattle.fillings.specs.Runs.{runCells}
+use Rattle.fillings.specs.Foremost.{firstCells}
 use Rattle.ceiling.specs.Frames as ceil
 use Rattle.ceiling.specs.Frames.{wholeAt, cutOf, scaleOf, Framed, Usable, FrameFloor, Levelled}
 use Rattle.ceiling.specs.Least as least
@@ -52,10 +52,11 @@ use Rattle.setting.specs.Ready.{Marked}
 use Rattle.firsts.specs.Order.{pointIn, NoLater}
 use Rattle.firsts.specs.declared.Optimum.{Optimum}
 use Rattle.firsts.specs.declared.Lead.{Lead}
-use Rattle.firsts.specs.Leading.{Tying, endsAt, Shows, OptimalAt, IsLosing, LossOf, InsideBy, Sooner, Led, FirstBest}
+use Rattle.firsts.specs.Leading.{Tying, endsAt, Shows, OptimalAt, IsLosing, LossOf, InsideBy, Sooner, Led, FirstBest, Cutting}
 use Rattle.firsts.proofs.Places.{some-marks, tied-order, place-sized, place-room, place-leads, place-feasible, place-parts}
 use Rattle.firsts.proofs.Shown.{no-later}
 use Rattle.firsts.proofs.Worth.{worth-room}
+use Rattle.firsts.proofs.Uncut.{last-led}
 
 -- ---- the first point
 
@@ -126,7 +127,7 @@ module _ (s : Setting) (c : Columns) (y : Tying s c) (l : Optimum) (g : IsLosing
       go (no q) = old u (omega arith)
 
   -- the same point, where it leads frame t
-  kept : (r : Lead) → r .point ≡ b .point → r .written ≤ b .written + 16 * runCells
+  kept : (r : Lead) → r .point ≡ b .point → r .written ≤ b .written + firstCells
       → ((marks : ℕ → Mark) → Marked s marks → Frame c e marks t → LeadsFrame c e marks (parts c f) (filling c f) t) → Led s c l (t + 1) r
   kept r p w new = record {
     place = h .place;
@@ -324,21 +325,47 @@ module _ (s : Setting) (c : Columns) (y : Tying s c) (l : Optimum) (g : IsLosing
 
 -- ---- all frames
 
-pub led-done : (s : Setting) (c : Columns) (y : Tying s c) (l : Optimum) (b : Lead) → Led s c l (c .live + 1) b → FirstBest s b
-led-done s c y l b h = record {
-  long = y .long;
-  cols = c;
-  tied = y .tied;
-  place = h .place;
-  inside = h .inside;
-  room = h .room;
-  shows = h .shows;
-  first = λ marks m. foremost-of-frames c (s .ends) marks (y .tied .tied) (tied-order s c y) (parts c (endsAt s (h .place)))
-      (filling c (endsAt s (h .place))) (place-parts s c y (h .place) (h .inside) marks m (h .room))
-      (place-feasible s c y (h .place) (h .inside) marks m (h .room))
-      (λ t fr. h .leads marks m t (below marks fr) fr);
-}
-  where
-    below : (marks : ℕ → Mark) {t : ℕ} → Frame c (s .ends) marks t → t < c .live + 1
-    below marks (last e) = omega arith
-    below marks (cuts l i n) = omega arith
+module _ (s : Setting) (c : Columns) (y : Tying s c) (l : Optimum) (b : Lead) (t : ℕ) (h : Led s c l t b) where
+  -- what leads all frames
+  led-all : ((marks : ℕ → Mark) → Marked s marks → (u : ℕ) → Frame c (s .ends) marks u
+      → LeadsFrame c (s .ends) marks (parts c (endsAt s (h .place))) (filling c (endsAt s (h .place))) u) → FirstBest s b
+  led-all all = record {
+    long = y .long;
+    cols = c;
+    tied = y .tied;
+    place = h .place;
+    inside = h .inside;
+    room = h .room;
+    shows = h .shows;
+    first = λ marks m. foremost-of-frames c (s .ends) marks (y .tied .tied) (tied-order s c y) (parts c (endsAt s (h .place)))
+        (filling c (endsAt s (h .place))) (place-parts s c y (h .place) (h .inside) marks m (h .room))
+        (place-feasible s c y (h .place) (h .inside) marks m (h .room))
+        (all marks m);
+  }
+
+  pub led-done : t ≡ c .live + 1 → FirstBest s b
+  led-done q = led-all (λ marks m u fr. h .leads marks m u (below marks fr) fr)
+    where
+      below : (marks : ℕ → Mark) {u : ℕ} → Frame c (s .ends) marks u → u < t
+      below marks (last e) = omega arith
+      below marks (cuts l i n) = omega arith
+
+  -- without the last one, where another can be needed
+  pub led-short : (w : List Bool) → Levelled (s .level) (s .levels) w → t ≡ c .live → Cutting c (s .ends) w → FirstBest s b
+  led-short w lw q k = led-all each
+    where
+      free : (marks : ℕ → Mark) → Marked s marks → (marks (itemOf c (k .frame)) ≡ Integer) ⊎ (marks (itemOf c (k .frame)) ≡ Continuous)
+          → marks (itemOf c (k .frame)) ≡ Continuous
+      free marks m (inr i) = i
+      free marks m (inl i) = absurd (impossible (sym (k .usable .loose) ∙ levels-unmarked c (s .level) (s .levels) w marks lw
+          (λ j a z. m .level j (subst (λ n. j < n) (y .tied .count) a) z) (itemOf c (k .frame))
+          (y .tied .tied .item-in (k .frame) (omega (arith, k .below, y .tied .tied .live-in))) i))
+
+      each : (marks : ℕ → Mark) → Marked s marks → (u : ℕ) → Frame c (s .ends) marks u
+          → LeadsFrame c (s .ends) marks (parts c (endsAt s (h .place))) (filling c (endsAt s (h .place))) u
+      each marks m u (cuts i j n) = h .leads marks m u (omega arith) (cuts i j n)
+      each marks m u (last e) = subst (λ v. LeadsFrame c (s .ends) marks (parts c (endsAt s (h .place))) (filling c (endsAt s (h .place))) v) (sym e)
+          (last-led c (s .ends) marks (y .tied .tied) (tied-order s c y) (parts c (endsAt s (h .place))) (filling c (endsAt s (h .place)))
+          (place-parts s c y (h .place) (h .inside) marks m (h .room)) (λ v i. h .leads marks m v (omega arith)) (c .live) (omega arith)
+          (λ v i j. absurd (omega arith)) (k .frame) (k .below)
+          (cuts (k .below) (free marks m (by-mark (marks (itemOf c (k .frame))))) (k .usable .free)))

@@ -12,12 +12,14 @@
 --   Sooner s c x xs r   r is the first of x and of the filling at the place of xs
 --   Led s c l t b       b is an optimal point that leads those of the frames before t
 --   FirstBest s r       r is the optimal point that comes first
+--   Cutting c e w       some frame can be needed in which an item is cut;  CutsSome c e w r: r tells whether
 --   TryWrites c e w l t n m       n cells are written before frame t is looked at, and m after it: as many, where it cannot lose as much as the optimum
 --   ConsiderWrites c e w l t n m  the same, or as many, where the frame cannot be needed
 --   LeadWrites c e w l t n        n cells are written for the frames before t
+--   LastWrites c e w l n m        the same of the last frame, which is needed where no other is
 --   PointWrites s P n             n cells are written for all frames of the box, by what the optimal place P loses
 use mathlib.Core.Path.{_≡_}
-use mathlib.Core.Bool.{Bool}
+use mathlib.Core.Bool.{Bool, true, false}
 use mathlib.Core.List.{List}
 use mathlib.Core.Logic.{_⊎_}
 use Prim.Native.Nat.{ℕ, _+_, _*_, _/_, _%_, _≤_, _<_}
@@ -35,7 +37,7 @@ use Rattle.greedy.specs.declared.Ends.{Ends}
 use Rattle.greedy.specs.Amounts.{Amounts}
 use Rattle.greedy.specs.Fill.{at, fill, bound}
 use Rattle.greedy.proofs.Relaxed.{boxOf}
-use Rattle.fillings.specs.Runs.{runCells}
+use Rattle.fillings.specs.Foremost.{firstCells}
 use Rattle.ceiling.specs.declared.Seen.{Seen}
 use Rattle.ceiling.specs.Bound.{Priced}
 use Rattle.ceiling.specs.Frames.{scaleOf, Usable, Levelled}
@@ -129,7 +131,7 @@ pub record Led (s : Setting) (c : Columns) (l : Optimum) (t : ℕ) (b : Lead) : 
       → LosesJust (l .top) (l .q) (valueᴰ (boxOf c (s .ends) marks)) (l .num) (l .den) (parts c (endsAt s place)) (filling c (endsAt s place))
   pub leads : (marks : ℕ → Mark) → Marked s marks → (u : ℕ) → u < t → Frame c (s .ends) marks u
       → LeadsFrame c (s .ends) marks (parts c (endsAt s place)) (filling c (endsAt s place)) u
-  pub few : b .written ≤ t * (16 * runCells)
+  pub few : b .written ≤ t * firstCells
 
 pub record FirstBest (s : Setting) (r : Lead) : Type 0 where
   pub long : Long (s .ends)
@@ -140,6 +142,16 @@ pub record FirstBest (s : Setting) (r : Lead) : Type 0 where
   pub room : pos 0 ≤ℤ fill cols (endsAt s place) .room
   pub shows : Shows s cols place (r .point)
   pub first : (marks : ℕ → Mark) → Marked s marks → Foremostᴰ (boxOf cols (s .ends) marks) (parts cols (endsAt s place)) (filling cols (endsAt s place))
+
+-- some frame can be needed in which an item is cut
+pub record Cutting (c : Columns) (e : Ends) (w : List Bool) : Type 0 where
+  pub frame : ℕ
+  pub below : frame < c .live
+  pub usable : Usable c e w frame
+
+pub record CutsSome (c : Columns) (e : Ends) (w : List Bool) (r : Bool) : Type 0 where
+  pub some : r ≡ true → Cutting c e w
+  pub none : r ≡ false → Cutting c e w → ⊥
 
 -- ---- what is written
 
@@ -155,6 +167,9 @@ pub data LeadWrites (c : Columns) (e : Ends) (w : List Bool) (l : Optimum) : ℕ
   begun : LeadWrites c e w l 0 0
   onward : (t n m : ℕ) → LeadWrites c e w l t n → ConsiderWrites c e w l t n m → LeadWrites c e w l (t + 1) m
 
+abbrev pub LastWrites : Columns → Ends → List Bool → Optimum → ℕ → ℕ → Type 0
+LastWrites c e w l n m = (Cutting c e w × (m ≡ n)) ⊎ ((Cutting c e w → ⊥) × TryWrites c e w l (c .live) n m)
+
 pub record PointWrites (s : Setting) (P : ℕ → ℤ) (n : ℕ) : Type 0 where
   pub cols : Columns
   pub tied : TiedOf (s .cols) cols
@@ -165,4 +180,4 @@ pub record PointWrites (s : Setting) (P : ℕ → ℤ) (n : ℕ) : Type 0 where
   pub levelled : Levelled (s .level) (s .levels) whole
   pub sofar : ℕ
   pub frames : LeadWrites cols (s .ends) whole loss (cols .live) sofar
-  pub last : TryWrites cols (s .ends) whole loss (cols .live) sofar n
+  pub last : LastWrites cols (s .ends) whole loss sofar n

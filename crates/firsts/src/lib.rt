@@ -32,7 +32,7 @@ ghost use Rattle.setting.specs.Box.{Inside};
 ghost use Rattle.setting.specs.Ready.{ReadySetting};
 ghost use Rattle.firsts.specs.Order.{Comparable, Compares, SmallFraction};
 ghost use Rattle.firsts.specs.Leading.{Tying, OptimalAt, Fills, IsWorth, Fair, IsLosing, LossOf, Led, Sooner, InsideBy, FirstBest};
-ghost use Rattle.firsts.specs.Leading.{TryWrites, ConsiderWrites, PointWrites};
+ghost use Rattle.firsts.specs.Leading.{CutsSome, TryWrites, ConsiderWrites, PointWrites};
 
 // The filling at a place: its point, and what it is worth.
 pub struct Filled {
@@ -219,6 +219,23 @@ fn considered(
     b
 }
 
+// Whether some frame can be needed in which an item is cut.
+fn cuts_some(s: Setting, c: Columns, whole: [bool; 16]) -> bool
+    requires { ⌜ Tying s c ⌝ }
+    ensures { λ r. ⌜ CutsSome c (s .ends) whole r ⌝ }
+{
+    let ends = s.ends;
+    let n = c.live;
+    let mut u: usize = 0;
+    while u < n {
+        if is_usable(c, ends, whole, u) {
+            return true;
+        }
+        u += 1;
+    }
+    false
+}
+
 fn lead_of(point: [Fraction; 16]) -> Lead
     ensures { λ r. ⌜ r ≡ record { point = point; written = 0 } ⌝ }
 {
@@ -247,6 +264,9 @@ pub fn first_point(s: Setting, x: [i64; 16], cells: &mut [u64]) -> Lead
     while t < n {
         b = considered(b, s, c, whole, l, t, cells);
         t += 1;
+    }
+    if cuts_some(s, c, whole) {
+        return b;
     }
     tried(b, s, c, whole, l, n, cells)
 }

@@ -1,11 +1,11 @@
 -- How many cells the scales write for a problem, at most.
--- place-most: for its best place, 33 runs. shown-most: for its first point, 272. scaled-most: for an optimum.
+-- place-most: for its best place, 36 runs. shown-most: for its first point, 323. scaled-most: for an optimum.
 -- cells-most (end theorem): for any answer.
 use mathlib.Core.Bool.{Bool}
 use mathlib.Core.List.{List}
 use Prim.Native.Nat.{ℕ, _*_, _≤_}
 use native.Mathlib.Omega.{arith}
-use Rattle.fillings.specs.Runs.{runCells}
+use Rattle.fillings.specs.Foremost.{firstCells}
 use Rattle.firsts.proofs.Cells.{point-most}
 use Rattle.knapsack.specs.declared.Kind.{Kind}
 use Rattle.knapsack.specs.declared.Kind.the-variants as kind
@@ -21,7 +21,7 @@ pub place-most : {s : Setting} {end : State} {k : ℕ} → PlaceWrites s end k �
 place-most (ended h) = omega arith
 place-most (stopped k h w) = settle-most w
 
-pub shown-most : {p : Problem} {k : ℕ} → ShownWrites p k → k ≤ 272 * runCells
+pub shown-most : {p : Problem} {k : ℕ} → ShownWrites p k → k ≤ 17 * firstCells
 shown-most (kept h) = omega arith
 shown-most (placed s P k low h o w) = point-most w
 

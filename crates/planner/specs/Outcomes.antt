@@ -6,7 +6,7 @@
 --                     the box of the place x, its filling, and its value
 --   Best s x a        a shows the relaxation of the place x and its value in lowest terms, and no steps
 --   standing s f x    the incumbent that the place x is
---   mostWork          the most cells that the scales write for a problem: those of 305 runs
+--   mostWork          the most cells that the scales write for a problem: those of 359 runs
 --   PlaceWrites s end k
 --                     k cells are written for the best place of a box, where its search has come to `end`: none if that is done
 --   BestPlace s p n r r is the best place of the box, with the steps of a search that may take n
@@ -92,9 +92,9 @@ pub record Best (s : Setting) (x : List ℤ) (a : Answer) : Type 0 where
 abbrev pub standing : Setting → Bool → List ℤ → Incumbent
 standing s f x = record { found = f; place = x; value = valueAt s x }
 
--- the cells of a best place, and those of the first point: 33 runs and 272 (proofs/Cells)
+-- the cells of a best place, and those of the first point: 36 runs and 323 (proofs/Cells)
 abbrev pub mostWork : ℕ
-mostWork = 28960188895
+mostWork = 34087566601
 
 -- the scales go on from the search's incumbent
 pub data PlaceWrites (s : Setting) (end : State) : ℕ → Type 0 where

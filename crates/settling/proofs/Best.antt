@@ -1,6 +1,6 @@
 -- Why a place is best: a feasible point that nothing beats has its whole amounts, and its filling is worth no less.
 -- best-of: of such a point. kept-best: of an incumbent that nothing beats. found-best: of the first point of the frame that loses least.
--- most-cells (end theorem): the most cells of `Settles` are those of 33 runs. settle-most: no box has more of them written.
+-- most-cells (end theorem): the most cells of `Settles` are those of 36 runs. settle-most: no box has more of them written.
 use mathlib.Core.Path.{_≡_, refl, sym, ap, _∙_, subst, subst₂}
 use mathlib.Core.Bool.{Bool, true, false}
 use mathlib.Core.List.{List}
@@ -279,7 +279,7 @@ module _ (c : Columns) (e : Ends) (level : List ℕ) (n : ℕ) (bx : Boxes c e l
 
 -- ---- how much is written
 
-pub most-cells : mostCells ≡ 33 * runCells
+pub most-cells : mostCells ≡ 36 * runCells
 most-cells = refl
 
 pub settle-most : {c : Columns} {e : Ends} {level : List ℕ} {n : ℕ} {known : Bool} {v : Mixed} {k : ℕ} → SettleWrites c e level n known v k → k ≤ mostCells

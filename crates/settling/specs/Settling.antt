@@ -6,7 +6,7 @@
 --   Tried c e level n P v     P is feasible, and v what its filling is worth
 --   BestAt c e marks f        the filling of the ends f is one, and worth its bound
 --   Best c e level n P        the filling of P is an optimal point of the box
---   mostCells                 the most cells that are written for any box: those of 33 runs
+--   mostCells                 the most cells that are written for any box: those of 36 runs
 --   SettleWrites c e level n known v k   k cells are written for a box where the value v is known: those of its bound, and of the first point of a frame
 --   Settles c e level n r     the place of r is best, or nothing in the box is feasible; and few cells were written for it
 use mathlib.Core.Path.{_≡_}
@@ -75,7 +75,7 @@ pub record Best (c : Columns) (e : Ends) (level : List ℕ) (n : ℕ) (P : ℕ �
 
 -- one run for each of 17 frames, and one for each of 16 groups of keys (proofs/Best, most-cells, settle-most)
 abbrev pub mostCells : ℕ
-mostCells = 3133397487
+mostCells = 3418251804
 
 pub data SettleWrites (c : Columns) (e : Ends) (level : List ℕ) (n : ℕ) (known : Bool) (v : Mixed) : ℕ → Type 0 where
   empty : fill c e .room <ℤ pos 0 → SettleWrites c e level n known v 0

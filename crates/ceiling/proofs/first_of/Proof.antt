@@ -8,7 +8,7 @@ use lib.Signed.{_≤ℤ_, _<ℤ_}
 use Rattle.arith.proofs.Integers.{split, zed}
 use Rattle.scales.specs.Filling.{Bounds}
 use Rattle.fillings.specs.Ranges.{itemsIn}
-use Rattle.fillings.specs.Runs.{FirstAt}
+use Rattle.fillings.specs.Foremost.{FirstAt}
 use Rattle.arith.proofs.Parts.{impossible}
 use Rattle.ceiling.specs.Least.{fit, unfit}
 use Rattle.ceiling.proofs.Lists.{pieces-fair, pieces-keyable, listing-items}

@@ -4,15 +4,17 @@ use mathlib.Core.Path.{_≡_, refl, _∙_, sym}
 use mathlib.Core.Bool.{true, false}
 use Prim.Native.Nat.{ℕ, _+_, _-_, _*_, _≤_}
 use lib.ListN.{length}
-use Rattle.fillings.specs.Runs.{runCells, Gone, begun, onward, found, lacking}
-use Rattle.fillings.proofs.Foremost.{Sought, sought-first, sought-none, sought-more, sought-step, sought-done}
+use Rattle.fillings.specs.Runs.{runCells}
+use Rattle.fillings.specs.Leaps.{Sought}
+use Rattle.fillings.specs.Foremost.{Gone, begun, onward, found, lacking}
+use Rattle.fillings.proofs.Foremost.{sought-none, sought-more, sought-step, sought-done}
 use borrow.Author.Needs.{needs}
 use Rattle.fillings.proofs.first_filling.Statement.{statement}
 use Rattle.fillings.proofs.first_filling.Tie as tie
 
 abbrev Inv-loop : tie.InvT-loop
 Inv-loop p capacity cap cells₀ r₀ written₀ from₀ cells r written from = ((length cells ≡ length cells₀) ×
-    ((written ≤ from * runCells) × Gone p capacity cap r from written)) × Sought p capacity (cap - 1) r from
+    ((written ≤ (3 + from) * runCells) × Gone p capacity cap r from written)) × Sought p capacity (cap - 1) r from
 
 abbrev μ-loop : tie.MeasureT-loop
 μ-loop p capacity cap cells₀ r₀ written₀ from₀ cells r written from = 16 - from
@@ -26,17 +28,14 @@ abbrev turn : tie.After-run-over Inv-loop μ-loop → tie.In-loop Inv-loop μ-lo
 turn ro = ro .before .before
 
 abbrev start : tie.At-loop Inv-loop μ-loop → tie.Start Inv-loop μ-loop
-start w = w .before .before .before
+start w = w .before .before .before .before .before .before .before
 
-whole-of-requires : tie.Need-whole-of-requires Inv-loop μ-loop
-whole-of-requires c κs = search needs
+leaps-requires : tie.Need-leaps-requires Inv-loop μ-loop
+leaps-requires c κs = let x = c .before .before .pre in ((x .0 .0, (x .0 .1 .0, (x .0 .1 .1 .0, x .0 .1 .1 .1 .1))), x .1)
 
 loop-holds : tie.Need-loop-holds Inv-loop μ-loop
-loop-holds c = let s = c .before .before in (
-  (refl, (omega arith, begun (c .whole-of .result) (c .whole-of .ensures))),
-  sought-first (s .args .p) (s .args .capacity) (s .args .cap) (s .pre .0 .0 .long)
-      (s .pre .0 .1 .0) (s .pre .0 .1 .1 .1 .1) (c .whole-of .result) (c .whole-of .ensures),
-)
+loop-holds c = let n = c .before .before .before .leaps in
+    ((refl, (omega (arith, n .ensures .few), begun (n .result) (n .ensures))), n .ensures .sought)
 
 run-over-requires : tie.Need-run-over-requires Inv-loop μ-loop
 run-over-requires c κs =
@@ -44,14 +43,15 @@ run-over-requires c κs =
     let s = start w in
     let l = w .loop in
     let x = s .pre .0 in
-    ((x .0, (l .inv .1 .among, (l .inv .1 .inside, (omega arith, x .1 .1 .0)))), omega (arith, l .inv .0 .0, s .pre .1))
+    let e : length (l .cells) ≡ length (s .args .cells .now) = search needs in
+    ((x .0, (l .inv .1 .heads .among, (l .inv .1 .heads .inside, (omega arith, x .1 .1 .0)))), omega (arith, e, s .pre .1))
 
 add-written : tie.Need-add-written Inv-loop μ-loop
 add-written c =
     let ro = c .before .before .before in
     let l = turn ro .before .loop in
     let n = ro .run-over in
-    omega (arith, l .inv .0 .1 .0, n .ensures .0 .few, l .inv .1 .inside)
+    omega (arith, l .inv .0 .1 .0, n .ensures .0 .few, l .inv .1 .heads .inside)
 
 same-length : tie.Need-same-length Inv-loop μ-loop
 same-length c = search needs
@@ -89,7 +89,7 @@ loop-less c =
       arith,
       t .loop-test .taken,
       sought-more (s .args .p) (s .args .capacity) (s .args .cap) (x .0 .long) (x .1 .0) (x .1 .1 .1 .1) (l .r) (l .from)
-          (l .inv .1) (n .result) (n .ensures .0) (c .before .if1 .left) (t .loop-test .taken) (x .1 .1 .1 .0),
+          (l .inv .1 .heads) (n .result) (n .ensures .0) (c .before .if1 .left) (t .loop-test .taken) (x .1 .1 .1 .0),
     )
 
 loop-again : tie.Need-loop-again Inv-loop μ-loop
@@ -102,8 +102,8 @@ loop-again c =
     let l = w .loop in
     let n = ro .run-over in
     let x = s .pre .0 in
-    let more = sought-more (s .args .p) (s .args .capacity) (s .args .cap) (x .0 .long) (x .1 .0) (x .1 .1 .1 .1) (l .r) (l .from) (l .inv .1) (n .result)
-    (n .ensures .0) (c .before .if1 .left) (t .loop-test .taken) (x .1 .1 .1 .0) in (
+    let more = sought-more (s .args .p) (s .args .capacity) (s .args .cap) (x .0 .long) (x .1 .0) (x .1 .1 .1 .1) (l .r) (l .from) (l .inv .1 .heads)
+    (n .result) (n .ensures .0) (c .before .if1 .left) (t .loop-test .taken) (x .1 .1 .1 .0) in (
       (
         search needs,
         (
@@ -112,11 +112,11 @@ loop-again c =
         ),
       ),
       sought-step (s .args .p) (s .args .capacity) (s .args .cap) (x .0 .long) (x .1 .0)
-          (x .1 .1 .1 .1) (l .r) (l .from) (l .inv .1) (n .result) (n .ensures .0) (c .before .if1 .left) more,
+          (x .1 .1 .1 .1) (l .r) (l .from) (l .inv .1 .heads) (n .result) (n .ensures .0) (c .before .if1 .left) (omega (arith, more)),
     )
 
 same-length-2 : tie.Need-same-length-2 Inv-loop μ-loop
-same-length-2 c = c .before .before .loop .inv .0 .0
+same-length-2 c = search needs
 
 returns-2 : tie.Need-returns-2 Inv-loop μ-loop
 returns-2 c =
@@ -125,7 +125,7 @@ returns-2 c =
     let l = w .loop in
     let x = s .pre .0 in
     record {
-      few = omega (arith, l .inv .0 .1 .0, l .inv .1 .inside);
+      few = omega (arith, l .inv .0 .1 .0, l .inv .1 .heads .inside);
       writes = found (l .r) (l .from) (l .written) (l .inv .0 .1 .1) (omega (arith, c .before .loop-test .left));
       found = λ e. sought-done (s .args .p) (s .args .capacity) (s .args .cap) (x .0 .long) (x .1 .0) (x .1 .1 .1 .1) (l .r) (l .from)
           (omega (arith, c .before .loop-test .left)) (l .inv .1);
@@ -138,7 +138,7 @@ first-filling-spec =
     (tie.spec
     Inv-loop
     μ-loop
-    whole-of-requires
+    leaps-requires
     loop-holds
     run-over-requires
     add-written

@@ -71,7 +71,7 @@ returns : tie.Need-returns Inv-loop μ-loop
 returns c =
     let l = c .before .loop in
     let e : l .k ≡ length (c .before .before .args .t1 .weight) = omega (arith, c .before .before .pre .0 .long) in
-    rw e at (l .inv .1)
+    (rw e at (l .inv .1), omega (arith, l .inv .0 .1))
 
 pub low-load-spec : {M : Type 1} → statement M
 low-load-spec =

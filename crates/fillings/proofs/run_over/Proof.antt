@@ -79,7 +79,7 @@ returns-2 c =
     let x = s .pre .0 in
     let m = g .remaining in
     let n = h .narrowed in
-    let over : a .capacity < load (itemsIn (a .p)) (num (n .result .low)) = omega (arith, c .before .before .low-load .ensures) in
+    let over : a .capacity < load (itemsIn (a .p)) (num (n .result .low)) = omega (arith, c .before .before .low-load .ensures .0) in
     rw (c .nothing2 .ensures) (
       runs-none (a .p) (a .r) (a .capacity) (a .cap) (a .from) (a .end) 0 (omega arith)
           (too-heavy (a .p) (a .r) (n .result) (a .capacity) (a .cap) (m .result) (x .0 .long) (x .1 .0) (m .ensures) (omega arith) (n .ensures) over),
@@ -104,7 +104,7 @@ keyed-run-requires c κs =
         cap-in = x .1 .1 .1 .1;
         left-is = omega (arith, m .ensures, near-offset (a .p) (a .r) (n .result) _ (x .0 .long) (x .1 .0) (n .ensures));
         left≥1 = omega arith;
-        room-is = omega (arith, c .before .before .low-load .ensures);
+        room-is = omega (arith, c .before .before .low-load .ensures .0);
       },
       s .pre .1,
     )
@@ -127,7 +127,7 @@ returns-3 c =
     let k = c .before .before .keyed-run in (
       runs-wider (a .p) (a .r) (n .result) (a .capacity) (a .cap) (a .from) (a .end) (m .result) (k .result) (x .0 .long) (x .1 .0)
           (x .1 .1 .0) (omega (arith, x .1 .1 .1 .0)) (m .ensures) (omega (arith, i .if1 .left)) (n .ensures) (k .ensures .0),
-      scaled (n .result) (a .capacity - low .result) (k .result .written) (near g .0) (near g .1) (omega (arith, low .ensures)) (k .ensures .1),
+      scaled (n .result) (a .capacity - low .result) (k .result .written) (near g .0) (near g .1) (omega (arith, low .ensures .0)) (k .ensures .1),
     )
 
 pub run-over-spec : {M : Type 1} → statement M

@@ -1,14 +1,15 @@
 -- `firsts::first_point` meets its contract: the frames before t are led.
 use mathlib.Core.Path.{_≡_, refl, sym, subst}
-use Prim.Native.Nat.{_-_, _≤_}
+use mathlib.Core.Logic.{inl, inr}
+use Prim.Native.Nat.{ℕ, _+_, _-_, _≤_}
 use native.Mathlib.Omega.{arith}
 use lib.ListN.{length}
 use borrow.Author.Needs.{needs}
 use Rattle.greedy.specs.Fill.{at, fill, bound}
 use Rattle.setting.specs.Box.{Long}
-use Rattle.firsts.specs.Leading.{Tying, IsWorth, endsAt, LossOf, Led, LeadWrites, begun, onward}
+use Rattle.firsts.specs.Leading.{Tying, IsWorth, endsAt, LossOf, Led, LeadWrites, begun, onward, LastWrites, PointWrites}
 use Rattle.firsts.proofs.Worth.{worth-made}
-use Rattle.firsts.proofs.Leading.{led-first, led-done}
+use Rattle.firsts.proofs.Leading.{led-first, led-done, led-short}
 use Rattle.firsts.proofs.first_point.Statement.{statement}
 use Rattle.firsts.proofs.first_point.Tie as tie
 
@@ -114,52 +115,80 @@ loop-again c =
 all-frames : (e : tie.After-loop Inv-loop μ-loop) → e .before .loop .t ≡ ordered (e .before .before) .tied .result .live
 all-frames e = omega (arith, e .loop-test .left, e .before .loop .inv .0)
 
-tried-requires : tie.Need-tried-requires Inv-loop μ-loop
-tried-requires c κs =
-    let l = c .before .before in
-    let k = l .before in
+-- the lead there
+led : (e : tie.After-loop Inv-loop μ-loop) → let k = e .before .before in let c = ordered k .tied .result in
+    Led (start k .args .s) c (lossed k .loss-of .result) (c .live) (e .before .loop .b)
+led e =
+    let k = e .before .before in
+    subst (λ u. Led (start k .args .s) (ordered k .tied .result) (lossed k .loss-of .result) u (e .before .loop .b)) (all-frames e)
+    (e .before .loop .inv .1 .1 .0)
+
+-- what is written, by what is written for the last frame
+told : (e : tie.After-loop Inv-loop μ-loop) (n : ℕ) → let k = e .before .before in let a = start k .args in
+    LastWrites (ordered k .tied .result) (a .s .ends) (wholed k .wholes .result) (lossed k .loss-of .result) (e .before .loop .b .written) n
+    → PointWrites (a .s) (at (a .x)) n
+told e n h =
+    let k = e .before .before in
     let o = lossed k in
     let t = ordered k in
-    let s = start k in (
-      (
-        tying t,
-        (
-          o .loss-of .ensures .0,
-          (
-            wholed k .wholes .ensures,
-            subst (λ u. Led (s .args .s) (t .tied .result) (o .loss-of .result) u (l .loop .b)) (all-frames (c .before))
-                (l .loop .inv .1 .1 .0),
-          ),
-        ),
-      ),
-      (omega arith, ((λ h. absurd (omega arith)), omega (arith, l .loop .inv .1 .0, s .pre .1))),
-    )
+    let s = start k .args .s in
+    record {
+      cols = t .tied .result;
+      tied = t .tied .ensures;
+      loss = o .loss-of .result;
+      losing = o .loss-of .ensures .0;
+      loss-is = loss-is o;
+      whole = wholed k .wholes .result;
+      levelled = wholed k .wholes .ensures;
+      sofar = e .before .loop .b .written;
+      frames = subst (λ u. LeadWrites (t .tied .result) (s .ends) (wholed k .wholes .result) (o .loss-of .result) u (e .before .loop .b .written))
+          (all-frames e) (e .before .loop .inv .1 .1 .1);
+      last = h;
+    }
+
+cuts-some-requires : tie.Need-cuts-some-requires Inv-loop μ-loop
+cuts-some-requires c κs = tying (ordered (c .before .before))
 
 same-length : tie.Need-same-length Inv-loop μ-loop
 same-length c = search needs
 
 returns : tie.Need-returns Inv-loop μ-loop
 returns c =
-    let r = c .before .before in
-    let e = r .before .before in
+    let e = c .before .before in
     let k = e .before .before in
-    let o = lossed k in
     let t = ordered k in
-    let s = start k .args .s in (
-      led-done s (t .tied .result) (tying t) (o .loss-of .result) (r .tried .result) (r .tried .ensures .0),
-      record {
-        cols = t .tied .result;
-        tied = t .tied .ensures;
-        loss = o .loss-of .result;
-        losing = o .loss-of .ensures .0;
-        loss-is = loss-is o;
-        whole = wholed k .wholes .result;
-        levelled = wholed k .wholes .ensures;
-        sofar = e .before .loop .b .written;
-        frames = subst (λ u. LeadWrites (t .tied .result) (s .ends) (wholed k .wholes .result) (o .loss-of .result) u (e .before .loop .b .written))
-            (all-frames e) (e .before .loop .inv .1 .1 .1);
-        last = r .tried .ensures .1;
-      },
+    let some = c .before .cuts-some .ensures .some (c .if1 .taken) in (
+      led-short (start k .args .s) (t .tied .result) (tying t) (lossed k .loss-of .result) (e .before .loop .b) (t .tied .result .live) (led e)
+          (wholed k .wholes .result) (wholed k .wholes .ensures) refl some,
+      told e (e .before .loop .b .written) (inl (some, refl)),
+    )
+
+tried-requires : tie.Need-tried-requires Inv-loop μ-loop
+tried-requires c κs =
+    let e = c .before .before .before in
+    let l = e .before in
+    let k = l .before in (
+      (tying (ordered k), (lossed k .loss-of .ensures .0, (wholed k .wholes .ensures, led e))),
+      (omega arith, ((λ h. absurd (omega arith)), omega (arith, l .loop .inv .1 .0, start k .pre .1))),
+    )
+
+same-length-2 : tie.Need-same-length-2 Inv-loop μ-loop
+same-length-2 c = search needs
+
+-- from the last frame, back to the test before it
+abbrev test : tie.After-tried Inv-loop μ-loop → tie.Else1 Inv-loop μ-loop
+test r = r .before .before
+
+returns-2 : tie.Need-returns-2 Inv-loop μ-loop
+returns-2 c =
+    let r = c .before .before in
+    let d = test r in
+    let e = d .before .before in
+    let k = e .before .before in
+    let t = ordered k in (
+      led-done (start k .args .s) (t .tied .result) (tying t) (lossed k .loss-of .result) (r .tried .result) (t .tied .result .live + 1)
+          (r .tried .ensures .0) refl,
+      told e (r .tried .result .written) (inr (d .before .cuts-some .ensures .none (d .if1 .left), r .tried .ensures .1)),
     )
 
 pub first-point-spec : {M : Type 1} → statement M
@@ -178,6 +207,9 @@ first-point-spec =
     add-t
     loop-less
     loop-again
-    tried-requires
+    cuts-some-requires
     same-length
-    returns)
+    returns
+    tried-requires
+    same-length-2
+    returns-2)
