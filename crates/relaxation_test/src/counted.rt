@@ -6,10 +6,12 @@ use crate::lending::Sheet;
 use crate::lending::relaxed;
 use crate::line::print_line;
 use crate::order::is_ordered;
+use crate::sheets::DrawnSheet;
 use crate::sheets::drawn_sheet;
 use crate::sheets::large;
 use crate::sheets::loosened;
 use crate::sheets::record_of;
+use crate::sheets::with_drawn_lines;
 use branching::plan;
 use knapsack::Answer;
 use trials::draw::Spans;
@@ -94,15 +96,27 @@ fn tried(t: Tally, s: Sheet, n: usize) -> Tally
 
 // ---- many
 
+// The next sheet; with needs where among is above 0.
+fn next_sheet(state: u64, n: usize, among: u64, z: Spans) -> DrawnSheet
+    requires { ⌜ n ≤ 15 ⌝ }
+    ensures { λ r. ⌜ r .sheet .count ≤ 18 ⌝ }
+{
+    let d = drawn_sheet(state, n, z);
+    if among == 0 {
+        return d;
+    }
+    with_drawn_lines(d, among)
+}
+
 // What so many sheets of n items each come to.
-fn tally_of(seed: u64, sheets: u64, n: usize, z: Spans) -> Tally
+fn tally_of(seed: u64, sheets: u64, n: usize, among: u64, z: Spans) -> Tally
     requires { ⌜ n ≤ 15 ⌝ }
 {
     let mut t = no_answers();
     let mut state = seed;
     let mut k: u64 = 0;
     while k < sheets {
-        let d = drawn_sheet(state, n, z);
+        let d = next_sheet(state, n, among, z);
         let s = d.sheet;
         t = tried(t, s, n);
         state = d.state;
@@ -114,8 +128,16 @@ fn tally_of(seed: u64, sheets: u64, n: usize, z: Spans) -> Tally
 fn counted(name: &[u8], seed: u64, sheets: u64, n: usize, z: Spans)
     requires { ⌜ n ≤ 15 ⌝ }
 {
-    let t = tally_of(seed, sheets, n, z);
+    let t = tally_of(seed, sheets, n, 0, z);
     print_tally(name, seed, sheets, n, t);
+}
+
+// With needs: of among + 1 pairs of items about one.
+fn counted_needs(name: &[u8], seed: u64, n: usize, among: u64, z: Spans)
+    requires { ⌜ n ≤ 15 ⌝ }
+{
+    let t = tally_of(seed, 1000, n, among, z);
+    print_tally(name, seed, 1000, n, t);
 }
 
 fn bounded_sheets() {
@@ -142,8 +164,18 @@ fn open_sheets() {
     counted(b"open", 75, 2000, 5, small(1, 2));
 }
 
+fn needing_sheets() {
+    counted_needs(b"needs", 81, 2, 1, small(0, 2));
+    counted_needs(b"needs", 82, 3, 2, small(0, 2));
+    counted_needs(b"needs", 83, 4, 5, small(0, 2));
+    counted_needs(b"needs", 84, 5, 9, small(0, 2));
+    counted_needs(b"needs, open", 85, 3, 3, small(1, 2));
+    counted_needs(b"needs, open", 86, 4, 5, small(1, 2));
+}
+
 pub fn count_sheets() {
     bounded_sheets();
     large_sheets();
     open_sheets();
+    needing_sheets();
 }

@@ -12,6 +12,7 @@ use trials::draw::drawn_item;
 use trials::draw::next;
 use trials::make::held;
 use trials::make::loose;
+use trials::needs::with_drawn_needs;
 ghost use Prim.Native.Nat.{_≤_};
 
 // ---- sheets made by hand
@@ -137,6 +138,43 @@ pub fn record_of(s: Sheet) -> Model {
         k += 1;
     }
     with_needs_of(trials::make::record_of(s.capacity, s.count, items), s)
+}
+
+// The sheet with the first 16 items and the needs of a record.
+fn with_record(s: Sheet, m: Model) -> Sheet
+    requires { ⌜ s .count ≤ 18 ⌝ }
+    ensures { λ r. ⌜ r .count ≤ 18 ⌝ }
+{
+    let list = m.items;
+    let needs = m.needs;
+    let mut items = s.items;
+    let mut k: usize = 0;
+    while k < 16 {
+        let x = list[k];
+        items[k] = x;
+        k += 1;
+    }
+    Sheet {
+        items: items,
+        count: s.count,
+        capacity: s.capacity,
+        needs: needs,
+    }
+}
+
+// A drawn sheet with needs drawn for it: of among + 1 pairs of items about one. Items that are named are made fit for it.
+pub fn with_drawn_lines(d: DrawnSheet, among: u64) -> DrawnSheet
+    requires { ⌜ d .sheet .count ≤ 18 ⌝ }
+    ensures { λ r. ⌜ r .sheet .count ≤ 18 ⌝ }
+{
+    let s = d.sheet;
+    let e = with_drawn_needs(record_of(s), d.state, among);
+    let m = e.problem;
+    let sheet = with_record(s, m);
+    DrawnSheet {
+        sheet: sheet,
+        state: e.state,
+    }
 }
 
 fn with_needs_of(p: Model, s: Sheet) -> Model {

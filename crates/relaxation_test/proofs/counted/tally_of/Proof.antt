@@ -5,10 +5,10 @@ use Rattle.relaxation_test.proofs.counted.tally_of.Statement.{statement
 use Rattle.relaxation_test.proofs.counted.tally_of.Tie as tie
 
 abbrev Inv-loop : tie.InvT-loop
-Inv-loop seed sheets n z t₀ state₀ k₀ t state k = Unit {0}
+Inv-loop seed sheets n among z t₀ state₀ k₀ t state k = Unit {0}
 
 abbrev μ-loop : tie.MeasureT-loop
-μ-loop seed sheets n z t₀ state₀ k₀ t state k = sheets - k
+μ-loop seed sheets n among z t₀ state₀ k₀ t state k = sheets - k
 
 no-answers-requires : tie.Need-no-answers-requires Inv-loop μ-loop
 no-answers-requires c κs = search needs
@@ -16,8 +16,8 @@ no-answers-requires c κs = search needs
 loop-holds : tie.Need-loop-holds Inv-loop μ-loop
 loop-holds c = search needs
 
-drawn-sheet-requires : tie.Need-drawn-sheet-requires Inv-loop μ-loop
-drawn-sheet-requires c κs = search needs
+next-sheet-requires : tie.Need-next-sheet-requires Inv-loop μ-loop
+next-sheet-requires c κs = search needs
 
 tried-requires : tie.Need-tried-requires Inv-loop μ-loop
 tried-requires c κs = search needs
@@ -42,7 +42,7 @@ tally-of-spec =
     μ-loop
     no-answers-requires
     loop-holds
-    drawn-sheet-requires
+    next-sheet-requires
     tried-requires
     add-k
     loop-less
