@@ -60,8 +60,12 @@ module _ (m : Model) (a : Answer) (size : length (a .point) ≡ 16) (fair : verd
     counted = refl;
     amounts = record {
       good = λ k l. rw (← same k l)
-        (record { some = shown .divisor k l; few = shown-few (plainOf m) (amountAt a) (accepted m fair .figures) shown k l;
-          lowest = shown .lowest k l; near = shown .small k l });
+          (record {
+            some = shown .divisor k l;
+            few = shown-few (plainOf m) (amountAt a) (accepted m fair .figures) shown k l;
+            lowest = shown .lowest k l;
+            near = shown .small k l;
+          });
       single = λ j k l n g h. shown .single j k l n (whole j l g) (whole k n h);
     };
   }
@@ -92,7 +96,7 @@ module _ (m : Model) (a : Answer) (size : length (a .point) ≡ 16) (fair : verd
       let y = frac (a .value .p) (a .value .q) in
       let w = value (asked m) (pointOf a) in
       let e : x ≈ᶠ w = subst (λ z. x ≈ᶠ z)
-          (sym (same-total (asked m) (pointOf a) (proposedPoint (shownBy m a)) agree (λ k. asked m .item k .price))) (t .exact) in
+      (sym (same-total (asked m) (pointOf a) (proposedPoint (shownBy m a)) agree (λ k. asked m .item k .price))) (t .exact) in
       same-fraction v (a .value) (t .divisor) (o .divisor) (t .lowest) (o .lowest)
       (≤ᶠ-antisym x y (≤ᶠ-trans x w y (≈ᶠ-≤ x w e) (≈ᶠ-≥ y w (o .exact))) (≤ᶠ-trans y w x (≈ᶠ-≤ y w (o .exact)) (≈ᶠ-≥ x w e)))
 
