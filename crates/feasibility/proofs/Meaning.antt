@@ -152,7 +152,8 @@ module _ (m : Model) (c : Candidate) (d : ℕ) (asked : Proposed m c) (s : Divid
     where
       go : (n : ℕ) → Found (m .count) (plainOf m) c n →
           Told m c (afterItems (earlierOf n (firstLacking (m .needs .count) (m .needs) c)) weighed)
-      go n (none h) = by-needs (λ k l. kept k l .0 (h k l)) _ (lacking (m .needs .count) (m .needs) c (λ j l. asked .admissible .needs j l .numbers .first-least))
+      go n (none h) = by-needs (λ k l. kept k l .0 (h k l)) _
+          (lacking (m .needs .count) (m .needs) c (λ j l. asked .admissible .needs j l .numbers .first-least))
       go n (first k l e h) = inl (record {
         proposed = asked;
         item = l;

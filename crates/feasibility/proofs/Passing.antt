@@ -59,7 +59,13 @@ module _ (m : Model) (a : Answer) (size : length (a .point) ≡ 16) (fair : verd
     admissible = accepted m fair;
     counted = refl;
     amounts = record {
-      good = λ k l. rw (← same k l) (record { some = shown .divisor k l; few = shown-few (plainOf m) (amountAt a) (accepted m fair .figures) shown k l; lowest = shown .lowest k l; near = shown .small k l });
+      good = λ k l. rw (← same k l)
+          (record {
+            some = shown .divisor k l;
+            few = shown-few (plainOf m) (amountAt a) (accepted m fair .figures) shown k l;
+            lowest = shown .lowest k l;
+            near = shown .small k l;
+          });
       single = λ j k l n g h. shown .single j k l n (whole j l g) (whole k n h);
     };
   }
@@ -89,17 +95,20 @@ module _ (m : Model) (a : Answer) (size : length (a .point) ≡ 16) (fair : verd
       let x = frac (v .p) (v .q) in
       let y = frac (a .value .p) (a .value .q) in
       let w = value (asked m) (pointOf a) in
-      let e : x ≈ᶠ w = subst (λ z. x ≈ᶠ z) (sym (same-total (asked m) (pointOf a) (proposedPoint (shownBy m a)) agree (λ k. asked m .item k .price))) (t .exact) in
+      let e : x ≈ᶠ w = subst (λ z. x ≈ᶠ z)
+      (sym (same-total (asked m) (pointOf a) (proposedPoint (shownBy m a)) agree (λ k. asked m .item k .price))) (t .exact) in
       same-fraction v (a .value) (t .divisor) (o .divisor) (t .lowest) (o .lowest)
       (≤ᶠ-antisym x y (≤ᶠ-trans x w y (≈ᶠ-≤ x w e) (≈ᶠ-≥ y w (o .exact))) (≤ᶠ-trans y w x (≈ᶠ-≤ y w (o .exact)) (≈ᶠ-≥ x w e)))
 
 -- ---- every answer that is Planned
 
 -- an answer that is no refusal answers an accepted record
-answers : (m : Model) (a : Answer) (k : Kind) → Planned m a → a .kind ≡ k → ((f : Refusal) → k ≡ kind.Refused f → ⊥) → (verdict m ≡ Accepted) × AnswersAsNeeds (asked m) (needsOf (m .needs)) a k
+answers : (m : Model) (a : Answer) (k : Kind) → Planned m a → a .kind ≡ k → ((f : Refusal) → k ≡ kind.Refused f → ⊥) →
+    (verdict m ≡ Accepted) × AnswersAsNeeds (asked m) (needsOf (m .needs)) a k
 answers m a k p e n = go (verdict m) refl (p .replies)
   where
-    go : (v : Verdict) → verdict m ≡ v → RepliesAs (asked m) (needsOf (m .needs)) a v → (verdict m ≡ Accepted) × AnswersAsNeeds (asked m) (needsOf (m .needs)) a k
+    go : (v : Verdict) → verdict m ≡ v → RepliesAs (asked m) (needsOf (m .needs)) a v →
+        (verdict m ≡ Accepted) × AnswersAsNeeds (asked m) (needsOf (m .needs)) a k
     go Accepted h r = (h, subst (AnswersAsNeeds (asked m) (needsOf (m .needs)) a) e r)
     go (Refused f) h r = absurd (n f (sym e ∙ ap (λ (z : Answer). z .kind) r))
 

@@ -1,5 +1,5 @@
-// Point check: whether a proposed point is feasible, and what it is worth. Paper 01, "Parts that stand in public", rows 7 and 8 of "Refused, by place"; paper 02,
-// request 7.
+// Point check: whether a proposed point is feasible, and what it is worth. Paper 01, "Parts that stand in public", rows 7 and 8 of "Refused, by place";
+// paper 02, request 7.
 // Once nothing is refused at most one amount has a divisor above 1; over that divisor every amount is an integer, and so are the sums of
 // weights and prices, below 2 · 10^17. What a reply says is `Told` in specs/Check, which the entry promises (proofs/Meaning).
 use arith::Fraction;

@@ -60,8 +60,10 @@ module _ (m o : Model) (e : Agree m o) where
       go false h =
           let n = line-numbers (held (m .count)) (lineBefore (m .needs) j) (needAt (m .needs) j) h in
           let few = held-few (m .count) in
-          let i : itemAt m (needAt (m .needs) j .item - 1) ≡ itemAt o (needAt (m .needs) j .item - 1) = e .items _ (omega (arith, n .first-least, n .first-most)) in
-          let c : itemAt m (needAt (m .needs) j .cover - 1) ≡ itemAt o (needAt (m .needs) j .cover - 1) = e .items _ (omega (arith, n .second-least, n .second-most)) in
+          let i : itemAt m (needAt (m .needs) j .item - 1) ≡ itemAt o (needAt (m .needs) j .item - 1) =
+          e .items _ (omega (arith, n .first-least, n .first-most)) in
+          let c : itemAt m (needAt (m .needs) j .cover - 1) ≡ itemAt o (needAt (m .needs) j .cover - 1) =
+          e .items _ (omega (arith, n .second-least, n .second-most)) in
           rw (i, c)
 
   lines-same : (n : ℕ) → n ≤ m .needs .count → needsVerdict n m ≡ needsVerdict n o
@@ -76,8 +78,9 @@ module _ (m o : Model) (e : Agree m o) where
       let b : m .capacity ≡ o .capacity = e .capacity in
       let t : m .needs .count ≡ o .needs .count = e .need-count in
       let i : someItem (held (m .count)) (itemAt m) badFigure ≡ someItem (held (m .count)) (itemAt o) badFigure =
-          some-same (held (m .count)) (itemAt m) (itemAt o) badFigure (λ k l. e .items k (omega (arith, held-few (m .count)))) in
-      let n : needsVerdict (held (m .needs .count)) m ≡ needsVerdict (held (m .needs .count)) o = lines-same (held (m .needs .count)) (held-few (m .needs .count)) in
+      some-same (held (m .count)) (itemAt m) (itemAt o) badFigure (λ k l. e .items k (omega (arith, held-few (m .count)))) in
+      let n : needsVerdict (held (m .needs .count)) m ≡ needsVerdict (held (m .needs .count)) o =
+      lines-same (held (m .needs .count)) (held-few (m .needs .count)) in
       rw (n, i, c, b, t)
 
   pub beyond-needs : needsOf (m .needs) ≡ needsOf (o .needs)

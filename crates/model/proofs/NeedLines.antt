@@ -1,6 +1,7 @@
 -- Laws of lines of needs.
 -- numbers-iff, rises-iff, fit-iff: the tests of two item numbers, of the order of lines and of an item that a need names, and what they say.
--- before-next: the line before the next is the line itself. line-numbers: a line that row 5 does not refuse has two item numbers. good-line, line-good: a line is not refused exactly if it is good.
+-- before-next: the line before the next is the line itself. line-numbers: a line that row 5 does not refuse has two item numbers.
+-- good-line, line-good: a line is not refused exactly if it is good.
 -- needs-in, needs-from: the needs of a record are its lines, by places. needs-cong: lines that agree give the same needs.
 use mathlib.Core.Path.{_≡_, refl, sym, ap₂, _∙_, subst}
 use mathlib.Core.Bool.{Bool, true, false, cond}

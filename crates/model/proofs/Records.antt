@@ -131,7 +131,8 @@ pub record Unfaulted (m : Model) : Type 0 where
   pub capacity : outside 100000000 (m .capacity) ≡ false
   pub figures : Each (m .count) (λ k. badFigure (itemAt m k) ≡ false)
   pub few-needs : m .needs .count ≤ 16
-  pub needs : Each (m .needs .count) (λ j. (badLine (m .count) (lineBefore (m .needs) j) (needAt (m .needs) j) ≡ false) × (unfitLine (itemAt m) (needAt (m .needs) j) ≡ false))
+  pub needs : Each (m .needs .count)
+      (λ j. (badLine (m .count) (lineBefore (m .needs) j) (needAt (m .needs) j) ≡ false) × (unfitLine (itemAt m) (needAt (m .needs) j) ≡ false))
 
 -- with a good count all are tried
 pub held-all : (n : ℕ) → n ≤ 16 → held n ≡ n

@@ -25,7 +25,8 @@ use lib.ListN.{replicate}
 use lib.Signed.{_≤ℤ_}
 use Rattle.arith.specs.Fractions.{int, frac, _≤ᶠ_, _<ᶠ_, _≈ᶠ_}
 use Rattle.arith.specs.Gcd.{gcdOf}
-use Rattle.knapsack.specs.Meaning.{Instance, Point, value, Feasible, stepped, Unbounded, nought, Shown, ShownSteps, amountAt, pointOf, stepsOf, bare, Earlier, AllLower}
+use Rattle.knapsack.specs.Meaning.{Instance, Point, value, Feasible, stepped, Unbounded, nought, Shown}
+use Rattle.knapsack.specs.Meaning.{ShownSteps, amountAt, pointOf, stepsOf, bare, Earlier, AllLower}
 use Rattle.knapsack.specs.declared.Answer.{Answer}
 use Rattle.knapsack.specs.declared.Bound.{Bound}
 use Rattle.knapsack.specs.declared.Bound.the-variants.{Absent, At}

@@ -20,7 +20,9 @@ y-fits : (s : tie.Start) → mag (s .args .y .p) < 2 ^ 63
 y-fits s = search needs
 
 abbrev start : tie.After-size2 → tie.Start
-start b = b .before .before .before .before
+start b =
+    let at-size = b .before in
+    at-size .before .before .before
 
 -- the sizes
 m-is : (b : tie.After-size2) → b .before .size .result ≡ natAbs (start b .args .x .p)

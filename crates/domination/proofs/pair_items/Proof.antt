@@ -24,9 +24,13 @@ is-eligible-requires c κs = search needs
 is-eligible-requires-2 : tie.Need-is-eligible-requires-2
 is-eligible-requires-2 c κs = search needs
 
+-- the moments that are spoken of below
+abbrev start : tie.After-is-eligible2 → tie.Start
+start c = c .before .before .before
+
 pair-of-requires : tie.Need-pair-of-requires
 pair-of-requires c κs =
-    let s = c .before .before .before .before in
+    let s = start (c .before) in
     let p = sym (c .before .before .before .is-eligible .ensures) ∙ c .before .before .if1 .taken in
     let q = sym (c .before .is-eligible2 .ensures) ∙ c .if2 .taken in (
       record { in-range = s .pre .0; is-eligible = eligible-iff (s .args .x) .0 p },
@@ -39,7 +43,8 @@ pair-of-requires c κs =
 returns : tie.Need-returns
 unfolding paired
 returns c =
-    let at-is-eligible = c .before .before .before .before in
+    let at-then1 = c .before .before .before in
+    let at-is-eligible = at-then1 .before in
     let p = sym (at-is-eligible .is-eligible .ensures) ∙ c .before .before .before .if1 .taken in
     let q = sym (c .before .before .is-eligible2 .ensures) ∙ c .before .if2 .taken in
     rw (p, q, c .pair-of .ensures)

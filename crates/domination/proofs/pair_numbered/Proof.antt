@@ -39,9 +39,13 @@ mul-y c = omega (arith, numbers (c .before), c .before .before .before .pre .few
 element-copy-out-y : tie.Need-element-copy-out-y
 element-copy-out-y c = omega (arith, numbers (c .before), c .before .before .before .pre .few-items)
 
+-- the moments that are spoken of below
+abbrev after-are-wrong : tie.After-y → tie.After-are-wrong
+after-are-wrong c = c .before .before .before
+
 pair-items-requires : tie.Need-pair-items-requires
 pair-items-requires c κs =
-    let s = c .before .before .before .before in
+    let s = after-are-wrong c .before in
     let n = numbers (c .before .before) in
     let a = s .pre in
     (a .items-in _ (omega arith), a .items-in _ (omega arith))
@@ -49,7 +53,7 @@ pair-items-requires c κs =
 returns-2 : tie.Need-returns-2
 unfolding numbered
 returns-2 c =
-    let at-are-wrong = c .before .before .before .before in
+    let at-are-wrong = after-are-wrong (c .before) in
     let p = sym (at-are-wrong .are-wrong .ensures) ∙ c .before .before .before .if1 .left in rw p (c .pair-items .ensures)
 
 pub pair-numbered-spec : {M : Type 1} → statement M

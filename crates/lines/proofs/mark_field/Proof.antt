@@ -35,7 +35,8 @@ returns c = rw (sym (c .before .before .before .after-word .ensures) ∙ c .befo
 returns-2 : tie.Need-returns-2
 unfolding markAt
 returns-2 c =
-    let k = c .before .before .before .before .before in
+    let at-after-word2 = c .before .before .before in
+    let k = at-after-word2 .before .before in
     rw (
       sym (k .before .before .after-word .ensures) ∙ k .enum-told .given .1,
       sym (c .before .before .before .after-word2 .ensures) ∙ c .before .l .given .1,
@@ -44,7 +45,8 @@ returns-2 c =
 returns-3 : tie.Need-returns-3
 unfolding markAt
 returns-3 c =
-    let k = c .before .before .before .before in
+    let at-after-word-arg2 = c .before .before .before in
+    let k = at-after-word-arg2 .before in
     rw (
       sym (k .before .before .after-word .ensures) ∙ k .enum-told .given .1,
       sym (c .before .before .after-word2 .ensures) ∙ c .enum-told2 .given .1,

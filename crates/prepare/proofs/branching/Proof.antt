@@ -35,7 +35,8 @@ element-copy-out-t16 c = search needs
 
 returns-2 : tie.Need-returns-2
 returns-2 c =
-    let f = c .before .before .before .before .before .before in
+    let at-else1 = c .before .before .before in
+    let f = at-else1 .before .before .before in
     let z = f .before .pre .columns in
     let u = f .fill-up .result .at in
     let t = rw (toZ-ofZ (room-fits f)) at (c .before .before .before .if1 .left) in
@@ -43,7 +44,8 @@ returns-2 c =
 
 returns-3 : tie.Need-returns-3
 returns-3 c =
-    let f = c .before .before .before .before in
+    let at-else1 = c .before in
+    let f = at-else1 .before .before .before in
     let t = rw (toZ-ofZ (room-fits f)) at (c .before .if1 .left) in
     rw (sym (f .fill-up .ensures), t, le-ltb _ _ (c .if2 .left))
 

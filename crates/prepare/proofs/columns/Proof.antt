@@ -44,28 +44,34 @@ inverse-requires c κs = permuted (c .before .before)
 table-requires-3 : tie.Need-table-requires-3
 table-requires-3 c κs = in-order (c .before .before .before)
 
+-- the moments that are spoken of below
+abbrev after-ranking-by : tie.After-inverse → tie.After-ranking-by
+after-ranking-by c = c .before .before .before
+
+abbrev after-inverse : tie.After-leading → tie.After-inverse
+after-inverse c = c .before .before .before
+
+abbrev after-table2 : tie.After-struct-told → tie.After-table2
+after-table2 c = after-inverse (c .before) .before
+
 table-requires-4 : tie.Need-table-requires-4
 table-requires-4 c κs =
-    let s = c .before .before .before .before in
+    let s = after-ranking-by (c .before) in
     in-order s
 
 leading-requires : tie.Need-leading-requires
 leading-requires c κs =
-    let s = c .before .before .before .before .before in
+    let s = after-ranking-by (c .before .before) in
     in-order s
-
--- the moments that are spoken of below
-abbrev after-table2 : tie.After-struct-told → tie.After-table2
-after-table2 c = c .before .before .before .before .before
 
 returns : tie.Need-returns
 returns c =
-    let at-inverse = c .before .before .before .before in
-    let o = c .before .before .before .before .before .before .before in
+    let at-inverse = after-inverse (c .before) in
+    let o = at-inverse .before .before .before in
     let s = o .before .before in
     let items = o .before .all-places in
     let fits : SFits w64 (s .args .p .capacity) = search needs in
-    let t = c .before .before .before .before .before .before in
+    let t = at-inverse .before .before in
     record {
       count = refl;
       capacity = toZ-ofZ fits;

@@ -41,26 +41,29 @@ table-requires-2 : tie.Need-table-requires-2
 table-requires-2 c κs = search needs
 
 -- the moments that are spoken of below
-abbrev start-by-table : tie.After-table → tie.Start
-start-by-table c = c .before .before .before .before .before
+abbrev start-of-known : tie.After-struct-known → tie.Start
+start-of-known c = c .before .before .before
 
-abbrev start-by-table2 : tie.After-table2 → tie.Start
-start-by-table2 c = c .before .before .before .before .before .before
+abbrev start-of-table : tie.After-table → tie.Start
+start-of-table c = start-of-known (c .before .before)
+
+abbrev start-of-table2 : tie.After-table2 → tie.Start
+start-of-table2 c = start-of-table (c .before)
 
 -- the tables, as columns of the levels
-weights : (c : tie.After-table) → entry (c .table .result) ≡ column (start-by-table c .args .n)
-    (λ u. listed (start-by-table c .args .p) (start-by-table c .args .level) u .weight)
-weights c = let s = start-by-table c in tabled-column (s .args .n) (λ u. figureOf Weight (listed (s .args .p) (s .args .level) u))
+weights : (c : tie.After-table) → entry (c .table .result) ≡ column (start-of-table c .args .n)
+    (λ u. listed (start-of-table c .args .p) (start-of-table c .args .level) u .weight)
+weights c = let s = start-of-table c in tabled-column (s .args .n) (λ u. figureOf Weight (listed (s .args .p) (s .args .level) u))
     (c .table .result) (c .table .ensures)
 
-prices : (c : tie.After-table2) → entry (c .table2 .result) ≡ column (start-by-table2 c .args .n)
-    (λ u. listed (start-by-table2 c .args .p) (start-by-table2 c .args .level) u .price)
-prices c = let s = start-by-table2 c in tabled-column (s .args .n)
+prices : (c : tie.After-table2) → entry (c .table2 .result) ≡ column (start-of-table2 c .args .n)
+    (λ u. listed (start-of-table2 c .args .p) (start-of-table2 c .args .level) u .price)
+prices c = let s = start-of-table2 c in tabled-column (s .args .n)
     (λ u. figureOf Price (listed (s .args .p) (s .args .level) u)) (c .table2 .result) (c .table2 .ensures)
 
 lattices-requires : tie.Need-lattices-requires
 lattices-requires c κs =
-    let s = start-by-table2 c in
+    let s = start-of-table2 c in
     rw (weights (c .before), prices c) (items-in (s .args .p) (s .args .level) (s .args .n) (s .pre))
 
 returns-2 : tie.Need-returns-2

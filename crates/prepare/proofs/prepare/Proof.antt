@@ -13,20 +13,20 @@ use Rattle.prepare.proofs.prepare.Statement.{statement}
 use Rattle.prepare.proofs.prepare.Tie as tie
 
 -- the moments that are spoken of below
-abbrev start-by-ranking-by : tie.After-ranking-by → tie.Start
-start-by-ranking-by c = c .before .before .before .before
+abbrev start-of-bounding-box : tie.After-bounding-box → tie.Start
+start-of-bounding-box c = c .before .before
 
-abbrev start-by-leading : tie.After-leading → tie.Start
-start-by-leading c = c .before .before .before .before .before
+abbrev start : tie.After-ranking-by → tie.Start
+start c = start-of-bounding-box (c .before .before)
 
-in-order : (c : tie.After-ranking-by) → Listing (start-by-ranking-by c .args .p) (c .ranking-by .result) (start-by-ranking-by c .args .p .count)
+in-order : (c : tie.After-ranking-by) → Listing (start c .args .p) (c .ranking-by .result) (start c .args .p .count)
 in-order c =
-    let s = start-by-ranking-by c in
+    let s = start c in
     sorted-listing (s .args .p) (s .pre) (λ k. keyOf (c .before .branching .result) (itemAt (s .args .p) k)) (c .ranking-by .result) (c .ranking-by .ensures)
 
-by-level : (c : tie.After-leading) → Listing (start-by-leading c .args .p) (c .before .ranking-by .result) (c .leading .result)
+by-level : (c : tie.After-leading) → Listing (start (c .before) .args .p) (c .before .ranking-by .result) (c .leading .result)
 by-level c =
-    let s = start-by-leading c in
+    let s = start (c .before) in
     shorter-listing (s .args .p) (c .before .ranking-by .result) (c .leading .result) (s .args .p .count) (c .leading .ensures .most) (in-order (c .before))
 
 columns-requires : tie.Need-columns-requires

@@ -14,7 +14,9 @@ use Rattle.sheet.proofs.need_step.Tie as tie
 
 -- where nothing was refused as yet, and where all began
 abbrev going : tie.After-need-at → tie.After-enum-told2
-going c = c .before .before .before .before
+going c =
+    let m = c .before .before in
+    m .before .before
 
 abbrev start : tie.After-need-at → tie.Start
 start c = going c .before .before .before

@@ -46,7 +46,8 @@ bound-of-requires c κs = search needs
 
 put-bound-requires : tie.Need-put-bound-requires Inv-loop μ-loop
 put-bound-requires c κs =
-    let l = c .before .before .before .before in
+    let at-in-loop = c .before .before .before in
+    let l = at-in-loop .before in
     let s = l .before .before in
     let u = unfaulted (s .args .t4) (s .pre .1) in
     (omega (arith, few l), (omega (arith, few l), rw (c .bound-of .ensures) (fair-side (s .args .side) _ (u .figures (l .loop .k) (omega arith)))))
@@ -62,7 +63,8 @@ unfolding upTo linesText
 loop-again c =
     let p = c .before .before in
     let b = p .before in
-    let l = b .before .before .before .before in
+    let at-in-loop = b .before .before .before in
+    let l = at-in-loop .before in
     let g = puts (omega arith) (l .loop .inv .1 .1) (p .put-bound .ensures) in
     let h = rw (b .bound-of .ensures, add-one (l .loop .k)) at g in
     (omega arith, (omega arith, rw add-one (roomier (omega arith) h)))

@@ -17,11 +17,18 @@ put-natural-requires c κs = search needs
 same-length : tie.Need-same-length
 same-length c = search needs
 
+-- the moments that are spoken of below
+abbrev after-put-word : tie.After-put-byte-arg → tie.After-put-word
+after-put-word c = c .before .before .before
+
+abbrev after-put-byte : tie.After-put-natural-arg → tie.After-put-byte
+after-put-byte c = c .before .before .before
+
 returns : tie.Need-returns
 returns c =
     let n = c .before .before in
-    let b = n .before .before .before .before in
-    let w = b .before .before .before .before in
+    let b = after-put-byte (n .before) in
+    let w = after-put-word (b .before) in
     roomier (omega arith) (puts (omega arith) (puts (omega arith) (w .put-word .ensures) (b .put-byte .ensures)) (n .put-natural .ensures))
 
 pub put-heading-spec : {M : Type 1} → statement M

@@ -9,8 +9,12 @@ use borrow.Author.Needs.{needs}
 use Rattle.writer.proofs.put_item.Statement.{statement}
 use Rattle.writer.proofs.put_item.Tie as tie
 
+-- the moments that are spoken of below
+abbrev start : tie.After-struct-told2 → tie.Start
+start c = c .before .before .before
+
 figures-fit : (c : tie.After-mark-byte) →
-    let s = c .before .before .before .before .before in
+    let s = start (c .before .before) in
     SFits w64 (s .args .i .weight) × SFits w64 (s .args .i .price)
 figures-fit c = (search needs, search needs)
 
@@ -35,11 +39,15 @@ same-length c = search needs
 returns : tie.Need-returns
 returns c =
     let p = c .before .before in
-    let w = p .before .before .before .before in
-    let b = w .before .before .before .before in
-    let m = b .before .before .before .before in
+    let at-out3 = p .before .before .before in
+    let w = at-out3 .before in
+    let at-out2 = w .before .before .before in
+    let b = at-out2 .before in
+    let at-out = b .before .before .before in
+    let m = at-out .before in
     let k = m .before in
-    let s = k .before .before .before .before .before in
+    let at-told = k .before .before .before in
+    let s = at-told .before .before in
     let h = figures-fit k in
     let f = puts (omega arith) (puts (omega arith) (m .put-byte .ensures) (b .put-byte2 .ensures))
     (puts (omega arith) (w .put-integer .ensures) (p .put-integer2 .ensures)) in

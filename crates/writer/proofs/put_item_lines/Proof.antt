@@ -49,11 +49,15 @@ add-k c = omega arith
 loop-less : tie.Need-loop-less Inv-loop μ-loop
 loop-less c = omega arith
 
+-- the moments that are spoken of below
+abbrev at-loop : tie.After-put-item-arg Inv-loop μ-loop → tie.At-loop Inv-loop μ-loop
+at-loop c = c .before .before .before
+
 loop-again : tie.Need-loop-again Inv-loop μ-loop
 unfolding upTo linesText
 loop-again c =
     let p = c .before .before in
-    let l = p .before .before .before .before in
+    let l = at-loop (p .before) in
     (omega arith, (omega arith, rw add-one (roomier (omega arith) (puts (omega arith) (l .loop .inv .1 .1) (p .put-item .ensures)))))
 
 same-length : tie.Need-same-length Inv-loop μ-loop

@@ -19,11 +19,18 @@ put-item-lines-requires c κs = search needs
 same-length : tie.Need-same-length
 same-length c = search needs
 
+-- the moments that are spoken of below
+abbrev start : tie.After-put-heading-arg2 → tie.Start
+start c = c .before .before .before
+
+abbrev after-put-heading : tie.After-put-item-lines-arg → tie.After-put-heading
+after-put-heading c = c .before .before .before
+
 returns : tie.Need-returns
 returns c =
     let l = c .before .before in
-    let h = l .before .before .before .before in
-    let s = h .before .before .before .before .args in
+    let h = after-put-heading (l .before) in
+    let s = start (h .before) .args in
     rw (upto-length (s .m .count) (itemAt (s .m))) (puts (omega arith) (h .put-heading .ensures) (l .put-item-lines .ensures))
 
 pub put-items-spec : {M : Type 1} → statement M

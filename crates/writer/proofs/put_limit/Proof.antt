@@ -19,12 +19,19 @@ put-integer-requires c κs = search needs
 same-length : tie.Need-same-length
 same-length c = search needs
 
+-- the moments that are spoken of below
+abbrev start : tie.After-put-heading-arg2 → tie.Start
+start c = c .before .before .before
+
+abbrev after-put-heading : tie.After-put-integer-arg → tie.After-put-heading
+after-put-heading c = c .before .before .before
+
 returns : tie.Need-returns
 unfolding linesText
 returns c =
     let i = c .before .before in
-    let h = i .before .before .before .before in
-    let s = h .before .before .before .before in
+    let h = after-put-heading (i .before) in
+    let s = start (h .before) in
     rw (toZ-ofZ (s .fits .b)) at (puts (omega arith) (h .put-heading .ensures) (i .put-integer .ensures))
 
 pub put-limit-spec : {M : Type 1} → statement M

@@ -22,11 +22,15 @@ Inv-loop out₀ at ns n next₀ k₀ out next k =
 abbrev μ-loop : tie.MeasureT-loop
 μ-loop out₀ at ns n next₀ k₀ out next k = n - k
 
+-- the moments that are spoken of below
 abbrev start : tie.At-loop Inv-loop μ-loop → tie.Start Inv-loop μ-loop
 start c = c .before .before .before
 
+abbrev at-loop-of-need : tie.After-need Inv-loop μ-loop → tie.At-loop Inv-loop μ-loop
+at-loop-of-need c = c .before .before
+
 abbrev turn : tie.After-put-need Inv-loop μ-loop → tie.At-loop Inv-loop μ-loop
-turn c = c .before .before .before .before
+turn c = at-loop-of-need (c .before .before)
 
 -- the lines are at most as many as there are places
 few : (c : tie.At-loop Inv-loop μ-loop) → start c .args .m .needs .count ≤ 16

@@ -7,12 +7,16 @@ use borrow.Author.Needs.{needs}
 use Rattle.writer.proofs.put_needs.Statement.{statement}
 use Rattle.writer.proofs.put_needs.Tie as tie
 
--- the moments before the heading and behind it
-abbrev start : tie.After-put-heading → tie.Start
-start c = c .before .before .before .before .before
+-- the moments that are spoken of below
+abbrev after-put-heading-of-put-need-lines-arg : tie.After-put-need-lines-arg → tie.After-put-heading
+after-put-heading-of-put-need-lines-arg c = c .before .before .before
 
 abbrev heading : tie.After-put-need-lines → tie.After-put-heading
-heading c = c .before .before .before .before
+heading c = after-put-heading-of-put-need-lines-arg (c .before)
+
+-- the moments before the heading and behind it
+abbrev start : tie.After-put-heading-arg → tie.Start
+start c = c .before .before .before
 
 slice-aggregate-put-heading : tie.Need-slice-aggregate-put-heading
 slice-aggregate-put-heading c = search needs
@@ -30,7 +34,7 @@ returns : tie.Need-returns
 returns c =
     let l = c .before .before in
     let h = heading l in
-    let ns = start h .args .m .needs in
+    let ns = start (h .before .before) .args .m .needs in
     rw (upto-length (ns .count) (needAt ns)) (puts (omega arith) (h .put-heading .ensures) (l .put-need-lines .ensures))
 
 pub put-needs-spec : {M : Type 1} → statement M

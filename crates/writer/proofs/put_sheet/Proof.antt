@@ -9,23 +9,36 @@ use borrow.Author.Needs.{needs}
 use Rattle.writer.proofs.put_sheet.Statement.{statement}
 use Rattle.writer.proofs.put_sheet.Tie as tie
 
--- the moments behind the sections, and the one before them
-abbrev start : tie.After-put-limit → tie.Start
-start c = c .before .before .before .before
+-- the moments that are spoken of below
+abbrev after-put-limit-of-put-items-arg : tie.After-put-items-arg → tie.After-put-limit
+after-put-limit-of-put-items-arg c = c .before .before .before
 
 abbrev limit : tie.After-put-items → tie.After-put-limit
-limit c = c .before .before .before .before
+limit c = after-put-limit-of-put-items-arg (c .before)
+
+abbrev after-put-items-of-put-side-arg : tie.After-put-side-arg → tie.After-put-items
+after-put-items-of-put-side-arg c = c .before .before .before
 
 abbrev items : tie.After-put-side → tie.After-put-items
-items c = c .before .before .before .before
+items c = after-put-items-of-put-side-arg (c .before)
+
+abbrev after-put-side-of-put-side-arg2 : tie.After-put-side-arg2 → tie.After-put-side
+after-put-side-of-put-side-arg2 c = c .before .before .before
 
 abbrev lower : tie.After-put-side2 → tie.After-put-side
-lower c = c .before .before .before .before
+lower c = after-put-side-of-put-side-arg2 (c .before)
+
+abbrev after-put-side2-of-put-needs-arg : tie.After-put-needs-arg → tie.After-put-side2
+after-put-side2-of-put-needs-arg c = c .before .before .before
 
 abbrev upper : tie.After-put-needs → tie.After-put-side2
-upper c = c .before .before .before .before
+upper c = after-put-side2-of-put-needs-arg (c .before)
 
-capacity-fits : (c : tie.After-put-limit) → SFits w64 (start c .args .m .capacity)
+-- the moments behind the sections, and the one before them
+abbrev start : tie.After-put-limit-arg → tie.Start
+start c = c .before .before .before
+
+capacity-fits : (c : tie.After-put-limit) → SFits w64 (start (c .before) .args .m .capacity)
 capacity-fits c = search needs
 
 put-limit-requires : tie.Need-put-limit-requires

@@ -16,10 +16,14 @@ put-bound-lines-requires c κs = search needs
 same-length : tie.Need-same-length
 same-length c = search needs
 
+-- the moments that are spoken of below
+abbrev after-put-side-heading : tie.After-put-bound-lines-arg → tie.After-put-side-heading
+after-put-side-heading c = c .before .before .before
+
 returns : tie.Need-returns
 returns c =
     let l = c .before .before in
-    let h = l .before .before .before .before in
+    let h = after-put-side-heading (l .before) in
     let s = h .before .before .before .args in
     rw (upto-length (s .m .count) (boundingAt (s .side) (s .m))) (puts (omega arith) (h .put-side-heading .ensures) (l .put-bound-lines .ensures))
 

@@ -21,7 +21,8 @@ put-sheet-requires c κs = search needs
 
 returns : tie.Need-returns
 returns c =
-    let s = c .before .before .before .before in
+    let at-space = c .before .before .before in
+    let s = at-space .before in
     let p = c .before .put-sheet in
     let m = s .args .m in
     let e : p .result ≡ length (printing m) = omega arith in

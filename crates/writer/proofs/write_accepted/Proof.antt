@@ -21,7 +21,8 @@ same-length c = search needs
 returns : tie.Need-returns
 returns c =
     let h = c .before .before in
-    let written = h .before .before .before .before in
+    let at-bytes = h .before .before .before in
+    let written = at-bytes .before in
     rw (written .sheet-text .ensures .shown) at (h .hand-over .ensures)
 
 pub write-accepted-spec : {M : Type 1} → statement M

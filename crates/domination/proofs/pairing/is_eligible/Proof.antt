@@ -22,9 +22,13 @@ one-sign-requires c κs = search needs
 enum-told-2 : tie.Need-enum-told-2
 enum-told-2 c = search needs
 
+-- the moments that are spoken of below
+abbrev start : tie.After-struct-told → tie.Start
+start c = c .before .before .before
+
 returns : tie.Need-returns
 returns c =
-    let s = c .before .before .before .before .before in
+    let s = start (c .before .before) in
     let hw : SFits w64 (s .args .x .weight) = search needs in
     let hc : SFits w64 (s .args .x .price) = search needs in
     rw (toZ-ofZ hw, toZ-ofZ hc) at (c .one-sign .ensures) ∙ integer (s .args .x) (search needs)

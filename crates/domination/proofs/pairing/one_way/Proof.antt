@@ -19,24 +19,30 @@ has-room-requires-2 c κs =
 
 steps-of-requires : tie.Need-steps-of-requires
 steps-of-requires c κs =
-    let at-trade-of = c .before .before .before .before in
-    let s = c .before .before .before .before .before in
+    let at-has-room = c .before .before .before in
+    let at-trade-of = at-has-room .before in
+    let s = at-trade-of .before in
     rw (at-trade-of .trade-of .ensures) (s .pre .first-fit .in-range, (s .pre .second-fit .in-range, trade-small (s .pre)))
 
 returns : tie.Need-returns
 unfolding oneWay
 returns c =
-    let at-has-room = c .before .before .before .before in
+    let at-then1 = c .before .before .before in
+    let at-has-room = at-then1 .before in
     let at-trade-of = at-has-room .before in
     let t = at-trade-of .trade-of .ensures in
     let p = rw t at (sym (at-has-room .has-room .ensures) ∙ c .before .before .before .if1 .taken) in
     let q = rw t at (sym (c .before .before .has-room2 .ensures) ∙ c .before .if2 .taken) in
     rw (p, q) (rw t at (c .steps-of .ensures))
 
+-- the moments that are spoken of below
+abbrev after-trade-of : tie.After-has-room2 → tie.After-trade-of
+after-trade-of c = c .before .before .before
+
 returns-2 : tie.Need-returns-2
 unfolding oneWay
 returns-2 c =
-    let at-trade-of = c .before .before .before .before in
+    let at-trade-of = after-trade-of (c .before) in
     let t = at-trade-of .trade-of .ensures in
     let p = rw t at (sym (c .before .before .before .has-room .ensures) ∙ c .before .before .if1 .taken) in
     let q = rw t at (sym (c .before .has-room2 .ensures) ∙ c .if2 .left) in

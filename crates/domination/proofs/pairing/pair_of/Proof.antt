@@ -22,9 +22,13 @@ returns c = let p = sym (c .before .before .is-less-efficient .ensures) ∙ c .b
 is-less-efficient-requires-2 : tie.Need-is-less-efficient-requires-2
 is-less-efficient-requires-2 c κs = search needs
 
+-- the moments that are spoken of below
+abbrev start : tie.After-is-less-efficient2 → tie.Start
+start c = c .before .before .before
+
 one-way-requires-2 : tie.Need-one-way-requires-2
 one-way-requires-2 c κs =
-    let s = c .before .before .before .before in
+    let s = start (c .before) in
     record { first-fit = s .pre .1; second-fit = s .pre .0; direction = sym (c .before .is-less-efficient2 .ensures) ∙ c .if2 .taken }
 
 swap-requires : tie.Need-swap-requires
@@ -33,7 +37,8 @@ swap-requires c κs = search needs
 returns-2 : tie.Need-returns-2
 unfolding pairOf
 returns-2 c =
-    let at-if1 = c .before .before .before .before in
+    let at-is-less-efficient2 = c .before .before .before in
+    let at-if1 = at-is-less-efficient2 .before in
     let at-is-less-efficient = at-if1 .before in
     let p = sym (at-is-less-efficient .is-less-efficient .ensures) ∙ at-if1 .if1 .left in
     let q = sym (c .before .before .before .is-less-efficient2 .ensures) ∙ c .before .before .if2 .taken in

@@ -17,10 +17,14 @@ use Rattle.arith.proofs.Parts.{zs, diff, abs-within, within-sfits}
 use Rattle.domination.proofs.pairing.room_for.Statement.{statement}
 use Rattle.domination.proofs.pairing.room_for.Tie as tie
 
+-- the moments that are spoken of below
+abbrev after-lower : tie.After-upper → tie.After-lower
+after-lower c = c .before .before .before
+
 -- the two bounds where both are present
 abbrev L : tie.After-known-told2 → ℤ
 L c =
-    let at-lower = c .before .before .before .before in
+    let at-lower = after-lower (c .before) in
     at-lower .lower .given .0 .0
 
 abbrev U : tie.After-known-told2 → ℤ
@@ -28,13 +32,13 @@ U c = c .before .upper .given .0 .0
 
 lower-in : (c : tie.After-known-told2) → Within 10000 (L c)
 lower-in c =
-    let at-lower = c .before .before .before .before in
+    let at-lower = after-lower (c .before) in
     let s = at-lower .before .before in
     abs-within _ (rw (at-lower .lower .given .1) at (s .pre .0))
 
 upper-in : (c : tie.After-known-told2) → Within 10000 (U c)
 upper-in c =
-    let s = c .before .before .before .before .before .before in
+    let s = after-lower (c .before) .before .before in
     abs-within _ (rw (c .before .upper .given .1) at (s .pre .1 .0))
 
 fits : (c : tie.After-known-told2) → SFits w64 (U c -ℤ L c)
@@ -73,8 +77,8 @@ returns-2 c = search needs
 
 returns-3 : tie.Need-returns-3
 returns-3 c =
-    let at-lower = c .before .before .before .before in
-    let s = c .before .before .before .before .before .before in
+    let at-lower = after-lower (c .before) in
+    let s = at-lower .before .before in
     rw (difference c, toZ-ofZ (fits c), toZ-pos w64 {n = s .args .n} (omega arith))
     (both _ _ _ _ (s .args .n) (at-lower .lower .given .1) (c .before .upper .given .1))
 

@@ -13,20 +13,23 @@ size-of-requires-2 c κs = search needs
 
 mul-result : tie.Need-mul-result
 mul-result c =
-    let s = c .before .before .before .before in
+    let at-size-of = c .before .before .before in
+    let s = at-size-of .before in
     rw (c .before .before .before .size-of .ensures, c .before .before .size-of2 .ensures) (omega (arith, ratio-most (s .pre .0) (s .pre .1)))
 
 mul-result-2 : tie.Need-mul-result-2
 mul-result-2 c =
-    let at-size-of2 = c .before .before .before .before in
+    let at-known = c .before .before .before in
+    let at-size-of2 = at-known .before in
     let at-size-of = at-size-of2 .before in
-    let s = c .before .before .before .before .before .before in
+    let s = at-size-of .before in
     rw (at-size-of .size-of .ensures, at-size-of2 .size-of2 .ensures)
     (omega (arith, ratio-most (s .pre .0) (s .pre .1), ratio-most (s .pre .1) (s .pre .0)))
 
 returns : tie.Need-returns
 returns c =
-    let at-size-of2 = c .before .before .before .before in
+    let at-known = c .before .before .before in
+    let at-size-of2 = at-known .before in
     let at-size-of = at-size-of2 .before in
     rw (at-size-of .size-of .ensures, at-size-of2 .size-of2 .ensures)
 

@@ -28,7 +28,8 @@ magnitude-requires-2 c κs = let s = c .before .before .before in asked (s .args
 
 returns : tie.Need-returns
 returns c =
-    let s = c .before .before .before .before in
+    let at-magnitude = c .before .before in
+    let s = at-magnitude .before .before in
     rw (c .before .before .magnitude .ensures, c .magnitude2 .ensures, figure (s .args .x .weight) (weight-in s), figure (s .args .x .price) (s .pre .price-in))
 
 pub size-of-spec : {M : Type 1} → statement M

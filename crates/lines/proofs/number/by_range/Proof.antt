@@ -21,14 +21,18 @@ returns c = rw (plain-lt (c .before .before .before .fits .z) (lo-fits (c .befor
 not-low : (c : tie.Else1) → ltZ (c .before .before .before .args .z) (c .before .before .before .args .range .lo) ≡ false
 not-low c = plain-lt (c .before .before .before .fits .z) (lo-fits (c .before)) (c .if1 .left)
 
+-- the moments that are spoken of below
+abbrev start : tie.Else1 → tie.Start
+start c = c .before .before .before
+
 returns-2 : tie.Need-returns-2
 returns-2 c =
-    let s = c .before .before .before .before in
+    let s = start (c .before) in
     rw (not-low (c .before), plain-lt (hi-fits (c .before .before)) (s .fits .z) (c .if2 .taken))
 
 returns-3 : tie.Need-returns-3
 returns-3 c =
-    let s = c .before .before .before .before in
+    let s = start (c .before) in
     let f = s .fits .z in
     rw (toZ-ofZ f, not-low (c .before), plain-lt (hi-fits (c .before .before)) f (c .if2 .left))
 

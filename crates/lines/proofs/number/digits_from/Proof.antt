@@ -45,9 +45,13 @@ returns-2 c =
     let l = f .before .before in
     done _ _ (l .loop .value) (l .loop .at) (l .loop .inv) (run-stop _ _ (f .before .loop-test .taken) (digit-high _ (c .if2 .taken)))
 
+-- the moments that are spoken of below
+abbrev at-loop-of-else1 : tie.Else1 Inv-loop μ-loop → tie.At-loop Inv-loop μ-loop
+at-loop-of-else1 c = c .before .before .before
+
 push-requires : tie.Need-push-requires Inv-loop μ-loop
 push-requires c κs =
-    let at-loop = c .before .before .before .before in
+    let at-loop = at-loop-of-else1 (c .before) in
     (at-loop .loop .inv .small, c .before .if1 .left)
 
 add-at : tie.Need-add-at Inv-loop μ-loop

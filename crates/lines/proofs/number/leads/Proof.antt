@@ -17,14 +17,18 @@ returns-2 : tie.Need-returns-2
 returns-2 c =
     let s = c .before .before .before in rw (default (s .args .s .now) (s .args .at) 256 0 (omega arith)) (sym (leading-low _ (c .if2 .taken)))
 
+-- the moments that are spoken of below
+abbrev start : tie.Else2 → tie.Start
+start c = c .before .before .before
+
 returns-3 : tie.Need-returns-3
 returns-3 c =
-    let s = c .before .before .before .before in
+    let s = start (c .before) in
     rw (default (s .args .s .now) (s .args .at) 256 0 (omega arith)) (sym (leading-high _ (c .if3 .taken)))
 
 returns-4 : tie.Need-returns-4
 returns-4 c =
-    let s = c .before .before .before .before in
+    let s = start (c .before) in
     rw (default (s .args .s .now) (s .args .at) 256 0 (omega arith)) (sym (leading-yes _ (c .before .if2 .left) (c .if3 .left)))
 
 pub leads-spec : {M : Type 1} → statement M

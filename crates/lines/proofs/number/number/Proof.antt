@@ -33,13 +33,15 @@ unsigned-requires-2 c κs = search needs
 
 returns : tie.Need-returns
 returns c =
-    let at-after-byte = c .before .before .before .before in
+    let at-zero = c .before .before in
+    let at-after-byte = at-zero .before .before in
     rw (sym (at-after-byte .after-byte .ensures) ∙ c .before .before .zero .given .1)
     (ap (λ f. Number f (c .before .before .zero .given .0 .0)) (c .by-range .ensures))
 
 returns-2 : tie.Need-returns-2
 returns-2 c =
-    let m = c .before .before .before .before in
+    let at-minus = c .before .before in
+    let m = at-minus .before .before in
     rw (
       sym (m .before .before .before .after-byte .ensures) ∙ m .before .enum-told .given .1,
       sym (m .after-byte2 .ensures) ∙ c .before .before .minus .given .1,

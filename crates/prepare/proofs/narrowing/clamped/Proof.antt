@@ -33,9 +33,13 @@ mul-end-within c = record { fits = omega (arith, c .before .loop-test .taken) }
 array-copy-out-end-within : tie.Need-array-copy-out-end-within Inv-loop μ-loop
 array-copy-out-end-within c = c .before .loop-test .taken
 
+-- the moments that are spoken of below
+abbrev at-loop : tie.After-end-within-arg Inv-loop μ-loop → tie.At-loop Inv-loop μ-loop
+at-loop c = c .before .before .before
+
 end-within-requires : tie.Need-end-within-requires Inv-loop μ-loop
 end-within-requires c κs =
-    let s = c .before .before .before .before in (
+    let s = at-loop c .before in (
       s .pre .0,
       rw (within-back tt (s .pre .1 (c .before .before .before .loop .k))) (s .pre .1 (c .before .before .before .loop .k)),
     )
@@ -54,7 +58,7 @@ loop-less c = omega (arith, c .before .before .before .loop-test .taken)
 
 loop-again : tie.Need-loop-again Inv-loop μ-loop
 loop-again c =
-    let l = c .before .before .before .before in
+    let l = at-loop (c .before) in
     let s = l .before in
     let k = l .loop .k in
     let e = rw (back (at (s .args .t1) k) (c .before .before .x .given), within-back tt (s .pre .1 k)) at (c .end-within .ensures) in (

@@ -23,9 +23,12 @@ is-open-requires c κs = search needs
 own-is : (c : tie.After-larger-of) → c .larger-of .result ≡ ownBound (c .before .before .before .args .i)
 own-is c = c .larger-of .ensures ∙ ap₂ larger (c .before .before .bound-size .ensures) (c .before .bound-size2 .ensures)
 
+-- the moments that are spoken of below
+abbrev start : tie.After-larger-of → tie.Start
+start c = c .before .before .before
+
 add-result : tie.Need-add-result
-add-result c = let s =
-    c .before .before .before .before .before in record { fits = omega (arith, own-is (c .before .before), own-small (s .args .i) (s .pre .0), s .pre .1) }
+add-result c = let s = start (c .before .before) in record { fits = omega (arith, own-is (c .before .before), own-small (s .args .i) (s .pre .0), s .pre .1) }
 
 returns : tie.Need-returns
 returns c = rw (sym (c .before .is-open .ensures) ∙ c .if1 .taken, own-is (c .before .before))

@@ -7,11 +7,21 @@ use Rattle.setting.specs.Box.{levelAt}
 use Rattle.prepare.proofs.narrowing.narrowed.Statement.{statement}
 use Rattle.prepare.proofs.narrowing.narrowed.Tie as tie
 
+-- the moments that are spoken of below
+abbrev start-of-l : tie.After-l → tie.Start
+start-of-l c = c .before .before .before
+
+abbrev start : tie.After-level → tie.Start
+start c = start-of-l (c .before .before .before)
+
+abbrev after-clamped : tie.After-by-level2 → tie.After-clamped
+after-clamped c = c .before .before .before
+
 clamped-requires : tie.Need-clamped-requires
-clamped-requires c κs = let s = c .before .before .before .before .before .before in (s .pre .1, s .pre .0 .sized .columns .weights-in)
+clamped-requires c κs = let s = start c in (s .pre .1, s .pre .0 .sized .columns .weights-in)
 
 clamped-requires-2 : tie.Need-clamped-requires-2
-clamped-requires-2 c κs = let s = c .before .before .before .before .before .before .before in (s .pre .1, s .pre .0 .sized .columns .weights-in)
+clamped-requires-2 c κs = let s = start (c .before) in (s .pre .1, s .pre .0 .sized .columns .weights-in)
 
 -- a level's item has a place
 levels-in : (s : tie.Start) → (s .args .s .levels ≤ 16) × ((d : ℕ) → d < s .args .s .levels → levelAt (s .args .s) d < 16)
@@ -19,17 +29,17 @@ levels-in s = (s .pre .0 .few, λ d l. omega (arith, s .pre .0 .level-in d l, s 
 
 by-level-requires : tie.Need-by-level-requires
 by-level-requires c κs =
-    let s = c .before .before .before .before .before .before .before .before in
+    let s = start (c .before .before) in
     levels-in s
 
 by-level-requires-2 : tie.Need-by-level-requires-2
 by-level-requires-2 c κs =
-    let s = c .before .before .before .before .before .before .before .before .before in
+    let s = start (c .before .before .before) in
     levels-in s
 
 returns : tie.Need-returns
 returns c =
-    let at-clamped = c .before .before .before .before in
+    let at-clamped = after-clamped (c .before) in
     record {
       cols = refl;
       level = refl;

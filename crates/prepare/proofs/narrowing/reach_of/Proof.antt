@@ -30,9 +30,13 @@ capacity-in s = abs-within (s .args .p .capacity) (s .pre .capacity-in)
 magnitude-requires : tie.Need-magnitude-requires
 magnitude-requires c κs = let s = c .before .before .before in rw (within-back tt (capacity-in s)) (within-more (omega arith) (capacity-in s))
 
+-- the moments that are spoken of below
+abbrev start : tie.After-burden → tie.Start
+start c = c .before .before
+
 module _ (c : tie.After-magnitude) where
   abbrev S : tie.Start
-  S = c .before .before .before .before
+  S = start (c .before .before)
 
   capacity-is : c .magnitude .result ≡ natAbs (S .args .p .capacity)
   capacity-is = rw (within-back tt (capacity-in S)) at (c .magnitude .ensures)

@@ -29,8 +29,11 @@ div-result : tie.Need-div-result
 div-result c = omega (arith, divisor-is (c .before), larger-left 1 (natAbs (c .before .before .before .args .a)))
 
 -- the moments that are spoken of below
+abbrev start-of-larger-of : tie.After-larger-of → tie.Start
+start-of-larger-of c = c .before .before
+
 abbrev start : tie.After-struct-known2 → tie.Start
-start c = c .before .before .before .before
+start c = start-of-larger-of (c .before .before)
 
 -- a span fits
 small : (c : tie.After-struct-known2)

@@ -28,8 +28,15 @@ is-zero : (a : ℤ) → natAbs a ≡ 0 → a ≡ pos 0
 is-zero = split _ (λ a b. simp zed (omega arith))
 
 -- the moments that are spoken of below
+abbrev start-of-then1 : tie.Then1 → tie.Start
+start-of-then1 c = c .before .before .before
+
 abbrev start : tie.Else2 → tie.Start
-start c = c .before .before .before .before
+start c = start-of-then1 (c .before)
+
+-- what the function was given
+abbrev S : tie.After-reduced-price → tie.Start
+S c = start (c .before)
 
 weighs : (c : tie.Else2) → eqb (natAbs (start c .args .i .weight)) 0 ≡ false
 weighs c = let s = start c in ne-eqb (natAbs (s .args .i .weight)) 0
@@ -41,7 +48,7 @@ key-item-requires c κs = search needs
 returns : tie.Need-returns
 returns c =
     let t = c .before in
-    let s = t .before .before .before .before in
+    let s = start-of-then1 (t .before) in
     let z = bits-zero (s .args .i .weight) (within-sfits (lit< tt) (weight-within (s .args .i) (s .pre .0))) (t .if2 .taken) in
     rw (integer (t .before), z) (c .key-item .ensures)
 
@@ -49,10 +56,6 @@ reduced-price-requires : tie.Need-reduced-price-requires
 reduced-price-requires c κs =
     let s = start c in
     rw (within-back tt (s .pre .1 .price), within-back tt (s .pre .1 .weight)) (s .pre)
-
--- what the function was given
-abbrev S : tie.After-reduced-price → tie.Start
-S c = c .before .before .before .before .before
 
 -- the two numbers of the key
 price : (c : tie.After-reduced-price) → toZ w64 (ofZ w64 (c .reduced-price .result)) ≡ pos (natAbs (reducedPrice (S c .args .p) (S c .args .q) (S c .args .i)))

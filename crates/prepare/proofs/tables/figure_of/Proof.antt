@@ -31,9 +31,19 @@ end-or-requires-2 c κs = search needs
 enum-told-5 : tie.Need-enum-told-5
 enum-told-5 c = search needs
 
+-- the moments that are spoken of below
+abbrev start-of-told2 : tie.After-struct-told2 → tie.Start
+start-of-told2 c = c .before .before
+
+abbrev start-of-at-match-keys5 : tie.At-match-keys5 → tie.Start
+start-of-at-match-keys5 c = start-of-told2 (c .before)
+
+abbrev start-of-at-match-keys6 : tie.At-match-keys6 → tie.Start
+start-of-at-match-keys6 c = start-of-told2 (c .before)
+
 absolute-requires : tie.Need-absolute-requires
 absolute-requires c κs =
-    let s = c .before .before .before .before in
+    let s = start-of-at-match-keys5 (c .before) in
     let w = weight-within (s .args .i) (s .pre) in
     rw (within-back tt w) (within-more (omega arith) w)
 
@@ -42,18 +52,18 @@ enum-told-6 c = search needs
 
 times-sign-requires : tie.Need-times-sign-requires
 times-sign-requires c κs =
-    let s = c .before .before .before .before in
+    let s = start-of-at-match-keys6 (c .before) in
     let w = price-within (s .args .i) (s .pre) in
     rw (within-back tt w) (within-more (omega arith) w)
 
 returns : tie.Need-returns
 returns c =
-    let s = c .before .before .before .before in
+    let s = start-of-told2 (c .before .before) in
     rw (c .enum-told .given .1, within-back tt (weight-within (s .args .i) (s .pre)))
 
 returns-2 : tie.Need-returns-2
 returns-2 c =
-    let s = c .before .before .before .before in
+    let s = start-of-told2 (c .before .before) in
     rw (c .enum-told2 .given .1, within-back tt (price-within (s .args .i) (s .pre)))
 
 returns-3 : tie.Need-returns-3
@@ -64,13 +74,13 @@ returns-4 c = rw (c .before .enum-told4 .given .1, back (c .end-or2 .result) (c 
 
 returns-5 : tie.Need-returns-5
 returns-5 c =
-    let s = c .before .before .before .before .before in
+    let s = start-of-at-match-keys5 (c .before .before) in
     rw (c .before .enum-told5 .given .1, back (c .absolute .result) (c .absolute .ok))
     (rw (within-back tt (weight-within (s .args .i) (s .pre))) at (c .absolute .ensures))
 
 returns-6 : tie.Need-returns-6
 returns-6 c =
-    let s = c .before .before .before .before .before in
+    let s = start-of-at-match-keys6 (c .before .before) in
     rw (c .before .enum-told6 .given .1, back (c .times-sign .result) (c .times-sign .ok))
     (rw (within-back tt (weight-within (s .args .i) (s .pre)), within-back tt (price-within (s .args .i) (s .pre))) at (c .times-sign .ensures))
 

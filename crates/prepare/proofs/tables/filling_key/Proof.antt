@@ -14,9 +14,16 @@ use Rattle.prepare.proofs.Ranges.{weight-within, price-within, scaled-w
 use Rattle.prepare.proofs.tables.filling_key.Statement.{statement}
 use Rattle.prepare.proofs.tables.filling_key.Tie as tie
 
+-- the moments that are spoken of below
+abbrev start-of-light-bound : tie.After-light-bound → tie.Start
+start-of-light-bound c = c .before .before
+
+abbrev start-of-times-sign : tie.After-times-sign → tie.Start
+start-of-times-sign c = start-of-light-bound (c .before .before)
+
 -- what the function was given
 abbrev S : tie.After-absolute → tie.Start
-S c = c .before .before .before .before .before .before
+S c = start-of-times-sign (c .before .before)
 
 -- the three numbers that the key is made of
 first : (c : tie.After-absolute) → toZ w64 (ofZ w64 (c .before .before .times-sign .result)) ≡ timesSign (S c .args .i .weight) (S c .args .i .price)
@@ -28,7 +35,8 @@ first c =
 
 second : (c : tie.After-absolute) → toZ w64 (ofZ w64 (c .before .head-start .result)) ≡ headStart (lightBound (S c .args .i)) (S c .args .i .weight)
 second c =
-    let at-light-bound = c .before .before .before .before in
+    let at-times-sign = c .before .before in
+    let at-light-bound = at-times-sign .before .before in
     let s = S c in
     back (c .before .head-start .result) (c .before .head-start .ok)
     ∙ (rw (within-back tt (weight-within (s .args .i) (s .pre)), at-light-bound .light-bound .ensures) at (c .before .head-start .ensures))
@@ -49,13 +57,13 @@ times-sign-requires c κs =
 
 head-start-requires : tie.Need-head-start-requires
 head-start-requires c κs =
-    let s = c .before .before .before .before in
+    let s = start-of-times-sign c in
     let w = weight-within (s .args .i) (s .pre) in
     rw (within-back tt w) w
 
 absolute-requires : tie.Need-absolute-requires
 absolute-requires c κs =
-    let s = c .before .before .before .before .before in
+    let s = start-of-times-sign (c .before) in
     let w = weight-within (s .args .i) (s .pre) in
     rw (within-back tt w) (within-more (omega arith) w)
 

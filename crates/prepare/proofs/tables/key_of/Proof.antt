@@ -25,9 +25,13 @@ branching-key-requires c κs =
 returns : tie.Need-returns
 returns c = rw (c .before .enum-told .given .1) (c .filling-key .ensures)
 
+-- the moments that are spoken of below
+abbrev start : tie.After-by → tie.Start
+start c = c .before .before
+
 returns-2 : tie.Need-returns-2
 returns-2 c =
-    let s = c .before .before .before .before in
+    let s = start (c .before .before) in
     let k = c .before .before .by .given in
     let r : SmallRatio (k .0 .0) (k .0 .1 .0) = subst SmallKey (k .1) (s .pre .1) in
     rw (k .1) (rw (within-back tt (r .price), within-back tt (r .weight)) at (c .branching-key .ensures))

@@ -26,20 +26,20 @@ mul-i c = omega (arith, c .before .before .before .pre .0 .few-items)
 element-copy-out-i : tie.Need-element-copy-out-i Inv-loop μ-loop
 element-copy-out-i c = omega (arith, c .before .before .before .pre .0 .few-items)
 
+-- the moments that are spoken of below
+abbrev start : tie.In-loop Inv-loop μ-loop → tie.Start Inv-loop μ-loop
+start c = c .before .before .before
+
 key-of-requires : tie.Need-key-of-requires Inv-loop μ-loop
 key-of-requires c κs =
-    let s = c .before .before .before .before in
+    let s = start (c .before) in
     (s .pre .0 .items-in (c .before .before .loop .k) (omega arith), s .pre .1)
 
--- the moments that are spoken of below
-abbrev start : tie.After-key-of Inv-loop μ-loop → tie.Start Inv-loop μ-loop
-start c = c .before .before .before .before .before
-
 mul-items : tie.Need-mul-items Inv-loop μ-loop
-mul-items c = omega (arith, start c .pre .0 .few-items)
+mul-items c = omega (arith, start (c .before .before) .pre .0 .few-items)
 
 array-set-from-items : tie.Need-array-set-from-items Inv-loop μ-loop
-array-set-from-items c = omega (arith, start c .pre .0 .few-items)
+array-set-from-items c = omega (arith, start (c .before .before) .pre .0 .few-items)
 
 add-k : tie.Need-add-k Inv-loop μ-loop
 add-k c = omega arith

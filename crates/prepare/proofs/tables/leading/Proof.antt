@@ -45,14 +45,18 @@ add-u c = omega arith
 loop-less : tie.Need-loop-less Inv-loop μ-loop
 loop-less c = omega arith
 
+-- the moments that are spoken of below
+abbrev at-loop : tie.After-passes-test Inv-loop μ-loop → tie.At-loop Inv-loop μ-loop
+at-loop c = c .before .before .before
+
 loop-again : tie.Need-loop-again Inv-loop μ-loop
 loop-again c =
-    let l = c .before .before .before .before in
+    let l = at-loop (c .before) in
     passed-more _ _ (l .loop .u) (omega arith) (sym (c .before .passes-test .ensures) ∙ c .if1 .taken) (l .loop .inv)
 
 returns : tie.Need-returns Inv-loop μ-loop
 returns c =
-    let l = c .before .before .before .before in
+    let l = at-loop (c .before) in
     passed-stop _ _ (l .loop .u) (sym (c .before .passes-test .ensures) ∙ c .if1 .left) (l .loop .inv)
 
 returns-2 : tie.Need-returns-2 Inv-loop μ-loop

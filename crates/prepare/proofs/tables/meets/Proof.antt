@@ -24,9 +24,13 @@ enum-told-2 c = search needs
 returns-2 : tie.Need-returns-2
 returns-2 c = search needs
 
+-- the moments that are spoken of below
+abbrev after-l : tie.After-u → tie.After-l
+after-l c = c .before .before .before
+
 returns-3 : tie.Need-returns-3
 returns-3 c =
-    let at-l = c .before .before .before .before in
+    let at-l = after-l (c .before) in
     let u = c .before .u .given in
     let l = at-l .l .given in
     let hu : SFits w64 (u .0 .0) = search needs in

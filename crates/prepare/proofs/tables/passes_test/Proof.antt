@@ -9,9 +9,13 @@ use Rattle.prepare.proofs.tables.passes_test.Tie as tie
 enum-told : tie.Need-enum-told
 enum-told c = search needs
 
+-- the moments that are spoken of below
+abbrev start : tie.After-struct-told → tie.Start
+start c = c .before .before .before
+
 is-live-requires : tie.Need-is-live-requires
 is-live-requires c κs =
-    let s = c .before .before .before .before in
+    let s = start (c .before) in
     let w = price-within (s .args .i) (s .pre) in
     rw (within-back tt w) (within-more (omega arith) w)
 
@@ -29,7 +33,7 @@ is-fixed-requires c κs = search needs
 
 returns : tie.Need-returns
 returns c =
-    let s = c .before .before .before .before .before in
+    let s = start (c .before .before) in
     rw (c .before .before .before .enum-told .given .1) (rw (
       within-back tt (weight-within (s .args .i) (s .pre)),
       within-back tt (price-within (s .args .i) (s .pre)),

@@ -34,8 +34,11 @@ mul-absolute c =
     rw (gain s) (within-sfits (lit< tt) (gain-within (s .args .i) (s .pre .0) (s .args .p) (s .args .q) (s .pre .1)))
 
 -- the moments that are spoken of below
+abbrev start-of-told : tie.After-struct-told → tie.Start
+start-of-told c = c .before .before
+
 abbrev start : tie.After-struct-told2 → tie.Start
-start c = c .before .before .before .before
+start c = start-of-told (c .before .before)
 
 mul-absolute-2 : tie.Need-mul-absolute-2
 mul-absolute-2 c =
@@ -55,7 +58,7 @@ absolute-requires c κs =
 
 returns : tie.Need-returns
 returns c =
-    let s = c .before .before .before .before .before in
+    let s = start (c .before) in
     let w = reduced-within (s .args .i) (s .pre .0) (s .args .p) (s .args .q) (s .pre .1) in
     back (c .absolute .result) (c .absolute .ok) ∙ (rw (difference s, within-back tt w) at (c .absolute .ensures))
 
