@@ -19,6 +19,7 @@
 --   Worked m n b          the work of at most n cases of m steps
 --   Bounded s             no steps are unbounded
 --   Branches p r ns m b   what a call is given;  Through s ns m b c: what it gives
+--   CasesTake ns m p r b c   c tells the work of b, that of r, the plain answer of p, and that of the cases gone through from there
 --   unpricedItem, Unpriced p k q   an item at price 0; so are the first k of q, and the others are those of p
 --   rayFrom a d           the steps d from the point of a
 --   Told b r, FromRay b d r   an answer of the best, and of steps from it
@@ -191,6 +192,17 @@ pub record Through (s : Instance) (ns : List Need) (most : ℕ) (b c : Best) : T
   pub first : AllLower s → SearchedNeeds PointLeadsBy s ns (known b) (known c)
   pub holds : Holds s c
   pub worked : Worked most (b .cases + twigs (undecided s ns)) c
+
+-- the case is left, or its point is kept, or its own two cases are gone through, each from what the one before has told
+pub data CasesTake (ns : Needs) (most : ℕ) : Problem → Solved → Best → Best → Type 0 where
+  left : (p : Problem) (r : Solved) (b : Best) → Outdoes (p .count) (r .answer) (countedOf b r) false → CasesTake ns most p r b (countedOf b r)
+  kept : (p : Problem) (r : Solved) (b : Best) → Outdoes (p .count) (r .answer) (countedOf b r) true → FirstBroken (r .answer .point) ns (ns .count) →
+      CasesTake ns most p r b (withBest (countedOf b r) (r .answer))
+  split : (p : Problem) (r : Solved) (b : Best) (i : ℕ) (v w : Solved) (d e : Best) → Outdoes (p .count) (r .answer) (countedOf b r) true →
+      FirstBroken (r .answer .point) ns i → i < ns .count → CountsNeeds most (cappedAt p (placed (needAt ns i) .item)) (needsOf ns) v →
+      CasesTake ns most (cappedAt p (placed (needAt ns i) .item)) v (countedOf b r) d →
+      CountsNeeds most (raisedAt p (placed (needAt ns i) .cover)) (needsOf ns) w → CasesTake ns most (raisedAt p (placed (needAt ns i) .cover)) w d e →
+      CasesTake ns most p r b e
 
 -- ---- the answer
 

@@ -49,6 +49,7 @@ ghost use Rattle.branching.specs.Branching.{
   CountsNeeds,
   Branches,
   Through,
+  CasesTake,
   unpricedItem,
   Unpriced,
   Told,
@@ -334,6 +335,7 @@ fn solve_case(p: Problem, ns: Needs, most: u64) -> Solved
 fn branch(p: Problem, r: Solved, ns: Needs, most: u64, b: Best) -> Best
     requires { ⌜ Branches p r ns most b ⌝ }
     ensures { λ c. ⌜ Through (instanceOf p) (needsOf ns) most b c ⌝ }
+    ensures { λ c. ⌜ CasesTake ns most p r b c ⌝ }
 {
     let c = counted(b, r);
     let a = r.answer;

@@ -6,13 +6,14 @@ use native.Mathlib.Omega.{arith}
 use lib.ListN.{length, length-map}
 use Rattle.knapsack.specs.Meaning.{instanceOf, pointOf}
 use Rattle.model.specs.Needs.{In as Among, Allowed}
-use Rattle.model.specs.Records.{FiguresInRange, needsOf}
+use Rattle.model.specs.Records.{FiguresInRange, needAt, placed, needsOf}
 use Rattle.model.specs.declared.Need.{Need}
 use Rattle.cases.proofs.Searching.{broken-open}
 use Rattle.cases.proofs.Splitting.{without, having}
 use Rattle.cases.proofs.Undecided.{decided, undecided}
 use Rattle.branching.specs.declared.Best.{Best}
-use Rattle.branching.specs.Branching.{Placed, breaks, known, twigs, countedOf, Worked}
+use Rattle.branching.specs.Branching.{Placed, breaks, FirstBroken, cappedAt, raisedAt, Outdoes, known, twigs, countedOf, Worked, CountsNeeds, CasesTake}
+use Rattle.branching.specs.Branching.{left, kept, split}
 use Rattle.branching.proofs.Breaking.{need-in, breaks-yes, every-kept, allowed-placed}
 use Rattle.branching.proofs.Exits.{comparable, plain-comparable, optimal-of, counted-work, countable, own-work, enter}
 use Rattle.branching.proofs.Exits.{through-behind, through-kept, through-split}
@@ -88,6 +89,9 @@ module _ (t : ℕ) where
 
   abbrev Having : Type 0
   Having = branch-lts.After-having (calls t) (branch-at t) branch.Post
+
+  abbrev Returned : Type 0
+  Returned = branch-lts.After-branch2 (calls t) (branch-at t) branch.Post
 
   abbrev after-outdoes : Asked → Outdone
   after-outdoes f = f .before .before .before
@@ -259,13 +263,52 @@ module _ (t : ℕ) where
       let part = h-part h in
       let d = h .before .branch in
       let most : d .result .cases ≤ s .args .b .cases + 1 + twigs (undecided (instanceOf (lacks h .without .result)) ns) =
-          rw (counts n .counted .ensures) at (d .ensures .worked .cases) in
+          rw (counts n .counted .ensures) at (d .ensures .0 .worked .cases) in
       (
         subst (λ u. undecided (instanceOf (h .having .result)) ns < u) (s .pre .0) (part .fewer),
         enter (s .args .p) (h .having .result) (s .args .ns) (s .args .most) (c .solve-case2 .result) (d .result) (h-figures h) (c .solve-case2 .ensures .0)
-        (b .short) (b .few) part (λ f. q-part (lacks h) .out (d .result .answer) (d .ensures .holds f)) (own-work (d .ensures .worked))
+        (b .short) (b .few) part (λ f. q-part (lacks h) .out (d .result .answer) (d .ensures .0 .holds f)) (own-work (d .ensures .0 .worked))
         (omega (arith, b .room, most, both-few h)),
       )
+
+  -- the point is ahead of what is known
+  ahead-of : (f : Asked) → let s = after-counted (after-outdoes f) .before in
+      Outdoes (s .args .p .count) (s .args .r .answer) (countedOf (s .args .b) (s .args .r)) true
+  ahead-of f =
+      let o = after-outdoes f in
+      let k = after-counted o in
+      let s = k .before in
+      subst (λ x. Outdoes (s .args .p .count) (s .args .r .answer) x true) (k .counted .ensures)
+      (subst (Outdoes (s .args .p .count) (s .args .r .answer) (k .counted .result)) (f .before .before .if1 .taken) (o .outdoes .ensures))
+
+  -- the work of both cases
+  split-take : (c : Returned) → let s = start (lacks (c .before .before) .before) in
+      CasesTake (s .args .ns) (s .args .most) (s .args .p) (s .args .r) (s .args .b) (c .branch2 .result)
+  split-take c =
+      let h = c .before .before in
+      let w = lacks h in
+      let n = w .before in
+      let f = asked n in
+      let s = start n in
+      let k = counts n .counted in
+      let ns = s .args .ns in
+      let most = s .args .most in
+      let i = f .first-broken .result in
+      let one = countedOf (s .args .b) (s .args .r) in
+      let d = h .before .branch in
+      let v = h .before .before .solve-case in
+      let z = c .before .solve-case2 in
+      let q : w .without .result ≡ cappedAt (s .args .p) (placed (needAt ns i) .item) =
+          w .without .ensures ∙ ap (λ (x : Need). cappedAt (s .args .p) (x .item)) (n .need-at .ensures) in
+      let g : h .having .result ≡ raisedAt (s .args .p) (placed (needAt ns i) .cover) =
+          h .having .ensures ∙ ap (λ (x : Need). raisedAt (s .args .p) (x .cover)) (n .need-at .ensures) in
+      split (s .args .p) (s .args .r) (s .args .b) i (v .result) (z .result) (d .result) (c .branch2 .result)
+      (ahead-of f) (f .first-broken .ensures) (n .before .if2 .taken)
+      (subst (λ x. CountsNeeds most x (needsOf ns) (v .result)) q (v .ensures .1))
+      (subst (λ x. CasesTake ns most x (v .result) one (d .result)) q
+      (subst (λ x. CasesTake ns most (w .without .result) (v .result) x (d .result)) (k .ensures) (d .ensures .1)))
+      (subst (λ x. CountsNeeds most x (needsOf ns) (z .result)) g (z .ensures .1))
+      (subst (λ x. CasesTake ns most x (z .result) (d .result) (c .branch2 .result)) g (c .branch2 .ensures .1))
 
   branch-returns : branch-lts.Need-returns (calls t) (branch-at t) branch.Post
   branch-returns c =
@@ -274,10 +317,10 @@ module _ (t : ℕ) where
       let n = w .before in
       let s = start n in
       let k = counts n .counted in
-      through-split (instanceOf (s .args .p)) (needsOf (s .args .ns)) (s .args .most) (s .pre .1 .allowed) (broken n) (among n)
+      (through-split (instanceOf (s .args .p)) (needsOf (s .args .ns)) (s .args .most) (s .pre .1 .allowed) (broken n) (among n)
       (instanceOf (w .without .result)) (instanceOf (h .having .result)) (q-is w) (h-is h) (q-part w) (h-part h) (s .args .b) (k .result)
-      (h .before .branch .result) (c .branch2 .result) (ap known (k .ensures)) (ap (λ (x : Best). x .cases) (k .ensures)) (h .before .branch .ensures)
-      (c .branch2 .ensures)
+      (h .before .branch .result) (c .branch2 .result) (ap known (k .ensures)) (ap (λ (x : Best). x .cases) (k .ensures)) (h .before .branch .ensures .0)
+      (c .branch2 .ensures .0), split-take c)
 
   branch-with-best-requires : branch-lts.Need-with-best-requires (calls t) (branch-at t) branch.Post
   branch-with-best-requires c κs = tt
@@ -298,7 +341,8 @@ module _ (t : ℕ) where
       (through-kept i (needsOf (s .args .ns)) (s .args .most) (s .args .b) (s .args .r) a (b .solved .answers) (b .solved .first) (b .limited) (b .holds)
       (more-work s) ahead
       (every-kept (s .args .ns) i a (b .allowed) (optimal-of i a (b .solved .answers) (ahead .0) .optimal .feasible)
-      (λ j m. e .kept j (omega (arith, all, m)))))
+      (λ j m. e .kept j (omega (arith, all, m)))),
+      kept (s .args .p) (s .args .r) (s .args .b) (ahead-of f) (subst (FirstBroken (a .point) (s .args .ns)) all e))
 
   branch-returns-3 : branch-lts.Need-returns-3 (calls t) (branch-at t) branch.Post
   branch-returns-3 c =
@@ -308,7 +352,10 @@ module _ (t : ℕ) where
       let b = s .pre .1 in
       rw (k .counted .ensures)
       (through-behind (instanceOf (s .args .p)) (needsOf (s .args .ns)) (s .args .most) (s .args .b) (s .args .r) (s .args .r .answer) (b .solved .answers)
-      (b .solved .first) (b .limited) (b .holds) (more-work s) (rw (k .counted .ensures) at (o .outdoes .ensures .behind (c .if1 .left))))
+      (b .solved .first) (b .limited) (b .holds) (more-work s) (rw (k .counted .ensures) at (o .outdoes .ensures .behind (c .if1 .left))),
+      left (s .args .p) (s .args .r) (s .args .b)
+      (subst (Outdoes (s .args .p .count) (s .args .r .answer) (countedOf (s .args .b) (s .args .r))) (c .if1 .left)
+      (rw (k .counted .ensures) at (o .outdoes .ensures))))
 
 pub +branch-spec : {M : Type 1} → statement M
 +branch-spec = close μ-branch λ t. branch-lts.spec (calls t)

@@ -76,7 +76,7 @@ returns-2 c =
     let ns = needsOf (s .args .ns) in
     let few = v .before .few-steps .result in
     let th : Through i ns few nothingYet (b .branch .result) =
-        subst (λ x. Through i ns few x (b .branch .result)) (n .nothing-yet .ensures) (b .branch .ensures) in
+        subst (λ x. Through i ns few x (b .branch .result)) (n .nothing-yet .ensures) (b .branch .ensures .0) in
     let t = c .told .ensures in
     let w = few-work (omega (arith, few-twigs (s .args .ns) (s .pre .few) i)) (th .worked) in
     more-steps (v .before .few-steps .ensures .0) (record {

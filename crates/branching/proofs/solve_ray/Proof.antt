@@ -97,7 +97,7 @@ returns c =
     let most = s .args .most in
     let one = countedOf nothingYet (s .args .r) in
     let q : Through (instanceOf (u .unpriced .result)) ns most one (b .branch .result) =
-        subst (λ x. Through (instanceOf (u .unpriced .result)) ns most x (b .branch .result)) (one-case (u .before)) (b .branch .ensures) in
+        subst (λ x. Through (instanceOf (u .unpriced .result)) ns most x (b .branch .result)) (one-case (u .before)) (b .branch .ensures .0) in
     let th : Through (worthless i) ns most one (b .branch .result) = subst (λ x. Through x ns most one (b .branch .result)) (q-is u) q in
     let t = c .from-ray .ensures in
     let w = few-work (omega (arith, few-twigs (s .args .ns) (s .pre .needed .few) (worthless i))) (th .worked) in
