@@ -9,8 +9,8 @@
    Threads     There is no state between calls: any number of threads may call at the same time, on buffers of their own.
    Heap        None is used, and nothing is read or written but what is handed over. Of the C library only memcpy, memmove and memset are needed.
    Stack       632,392 bytes were measured (`bench/run stack`), of which 524,280 are the scales' cells; CHARGE_STACK is a safe figure.
-   Time        Every call ends in bounded time: needs come to at most 131,072 cases, and in each a search takes at most 1,000 steps (charge_steps), then
-               scales answer (charge_cells). */
+   Time        Every call ends in bounded time: a search takes at most 1,000 steps (charge_steps), then scales answer (charge_cells). Needs come to
+               cases, each with a search of its own: one without needs, at most 2^(t + 1) with t of them. */
 #ifndef RUNCEFO_H
 #define RUNCEFO_H
 
@@ -59,12 +59,12 @@ uint64_t charge_plan(const uint8_t *sheet, size_t length, uint8_t *out, size_t r
    CHARGE_ACCEPTED is told. Else no byte changes: the sheet's own refusal is told, then CHARGE_SHORT_BUFFER; *line gets its line, or 0. */
 uint64_t charge_write(const uint8_t *sheet, size_t length, uint8_t *out, size_t room, uint64_t *line);
 
-/* How many steps the searches take for a sheet: at most 1,000 in each case of its needs, so at most 131,072,000 (proved); 0 if it is refused or needs no
-   search. */
+/* How many steps the searches take for a sheet: at most 1,000 without needs, and 1,000 in each of at most 2^(t + 1) cases with t of them (proved); 0 if
+   it is refused or needs no search. */
 uint64_t charge_steps(const uint8_t *sheet, size_t length);
 
-/* How many cells the scales write for a sheet: at most 28,960,188,895 in each case, so at most 3,795,869,878,845,440 (proved); 0 if every search ends and
-   no first point is owed. */
+/* How many cells the scales write for a sheet: at most 34,087,566,601 without needs, and so many in each case with them (proved); 0 if every search ends
+   and no first point is owed. */
 uint64_t charge_cells(const uint8_t *sheet, size_t length);
 
 #ifdef __cplusplus

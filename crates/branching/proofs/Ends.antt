@@ -8,6 +8,7 @@ use mathlib.Core.Bool.{Bool, true, false}
 use mathlib.Core.List.{List}
 use Prim.Native.Nat.{ℕ, _+_, _≤_, _<_}
 use native.Mathlib.Decide.{ℕ-discrete, decLt}
+use native.Mathlib.Nat.{mul-le-mul-left}
 use native.Mathlib.Omega.{arith}
 use lib.IntN.{ℤ, pos, natAbs, _*ℤ_}
 use lib.ListN.{length, length-set, getD, set, List·getD-eq-default}
@@ -38,7 +39,7 @@ use Rattle.cases.proofs.Searching.{PointLeadsBy, first-order, top-is-first}
 use Rattle.model.specs.declared.Need.{Need}
 use Rattle.model.specs.Needs.{Every, Allowed, KeepsNeeds, ForemostNeeds, AnswersNeeds, AnswersAsNeeds, ShownFirstNeeds}
 use Rattle.branching.specs.declared.Best.{Best}
-use Rattle.branching.specs.Branching.{isOptimal, isUnbounded, knownIf, known, Holds, Bounded, unpricedItem, Unpriced, rayFrom, SolvesNeeds}
+use Rattle.branching.specs.Branching.{mostCases, isOptimal, isUnbounded, knownIf, known, Holds, Bounded, unpricedItem, Unpriced, rayFrom, SolvesNeeds}
 
 -- ---- no ray
 
@@ -187,4 +188,9 @@ pub no-first : (s : Instance) (ns : List Need) (a : Answer) → a .kind ≡ kind
 no-first s ns a k low e = absurd (impossible (ap isOptimal (sym k ∙ e)))
 
 pub more-steps : {m n : ℕ} {p : Problem} {ns : List Need} {r : Solved} → m ≤ n → SolvesNeeds m p ns r → SolvesNeeds n p ns r
-more-steps h r = record { answers = r .answers; first = r .first; few-steps = omega (arith, h, r .few-steps); few-cells = r .few-cells }
+more-steps {ns = ns} h r = record {
+  answers = r .answers;
+  first = r .first;
+  few-steps = omega (arith, r .few-steps, mul-le-mul-left (mostCases ns) h);
+  few-cells = r .few-cells;
+}

@@ -101,9 +101,9 @@ pub none-worked : (most : ℕ) → Worked most 0 nothingYet
 none-worked most = record { cases = omega arith; steps = omega arith; cells = omega arith }
 
 -- all of it is little
-pub few-work : {most n : ℕ} {b : Best} → n ≤ 131072 → Worked most n b → (b .steps ≤ 131072 * most) × (b .cells ≤ 131072 * mostWork)
-few-work {most} {n} {b} h w =
-    let c : b .cases ≤ 131072 = omega (arith, h, w .cases) in
+pub few-work : {most m n : ℕ} {b : Best} → m ≤ n → Worked most m b → (b .steps ≤ n * most) × (b .cells ≤ n * mostWork)
+few-work {most} {m} {n} {b} h w =
+    let c : b .cases ≤ n = omega (arith, h, w .cases) in
     (omega (arith, w .steps, mul-le-mul-right most c), omega (arith, w .cells, c))
 
 pub enter : (p q : Problem) (ns : Needs) (most : ℕ) (r : Solved) (c : Best) → FiguresInRange q → SolvesWithin most q r → most ≤ caseSteps → ns .count ≤ 16

@@ -23,11 +23,12 @@
 --   unpricedItem, Unpriced p k q   an item at price 0; so are the first k of q, and the others are those of p
 --   rayFrom a d           the steps d from the point of a
 --   Told b r, FromRay b d r   an answer of the best, and of steps from it
+--   mostCases ns          the most cases of a problem with the needs ns
 --   Needed p ns           what the entry is given;  Endless p r ns m: and for an answer with steps
 --   SolvesNeeds m p ns r  what the entry gives
 use mathlib.Core.Path.{_≡_}
 use mathlib.Core.Bool.{Bool, true, false, cond, not}
-use mathlib.Core.List.{List}
+use mathlib.Core.List.{List, [], _∷_}
 use mathlib.Core.Logic.{_⊎_, _≢_}
 use Prim.Native.Nat.{ℕ, zero, suc, _+_, _*_, _≤_, _<_}
 use lib.IntN.{ℤ, pos, natAbs}
@@ -241,8 +242,13 @@ pub record Endless (p : Problem) (r : Solved) (ns : Needs) (most : ℕ) : Type 0
   pub short : most ≤ caseSteps
   pub kind-is : r .answer .kind ≡ kind.Unbounded
 
+-- one where there are no needs; else two more with each need undecided, and one for a ray
+abbrev pub mostCases : List Need → ℕ
+mostCases [] = 1
+mostCases (n ∷ ns) = suc (twigs (suc (length ns)))
+
 pub record SolvesNeeds (most : ℕ) (p : Problem) (ns : List Need) (r : Solved) : Type 0 where
   pub answers : AnswersNeeds (instanceOf p) ns (r .answer)
   pub first : ShownFirstNeeds (instanceOf p) ns (r .answer)
-  pub few-steps : r .steps ≤ 131072 * most
-  pub few-cells : r .cells ≤ 131072 * mostWork
+  pub few-steps : r .steps ≤ mostCases ns * most
+  pub few-cells : r .cells ≤ mostCases ns * mostWork

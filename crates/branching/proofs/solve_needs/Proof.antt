@@ -9,7 +9,7 @@ use Rattle.branching.specs.Branching.{nothingYet, Through}
 use Rattle.branching.proofs.Breaking.{needed-placed}
 use Rattle.branching.proofs.Ends.{ray-kind, limited-by, told-answers, told-first, more-steps}
 use Rattle.branching.proofs.Exits.{none-worked, few-work}
-use Rattle.branching.proofs.Twigs.{few-twigs}
+use Rattle.branching.proofs.Twigs.{few-twigs, cases-plain}
 use Rattle.branching.proofs.solve_needs.Statement.{statement}
 use Rattle.branching.proofs.solve_needs.Tie as tie
 
@@ -78,7 +78,7 @@ returns-2 c =
     let th : Through i ns few nothingYet (b .branch .result) =
         subst (λ x. Through i ns few x (b .branch .result)) (n .nothing-yet .ensures) (b .branch .ensures .0) in
     let t = c .told .ensures in
-    let w = few-work (omega (arith, few-twigs (s .args .ns) (s .pre .few) i)) (th .worked) in
+    let w = few-work (omega (arith, cases-plain i ns)) (th .worked) in
     more-steps (v .before .few-steps .ensures .0) (record {
       answers = told-answers i ns (b .branch .result) (c .told .result .answer) (th .worth) (th .holds) (t .found) (t .none);
       first = told-first i ns (b .branch .result) (c .told .result .answer) (th .first) (t .found) (t .none);

@@ -1,5 +1,7 @@
 -- `branching::solve_ray` meets its contract: the steps run on from any point that keeps the needs.
 use mathlib.Core.Path.{_≡_, sym, ap, subst, _∙_}
+use Prim.Native.Nat.{_≤_}
+use native.Mathlib.Nat.{mul-le-mul-right}
 use native.Mathlib.Omega.{arith}
 use lib.IntN.{pos}
 use lib.ListN.{length, length-map}
@@ -13,7 +15,7 @@ use Rattle.branching.specs.Branching.{nothingYet, countedOf, Bounded, Th
 use Rattle.branching.proofs.Breaking.{every-kept, needed-placed}
 use Rattle.branching.proofs.Ends.{limited-worthless, unpriced-is, unpriced-figures, ray-answers, ray-first, ray-kept, no-first}
 use Rattle.branching.proofs.Exits.{counted-work, countable, none-worked, few-work}
-use Rattle.branching.proofs.Twigs.{few-twigs}
+use Rattle.branching.proofs.Twigs.{few-twigs, cases-ray, cases-some}
 use Rattle.branching.proofs.solve_ray.Statement.{statement}
 use Rattle.branching.proofs.solve_ray.Tie as tie
 
@@ -100,7 +102,8 @@ returns c =
         subst (λ x. Through (instanceOf (u .unpriced .result)) ns most x (b .branch .result)) (one-case (u .before)) (b .branch .ensures .0) in
     let th : Through (worthless i) ns most one (b .branch .result) = subst (λ x. Through x ns most one (b .branch .result)) (q-is u) q in
     let t = c .from-ray .ensures in
-    let w = few-work (omega (arith, few-twigs (s .args .ns) (s .pre .needed .few) (worthless i))) (th .worked) in
+    let some : 1 ≤ s .args .ns .count = omega (arith, u .before .before .before .before .if1 .taken) in
+    let w = few-work (omega (arith, cases-ray (worthless i) (s .args .ns) some)) (th .worked) in
     record {
       answers = ray-answers i ns (b .branch .result) (c .from-ray .result .answer) (s .pre .needed .allowed) a (shown s) (th .worth) (th .holds)
           (t .found) (t .none);
@@ -122,8 +125,8 @@ returns-2 c =
     record {
       answers = ray-kept i ns nothingYet a (s .pre .needed .allowed) a (shown s) (s .pre .kind-is) kept;
       first = no-first i ns a (s .pre .kind-is);
-      few-steps = omega (arith, s .pre .solved .few-steps);
-      few-cells = omega (arith, s .pre .solved .few-cells);
+      few-steps = omega (arith, s .pre .solved .few-steps, mul-le-mul-right (s .args .most) (cases-some ns));
+      few-cells = omega (arith, s .pre .solved .few-cells, cases-some ns);
     }
 
 pub solve-ray-spec : {M : Type 1} → statement M
