@@ -1,4 +1,4 @@
--- Every answer that is true of a problem with needs keeps the demands. The case of a record is planned-demands (branching, proofs/Demands).
+-- Every answer that is true of a problem with needs keeps the demands. The case of a record is planned-demands (planner, proofs/Demands).
 -- relaxed-says: the relaxation is of the problem's kind.
 -- demands-needs: where the needs are allowed, every true answer does.
 use mathlib.Core.Path.{_≡_, refl, sym, _∙_, subst}

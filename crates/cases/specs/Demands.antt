@@ -1,5 +1,5 @@
 -- The demands of paper 01 in their own words, with needs: what follows for every answer that is true of a problem with the needs ns.
--- That each accepted record has a true answer is the contract of `solve_needs` and `plan` (crate branching): they reply with one.
+-- That each accepted record has a true answer is the contract of `solve_needs` and `plan` (crate planner): they reply with one.
 --   HasOptimalNeeds s ns   some point is optimal
 --   HasRayNeeds s ns       some feasible point has steps that are unbounded
 --   EndlessNeeds s ns      for every number some feasible point is worth more

@@ -8,7 +8,7 @@ use knapsack::Answer;
 use model::Model;
 use model::Need;
 use model::setters;
-use branching::plan_within;
+use planner::plan_within;
 use trials::tally::number_of;
 ghost use Prim.Native.Nat.{_≤_};
 

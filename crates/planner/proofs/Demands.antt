@@ -1,12 +1,20 @@
--- What the planner owes, in paper 01's words (knapsack, specs/Demands).
--- solved-demands (end theorem): the answer of `solve` keeps every demand. `solve` takes each problem in range and ends, so for each of them exactly one of
--- optimal, infeasible and unbounded holds, by `one-of-three`.
-use Rattle.knapsack.proofs.Demands.{demands}
-use Rattle.knapsack.specs.Demands.{Demands}
+-- What the planner owes for a record, in paper 01's words (cases, specs/Demands).
+-- planned-demands (end theorem): the reply to an accepted record keeps every demand. `plan` takes each record and ends, so for each accepted one exactly
+-- one of optimal, infeasible and unbounded holds, by `one-of-three`.
+use mathlib.Core.Path.{_≡_, subst}
 use Rattle.knapsack.specs.Meaning.{instanceOf}
-use Rattle.knapsack.specs.declared.Problem.{Problem}
-use Rattle.planner.specs.declared.Solved.{Solved}
-use Rattle.planner.specs.Outcomes.{Solves}
+use Rattle.knapsack.specs.declared.Answer.{Answer}
+use Rattle.knapsack.specs.declared.Verdict.the-variants.{Accepted}
+use Rattle.model.proofs.Records.{accepted}
+use Rattle.model.specs.Promises.{RepliesAs, Planned}
+use Rattle.model.specs.Records.{plainOf, needsOf, verdict}
+use Rattle.model.specs.declared.Model.{Model}
+use Rattle.cases.proofs.Demands.{demands-needs}
+use Rattle.cases.specs.Demands.{DemandsNeeds}
+use Rattle.planner.proofs.Breaking.{needed}
 
-pub solved-demands : (p : Problem) (r : Solved) → Solves p r → Demands (instanceOf p) (r .answer)
-solved-demands p r h = demands (instanceOf p) (r .answer) (h .answers)
+pub planned-demands : (m : Model) → verdict m ≡ Accepted → (a : Answer) → Planned m a → DemandsNeeds (instanceOf (plainOf m)) (needsOf (m .needs)) a
+planned-demands m e a h =
+    let s = instanceOf (plainOf m) in
+    let ns = needsOf (m .needs) in
+    demands-needs s ns (needed m (accepted m e) .allowed) a (subst (RepliesAs s ns a) e (h .replies))

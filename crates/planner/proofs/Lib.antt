@@ -1,5 +1,8 @@
-pub mod Values
-pub mod Outcomes
-pub mod Scales
+pub mod Breaking
+pub mod Naming
+pub mod Ordering
+pub mod Twigs
+pub mod Parts
+pub mod Exits
+pub mod Ends
 pub mod Demands
-pub mod Cells

@@ -6,8 +6,8 @@ mod texts; // the text entry
 
 use knapsack::Answer;
 use model::Model;
-use planner::STEPS;
-use branching::plan_within;
+use solver::STEPS;
+use planner::plan_within;
 use trials::draw::Spans;
 use trials::draw::drawn_problem;
 use trials::draw::small;

@@ -5,7 +5,7 @@ use domination::PairReply;
 use domination::least_pair;
 use listing::text_of;
 use model::Model;
-use branching::plan;
+use planner::plan;
 use replies::reply_to;
 use trials::make::first_of;
 use trials::make::free;

@@ -1,5 +1,5 @@
 -- What the relaxation's entry owes, in paper 01's words. Its answer has the planner's kind and is worth no less: relaxed-kind and relaxed-value of
--- `planned-demands` (branching, proofs/Demands).
+-- `planned-demands` (planner, proofs/Demands).
 -- same-items (end theorem): the lent list holds the same items afterwards, whether its problem is accepted or not.
 use mathlib.Core.List.{List}
 use mathlib.Core.Path.{_≡_, refl}

@@ -24,8 +24,8 @@ use Rattle.model.specs.Needs.{NotNegative, Present, Named, Allowed, names, rela
 use Rattle.model.specs.Records.{plainOf, needsOf, ItemFigures, FiguresInRange, Admissible}
 use Rattle.ordering.specs.Ranking.{Ranged}
 use Rattle.cases.proofs.Relaxing.{allowed-relaxed}
-use Rattle.branching.specs.Branching.{NamedBy, Needed}
-use Rattle.branching.proofs.Breaking.{needed}
+use Rattle.planner.specs.Branching.{NamedBy, Needed}
+use Rattle.planner.proofs.Breaking.{needed}
 use Rattle.relaxation.specs.Lent.{loose, Loosened}
 
 pub loosened-none : (p : Problem) (named : List Bool) → Loosened p named 0 p

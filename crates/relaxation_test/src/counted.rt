@@ -12,7 +12,7 @@ use crate::sheets::large;
 use crate::sheets::loosened;
 use crate::sheets::record_of;
 use crate::sheets::with_drawn_lines;
-use branching::plan;
+use planner::plan;
 use knapsack::Answer;
 use trials::draw::Spans;
 use trials::draw::small;

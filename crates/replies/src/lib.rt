@@ -1,13 +1,13 @@
 // From end to end: what is printed for a sheet, and the text of the reply to a record or a sheet in a lent buffer. Paper 01, "What `charge`
 // prints" and the text among the parts that stand in public.
-use branching::plan;
+use planner::plan;
 use knapsack::Answer;
 use knapsack::Kind;
 use knapsack::Verdict;
 use listing::list_reply;
 use listing::text_of;
 use model::Model;
-use planner::no_point;
+use solver::no_point;
 use sheet::Reading;
 use sheet::read;
 use text::Listed;

@@ -19,8 +19,8 @@ use Rattle.text.specs.declared.Listed.the-variants.{Written, Refused as NotWrit
 use Rattle.text.specs.Buffer.{noted, told, filled}
 use Rattle.model.specs.declared.Model.{Model}
 use Rattle.model.specs.Records.{plainOf, needsOf}
-use Rattle.planner.specs.declared.Solved.{Solved}
-use Rattle.branching.specs.Branching.{SolvesNeeds}
+use Rattle.solver.specs.declared.Solved.{Solved}
+use Rattle.planner.specs.Branching.{SolvesNeeds}
 use Rattle.replies.specs.Replies.{SheetLists}
 use Rattle.sheet.specs.declared.Reading.{Reading}
 use Rattle.sheet.specs.Reading.{readSheet}

@@ -1,10 +1,10 @@
 // Entries for programs in C and Rust, on bytes and numbers: a sheet's verdict, its reply in a lent buffer, and how much work it is.
 // include/runcefo.h declares them. Paper 01, "The sheet" and "What `charge` prints". Nothing is asked of a caller but that each
 // pointer has as many bytes behind it as the length beside it says.
-use branching::solve_needs;
+use planner::solve_needs;
 use knapsack::Verdict;
 use model::plain_of;
-use planner::STEPS;
+use solver::STEPS;
 use replies::list_sheet;
 use sheet::Reading;
 use sheet::read;
@@ -15,7 +15,7 @@ ghost use mathlib.Core.Path.{_≡_};
 ghost use Rattle.knapsack.specs.declared.Verdict.the-variants.{Accepted};
 ghost use Rattle.listing.specs.Printing.{room};
 ghost use Rattle.model.specs.Records.{plainOf};
-ghost use Rattle.branching.specs.Branching.{Needed};
+ghost use Rattle.planner.specs.Branching.{Needed};
 ghost use Rattle.sheet.specs.Reading.{readSheet};
 ghost use Rattle.runcefo.specs.Entries.{toldNumber, toldLine, lengthOf, listedVerdict, Plans, Steps, Cells, saved, left};
 

@@ -6,7 +6,7 @@ use Rattle.knapsack.specs.Meaning.{instanceOf}
 use Rattle.model.specs.Needs.{relaxedBut}
 use Rattle.model.specs.Records.{plainOf, needsOf}
 use Rattle.model.proofs.SameNeeds.{same-answers-needs}
-use Rattle.branching.proofs.Breaking.{needed-placed, needed}
+use Rattle.planner.proofs.Breaking.{needed-placed, needed}
 use Rattle.relaxation.specs.Lent.{Loosened}
 use Rattle.relaxation.proofs.Loose.{loosened-same, loosened-needed}
 use Rattle.relaxation.proofs.relaxed_answer.Statement.{statement}

@@ -7,8 +7,8 @@ use Rattle.knapsack.specs.declared.Verdict.{Verdict}
 use Rattle.knapsack.specs.declared.Verdict.the-variants.{Accepted}
 use Rattle.model.specs.Records.{plainOf}
 use Rattle.model.proofs.Records.{accepted}
-use Rattle.branching.specs.Branching.{Needed}
-use Rattle.branching.proofs.Breaking.{needed}
+use Rattle.planner.specs.Branching.{Needed}
+use Rattle.planner.proofs.Breaking.{needed}
 use Rattle.sheet.specs.declared.Reading.{Reading}
 use Rattle.sheet.specs.Reading.{readSheet}
 use Rattle.sheet.proofs.Sheets.{accepted-sheet}

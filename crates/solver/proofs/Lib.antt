@@ -1,0 +1,5 @@
+pub mod Values
+pub mod Outcomes
+pub mod Scales
+pub mod Demands
+pub mod Cells

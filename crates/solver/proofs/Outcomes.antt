@@ -1,0 +1,235 @@
+-- Why each answer of the solver is true: of a problem in range, and what its preparation, its rays and its search say.
+-- infeasible-corner: even the light ends do not fit.
+-- unbounded-corner: they fit, and there is a ray.
+-- optimal-found: there is no ray, and the search found a place.
+-- must-find: a search finds a place where there is a feasible point, as the light ends are if they fit (corner-feasible-at).
+use mathlib.Core.Path.{_≡_, refl, sym, ap, ap₂, _∙_, subst, subst₂}
+use mathlib.Core.Bool.{Bool, true, false, cond}
+use mathlib.Core.List.{List}
+use mathlib.Core.Logic.{_≢_, _⊎_, inl, inr}
+use Prim.Native.Nat.{ℕ, _+_, _*_, _≤_, _<_}
+use native.Mathlib.Omega.{arith}
+use lib.Dec.{ltb, eqb}
+use lib.IntN.{ℤ, pos, natAbs, _+ℤ_, _-ℤ_, _*ℤ_}
+use lib.Signed.{_≤ℤ_, _<ℤ_, ltZ}
+use borrow.Author.Tests.{lt-ltb, le-ltb, ltb-true, eqb-true}
+use Rattle.arith.specs.Limits.{farthest}
+use Rattle.arith.specs.Within.{Within}
+use Rattle.arith.specs.Gcd.{Divides, lowest}
+use Rattle.arith.specs.declared.Fraction.{Fraction}
+use Rattle.arith.specs.declared.Mixed.{Mixed}
+use Rattle.arith.proofs.Divisors.{lowest-den, lowest-coprime}
+use Rattle.arith.proofs.Fractions.{over-total, over-≈}
+use Rattle.arith.proofs.Integers.{split, split2, zed, diff-≤ℤ}
+use Rattle.arith.proofs.Mixes.{over}
+use Rattle.arith.proofs.Parts.{within-mul, within-abs, abs-within, lt-le}
+use Rattle.arith.proofs.Sums.{sum-cong}
+use Rattle.arith.proofs.Words.{lt-yes, le-no}
+use Rattle.greedy.specs.Fill.{numerator, at, weightOf, priceOf, itemOf, rankOf, lightest, lightOf, cornerWeight, begun, bound, unit, stand, solution}
+use Rattle.greedy.specs.declared.Columns.{Columns}
+use Rattle.greedy.specs.declared.Ends.{Ends}
+use Rattle.greedy.specs.declared.Fill.{Fill}
+use Rattle.greedy.specs.Ordered.{Ordered}
+use Rattle.knapsack.specs.Ranges.{itemAt, InRange}
+use Rattle.knapsack.specs.Meaning.{Instance, instanceOf, amountAt, pointOf, weights, prices, Infeasible, Shown, bare, Answers}
+use Rattle.knapsack.specs.declared.Answer.{Answer}
+use Rattle.knapsack.specs.declared.Item.{Item}
+use Rattle.knapsack.specs.declared.Kind.{Kind}
+use Rattle.knapsack.specs.declared.Refusal.{Refusal}
+use Rattle.knapsack.specs.declared.Kind.the-variants as kind
+use Rattle.knapsack.specs.declared.Problem.{Problem}
+use Rattle.knapsack.proofs.Bridge.{Reads, bridge-optimal}
+use Rattle.knapsack.proofs.Common.{weighsᴰ, valueᴰ, Feasibleᴰ, Optimalᴰ}
+use Rattle.prepare.specs.Narrowing.{spanOf}
+use Rattle.prepare.specs.Prepared.{PreparedAt, Prepared}
+use Rattle.prepare.proofs.Box.{box, box-same, box-is-shut, box-optimal, box-empty}
+use Rattle.prepare.proofs.Nearer.{near-optimal, near-empty}
+use Rattle.rays.specs.declared.RayReply.{RayReply}
+use Rattle.rays.specs.Rays.{RayFound}
+use Rattle.rays.proofs.Corner.{LightCorner, ranges-of, corner-feasible, corner-infeasible, corner-shown, corner-unbounded}
+use Rattle.search.specs.declared.Incumbent.{Incumbent}
+use Rattle.setting.specs.declared.Setting.{Setting}
+use Rattle.search.specs.Searched.{Searched}
+use Rattle.solver.specs.Outcomes.{unfilled, Cornered, boxAt, fillAt, valueAt, Best}
+use Rattle.firsts.proofs.Terms.{over-lowest, lowest-one}
+use Rattle.placed.proofs.Amounts.{ColumnsOf, near-zero, filling-shown}
+
+-- no other kind is optimal
+pub not-unbounded : (k : Kind) → k ≡ kind.Unbounded → k ≡ kind.Optimal → ⊥
+not-unbounded k e h = let z : _≡_ {A = ℕ} 0 1 = cc in omega arith
+
+pub not-refused : (k : Kind) (f : Refusal) → k ≡ kind.Refused f → k ≡ kind.Optimal → ⊥
+not-refused k f e h = let z : _≡_ {A = ℕ} 0 1 = cc in omega arith
+
+pub not-infeasible : (k : Kind) → k ≡ kind.Infeasible → k ≡ kind.Optimal → ⊥
+not-infeasible k e h = let z : _≡_ {A = ℕ} 0 1 = cc in omega arith
+
+-- ---- the light end of an item
+
+light-heavy : (a c l u : ℤ) → pos 0 <ℤ a → lightest a c l u ≡ l
+light-heavy a c l u h = rw (lt-yes h)
+
+light-light : (a c l u : ℤ) → a <ℤ pos 0 → lightest a c l u ≡ u
+light-light a c l u h = rw (le-no {a = pos 0} (lt-le h), lt-yes h)
+
+light-flat : (a c l u : ℤ) → a ≡ pos 0 → (lightest a c l u ≡ l) ⊎ (lightest a c l u ≡ u)
+light-flat a c l u h = rw h (go (ltZ (pos 0) c))
+  where
+    go : (b : Bool) → (cond b u l ≡ l) ⊎ (cond b u l ≡ u)
+    go true = inr refl
+    go false = inl refl
+
+module _ (p : Problem) (range : InRange p) (s : Setting) (q : Prepared p s) where
+  abbrev I : Instance
+  I = instanceOf p
+
+  abbrev c : Columns
+  c = s .cols
+
+  abbrev light : ℕ → ℤ
+  light k = lightOf (s .cols) (s .ends) k
+
+  abbrev lo : ℕ → ℤ
+  lo k = at (s .ends .lo) k
+
+  abbrev hi : ℕ → ℤ
+  hi k = at (s .ends .hi) k
+
+  in-box : (k : ℕ) → k < p .count → k < s .cols .count
+  in-box k l = omega (arith, q .count)
+
+  -- ---- the light corner
+
+  corner : LightCorner I lo hi light
+  corner = record {
+    lows = λ k l. sym (ap (λ (i : Item). i .lower) (box-same p s q .items k (in-box k l)));
+    highs = λ k l. sym (ap (λ (i : Item). i .upper) (box-same p s q .items k (in-box k l)));
+    ordered = λ k l. q .ready .in-order k (in-box k l);
+    heavy = λ k l h. light-heavy (weightOf c k) (priceOf c k) (lo k) (hi k) (rw (q .weights k l) h);
+    light = λ k l h. light-light (weightOf c k) (priceOf c k) (lo k) (hi k) (rw (q .weights k l) h);
+    flat = λ k l h. light-flat (weightOf c k) (priceOf c k) (lo k) (hi k) (q .weights k l ∙ h);
+  }
+
+  corner-weighs : cornerWeight (s .cols) (s .ends) (s .cols .count) ≡ weighsᴰ I light
+  corner-weighs = ap (cornerWeight (s .cols) (s .ends)) (q .count) ∙ sum-cong (p .count) (λ k. weightOf c k *ℤ light k) (λ k. weights I k *ℤ light k)
+      (λ k l. ap (λ z. z *ℤ light k) (q .weights k l))
+
+  room-is : begun (s .cols) (s .ends) .room ≡ p .capacity -ℤ weighsᴰ I light
+  room-is = ap₂ _-ℤ_ (q .capacity) corner-weighs
+
+  pub infeasible-corner : begun (s .cols) (s .ends) .room <ℤ pos 0 → Answers I (bare kind.Infeasible)
+  infeasible-corner h = (corner-infeasible I (ranges-of p range) lo hi light corner (less (p .capacity) (weighsᴰ I light) (rw room-is at h)), refl)
+    where
+      less : (b w : ℤ) → (b -ℤ w) <ℤ pos 0 → b <ℤ w
+      less = split2 _ (λ a b c e. simp zed (omega arith))
+
+  corner-fits : pos 0 ≤ℤ begun (s .cols) (s .ends) .room → weighsᴰ I light ≤ℤ p .capacity
+  corner-fits h = diff-≤ℤ (p .capacity) (weighsᴰ I light) (rw room-is at h)
+
+  pub corner-feasible-at : pos 0 ≤ℤ begun (s .cols) (s .ends) .room → Feasibleᴰ I 1 light
+  corner-feasible-at h = corner-feasible I (ranges-of p range) lo hi light corner (corner-fits h)
+
+  -- ---- the corner as an answer shows it
+
+  corner-numerator : (k : ℕ) → numerator (s .cols) (s .ends) unfilled 1 k ≡ light k *ℤ pos 1
+  corner-numerator k = rw (le-ltb (rankOf c k) 0 (omega arith)) (go (ltb 0 (c .live)) (eqb (rankOf c k) 0))
+    where
+      none : (x : ℤ) → x +ℤ pos 0 ≡ x
+      none = split _ (λ a b. simp zed (omega arith))
+
+      still : (x : ℤ) → x *ℤ pos 0 ≡ pos 0
+      still = split _ (λ a b. simp zed (omega arith))
+
+      go : (b t : Bool) → light k *ℤ pos 1 +ℤ cond b (cond t (unit (weightOf c k) *ℤ pos 0) (pos 0)) (pos 0) ≡ light k *ℤ pos 1
+      go false t = none _
+      go true false = none _
+      go true true = rw (still (unit (weightOf c k))) (none _)
+
+  corner-amount : (d : List ℤ) (a : Answer) → Cornered s d a → (k : ℕ) → k < p .count → amountAt a k ≡ record { p = light k; q = 1 }
+  corner-amount d a h k l = h .point-is .counted k (in-box k l) ∙ ap (λ z. lowest z 1) (corner-numerator k) ∙ lowest-one (light k) 1 (omega arith)
+
+  corner-reads : (d : List ℤ) (a : Answer) → Cornered s d a → Reads I 1 (pointOf a) light
+  corner-reads d a h k l = rw (corner-amount d a h k l) (record { eq = refl })
+
+  pub unbounded-corner : (r : RayReply) (a : Answer) → pos 0 ≤ℤ begun (s .cols) (s .ends) .room → RayFound p r → r .found ≡ true → Cornered s (r .steps) a
+      → Answers I a
+  unbounded-corner r a fits found y h = rw (h .kind-is) (record {
+    unbounded = rw (h .steps-are) (corner-unbounded p r lo hi light (pointOf a) range found y corner (corner-reads (r .steps) a h) (corner-fits fits));
+    shown = corner-shown I (ranges-of p range) lo hi light corner (amountAt a) (corner-amount (r .steps) a h)
+        (λ k l. h .point-is .beyond k (omega (arith, q .count)));
+    steps = rw (h .steps-are) (found .small);
+    endless = h .value-is;
+  })
+
+-- ---- what a search says, where an absent bound is at the problem's reach
+
+module _ (p : Problem) (range : InRange p) (s : Setting) (q : PreparedAt (spanOf p) p s) where
+  abbrev J : Instance
+  J = instanceOf p
+
+  abbrev d : Columns
+  d = s .cols
+
+  in-near : (k : ℕ) → k < p .count → k < s .cols .count
+  in-near k l = omega (arith, q .count)
+
+  -- ---- a search finds a place, if there is a feasible point
+
+  pub must-find : (N : ℕ → ℤ) → Feasibleᴰ J 1 N → (r : RayReply) (b : Incumbent) → RayFound p r → r .found ≡ false → Searched s b → b .found ≡ true
+  must-find N feasible r b ray n g = go (b .found) refl
+    where
+      go : (t : Bool) → b .found ≡ t → b .found ≡ true
+      go true e = e
+      go false e = absurd (near-empty p range (ray .none n) (box-empty p s q (g .empty e (λ k. itemAt p k .mark) (q .marked))) 1 N (omega arith) feasible)
+
+  -- ---- a search that found a place
+
+  module _ (b : Incumbent) (g : Searched s b) (y : b .found ≡ true) where
+    abbrev e : Ends
+    e = boxAt s (b .place)
+
+    abbrev f : Fill
+    f = fillAt s (b .place)
+
+    abbrev D : ℕ
+    D = valueAt s (b .place) .parts
+
+    abbrev N : ℕ → ℤ
+    N = solution (s .cols) e f
+
+    D≥1 : 1 ≤ D
+    D≥1 = subst (λ (v : Mixed). 1 ≤ v .parts) (g .parts-are y) (omega (arith, g .proper y .low))
+
+    best-box : Optimalᴰ (box p s q) D N
+    best-box = subst (λ (v : Mixed). Optimalᴰ (box p s q) (v .parts) N) (g .parts-are y) (g .optimal y (λ k. itemAt p k .mark) (q .marked))
+
+    best-value : valueᴰ J N ≡ over (valueAt s (b .place))
+    best-value = sym (box-is-shut p s q D N .1) ∙ g .value-is y (λ k. itemAt p k .mark) (q .marked) ∙ ap over (g .parts-are y)
+
+    amount-small : (k : ℕ) → k < p .count → natAbs (N k) ≤ farthest * D
+    amount-small k l = near-zero (at (s .ends .lo) k) (at (s .ends .hi) k) (N k) D (q .ready .sized .ends .lo-in k) (q .ready .sized .ends .hi-in k)
+        (best-box .feasible .keeps k (in-near k l) .above) (best-box .feasible .keeps k (in-near k l) .below)
+
+    module _ (a : Answer) (h : Best s (b .place) a) where
+      shows : (k : ℕ) → k < p .count → amountAt a k ≡ lowest (N k) D
+      shows k l = h .point-is .counted k (in-near k l)
+
+      reads : Reads J D (pointOf a) N
+      reads k l = rw (shows k l) (over-lowest (N k) D D≥1)
+
+      columns-of : ColumnsOf J d
+      columns-of = record { count = q .count; own-weight = q .weights; item-rank = q .ready .ordered .item-rank; sizes = q .ready .ordered .sizes }
+
+      shown : Shown J (amountAt a)
+      shown = filling-shown J d columns-of e f D≥1 amount-small (amountAt a) shows (λ k l. h .point-is .beyond k (omega (arith, q .count)))
+
+      pub optimal-found : (r : RayReply) → RayFound p r → r .found ≡ false → Answers J a
+      optimal-found r ray n = rw (h .kind-is) (record {
+        optimal = bridge-optimal J D (pointOf a) N D≥1 reads (near-optimal p range (ray .none n) D N (box-optimal p s q D N best-box));
+        shown = shown;
+        exact = rw (h .value-is) (over-≈ (over-lowest (over (valueAt s (b .place))) D D≥1) (over-total D (p .count) (pointOf a) N reads (prices J)) D≥1
+            (sym best-value));
+        divisor = rw (h .value-is) (lowest-den (over (valueAt s (b .place))) D D≥1);
+        lowest = rw (h .value-is) (lowest-coprime (over (valueAt s (b .place))) D D≥1);
+        still = h .steps-are;
+      })
