@@ -2,7 +2,7 @@
 //! that are hard for a search.
 
 use crate::draw::{with_needs, Rng};
-use crate::problem::{Item, Problem};
+use crate::problem::{Item, Need, Problem};
 
 /// What an item weighs and is worth.
 type Figures = (i64, i64);
@@ -153,4 +153,17 @@ impl Family {
 /// A sheet of one item, of weight and price 1.
 pub fn unit_sheet() -> Problem {
     Problem::plain(7, vec![Item { integer: true, weight: 1, price: 1, lower: Some(0), upper: Some(9) }])
+}
+
+/// Sixteen integer items, weakly correlated, with so many needs drawn among them.
+pub fn needing(rng: &mut Rng, bound: i64, count: usize) -> Problem {
+    let mut p = FAMILIES[1].draw(rng, bound, 0);
+    while p.needs.len() < count {
+        let need = Need { item: rng.between(0, 15) as usize, cover: rng.between(0, 15) as usize };
+        if need.item != need.cover && !p.needs.contains(&need) {
+            p.needs.push(need);
+        }
+    }
+    p.needs.sort();
+    p
 }

@@ -8,6 +8,8 @@ mod enumeration;
 mod families;
 mod hunt;
 mod independent;
+mod load;
+mod needy;
 mod ours;
 mod picture;
 mod problem;
@@ -54,7 +56,7 @@ fn usage() -> ! {
 
 /// The commands that stand there; compare and speed if none does.
 fn commands(a: &mut Arguments) -> Vec<&'static str> {
-    let mut named = ["compare", "damage", "speed", "reading", "self", "hunt", "reply"].to_vec();
+    let mut named = ["compare", "damage", "speed", "reading", "self", "hunt", "needs", "reply"].to_vec();
     named.retain(|word| a.word(word));
     if named.is_empty() {
         named = vec!["compare", "speed"];
@@ -92,6 +94,7 @@ fn main() {
             "reading" => reading::reading(seed, choose(200, 2000)),
             "self" => trial::trial(seed, sheets.unwrap_or(choose(2000, 20_000))),
             "hunt" => hunt::hunt(seed, rounds, rules),
+            "needs" => needy::needs(seed, speed.sheets, speed.raced),
             _ => rivals::reply(),
         };
     }

@@ -50,9 +50,17 @@ pub fn solvers() -> Vec<Solver> {
     solvers
 }
 
+fn value(p: &Problem) -> Option<f64> {
+    value_of(&twin::plan(p, WITH_SCALES).text)
+}
+
+pub fn has_best(p: &Problem) -> bool {
+    value(p).is_some()
+}
+
 /// The size of the best value, by the twin.
 fn best(p: &Problem) -> f64 {
-    value_of(&twin::plan(p, WITH_SCALES).text).expect("a best value").abs()
+    value(p).expect("a best value").abs()
 }
 
 pub fn races(solvers: &[Solver], problems: &[Problem], progress: &mut Progress) -> Vec<Race> {

@@ -3,6 +3,7 @@
 use crate::draw::Rng;
 use crate::families::{Family, FAMILIES, ITEMS};
 use crate::independent;
+use crate::load;
 use crate::ours;
 use crate::picture;
 use crate::problem::Problem;
@@ -56,6 +57,8 @@ struct Pair {
     twin: f64,
 }
 
+const LOAD: &str = "test load";
+
 /// From so many cells on the steps of a sheet do not count.
 const DEEP: u64 = 1_000_000;
 
@@ -108,16 +111,16 @@ fn sheets(family: &Family, bound: i64, continuous: usize, o: &Options) -> Vec<Pr
     (0..o.sheets).map(|_| family.draw(&mut rng, bound, continuous)).collect()
 }
 
-fn measured(family: &Family, bound: i64, continuous: usize, solvers: &[Solver], o: &Options) -> Row {
-    let problems = sheets(family, bound, continuous, o);
-    let mut row = Row { name: family.name, bound, ..Default::default() };
+/// A row of these problems; the races are on the first of them that have a best value.
+fn measured(name: &'static str, bound: i64, problems: &[Problem], solvers: &[Solver], o: &Options) -> Row {
+    let mut row = Row { name, bound, ..Default::default() };
     let mut progress = Progress::new();
     for (k, p) in problems.iter().enumerate() {
-        progress.show(|| format!("{}, bound {bound}: {k} of {} sheets", family.name, problems.len()));
+        progress.show(|| format!("{name}, bound {bound}: {k} of {} sheets", problems.len()));
         measure(p, o, &mut row);
     }
-    let raced = &problems[..o.raced.min(problems.len())];
-    row.races = race::races(solvers, raced, &mut progress);
+    let raced: Vec<Problem> = problems.iter().filter(|p| race::has_best(p)).take(o.raced).cloned().collect();
+    row.races = race::races(solvers, &raced, &mut progress);
     row.steps.sort();
     row.cells.sort();
     row.ours.sort_by(f64::total_cmp);
@@ -203,19 +206,29 @@ pub fn speed(o: &Options) -> bool {
         heading(continuous);
         for family in FAMILIES.iter().filter(|f| f.name.contains(&o.family)) {
             for bound in family.bounds {
-                let row = measured(family, bound, continuous, &solvers, o);
+                let row = measured(family.name, bound, &sheets(family, bound, continuous, o), &solvers, o);
                 row.show();
                 rows.push((continuous, row));
             }
         }
     }
+    if let Some(file) = &o.picture {
+        std::fs::write(file, picture::draw(&solvers, &rows, o)).expect("a file for the picture");
+    }
+    let problems = load::problems();
+    if LOAD.contains(&o.family) {
+        println!();
+        println!("The test load: all its sheets, of 1 to 16 items; any bounds, some absent, some crossing");
+        let row = measured(LOAD, 10_000, &problems, &solvers, o);
+        row.show();
+        rows.push((0, row));
+    }
     let is_same = sum_up(&rows);
     if o.raced > 0 {
         race::show(&solvers, &rows, o.raced);
     }
-    if let Some(file) = &o.picture {
-        std::fs::write(file, picture::draw(&solvers, &rows, o)).expect("a file for the picture");
-        println!("picture: {file}");
-    }
-    o.rules != ours::RULES || is_same
+    o.picture.iter().for_each(|file| println!("picture: {file}"));
+    let is_stored = load::is_stored(&problems);
+    println!("the stored test load is {}as drawn here", if is_stored { "" } else { "NOT " });
+    is_stored && (o.rules != ours::RULES || is_same)
 }

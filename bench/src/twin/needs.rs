@@ -3,7 +3,7 @@
 
 use super::first::Point;
 use super::relaxation::{less, Mixed};
-use super::{plain, rays, Answer, Rules, Work};
+use super::{plain, Answer, Rules, Work};
 use crate::problem::{Need, Problem};
 
 impl Point {
@@ -23,18 +23,23 @@ impl Cases<'_> {
         self.best.as_ref().is_none_or(|(w, y)| less(*w, v) || (self.rules.first && !less(v, *w) && x.comes_before(y)))
     }
 
-    /// The best point of a problem without a ray, if it is better than the one so far. No case is worth more than its plain best point.
+    /// One case more.
     fn look(&mut self, p: &Problem) {
-        let Answer::Best(v, x) = plain(p, self.rules, self.work) else {
+        let answer = plain(p, self.rules, self.work);
+        self.take(p, answer);
+    }
+
+    /// The best point of a problem whose plain answer is this, if it is better than the one so far. No point of it is better than its plain best point.
+    fn take(&mut self, p: &Problem, answer: Answer) {
+        let Answer::Best(v, x) = answer else {
             return;
         };
-        if self.best.as_ref().is_some_and(|(w, _)| less(v, *w)) {
+        if !self.is_better(v, &x) {
             return;
         }
-        if let Some(n) = p.needs.iter().find(|n| x.breaks(n)) {
-            cases(p, n).iter().for_each(|q| self.look(q));
-        } else if self.is_better(v, &x) {
-            self.best = Some((v, x));
+        match p.needs.iter().find(|n| x.breaks(n)) {
+            Some(n) => cases(p, n).iter().for_each(|q| self.look(q)),
+            None => self.best = Some((v, x)),
         }
     }
 }
@@ -50,14 +55,17 @@ fn cases(p: &Problem, n: &Need) -> [Problem; 2] {
 
 /// A ray moves no item that a need names: it can be repeated from every point. Where all prices are 0 each point is best.
 pub fn by_cases(p: &Problem, rules: Rules, work: &mut Work) -> Answer {
-    let ray = rays::ray(p);
-    let mut q = p.clone();
-    q.items.iter_mut().filter(|_| ray.is_some()).for_each(|i| i.price = 0);
+    let answer = plain(p, rules, work);
     let mut cases = Cases { rules, work, best: None };
-    cases.look(&q);
-    match (cases.best, ray) {
-        (None, _) => Answer::Infeasible,
-        (Some((_, x)), Some(steps)) => Answer::Unbounded(x, steps),
-        (Some((v, x)), None) => Answer::Best(v, x),
+    if let Answer::Unbounded(x, steps) = answer {
+        if !p.needs.iter().any(|n| x.breaks(n)) {
+            return Answer::Unbounded(x, steps);
+        }
+        let mut q = p.clone();
+        q.items.iter_mut().for_each(|i| i.price = 0);
+        cases.look(&q);
+        return cases.best.map_or(Answer::Infeasible, |(_, x)| Answer::Unbounded(x, steps));
     }
+    cases.take(p, answer);
+    cases.best.map_or(Answer::Infeasible, |(v, x)| Answer::Best(v, x))
 }
