@@ -5,7 +5,7 @@ use borrow.Author.Needs.{needs}
 use Rattle.arith.proofs.Parts.{impossible}
 use Rattle.knapsack.specs.Meaning.{instanceOf}
 use Rattle.model.specs.Records.{needsOf}
-use Rattle.planner.specs.Branching.{nothingYet, Through}
+use Rattle.planner.specs.Branching.{nothingYet, mostCases, Through}
 use Rattle.planner.proofs.Breaking.{needed-placed}
 use Rattle.planner.proofs.Ends.{ray-kind, limited-by, told-answers, told-first, more-steps}
 use Rattle.planner.proofs.Exits.{none-worked, few-work}
@@ -78,7 +78,7 @@ returns-2 c =
     let th : Through i ns few nothingYet (b .branch .result) =
         subst (λ x. Through i ns few x (b .branch .result)) (n .nothing-yet .ensures) (b .branch .ensures .0) in
     let t = c .told .ensures in
-    let w = few-work (omega (arith, cases-plain i ns)) (th .worked) in
+    let w = few-work {n = mostCases ns} (omega (arith, cases-plain i ns)) (th .worked) in
     more-steps (v .before .few-steps .ensures .0) (record {
       answers = told-answers i ns (b .branch .result) (c .told .result .answer) (th .worth) (th .holds) (t .found) (t .none);
       first = told-first i ns (b .branch .result) (c .told .result .answer) (th .first) (t .found) (t .none);

@@ -11,7 +11,7 @@ use Rattle.knapsack.specs.Meaning.{instanceOf, AnswersAs, ShownUnbounded}
 use Rattle.model.specs.Needs.{Every, Allowed}
 use Rattle.model.specs.Records.{FiguresInRange, needsOf}
 use Rattle.cases.proofs.Endless.{allowed-priced, worthless}
-use Rattle.planner.specs.Branching.{nothingYet, countedOf, Bounded, Through}
+use Rattle.planner.specs.Branching.{nothingYet, countedOf, mostCases, Bounded, Through}
 use Rattle.planner.proofs.Breaking.{every-kept, needed-placed}
 use Rattle.planner.proofs.Ends.{limited-worthless, unpriced-is, unpriced-figures, ray-answers, ray-first, ray-kept, no-first}
 use Rattle.planner.proofs.Exits.{counted-work, countable, none-worked, few-work}
@@ -103,7 +103,7 @@ returns c =
     let th : Through (worthless i) ns most one (b .branch .result) = subst (λ x. Through x ns most one (b .branch .result)) (q-is u) q in
     let t = c .from-ray .ensures in
     let some : 1 ≤ s .args .ns .count = omega (arith, u .before .before .before .before .if1 .taken) in
-    let w = few-work (omega (arith, cases-ray (worthless i) (s .args .ns) some)) (th .worked) in
+    let w = few-work {n = mostCases ns} (omega (arith, cases-ray (worthless i) (s .args .ns) some)) (th .worked) in
     record {
       answers = ray-answers i ns (b .branch .result) (c .from-ray .result .answer) (s .pre .needed .allowed) a (shown s) (th .worth) (th .holds)
           (t .found) (t .none);
