@@ -124,11 +124,11 @@ fn crossing_rows() {
     show_pair(b'+', two(10, loose(held(3, 5, 0, 10)), x));
     show_sheet(
         b'+',
-        b"limit 1\n20\nitems 1\nW 9 13\nlower 1\n1 3\nupper 1\n1 2\n",
+        b"limit 1\n20\nitems 1\nW 9 13\nlower 1\n1 3\nupper 1\n1 2\nneeds 0\n",
     );
     show_sheet(
         b'+',
-        b"limit 1\n20\nitems 1\nW 9 13\nlower 1\n1 3\nupper 1\n1 2\n1",
+        b"limit 1\n20\nitems 1\nW 9 13\nlower 1\n1 3\nupper 1\n1 2\nneeds 0\n1",
     );
 }
 
