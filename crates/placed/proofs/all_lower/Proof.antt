@@ -28,10 +28,11 @@ is-absent-requires c κs = search needs
 
 returns : tie.Need-returns Inv-loop μ-loop
 returns c =
-    let l = c .before .before .before .before in
+    let t = c .before .before .before in
+    let l = t .before in
     record {
       all = λ e. absurd (impossible e);
-      some = λ e. lower-found (l .before .args .t1) (l .loop .k) (omega (arith, c .before .before .before .loop-test .taken))
+      some = λ e. lower-found (l .before .args .t1) (l .loop .k) (omega (arith, t .loop-test .taken))
           (sym (c .before .is-absent .ensures) ∙ c .if1 .taken);
     }
 
@@ -43,7 +44,8 @@ loop-less c = omega arith
 
 loop-again : tie.Need-loop-again Inv-loop μ-loop
 loop-again c =
-    let l = c .before .before .before .before in
+    let t = c .before .before .before in
+    let l = t .before in
     (omega arith, lower-step (l .before .args .t1) (l .loop .k) (l .loop .inv .1) (sym (c .before .is-absent .ensures) ∙ c .if1 .left))
 
 returns-2 : tie.Need-returns-2 Inv-loop μ-loop

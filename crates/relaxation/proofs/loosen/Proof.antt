@@ -45,7 +45,8 @@ loop-less c = omega arith
 
 loop-again : tie.Need-loop-again Inv-loop μ-loop
 loop-again c =
-    let b = c .before .before .before .before in
+    let t = c .before .before .before in
+    let b = t .before in
     let p = b .before .args .t1 in
     let named = b .before .args .t2 in
     let k = b .loop .k in

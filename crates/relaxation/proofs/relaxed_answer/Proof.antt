@@ -13,7 +13,9 @@ use Rattle.relaxation.proofs.relaxed_answer.Statement.{statement}
 use Rattle.relaxation.proofs.relaxed_answer.Tie as tie
 
 abbrev start : tie.After-loosen → tie.Start
-start c = c .before .before .before .before
+start c =
+    let m = c .before .before in
+    m .before .before
 
 plain-of-requires : tie.Need-plain-of-requires
 plain-of-requires c κs = search needs

@@ -35,7 +35,9 @@ abbrev clear : tie.After-ceiling → tie.Else1
 clear m = m .before .before .before
 
 abbrev ceiled : tie.After-first-of-frame → tie.After-ceiling
-ceiled f = f .before .before .before .before .before .before
+ceiled f =
+    let h = f .before .before .before in
+    h .before .before .before
 
 box : (c : tie.After-struct-told) → let a = entry c .args in Boxes (a .cols) (a .ends) (a .level) (a .levels)
 box c = entry c .pre .0 .0

@@ -85,7 +85,9 @@ returns-2 c =
 
 -- from the best place, back to where there is no ray; from the first point, back to the best place
 abbrev rayless : tie.After-best-place → tie.Else2
-rayless n = n .before .before .before .before
+rayless n =
+    let r = n .before .before in
+    r .before .before
 
 abbrev placed-at : tie.After-shown-first → tie.After-best-place
 placed-at f = f .before .before .before
@@ -95,7 +97,9 @@ reach-of-requires c κs = search needs
 
 -- the preparation, from where there is no ray
 Prep : tie.Else2 → tie.After-prepare
-Prep e = e .before .before .before .before .before .before
+Prep e =
+    let r = e .before .before .before in
+    r .before .before .before
 
 narrowed-requires : tie.Need-narrowed-requires
 unfolding Prep

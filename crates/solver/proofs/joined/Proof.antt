@@ -31,10 +31,16 @@ held s = ap₂ (λ (x y : ℤ). x +ℤ y) (ap (λ (x : ℤ). toZ w64 (ofZ w64 x)
     (toZ-pos w64 (omega (arith, s .pre .part-in)))
 
 add-result : tie.Need-add-result
-add-result c = let s = c .before .before .before .before in rw (held s) (within-sfits (lit< tt) (joined-within (s .args .v) (s .pre)))
+add-result c =
+    let m = c .before .before in
+    let s = m .before .before in
+    rw (held s) (within-sfits (lit< tt) (joined-within (s .args .v) (s .pre)))
 
 returns : tie.Need-returns
-returns c = let s = c .before .before .before .before in rw (held s) (within-back tt (joined-within (s .args .v) (s .pre)))
+returns c =
+    let m = c .before .before in
+    let s = m .before .before in
+    rw (held s) (within-back tt (joined-within (s .args .v) (s .pre)))
 
 pub joined-spec : {M : Type 1} → statement M
 joined-spec = tie.close (tie.spec cast-result mul-result cast-result-2 add-result returns)

@@ -53,17 +53,21 @@ amounts-requires c κs =
 
 joined-requires : tie.Need-joined-requires
 joined-requires c κs =
-    let s = c .before .before .before .before in rw (value-is (c .before)) (bound-joins (s .args .s .cols) (fillAt (s .args .s) (s .args .x)) (filled s))
+    let v = c .before in
+    let s = v .before .before .before in
+    rw (value-is v) (bound-joins (s .args .s .cols) (fillAt (s .args .s) (s .args .x)) (filled s))
 
 numerator-is : (c : tie.After-joined) →
-    let start = c .before .before .before .before .before in
+    let v = c .before .before in
+    let start = v .before .before .before in
     c .joined .result ≡ over (valueAt (start .args .s)
     (start .args .x))
 numerator-is c = c .joined .ensures ∙ ap over (value-is (c .before .before))
 
 reduce-requires : tie.Need-reduce-requires
 reduce-requires c κs =
-    let s = c .before .before .before .before .before in
+    let m = c .before .before in
+    let s = m .before .before .before in
     let v = valueAt (s .args .s) (s .args .x) in
     let j = bound-joins (s .args .s .cols) (fillAt (s .args .s) (s .args .x)) (filled s) in
     rw (back (c .joined .result) (c .joined .ok), numerator-is c, value-is (c .before .before))

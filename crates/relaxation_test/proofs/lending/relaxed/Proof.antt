@@ -263,7 +263,8 @@ module _ {M : Type 1} (𝓤 : URA M) (H : Heap 𝓤) (A : Atoms 𝓤) (W : Given
         (and-then ! (load ! (from ! (fld ! refl (stop !))) (look-in ! 14 (sub ! 3 refl (whole !)))) (no-more !)))) (λ w.
         use1 W (later (some (λ (r : Answer). ((‵ (flft (α ∷ []) fullShare) ⊛ ‵ ftrue) ⊛ ‵ (Q.the-row .own r (w ∷ []))) ⊛ raw
         (ensured 𝓤 H A relax′.ended (relax′.clauses 𝓤 H A mem run) (α ∷ [], tt) (c, (x l₂ α γ, (ns, tt))) tt r)))) (id⊢ 𝓤 _) $ await ! tt $ pick ! (λ r.
-        split ! $ move ! (1 ∷ []) $ use1 W (some (λ (zs : Unit {0} × (List Item × (Unit {0} × Unit {0}))). ‵ (lasts relax′.ended (α ∷ [], tt) (c, (x l₂ α γ, (ns, tt))) zs) ⊛
+        split ! $ move ! (1 ∷ []) $ use1 W (some (λ (zs : Unit {0} × (List Item × (Unit {0} × Unit {0}))). ‵ (lasts relax′.ended
+        (α ∷ [], tt) (c, (x l₂ α γ, (ns, tt))) zs) ⊛
         raw (fact 𝓤 (Relaxes c ns ls (zs .1 .0) r)))) (id⊢ 𝓤 _) $ pick ! (λ zs.
         split ! $ move ! (1 ∷ []) $ heard ! (Relaxes c ns ls (zs .1 .0) r) (λ e. fsplit ! $ drop ! $ fsplit ! $ fsplit ! $ move ! (1 ∷ []) $ feqL ! (λ l.
         -- [the last list; true; the token and the answer; the lender's part; the other items; _7; …]
