@@ -1,4 +1,4 @@
--- A test load from a seed number: paper 02, request 8. The state starts at the seed, below 2^64; "after s" means by draws at nextState s and on.
+-- A test load from a seed number: paper 02, requests 8 and 9. The state starts at the seed, below 2^64; "after s" means by draws at nextState s and on.
 --   nextState s          for each draw hexadecimal 9E3779B97F4A7C15 is added to the state, modulo 2 to the 64
 --   mixLeft k t, mixRight k t   t xor (t shifted left, right by k), in 64 bits
 --   drawAt s             the draw: a copy t of the state becomes t xor (t shifted left 13), then likewise right 7, then left 17
@@ -9,7 +9,9 @@
 --   boundBy b s          a bound by whether its first draw, at s, was 3: none, or the number of the next draw;  boundFrom s: its first draw is at s
 --   drawnBound s         a bound after s: a first draw 0 to 3, 3 being none, then the number if present; and the state after
 --   figuresAt a b c      an item with its mark, weight and price drawn at a, b, c, no bounds as yet
---   drawnItem s          mark, weight and price after s; and the state after
+--   drawnFigures s       mark, weight and price after s; and the state after
+--   mended i             a price 0 beside weight 0 becomes 1 (request 9)
+--   drawnItem s          an item after s: drawnFigures s, mended; and the state after
 --   drawnSide side b i   the item i with the drawn bound b
 --   drawnLine σ i s      what a section draws for the item i after s
 --   putLine d k x        a drawn item put at its place;  withLine σ d k: the section's line of the item at place k
@@ -29,7 +31,7 @@ use Rattle.knapsack.specs.declared.Mark.the-variants.{Integer, Continuous}
 use Rattle.model.specs.declared.Model.{Model}
 use Rattle.model.specs.declared.Side.{Side}
 use Rattle.model.specs.declared.Side.the-variants as side
-use Rattle.model.specs.Records.{emptyModel, itemAt}
+use Rattle.model.specs.Records.{emptyModel, itemAt, isBlank}
 use Rattle.model.specs.Setters.{withCapacity, withCount, withItem, bounded}
 use Rattle.drawing.specs.declared.DrawnBound.{DrawnBound}
 use Rattle.drawing.specs.declared.DrawnItem.{DrawnItem}
@@ -100,11 +102,17 @@ drawnBound s = boundFrom (nextState s)
 abbrev pub figuresAt : ℕ → ℕ → ℕ → Item
 figuresAt a b c = record { mark = markAt a; weight = weightAt b; price = priceAt c; lower = Absent; upper = Absent }
 
-unfoldable pub drawnItem : ℕ → DrawnItem
-drawnItem s = record {
+unfoldable pub drawnFigures : ℕ → DrawnItem
+drawnFigures s = record {
   item = figuresAt (nextState s) (nextState (nextState s)) (nextState (nextState (nextState s)));
   state = nextState (nextState (nextState s));
 }
+
+unfoldable pub mended : Item → Item
+mended i = cond (isBlank i) (record { mark = i .mark; weight = i .weight; price = pos 1; lower = i .lower; upper = i .upper }) i
+
+unfoldable pub drawnItem : ℕ → DrawnItem
+drawnItem s = record { item = mended (drawnFigures s .item); state = drawnFigures s .state }
 
 -- ---- a section, a problem
 

@@ -1,4 +1,4 @@
-// A test load from a seed number (paper 02, request 8): the same problems at every site.
+// A test load from a seed number (paper 02, request 8, and 9 for its blank items): the same problems at every site.
 // A 64-bit state is added to for each draw; the draw is a scrambled copy of it. draw_problem draws one problem in sheet order and gives
 // the state from which the next one is drawn. Every problem so made is admissible: proofs/Drawn (drawn-admissible).
 use knapsack::Bound;
@@ -26,6 +26,8 @@ ghost use Rattle.drawing.specs.Drawing.{
   priceAt,
   valueAt,
   drawnBound,
+  drawnFigures,
+  mended,
   drawnItem,
   drawnSide,
   drawnLine,
@@ -173,9 +175,9 @@ fn draw_bound(state: u64) -> DrawnBound
     }
 }
 
-// An item without bounds as yet.
-fn draw_item(state: u64) -> DrawnItem
-    ensures { λ r. ⌜ r ≡ drawnItem state ⌝ }
+// Mark, weight and price as they are drawn.
+fn draw_figures(state: u64) -> DrawnItem
+    ensures { λ r. ⌜ r ≡ drawnFigures state ⌝ }
 {
     let a = next_state(state);
     let b = next_state(a);
@@ -189,6 +191,31 @@ fn draw_item(state: u64) -> DrawnItem
         upper: Bound::Absent,
     };
     DrawnItem { item, state: c }
+}
+
+// A price drawn as 0 beside weight 0 becomes 1, so that no item is blank.
+fn mend(item: Item) -> Item
+    ensures { λ r. ⌜ r ≡ mended item ⌝ }
+{
+    if model::is_blank(item) {
+        let mut i = item;
+        i.price = 1;
+        return i;
+    }
+    item
+}
+
+// An item without bounds as yet.
+fn draw_item(state: u64) -> DrawnItem
+    ensures { λ r. ⌜ r ≡ drawnItem state ⌝ }
+{
+    let d = draw_figures(state);
+    let figures = d.item;
+    let item = mend(figures);
+    DrawnItem {
+        item,
+        state: d.state,
+    }
 }
 
 // An item with a bound drawn on one side.

@@ -99,6 +99,18 @@ fn put_answer(out: &mut [u8], a: Answer, n: usize) -> usize
     }
 }
 
+// The line of a refusal by itself.
+pub fn refusal_text(f: Refusal) -> Text
+    ensures { λ r. ⌜ Shows (refusedLine f) r ⌝ }
+{
+    let mut bytes = text::space();
+    let len = put_refused(&mut bytes, f);
+    Text {
+        bytes: bytes,
+        len: len,
+    }
+}
+
 // The text of an answer about n items.
 pub fn text_of(a: Answer, n: usize) -> Text
     ensures { λ r. ⌜ Shows (printed n a) r ⌝ }

@@ -14,12 +14,14 @@ use Rattle.knapsack.specs.declared.Answer.{Answer}
 use Rattle.knapsack.specs.declared.Item.{Item}
 use Rattle.knapsack.specs.declared.Verdict.{Verdict}
 use Rattle.knapsack.specs.declared.Verdict.the-variants.{Accepted, Refused}
+use Rattle.model.specs.declared.Blanks.{Blanks}
+use Rattle.model.specs.declared.Blanks.the-variants as blanks
 use Rattle.model.specs.declared.Model.{Model}
 use Rattle.model.specs.declared.Need.{Need}
 use Rattle.model.specs.Needs.{relaxedBut}
 use Rattle.model.specs.Promises.{RepliesAs, Planned, Relaxed}
-use Rattle.model.specs.Records.{itemAt, needAt, plainOf, needsUpTo, needsOf, Agree, badFigure, someItem, held, badLine, unfitLine, lineBefore}
-use Rattle.model.specs.Records.{refusedIf, orElse, needVerdict, needsVerdict, verdict}
+use Rattle.model.specs.Records.{itemAt, needAt, plainOf, needsUpTo, needsOf, Agree, badFigure, barred, someItem, held, badLine, unfitLine, lineBefore}
+use Rattle.model.specs.Records.{refusedIf, orElse, needVerdict, needsVerdict, verdictBy, verdict}
 use Rattle.model.specs.Refusals.{item-number, named-item}
 use Rattle.model.proofs.SameNeeds.{same-relaxed-but, same-answers-needs, same-first-needs}
 use Rattle.model.proofs.NeedLines.{before-next, line-numbers, needs-cong}
@@ -60,10 +62,8 @@ module _ (m o : Model) (e : Agree m o) where
       go false h =
           let n = line-numbers (held (m .count)) (lineBefore (m .needs) j) (needAt (m .needs) j) h in
           let few = held-few (m .count) in
-          let i : itemAt m (needAt (m .needs) j .item - 1) ≡ itemAt o (needAt (m .needs) j .item - 1) =
-          e .items _ (omega (arith, n .first-least, n .first-most)) in
-          let c : itemAt m (needAt (m .needs) j .cover - 1) ≡ itemAt o (needAt (m .needs) j .cover - 1) =
-          e .items _ (omega (arith, n .second-least, n .second-most)) in
+          let i : itemAt m (needAt (m .needs) j .item - 1) ≡ itemAt o (needAt (m .needs) j .item - 1) = e .items _ (omega (arith, n .first-least, n .first-most)) in
+          let c : itemAt m (needAt (m .needs) j .cover - 1) ≡ itemAt o (needAt (m .needs) j .cover - 1) = e .items _ (omega (arith, n .second-least, n .second-most)) in
           rw (i, c)
 
   lines-same : (n : ℕ) → n ≤ m .needs .count → needsVerdict n m ≡ needsVerdict n o
@@ -71,17 +71,16 @@ module _ (m o : Model) (e : Agree m o) where
   lines-same zero l = refl
   lines-same (suc n) l = ap₂ orElse (lines-same n (omega arith)) (line-same n (omega arith))
 
-  pub beyond-verdict : verdict m ≡ verdict o
-  unfolding verdict
-  beyond-verdict =
+  pub beyond-verdict : (b : Blanks) → verdictBy b m ≡ verdictBy b o
+  unfolding verdictBy
+  beyond-verdict kind =
       let c : m .count ≡ o .count = e .count in
       let b : m .capacity ≡ o .capacity = e .capacity in
       let t : m .needs .count ≡ o .needs .count = e .need-count in
-      let i : someItem (held (m .count)) (itemAt m) badFigure ≡ someItem (held (m .count)) (itemAt o) badFigure =
-      some-same (held (m .count)) (itemAt m) (itemAt o) badFigure (λ k l. e .items k (omega (arith, held-few (m .count)))) in
-      let n : needsVerdict (held (m .needs .count)) m ≡ needsVerdict (held (m .needs .count)) o =
-      lines-same (held (m .needs .count)) (held-few (m .needs .count)) in
-      rw (n, i, c, b, t)
+      let i : (test : Item → Bool) → someItem (held (m .count)) (itemAt m) test ≡ someItem (held (m .count)) (itemAt o) test =
+          λ test. some-same (held (m .count)) (itemAt m) (itemAt o) test (λ k l. e .items k (omega (arith, held-few (m .count)))) in
+      let n : needsVerdict (held (m .needs .count)) m ≡ needsVerdict (held (m .needs .count)) o = lines-same (held (m .needs .count)) (held-few (m .needs .count)) in
+      rw (n, i badFigure, i (barred kind), c, b, t)
 
   pub beyond-needs : needsOf (m .needs) ≡ needsOf (o .needs)
   beyond-needs = needs-cong (m .needs .count) (needAt (m .needs)) (needAt (o .needs)) (e .needs) ∙ ap (λ n. needsUpTo n (needAt (o .needs))) (e .need-count)
@@ -95,7 +94,7 @@ module _ (m o : Model) (e : Agree m o) where
 
   pub beyond-planned : (a : Answer) → Planned m a → Planned o a
   beyond-planned a p = record {
-    replies = rw (← beyond-needs) (replies-same (asked m) (asked o) (needsOf (m .needs)) a (verdict m) (verdict o) same beyond-verdict (p .replies));
+    replies = rw (← beyond-needs) (replies-same (asked m) (asked o) (needsOf (m .needs)) a (verdict m) (verdict o) same (beyond-verdict blanks.Refused) (p .replies));
     first = rw (← beyond-needs) (same-first-needs (asked m) (asked o) same (needsOf (m .needs)) a (p .first));
   }
 
@@ -103,4 +102,4 @@ module _ (m o : Model) (e : Agree m o) where
   beyond-relaxed a r =
       let ns = needsOf (m .needs) in
       let e = same-relaxed-but ns (asked m) (asked o) same in
-      rw (← beyond-needs) (replies-same (relaxedBut ns (asked m)) (relaxedBut ns (asked o)) ns a (verdict m) (verdict o) e beyond-verdict r)
+      rw (← beyond-needs) (replies-same (relaxedBut ns (asked m)) (relaxedBut ns (asked o)) ns a (verdict m) (verdict o) e (beyond-verdict blanks.Refused) r)

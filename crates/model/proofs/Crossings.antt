@@ -1,5 +1,5 @@
 -- Bounds that cross, a lower bound above its upper.
--- uncrossed: where the test finds none, all bounds are in order. crossed-infeasible: where it finds one, no point is feasible.
+-- order-in, uncrossed: where the test finds none, all bounds are in order. crossed-infeasible: where it finds one, no point is feasible.
 use mathlib.Core.Path.{_≡_, refl}
 use mathlib.Core.Bool.{Bool, true, false, cond}
 use Prim.Native.Nat.{ℕ, zero, suc, _<_}
@@ -20,7 +20,7 @@ use Rattle.knapsack.specs.Ranges.{itemAt, BoundsInOrder}
 use Rattle.model.specs.Records.{crossed, crosses, someItem, someCrosses, Uncrossed}
 use Rattle.model.proofs.Records.{none-fails}
 
-order-in : (l u : Bound) → crossed l u ≡ false → BoundsInOrder l u
+pub order-in : (l u : Bound) → crossed l u ≡ false → BoundsInOrder l u
 order-in Absent u h = tt
 order-in (At l) Absent h = tt
 order-in (At l) (At u) h = no-lt h

@@ -21,14 +21,16 @@ use Rattle.knapsack.specs.declared.Problem.{Problem}
 use Rattle.knapsack.specs.declared.Verdict.{Verdict}
 use Rattle.knapsack.specs.declared.Verdict.the-variants.{Accepted, Refused}
 use Rattle.knapsack.specs.Ranges.{BoundInRange, InRange}
+use Rattle.model.specs.declared.Blanks.{Blanks}
 use Rattle.model.specs.declared.Model.{Model}
-use Rattle.model.specs.Refusals.{count, figure, item-number, named-item}
+use Rattle.model.specs.Refusals.{count, figure, item-number, named-item, blank-item}
 use Rattle.model.specs.Records.{
   itemAt,
   needAt,
   outside,
   badBound,
   badFigure,
+  barred,
   someItem,
   badCount,
   held,
@@ -39,14 +41,15 @@ use Rattle.model.specs.Records.{
   orElse,
   countVerdict,
   figureVerdict,
+  blankVerdict,
   needVerdict,
   needsVerdict,
-  verdict,
+  verdictBy,
   ItemFigures,
   FiguresInRange,
   Uncrossed,
   GoodLine,
-  Admissible,
+  AdmissibleBy,
 }
 use Rattle.model.proofs.Tests.{neither}
 use Rattle.model.proofs.NeedLines.{good-line, line-good}
@@ -125,11 +128,12 @@ all-pass zero f test h = refl
 all-pass (suc n) f test h = some-more n f test (all-pass n f test (λ k l. h k (omega arith))) (h n (omega arith))
 
 -- of a record's tests none holds
-pub record Unfaulted (m : Model) : Type 0 where
+pub record Unfaulted (b : Blanks) (m : Model) : Type 0 where
   pub least : 1 ≤ m .count
   pub most : m .count ≤ 16
   pub capacity : outside 100000000 (m .capacity) ≡ false
   pub figures : Each (m .count) (λ k. badFigure (itemAt m k) ≡ false)
+  pub unbarred : Each (m .count) (λ k. barred b (itemAt m k) ≡ false)
   pub few-needs : m .needs .count ≤ 16
   pub needs : Each (m .needs .count)
       (λ j. (badLine (m .count) (lineBefore (m .needs) j) (needAt (m .needs) j) ≡ false) × (unfitLine (itemAt m) (needAt (m .needs) j) ≡ false))
@@ -156,11 +160,13 @@ unfolding needsVerdict
 accept-lines zero m h = refl
 accept-lines (suc n) m h = rw (accept-lines n m (λ j l. h j (omega arith))) (h n (omega arith))
 
-pub unfaulted : (m : Model) → verdict m ≡ Accepted → Unfaulted m
-unfolding verdict
-unfaulted m h =
-    let t = both-accept (orElse (countVerdict m) (figureVerdict m)) (needsVerdict (held (m .needs .count)) m) h in
-    let r = both-accept (countVerdict m) (figureVerdict m) (t .0) in
+pub unfaulted : {b : Blanks} (m : Model) → verdictBy b m ≡ Accepted → Unfaulted b m
+unfolding verdictBy
+unfaulted {b} m h =
+    let t = both-accept (orElse (orElse (countVerdict m) (figureVerdict m)) (blankVerdict b m)) (needsVerdict (held (m .needs .count)) m) h in
+    let u = both-accept (orElse (countVerdict m) (figureVerdict m)) (blankVerdict b m) (t .0) in
+    let r = both-accept (countVerdict m) (figureVerdict m) (u .0) in
+    let bar = someItem (held (m .count)) (itemAt m) (barred b) in
     let each = someItem (held (m .count)) (itemAt m) badFigure in
     let f = both-accept (refusedIf (outside 100000000 (m .capacity)) figure) (refusedIf each figure) (r .1) in
     let c = neither (badCount (m .count)) (ltb 16 (m .needs .count)) (row-clear (cond (badCount (m .count)) true (ltb 16 (m .needs .count))) count (r .0)) in
@@ -175,6 +181,7 @@ unfaulted m h =
       most = few;
       capacity = row-clear (outside 100000000 (m .capacity)) figure (f .0);
       figures = none-fails (m .count) (itemAt m) badFigure (rw all at (row-clear each figure (f .1)));
+      unbarred = none-fails (m .count) (itemAt m) (barred b) (rw all at (row-clear bar blank-item (u .1)));
       few-needs = short;
       needs = λ j l. clear all j (lines j l);
     }
@@ -187,9 +194,9 @@ unfaulted m h =
         let r = both-accept (refusedIf bad item-number) (refusedIf lame named-item) h in
         (rw all at (row-clear bad item-number (r .0)), row-clear lame named-item (r .1))
 
-pub unrefused : (m : Model) → Unfaulted m → verdict m ≡ Accepted
-unfolding verdict
-unrefused m u =
+pub unrefused : {b : Blanks} (m : Model) → Unfaulted b m → verdictBy b m ≡ Accepted
+unfolding verdictBy
+unrefused {b} m u =
     let some : m .count ≡ 0 → ⊥ = λ e. omega (arith, u .least) in
     let all = held-all (m .count) (u .most) in
     let line : Each (m .needs .count) (λ j. needVerdict m j ≡ Accepted) = λ j l. let h = u .needs j l in rw (all, h .0, h .1) in
@@ -201,10 +208,11 @@ unrefused m u =
       le-ltb 16 (m .needs .count) (u .few-needs),
       u .capacity,
       all-pass (m .count) (itemAt m) badFigure (u .figures),
+      all-pass (m .count) (itemAt m) (barred b) (u .unbarred),
     )
 
-pub accepted : (m : Model) → verdict m ≡ Accepted → Admissible m
-accepted m h =
+pub accepted : {b : Blanks} (m : Model) → verdictBy b m ≡ Accepted → AdmissibleBy b m
+accepted {b} m h =
     let u = unfaulted m h in
     record {
       figures = record {
@@ -213,25 +221,27 @@ accepted m h =
         capacity-in = inside 100000000 (m .capacity) (u .capacity);
         items-in = λ k l. item-in (itemAt m k) (u .figures k l);
       };
+      unbarred = u .unbarred;
       few-needs = u .few-needs;
       needs = λ j l. let n = u .needs j l in good-line m j (n .0) (n .1);
     }
 
-pub admitted : (m : Model) → Admissible m → verdict m ≡ Accepted
-admitted m a =
+pub admitted : {b : Blanks} (m : Model) → AdmissibleBy b m → verdictBy b m ≡ Accepted
+admitted {b} m a =
     let r = a .figures in
     unrefused m (record {
       least = r .some-items;
       most = r .few-items;
       capacity = not-outside 100000000 (m .capacity) (r .capacity-in);
       figures = λ k l. in-item (itemAt m k) (r .items-in k l);
+      unbarred = a .unbarred;
       few-needs = a .few-needs;
       needs = λ j l. line-good m j (a .needs j l);
     })
 
--- End theorem: a record is accepted exactly if it keeps the ranges and its needs are good.
-pub accepted-iff : (m : Model) → (verdict m ≡ Accepted) ↔ Admissible m
-accepted-iff m = (accepted m, admitted m)
+-- End theorem: a record is accepted exactly if it keeps the ranges, no item is barred, and its needs are good.
+pub accepted-iff : (b : Blanks) (m : Model) → (verdictBy b m ≡ Accepted) ↔ AdmissibleBy b m
+accepted-iff b m = (accepted m, admitted m)
 
 -- ---- what the solver asks
 

@@ -1,4 +1,4 @@
--- Problems handed over as records, and what they are refused for: paper 01, the table of ranges and "Refused, by place"; paper 02, request 7.
+-- Problems handed over as records, and what they are refused for: paper 01, the table of ranges and "Refused, by place"; paper 02, requests 7 and 9.
 --   emptyModel       the record of a refusal: blank items and unused lines of needs only, counts and capacity 0
 --   itemAt m k       the item at a place, from 0;  needAt ns j: the line of needs, from 0
 --   placed n         a need by the places of its items, from 0
@@ -7,6 +7,8 @@
 --   plainOf m        the solver's problem of a record
 --   outside n z      z is farther than n from zero
 --   badBound, badFigure, crossed, crosses   tests of a bound, of an item's figures, of its bounds
+--   isBlank i        weight 0 and price 0 (02, request 9);  hasFault f i: an item has the fault f
+--   barred b i       a blank item, where blank items are refused
 --   someItem n f t   the test holds of one of the first n items
 --   someCrosses p    the bounds of some item cross
 --   badCount n       n is no number of items
@@ -21,16 +23,17 @@
 --   refuse n         refusal n
 --   refusedIf t n    refusal n if the test holds
 --   orElse v w       the first that refuses
---   countVerdict, figureVerdict   the rows of the refusals of a record: 3, 4
+--   countVerdict, figureVerdict, blankVerdict   the rows of the refusals of a record: 3, 4, 15
 --   needVerdict m j, needsVerdict n m   5 and then 14 of one line of needs, and of the first n
---   verdict m        accepted, or the first refusal
+--   verdictBy b m    accepted, or the first refusal, by what becomes of blank items;  verdict m: they are refused, as everywhere but in the converter
 --   ItemFigures i    an item's figures within their ranges
 --   FiguresInRange p a problem's figures within the ranges of the paper's table; its bounds may cross
 --   Uncrossed p      no lower bound is above its upper: what the solver asks besides (proofs/Records, plain-in-range)
 --   Numbers n i j    i and j are two item numbers of 1 to n
 --   Rises a b        the line b rises above the line a
 --   GoodLine m j     what row 5 and row 14 ask of a line of needs
---   Admissible m     the record keeps the ranges and its needs are good; it is accepted exactly then (proofs/Records, accepted-iff)
+--   AdmissibleBy b m the record keeps the ranges, no item is barred, and its needs are good; it is accepted exactly then (proofs/Records, accepted-iff)
+--   Admissible m     where blank items are refused
 use mathlib.Core.Path.{_≡_}
 use mathlib.Core.Bool.{Bool, true, false, cond}
 use mathlib.Core.List.{List, [], _∷_}
@@ -53,6 +56,10 @@ use Rattle.knapsack.specs.declared.Problem.{Problem}
 use Rattle.knapsack.specs.declared.Refusal.{Refusal}
 use Rattle.knapsack.specs.declared.Verdict.{Verdict}
 use Rattle.knapsack.specs.declared.Verdict.the-variants.{Accepted, Refused}
+use Rattle.model.specs.declared.Blanks.{Blanks}
+use Rattle.model.specs.declared.Blanks.the-variants as blanks
+use Rattle.model.specs.declared.Fault.{Fault}
+use Rattle.model.specs.declared.Fault.the-variants as fault
 use Rattle.model.specs.declared.Model.{Model}
 use Rattle.model.specs.declared.Need.{Need}
 use Rattle.model.specs.declared.Needs.{Needs}
@@ -107,6 +114,17 @@ crossed (At l) (At u) = ltZ u l
 
 abbrev pub crosses : Item → Bool
 crosses i = crossed (i .lower) (i .upper)
+
+abbrev pub isBlank : Item → Bool
+isBlank i = cond (eqb (natAbs (i .weight)) 0) (eqb (natAbs (i .price)) 0) false
+
+abbrev pub hasFault : Fault → Item → Bool
+hasFault fault.Figure i = badFigure i
+hasFault fault.Blank i = isBlank i
+
+abbrev pub barred : Blanks → Item → Bool
+barred blanks.Refused i = isBlank i
+barred blanks.Kept i = false
 
 unfoldable pub someItem : ℕ → (ℕ → Item) → (Item → Bool) → Bool
 someItem zero f test = false
@@ -178,6 +196,9 @@ abbrev pub figureVerdict : Model → Verdict
 figureVerdict m =
     orElse (refusedIf (outside 100000000 (m .capacity)) refusal.figure) (refusedIf (someItem (held (m .count)) (itemAt m) badFigure) refusal.figure)
 
+abbrev pub blankVerdict : Blanks → Model → Verdict
+blankVerdict b m = refusedIf (someItem (held (m .count)) (itemAt m) (barred b)) refusal.blank-item
+
 abbrev pub needVerdict : Model → ℕ → Verdict
 needVerdict m j =
     orElse (refusedIf (badLine (held (m .count)) (lineBefore (m .needs) j) (needAt (m .needs) j)) refusal.item-number)
@@ -187,8 +208,11 @@ unfoldable pub needsVerdict : ℕ → Model → Verdict
 needsVerdict zero m = Accepted
 needsVerdict (suc j) m = orElse (needsVerdict j m) (needVerdict m j)
 
-unfoldable pub verdict : Model → Verdict
-verdict m = orElse (orElse (countVerdict m) (figureVerdict m)) (needsVerdict (held (m .needs .count)) m)
+unfoldable pub verdictBy : Blanks → Model → Verdict
+verdictBy b m = orElse (orElse (orElse (countVerdict m) (figureVerdict m)) (blankVerdict b m)) (needsVerdict (held (m .needs .count)) m)
+
+abbrev pub verdict : Model → Verdict
+verdict m = verdictBy blanks.Refused m
 
 -- ---- the ranges: what the solver asks of its problem, but for the order of bounds
 
@@ -224,7 +248,11 @@ pub record GoodLine (m : Model) (j : ℕ) : Type 0 where
   pub rises : Rises (lineBefore (m .needs) j) (needAt (m .needs) j)
   pub allowed : Allowed (instanceOf (plainOf m)) (placed (needAt (m .needs) j))
 
-pub record Admissible (m : Model) : Type 0 where
+pub record AdmissibleBy (b : Blanks) (m : Model) : Type 0 where
   pub figures : FiguresInRange (plainOf m)
+  pub unbarred : (k : ℕ) → k < m .count → barred b (itemAt m k) ≡ false
   pub few-needs : m .needs .count ≤ 16
   pub needs : (j : ℕ) → j < m .needs .count → GoodLine m j
+
+abbrev pub Admissible : Model → Type 0
+Admissible m = AdmissibleBy blanks.Refused m

@@ -43,3 +43,6 @@ number = 13
 
 abbrev pub named-item : ℕ
 named-item = 14
+
+abbrev pub blank-item : ℕ
+blank-item = 15

@@ -11,8 +11,10 @@ use knapsack::Refusal;
 use knapsack::Verdict;
 ghost use mathlib.Core.Path.{_≡_};
 ghost use Prim.Native.Nat.{_≤_, _<_};
+ghost use lib.Dec.{eqb};
 ghost use lib.IntN.{pos, natAbs};
 ghost use lib.Signed.{_≤ℤ_};
+ghost use Rattle.model.specs.declared.Blanks.the-variants as blanks;
 ghost use Rattle.model.specs.Records.{
   itemAt,
   plainOf,
@@ -21,6 +23,8 @@ ghost use Rattle.model.specs.Records.{
   badFigure,
   crossed,
   crosses,
+  isBlank,
+  hasFault,
   someItem,
   someCrosses,
   held,
@@ -29,6 +33,7 @@ ghost use Rattle.model.specs.Records.{
   orElse,
   countVerdict,
   figureVerdict,
+  blankVerdict,
   needVerdict,
   needsVerdict,
   verdict,
@@ -52,6 +57,18 @@ pub struct Model {
     pub count: usize,
     pub capacity: i64,
     pub needs: Needs,
+}
+
+// What becomes of blank items, of weight 0 and price 0: a reader refuses them, the converter of stored sheets keeps them to drop them itself.
+pub enum Blanks {
+    Refused,
+    Kept,
+}
+
+// What is wrong with an item by itself.
+enum Fault {
+    Figure,
+    Blank,
 }
 
 // Which bound of an item.
@@ -113,6 +130,26 @@ pub fn bad_figure(i: Item) -> bool
     bad_bound(u)
 }
 
+fn is_zero(z: i64) -> bool
+    ensures { λ r. ⌜ r ≡ eqb (natAbs z) 0 ⌝ }
+{
+    if z == 0 {
+        return true;
+    }
+    false
+}
+
+pub fn is_blank(i: Item) -> bool
+    ensures { λ r. ⌜ r ≡ isBlank i ⌝ }
+{
+    let w = i.weight;
+    if is_zero(w) {
+        let c = i.price;
+        return is_zero(c);
+    }
+    false
+}
+
 // Whether a lower bound is above an upper.
 fn crossed_bounds(l: Bound, u: Bound) -> bool
     ensures { λ r. ⌜ r ≡ crossed l u ⌝ }
@@ -126,7 +163,7 @@ fn crossed_bounds(l: Bound, u: Bound) -> bool
     b < a
 }
 
-fn does_cross(i: Item) -> bool
+pub fn does_cross(i: Item) -> bool
     ensures { λ r. ⌜ r ≡ crosses i ⌝ }
 {
     let l = i.lower;
@@ -158,14 +195,23 @@ fn held_of(n: usize) -> usize
     if 16 < n { 16 } else { n }
 }
 
-fn some_faulty(m: Model) -> bool
-    ensures { λ r. ⌜ r ≡ someItem (held (m .count)) (itemAt m) badFigure ⌝ }
+fn has_fault(i: Item, fault: Fault) -> bool
+    ensures { λ r. ⌜ r ≡ hasFault fault i ⌝ }
+{
+    match fault {
+        Fault::Figure => bad_figure(i),
+        Fault::Blank => is_blank(i),
+    }
+}
+
+fn some_faulty(m: Model, fault: Fault) -> bool
+    ensures { λ r. ⌜ r ≡ someItem (held (m .count)) (itemAt m) (hasFault fault) ⌝ }
 {
     let n = held_of(m.count);
     let mut k: usize = 0;
     while k < n {
         let i = m.items[k];
-        if bad_figure(i) {
+        if has_fault(i, fault) {
             return true;
         }
         k += 1;
@@ -221,8 +267,14 @@ fn check_figures(m: Model) -> Verdict
 {
     let b = m.capacity;
     let capacity = refused_if(beyond(b, 100000000), refusals::FIGURE);
-    let items = refused_if(some_faulty(m), refusals::FIGURE);
+    let items = refused_if(some_faulty(m, Fault::Figure), refusals::FIGURE);
     first_of(capacity, items)
+}
+
+fn check_blanks(m: Model) -> Verdict
+    ensures { λ r. ⌜ r ≡ blankVerdict blanks.Refused m ⌝ }
+{
+    refused_if(some_faulty(m, Fault::Blank), refusals::BLANK_ITEM)
 }
 
 // One line of needs: 5, then 14.
@@ -254,11 +306,12 @@ fn check_needs(m: Model) -> Verdict
     v
 }
 
-// A record's refusal: 3 (count of items, then of needs), then 4 (capacity, then each item's figures), then 5 and 14 of each line of needs; line 0.
+// A record's refusal: 3 (count of items, then of needs), then 4 (capacity, then each item's figures), then 15, then 5 and 14 of each line of needs; line 0.
 pub fn check_model(m: Model) -> Verdict
     ensures { λ r. ⌜ r ≡ verdict m ⌝ }
 {
     let v = check_counts(m);
     let w = first_of(v, check_figures(m));
-    first_of(w, check_needs(m))
+    let x = first_of(w, check_blanks(m));
+    first_of(x, check_needs(m))
 }

@@ -24,3 +24,5 @@ pub const HEADING_WORD: u64 = 12;
 pub const NUMBER: u64 = 13;
 
 pub const NAMED_ITEM: u64 = 14;
+
+pub const BLANK_ITEM: u64 = 15;

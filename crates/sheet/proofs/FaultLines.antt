@@ -19,6 +19,7 @@ use lib.Seq.{take-all, getD-drop, getD-append-seam}
 use Rattle.knapsack.specs.declared.Refusal.{Refusal}
 use Rattle.knapsack.specs.declared.Verdict.{Verdict}
 use Rattle.knapsack.specs.declared.Verdict.the-variants.{Accepted, Refused}
+use Rattle.model.specs.declared.Blanks.{Blanks}
 use Rattle.model.specs.declared.Model.{Model}
 use Rattle.model.specs.declared.Side.{Side}
 use Rattle.model.specs.declared.Side.the-variants.{Lower, Upper}
@@ -41,8 +42,8 @@ use Rattle.lines.proofs.Standing.{Has, Bytes, count-has}
 use Rattle.sheet.specs.declared.Progress.{Progress}
 use Rattle.sheet.specs.declared.Reading.{Reading}
 use Rattle.sheet.specs.Sections.{goesOn, refusedAt, onward, onCount, Gives, fault, gives, LineForm, taken, stepOf, linesOf, sectionOf}
-use Rattle.sheet.specs.Reading.{limit, items, wordOf, needs, limitForm, itemForm, boundForm, needForm, limitSection, itemsSection, boundsSection}
-use Rattle.sheet.specs.Reading.{needsSection, endOfSheet, headOf, lowerOf, upperOf, lastOf, wholeOf, readSheet}
+use Rattle.sheet.specs.Reading.{limit, items, wordOf, needs, limitForm, itemFormBy, boundForm, needForm, limitSection, itemsSection, boundsSection}
+use Rattle.sheet.specs.Reading.{needsSection, endOfSheet, headOf, lowerOf, upperOf, lastOf, wholeOf, readSheetBy}
 use Rattle.sheet.proofs.Sections.{Laws, no-refusal}
 use Rattle.sheet.proofs.Forms.{limit-laws, item-laws, bound-laws, need-laws}
 
@@ -186,31 +187,31 @@ limit-reached s = section-reached limitForm _ limit-laws (λ b. line-closes (int
     (lit< tt, (lit< tt, (lit< tt, (lit< tt, (lit< tt, tt)))))
     (on (goesOn emptyModel 0 0) refl (record { within = omega arith; behind = λ h. absurd (omega arith) }))
 
-head-reached : (s : List ℕ) → Reached s (headOf s)
+head-reached : (kind : Blanks) (s : List ℕ) → Reached s (headOf kind s)
 unfolding headOf itemsSection
-head-reached s = section-reached itemForm _ item-laws
+head-reached kind s = section-reached (itemFormBy kind) _ (item-laws kind)
     (λ i. line-closes (markByte (i .mark) ∷ []) (integer (i .weight) ∷ integer (i .price) ∷ [])) s
     items 1 16 (λ n. withCount (limitSection s .model) n) (limitSection s)
     (lit< tt, (lit< tt, (lit< tt, (lit< tt, (lit< tt, tt))))) (limit-reached s)
 
-upper-reached : (s : List ℕ) → Reached s (upperOf s)
+upper-reached : (kind : Blanks) (s : List ℕ) → Reached s (upperOf kind s)
 unfolding upperOf lowerOf
-upper-reached s = side-reached s Upper _ (side-reached s Lower _ (head-reached s))
+upper-reached kind s = side-reached s Upper _ (side-reached s Lower _ (head-reached kind s))
 
-last-reached : (s : List ℕ) → Reached s (lastOf s)
+last-reached : (kind : Blanks) (s : List ℕ) → Reached s (lastOf kind s)
 unfolding lastOf needsSection
-last-reached s = section-reached needForm _ need-laws (λ b. line-closes (integer (pos (b .item))) (integer (pos (b .cover)) ∷ [])) s
-    needs 0 16 (λ n. withNeedCount (upperOf s .model) n) (upperOf s)
-    (lit< tt, (lit< tt, (lit< tt, (lit< tt, (lit< tt, tt))))) (upper-reached s)
+last-reached kind s = section-reached needForm _ need-laws (λ b. line-closes (integer (pos (b .item))) (integer (pos (b .cover)) ∷ [])) s
+    needs 0 16 (λ n. withNeedCount (upperOf kind s .model) n) (upperOf kind s)
+    (lit< tt, (lit< tt, (lit< tt, (lit< tt, (lit< tt, tt))))) (upper-reached kind s)
 
-whole-reached : (s : List ℕ) → Reached s (wholeOf s)
+whole-reached : (kind : Blanks) (s : List ℕ) → Reached s (wholeOf kind s)
 unfolding wholeOf endOfSheet
-whole-reached s = onward-reached s (lastOf s) _ (last-reached s) (λ v h. go (ltb (lastOf s .at) (length s)) v h)
+whole-reached kind s = onward-reached s (lastOf kind s) _ (last-reached kind s) (λ v h. go (ltb (lastOf kind s .at) (length s)) v h)
   where
-    go : (b : Bool) → lastOf s .verdict ≡ Accepted → Starts s (met s (lastOf s .at)) →
-        Reached s (cond b (refusedAt s refusal.form (lastOf s .at)) (lastOf s))
-    go true v h = off refusal.form (lastOf s .at) h
-    go false v h = on (lastOf s) v h
+    go : (b : Bool) → lastOf kind s .verdict ≡ Accepted → Starts s (met s (lastOf kind s .at)) →
+        Reached s (cond b (refusedAt s refusal.form (lastOf kind s .at)) (lastOf kind s))
+    go true v h = off refusal.form (lastOf kind s .at) h
+    go false v h = on (lastOf kind s) v h
 
 -- ---- the line that is told
 
@@ -235,18 +236,18 @@ faulty s n at short h =
           (ap (closedOr (lineAt s at)) (line-from s k h (ends (take at s)) 0 (omega arith) e));
     }
 
-pub refused-line : (s : List ℕ) (f : Refusal) → readSheet s .verdict ≡ Refused f → ((4096 < length s) × (f .line ≡ 0)) ⊎ Faulty s f
-unfolding readSheet
-refused-line s f h = go (ltb 4096 (length s)) refl h
+pub refused-line : (kind : Blanks) (s : List ℕ) (f : Refusal) → readSheetBy kind s .verdict ≡ Refused f → ((4096 < length s) × (f .line ≡ 0)) ⊎ Faulty s f
+unfolding readSheetBy
+refused-line kind s f h = go (ltb 4096 (length s)) refl h
   where
     of : (p : Progress) → length s ≤ 4096 → Reached s p → p .verdict ≡ Refused f → Faulty s f
     of p short (on q v h) g = no-refusal (sym g ∙ v)
     of p short (off n at h) g = let z : refusalOn n (lineAt s at) ≡ f = cc in subst (Faulty s) z (faulty s n at short h)
 
     go : (b : Bool) → ltb 4096 (length s) ≡ b → cond {A = Reading} b (record { verdict = Refused (refusalOn refusal.overlong 0); model = emptyModel })
-        (record { verdict = wholeOf s .verdict; model = wholeOf s .model }) .verdict ≡ Refused f → ((4096 < length s) × (f .line ≡ 0)) ⊎ Faulty s f
+        (record { verdict = wholeOf kind s .verdict; model = wholeOf kind s .model }) .verdict ≡ Refused f → ((4096 < length s) × (f .line ≡ 0)) ⊎ Faulty s f
     go true e g = let z : refusalOn refusal.overlong 0 ≡ f = cc in inl (ltb-true 4096 (length s) e, sym (ap (λ (r : Refusal). r .line) z))
-    go false e g = inr (of (wholeOf s) (ltb-false 4096 (length s) e) (whole-reached s) g)
+    go false e g = inr (of (wholeOf kind s) (ltb-false 4096 (length s) e) (whole-reached kind s) g)
 
 -- ---- in the words of the two entries: the part is the line, or there is none and the check says so
 

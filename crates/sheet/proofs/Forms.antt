@@ -1,6 +1,6 @@
 -- The sheet's four forms of line keep the laws of a form: limit-laws, item-laws, bound-laws, need-laws.
---   LimitFits, Bare, BoundFits, NeedFits    what a line's value must be where it is read
--- bare-same: a bare item is what its line gives. bare-of, fair-side: an item in range is bare without its bounds, which are in range.
+--   LimitFits, Bare, BoundFits, NeedFits    what a line's value must be where it is read; of an item also by what becomes of blank ones
+-- barred-bare: whether an item is barred is told by its line. bare-same: a bare item is what its line gives. bare-of, fair-side: an item in range is bare without its bounds, which are in range.
 use mathlib.Core.Path.{_≡_, refl, sym, ap, _∙_}
 use mathlib.Core.Bool.{Bool, true, false, cond}
 use mathlib.Core.List.{List, [], _∷_, append-assoc}
@@ -13,10 +13,12 @@ use lib.Signed.{_≤ℤ_}
 use Rattle.knapsack.specs.declared.Bound.{Bound}
 use Rattle.knapsack.specs.declared.Bound.the-variants.{Absent, At}
 use Rattle.knapsack.specs.declared.Item.{Item}
+use Rattle.model.specs.declared.Blanks.{Blanks}
+use Rattle.model.specs.declared.Blanks.the-variants as blanks
 use Rattle.model.specs.declared.Need.{Need}
 use Rattle.model.specs.declared.Side.{Side}
 use Rattle.model.specs.declared.Side.the-variants.{Lower, Upper}
-use Rattle.model.specs.Records.{itemAt, outside, badBound, badFigure, badLine, unfitLine, lineBefore}
+use Rattle.model.specs.Records.{itemAt, outside, badBound, badFigure, barred, badLine, unfitLine, lineBefore}
 use Rattle.model.specs.Refusals as refusal
 use Rattle.model.proofs.Tests.{neither}
 use Rattle.text.specs.Decimal.{integer}
@@ -38,7 +40,7 @@ use Rattle.lines.proofs.Standing.{Has, field-has, item-has, bound-has, need-has
 use Rattle.lines.proofs.Rereading.{ranged-within, field-reads, bareOf, item-reads, bound-reads, need-reads}
 use Rattle.sheet.specs.declared.Progress.{Progress}
 use Rattle.sheet.specs.Sections.{fault, gives}
-use Rattle.sheet.specs.Reading.{limits, limitGives, limitForm, itemGives, itemForm, boundGives, boundForm, needGives, needForm}
+use Rattle.sheet.specs.Reading.{limits, limitGives, limitForm, itemGives, itemFormBy, boundGives, boundForm, needGives, needForm}
 use Rattle.sheet.specs.Printing.{sideOf}
 use Rattle.sheet.proofs.Sections.{Laws}
 
@@ -75,22 +77,27 @@ limit-laws = record {
 
 -- ---- items
 
--- an item as it is read: figures in range, no bounds
-pub record Bare (i : Item) : Type 0 where
+-- an item as it is read: figures in range, not barred, no bounds
+pub record Bare (blanks : Blanks) (i : Item) : Type 0 where
   pub weight : outside 1000 (i .weight) ≡ false
   pub price : outside 10000 (i .price) ≡ false
+  pub unbarred : barred blanks i ≡ false
   pub lower : i .lower ≡ Absent
   pub upper : i .upper ≡ Absent
 
-pub bare-same : (i : Item) → Bare i → bareOf i ≡ i
+pub barred-bare : (kind : Blanks) (i : Item) → barred kind (bareOf i) ≡ barred kind i
+barred-bare blanks.Refused i = refl
+barred-bare blanks.Kept i = refl
+
+pub bare-same : {kind : Blanks} (i : Item) → Bare kind i → bareOf i ≡ i
 bare-same i b = sym (let e : i ≡ record { mark = i .mark; weight = i .weight; price = i .price; lower = i .lower; upper = i .upper } = refl in
     e ∙ rw (b .lower, b .upper))
 
-pub bare-of : (i : Item) → badFigure i ≡ false → Bare (bareOf i)
-bare-of i h =
+pub bare-of : (kind : Blanks) (i : Item) → badFigure i ≡ false → barred kind i ≡ false → Bare kind (bareOf i)
+bare-of kind i h u =
     let w = neither (outside 1000 (i .weight)) _ h in
     let c = neither (outside 10000 (i .price)) _ (w .1) in
-    record { weight = w .0; price = c .0; lower = refl; upper = refl }
+    record { weight = w .0; price = c .0; unbarred = barred-bare kind i ∙ u; lower = refl; upper = refl }
 
 pub fair-side : (side : Side) (i : Item) → badFigure i ≡ false → badBound (sideOf side i) ≡ false
 fair-side side i h =
@@ -102,33 +109,38 @@ fair-side side i h =
     go Lower b = b .0
     go Upper b = b .1
 
-item-bare : (s : List ℕ) (at : ℕ) (i : Item) (n : ℕ) → itemRead s at ≡ ItemIs i n → Bare i
-item-bare s at i n h =
+item-bare : (kind : Blanks) (s : List ℕ) (at : ℕ) (i : Item) (n : ℕ) → itemRead s at ≡ ItemIs i n → barred kind i ≡ false → Bare kind i
+item-bare kind s at i n h u =
     let p = item-parts s at i n h in
     let r = numbers-range weights prices s (p .next) (i .weight) (i .price) n (p .numbers) in
     record {
       weight = within-range 999 (i .weight) (r .0 .0) (r .0 .1);
       price = within-range 9999 (i .price) (r .1 .0) (r .1 .1);
+      unbarred = u;
       lower = p .lower;
       upper = p .upper;
     }
 
-pub item-laws : Laws itemForm (λ p i. Bare i)
-item-laws = record {
+pub item-laws : (kind : Blanks) → Laws (itemFormBy kind) (λ p i. Bare kind i)
+item-laws kind = record {
   has = λ s p i n h. has s p i n (itemRead s (p .at)) refl h;
   reads = λ s p i l f h.
       let r = item-reads s (p .at) i l (f .weight) (f .price) h in
-      (r .0, ap itemGives (r .1 ∙ ap (λ j. ItemIs j (r .0)) (bare-same i f)), r .2);
+      (r .0, ap (itemGives kind) (r .1 ∙ ap (λ j. ItemIs j (r .0)) (bare-same i f)) ∙ rw (f .unbarred), r .2);
 }
   where
-    has : (s : List ℕ) (p : Progress) (i : Item) (n : ℕ) (x : ItemRead) → itemRead s (p .at) ≡ x → itemGives x ≡ gives i n →
-        Bare i × Has s (p .at) (itemText i) n
+    has : (s : List ℕ) (p : Progress) (i : Item) (n : ℕ) (x : ItemRead) → itemRead s (p .at) ≡ x → itemGives kind x ≡ gives i n →
+        Bare kind i × Has s (p .at) (itemText i) n
     has s p i n (ItemFault k) e h = no-value h
-    has s p i n (ItemIs j k) e h =
-        let u : j ≡ i = cc in
-        let v : k ≡ n = cc in
-        let f : itemRead s (p .at) ≡ ItemIs i n = e ∙ rw (u, v) in
-        (item-bare s (p .at) i n f, item-has s (p .at) i n f)
+    has s p i n (ItemIs j k) e h = go (barred kind j) refl h
+      where
+        go : (t : Bool) → barred kind j ≡ t → cond t (fault refusal.blank-item) (gives j k) ≡ gives i n → Bare kind i × Has s (p .at) (itemText i) n
+        go true b h = no-value h
+        go false b h =
+            let u : j ≡ i = cc in
+            let v : k ≡ n = cc in
+            let f : itemRead s (p .at) ≡ ItemIs i n = e ∙ rw (u, v) in
+            (item-bare kind s (p .at) i n f (rw u at b), item-has s (p .at) i n f)
 
 -- ---- bounds
 

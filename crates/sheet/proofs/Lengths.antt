@@ -11,6 +11,8 @@ use Rattle.arith.specs.Sum.{Each}
 use Rattle.knapsack.specs.declared.Bound.{Bound}
 use Rattle.knapsack.specs.declared.Bound.the-variants.{Absent, At}
 use Rattle.knapsack.specs.declared.Item.{Item}
+use Rattle.model.specs.declared.Blanks.{Blanks}
+use Rattle.model.specs.declared.Blanks.the-variants as blanks
 use Rattle.model.specs.declared.Model.{Model}
 use Rattle.model.specs.declared.Side.{Side}
 use Rattle.model.specs.declared.Side.the-variants.{Lower, Upper}
@@ -37,7 +39,7 @@ heading-short w n e h = simp length-append (omega (arith, decimal-length 8 n (om
 
 pub item-short : (i : Item) → badFigure i ≡ false → length (itemText i) ≤ 24
 item-short i h =
-    let b = bare-of i h in
+    let b = bare-of blanks.Kept i h refl in
     let w = number-short 1000 (i .weight) (omega arith) (b .weight) in
     let c = number-short 10000 (i .price) (omega arith) (b .price) in
     simp length-append (omega arith)
@@ -87,7 +89,7 @@ bounds-short side zero m l h = tt
 bounds-short side (suc n) m l h =
     (bound-short (boundingAt side m n) l (h n (omega arith)), bounds-short side n m (omega arith) (λ k l. h k (omega arith)))
 
-side-short : (side : Side) (m : Model) → Unfaulted m → length (sideText side m) ≤ 368
+side-short : (side : Side) {kind : Blanks} (m : Model) → Unfaulted kind m → length (sideText side m) ≤ 368
 side-short side m r =
     let many = upto-length (m .count) (boundingAt side m) in
     let short = bounds-short side (m .count) m (r .most) (λ k l. fair-side side (itemAt m k) (r .figures k l)) in
@@ -104,19 +106,19 @@ needs-short zero f h = tt
 needs-short (suc n) f h = let l = h n (omega arith) in (need-short (f n) (l .0) (l .1), needs-short n f (λ k l. h k (omega arith)))
 
 -- both numbers of a record's line are at most 16
-pub numbers-few : (m : Model) → Unfaulted m → Each (m .needs .count) (λ j. (needAt (m .needs) j .item ≤ 16) × (needAt (m .needs) j .cover ≤ 16))
+pub numbers-few : {kind : Blanks} (m : Model) → Unfaulted kind m → Each (m .needs .count) (λ j. (needAt (m .needs) j .item ≤ 16) × (needAt (m .needs) j .cover ≤ 16))
 numbers-few m r j l =
     let n = line-numbers (m .count) (lineBefore (m .needs) j) (needAt (m .needs) j) (r .needs j l .0) in
     (omega (arith, n .first-most, r .most), omega (arith, n .second-most, r .most))
 
-need-section-short : (m : Model) → Unfaulted m → length (needsText m) ≤ 112
+need-section-short : {kind : Blanks} (m : Model) → Unfaulted kind m → length (needsText m) ≤ 112
 need-section-short m r =
     let many = upto-length (m .needs .count) (needAt (m .needs)) in
     let short = needs-short (m .needs .count) (needAt (m .needs)) (numbers-few m r) in
     let s = section-short needForm needs 6 (upTo (m .needs .count) (needAt (m .needs))) refl (omega (arith, r .few-needs)) short in
     omega (arith, r .few-needs)
 
-pub printing-short : (m : Model) → Unfaulted m → length (printing m) ≤ 1275
+pub printing-short : {kind : Blanks} (m : Model) → Unfaulted kind m → length (printing m) ≤ 1275
 unfolding printing
 printing-short m r =
     let b = number-short 100000000 (m .capacity) (omega arith) (r .capacity) in

@@ -22,6 +22,7 @@ use Rattle.knapsack.specs.declared.Bound.the-variants.{Absent}
 use Rattle.knapsack.specs.declared.Item.{Item}
 use Rattle.knapsack.specs.declared.Verdict.{Verdict}
 use Rattle.knapsack.specs.declared.Verdict.the-variants.{Accepted}
+use Rattle.model.specs.declared.Blanks.{Blanks}
 use Rattle.model.specs.declared.Model.{Model}
 use Rattle.model.specs.declared.Need.{Need}
 use Rattle.model.specs.declared.Needs.{Needs}
@@ -97,9 +98,9 @@ blanks k = go (decLt k 16)
     go (yes l) = getD-replicate 16 k blank blank l
     go (no l) = List·getD-eq-default (replicate 16 blank) blank {n = k} (omega (arith, length-replicate 16 blank))
 
-pub record ItemsIn (b : ℤ) (m : ℕ) (vs : List Item) (p : Progress) : Type 0 where
+pub record ItemsIn (kind : Blanks) (b : ℤ) (m : ℕ) (vs : List Item) (p : Progress) : Type 0 where
   pub listed : upTo (p .item) (itemAt (p .model)) ≡ vs
-  pub bare : Each (p .item) (λ k. Bare (itemAt (p .model) k))
+  pub bare : Each (p .item) (λ k. Bare kind (itemAt (p .model) k))
   pub rest : (k : ℕ) → p .item ≤ k → itemAt (p .model) k ≡ blank
   pub places : length (p .model .items) ≡ 16
   pub count : p .model .count ≡ m
@@ -107,10 +108,10 @@ pub record ItemsIn (b : ℤ) (m : ℕ) (vs : List Item) (p : Progress) : Type 0 
   pub capacity : p .model .capacity ≡ b
   pub needs : p .model .needs ≡ noNeeds
 
-pub items-next : (b : ℤ) (m : ℕ) (vs : List Item) (p : Progress) (i : Item) (n : ℕ) → length vs < m → ItemsIn b m vs p → Bare i →
-    ItemsIn b m (i ∷ vs) (goesOn (withItem (p .model) (p .item) i) n (suc (p .item)))
+pub items-next : (kind : Blanks) (b : ℤ) (m : ℕ) (vs : List Item) (p : Progress) (i : Item) (n : ℕ) → length vs < m → ItemsIn kind b m vs p → Bare kind i →
+    ItemsIn kind b m (i ∷ vs) (goesOn (withItem (p .model) (p .item) i) n (suc (p .item)))
 unfolding upTo
-items-next b m vs p i n l g f = record {
+items-next kind b m vs p i n l g f = record {
   listed = ap₂ _∷_ (here j<16) (upto-cong j new (itemAt (p .model)) (λ k h. old k (omega arith)) ∙ g .listed);
   bare = λ k h. either k h (ℕ-discrete k j);
   rest = λ k h. old k (omega arith) ∙ g .rest k (omega arith);
@@ -136,14 +137,14 @@ items-next b m vs p i n l g f = record {
     old : (k : ℕ) → (k ≡ j → ⊥) → new k ≡ itemAt (p .model) k
     old k ne = getD-set-other (p .model .items) j k i blank ne
 
-    either : (k : ℕ) → k < suc j → Dec (k ≡ j) → Bare (new k)
+    either : (k : ℕ) → k < suc j → Dec (k ≡ j) → Bare kind (new k)
     either k h (yes e) = rw (e, here j<16) f
     either k h (no e) = rw (old k e) (g .bare k (omega arith))
 
-pub items-fit : (b : ℤ) (m n : ℕ) (f : ℕ → Item) → Each n (λ k. Bare (f k)) → Fitting (ItemsIn b m) (λ p i. Bare i) (upTo n f)
+pub items-fit : (kind : Blanks) (b : ℤ) (m n : ℕ) (f : ℕ → Item) → Each n (λ k. Bare kind (f k)) → Fitting (ItemsIn kind b m) (λ p i. Bare kind i) (upTo n f)
 unfolding upTo
-items-fit b m zero f h = tt
-items-fit b m (suc n) f h = ((λ p i. h n (omega arith)), items-fit b m n f (λ k l. h k (omega arith)))
+items-fit kind b m zero f h = tt
+items-fit kind b m (suc n) f h = ((λ p i. h n (omega arith)), items-fit kind b m n f (λ k l. h k (omega arith)))
 
 -- ---- bounds
 

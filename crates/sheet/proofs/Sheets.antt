@@ -22,13 +22,14 @@ use Rattle.knapsack.specs.declared.Bound.the-variants.{Absent}
 use Rattle.knapsack.specs.declared.Item.{Item}
 use Rattle.knapsack.specs.declared.Verdict.the-variants.{Accepted, Refused}
 use Rattle.model.specs.Refusals as refusal
+use Rattle.model.specs.declared.Blanks.{Blanks}
 use Rattle.model.specs.declared.Model.{Model}
 use Rattle.model.specs.declared.Need.{Need}
 use Rattle.model.specs.declared.Needs.{Needs}
 use Rattle.model.specs.declared.Side.{Side}
 use Rattle.model.specs.declared.Side.the-variants.{Lower, Upper}
 use Rattle.model.specs.Needs.{noNeed, noNeeds}
-use Rattle.model.specs.Records.{emptyModel, itemAt, needAt, outside, badFigure}
+use Rattle.model.specs.Records.{emptyModel, itemAt, needAt, outside, badFigure, barred}
 use Rattle.model.specs.Setters.{withCapacity, withCount, withNeeds, withNeedCount}
 use Rattle.model.proofs.Records.{Unfaulted, unfaulted, unrefused}
 use Rattle.lines.specs.Places.{refusalOn}
@@ -38,11 +39,11 @@ use Rattle.lines.proofs.Rereading.{bareOf}
 use Rattle.sheet.specs.declared.Progress.{Progress}
 use Rattle.sheet.specs.declared.Reading.{Reading}
 use Rattle.sheet.specs.Sections.{goesOn, refusedAt, sectionText}
-use Rattle.sheet.specs.Reading.{limit, items, wordOf, needs, limitForm, itemForm, boundForm, needForm, limitSection, itemsSection, boundsSection}
-use Rattle.sheet.specs.Reading.{needsSection, endOfSheet, headOf, lowerOf, upperOf, lastOf, wholeOf, readSheet}
-use Rattle.sheet.specs.Printing.{upTo, boundAt, boundingAt, sideText, needsText, printing, Tidy, SheetOf}
+use Rattle.sheet.specs.Reading.{limit, items, wordOf, needs, limitForm, itemFormBy, itemForm, boundForm, needForm, limitSection, itemsSection, boundsSection}
+use Rattle.sheet.specs.Reading.{needsSection, endOfSheet, headOf, lowerOf, upperOf, lastOf, wholeOf, readSheetBy}
+use Rattle.sheet.specs.Printing.{upTo, boundAt, boundingAt, sideText, needsText, printing, Tidy, SheetOfBy}
 use Rattle.sheet.proofs.Sections.{no-refusal, went, section-before, SectionRead, section-read, Fitting, Back, section-back}
-use Rattle.sheet.proofs.Forms.{LimitFits, limit-laws, Bare, bare-same, bare-of, item-laws, BoundFits, bound-laws, fair-side, NeedFits, need-laws}
+use Rattle.sheet.proofs.Forms.{LimitFits, limit-laws, Bare, barred-bare, bare-same, bare-of, item-laws, BoundFits, bound-laws, fair-side, NeedFits, need-laws}
 use Rattle.sheet.proofs.Making.{upto-length, upto-cong, upto-inj, texts-cong}
 use Rattle.sheet.proofs.Making.{limited, Limited, limit-next, blanks, ItemsIn, items-next, items-fit}
 use Rattle.sheet.proofs.Making.{Kept, kept-same, BoundsIn, bounds-number, bounds-next, bounds-fit}
@@ -119,9 +120,9 @@ laid-once m o b vi vl vu vn x y =
 limit-start : (n at : ℕ) → Limited n [] (goesOn emptyModel at 0)
 limit-start n at = record { is = refl; fair = λ b bs e. absurd (let z : _≡_ {A = ℕ} 0 1 = cc in omega arith) }
 
-items-start : (m : Model) (b : ℤ) (n at : ℕ) → m ≡ withCapacity emptyModel b → n ≤ 16 → ItemsIn b n [] (goesOn (withCount m n) at 0)
+items-start : (kind : Blanks) (m : Model) (b : ℤ) (n at : ℕ) → m ≡ withCapacity emptyModel b → n ≤ 16 → ItemsIn kind b n [] (goesOn (withCount m n) at 0)
 unfolding upTo
-items-start m b n at e few =
+items-start kind m b n at e few =
     let empty = ap (λ (q : Model). q .items) e in
     record {
       listed = refl;
@@ -174,11 +175,11 @@ needs-start o n at e few =
     }
 
 -- behind the last item
-items-end : (b : ℤ) (vs : List Item) (p : Progress) → ItemsIn b (length vs) vs p → p .item ≡ p .model .count
+items-end : {kind : Blanks} (b : ℤ) (vs : List Item) (p : Progress) → ItemsIn kind b (length vs) vs p → p .item ≡ p .model .count
 items-end b vs p i = sym (upto-length (p .item) (itemAt (p .model))) ∙ ap length (i .listed) ∙ sym (i .count)
 
 -- items that were just read have no bounds
-no-bounds : (side : Side) (b : ℤ) (vs : List Item) (p : Progress) → ItemsIn b (length vs) vs p → (k : ℕ) → boundAt side (p .model) k ≡ Absent
+no-bounds : {kind : Blanks} (side : Side) (b : ℤ) (vs : List Item) (p : Progress) → ItemsIn kind b (length vs) vs p → (k : ℕ) → boundAt side (p .model) k ≡ Absent
 no-bounds side b vs p i k = go side (decLt k (p .item))
   where
     go : (side : Side) → Dec (k < p .item) → boundAt side (p .model) k ≡ Absent
@@ -202,7 +203,7 @@ bounds-all side o vs p g = ap (λ n. upTo n (boundingAt side (p .model))) (sym (
 needs-end : (o : Model) (vs : List Need) (p : Progress) → NeedsIn o (length vs) vs p → p .item ≡ p .model .needs .count
 needs-end o vs p g = needs-number o (length vs) vs p g ∙ sym (g .number)
 
-module _ (b : ℤ) (vi : List Item) (vl vu : List Bounding) (vn : List Need) (h l u n : Progress) (i : ItemsIn b (length vi) vi h)
+module _ {kind : Blanks} (b : ℤ) (vi : List Item) (vl vu : List Bounding) (vn : List Need) (h l u n : Progress) (i : ItemsIn kind b (length vi) vi h)
     (x : BoundsIn Lower (h .model) (length vl) vl l) (y : BoundsIn Upper (l .model) (length vu) vu u) (z : NeedsIn (u .model) (length vn) vn n) where
   -- the number of items
   counted : (u .model .count ≡ h .item) × (u .model .count ≡ l .model .count)
@@ -249,6 +250,11 @@ module _ (b : ℤ) (vi : List Item) (vl vu : List Bounding) (vn : List Need) (h 
       let q = x .same k in
       rw (p .weight ∙ q .weight, a .weight, p .price ∙ q .price, a .price, p .other, x .fair k, y .fair k)
 
+  unbarred : (k : ℕ) → k < u .model .count → barred kind (itemAt (u .model) k) ≡ false
+  unbarred k c =
+      sym (barred-bare kind (itemAt (u .model) k)) ∙ ap (barred kind) (bare-kept k) ∙ barred-bare kind (itemAt (h .model) k)
+      ∙ i .bare k (omega (arith, counted .0)) .unbarred
+
 -- ---- what is accepted
 
 record Ended (s : List ℕ) (p : Progress) : Type 0 where
@@ -286,7 +292,7 @@ only (b ∷ []) h l = (b, refl)
 only (b ∷ c ∷ vs) h l = absurd (omega arith)
 
 -- what was read of an accepted sheet
-record Sections (s : List ℕ) : Type 0 where
+record Sections (kind : Blanks) (s : List ℕ) : Type 0 where
   limit : ℤ
   vi : List Item
   vl : List Bounding
@@ -294,11 +300,11 @@ record Sections (s : List ℕ) : Type 0 where
   vn : List Need
   fair : outside 100000000 limit ≡ false
   some : 1 ≤ length vi
-  items : ItemsIn limit (length vi) vi (headOf s)
-  lower : BoundsIn Lower (headOf s .model) (length vl) vl (lowerOf s)
-  upper : BoundsIn Upper (lowerOf s .model) (length vu) vu (upperOf s)
-  needs-read : NeedsIn (upperOf s .model) (length vn) vn (lastOf s)
-  text : Has s 0 (textOf limit vi vl vu vn) (lastOf s .at)
+  items : ItemsIn kind limit (length vi) vi (headOf kind s)
+  lower : BoundsIn Lower (headOf kind s .model) (length vl) vl (lowerOf kind s)
+  upper : BoundsIn Upper (lowerOf kind s .model) (length vu) vu (upperOf kind s)
+  needs-read : NeedsIn (upperOf kind s .model) (length vn) vn (lastOf kind s)
+  text : Has s 0 (textOf limit vi vl vu vn) (lastOf kind s .at)
 
 side-before : (s : List ℕ) (side : Side) (p : Progress) → boundsSection s side p .verdict ≡ Accepted → p .verdict ≡ Accepted
 unfolding boundsSection
@@ -313,28 +319,28 @@ side-read s side p few size free h =
     section-read (boundForm side) BoundFits (bound-laws side) (BoundsIn side (p .model)) (bounds-next side (p .model)) (wordOf side) n n _
     s p (word-bytes side) (λ m at x y. bounds-start side (p .model) m at (omega arith) few size free) h
 
-sections : (s : List ℕ) → lastOf s .verdict ≡ Accepted → Sections s
+sections : (kind : Blanks) (s : List ℕ) → lastOf kind s .verdict ≡ Accepted → Sections kind s
 unfolding lastOf needsSection upperOf lowerOf headOf limitSection itemsSection
-sections s g =
-    let h = section-before needForm _ _ _ s (upperOf s) g in
-    let hl = side-before s Upper (lowerOf s) h in
-    let hi = side-before s Lower (headOf s) hl in
-    let hb = section-before itemForm _ _ _ s (limitSection s) hi in
+sections kind s g =
+    let h = section-before needForm _ _ _ s (upperOf kind s) g in
+    let hl = side-before s Upper (lowerOf kind s) h in
+    let hi = side-before s Lower (headOf kind s) hl in
+    let hb = section-before (itemFormBy kind) _ _ _ s (limitSection s) hi in
     let a = section-read limitForm LimitFits limit-laws Limited limit-next limit 1 1 _ s (goesOn emptyModel 0 0) limit-bytes
     (λ n at x y. limit-start n at) hb in
     let o = only (a .values) (a .least) (a .most) in
     let b = o .0 in
     let is : limitSection s .model ≡ withCapacity emptyModel b = a .holds .is ∙ ap limited (o .1) in
-    let i = section-read itemForm (λ p i. Bare i) item-laws (ItemsIn b) (items-next b) items 1 16 _ s (limitSection s) items-bytes
-    (λ n at x y. items-start (limitSection s .model) b n at is y) hi in
-    let q = headOf s .model in
-    let free : (side : Side) (k : ℕ) → boundAt side q k ≡ Absent = λ side. no-bounds side b (i .values) (headOf s) (i .holds) in
+    let i = section-read (itemFormBy kind) (λ p i. Bare kind i) (item-laws kind) (ItemsIn kind b) (items-next kind b) items 1 16 _ s (limitSection s) items-bytes
+    (λ n at x y. items-start kind (limitSection s .model) b n at is y) hi in
+    let q = headOf kind s .model in
+    let free : (side : Side) (k : ℕ) → boundAt side q k ≡ Absent = λ side. no-bounds side b (i .values) (headOf kind s) (i .holds) in
     let few : q .count ≤ 16 = omega (arith, i .most, i .holds .count) in
-    let x = side-read s Lower (headOf s) few (i .holds .places) (free Lower) hl in
-    let y = side-read s Upper (lowerOf s) (omega (arith, few, x .holds .count)) (x .holds .places) (λ k. x .holds .same k .other ∙ free Upper k) h in
-    let empty : upperOf s .model .needs ≡ noNeeds = y .holds .needs ∙ x .holds .needs ∙ i .holds .needs in
-    let z = section-read needForm NeedFits need-laws (NeedsIn (upperOf s .model)) (needs-next (upperOf s .model)) needs 0 16 _ s (upperOf s) needs-bytes
-    (λ n at u v. needs-start (upperOf s .model) n at empty v) g in
+    let x = side-read s Lower (headOf kind s) few (i .holds .places) (free Lower) hl in
+    let y = side-read s Upper (lowerOf kind s) (omega (arith, few, x .holds .count)) (x .holds .places) (λ k. x .holds .same k .other ∙ free Upper k) h in
+    let empty : upperOf kind s .model .needs ≡ noNeeds = y .holds .needs ∙ x .holds .needs ∙ i .holds .needs in
+    let z = section-read needForm NeedFits need-laws (NeedsIn (upperOf kind s .model)) (needs-next (upperOf kind s .model)) needs 0 16 _ s (upperOf kind s) needs-bytes
+    (λ n at u v. needs-start (upperOf kind s .model) n at empty v) g in
     record {
       limit = b;
       vi = i .values;
@@ -350,22 +356,24 @@ sections s g =
       text = has-join (rw (o .1) at (a .text)) (has-join (i .text) (has-join (x .text) (has-join (y .text) (z .text))));
     }
 
-found-sheet : (s : List ℕ) → Ended s (lastOf s) → SheetOf s (lastOf s .model)
-found-sheet s t =
-    let r = sections s (t .before) in
-    let m = lastOf s .model in
+found-sheet : (kind : Blanks) (s : List ℕ) → Ended s (lastOf kind s) → SheetOfBy kind s (lastOf kind s .model)
+found-sheet kind s t =
+    let r = sections kind s (t .before) in
+    let m = lastOf kind s .model in
     let z = r .needs-read in
-    let l = laid (r .limit) (r .vi) (r .vl) (r .vu) (r .vn) (headOf s) (lowerOf s) (upperOf s) (lastOf s) (r .items) (r .lower) (r .upper) z in
-    let c = counted (r .limit) (r .vi) (r .vl) (r .vu) (r .vn) (headOf s) (lowerOf s) (upperOf s) (lastOf s) (r .items) (r .lower) (r .upper) z .0 in
-    let f = fair-figures (r .limit) (r .vi) (r .vl) (r .vu) (r .vn) (headOf s) (lowerOf s) (upperOf s) (lastOf s) (r .items) (r .lower) (r .upper) z in
-    let n = items-end (r .limit) (r .vi) (headOf s) (r .items) in
-    let e = needs-end (upperOf s .model) (r .vn) (lastOf s) z in
+    let l = laid (r .limit) (r .vi) (r .vl) (r .vu) (r .vn) (headOf kind s) (lowerOf kind s) (upperOf kind s) (lastOf kind s) (r .items) (r .lower) (r .upper) z in
+    let c = counted (r .limit) (r .vi) (r .vl) (r .vu) (r .vn) (headOf kind s) (lowerOf kind s) (upperOf kind s) (lastOf kind s) (r .items) (r .lower) (r .upper) z .0 in
+    let f = fair-figures (r .limit) (r .vi) (r .vl) (r .vu) (r .vn) (headOf kind s) (lowerOf kind s) (upperOf kind s) (lastOf kind s) (r .items) (r .lower) (r .upper) z in
+    let b = unbarred (r .limit) (r .vi) (r .vl) (r .vu) (r .vn) (headOf kind s) (lowerOf kind s) (upperOf kind s) (lastOf kind s) (r .items) (r .lower) (r .upper) z in
+    let n = items-end (r .limit) (r .vi) (headOf kind s) (r .items) in
+    let e = needs-end (upperOf kind s .model) (r .vn) (lastOf kind s) z in
     record {
       fair = unrefused m (record {
         least = omega (arith, r .some, r .items .count, z .count);
         most = omega (arith, r .items .few, r .items .count, z .count);
         capacity = rw (l .limit) (r .fair);
         figures = λ k h. rw (z .items) (f k (omega (arith, z .count)));
+        unbarred = λ k h. rw (z .items) (b k (omega (arith, z .count)));
         few-needs = omega (arith, z .number, z .few);
         needs = λ j h. rw (z .count, z .items) (z .fair j (omega (arith, e)));
       });
@@ -374,26 +382,26 @@ found-sheet s t =
     }
 
 -- what is accepted with a record is that record's sheet
-pub accepted-sheet : (s : List ℕ) (m : Model) → readSheet s ≡ record { verdict = Accepted; model = m } → SheetOf s m
-unfolding readSheet wholeOf
-accepted-sheet s m h = go (ltb 4096 (length s)) h
+pub accepted-sheet : {kind : Blanks} (s : List ℕ) (m : Model) → readSheetBy kind s ≡ record { verdict = Accepted; model = m } → SheetOfBy kind s m
+unfolding readSheetBy wholeOf
+accepted-sheet {kind} s m h = go (ltb 4096 (length s)) h
   where
     go : (t : Bool) →
         _≡_ {A = Reading}
         (cond t
         (record { verdict = Refused (refusalOn refusal.overlong 0); model = emptyModel })
-        (record { verdict = wholeOf s .verdict; model = wholeOf s .model }))
+        (record { verdict = wholeOf kind s .verdict; model = wholeOf kind s .model }))
         (record { verdict = Accepted; model = m }) →
-        SheetOf s m
+        SheetOfBy kind s m
     go true h = no-refusal (ap (λ (r : Reading). r .verdict) h)
     go false h =
-        let t = ended s (lastOf s) (ap (λ (r : Reading). r .verdict) h) in
-        let e : lastOf s .model ≡ m = ap (λ (q : Progress). q .model) (sym (t .is)) ∙ ap (λ (r : Reading). r .model) h in
-        rw (← e) (found-sheet s t)
+        let t = ended s (lastOf kind s) (ap (λ (r : Reading). r .verdict) h) in
+        let e : lastOf kind s .model ≡ m = ap (λ (q : Progress). q .model) (sym (t .is)) ∙ ap (λ (r : Reading). r .model) h in
+        rw (← e) (found-sheet kind s t)
 
 -- ---- the printing of a record is read back
 
-module _ (m : Model) (r : Unfaulted m) (tidy : Tidy m) where
+module _ (kind : Blanks) (m : Model) (r : Unfaulted kind m) (tidy : Tidy m) where
   vi : List Item
   vi = upTo (m .count) (λ k. bareOf (itemAt m k))
 
@@ -433,24 +441,24 @@ module _ (m : Model) (r : Unfaulted m) (tidy : Tidy m) where
       section-back limitForm LimitFits limit-laws Limited limit-next limit 1 1 _ sheet _ (goesOn emptyModel 0 0) (m .capacity ∷ [])
       (omega arith) (omega arith) (limit-start 1) ((λ p i. r .capacity), tt) refl refl
 
-  items-fits : Fitting (ItemsIn (m .capacity) (length vi)) (λ p i. Bare i) vi
+  items-fits : Fitting (ItemsIn kind (m .capacity) (length vi)) (λ p i. Bare kind i) vi
   unfolding vi
-  items-fits = items-fit (m .capacity) (length vi) (m .count) (λ k. bareOf (itemAt m k)) (λ k l. bare-of (itemAt m k) (r .figures k l))
+  items-fits = items-fit kind (m .capacity) (length vi) (m .count) (λ k. bareOf (itemAt m k)) (λ k l. bare-of kind (itemAt m k) (r .figures k l) (r .unbarred k l))
 
-  items-back : Back (ItemsIn (m .capacity) (length vi)) sheet lower-left vi (headOf sheet)
+  items-back : Back (ItemsIn kind (m .capacity) (length vi)) sheet lower-left vi (headOf kind sheet)
   unfolding headOf itemsSection
   items-back =
       let l = limit-back in
       let few : length vi ≤ 16 = omega (arith, many, r .most) in
       let o = limitSection sheet .model in
-      let first : (at : ℕ) → ItemsIn (m .capacity) (length vi) [] (goesOn (withCount o (length vi)) at 0)
-      = λ at. items-start o (m .capacity) (length vi) at (l .holds .is) few in
-      section-back itemForm (λ p i. Bare i) item-laws (ItemsIn (m .capacity)) (items-next (m .capacity)) items 1 16 _ sheet lower-left
+      let first : (at : ℕ) → ItemsIn kind (m .capacity) (length vi) [] (goesOn (withCount o (length vi)) at 0)
+      = λ at. items-start kind o (m .capacity) (length vi) at (l .holds .is) few in
+      section-back (itemFormBy kind) (λ p i. Bare kind i) (item-laws kind) (ItemsIn kind (m .capacity)) (items-next kind (m .capacity)) items 1 16 _ sheet lower-left
       (limitSection sheet) vi (omega (arith, many, r .least)) few first items-fits (l .accepted) (l .left)
 
   -- the record that the items made
   bare : Model
-  bare = headOf sheet .model
+  bare = headOf kind sheet .model
 
   bare-count : bare .count ≡ m .count
   unfolding bare
@@ -472,24 +480,24 @@ module _ (m : Model) (r : Unfaulted m) (tidy : Tidy m) where
       section-back (boundForm side) BoundFits (bound-laws side) (BoundsIn side (p .model)) (bounds-next side (p .model)) (wordOf side) n n _
       sheet l p vs (omega (arith, all)) (omega (arith, all)) first fits v h
 
-  lower-back : Back (BoundsIn Lower bare (length vl)) sheet upper-left vl (lowerOf sheet)
+  lower-back : Back (BoundsIn Lower bare (length vl)) sheet upper-left vl (lowerOf kind sheet)
   unfolding lowerOf bare vl lower-left
   lower-back =
       let i = items-back in
-      let free = no-bounds Lower (m .capacity) vi (headOf sheet) (i .holds) in
-      side-back Lower upper-left (headOf sheet) (i .accepted) bare-count (i .holds .places) free (i .left)
+      let free = no-bounds Lower (m .capacity) vi (headOf kind sheet) (i .holds) in
+      side-back Lower upper-left (headOf kind sheet) (i .accepted) bare-count (i .holds .places) free (i .left)
 
-  upper-back : Back (BoundsIn Upper (lowerOf sheet .model) (length vu)) sheet needs-left vu (upperOf sheet)
+  upper-back : Back (BoundsIn Upper (lowerOf kind sheet .model) (length vu)) sheet needs-left vu (upperOf kind sheet)
   unfolding upperOf bare vu upper-left
   upper-back =
       let l = lower-back in
-      let free : (k : ℕ) → boundAt Upper (lowerOf sheet .model) k ≡ Absent
-      = λ k. l .holds .same k .other ∙ no-bounds Upper (m .capacity) vi (headOf sheet) (items-back .holds) k in
-      side-back Upper needs-left (lowerOf sheet) (l .accepted) (l .holds .count ∙ bare-count) (l .holds .places) free (l .left)
+      let free : (k : ℕ) → boundAt Upper (lowerOf kind sheet .model) k ≡ Absent
+      = λ k. l .holds .same k .other ∙ no-bounds Upper (m .capacity) vi (headOf kind sheet) (items-back .holds) k in
+      side-back Upper needs-left (lowerOf kind sheet) (l .accepted) (l .holds .count ∙ bare-count) (l .holds .places) free (l .left)
 
   -- the record that the bounds made: m but for its needs
   bounded : Model
-  bounded = upperOf sheet .model
+  bounded = upperOf kind sheet .model
 
   bounded-empty : bounded .needs ≡ noNeeds
   unfolding bounded bare
@@ -512,7 +520,7 @@ module _ (m : Model) (r : Unfaulted m) (tidy : Tidy m) where
   bounded-is =
       let p = goesOn (withNeedCount bounded 0) 0 0 in
       let z : NeedsIn bounded 0 [] p = needs-start bounded 0 0 bounded-empty (omega arith) in
-      let l = laid (m .capacity) vi vl vu [] (headOf sheet) (lowerOf sheet) (upperOf sheet) p (items-back .holds) (lower-back .holds) (upper-back .holds) z in
+      let l = laid (m .capacity) vi vl vu [] (headOf kind sheet) (lowerOf kind sheet) (upperOf kind sheet) p (items-back .holds) (lower-back .holds) (upper-back .holds) z in
       let e : withNeedCount bounded 0 ≡ withNeeds m noNeeds = laid-once (withNeedCount bounded 0) (withNeeds m noNeeds) (m .capacity) vi vl vu [] l bare-own in
       let u : bounded ≡ withNeedCount bounded 0 = same-model bounded (withNeedCount bounded 0) refl refl refl (bounded-empty ∙ sym (rw bounded-empty refl)) in
       u ∙ e
@@ -525,28 +533,28 @@ module _ (m : Model) (r : Unfaulted m) (tidy : Tidy m) where
   unfolding vn
   needs-fits = needs-fit bounded (length vn) (m .needs .count) (m .needs) (λ j l. rw bounded-is (r .needs j l))
 
-  last-back : Back (NeedsIn bounded (length vn)) sheet [] vn (lastOf sheet)
+  last-back : Back (NeedsIn bounded (length vn)) sheet [] vn (lastOf kind sheet)
   unfolding lastOf needsSection bounded needs-left
   last-back =
       let u = upper-back in
-      section-back needForm NeedFits need-laws (NeedsIn bounded) (needs-next bounded) needs 0 16 _ sheet [] (upperOf sheet) vn
+      section-back needForm NeedFits need-laws (NeedsIn bounded) (needs-next bounded) needs 0 16 _ sheet [] (upperOf kind sheet) vn
       (omega arith) few-needs (λ at. needs-start bounded (length vn) at bounded-empty few-needs) needs-fits (u .accepted) (u .left ∙ sym (append-nil _))
 
-  model-back : lastOf sheet .model ≡ m
+  model-back : lastOf kind sheet .model ≡ m
   unfolding bare bounded
   model-back =
-      let l = laid (m .capacity) vi vl vu vn (headOf sheet) (lowerOf sheet) (upperOf sheet) (lastOf sheet) (items-back .holds) (lower-back .holds)
+      let l = laid (m .capacity) vi vl vu vn (headOf kind sheet) (lowerOf kind sheet) (upperOf kind sheet) (lastOf kind sheet) (items-back .holds) (lower-back .holds)
       (upper-back .holds) (last-back .holds) in
-      laid-once (lastOf sheet .model) m (m .capacity) vi vl vu vn l own
+      laid-once (lastOf kind sheet .model) m (m .capacity) vi vl vu vn l own
 
-  end-back : endOfSheet sheet (lastOf sheet) ≡ lastOf sheet
+  end-back : endOfSheet sheet (lastOf kind sheet) ≡ lastOf kind sheet
   unfolding endOfSheet
   end-back =
       let u = last-back in
-      let l : length sheet ≤ lastOf sheet .at = omega (arith, ap length (u .left), length-drop (lastOf sheet .at) sheet) in
-      rw (u .accepted, le-ltb (lastOf sheet .at) (length sheet) l)
+      let l : length sheet ≤ lastOf kind sheet .at = omega (arith, ap length (u .left), length-drop (lastOf kind sheet .at) sheet) in
+      rw (u .accepted, le-ltb (lastOf kind sheet .at) (length sheet) l)
 
-  whole-back : wholeOf sheet ≡ lastOf sheet
+  whole-back : wholeOf kind sheet ≡ lastOf kind sheet
   unfolding wholeOf
   whole-back = end-back
 
@@ -554,20 +562,20 @@ module _ (m : Model) (r : Unfaulted m) (tidy : Tidy m) where
   unfolding sheet
   text-is = laid-text m (m .capacity) vi vl vu vn own
 
-  reading-back : readSheet (printing m) ≡ record { verdict = Accepted; model = m }
-  unfolding readSheet
+  reading-back : readSheetBy kind (printing m) ≡ record { verdict = Accepted; model = m }
+  unfolding readSheetBy
   reading-back =
       let short : length sheet ≤ 4096 = omega (arith, printing-short m r, ap length text-is) in
       rw (text-is, le-ltb 4096 (length sheet) short, whole-back, last-back .accepted, model-back)
 
 -- the sheet of a record is accepted with that record
-pub sheet-accepted : (s : List ℕ) (m : Model) → SheetOf s m → readSheet s ≡ record { verdict = Accepted; model = m }
-sheet-accepted s m h = rw (h .text) (reading-back m (unfaulted m (h .fair)) (h .tidy))
+pub sheet-accepted : {kind : Blanks} (s : List ℕ) (m : Model) → SheetOfBy kind s m → readSheetBy kind s ≡ record { verdict = Accepted; model = m }
+sheet-accepted {kind} s m h = rw (h .text) (reading-back kind m (unfaulted m (h .fair)) (h .tidy))
 
 -- End theorem: a sheet is accepted with a record exactly if it is that record's sheet.
-pub accepted-exactly : (s : List ℕ) (m : Model) → (readSheet s ≡ record { verdict = Accepted; model = m }) ↔ SheetOf s m
-accepted-exactly s m = (accepted-sheet s m, sheet-accepted s m)
+pub accepted-exactly : (kind : Blanks) (s : List ℕ) (m : Model) → (readSheetBy kind s ≡ record { verdict = Accepted; model = m }) ↔ SheetOfBy kind s m
+accepted-exactly kind s m = (accepted-sheet s m, sheet-accepted s m)
 
 -- End theorem: two records in range have equal sheets only if they are equal.
-pub sheet-unique : (s : List ℕ) (m o : Model) → SheetOf s m → SheetOf s o → m ≡ o
+pub sheet-unique : {kind : Blanks} (s : List ℕ) (m o : Model) → SheetOfBy kind s m → SheetOfBy kind s o → m ≡ o
 sheet-unique s m o h k = ap (λ (r : Reading). r .model) (sym (sheet-accepted s m h) ∙ sheet-accepted s o k)

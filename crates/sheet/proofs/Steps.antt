@@ -7,10 +7,11 @@ use mathlib.Core.List.{List}
 use Prim.Native.Nat.{ℕ, suc, _≤_}
 use native.Mathlib.Omega.{arith}
 use Rattle.knapsack.specs.declared.Refusal.{Refusal}
+use Rattle.model.specs.declared.Blanks.{Blanks}
 use Rattle.model.specs.declared.Side.{Side}
 use Rattle.sheet.specs.declared.Progress.{Progress}
 use Rattle.sheet.specs.Sections.{stoppedBy, LineForm, stepOf}
-use Rattle.sheet.specs.Reading.{limit, items, wordOf, limitForm, itemForm, boundForm, needForm, limitSection, itemsSection, boundsSection, headOf}
+use Rattle.sheet.specs.Reading.{limit, items, wordOf, limitForm, itemFormBy, boundForm, needForm, limitSection, itemsSection, boundsSection, headOf}
 use Rattle.sheet.proofs.Sections.{step-keeps, section-keeps}
 
 pub step-item : {A : Type 0} (f : LineForm A) (s : List ℕ) (p : Progress) → ((a : A) → f .item p a ≡ suc (p .item)) → stepOf f s p .item ≤ suc (p .item)
@@ -26,9 +27,9 @@ limit-few : (s : List ℕ) → Few (limitSection s)
 unfolding limitSection
 limit-few s = section-keeps limitForm Few limit 1 1 _ s _ none-few (λ p b n h. h) (λ n at h. omega arith) (omega arith)
 
-pub head-few : (s : List ℕ) → Few (headOf s)
+pub head-few : (kind : Blanks) (s : List ℕ) → Few (headOf kind s)
 unfolding headOf itemsSection
-head-few s = section-keeps itemForm Few items 1 16 _ s (limitSection s) none-few (λ p i n h. h) (λ n at h. h) (limit-few s)
+head-few kind s = section-keeps (itemFormBy kind) Few items 1 16 _ s (limitSection s) none-few (λ p i n h. h) (λ n at h. h) (limit-few s)
 
 pub side-few : (s : List ℕ) (side : Side) (p : Progress) → Few p → Few (boundsSection s side p)
 unfolding boundsSection

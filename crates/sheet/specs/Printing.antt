@@ -9,7 +9,7 @@
 --   needsText m         the section `needs`
 --   printing m          the sheet
 --   Tidy m              16 places and 16 lines of needs, and the ones beyond the counts are blank, and 0 0, as the reader leaves them
---   SheetOf s m         s is the sheet of m, which is accepted as a record
+--   SheetOfBy b s m     s is the sheet of m, which is accepted as a record;  SheetOf s m: where blank items are refused
 use mathlib.Core.Path.{_≡_}
 use mathlib.Core.List.{List, [], _∷_, _++_}
 use Prim.Native.Nat.{ℕ, zero, suc, _≤_}
@@ -18,11 +18,13 @@ use Rattle.knapsack.specs.Ranges.{blank}
 use Rattle.knapsack.specs.declared.Bound.{Bound}
 use Rattle.knapsack.specs.declared.Item.{Item}
 use Rattle.knapsack.specs.declared.Verdict.the-variants.{Accepted}
+use Rattle.model.specs.declared.Blanks.{Blanks}
+use Rattle.model.specs.declared.Blanks.the-variants as blanks
 use Rattle.model.specs.declared.Model.{Model}
 use Rattle.model.specs.declared.Side.{Side}
 use Rattle.model.specs.declared.Side.the-variants.{Lower, Upper}
 use Rattle.model.specs.Needs.{noNeed}
-use Rattle.model.specs.Records.{itemAt, needAt, verdict}
+use Rattle.model.specs.Records.{itemAt, needAt, verdictBy}
 use Rattle.lines.specs.Layout.{Bounding, bounding}
 use Rattle.sheet.specs.Sections.{sectionText}
 use Rattle.sheet.specs.Reading.{limit, items, wordOf, needs, limitForm, itemForm, boundForm, needForm}
@@ -61,7 +63,10 @@ pub record Tidy (m : Model) : Type 0 where
   pub lines : length (m .needs .lines) ≡ 16
   pub spare : (j : ℕ) → m .needs .count ≤ j → needAt (m .needs) j ≡ noNeed
 
-pub record SheetOf (s : List ℕ) (m : Model) : Type 0 where
-  pub fair : verdict m ≡ Accepted
+pub record SheetOfBy (b : Blanks) (s : List ℕ) (m : Model) : Type 0 where
+  pub fair : verdictBy b m ≡ Accepted
   pub tidy : Tidy m
   pub text : s ≡ printing m
+
+abbrev pub SheetOf : List ℕ → Model → Type 0
+SheetOf s m = SheetOfBy blanks.Refused s m

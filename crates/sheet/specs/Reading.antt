@@ -1,12 +1,13 @@
--- The reader. Paper 01, "The sheet" and "Refused, by place", and paper 02, requests 3, 6 and 7: the sheet's first fault in reading order, or its record.
+-- The reader. Paper 01, "The sheet" and "Refused, by place", and paper 02, requests 3, 6, 7 and 9: the sheet's first fault in reading order, or its record.
 --   limit, items, wordOf side, needs    the heading words
 --   limits                       the range of the limit
---   limitForm, itemForm, boundForm side, needForm    the kinds of line, which give what limitGives, itemGives, boundGives, needGives say
+--   limitForm, itemFormBy b, boundForm side, needForm    the kinds of line, which give what limitGives, itemGives, boundGives, needGives say
+--   itemForm             of an item where blank ones are refused
 --   limitSection, itemsSection, boundsSection, needsSection    the sections, each from where the one before ended
 --   endOfSheet s p       nothing stands behind the last section
---   headOf, lowerOf, upperOf, lastOf s    the sheet read so far: limit and items, then lower, then upper, then needs
---   wholeOf s            the sheet read to its end
---   readSheet s          what a sheet gives
+--   headOf, lowerOf, upperOf, lastOf b s  the sheet read so far: limit and items, then lower, then upper, then needs; b is what becomes of blank items
+--   wholeOf b s          the sheet read to its end
+--   readSheetBy b s      what a sheet gives;  readSheet s: where blank items are refused
 use mathlib.Core.Bool.{cond}
 use mathlib.Core.List.{List, [], _∷_}
 use Prim.Native.Nat.{ℕ, suc}
@@ -15,11 +16,13 @@ use lib.IntN.{ℤ, pos, negsuc}
 use lib.ListN.{length}
 use Rattle.knapsack.specs.declared.Item.{Item}
 use Rattle.knapsack.specs.declared.Verdict.the-variants.{Refused}
+use Rattle.model.specs.declared.Blanks.{Blanks}
+use Rattle.model.specs.declared.Blanks.the-variants as blanks
 use Rattle.model.specs.declared.Need.{Need}
 use Rattle.model.specs.declared.Side.{Side}
 use Rattle.model.specs.declared.Side.the-variants.{Lower, Upper}
 use Rattle.model.specs.Refusals as refusal
-use Rattle.model.specs.Records.{emptyModel, itemAt, unfitLine, lineBefore}
+use Rattle.model.specs.Records.{emptyModel, itemAt, barred, unfitLine, lineBefore}
 use Rattle.model.specs.Setters.{withCapacity, withCount, withItem, withBound, withNeedCount, withNeed}
 use Rattle.text.specs.Decimal.{integer}
 use Rattle.text.specs.Layout.{line}
@@ -74,21 +77,24 @@ limitForm = record {
 unfoldable pub limitSection : List ℕ → Progress
 limitSection s = sectionOf limitForm limit (fromTo 1 1) (λ n. emptyModel) s (goesOn emptyModel 0 0)
 
--- ---- items n, and n lines
-abbrev pub itemGives : ItemRead → Gives Item
-itemGives (ItemFault n) = fault n
-itemGives (ItemIs i n) = gives i n
+-- ---- items n, and n lines: on a line 4 and then 15
+abbrev pub itemGives : Blanks → ItemRead → Gives Item
+itemGives b (ItemFault n) = fault n
+itemGives b (ItemIs i n) = cond (barred b i) (fault refusal.blank-item) (gives i n)
 
-abbrev pub itemForm : LineForm Item
-itemForm = record {
-  read = λ s p. itemGives (itemRead s (p .at));
+abbrev pub itemFormBy : Blanks → LineForm Item
+itemFormBy b = record {
+  read = λ s p. itemGives b (itemRead s (p .at));
   text = itemText;
   fill = λ p i. withItem (p .model) (p .item) i;
   item = λ p i. suc (p .item);
 }
 
-unfoldable pub itemsSection : List ℕ → Progress → Progress
-itemsSection s p = sectionOf itemForm items (fromTo 1 16) (λ n. withCount (p .model) n) s p
+abbrev pub itemForm : LineForm Item
+itemForm = itemFormBy blanks.Refused
+
+unfoldable pub itemsSection : Blanks → List ℕ → Progress → Progress
+itemsSection b s p = sectionOf (itemFormBy b) items (fromTo 1 16) (λ n. withCount (p .model) n) s p
 
 -- ---- lower n and upper n, and n lines, for the items in order
 abbrev pub boundGives : ℕ → BoundRead → Gives Bounding
@@ -127,23 +133,26 @@ unfoldable pub endOfSheet : List ℕ → Progress → Progress
 endOfSheet s p = onward p (cond (ltb (p .at) (length s)) (refusedAt s refusal.form (p .at)) p)
 
 -- ---- the sheet
-unfoldable pub headOf : List ℕ → Progress
-headOf s = itemsSection s (limitSection s)
+unfoldable pub headOf : Blanks → List ℕ → Progress
+headOf b s = itemsSection b s (limitSection s)
 
-unfoldable pub lowerOf : List ℕ → Progress
-lowerOf s = boundsSection s Lower (headOf s)
+unfoldable pub lowerOf : Blanks → List ℕ → Progress
+lowerOf b s = boundsSection s Lower (headOf b s)
 
-unfoldable pub upperOf : List ℕ → Progress
-upperOf s = boundsSection s Upper (lowerOf s)
+unfoldable pub upperOf : Blanks → List ℕ → Progress
+upperOf b s = boundsSection s Upper (lowerOf b s)
 
-unfoldable pub lastOf : List ℕ → Progress
-lastOf s = needsSection s (upperOf s)
+unfoldable pub lastOf : Blanks → List ℕ → Progress
+lastOf b s = needsSection s (upperOf b s)
 
-unfoldable pub wholeOf : List ℕ → Progress
-wholeOf s = endOfSheet s (lastOf s)
+unfoldable pub wholeOf : Blanks → List ℕ → Progress
+wholeOf b s = endOfSheet s (lastOf b s)
 
-unfoldable pub readSheet : List ℕ → Reading
-readSheet s =
+unfoldable pub readSheetBy : Blanks → List ℕ → Reading
+readSheetBy b s =
     cond (ltb 4096 (length s))
     (record { verdict = Refused (refusalOn refusal.overlong 0); model = emptyModel })
-    (record { verdict = wholeOf s .verdict; model = wholeOf s .model })
+    (record { verdict = wholeOf b s .verdict; model = wholeOf b s .model })
+
+abbrev pub readSheet : List ℕ → Reading
+readSheet s = readSheetBy blanks.Refused s

@@ -1,5 +1,5 @@
 // The sheet of paper 01: the reader ("The sheet", "Refused, by place"), and the part of a sheet that holds a line.
-// read gives every sheet its record or its numbered refusal; line_part and check_line give a line for the display.
+// read gives every sheet its record or its numbered refusal, read_by keeps blank items where it is told to; line_part and check_line give a line for the display.
 // A line is read in two steps, its form and then its values (crate lines); a section is a heading and a loop over its lines (specs/Sections).
 use knapsack::Bound;
 use knapsack::Item;
@@ -15,6 +15,7 @@ use lines::number::Ranged;
 pub use lines::scan::check_line;
 pub use lines::scan::first_line_end;
 pub use lines::scan::line_part;
+use model::Blanks;
 use model::Model;
 use model::Need;
 use model::Side;
@@ -24,14 +25,14 @@ use model::setters;
 ghost use mathlib.Core.Path.{_≡_};
 ghost use Prim.Native.Nat.{suc, _+_, _≤_, _<_};
 ghost use Rattle.model.specs.Records.{emptyModel};
-ghost use Rattle.model.specs.Records.{itemAt, Numbers};
+ghost use Rattle.model.specs.Records.{itemAt, barred, Numbers};
 ghost use Rattle.model.specs.Setters.{withItem, withBound, withNeed};
 ghost use Rattle.lines.specs.Numbers.{only};
 ghost use Rattle.lines.specs.Lines.{countAt};
 ghost use Rattle.sheet.specs.Sections.{goesOn, stoppedBy, refusedAt, taken, stepOf, linesOf};
-ghost use Rattle.sheet.specs.Reading.{wordOf, limitForm, itemForm, boundForm, limitSection, itemsSection, boundsSection, endOfSheet};
+ghost use Rattle.sheet.specs.Reading.{wordOf, limitForm, itemGives, itemFormBy, boundForm, limitSection, itemsSection, boundsSection, endOfSheet};
 ghost use Rattle.sheet.specs.Reading.{needGives, needForm, needsSection};
-ghost use Rattle.sheet.specs.Reading.{headOf, wholeOf, readSheet};
+ghost use Rattle.sheet.specs.Reading.{headOf, wholeOf, readSheetBy, readSheet};
 
 // What a sheet gives: its record, or a refusal beside the empty record.
 pub struct Reading {
@@ -124,10 +125,31 @@ fn item_taken(p: Progress, item: Item, next: usize) -> Progress
     goes_on(setters::with_item(m, k, item), next, k + 1)
 }
 
-// One line of an item; after a refusal nothing is read.
-fn item_step(s: &[u8], p: Progress) -> Progress
+// Whether an item is blank, where blank items are refused.
+fn is_barred(item: Item, blanks: Blanks) -> bool
+    ensures { λ r. ⌜ r ≡ barred blanks item ⌝ }
+{
+    match blanks {
+        Blanks::Refused => model::is_blank(item),
+        Blanks::Kept => false,
+    }
+}
+
+// An item whose figures are good: 15, or it is taken in.
+fn item_judged(s: &[u8], blanks: Blanks, p: Progress, item: Item, next: usize) -> Progress
     requires { ⌜ p .item < 16 ⌝ }
-    ensures { λ r. ⌜ r ≡ stepOf itemForm (now (s .entry)) p ⌝ }
+    ensures { λ r. ⌜ r ≡ taken (itemFormBy blanks) (now (s .entry)) p (itemGives blanks (ItemRead.Read item next)) ⌝ }
+{
+    if is_barred(item, blanks) {
+        return refused(s, refusals::BLANK_ITEM, p.at);
+    }
+    item_taken(p, item, next)
+}
+
+// One line of an item; after a refusal nothing is read.
+fn item_step(s: &[u8], blanks: Blanks, p: Progress) -> Progress
+    requires { ⌜ p .item < 16 ⌝ }
+    ensures { λ r. ⌜ r ≡ stepOf (itemFormBy blanks) (now (s .entry)) p ⌝ }
 {
     let verdict = p.verdict;
     match verdict {
@@ -137,27 +159,27 @@ fn item_step(s: &[u8], p: Progress) -> Progress
             let r = lines::item_at(s, at);
             match r {
                 ItemRead::Fault(n) => refused(s, n, at),
-                ItemRead::Read(item, next) => item_taken(p, item, next),
+                ItemRead::Read(item, next) => item_judged(s, blanks, p, item, next),
             }
         }
     }
 }
 
-fn item_lines(s: &[u8], n: usize, p: Progress) -> Progress
+fn item_lines(s: &[u8], blanks: Blanks, n: usize, p: Progress) -> Progress
     requires { ⌜ p .item + n ≤ 16 ⌝ }
-    ensures { λ r. ⌜ r ≡ linesOf itemForm n (now (s .entry)) p ⌝ }
+    ensures { λ r. ⌜ r ≡ linesOf (itemFormBy blanks) n (now (s .entry)) p ⌝ }
 {
     let mut r = p;
     let mut k: usize = 0;
     while k < n {
-        r = item_step(s, r);
+        r = item_step(s, blanks, r);
         k += 1;
     }
     r
 }
 
-fn items_section(s: &[u8], p: Progress) -> Progress
-    ensures { λ r. ⌜ r ≡ itemsSection (now (s .entry)) p ⌝ }
+fn items_section(s: &[u8], blanks: Blanks, p: Progress) -> Progress
+    ensures { λ r. ⌜ r ≡ itemsSection blanks (now (s .entry)) p ⌝ }
 {
     let verdict = p.verdict;
     match verdict {
@@ -169,7 +191,7 @@ fn items_section(s: &[u8], p: Progress) -> Progress
                 Count::Fault(n) => refused(s, n, at),
                 Count::Lines(n, next) => {
                     let m = p.model;
-                    item_lines(s, n, goes_on(setters::with_count(m, n), next, 0))
+                    item_lines(s, blanks, n, goes_on(setters::with_count(m, n), next, 0))
                 }
             }
         }
@@ -355,25 +377,25 @@ fn end_of_sheet(s: &[u8], p: Progress) -> Progress
 // ---- the sheet
 
 // Limit and items.
-fn head(s: &[u8]) -> Progress
-    ensures { λ r. ⌜ r ≡ headOf (now (s .entry)) ⌝ }
+fn head(s: &[u8], blanks: Blanks) -> Progress
+    ensures { λ r. ⌜ r ≡ headOf blanks (now (s .entry)) ⌝ }
 {
-    items_section(s, limit_section(s))
+    items_section(s, blanks, limit_section(s))
 }
 
-fn whole(s: &[u8]) -> Progress
-    ensures { λ r. ⌜ r ≡ wholeOf (now (s .entry)) ⌝ }
+fn whole(s: &[u8], blanks: Blanks) -> Progress
+    ensures { λ r. ⌜ r ≡ wholeOf blanks (now (s .entry)) ⌝ }
 {
-    let h = head(s);
+    let h = head(s, blanks);
     let lower = bounds_section(s, Side::Lower, h);
     let upper = bounds_section(s, Side::Upper, lower);
     let needs = needs_section(s, upper);
     end_of_sheet(s, needs)
 }
 
-// Every sheet gets its record or its refusal.
-pub fn read(sheet: &[u8]) -> Reading
-    ensures { λ r. ⌜ r ≡ readSheet (now (sheet .entry)) ⌝ }
+// Every sheet gets its record or its refusal. Blank items are refused or kept.
+pub fn read_by(sheet: &[u8], blanks: Blanks) -> Reading
+    ensures { λ r. ⌜ r ≡ readSheetBy blanks (now (sheet .entry)) ⌝ }
 {
     if lines::scan::LONGEST < sheet.len() {
         let model = setters::empty_model();
@@ -385,8 +407,14 @@ pub fn read(sheet: &[u8]) -> Reading
             model,
         };
     }
-    let p = whole(sheet);
+    let p = whole(sheet, blanks);
     let verdict = p.verdict;
     let model = p.model;
     Reading { verdict, model }
+}
+
+pub fn read(sheet: &[u8]) -> Reading
+    ensures { λ r. ⌜ r ≡ readSheet (now (sheet .entry)) ⌝ }
+{
+    read_by(sheet, Blanks::Refused)
 }

@@ -97,6 +97,16 @@ fn drawn_price(state: u64, weight: i64, s: Spans) -> i64 {
     figure(state, s.price)
 }
 
+// No item is blank: a price 0 beside weight 0 becomes 1.
+fn mended_price(weight: i64, price: i64) -> i64 {
+    if weight == 0 {
+        if price == 0 {
+            return 1;
+        }
+    }
+    price
+}
+
 fn drawn_bound(state: u64, at: i64, s: Spans) -> Bound {
     if below(state, 3) < s.absent {
         Bound::Absent
@@ -144,7 +154,7 @@ pub fn drawn_item(state: u64, s: Spans) -> DrawnItem {
     let x = Item {
         mark: mark,
         weight: weight,
-        price: drawn_price(c, weight, s),
+        price: mended_price(weight, drawn_price(c, weight, s)),
         lower: lower,
         upper: upper,
     };

@@ -15,6 +15,7 @@ use lib.ListN.{length, take, getD, replicate, length-append, length-replicate, g
 use lib.Seq.{length-take-le, getD-take, getD-append-add}
 use Rattle.knapsack.specs.Ranges.{blank}
 use Rattle.knapsack.specs.declared.Verdict.the-variants.{Accepted}
+use Rattle.model.specs.declared.Blanks.the-variants as blanks
 use Rattle.model.specs.declared.Model.{Model}
 use Rattle.model.specs.declared.Side.{Side}
 use Rattle.model.specs.declared.Side.the-variants.{Lower, Upper}
@@ -51,7 +52,7 @@ agree-text m o a =
     (ap₂ _++_ (ap (sectionText itemForm items) i) (ap₂ _++_ (agree-side Lower m o a) (ap₂ _++_ (agree-side Upper m o a) (agree-needs m o a))))
 
 pub agree-accepted : (m o : Model) → Agree m o → verdict m ≡ Accepted → verdict o ≡ Accepted
-agree-accepted m o a h = sym (beyond-verdict m o a) ∙ h
+agree-accepted m o a h = sym (beyond-verdict m o a blanks.Refused) ∙ h
 
 -- ---- the record as the reader fills it
 

@@ -1,6 +1,6 @@
 -- `load::draw_sheet` meets its contract: every drawn problem is accepted.
 use mathlib.Core.Path.{ap}
-use Rattle.model.proofs.Records.{accepted-iff}
+use Rattle.model.proofs.Records.{admitted}
 use Rattle.drawing.specs.declared.DrawnProblem.{DrawnProblem}
 use Rattle.drawing.specs.Drawing.{drawnProblem}
 use Rattle.drawing.proofs.Drawn.{drawn-admissible}
@@ -14,7 +14,7 @@ draw-problem-requires c κs = search needs
 sheet-text-requires : tie.Need-sheet-text-requires
 sheet-text-requires c κs =
     let d = c .before in
-    rw (d .draw-problem .ensures) (accepted-iff (drawnProblem (d .before .args .state) .problem) .1 (drawn-admissible (d .before .args .state)))
+    rw (d .draw-problem .ensures) (admitted (drawnProblem (d .before .args .state) .problem) (drawn-admissible (d .before .args .state)))
 
 returns : tie.Need-returns
 returns c =

@@ -1,6 +1,6 @@
 -- `model::check_model` meets its contract.
 use borrow.Author.Needs.{needs}
-use Rattle.model.specs.Records.{verdict}
+use Rattle.model.specs.Records.{verdictBy}
 use Rattle.model.proofs.check_model.Statement.{statement}
 use Rattle.model.proofs.check_model.Tie as tie
 
@@ -13,21 +13,45 @@ check-figures-requires c κs = search needs
 first-of-requires : tie.Need-first-of-requires
 first-of-requires c κs = search needs
 
-check-needs-requires : tie.Need-check-needs-requires
-check-needs-requires c κs = search needs
+check-blanks-requires : tie.Need-check-blanks-requires
+check-blanks-requires c κs = search needs
 
 first-of-requires-2 : tie.Need-first-of-requires-2
 first-of-requires-2 c κs = search needs
 
+check-needs-requires : tie.Need-check-needs-requires
+check-needs-requires c κs = search needs
+
+first-of-requires-3 : tie.Need-first-of-requires-3
+first-of-requires-3 c κs = search needs
+
 returns : tie.Need-returns
-unfolding verdict
+unfolding verdictBy
 returns c =
     let n = c .before in
-    let w = n .before in
+    let x = n .before in
+    let b = x .before in
+    let w = b .before in
     let f = w .before in
-    rw (c .first-of2 .ensures, n .check-needs .ensures, w .first-of .ensures, f .check-figures .ensures, f .before .check-counts .ensures)
+    rw (
+      c .first-of3 .ensures,
+      n .check-needs .ensures,
+      x .first-of2 .ensures,
+      b .check-blanks .ensures,
+      w .first-of .ensures,
+      f .check-figures .ensures,
+      f .before .check-counts .ensures,
+    )
 
 pub check-model-spec : {M : Type 1} → statement M
 check-model-spec =
     tie.close
-    (tie.spec check-counts-requires check-figures-requires first-of-requires check-needs-requires first-of-requires-2 returns)
+    (tie.spec
+    check-counts-requires
+    check-figures-requires
+    first-of-requires
+    check-blanks-requires
+    first-of-requires-2
+    check-needs-requires
+    first-of-requires-3
+    returns)

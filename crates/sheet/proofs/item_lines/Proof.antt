@@ -3,16 +3,16 @@ use Prim.Native.Nat.{_≤_, _-_, _+_}
 use native.Mathlib.Numerals.{add-one}
 use native.Mathlib.Omega.{arith}
 use Rattle.sheet.specs.Sections.{stepOf, linesOf}
-use Rattle.sheet.specs.Reading.{itemForm}
+use Rattle.sheet.specs.Reading.{itemFormBy}
 use Rattle.sheet.proofs.Steps.{step-item}
 use Rattle.sheet.proofs.item_lines.Statement.{statement}
 use Rattle.sheet.proofs.item_lines.Tie as tie
 
 abbrev Inv-loop : tie.InvT-loop
-Inv-loop s n r₀ k₀ r k = (k ≤ n) × ((r .item ≤ r₀ .item + k) × (r ≡ linesOf itemForm k s r₀))
+Inv-loop s blanks n r₀ k₀ r k = (k ≤ n) × ((r .item ≤ r₀ .item + k) × (r ≡ linesOf (itemFormBy blanks) k s r₀))
 
 abbrev μ-loop : tie.MeasureT-loop
-μ-loop s n r₀ k₀ r k = n - k
+μ-loop s blanks n r₀ k₀ r k = n - k
 
 loop-holds : tie.Need-loop-holds Inv-loop μ-loop
 unfolding linesOf
@@ -31,9 +31,11 @@ loop-again : tie.Need-loop-again Inv-loop μ-loop
 unfolding linesOf
 loop-again c =
     let l = c .before .before in
-    let s = l .before .before .args .s .now in
+    let a = l .before .before .args in
+    let s = a .s .now in
+    let f = itemFormBy (a .blanks) in
     let e = c .item-step .ensures in
-    (omega arith, (rw e (omega (arith, step-item itemForm s (l .loop .r) (λ i. refl))), rw add-one (e ∙ ap (stepOf itemForm s) (l .loop .inv .1 .1))))
+    (omega arith, (rw e (omega (arith, step-item f s (l .loop .r) (λ i. refl))), rw add-one (e ∙ ap (stepOf f s) (l .loop .inv .1 .1))))
 
 returns : tie.Need-returns Inv-loop μ-loop
 returns c =

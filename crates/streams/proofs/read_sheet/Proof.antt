@@ -1,11 +1,11 @@
--- `console::read_sheet` meets its contract: each turn counts one down, and what is read stays within the buffer.
+-- `streams::read_sheet` meets its contract: each turn counts one down, and what is read stays within the buffer.
 use Prim.Native.Nat.{_≤_}
 use lib.ListN.{length}
 use native.Mathlib.Omega.{arith}
 use mathlib.Core.Path.{_≡_, refl}
 use Rattle.io.proofs.Counting.{counts}
-use Rattle.console.proofs.read_sheet.Statement.{statement}
-use Rattle.console.proofs.read_sheet.Tie as tie
+use Rattle.streams.proofs.read_sheet.Statement.{statement}
+use Rattle.streams.proofs.read_sheet.Tie as tie
 
 abbrev Inv-loop : tie.InvT-loop
 Inv-loop buf₀ p₀ turns₀ buf p turns = (length buf ≡ length buf₀) × (p .at ≤ length buf)

@@ -1,9 +1,9 @@
--- `console::write_reply` ends: each turn counts one down.
+-- `streams::write_reply` ends: each turn counts one down.
 use Prim.Native.Nat.{_≤_}
 use lib.ListN.{length}
 use native.Mathlib.Omega.{arith}
-use Rattle.console.proofs.write_reply.Statement.{statement}
-use Rattle.console.proofs.write_reply.Tie as tie
+use Rattle.streams.proofs.write_reply.Statement.{statement}
+use Rattle.streams.proofs.write_reply.Tie as tie
 
 abbrev Inv-loop : tie.InvT-loop
 Inv-loop buf p₀ turns₀ p turns = p .at ≤ length buf

@@ -1,0 +1,111 @@
+-- What a converted sheet is.
+--   asked m          the record as the solver's instance
+-- unhindered, written: where 15 is not told, the blank items can be left out, and what remains is accepted. agree-sym: records agree both ways.
+-- converted-read: the reader reads a converted sheet. converted-gives: the meaning gives it the kind and the value that it gives the old one.
+-- converted-replies: so the planner's reply to it shows them.
+-- unblanked-sheet: a sheet that the reader accepts comes back as it is.
+use mathlib.Core.Bool.{Bool, true, false, cond}
+use mathlib.Core.List.{List}
+use mathlib.Core.Logic.{_↔_}
+use mathlib.Core.Path.{_≡_, refl, sym, ap, _∙_, subst}
+use Prim.Native.Nat.{ℕ, _+_, _≤_}
+use native.Mathlib.Omega.{arith}
+use borrow.Author.Tests.{ltb-false, le-ltb}
+use lib.Dec.{ltb}
+use Rattle.arith.specs.declared.Fraction.{Fraction}
+use Rattle.knapsack.specs.Meaning.{Instance, instanceOf}
+use Rattle.knapsack.specs.Ranges.{blank}
+use Rattle.knapsack.specs.declared.Answer.{Answer}
+use Rattle.knapsack.specs.declared.Kind.{Kind}
+use Rattle.knapsack.specs.declared.Verdict.{Verdict}
+use Rattle.knapsack.specs.declared.Verdict.the-variants.{Accepted, Refused}
+use Rattle.model.specs.declared.Blanks.the-variants as blanks
+use Rattle.model.specs.declared.Model.{Model}
+use Rattle.model.specs.Promises.{Planned}
+use Rattle.model.specs.Records.{plainOf, needsOf, verdict, Agree, AdmissibleBy, Admissible}
+use Rattle.model.specs.Refusals as refusal
+use Rattle.model.proofs.BeyondCount.{beyond-planned}
+use Rattle.model.proofs.Records.{accepted, admitted, both-accept}
+use Rattle.lines.specs.Places.{refusalOn}
+use Rattle.sheet.specs.declared.Reading.{Reading}
+use Rattle.sheet.specs.Reading.{readSheet}
+use Rattle.sheet.proofs.Sections.{no-refusal}
+use Rattle.sheet.proofs.Sheets.{accepted-sheet, sheet-accepted}
+use Rattle.writer.specs.Writing.{tidied}
+use Rattle.writer.proofs.Roundtrip.{Sized, agree-text, tidied-agrees, written-read}
+use Rattle.dropping.specs.Dropping.{kept, dropped, hindrance, Droppable}
+use Rattle.dropping.specs.Gives.{Gives}
+use Rattle.dropping.proofs.Dropped.{droppable, line-length, dropped-admissible, dropped-gives, dropped-planned, unblanked, unblanked-free}
+use Rattle.dropping.proofs.Kept.{length-packed}
+use Rattle.converter.specs.Converting.{keptReading, hindered, convertible, converted}
+
+abbrev asked : Model → Instance
+asked m = instanceOf (plainOf m)
+
+agree-sym : (m o : Model) → Agree m o → Agree o m
+agree-sym m o e = record {
+  count = sym (e .count);
+  capacity = sym (e .capacity);
+  items = λ k l. sym (e .items k (omega (arith, e .count)));
+  need-count = sym (e .need-count);
+  needs = λ j l. sym (e .needs j (omega (arith, e .need-count)));
+}
+
+-- ---- the record that is written
+
+unhindered : (m : Model) → AdmissibleBy blanks.Kept m → hindered m ≡ Accepted → Droppable m
+unhindered m a h = droppable m (a .figures .some-items) (go (ltb (hindrance m) (m .count)) refl h)
+  where
+    go : (b : Bool) → ltb (hindrance m) (m .count) ≡ b → cond b (Refused (refusalOn refusal.blank-item (hindrance m + 4))) Accepted ≡ Accepted
+        → m .count ≤ hindrance m
+    go true e h = no-refusal h
+    go false e h = ltb-false (hindrance m) (m .count) e
+
+pub written : (m : Model) → AdmissibleBy blanks.Kept m → hindered m ≡ Accepted → verdict (dropped m) ≡ Accepted
+written m a h = admitted (dropped m) (dropped-admissible m a (unhindered m a h))
+
+dropped-sized : (m : Model) → Sized (dropped m)
+dropped-sized m = record {
+  places = length-packed (kept m) blank (m .items) (m .count);
+  lines = line-length (kept m) (m .needs .lines) (m .needs .count);
+}
+
+-- ---- the sheet
+
+module _ (s : List ℕ) (h : convertible s ≡ Accepted) where
+  abbrev old : Model
+  old = keptReading s .model
+
+  parts : (keptReading s .verdict ≡ Accepted) × (hindered old ≡ Accepted)
+  parts = both-accept (keptReading s .verdict) (hindered old) h
+
+  old-admissible : AdmissibleBy blanks.Kept old
+  old-admissible = accepted old (accepted-sheet s old (ap (λ (v : Verdict). record { verdict = v; model = old }) (parts .0)) .fair)
+
+  -- End theorem: the reader reads a converted sheet.
+  pub converted-read : readSheet (converted s) ≡ record { verdict = Accepted; model = tidied (dropped old) }
+  converted-read = written-read (dropped old) (dropped-sized old) (written old old-admissible (parts .1))
+
+  -- End theorem: what the meaning gives the old sheet it gives the new one.
+  pub converted-gives : (k : Kind) (v : Fraction) →
+      Gives (asked old) (needsOf (old .needs)) k v ↔ Gives (asked (dropped old)) (needsOf (dropped old .needs)) k v
+  converted-gives = dropped-gives old old-admissible (unhindered old old-admissible (parts .1))
+
+  -- End theorem: the planner's reply to the new sheet has the kind and the value that the meaning gives the old one.
+  pub converted-replies : (b : Answer) → Planned (readSheet (converted s) .model) b → Gives (asked old) (needsOf (old .needs)) (b .kind) (b .value)
+  converted-replies b p =
+      let d = dropped old in
+      let e = agree-sym d (tidied d) (tidied-agrees d (dropped-sized old) (written old old-admissible (parts .1))) in
+      let q = subst (λ (r : Reading). Planned (r .model) b) converted-read p in
+      dropped-planned old old-admissible (unhindered old old-admissible (parts .1)) b (beyond-planned (tidied d) d e b q)
+
+-- End theorem: a sheet that the reader accepts, so without blank items, comes back as it is.
+pub unblanked-sheet : (s : List ℕ) → readSheet s .verdict ≡ Accepted → (convertible s ≡ Accepted) × (converted s ≡ s)
+unblanked-sheet s h =
+    let m = readSheet s .model in
+    let t = accepted-sheet s m (ap (λ (v : Verdict). record { verdict = v; model = m }) h) in
+    let a : Admissible m = accepted m (t .fair) in
+    let b : AdmissibleBy blanks.Kept m = record { figures = a .figures; unbarred = λ k l. refl; few-needs = a .few-needs; needs = a .needs } in
+    let r : keptReading s ≡ record { verdict = Accepted; model = m } = sheet-accepted s m (record { fair = admitted m b; tidy = t .tidy; text = t .text }) in
+    let free : hindered m ≡ Accepted = rw (unblanked-free m a, le-ltb (m .count) (m .count) (omega arith)) in
+    (rw r free, rw r (sym (agree-text m (dropped m) (unblanked m a b)) ∙ sym (t .text)))

@@ -1,0 +1,6 @@
+pub mod Kept
+pub mod Sums
+pub mod Drops
+pub mod Boundless
+pub mod Needed
+pub mod Dropped
