@@ -55,7 +55,9 @@ fn convert_model(m: Model, out: &mut [u8]) -> Listed
 // The sheet without its blank items at the start of a lent buffer; the bytes behind it stay. A refusal changes no byte.
 pub fn convert(s: &[u8], out: &mut [u8]) -> Listed
     ensures { λ r. ⌜ r ≡ onAccepted (convertible (now (s .entry))) noted (told (converted (now (s .entry))) (now (out .entry))) ⌝ }
-    ensures { λ r. ⌜ now (out .exit) ≡ onAccepted (convertible (now (s .entry))) (λ f. now (out .entry)) (filled (converted (now (s .entry))) (now (out .entry))) ⌝ }
+    ensures {
+      λ r. ⌜ now (out .exit) ≡ onAccepted (convertible (now (s .entry))) (λ f. now (out .entry)) (filled (converted (now (s .entry))) (now (out .entry))) ⌝
+    }
 {
     let r = read_by(s, Blanks::Kept);
     let v = r.verdict;

@@ -1,5 +1,6 @@
 -- Every drawn problem is admissible: paper 02, requests 8 and 9. Its bounds may cross.
--- bound-in, mended-in, line-in: what a line draws is in range. mended-full, drawn-full: no item is blank. section-figures, heading-figures, drawn-figures: so are the figures of all.
+-- bound-in, mended-in, line-in: what a line draws is in range. mended-full, drawn-full: no item is blank.
+-- section-figures, heading-figures, drawn-figures: so are the figures of all.
 -- lines-needs, section-needs, heading-needs, drawn-needs: there are no needs. drawn-admissible: the theorem.
 use mathlib.Core.Path.{_≡_, refl, ap, _∙_}
 use mathlib.Core.Bool.{Bool, true, false, cond}
@@ -77,7 +78,8 @@ mended-full i = go (isBlank i) refl
     priced true = refl
     priced false = refl
 
-    go : (b : Bool) → isBlank i ≡ b → isBlank (cond b (record { mark = i .mark; weight = i .weight; price = pos 1; lower = i .lower; upper = i .upper }) i) ≡ false
+    go : (b : Bool) → isBlank i ≡ b
+       → isBlank (cond b (record { mark = i .mark; weight = i .weight; price = pos 1; lower = i .lower; upper = i .upper }) i) ≡ false
     go true e = priced (eqb (natAbs (i .weight)) 0)
     go false e = e
 

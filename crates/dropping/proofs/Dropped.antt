@@ -1,5 +1,6 @@
 -- A record without its blank items.
--- dropped-none, rank-next, dropped-next: an item more. lines-next: a line more. line-numbers: a line has item numbers. named-more, named-found, none-named: a line of needs more, and what the search for a name tells.
+-- dropped-none, rank-next, dropped-next: an item more. lines-next: a line more. line-numbers: a line has item numbers.
+-- named-more, named-found, none-named: a line of needs more, and what the search for a name tells.
 -- droppable: where the search finds no hindrance, there is none.
 -- line-length, line-at, dropped-item, dropped-each, dropped-need, dropped-line: what stands in it.
 -- drops-blanks: it is the problem with idle items left out, and the needs moved along.
@@ -255,7 +256,8 @@ module _ (m : Model) (a : AdmissibleBy blanks.Kept m) where
           below = rw i (n .below);
         }
 
-    line-rises : (x y : Need) → Stays (kept m) (m .count) (placed x) → 1 ≤ x .item → 1 ≤ x .cover → Rises x y → Rises (renumbered (kept m) x) (renumbered (kept m) y)
+    line-rises : (x y : Need) → Stays (kept m) (m .count) (placed x) → 1 ≤ x .item → 1 ≤ x .cover → Rises x y
+               → Rises (renumbered (kept m) x) (renumbered (kept m) y)
     line-rises x y s i c (inl l) = inl (omega (arith, rank-strict (kept m) (y .item - 1) (x .item - 1) (omega arith) (s .item-kept)))
     line-rises x y s i c (inr (e, l)) =
         inr (ap (renumber (kept m)) e, omega (arith, rank-strict (kept m) (y .cover - 1) (x .cover - 1) (omega arith) (s .cover-kept)))
@@ -329,7 +331,10 @@ unblanked m full a = record {
     own k low high = omega (arith, rank-all (kept m) (k - 1) (λ i h. all i (omega arith)))
 
     same : (n : Need) → Numbers (m .count) (n .item) (n .cover) → renumbered (kept m) n ≡ n
-    same n h = ap₂ {C = Need} (λ i c. record { item = i; cover = c }) (own (n .item) (h .first-least) (h .first-most)) (own (n .cover) (h .second-least) (h .second-most))
+    same n h =
+        ap₂ {C = Need} (λ i c. record { item = i; cover = c })
+        (own (n .item) (h .first-least) (h .first-most))
+        (own (n .cover) (h .second-least) (h .second-most))
 
 pub unblanked-free : (m : Model) → Admissible m → hindrance m ≡ m .count
 unblanked-free m full =

@@ -13,7 +13,8 @@ ghost use Prim.Native.Nat.{suc, _-_, _≤_, _<_};
 ghost use Rattle.model.specs.declared.Blanks.the-variants as blanks;
 ghost use Rattle.model.specs.Records.{isBlank, needAt, Numbers, AdmissibleBy};
 ghost use Rattle.dropping.specs.Kept.{rank};
-ghost use Rattle.dropping.specs.Dropping.{kept, renumbered, droppedTo, dropped, appended, appendedUnlessBlank, namesItem, namedIn, hinders, firstHindered, hindrance};
+ghost use Rattle.dropping.specs.Dropping.{kept, renumbered, droppedTo, dropped, appended, appendedUnlessBlank};
+ghost use Rattle.dropping.specs.Dropping.{namesItem, namedIn, hinders, firstHindered, hindrance};
 
 // ---- the items
 

@@ -1,13 +1,14 @@
 // Entries for programs in C and Rust, on bytes and numbers: a sheet's verdict, its reply in a lent buffer, and how much work it is.
 // include/runcefo.h declares them. Paper 01, "The sheet" and "What `charge` prints". Nothing is asked of a caller but that each
 // pointer has as many bytes behind it as the length beside it says.
-use planner::solve_needs;
+use converter::convert;
 use knapsack::Verdict;
 use model::plain_of;
-use solver::STEPS;
+use planner::solve_needs;
 use replies::list_sheet;
 use sheet::Reading;
 use sheet::read;
+use solver::STEPS;
 use text::Listed;
 use text::ROOM;
 use writer::rewrite_sheet;
@@ -17,7 +18,19 @@ ghost use Rattle.listing.specs.Printing.{room};
 ghost use Rattle.model.specs.Records.{plainOf};
 ghost use Rattle.planner.specs.Branching.{Needed};
 ghost use Rattle.sheet.specs.Reading.{readSheet};
-ghost use Rattle.runcefo.specs.Entries.{toldNumber, toldLine, lengthOf, listedVerdict, Plans, Steps, Cells, saved, left};
+ghost use Rattle.runcefo.specs.Entries.{
+  toldNumber,
+  toldLine,
+  lengthOf,
+  listedVerdict,
+  Plans,
+  Steps,
+  Cells,
+  saved,
+  left,
+  conversion,
+  cleared,
+};
 
 // 01's number of a refusal, 0 where there is none.
 fn told_number(v: Verdict) -> u64
@@ -122,6 +135,27 @@ pub extern "C" fn charge_write(sheet: &[u8], out: &mut [u8], line: &mut u64) -> 
 {
     let w = rewrite_sheet(sheet, out);
     let v = listed_verdict(w);
+    *line = told_line(v);
+    told_number(v)
+}
+
+// A stored sheet without its blank items (paper 02, request 9), at the start of a lent buffer: 0, and written gets its length. A refusal's number, with
+// its line and length 0, and no byte changes, where the sheet is refused but for its blank items, these cannot go, or the buffer is shorter.
+#[no_mangle]
+pub extern "C" fn charge_convert(
+    sheet: &[u8],
+    out: &mut [u8],
+    written: &mut usize,
+    line: &mut u64,
+) -> u64
+    ensures { λ r. ⌜ r ≡ toldNumber (listedVerdict (conversion (now (sheet .entry)) (now (out .entry)))) ⌝ }
+    ensures { λ r. ⌜ now (line .exit) ≡ toldLine (listedVerdict (conversion (now (sheet .entry)) (now (out .entry)))) ⌝ }
+    ensures { λ r. ⌜ now (written .exit) ≡ lengthOf (conversion (now (sheet .entry)) (now (out .entry))) ⌝ }
+    ensures { λ r. ⌜ now (out .exit) ≡ cleared (now (sheet .entry)) (now (out .entry)) ⌝ }
+{
+    let w = convert(sheet, out);
+    let v = listed_verdict(w);
+    *written = length_of(w);
     *line = told_line(v);
     told_number(v)
 }

@@ -1,6 +1,7 @@
 -- The sheet's four forms of line keep the laws of a form: limit-laws, item-laws, bound-laws, need-laws.
 --   LimitFits, Bare, BoundFits, NeedFits    what a line's value must be where it is read; of an item also by what becomes of blank ones
--- barred-bare: whether an item is barred is told by its line. bare-same: a bare item is what its line gives. bare-of, fair-side: an item in range is bare without its bounds, which are in range.
+-- barred-bare: whether an item is barred is told by its line. bare-same: a bare item is what its line gives.
+-- bare-of, fair-side: an item in range is bare without its bounds, which are in range.
 use mathlib.Core.Path.{_≡_, refl, sym, ap, _∙_}
 use mathlib.Core.Bool.{Bool, true, false, cond}
 use mathlib.Core.List.{List, [], _∷_, append-assoc}

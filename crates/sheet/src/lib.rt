@@ -1,5 +1,6 @@
 // The sheet of paper 01: the reader ("The sheet", "Refused, by place"), and the part of a sheet that holds a line.
-// read gives every sheet its record or its numbered refusal, read_by keeps blank items where it is told to; line_part and check_line give a line for the display.
+// read gives every sheet its record or its numbered refusal, read_by keeps blank items where it is told to; line_part and
+// check_line give a line for the display.
 // A line is read in two steps, its form and then its values (crate lines); a section is a heading and a loop over its lines (specs/Sections).
 use knapsack::Bound;
 use knapsack::Item;
