@@ -10,7 +10,7 @@ use Rattle.knapsack.specs.declared.Mark.the-variants.{Integer}
 use Rattle.knapsack.specs.declared.Item.{Item}
 use Rattle.knapsack.specs.Ranges.{blank}
 use Rattle.model.specs.Needs.{noNeeds}
-use Rattle.model.specs.Records.{someItem, needsVerdict, verdict}
+use Rattle.model.specs.Records.{someItem, needsVerdict, verdictBy}
 use Rattle.model.specs.declared.Model.{Model}
 use Rattle.knapsack.specs.Meaning.{LeastPair, NoPair}
 use Rattle.domination.specs.declared.Pair.the-variants.{Missing, Steps}
@@ -29,11 +29,11 @@ abbrev pub rowF : ℕ → Model
 rowF u = record { items = item 3 5 u ∷ item 4 6 10 ∷ replicate 14 blank; count = 2; capacity = pos 10; needs = noNeeds }
 
 pub row-L : leastPair (rowF 10) 1 2 ≡ Found (Steps (negsuc 3) (pos 3))
-unfolding someItem needsVerdict verdict signed serving leastGive oneWay pairOf paired numbered leastPair
+unfolding someItem needsVerdict verdictBy signed serving leastGive oneWay pairOf paired numbered leastPair
 row-L = refl
 
 pub row-M : leastPair (rowF 3) 1 2 ≡ Found Missing
-unfolding someItem needsVerdict verdict signed serving leastGive oneWay pairOf paired numbered leastPair
+unfolding someItem needsVerdict verdictBy signed serving leastGive oneWay pairOf paired numbered leastPair
 row-M = refl
 
 pair-L : pairOf (item 3 5 10) (item 4 6 10) ≡ Steps (negsuc 3) (pos 3)

@@ -161,13 +161,12 @@ fn is_hindered(m: Model, k: usize) -> bool
 {
     let x = m.items[k];
     if is_blank(x) {
-        if does_cross(x) {
-            return true;
-        }
         let ns = m.needs;
-        return is_named(ns, k + 1);
+        let named = is_named(ns, k + 1);
+        if does_cross(x) { true } else { named }
+    } else {
+        false
     }
-    false
 }
 
 fn first_hindered(m: Model) -> usize
