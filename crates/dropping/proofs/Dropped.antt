@@ -1,7 +1,7 @@
 -- A record without its blank items.
 -- dropped-none, rank-next, dropped-next: an item more. lines-next: a line more. line-numbers: a line has item numbers.
 -- named-more, named-found, none-named: a line of needs more, and what the search for a name tells.
--- droppable: where the search finds no hindrance, there is none.
+-- droppable, undisturbed: the search finds no hindrance exactly where there is none.
 -- line-length, line-at, dropped-item, dropped-each, dropped-need, dropped-line: what stands in it.
 -- drops-blanks: it is the problem with idle items left out, and the needs moved along.
 -- dropped-gives: the meaning gives it the kind and the value that it gives the record, blank items included. dropped-planned: so the planner's reply to it
@@ -124,6 +124,17 @@ droppable m some h = go (eqb (rank (kept m) (m .count)) 0) refl h
       uncrossed = λ k l b. free h k l b .0;
       unnamed = λ k l b. free h k l b .1;
     }
+
+pub undisturbed : (m : Model) → Droppable m → hindrance m ≡ m .count
+undisturbed m d =
+    let some : rank (kept m) (m .count) ≡ 0 → ⊥ = λ z. omega (arith, z, d .remains) in
+    let e = first-all (hinders m) (m .count) 0 (λ k l h. none k (omega arith) (isBlank (itemAt m k)) refl) in
+    rw (ne-eqb (rank (kept m) (m .count)) 0 some) (omega (arith, e))
+  where
+    none : (k : ℕ) → k < m .count → (b : Bool) → isBlank (itemAt m k) ≡ b
+        → cond b (cond (crosses (itemAt m k)) true (namedIn (m .needs .count) (needAt (m .needs)) (suc k))) false ≡ false
+    none k l true e = rw (d .uncrossed k l e, d .unnamed k l e)
+    none k l false e = refl
 
 -- ---- what stands in it
 
@@ -339,6 +350,8 @@ unblanked m full a = record {
 pub unblanked-free : (m : Model) → Admissible m → hindrance m ≡ m .count
 unblanked-free m full =
     let n = rank-all (kept m) (m .count) (λ k l. ap not (full .unbarred k l)) in
-    let some : rank (kept m) (m .count) ≡ 0 → ⊥ = λ z. omega (arith, n, full .figures .some-items) in
-    let e = first-all (hinders m) (m .count) 0 (λ k l h. rw (full .unbarred k (omega arith))) in
-    rw (ne-eqb (rank (kept m) (m .count)) 0 some) (omega (arith, e))
+    undisturbed m (record {
+      remains = omega (arith, n, full .figures .some-items);
+      uncrossed = λ k l e. absurd (impossible (sym (full .unbarred k l) ∙ e));
+      unnamed = λ k l e. absurd (impossible (sym (full .unbarred k l) ∙ e));
+    })

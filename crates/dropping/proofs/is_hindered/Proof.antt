@@ -14,25 +14,26 @@ element-copy-out-x c = search needs
 is-blank-requires : tie.Need-is-blank-requires
 is-blank-requires c κs = search needs
 
-does-cross-requires : tie.Need-does-cross-requires
-does-cross-requires c κs = search needs
-
-returns : tie.Need-returns
-returns c =
-    let b = c .before .before in
-    rw (sym (b .before .is-blank .ensures) ∙ b .if1 .taken, sym (c .before .does-cross .ensures) ∙ c .if2 .taken)
-
 add-is-named : tie.Need-add-is-named
 add-is-named c = search needs
 
 is-named-requires : tie.Need-is-named-requires
 is-named-requires c κs = search needs
 
+does-cross-requires : tie.Need-does-cross-requires
+does-cross-requires c κs = search needs
+
+returns : tie.Need-returns
+returns c =
+    let n = c .before .before in
+    let b = n .before .before in
+    rw (sym (b .before .is-blank .ensures) ∙ b .if1 .taken, sym (c .before .does-cross .ensures) ∙ c .if2 .taken)
+
 returns-2 : tie.Need-returns-2
 returns-2 c =
-    let e = c .before .before in
-    let b = e .before .before in
-    rw (sym (b .before .is-blank .ensures) ∙ b .if1 .taken, sym (e .before .does-cross .ensures) ∙ e .if2 .left) (rw add-one at (c .is-named .ensures))
+    let n = c .before .before in
+    let b = n .before .before in
+    rw (sym (b .before .is-blank .ensures) ∙ b .if1 .taken, sym (c .before .does-cross .ensures) ∙ c .if2 .left) (rw add-one at (n .is-named .ensures))
 
 returns-3 : tie.Need-returns-3
 returns-3 c = rw (sym (c .before .is-blank .ensures) ∙ c .if1 .left)
@@ -44,9 +45,9 @@ is-hindered-spec =
     mul-x
     element-copy-out-x
     is-blank-requires
-    does-cross-requires
-    returns
     add-is-named
     is-named-requires
+    does-cross-requires
+    returns
     returns-2
     returns-3)
