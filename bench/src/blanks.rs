@@ -153,6 +153,9 @@ fn compare(sheet: &[u8], expected: &Result<Vec<u8>, Refusal>) -> Result<(), Stri
     if independent::read(sheet).is_ok() && text != sheet {
         return Err("a sheet without blank items does not come back".into());
     }
+    if text.len() > sheet.len() {
+        return Err("the new sheet is longer".into());
+    }
     check_reply(sheet, text)
 }
 
