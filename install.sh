@@ -1,5 +1,5 @@
 #!/bin/sh
-# Proves and installs the program, the archive, its header, the man page and a pkg-config file under a prefix.
+# Proves and installs the programs, the archive, its header, the man pages and a pkg-config file under a prefix.
 set -eu
 usage() { echo "install.sh [--prefix DIR]   (default /usr/local; DESTDIR is put before it)"; }
 prefix=/usr/local
@@ -15,14 +15,17 @@ done
 case $prefix in /*) ;; *) prefix=$(pwd)/$prefix ;; esac
 cd "$(dirname "$0")"
 rt check charge
+rt check convert
 rt staticlib runcefo
 version=$(sed -n 's/^#define RUNCEFO_VERSION "\(.*\)"/\1/p' include/runcefo.h)
 to=${DESTDIR-}$prefix
 mkdir -p "$to/bin" "$to/include" "$to/lib/pkgconfig" "$to/share/man/man1"
 install -m 755 target/bin/charge "$to/bin/charge"
+install -m 755 target/bin/convert "$to/bin/convert"
 install -m 644 include/runcefo.h "$to/include/runcefo.h"
 install -m 644 target/staticlib/libruncefo.a "$to/lib/libruncefo.a"
 install -m 644 docs/charge.1 "$to/share/man/man1/charge.1"
+install -m 644 docs/convert.1 "$to/share/man/man1/convert.1"
 cat >"$to/lib/pkgconfig/runcefo.pc" <<PC
 prefix=$prefix
 libdir=\${prefix}/lib

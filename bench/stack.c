@@ -17,7 +17,7 @@ struct call {
 static void *run(void *arg) {
     const struct call *c = arg;
     const uint8_t *s = (const uint8_t *)c->sheet;
-    static uint8_t out[CHARGE_ROOM];
+    static uint8_t out[CHARGE_SHEET];
     uint64_t line;
     size_t written;
     switch (c->entry) {
@@ -26,6 +26,12 @@ static void *run(void *arg) {
         break;
     case 'r':
         charge_read(s, strlen(c->sheet), &line);
+        break;
+    case 'w':
+        charge_write(s, strlen(c->sheet), out, sizeof out, &line);
+        break;
+    case 'v':
+        charge_convert(s, strlen(c->sheet), out, sizeof out, &written, &line);
         break;
     case 's':
         charge_steps(s, strlen(c->sheet));
@@ -120,7 +126,7 @@ int main(void) {
     for (i = 0; i < n + 80; i++) {
         const char *sheet = i < n ? few[i] : i < n + 40 ? crowd(text, (int)(i - n), i % 2) : needy(text, (int)(i - n - 40), i % 2);
         const char *e;
-        for (e = "prsc"; *e != '\0'; e++) {
+        for (e = "prwvsc"; *e != '\0'; e++) {
             size_t d = depth((struct call){*e, sheet}) - none;
             most = d > most ? d : most;
         }

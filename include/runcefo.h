@@ -1,7 +1,7 @@
 /* runcefo.h: the proved charge planner, for C and C++.
 
    Link with libruncefo.a (`rt staticlib runcefo` writes it, install.sh installs it; `pkg-config --cflags --libs runcefo` says how).
-   The contracts stand in crates/runcefo; docs/charge.1 tells the layout of a sheet and of a reply.
+   The contracts stand in crates/runcefo; docs/charge.1 tells the layout of a sheet and of a reply, docs/convert.1 what becomes of blank items.
 
    Pointers    Behind each pointer there are as many bytes as the length beside it says. Where that length is 0 the pointer may be null.
                `line` and `written` are never null, and aligned as their types ask; bytes need no alignment.
@@ -37,7 +37,8 @@ enum charge_refusal {
     CHARGE_SHORT_BUFFER = 11, /* out is shorter than what would be written; told with line 0 */
     CHARGE_BAD_WORD = 12,     /* a heading word other than the expected one */
     CHARGE_NO_NUMBER = 13,    /* a field in a number's place that is not a number, or in a bound's place neither that nor `none` */
-    CHARGE_BAD_NEED = 14      /* a need names an item that is continuous, lacks a bound, or has a lower bound below 0 */
+    CHARGE_BAD_NEED = 14,     /* a need names an item that is continuous, lacks a bound, or has a lower bound below 0 */
+    CHARGE_BLANK_ITEM = 15    /* an item's weight and price are both 0; of charge_convert: such items cannot be left out */
 };
 
 #ifdef __cplusplus
@@ -58,6 +59,13 @@ uint64_t charge_plan(const uint8_t *sheet, size_t length, uint8_t *out, size_t r
 /* Reads a sheet and writes what was read at the start of out, to save it: an accepted sheet comes back byte by byte, in length bytes, and
    CHARGE_ACCEPTED is told. Else no byte changes: the sheet's own refusal is told, then CHARGE_SHORT_BUFFER; *line gets its line, or 0. */
 uint64_t charge_write(const uint8_t *sheet, size_t length, uint8_t *out, size_t room, uint64_t *line);
+
+/* Reads a stored sheet and writes it without its blank items, of weight 0 and price 0, at the start of out: later items move down, and their numbers in
+   all sections with them; *written gets the length, never more than that of the sheet, and CHARGE_ACCEPTED is told. A sheet without blank items comes
+   back as it is. Kind of reply and best value are those of the old sheet (`converted-gives` in crates/converter, proofs/Converted). Else no byte of out
+   changes and *written gets 0: told is the sheet's own refusal, for which a blank item is no fault; then CHARGE_BLANK_ITEM, on the first item's line if no
+   item would remain, else on that of the first blank item whose bounds cross or that a need names; then CHARGE_SHORT_BUFFER; *line gets its line, or 0. */
+uint64_t charge_convert(const uint8_t *sheet, size_t length, uint8_t *out, size_t room, size_t *written, uint64_t *line);
 
 /* How many steps the searches take for a sheet: at most 1,000 without needs, and 1,000 in each of at most 2^(t + 1) cases with t of them (proved); 0 if
    it is refused or needs no search. */

@@ -93,7 +93,7 @@ pub fn compare(seed: u64, count: u64) -> bool {
     let mut progress = Progress::new();
     for done in 0..count {
         progress.show(|| format!("{done} of {count} sheets compared, {} differ", counts.iter().map(|c| c.differ).sum::<u64>()));
-        let k = kind(&mut rng);
+        let k = kind(&mut rng, &KINDS);
         let sheet = KINDS[k].2(&mut rng);
         if let Err(what) = compare_sheet(&sheet, &mut counts[k]) {
             counts[k].differ += 1;

@@ -48,9 +48,10 @@ pub const KINDS: [Kind; 11] = [
 /// How many of the kinds, from the first on, have nothing but good sheets.
 pub const GOOD: usize = KINDS.len() - 2;
 
-pub fn kind(rng: &mut Rng) -> usize {
-    let mut left = rng.between(0, KINDS.iter().map(|k| k.1).sum::<i64>() - 1);
-    KINDS
+/// Which of the kinds is drawn next.
+pub fn kind(rng: &mut Rng, kinds: &[Kind]) -> usize {
+    let mut left = rng.between(0, kinds.iter().map(|k| k.1).sum::<i64>() - 1);
+    kinds
         .iter()
         .position(|k| {
             left -= k.1;
@@ -59,11 +60,12 @@ pub fn kind(rng: &mut Rng) -> usize {
         .unwrap()
 }
 
+/// A price of 0 beside a weight of 0 becomes 1.
 fn item(rng: &mut Rng, weight: i64, price: i64, lower: i64, upper: i64, absent: i64) -> Item {
     Item {
         integer: rng.chance(67),
         weight,
-        price,
+        price: if weight == 0 && price == 0 { 1 } else { price },
         lower: (!rng.chance(absent)).then_some(lower),
         upper: (!rng.chance(absent)).then_some(upper),
     }
@@ -72,7 +74,7 @@ fn item(rng: &mut Rng, weight: i64, price: i64, lower: i64, upper: i64, absent: 
 /// How many bounds of a hundred cross in a small problem.
 const CROSSING: i64 = 5;
 
-fn small(rng: &mut Rng) -> Problem {
+pub fn small(rng: &mut Rng) -> Problem {
     let (a, c, b) = rng.pick(&[(2, 3, 2), (5, 7, 4), (10, 20, 6), (30, 50, 20)]);
     let absent = rng.pick(&[0, 0, 20]);
     let items = (0..rng.between(1, 6))
@@ -111,6 +113,9 @@ pub fn tiny(rng: &mut Rng) -> Problem {
     if rng.chance(40) {
         p = with_needs(rng, p);
     }
+    if rng.chance(20) {
+        p = with_blanks(rng, p);
+    }
     p
 }
 
@@ -127,7 +132,7 @@ pub fn with_needs(rng: &mut Rng, mut p: Problem) -> Problem {
     p
 }
 
-fn needy(rng: &mut Rng) -> Problem {
+pub fn needy(rng: &mut Rng) -> Problem {
     let mut p = if rng.chance(75) { small(rng) } else { wide(rng, 100) };
     for i in &mut p.items {
         let lower = rng.pick(&[0, 0, 0, 1]);
@@ -268,9 +273,23 @@ const EDGES: [&[u8]; 28] = [
     b"340282366920938463463374607431768211457",
 ];
 
+/// Some items without weight and price: such a sheet is refused, but the converter takes it.
+pub fn with_blanks(rng: &mut Rng, mut p: Problem) -> Problem {
+    p.items.iter_mut().filter(|_| rng.chance(25)).for_each(|i| (i.weight, i.price) = (0, 0));
+    p
+}
+
 /// A sheet with one thing changed; it may still be one.
 fn damaged(rng: &mut Rng) -> Vec<u8> {
-    let sheet = rng.pick::<fn(&mut Rng) -> Problem>(&[small, small, |rng| wide(rng, 30), needy])(rng).sheet();
+    let mut p = rng.pick::<fn(&mut Rng) -> Problem>(&[small, small, |rng| wide(rng, 30), needy])(rng);
+    if rng.chance(5) {
+        p = with_blanks(rng, p);
+    }
+    let sheet = p.sheet();
+    damaged_in_one(rng, sheet)
+}
+
+pub fn damaged_in_one(rng: &mut Rng, sheet: Vec<u8>) -> Vec<u8> {
     let mut lines: Vec<Vec<Vec<u8>>> =
         sheet[..sheet.len() - 1].split(|&b| b == b'\n').map(|l| l.split(|&b| b == b' ').map(<[u8]>::to_vec).collect()).collect();
     let k = rng.between(0, lines.len() as i64 - 1) as usize;
@@ -307,7 +326,7 @@ fn damaged_bytes(rng: &mut Rng, mut sheet: Vec<u8>) -> Vec<u8> {
 }
 
 /// Sheets around the greatest length: a figure of thousands of digits, lines too many, or noise.
-fn long(rng: &mut Rng) -> Vec<u8> {
+pub fn long(rng: &mut Rng) -> Vec<u8> {
     let mut sheet = small(rng).sheet();
     let length = rng.pick(&[4094, 4095, 4096, 4097, 4098, 4500, 9000]);
     match rng.between(0, 2) {

@@ -1,14 +1,16 @@
 //! A second planner, written from paper 01 alone and by other means: the dual of the relaxation, and dynamic programming over weights
 //! in a window around the relaxation's point. It names the kind of reply and the best value; `first` names the best point that comes first.
 
+mod converter;
 mod first;
 mod needs;
 mod reader;
 
 use crate::problem::{gcd, Item, Problem};
+pub use converter::{convert, without_blanks};
 pub use first::Point;
 pub use needs::{first, plan};
-pub use reader::{read, Refusal};
+pub use reader::{read, read_by, Blanks, Refusal};
 use std::ops::{Add, Mul, Sub};
 
 #[derive(Clone, Copy, Debug, PartialEq)]

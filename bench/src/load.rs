@@ -1,4 +1,4 @@
-//! The test load (paper 02, request 8), drawn here from the paper alone. The sheets that the proved program writes are held to it.
+//! The test load (paper 02, requests 8 and 9), drawn here from the paper alone. The sheets that the proved program writes are held to it.
 
 use crate::problem::{Item, Problem};
 
@@ -24,10 +24,12 @@ impl Load {
         (self.between(0, 3) != 3).then(|| self.between(-10_000, 10_000))
     }
 
+    /// A price drawn as 0 beside weight 0 becomes 1.
     fn item(&mut self) -> Item {
         let integer = self.between(0, 1) == 0;
         let (weight, price) = (self.between(-1000, 1000), self.between(-10_000, 10_000));
-        Item { integer, weight, price, lower: None, upper: None }
+        let item = Item { integer, weight, price, lower: None, upper: None };
+        Item { price: if item.is_blank() { 1 } else { price }, ..item }
     }
 
     fn problem(&mut self) -> Problem {

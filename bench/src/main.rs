@@ -1,5 +1,6 @@
 //! The bench: our proved planner beside an independent one and beside its own twin in Rust. See bench/run.
 
+mod blanks;
 mod check;
 mod compare;
 mod damage;
@@ -56,7 +57,7 @@ fn usage() -> ! {
 
 /// The commands that stand there; compare and speed if none does.
 fn commands(a: &mut Arguments) -> Vec<&'static str> {
-    let mut named = ["compare", "damage", "speed", "reading", "self", "hunt", "needs", "reply"].to_vec();
+    let mut named = ["compare", "damage", "speed", "reading", "self", "hunt", "needs", "convert", "reply"].to_vec();
     named.retain(|word| a.word(word));
     if named.is_empty() {
         named = vec!["compare", "speed"];
@@ -95,6 +96,7 @@ fn main() {
             "self" => trial::trial(seed, sheets.unwrap_or(choose(2000, 20_000))),
             "hunt" => hunt::hunt(seed, rounds, rules),
             "needs" => needy::needs(seed, speed.sheets, speed.raced),
+            "convert" => blanks::convert(seed, sheets.unwrap_or(choose(5000, 100_000))),
             _ => rivals::reply(),
         };
     }

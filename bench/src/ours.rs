@@ -6,6 +6,7 @@ extern "C" {
     fn charge_room() -> usize;
     fn charge_read(sheet: *const u8, len: usize, line: *mut u64) -> u64;
     fn charge_plan(sheet: *const u8, len: usize, out: *mut u8, room: usize, written: *mut usize, line: *mut u64) -> u64;
+    fn charge_convert(sheet: *const u8, len: usize, out: *mut u8, room: usize, written: *mut usize, line: *mut u64) -> u64;
     fn charge_steps(sheet: *const u8, len: usize) -> u64;
     fn charge_cells(sheet: *const u8, len: usize) -> u64;
 }
@@ -47,6 +48,13 @@ pub fn plan(sheet: &[u8]) -> String {
         Ok(n) => String::from_utf8_lossy(&out[..n]).into_owned(),
         Err((number, line)) => format!("refused {number} {line}\n"),
     }
+}
+
+/// The sheet without its blank items at the start of `out`. Told are the number of a refusal or 0, the length written and the line.
+pub fn convert_into(sheet: &[u8], out: &mut [u8]) -> (u64, usize, u64) {
+    let (mut written, mut line) = (usize::MAX, u64::MAX);
+    let number = unsafe { charge_convert(sheet.as_ptr(), sheet.len(), out.as_mut_ptr(), out.len(), &mut written, &mut line) };
+    (number, written, line)
 }
 
 pub fn work(sheet: &[u8]) -> Work {

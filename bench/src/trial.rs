@@ -4,7 +4,7 @@ use crate::check::{check_is, check_point};
 use crate::draw::{tiny, Rng};
 use crate::enumeration::{first_best, Found, GRID};
 use crate::families::{CONTINUOUS, FAMILIES};
-use crate::independent::{self, Point, Reply};
+use crate::independent::{self, without_blanks, Point, Reply};
 use crate::ours;
 use crate::problem::Problem;
 use crate::progress::Progress;
@@ -80,9 +80,18 @@ fn check_first(p: &Problem, value: (i128, i128), found: &Found, counts: &mut Cou
     }
 }
 
+/// Kind and value are the same without blank items, where these can go.
+fn check_blanks(p: &Problem, expected: Reply) -> Result<(), String> {
+    match without_blanks(p) {
+        Ok(q) if independent::plan(&q) != expected => Err("another reply without blank items".into()),
+        _ => Ok(()),
+    }
+}
+
 fn check_small(p: &Problem, counts: &mut Counts) -> Result<(), String> {
     let expected = independent::plan(p);
     check_twin(p, expected)?;
+    check_blanks(p, expected)?;
     match (expected, first_best(p, BEYOND)) {
         (Reply::Best(n, d), Some(found)) => return check_first(p, (n, d), &found, counts),
         (Reply::Infeasible, None) => {}

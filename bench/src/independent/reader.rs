@@ -1,4 +1,4 @@
-//! A second reader, written from the papers alone (paper 01, "The sheet" and "Refused, by place"; paper 02, requests 3, 6 and 7).
+//! A second reader, written from the papers alone (paper 01, "The sheet" and "Refused, by place"; paper 02, requests 3, 6, 7 and 9).
 
 use crate::problem::{Item, Need, Problem};
 
@@ -6,6 +6,13 @@ use crate::problem::{Item, Need, Problem};
 pub struct Refusal {
     pub number: u64,
     pub line: u64,
+}
+
+/// What is done about items of weight 0 and price 0.
+#[derive(Clone, Copy, PartialEq)]
+pub enum Blanks {
+    Refused,
+    Kept,
 }
 
 /// What a line has in a place.
@@ -104,10 +111,14 @@ impl<'a> Lines<'a> {
         self.figure(limit, 100_000_000)
     }
 
-    fn item(&mut self) -> Result<Item, Refusal> {
+    fn item(&mut self, blanks: Blanks) -> Result<Item, Refusal> {
         let [mark, weight, price] = self.fields([Place::Mark, Place::Number, Place::Number])?;
         let (weight, price) = (self.figure(weight, 1000)?, self.figure(price, 10_000)?);
-        Ok(Item { integer: mark == b"W", weight, price, lower: None, upper: None })
+        let item = Item { integer: mark == b"W", weight, price, lower: None, upper: None };
+        if item.is_blank() && blanks == Blanks::Refused {
+            return self.refuse(15);
+        }
+        Ok(item)
     }
 
     /// The bound of item k, whose turn it is.
@@ -154,6 +165,10 @@ impl<'a> Lines<'a> {
 }
 
 pub fn read(sheet: &[u8]) -> Result<Problem, Refusal> {
+    read_by(sheet, Blanks::Refused)
+}
+
+pub fn read_by(sheet: &[u8], blanks: Blanks) -> Result<Problem, Refusal> {
     if sheet.len() > 4096 {
         return Err(Refusal { number: 1, line: 0 });
     }
@@ -161,7 +176,7 @@ pub fn read(sheet: &[u8]) -> Result<Problem, Refusal> {
     lines.heading(b"limit", 1, 1)?;
     let limit = lines.limit()?;
     let n = lines.heading(b"items", 1, 16)?;
-    let mut items = (0..n).map(|_| lines.item()).collect::<Result<Vec<Item>, Refusal>>()?;
+    let mut items = (0..n).map(|_| lines.item(blanks)).collect::<Result<Vec<Item>, Refusal>>()?;
     items.iter_mut().zip(lines.bounds(b"lower", n)?).for_each(|(i, bound)| i.lower = bound);
     items.iter_mut().zip(lines.bounds(b"upper", n)?).for_each(|(i, bound)| i.upper = bound);
     let needs = lines.needs(&items)?;
