@@ -56,7 +56,7 @@ fn show(p: Model) {
 }
 
 // A continuous item before an integer one; the last best point; one that only the last item tells apart; against the order of filling; fallen as far as
-// the room allows; nothing at all; an upper bound that is absent.
+// the room allows; weightless, or worth nothing; an upper bound that is absent.
 fn chosen() {
     let x = held(1, 1, 0, 5);
     show(two(3, loose(x), x));
@@ -64,7 +64,7 @@ fn chosen() {
     show(first_of(4, 3, x, x, loose(x)));
     show(first_of(3, 3, held(2, 4, 0, 1), held(1, 2, 0, 2), held(3, 6, 0, 1)));
     show(two(4, loose(held(-2, 0, 0, 3)), held(1, 1, 0, 9)));
-    show(two(1, held(0, 0, -2, 2), loose(held(0, 0, -1, 4))));
+    show(two(1, held(0, -1, -2, 2), loose(held(1, 0, -1, 4))));
     show(two(2, from_zero(3, 3), from_zero(-2, -2)));
 }
 

@@ -8,6 +8,7 @@ use model::Model;
 use rays::RayReply;
 use trials::draw::below;
 use trials::draw::figure;
+use trials::draw::mended_price;
 use trials::draw::next;
 use trials::make::first_of;
 use trials::make::free;
@@ -83,13 +84,12 @@ fn paper_sheets() {
     show(b'K', one(-7, loose(free(3, 1))));
 }
 
-// Up, down, held, the wrong way, and worth nothing.
+// Up, down, held, and the wrong way.
 fn weightless_items() {
     show(b'a', one(5, from_zero(0, 1)));
     show(b'b', one(5, to_zero(0, -1)));
     show(b'c', one(5, held(0, 1, 0, 9)));
     show(b'd', one(5, from_zero(0, -1)));
-    show(b'e', one(5, free(0, 0)));
 }
 
 // Light and worth more, worth nothing, light downwards, and behind an item that is held.
@@ -154,7 +154,9 @@ fn draw_item(state: u64) -> Draw {
     let u = next(l);
     let lower = bound(l, -2);
     let upper = bound(u, 3);
-    let x = item(figure(a, 6), figure(c, 6), lower, upper);
+    let weight = figure(a, 6);
+    let price = mended_price(weight, figure(c, 6));
+    let x = item(weight, price, lower, upper);
     Draw { item: x, state: u }
 }
 

@@ -78,7 +78,7 @@ fn weightless_items() {
     );
     show(
         b'h',
-        three(5, held(0, 0, 0, 1), from_zero(0, -1), to_zero(0, 1)),
+        three(5, held(0, 2, 0, 1), from_zero(0, -1), to_zero(0, 1)),
     );
     show(b'i', two(-1, held(0, 4, 0, 1), to_zero(0, 1)));
     show(b'j', two(5, held(1, 1, 0, 1), from_zero(0, 1)));
@@ -154,7 +154,7 @@ fn crossing_bounds() {
         b'y',
         three(0, from_zero(-3, -4), from_zero(2, 3), held(1, 2, 1, 0)),
     );
-    show(b'z', two(5, from_zero(0, 1), loose(held(0, 0, 1, 0))));
+    show(b'z', two(5, from_zero(0, 1), loose(held(0, 2, 1, 0))));
 }
 
 // ---- needs

@@ -98,7 +98,7 @@ fn drawn_price(state: u64, weight: i64, s: Spans) -> i64 {
 }
 
 // No item is blank: a price 0 beside weight 0 becomes 1.
-fn mended_price(weight: i64, price: i64) -> i64 {
+pub fn mended_price(weight: i64, price: i64) -> i64 {
     if weight == 0 {
         if price == 0 {
             return 1;

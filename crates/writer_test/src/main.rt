@@ -366,7 +366,7 @@ fn show_chosen() {
     let x = make::held(-1000, -10000, -10000, -10000);
     let longest = make::record_of(-100000000, 16, longest_items());
     show(b"longest", with_all_needs(longest, 11));
-    let free = make::free(0, 0);
+    let free = make::free(0, 1);
     show(b"no bounds", make::record_of(0, 1, all_places(free)));
     show(b"refused, count 0", make::record_of(0, 0, all_places(x)));
     show(b"refused, count 17", make::record_of(0, 17, all_places(x)));
@@ -375,6 +375,7 @@ fn show_chosen() {
         make::record_of(100000001, 1, all_places(x)),
     );
     show(b"refused, figures", make::one(0, rubbish()));
+    show(b"refused, blank", make::one(0, make::free(0, 0)));
     show(b"bounds that cross", make::one(0, make::held(1, 1, 1, 0)));
 }
 

@@ -9,7 +9,7 @@ use Rattle.converter.proofs.convert_model.Statement.{statement}
 use Rattle.converter.proofs.convert_model.Tie as tie
 
 abbrev start : tie.After-enum-told → tie.Start
-start c = c .before .before .before .before
+start c = let k = c .before .before in k .before .before
 
 free : (c : tie.After-enum-told) → hindered (start c .args .m) ≡ Accepted
 free c = sym (c .before .before .check-blanks .ensures) ∙ c .enum-told .given .1

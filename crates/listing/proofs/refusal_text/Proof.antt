@@ -21,9 +21,9 @@ put-refused-requires c κs = search needs
 
 returns : tie.Need-returns
 returns c =
-    let s = c .before .before .before .before in
     let p = c .before .put-refused in
-    let a = s .args in
+    let b = c .before .before in
+    let a = b .before .before .args in
     let e : p .result ≡ length (refusedLine (a .f)) = omega arith in
     let h : p .result ≤ length (p .last .0) = omega arith in
     record {

@@ -9,7 +9,7 @@ use Rattle.sheet.proofs.item_step.Tie as tie
 
 -- where all began
 abbrev start : tie.After-item-at → tie.Start
-start c = c .before .before .before .before
+start c = let e = c .before .before in e .before .before
 
 step : (c : tie.After-item-at) → let a = start c .args in
     let f = itemFormBy (a .blanks) in
