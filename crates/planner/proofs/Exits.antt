@@ -1,15 +1,18 @@
 -- The ways out of a call: what it gives.
 -- kind-of: the test of a kind.  comparable, plain-comparable: answers can be compared.  optimal-of, worthy-of: an answer of that kind.
 -- plain-infeasible: a plain problem with no best point and no ray holds nothing.
+-- few-most: the steps of a case are few.
 -- counted-work, more-work, own-work, none-worked, few-work, countable: the work of the cases.  enter: what a call on a case is given.
 -- through-behind, through-kept, through-split: nothing is ahead, the point keeps all needs, both cases are gone through.
 use mathlib.Core.Path.{_≡_, refl, sym, subst}
 use mathlib.Core.Bool.{Bool, true, false}
 use mathlib.Core.List.{List}
 use mathlib.Core.Logic.{_⊎_, inl, inr, _≢_}
-use Prim.Native.Nat.{ℕ, _+_, _*_, _≤_}
+use Prim.Native.Nat.{ℕ, _+_, _*_, _≤_, _<_}
+use native.Mathlib.Decide.{decLt}
 use native.Mathlib.Nat.{mul-le-mul, mul-le-mul-right}
 use native.Mathlib.Omega.{arith}
+use borrow.Author.Tests.{lt-ltb, le-ltb}
 use Rattle.arith.proofs.Parts.{impossible}
 use Rattle.arith.specs.Fractions.{Frac}
 use Rattle.knapsack.specs.Meaning.{Instance, Point, instanceOf, value, Feasible, Infeasible, pointOf, ShownOptimal, Answers, AnswersAs}
@@ -34,7 +37,7 @@ use Rattle.model.specs.declared.Need.{Need}
 use Rattle.model.specs.Needs.{In, Every, Allowed, KeepsNeeds}
 use Rattle.planner.specs.declared.Best.{Best}
 use Rattle.planner.specs.Branching.{isOptimal, Comparable, ShownLeads, nothingYet, countedOf, withBest, knownIf, known, Worthy, Holds, twigs}
-use Rattle.planner.specs.Branching.{caseSteps, Countable, Worked, Bounded, Branches, Through}
+use Rattle.planner.specs.Branching.{caseSteps, fewOf, Countable, Worked, Bounded, Branches, Through}
 use Rattle.planner.proofs.Ordering.{leads-points}
 use Rattle.planner.proofs.Parts.{Part}
 use Rattle.planner.proofs.Twigs.{twigs-some, twigs-two}
@@ -73,6 +76,13 @@ module _ (s : Instance) (a : Answer) (answers : Answers s a) where
       go (kind.Refused f) e h = absurd h
 
 -- ---- one case more
+
+pub few-most : (most : ℕ) → (fewOf most ≤ most) × (fewOf most ≤ caseSteps)
+few-most most = go (decLt caseSteps most)
+  where
+    go : Dec (caseSteps < most) → (fewOf most ≤ most) × (fewOf most ≤ caseSteps)
+    go (yes h) = rw (lt-ltb caseSteps most h) (omega (arith, h), omega arith)
+    go (no h) = rw (le-ltb caseSteps most (omega (arith, h))) (omega arith, omega (arith, h))
 
 pub counted-work : (most : ℕ) (b : Best) (r : Solved) → Worked most (b .cases) b → r .steps ≤ most → r .cells ≤ mostWork
     → Worked most (b .cases + 1) (countedOf b r)

@@ -12,10 +12,10 @@
 --   knownIf t x, known b  what is known of points
 --   Worthy s a            a shows a point of s and its value, as an optimal answer does;  Holds s b: so does what b has found
 --   twigs u               the most cases that u undecided needs come to
---   caseSteps             the most steps of a case
+--   caseSteps, fewOf m    the most steps of a case, whatever is asked; and where m are
 --   Countable b r         the work of r can be added to that of b
---   CountsNeeds m p ns r  the steps of r are those of a search of at most m, in which pairs with an item that ns names discard nothing, and the cells
---                         of r those that the scales write after it
+--   SolvesCase m p ns r   r is the answer of p; its steps are those of a search of at most m, in which pairs with an item that ns names discard nothing,
+--                         and its cells those that the scales write after it
 --   Worked m n b          the work of at most n cases of m steps
 --   Bounded s             no steps are unbounded
 --   Branches p r ns m b   what a call is given;  Through s ns m b c: what it gives
@@ -23,6 +23,8 @@
 --   unpricedItem, Unpriced p k q   an item at price 0; so are the first k of q, and the others are those of p
 --   rayFrom a d           the steps d from the point of a
 --   Told b r, FromRay b d r   an answer of the best, and of steps from it
+--   RayTakes ns m p r s   s tells the work of r, the plain answer of p with its steps, and where its point breaks a need that of the cases at price 0
+--   NeedsTake m p ns s    s tells the work of the plain answer of p and of all cases from there
 --   mostCases ns          the most cases of a problem with the needs ns
 --   Needed p ns           what the entry is given;  Endless p r ns m: and for an answer with steps
 --   SolvesNeeds m p ns r  what the entry gives
@@ -32,6 +34,7 @@ use mathlib.Core.List.{List, [], _∷_}
 use mathlib.Core.Logic.{_⊎_, _≢_}
 use Prim.Native.Nat.{ℕ, zero, suc, _+_, _*_, _≤_, _<_}
 use lib.IntN.{ℤ, pos, natAbs}
+use lib.Dec.{ltb}
 use lib.ListN.{length, getD, replicate}
 use lib.Signed.{ltZ}
 use Rattle.arith.specs.Fractions.{_≤ᶠ_, _≈ᶠ_}
@@ -156,6 +159,9 @@ twigs (suc u) = suc (twigs u + twigs u)
 abbrev pub caseSteps : ℕ
 caseSteps = 1000000000000
 
+abbrev pub fewOf : ℕ → ℕ
+fewOf most = cond (ltb caseSteps most) caseSteps most
+
 pub record Countable (b : Best) (r : Solved) : Type 0 where
   pub cases : b .cases ≤ 131071
   pub steps : b .steps ≤ 131071 * caseSteps
@@ -163,9 +169,9 @@ pub record Countable (b : Best) (r : Solved) : Type 0 where
   pub few-steps : r .steps ≤ caseSteps
   pub few-cells : r .cells ≤ mostWork
 
-abbrev pub CountsNeeds : ℕ → Problem → List Need → Solved → Type 0
-CountsNeeds most p ns r =
-    (named : List Bool) × (NamedBy ns named × (Counts most p named (r .answer) (r .steps) × Cells most p named (r .answer) (r .cells)))
+abbrev pub SolvesCase : ℕ → Problem → List Need → Solved → Type 0
+SolvesCase most p ns r = SolvesWithin most p r ×
+    ((named : List Bool) × (NamedBy ns named × (Counts most p named (r .answer) (r .steps) × Cells most p named (r .answer) (r .cells))))
 
 pub record Worked (most n : ℕ) (b : Best) : Type 0 where
   pub cases : b .cases ≤ n
@@ -200,9 +206,9 @@ pub data CasesTake (ns : Needs) (most : ℕ) : Problem → Solved → Best → B
   kept : (p : Problem) (r : Solved) (b : Best) → Outdoes (p .count) (r .answer) (countedOf b r) true → FirstBroken (r .answer .point) ns (ns .count) →
       CasesTake ns most p r b (withBest (countedOf b r) (r .answer))
   split : (p : Problem) (r : Solved) (b : Best) (i : ℕ) (v w : Solved) (d e : Best) → Outdoes (p .count) (r .answer) (countedOf b r) true →
-      FirstBroken (r .answer .point) ns i → i < ns .count → CountsNeeds most (cappedAt p (placed (needAt ns i) .item)) (needsOf ns) v →
+      FirstBroken (r .answer .point) ns i → i < ns .count → SolvesCase most (cappedAt p (placed (needAt ns i) .item)) (needsOf ns) v →
       CasesTake ns most (cappedAt p (placed (needAt ns i) .item)) v (countedOf b r) d →
-      CountsNeeds most (raisedAt p (placed (needAt ns i) .cover)) (needsOf ns) w → CasesTake ns most (raisedAt p (placed (needAt ns i) .cover)) w d e →
+      SolvesCase most (raisedAt p (placed (needAt ns i) .cover)) (needsOf ns) w → CasesTake ns most (raisedAt p (placed (needAt ns i) .cover)) w d e →
       CasesTake ns most p r b e
 
 -- ---- the answer
@@ -230,6 +236,18 @@ pub record FromRay (b : Best) (d : List ℤ) (r : Solved) : Type 0 where
   pub none : b .found ≡ false → r .answer ≡ bare kind.Infeasible
   pub steps : r .steps ≡ b .steps
   pub cells : r .cells ≡ b .cells
+
+-- the steps start at the plain point, or at one that the cases at price 0 find, and these go on from the work of r
+pub data RayTakes (ns : Needs) (most : ℕ) (p : Problem) (r : Solved) : Solved → Type 0 where
+  stands : FirstBroken (r .answer .point) ns (ns .count) → RayTakes ns most p r r
+  moves : (i : ℕ) (q : Problem) (v s : Solved) (c : Best) → FirstBroken (r .answer .point) ns i → i < ns .count → Unpriced p 16 q →
+      SolvesCase most q (needsOf ns) v → CasesTake ns most q v (countedOf nothingYet r) c → FromRay c (r .answer .steps) s → RayTakes ns most p r s
+
+pub data NeedsTake (most : ℕ) (p : Problem) (ns : Needs) : Solved → Type 0 where
+  by-cases : (r s : Solved) (c : Best) → SolvesCase (fewOf most) p (needsOf ns) r → isUnbounded (r .answer .kind) ≡ false →
+      CasesTake ns (fewOf most) p r nothingYet c → Told c s → NeedsTake most p ns s
+  by-ray : (r s : Solved) → SolvesCase (fewOf most) p (needsOf ns) r → isUnbounded (r .answer .kind) ≡ true → RayTakes ns (fewOf most) p r s →
+      NeedsTake most p ns s
 
 pub record Needed (p : Problem) (ns : Needs) : Type 0 where
   pub figures : FiguresInRange p

@@ -27,7 +27,6 @@ ghost use Rattle.knapsack.specs.Meaning.{instanceOf};
 ghost use Rattle.knapsack.specs.declared.Kind.the-variants.{Optimal};
 ghost use Rattle.model.specs.Promises.{Planned};
 ghost use Rattle.model.specs.Records.{FiguresInRange, needAt, placed, needsOf};
-ghost use Rattle.solver.specs.Outcomes.{SolvesWithin};
 ghost use Rattle.cases.proofs.Splitting.{cap, raise};
 ghost use Rattle.planner.specs.Branching.{
   isOptimal,
@@ -45,8 +44,8 @@ ghost use Rattle.planner.specs.Branching.{
   Countable,
   countedOf,
   withBest,
-  caseSteps,
-  CountsNeeds,
+  fewOf,
+  SolvesCase,
   Branches,
   Through,
   CasesTake,
@@ -54,6 +53,8 @@ ghost use Rattle.planner.specs.Branching.{
   Unpriced,
   Told,
   FromRay,
+  RayTakes,
+  NeedsTake,
   Needed,
   Endless,
   SolvesNeeds,
@@ -316,7 +317,7 @@ fn outdoes(a: Answer, b: Best, n: usize) -> bool
 const CASE_STEPS: u64 = 1000000000000;
 
 fn few_steps(most: u64) -> u64
-    ensures { λ r. ⌜ (r ≤ most) × (r ≤ caseSteps) ⌝ }
+    ensures { λ r. ⌜ r ≡ fewOf most ⌝ }
 {
     if CASE_STEPS < most { CASE_STEPS } else { most }
 }
@@ -324,8 +325,7 @@ fn few_steps(most: u64) -> u64
 // A case, by a search of at most so many steps, in which no pair with an item that a need names discards anything.
 fn solve_case(p: Problem, ns: Needs, most: u64) -> Solved
     requires { ⌜ FiguresInRange p × Placed ns ⌝ }
-    ensures { λ r. ⌜ SolvesWithin most p r ⌝ }
-    ensures { λ r. ⌜ CountsNeeds most p (needsOf ns) r ⌝ }
+    ensures { λ r. ⌜ SolvesCase most p (needsOf ns) r ⌝ }
 {
     let named = named_of(ns);
     solve_within(p, named, most)
@@ -432,6 +432,7 @@ fn from_ray(b: Best, d: [i64; 16]) -> Solved
 fn solve_ray(p: Problem, r: Solved, ns: Needs, most: u64) -> Solved
     requires { ⌜ Endless p r ns most ⌝ }
     ensures { λ s. ⌜ SolvesNeeds most p (needsOf ns) s ⌝ }
+    ensures { λ s. ⌜ RayTakes ns most p r s ⌝ }
 {
     let a = r.answer;
     let x = a.point;
@@ -451,6 +452,7 @@ fn solve_ray(p: Problem, r: Solved, ns: Needs, most: u64) -> Solved
 pub fn solve_needs(p: Problem, ns: Needs, most: u64) -> Solved
     requires { ⌜ Needed p ns ⌝ }
     ensures { λ r. ⌜ SolvesNeeds most p (needsOf ns) r ⌝ }
+    ensures { λ r. ⌜ NeedsTake most p ns r ⌝ }
 {
     let few = few_steps(most);
     let r = solve_case(p, ns, few);

@@ -22,7 +22,7 @@ use Rattle.text.specs.Buffer.{noted, told, filled}
 use Rattle.model.specs.declared.Model.{Model}
 use Rattle.model.specs.Records.{plainOf, needsOf}
 use Rattle.solver.specs.declared.Solved.{Solved}
-use Rattle.planner.specs.Branching.{SolvesNeeds}
+use Rattle.planner.specs.Branching.{SolvesNeeds, NeedsTake}
 use Rattle.replies.specs.Replies.{SheetLists}
 use Rattle.sheet.specs.declared.Reading.{Reading}
 use Rattle.sheet.specs.Reading.{readSheet}
@@ -58,7 +58,7 @@ abbrev pub cleared : List ℕ → List ℕ → List ℕ
 cleared s b = onAccepted (convertible s) (λ f. b) (filled (converted s) b)
 
 abbrev pub WorkAs : (Solved → ℕ) → Verdict → Model → ℕ → Type 0
-WorkAs f Accepted m n = (r : Solved) × (SolvesNeeds 1000 (plainOf m) (needsOf (m .needs)) r × (n ≡ f r))
+WorkAs f Accepted m n = (r : Solved) × ((SolvesNeeds 1000 (plainOf m) (needsOf (m .needs)) r × NeedsTake 1000 (plainOf m) (m .needs) r) × (n ≡ f r))
 WorkAs f (Refused g) m n = n ≡ 0
 
 abbrev pub Steps : Reading → ℕ → Type 0

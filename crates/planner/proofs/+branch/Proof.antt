@@ -12,7 +12,7 @@ use Rattle.cases.proofs.Searching.{broken-open}
 use Rattle.cases.proofs.Splitting.{without, having}
 use Rattle.cases.proofs.Undecided.{decided, undecided}
 use Rattle.planner.specs.declared.Best.{Best}
-use Rattle.planner.specs.Branching.{Placed, breaks, FirstBroken, cappedAt, raisedAt, Outdoes, known, twigs, countedOf, Worked, CountsNeeds, CasesTake}
+use Rattle.planner.specs.Branching.{Placed, breaks, FirstBroken, cappedAt, raisedAt, Outdoes, known, twigs, countedOf, Worked, SolvesCase, CasesTake}
 use Rattle.planner.specs.Branching.{left, kept, split}
 use Rattle.planner.proofs.Breaking.{need-in, breaks-yes, every-kept, allowed-placed}
 use Rattle.planner.proofs.Exits.{comparable, plain-comparable, optimal-of, counted-work, countable, own-work, enter}
@@ -304,10 +304,10 @@ module _ (t : ℕ) where
           h .having .ensures ∙ ap (λ (x : Need). raisedAt (s .args .p) (x .cover)) (n .need-at .ensures) in
       split (s .args .p) (s .args .r) (s .args .b) i (v .result) (z .result) (d .result) (c .branch2 .result)
       (ahead-of f) (f .first-broken .ensures) (n .before .if2 .taken)
-      (subst (λ x. CountsNeeds most x (needsOf ns) (v .result)) q (v .ensures .1))
+      (subst (λ x. SolvesCase most x (needsOf ns) (v .result)) q (v .ensures))
       (subst (λ x. CasesTake ns most x (v .result) one (d .result)) q
       (subst (λ x. CasesTake ns most (w .without .result) (v .result) x (d .result)) (k .ensures) (d .ensures .1)))
-      (subst (λ x. CountsNeeds most x (needsOf ns) (z .result)) g (z .ensures .1))
+      (subst (λ x. SolvesCase most x (needsOf ns) (z .result)) g (z .ensures))
       (subst (λ x. CasesTake ns most x (z .result) (d .result) (c .branch2 .result)) g (c .branch2 .ensures .1))
 
   branch-returns : branch-lts.Need-returns (calls t) (branch-at t) branch.Post

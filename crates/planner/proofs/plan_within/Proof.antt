@@ -44,10 +44,10 @@ returns c =
     let s = instanceOf (plainOf m) in
     let ns = needsOf (m .needs) in
     let a = r .solve-needs .result .answer in
-    let answers : AnswersNeeds s ns a = rw (p .plain-of .ensures) at (r .solve-needs .ensures .answers) in
+    let answers : AnswersNeeds s ns a = rw (p .plain-of .ensures) at (r .solve-needs .ensures .0 .answers) in
     record {
       replies = subst (RepliesAs s ns a) (sym (taken e)) answers;
-      first = rw (p .plain-of .ensures) at (r .solve-needs .ensures .first);
+      first = rw (p .plain-of .ensures) at (r .solve-needs .ensures .0 .first);
     }
 
 returns-2 : tie.Need-returns-2

@@ -46,7 +46,7 @@ returns c =
     let n = l .before .named-of in
     same-answers-needs (instanceOf (l .loosen .result)) (relaxedBut (needsOf (m .needs)) (instanceOf (plainOf m)))
     (loosened-same m (s .pre) (n .result) (n .ensures) (l .loosen .result) (loosened l)) (needsOf (m .needs)) (r .solve-needs .result .answer)
-    (r .solve-needs .ensures .answers)
+    (r .solve-needs .ensures .0 .answers)
 
 pub relaxed-answer-spec : {M : Type 1} → statement M
 relaxed-answer-spec = tie.close (tie.spec plain-of-requires named-of-requires loosen-requires solve-needs-requires returns)
