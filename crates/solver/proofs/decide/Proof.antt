@@ -216,6 +216,7 @@ unfolding Prep walked
 scaled f = let b = placed-at f .best-place in record {
   steps = b .result .steps;
   walked = walked (placed-at f);
+  first = b .result .first;
   placing = b .result .cells;
   place-writes = b .ensures .writes;
   showing = f .shown-first .result .cells;

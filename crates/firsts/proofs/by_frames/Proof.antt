@@ -1,4 +1,4 @@
--- `firsts::first_point` meets its contract: the frames before t are led.
+-- `firsts::by_frames` meets its contract: the frames before t are led.
 use mathlib.Core.Path.{_≡_, refl, sym, subst}
 use mathlib.Core.Logic.{inl, inr}
 use Prim.Native.Nat.{ℕ, _+_, _-_, _≤_}
@@ -7,11 +7,11 @@ use lib.ListN.{length}
 use borrow.Author.Needs.{needs}
 use Rattle.greedy.specs.Fill.{at, fill, bound}
 use Rattle.setting.specs.Box.{Long}
-use Rattle.firsts.specs.Leading.{Tying, IsWorth, endsAt, LossOf, Led, LeadWrites, begun, onward, LastWrites, PointWrites}
+use Rattle.firsts.specs.Leading.{Tying, IsWorth, endsAt, LossOf, Led, LeadWrites, begun, onward, LastWrites, FramesWrite}
 use Rattle.firsts.proofs.Worth.{worth-made}
 use Rattle.firsts.proofs.Leading.{led-first, led-done, led-short}
-use Rattle.firsts.proofs.first_point.Statement.{statement}
-use Rattle.firsts.proofs.first_point.Tie as tie
+use Rattle.firsts.proofs.by_frames.Statement.{statement}
+use Rattle.firsts.proofs.by_frames.Tie as tie
 
 abbrev Inv-loop : tie.InvT-loop
 Inv-loop s cells₀ c l whole n b₀ t₀ cells b t = (t ≤ n) × ((length cells ≡ length cells₀) × (Led s c l t b × LeadWrites c (s .ends) whole l t (b .written)))
@@ -126,7 +126,7 @@ led e =
 -- what is written, by what is written for the last frame
 told : (e : tie.After-loop Inv-loop μ-loop) (n : ℕ) → let k = e .before .before in let a = start k .args in
     LastWrites (ordered k .tied .result) (a .s .ends) (wholed k .wholes .result) (lossed k .loss-of .result) (e .before .loop .b .written) n
-    → PointWrites (a .s) (at (a .x)) n
+    → FramesWrite (a .s) (at (a .x)) n
 told e n h =
     let k = e .before .before in
     let o = lossed k in
@@ -191,8 +191,8 @@ returns-2 c =
       told e (r .tried .result .written) (inr (d .before .cuts-some .ensures .none (d .if1 .left), r .tried .ensures .1)),
     )
 
-pub first-point-spec : {M : Type 1} → statement M
-first-point-spec =
+pub by-frames-spec : {M : Type 1} → statement M
+by-frames-spec =
     tie.close
     (tie.spec
     Inv-loop
