@@ -23,12 +23,12 @@ use Rattle.knapsack.proofs.Common.{KeepsMarkᴰ, Keepsᴰ, valueᴰ, Feasible�
 use Rattle.knapsack.proofs.Branch.{AtMost}
 use Rattle.greedy.specs.declared.Columns.{Columns}
 use Rattle.greedy.specs.declared.Ends.{Ends}
-use Rattle.greedy.specs.Fill.{at, place, itemOf, fill, bound, solution}
+use Rattle.greedy.specs.Fill.{at, place, itemOf, stand, fill, bound, solution}
 use Rattle.greedy.specs.Ordered.{Ordered}
 use Rattle.greedy.proofs.Relaxed.{boxOf, InOrder, Stopped, fill-empty, fill-stopped, fill-bound, fill-value, fill-point, parts≥1}
 use Rattle.ceiling.specs.declared.Limit.{Limit}
 use Rattle.ceiling.specs.Loss.{valueOf, topOf, lossOf, Point}
-use Rattle.ceiling.specs.Frames.{wholeAt, cutOf, scaleOf, Marked, Unmarked, FrameAttained, Levelled}
+use Rattle.ceiling.specs.Frames.{wholeAt, cutOf, scaleOf, frameBy, Marked, Unmarked, FrameAttained, Levelled}
 use Rattle.ceiling.specs.Least.{NotAfter, Placed, FirstIn, FrameFirst}
 use Rattle.ceiling.specs.declared.Seen.{Seen}
 use Rattle.ceiling.specs.Bound.{BestFrame, Bounded}
@@ -312,17 +312,21 @@ module _ (c : Columns) (e : Ends) (level : List ℕ) (n : ℕ) (bx : Boxes c e l
       unfolding N
       in-frame = record { above = λ k l. low k l (sort k l); below = λ k l. high k l (sort k l); fits = p .fits; whole = λ k l x. made k l x (sort k l) }
         where
+          -- a whole item keeps its end
+          free : (k : ℕ) (x z : ℤ) → wholeAt w k ≡ true → z ≡ frameBy (wholeAt w k) (eqb k (cutOf c t)) x (stand c e t k) → z ≡ x
+          free k x z q h = h ∙ ap (λ a. frameBy a (eqb k (cutOf c t)) x (stand c e t k)) q
+
           low : (k : ℕ) → k < c .count → Sort k → (at (g .ends .lo) k *ℤ pos E) ≤ℤ M k
-          low k l (whole o i) = subst (λ z. (z *ℤ pos E) ≤ℤ M k) (sym (g .framed .low k l ∙ rw o refl)) (p .keeps k l .above)
-          low k l (other o i) = subst (λ z. (at (g .ends .lo) k *ℤ pos E) ≤ℤ z) (sym i) (g .is-point .above k l)
+          low k l (whole q i) = subst (λ z. (z *ℤ pos E) ≤ℤ M k) (sym (free k (at (e .lo) k) (at (g .ends .lo) k) q (g .framed .low k l))) (p .keeps k l .above)
+          low k l (other q i) = subst (λ z. (at (g .ends .lo) k *ℤ pos E) ≤ℤ z) (sym i) (g .is-point .above k l)
 
           high : (k : ℕ) → k < c .count → Sort k → M k ≤ℤ (at (g .ends .hi) k *ℤ pos E)
-          high k l (whole o i) = subst (λ z. M k ≤ℤ (z *ℤ pos E)) (sym (g .framed .high k l ∙ rw o refl)) (p .keeps k l .below)
-          high k l (other o i) = subst (λ z. z ≤ℤ (at (g .ends .hi) k *ℤ pos E)) (sym i) (g .is-point .below k l)
+          high k l (whole q i) = subst (λ z. M k ≤ℤ (z *ℤ pos E)) (sym (free k (at (e .hi) k) (at (g .ends .hi) k) q (g .framed .high k l))) (p .keeps k l .below)
+          high k l (other q i) = subst (λ z. z ≤ℤ (at (g .ends .hi) k *ℤ pos E)) (sym i) (g .is-point .below k l)
 
           made : (k : ℕ) → k < c .count → k ≢ cutOf c t → Sort k → (x : ℤ) × (M k ≡ x *ℤ pos E)
-          made k l x (whole o i) = subst (λ m. KeepsMarkᴰ E m (M k)) i (p .keeps k l .marked)
-          made k l x (other o i) = let y = g .is-point .whole k l x in (y .0, i ∙ y .1)
+          made k l x (whole q i) = subst (λ m. KeepsMarkᴰ E m (M k)) i (p .keeps k l .marked)
+          made k l x (other q i) = let y = g .is-point .whole k l x in (y .0, i ∙ y .1)
 
       as-good : valueOf c M ≡ valueOf c N
       as-good = ≤ℤ-antisym (times-≤-back E _ _ E≥1 (highest marks lv E M E≥1 p)) as-much
