@@ -12,7 +12,7 @@ use Rattle.greedy.specs.declared.Ends.{Ends}
 use Rattle.fillings.specs.Foremost.{firstCells}
 use Rattle.setting.specs.declared.Setting.{Setting}
 use Rattle.firsts.specs.declared.Optimum.{Optimum}
-use Rattle.firsts.specs.Leading.{TryWrites, apart, asked, LeadWrites, begun, onward, LastWrites, FramesWrite, PointWrites, known, unknown, loose}
+use Rattle.firsts.specs.Leading.{TryWrites, apart, asked, LeadWrites, begun, onward, LastWrites, FramesWrite, PointWrites, known, unknown}
 
 try-most : {c : Columns} {e : Ends} {w : List Bool} {l : Optimum} {t n m : ℕ} → TryWrites c e w l t n m → m ≤ n + firstCells
 try-most (apart h) = omega arith
@@ -32,6 +32,5 @@ frames-most {s} {P} {n} h =
     omega (arith, lead-most (h .frames), last-most (h .cols) (s .ends) (h .whole) (h .loss) (h .sofar) n (h .last), h .tied .sized .live-few)
 
 pub point-most : {s : Setting} {P : ℕ → ℤ} {first : Bool} {n : ℕ} → PointWrites s P first n → n ≤ 17 * firstCells
-point-most (known i h) = omega arith
-point-most (unknown n i h) = frames-most h
-point-most (loose n i h k) = frames-most k
+point-most (known h) = omega arith
+point-most (unknown n h w) = frames-most w

@@ -19,8 +19,8 @@
 --   LastWrites c e w l n m        the same of the last frame, which is needed where no other is
 --   FramesWrite s P n             n cells are written for all frames of the box, by what the optimal place P loses
 --   Still s                       no continuous item can change;  TellsStill s r: r tells whether.  Held e w k: item k is whole, or cannot
---   PointWrites s P first n       the same for the first point, or none where the place is known to have it: it is a first one, and no continuous item
---                                 can change
+--   Known s first                 a place that comes first if so, as far as told, has the first point: so it is told, and no continuous item can change
+--   PointWrites s P first n       n cells are written for the first point: none where the place P is known to have it, else those of the frames
 use mathlib.Core.Path.{_≡_}
 use mathlib.Core.Bool.{Bool, true, false}
 use mathlib.Core.List.{List}
@@ -197,7 +197,9 @@ pub record TellsStill (s : Setting) (r : Bool) : Type 0 where
   pub all : r ≡ true → Still s
   pub some : r ≡ false → Still s → ⊥
 
+abbrev pub Known : Setting → Bool → Type 0
+Known s first = (first ≡ true) × Still s
+
 pub data PointWrites (s : Setting) (P : ℕ → ℤ) (first : Bool) : ℕ → Type 0 where
-  known : first ≡ true → Still s → PointWrites s P first 0
-  unknown : (n : ℕ) → first ≡ false → FramesWrite s P n → PointWrites s P first n
-  loose : (n : ℕ) → first ≡ true → (Still s → ⊥) → FramesWrite s P n → PointWrites s P first n
+  known : Known s first → PointWrites s P first 0
+  unknown : (n : ℕ) → (Known s first → ⊥) → FramesWrite s P n → PointWrites s P first n

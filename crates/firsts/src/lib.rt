@@ -36,7 +36,8 @@ ghost use Rattle.setting.specs.Ready.{ReadySetting};
 ghost use Rattle.firsts.specs.Order.{Comparable, Compares, SmallFraction};
 ghost use Rattle.firsts.specs.Leading.{Tying, OptimalAt, Fills, IsWorth, Fair, IsLosing, LossOf, Led, Sooner, InsideBy, FirstBest};
 ghost use Rattle.settling.specs.Settling.{FirstPlace};
-ghost use Rattle.firsts.specs.Leading.{CutsSome, TryWrites, ConsiderWrites, FramesWrite, Still, Held, TellsStill, PointWrites};
+ghost use Rattle.firsts.specs.Leading.{CutsSome, TryWrites, ConsiderWrites, FramesWrite};
+ghost use Rattle.firsts.specs.Leading.{Still, Held, TellsStill, Known, PointWrites};
 
 // The filling at a place: its point, and what it is worth.
 pub struct Filled {
@@ -310,6 +311,17 @@ fn all_still(s: Setting) -> bool
     true
 }
 
+// Whether a place that comes first if no continuous item can change has the first point.
+fn is_known(s: Setting, first: bool) -> bool
+    requires { ⌜ ReadySetting s ⌝ }
+    ensures { λ r. ⌜ (r ≡ true → Known s first) × (r ≡ false → Known s first → ⊥) ⌝ }
+{
+    if first {
+        return all_still(s);
+    }
+    false
+}
+
 // The point of the place x, which comes first where no continuous item can change.
 fn by_place(s: Setting, x: [i64; 16]) -> Lead
     requires { ⌜ ReadySetting s × (Spanned (s .cols) (s .ends) × (OptimalAt s (at x) × (Still s × FirstPlace (s .cols) (s .ends) (s .level) (s .levels) 1 (at x)))) ⌝ }
@@ -329,10 +341,8 @@ pub fn first_point(s: Setting, x: [i64; 16], first: bool, cells: &mut [u64]) -> 
     ensures { λ r. ⌜ FirstBest s r ⌝ }
     ensures { λ r. ⌜ PointWrites s (at x) first (r .written) ⌝ }
 {
-    if first {
-        if all_still(s) {
-            return by_place(s, x);
-        }
+    if is_known(s, first) {
+        return by_place(s, x);
     }
     by_frames(s, x, cells)
 }
