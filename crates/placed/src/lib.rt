@@ -38,7 +38,7 @@ pub fn all_lower(p: Problem) -> bool
 // The first point of a box. The scales' cells are lent from here, so that only an answer that needs them pays for them.
 fn first_lead(s: Setting, x: [i64; 16], first: bool) -> Lead
     requires { ⌜ ReadySetting s × (Spanned (s .cols) (s .ends) × OptimalAt s (at x)) ⌝ }
-    requires { ⌜ first ≡ true → FirstPlace (s .cols) (s .ends) (s .level) (s .levels) 1 (at x) ⌝ }
+    requires { ⌜ (first ≡ true → FirstPlace (s .cols) (s .ends) (s .level) (s .levels) 1 (at x)) ⌝ }
     ensures { λ r. ⌜ FirstBest s r ⌝ }
     ensures { λ r. ⌜ PointWrites s (at x) first (r .written) ⌝ }
 {
@@ -79,7 +79,7 @@ fn placed_at(a: Answer, cells: u64) -> Placed
 // change.
 pub fn shown_first(p: Problem, s: Setting, x: [i64; 16], first: bool, a: Answer) -> Placed
     requires { ⌜ Showable p s (at x) a ⌝ }
-    requires { ⌜ first ≡ true → FirstPlace (s .cols) (s .ends) (s .level) (s .levels) 1 (at x) ⌝ }
+    requires { ⌜ (first ≡ true → FirstPlace (s .cols) (s .ends) (s .level) (s .levels) 1 (at x)) ⌝ }
     ensures { λ r. ⌜ FirstShown p first r ⌝ }
 {
     if all_lower(p) {
