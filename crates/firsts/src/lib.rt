@@ -324,7 +324,8 @@ fn is_known(s: Setting, first: bool) -> bool
 
 // The point of the place x, which comes first where no continuous item can change.
 fn by_place(s: Setting, x: [i64; 16]) -> Lead
-    requires { ⌜ ReadySetting s × (Spanned (s .cols) (s .ends) × (OptimalAt s (at x) × (Still s × FirstPlace (s .cols) (s .ends) (s .level) (s .levels) 1 (at x)))) ⌝ }
+    requires { ⌜ ReadySetting s × (Spanned (s .cols) (s .ends) × OptimalAt s (at x)) ⌝ }
+    requires { ⌜ Still s × FirstPlace (s .cols) (s .ends) (s .level) (s .levels) 1 (at x) ⌝ }
     ensures { λ r. ⌜ FirstBest s r × (r .written ≡ 0) ⌝ }
 {
     let c = tied(s.cols);

@@ -317,11 +317,13 @@ module _ (c : Columns) (e : Ends) (level : List ℕ) (n : ℕ) (bx : Boxes c e l
           free k x z q h = h ∙ ap (λ a. frameBy a (eqb k (cutOf c t)) x (stand c e t k)) q
 
           low : (k : ℕ) → k < c .count → Sort k → (at (g .ends .lo) k *ℤ pos E) ≤ℤ M k
-          low k l (whole q i) = subst (λ z. (z *ℤ pos E) ≤ℤ M k) (sym (free k (at (e .lo) k) (at (g .ends .lo) k) q (g .framed .low k l))) (p .keeps k l .above)
+          low k l (whole q i) = subst (λ z. (z *ℤ pos E) ≤ℤ M k) (sym (free k (at (e .lo) k) (at (g .ends .lo) k) q (g .framed .low k l)))
+              (p .keeps k l .above)
           low k l (other q i) = subst (λ z. (at (g .ends .lo) k *ℤ pos E) ≤ℤ z) (sym i) (g .is-point .above k l)
 
           high : (k : ℕ) → k < c .count → Sort k → M k ≤ℤ (at (g .ends .hi) k *ℤ pos E)
-          high k l (whole q i) = subst (λ z. M k ≤ℤ (z *ℤ pos E)) (sym (free k (at (e .hi) k) (at (g .ends .hi) k) q (g .framed .high k l))) (p .keeps k l .below)
+          high k l (whole q i) = subst (λ z. M k ≤ℤ (z *ℤ pos E)) (sym (free k (at (e .hi) k) (at (g .ends .hi) k) q (g .framed .high k l)))
+              (p .keeps k l .below)
           high k l (other q i) = subst (λ z. z ≤ℤ (at (g .ends .hi) k *ℤ pos E)) (sym i) (g .is-point .below k l)
 
           made : (k : ℕ) → k < c .count → k ≢ cutOf c t → Sort k → (x : ℤ) × (M k ≡ x *ℤ pos E)

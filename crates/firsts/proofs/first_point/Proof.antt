@@ -15,7 +15,7 @@ by-place-requires c κs =
     let s = c .before .before .before in
     let p = s .pre .0 in
     let k = c .before .is-known .ensures .0 (c .if1 .taken) in
-    (p .0, (p .1 .0, (p .1 .1, (k .1, s .pre .1 .0 (k .0)))))
+    (p, (k .1, s .pre .1 .0 (k .0)))
 
 returns : tie.Need-returns
 returns c =
