@@ -67,8 +67,7 @@ loop-again : tie.Need-loop-again Inv-loop μ-loop
 loop-again c =
     let t = turn (c .before) in
     let w = wholed t in
-    let l = t .before .loop in
-    (
+    let l = t .before .loop in (
       omega (arith, t .loop-test .taken),
       next (λ k. Held (start w .args .s .ends) (w .wholes .result) k) (l .j) (l .inv .1) (c .before .is-loose .ensures .0 (c .if1 .left)),
     )

@@ -143,7 +143,7 @@ returns-2 c =
     (best-frame t) (g .result) (g .ensures) in
     let writes : SettleWrites (a .cols) (a .ends) (a .level) (a .levels) (a .known) (a .value) (k .is-last .result)
     (m .ceiling .result .written + g .result .written)
-      = rw (k .is-last .ensures) (framed (w .result) (m .ceiling .result) (g .result) (roomy e) (w .ensures) b (t .if2 .taken) (g .ensures)) in (
+    = rw (k .is-last .ensures) (framed (w .result) (m .ceiling .result) (g .result) (roomy e) (w .ensures) b (t .if2 .taken) (g .ensures)) in (
       record {
         few = omega (arith, settle-most writes);
         found = λ i. found-best (a .cols) (a .ends) (a .level) (a .levels) (box (e .before)) (w .result) (w .ensures) (a .known) (a .value)
@@ -168,7 +168,7 @@ returns-3 c =
     let w = m .before .before .wholes in
     let k = bounded m .kept (c .if2 .left) in
     let writes : SettleWrites (a .cols) (a .ends) (a .level) (a .levels) (a .known) (a .value) false (m .ceiling .result .written)
-      = kept (w .result) (m .ceiling .result) (roomy e) (w .ensures) (bounded m) (c .if2 .left) in (
+    = kept (w .result) (m .ceiling .result) (roomy e) (w .ensures) (bounded m) (c .if2 .left) in (
       record {
         few = omega (arith, settle-most writes);
         found = λ i. kept-best (a .cols) (a .ends) (a .level) (a .levels) (box (e .before)) (at (a .x)) (a .value) (w .result) (w .ensures)
