@@ -19,7 +19,7 @@
 --   LastWrites c e w l n m        the same of the last frame, which is needed where no other is
 --   FramesWrite s P n             n cells are written for all frames of the box, by what the optimal place P loses
 --   Still s                       no continuous item can change;  TellsStill s r: r tells whether.  Held e w k: item k is whole, or cannot
---   Known s first                 a place that comes first if so, as far as told, has the first point: so it is told, and no continuous item can change
+--   Known s first                 a place has the first point: it is said to come first, and no continuous item can change
 --   PointWrites s P first n       n cells are written for the first point: none where the place P is known to have it, else those of the frames
 use mathlib.Core.Path.{_≡_}
 use mathlib.Core.Bool.{Bool, true, false}

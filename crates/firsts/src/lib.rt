@@ -311,7 +311,7 @@ fn all_still(s: Setting) -> bool
     true
 }
 
-// Whether a place that comes first if no continuous item can change has the first point.
+// Whether a place has the first point: it is said to come first, and no continuous item can change.
 fn is_known(s: Setting, first: bool) -> bool
     requires { ⌜ ReadySetting s ⌝ }
     ensures { λ r. ⌜ (r ≡ true → Known s first) × (r ≡ false → Known s first → ⊥) ⌝ }
