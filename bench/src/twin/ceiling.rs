@@ -112,6 +112,11 @@ impl Shape {
         self.soft.len().max(1)
     }
 
+    /// Whether some frame cuts an item.
+    pub fn cuts_some(&self) -> bool {
+        !self.soft.is_empty()
+    }
+
     /// Into how many pieces a unit of the item that frame l cuts goes.
     fn scale(&self, l: usize) -> u64 {
         self.soft.get(l).map_or(1, |&k| self.size[k] as u64)

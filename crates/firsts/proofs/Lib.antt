@@ -6,3 +6,4 @@ pub mod Worth
 pub mod Uncut
 pub mod Leading
 pub mod Cells
+pub mod Known

@@ -17,11 +17,14 @@
 --   ConsiderWrites c e w l t n m  the same, or as many, where the frame cannot be needed
 --   LeadWrites c e w l t n        n cells are written for the frames before t
 --   LastWrites c e w l n m        the same of the last frame, which is needed where no other is
---   PointWrites s P n             n cells are written for all frames of the box, by what the optimal place P loses
+--   FramesWrite s P n             n cells are written for all frames of the box, by what the optimal place P loses
+--   Still s                       no continuous item can change;  TellsStill s r: r tells whether.  Held e w k: item k is whole, or cannot
+--   Known s first                 a place has the first point: it is said to come first, and no continuous item can change
+--   PointWrites s P first n       n cells are written for the first point: none where the place P is known to have it, else those of the frames
 use mathlib.Core.Path.{_≡_}
 use mathlib.Core.Bool.{Bool, true, false}
 use mathlib.Core.List.{List}
-use mathlib.Core.Logic.{_⊎_}
+use mathlib.Core.Logic.{_≢_, _⊎_}
 use Prim.Native.Nat.{ℕ, _+_, _*_, _/_, _%_, _≤_, _<_}
 use lib.IntN.{ℤ, pos, _-ℤ_, _*ℤ_}
 use lib.Signed.{_≤ℤ_, _<ℤ_}
@@ -40,7 +43,7 @@ use Rattle.greedy.proofs.Relaxed.{boxOf}
 use Rattle.fillings.specs.Foremost.{firstCells}
 use Rattle.ceiling.specs.declared.Seen.{Seen}
 use Rattle.ceiling.specs.Bound.{Priced}
-use Rattle.ceiling.specs.Frames.{scaleOf, Usable, Levelled}
+use Rattle.ceiling.specs.Frames.{wholeAt, scaleOf, Usable, Levelled}
 use Rattle.ceiling.specs.Least.{FrameFirst}
 use Rattle.ceiling.specs.Loss.{topOf, valueOf}
 use Rattle.ceiling.specs.Sizes.{Spanned}
@@ -170,7 +173,7 @@ pub data LeadWrites (c : Columns) (e : Ends) (w : List Bool) (l : Optimum) : ℕ
 abbrev pub LastWrites : Columns → Ends → List Bool → Optimum → ℕ → ℕ → Type 0
 LastWrites c e w l n m = (Cutting c e w × (m ≡ n)) ⊎ ((Cutting c e w → ⊥) × TryWrites c e w l (c .live) n m)
 
-pub record PointWrites (s : Setting) (P : ℕ → ℤ) (n : ℕ) : Type 0 where
+pub record FramesWrite (s : Setting) (P : ℕ → ℤ) (n : ℕ) : Type 0 where
   pub cols : Columns
   pub tied : TiedOf (s .cols) cols
   pub loss : Optimum
@@ -181,3 +184,22 @@ pub record PointWrites (s : Setting) (P : ℕ → ℤ) (n : ℕ) : Type 0 where
   pub sofar : ℕ
   pub frames : LeadWrites cols (s .ends) whole loss (cols .live) sofar
   pub last : LastWrites cols (s .ends) whole loss sofar n
+
+-- ---- a place that is known to come first
+
+abbrev pub Still : Setting → Type 0
+Still s = (k : ℕ) → k < s .cols .count → ((d : ℕ) → d < s .levels → levelAt s d ≢ k) → at (s .ends .lo) k ≡ at (s .ends .hi) k
+
+abbrev pub Held : Ends → List Bool → ℕ → Type 0
+Held e w k = wholeAt w k ≡ false → at (e .lo) k ≡ at (e .hi) k
+
+pub record TellsStill (s : Setting) (r : Bool) : Type 0 where
+  pub all : r ≡ true → Still s
+  pub some : r ≡ false → Still s → ⊥
+
+abbrev pub Known : Setting → Bool → Type 0
+Known s first = (first ≡ true) × Still s
+
+pub data PointWrites (s : Setting) (P : ℕ → ℤ) (first : Bool) : ℕ → Type 0 where
+  known : Known s first → PointWrites s P first 0
+  unknown : (n : ℕ) → (Known s first → ⊥) → FramesWrite s P n → PointWrites s P first n

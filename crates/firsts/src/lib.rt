@@ -11,6 +11,7 @@ use ceiling::top_of;
 use ceiling::wholes;
 use foremost::tied;
 use greedy::Columns;
+use greedy::Ends;
 use greedy::amounts;
 use greedy::bound_of;
 use greedy::fill_up;
@@ -22,17 +23,21 @@ ghost use mathlib.Core.Bool.{true, false};
 ghost use Prim.Native.Nat.{ℕ, _+_, _*_, _≤_, _<_};
 ghost use lib.IntN.{pos, _-ℤ_, _*ℤ_};
 ghost use lib.ListN.{length};
+ghost use lib.Signed.{_≤ℤ_};
 ghost use Rattle.arith.specs.Mixed.{Proper};
 ghost use Rattle.arith.specs.Within.{Within};
 ghost use Rattle.arith.proofs.Mixes.{over};
 ghost use Rattle.greedy.specs.Fill.{at};
+ghost use Rattle.greedy.specs.Sized.{SizedEnds};
 ghost use Rattle.ceiling.specs.Frames.{Usable, Levelled};
 ghost use Rattle.ceiling.specs.Sizes.{Spanned};
 ghost use Rattle.setting.specs.Box.{Inside};
 ghost use Rattle.setting.specs.Ready.{ReadySetting};
 ghost use Rattle.firsts.specs.Order.{Comparable, Compares, SmallFraction};
 ghost use Rattle.firsts.specs.Leading.{Tying, OptimalAt, Fills, IsWorth, Fair, IsLosing, LossOf, Led, Sooner, InsideBy, FirstBest};
-ghost use Rattle.firsts.specs.Leading.{CutsSome, TryWrites, ConsiderWrites, PointWrites};
+ghost use Rattle.settling.specs.Settling.{FirstPlace};
+ghost use Rattle.firsts.specs.Leading.{CutsSome, TryWrites, ConsiderWrites, FramesWrite};
+ghost use Rattle.firsts.specs.Leading.{Still, Held, TellsStill, Known, PointWrites};
 
 // The filling at a place: its point, and what it is worth.
 pub struct Filled {
@@ -245,12 +250,12 @@ fn lead_of(point: [Fraction; 16]) -> Lead
     }
 }
 
-// The optimal point of the box that comes first; x is an optimal place.
-pub fn first_point(s: Setting, x: [i64; 16], cells: &mut [u64]) -> Lead
+// The optimal point of the box that comes first, by its frames; x is an optimal place.
+fn by_frames(s: Setting, x: [i64; 16], cells: &mut [u64]) -> Lead
     requires { ⌜ ReadySetting s × (Spanned (s .cols) (s .ends) × OptimalAt s (at x)) ⌝ }
     requires { ⌜ 65535 ≤ length (now cells) ⌝ }
     ensures { λ r. ⌜ FirstBest s r ⌝ }
-    ensures { λ r. ⌜ PointWrites s (at x) (r .written) ⌝ }
+    ensures { λ r. ⌜ FramesWrite s (at x) (r .written) ⌝ }
 {
     let c = tied(s.cols);
     let z = filling_at(s, c, x);
@@ -269,4 +274,76 @@ pub fn first_point(s: Setting, x: [i64; 16], cells: &mut [u64]) -> Lead
         return b;
     }
     tried(b, s, c, whole, l, n, cells)
+}
+
+// ---- a place that is known to come first
+
+// Whether item k is continuous and can change.
+fn is_loose(ends: Ends, whole: [bool; 16], k: usize) -> bool
+    requires { ⌜ SizedEnds ends × ((k < 16) × (at (ends .lo) k ≤ℤ at (ends .hi) k)) ⌝ }
+    ensures { λ r. ⌜ (r ≡ false → Held ends whole k) × (r ≡ true → Held ends whole k → ⊥) ⌝ }
+{
+    let w = whole[k];
+    let l = ends.lo[k];
+    let u = ends.hi[k];
+    if w {
+        return false;
+    }
+    if l < u { true } else { false }
+}
+
+// Whether no continuous item can change.
+fn all_still(s: Setting) -> bool
+    requires { ⌜ ReadySetting s ⌝ }
+    ensures { λ r. ⌜ TellsStill s r ⌝ }
+{
+    let level = s.level;
+    let whole = wholes(level, s.levels);
+    let ends = s.ends;
+    let n = s.cols.count;
+    let mut j: usize = 0;
+    while j < n {
+        if is_loose(ends, whole, j) {
+            return false;
+        }
+        j += 1;
+    }
+    true
+}
+
+// Whether a place has the first point: it is said to come first, and no continuous item can change.
+fn is_known(s: Setting, first: bool) -> bool
+    requires { ⌜ ReadySetting s ⌝ }
+    ensures { λ r. ⌜ (r ≡ true → Known s first) × (r ≡ false → Known s first → ⊥) ⌝ }
+{
+    if first {
+        return all_still(s);
+    }
+    false
+}
+
+// The point of the place x, which comes first where no continuous item can change.
+fn by_place(s: Setting, x: [i64; 16]) -> Lead
+    requires { ⌜ ReadySetting s × (Spanned (s .cols) (s .ends) × OptimalAt s (at x)) ⌝ }
+    requires { ⌜ Still s × FirstPlace (s .cols) (s .ends) (s .level) (s .levels) 1 (at x) ⌝ }
+    ensures { λ r. ⌜ FirstBest s r × (r .written ≡ 0) ⌝ }
+{
+    let c = tied(s.cols);
+    let z = filling_at(s, c, x);
+    let point = z.point;
+    lead_of(point)
+}
+
+// The optimal point of the box that comes first; x is an optimal place. If first, it is known to come first where no continuous item can change: then
+// its frame need not be asked again.
+pub fn first_point(s: Setting, x: [i64; 16], first: bool, cells: &mut [u64]) -> Lead
+    requires { ⌜ ReadySetting s × (Spanned (s .cols) (s .ends) × OptimalAt s (at x)) ⌝ }
+    requires { ⌜ (first ≡ true → FirstPlace (s .cols) (s .ends) (s .level) (s .levels) 1 (at x)) × (65535 ≤ length (now cells)) ⌝ }
+    ensures { λ r. ⌜ FirstBest s r ⌝ }
+    ensures { λ r. ⌜ PointWrites s (at x) first (r .written) ⌝ }
+{
+    if is_known(s, first) {
+        return by_place(s, x);
+    }
+    by_frames(s, x, cells)
 }

@@ -8,11 +8,13 @@ use knapsack::Problem;
 use knapsack::is_absent;
 use setting::Setting;
 ghost use mathlib.Core.Path.{_≡_};
+ghost use mathlib.Core.Bool.{true};
 ghost use Prim.Native.Nat.{_≤_};
 ghost use Rattle.ceiling.specs.Sizes.{Spanned};
 ghost use Rattle.firsts.specs.Leading.{OptimalAt, FirstBest, PointWrites};
 ghost use Rattle.greedy.specs.Fill.{at};
 ghost use Rattle.setting.specs.Ready.{ReadySetting};
+ghost use Rattle.settling.specs.Settling.{FirstPlace};
 ghost use Rattle.placed.specs.Placed.{HasLower, Showable, FirstShown};
 
 // Whether every item has a lower bound.
@@ -34,13 +36,14 @@ pub fn all_lower(p: Problem) -> bool
 }
 
 // The first point of a box. The scales' cells are lent from here, so that only an answer that needs them pays for them.
-fn first_lead(s: Setting, x: [i64; 16]) -> Lead
+fn first_lead(s: Setting, x: [i64; 16], first: bool) -> Lead
     requires { ⌜ ReadySetting s × (Spanned (s .cols) (s .ends) × OptimalAt s (at x)) ⌝ }
+    requires { ⌜ (first ≡ true → FirstPlace (s .cols) (s .ends) (s .level) (s .levels) 1 (at x)) ⌝ }
     ensures { λ r. ⌜ FirstBest s r ⌝ }
-    ensures { λ r. ⌜ PointWrites s (at x) (r .written) ⌝ }
+    ensures { λ r. ⌜ PointWrites s (at x) first (r .written) ⌝ }
 {
     let mut cells = [0u64; 65535];
-    first_point(s, x, &mut cells)
+    first_point(s, x, first, &mut cells)
 }
 
 // An answer, and how many cells the scales wrote for it.
@@ -72,13 +75,15 @@ fn placed_at(a: Answer, cells: u64) -> Placed
     }
 }
 
-// The optimal answer a with the point that comes first; x is an optimal place of the box.
-pub fn shown_first(p: Problem, s: Setting, x: [i64; 16], a: Answer) -> Placed
+// The optimal answer a with the point that comes first; x is an optimal place of the box, and if first, known to come first where no continuous item can
+// change.
+pub fn shown_first(p: Problem, s: Setting, x: [i64; 16], first: bool, a: Answer) -> Placed
     requires { ⌜ Showable p s (at x) a ⌝ }
-    ensures { λ r. ⌜ FirstShown p r ⌝ }
+    requires { ⌜ (first ≡ true → FirstPlace (s .cols) (s .ends) (s .level) (s .levels) 1 (at x)) ⌝ }
+    ensures { λ r. ⌜ FirstShown p first r ⌝ }
 {
     if all_lower(p) {
-        let l = first_lead(s, x);
+        let l = first_lead(s, x, first);
         let point = l.point;
         let b = with_point(a, point);
         return placed_at(b, l.written);

@@ -1,14 +1,17 @@
 -- Why a place is best: a feasible point that nothing beats has its whole amounts, and its filling is worth no less.
 -- best-of: of such a point. kept-best: of an incumbent that nothing beats. found-best: of the first point of the frame that loses least.
+-- found-first: in the last frame that point comes first, of those that are worth as much and whose other items stand as its do.
 -- most-cells (end theorem): the most cells of `Settles` are those of 36 runs. settle-most: no box has more of them written.
 use mathlib.Core.Path.{_≡_, refl, sym, ap, _∙_, subst, subst₂}
-use mathlib.Core.Bool.{Bool, true, false}
+use mathlib.Core.Bool.{Bool, true, false, cond}
 use mathlib.Core.List.{List}
 use mathlib.Core.Logic.{_≢_, _⊎_, inl, inr}
 use Prim.Native.Nat.{ℕ, zero, suc, _+_, _*_, _≤_, _<_}
 use native.Mathlib.Omega.{arith}
 use native.Mathlib.Decide.{ℕ-discrete}
-use lib.IntN.{ℤ, pos, _-ℤ_, _*ℤ_}
+use borrow.Author.Tests.{le-ltb, eqb-true}
+use lib.Dec.{eqb}
+use lib.IntN.{ℤ, pos, natAbs, _-ℤ_, _*ℤ_}
 use lib.Signed.{_≤ℤ_, _<ℤ_, ≤ℤ-refl}
 use Rattle.arith.specs.declared.Mixed.{Mixed}
 use Rattle.arith.proofs.Mixes.{over}
@@ -16,23 +19,23 @@ use Rattle.arith.proofs.Integers.{split, split2, zed, ≤ℤ-trans, ≤ℤ-refl
 use Rattle.arith.proofs.Parts.{impossible}
 use Rattle.knapsack.specs.declared.Mark.{Mark}
 use Rattle.knapsack.specs.declared.Mark.the-variants.{Integer, Continuous}
-use Rattle.knapsack.proofs.Common.{Keepsᴰ, valueᴰ, Feasibleᴰ, Optimalᴰ}
+use Rattle.knapsack.proofs.Common.{KeepsMarkᴰ, Keepsᴰ, valueᴰ, Feasibleᴰ, Optimalᴰ}
 use Rattle.knapsack.proofs.Branch.{AtMost}
 use Rattle.greedy.specs.declared.Columns.{Columns}
 use Rattle.greedy.specs.declared.Ends.{Ends}
-use Rattle.greedy.specs.Fill.{at, place, itemOf, fill, bound, solution}
+use Rattle.greedy.specs.Fill.{at, place, itemOf, stand, fill, bound, solution}
 use Rattle.greedy.specs.Ordered.{Ordered}
 use Rattle.greedy.proofs.Relaxed.{boxOf, InOrder, Stopped, fill-empty, fill-stopped, fill-bound, fill-value, fill-point, parts≥1}
 use Rattle.ceiling.specs.declared.Limit.{Limit}
-use Rattle.ceiling.specs.Loss.{valueOf, topOf, lossOf}
-use Rattle.ceiling.specs.Frames.{wholeAt, cutOf, scaleOf, Marked, Unmarked, FrameAttained, Levelled}
-use Rattle.ceiling.specs.Least.{Placed, FirstIn, FrameFirst}
+use Rattle.ceiling.specs.Loss.{valueOf, topOf, lossOf, Point}
+use Rattle.ceiling.specs.Frames.{wholeAt, cutOf, scaleOf, frameBy, Marked, Unmarked, FrameAttained, Levelled}
+use Rattle.ceiling.specs.Least.{NotAfter, Placed, FirstIn, FrameFirst}
 use Rattle.ceiling.specs.declared.Seen.{Seen}
 use Rattle.ceiling.specs.Bound.{BestFrame, Bounded}
 use Rattle.ceiling.proofs.Framing.{scale-in, frame-feasible, loose-cut}
 use Rattle.ceiling.proofs.Limits.{levels-marked, levels-unmarked}
 use Rattle.fillings.specs.Runs.{runCells}
-use Rattle.settling.specs.Settling.{Boxes, Levels, Fixes, Between, Tried, BestAt, Best, mostCells, SettleWrites, empty, kept, framed}
+use Rattle.settling.specs.Settling.{Boxes, Levels, Fixes, Between, Tried, BestAt, Best, FirstPlace, mostCells, SettleWrites, empty, kept, framed}
 
 -- ---- levels
 
@@ -58,6 +61,10 @@ chain x y z A B C b h k = times-≤-back B (x *ℤ pos C) (z *ℤ pos A) b (≤�
   where
     swap : (z : ℤ) (m n : ℕ) → (z *ℤ pos m) *ℤ pos n ≡ (z *ℤ pos n) *ℤ pos m
     swap = split _ (λ a b m n. simp zed (omega arith))
+
+-- in the last frame points are whole
+last-scale : (c : Columns) (t : ℕ) → t ≡ c .live → scaleOf c t ≡ 1
+last-scale c t i = ap (λ s. cond s (natAbs (at (c .size) t)) 1) (le-ltb t (c .live) (omega arith))
 
 -- ---- a point that nothing beats
 
@@ -255,34 +262,93 @@ module _ (c : Columns) (e : Ends) (level : List ℕ) (n : ℕ) (bx : Boxes c e l
         turn : (T v : ℤ) (n : ℕ) → T -ℤ v ≡ pos n → v ≡ T -ℤ pos n
         turn = split2 _ (λ a b c e n. simp zed (omega arith))
 
+    -- nothing beats it
+    highest : (marks : ℕ → Mark) → Levels c level n marks → (A : ℕ) (M : ℕ → ℤ) → 1 ≤ A → Feasibleᴰ (boxOf c e marks) A M →
+        (valueᴰ (boxOf c e marks) M *ℤ pos E) ≤ℤ (valueᴰ (boxOf c e marks) N *ℤ pos A)
+    highest marks lv A M a p = times-≤-back (r .q) _ _ (b .q≥1) (≤ℤ-trans (≤ℤ-reflexive (left (valueOf c M) E))
+        (≤ℤ-trans at-most (≤ℤ-reflexive (ap (λ z. z *ℤ pos A) (sym worth) ∙ right (valueOf c N) A))))
+      where
+        at-most : (valueOf c M *ℤ pos (r .q * E)) ≤ℤ ((r .top *ℤ pos E -ℤ pos (r .lost .num)) *ℤ pos A)
+        at-most = subst (λ x. (valueOf c M *ℤ pos (r .q * x)) ≤ℤ ((r .top *ℤ pos x -ℤ pos (r .lost .num)) *ℤ pos A)) (h .den-is)
+            (b .most marks (levels-marked c level n w marks lw (lv .integer)) A M a p)
+
+        left : (x : ℤ) (d : ℕ) → (x *ℤ pos d) *ℤ pos (r .q) ≡ x *ℤ pos (r .q * d)
+        left = split _ (λ a b d. simp zed (omega arith))
+
+        right : (x : ℤ) (D : ℕ) → (pos (r .q) *ℤ x) *ℤ pos D ≡ (x *ℤ pos D) *ℤ pos (r .q)
+        right = split _ (λ a b D. simp zed (omega arith))
+
+    best-point : (marks : ℕ → Mark) → Levels c level n marks → Optimalᴰ (boxOf c e marks) E N
+    best-point marks lv = record { feasible = feasible marks (levels-unmarked c level n w marks lw (lv .of)); highest = highest marks lv }
+
     pub found-best : Best c e level n (at ys)
     found-best = record {
       between = between;
-      best = λ f fx marks lv. best-of c e level n bx (at ys) between f fx marks lv E N E≥1
-          (feasible marks (levels-unmarked c level n w marks lw (lv .of))) level-whole (highest marks lv);
+      best = λ f fx marks lv. best-of c e level n bx (at ys) between f fx marks lv E N E≥1 (best-point marks lv .feasible) level-whole (highest marks lv);
     }
-      where
-        highest : (marks : ℕ → Mark) → Levels c level n marks → (A : ℕ) (M : ℕ → ℤ) → 1 ≤ A → Feasibleᴰ (boxOf c e marks) A M →
-            (valueᴰ (boxOf c e marks) M *ℤ pos E) ≤ℤ (valueᴰ (boxOf c e marks) N *ℤ pos A)
-        highest marks lv A M a p = times-≤-back (r .q) _ _ (b .q≥1) (≤ℤ-trans (≤ℤ-reflexive (left (valueOf c M) E))
-            (≤ℤ-trans at-most (≤ℤ-reflexive (ap (λ z. z *ℤ pos A) (sym worth) ∙ right (valueOf c N) A))))
-          where
-            at-most : (valueOf c M *ℤ pos (r .q * E)) ≤ℤ ((r .top *ℤ pos E -ℤ pos (r .lost .num)) *ℤ pos A)
-            at-most = subst (λ x. (valueOf c M *ℤ pos (r .q * x)) ≤ℤ ((r .top *ℤ pos x -ℤ pos (r .lost .num)) *ℤ pos A)) (h .den-is)
-                (b .most marks (levels-marked c level n w marks lw (lv .integer)) A M a p)
 
-            left : (x : ℤ) (d : ℕ) → (x *ℤ pos d) *ℤ pos (r .q) ≡ x *ℤ pos (r .q * d)
-            left = split _ (λ a b d. simp zed (omega arith))
+    -- ---- it comes first
 
-            right : (x : ℤ) (D : ℕ) → (pos (r .q) *ℤ x) *ℤ pos D ≡ (x *ℤ pos D) *ℤ pos (r .q)
-            right = split _ (λ a b D. simp zed (omega arith))
+    module _ (marks : ℕ → Mark) (lv : Levels c level n marks) (M : ℕ → ℤ) (p : Feasibleᴰ (boxOf c e marks) E M)
+        (as-much : valueᴰ (boxOf c e marks) N ≤ℤ valueᴰ (boxOf c e marks) M)
+        (stands : (k : ℕ) → k < c .count → marks k ≡ Continuous → M k ≡ N k) where
+      -- an item is whole, or stands as in N
+      data Sort (k : ℕ) : Type 0 where
+        whole : wholeAt w k ≡ true → marks k ≡ Integer → Sort k
+        other : wholeAt w k ≡ false → M k ≡ N k → Sort k
+
+      sort : (k : ℕ) → k < c .count → Sort k
+      sort k l = go (wholeAt w k) refl
+        where
+          loose : (m : Mark) → marks k ≡ m → wholeAt w k ≡ false → M k ≡ N k
+          loose Integer i o = absurd (impossible (sym o ∙ levels-unmarked c level n w marks lw (lv .of) k l i))
+          loose Continuous i o = stands k l i
+
+          go : (x : Bool) → wholeAt w k ≡ x → Sort k
+          go true o = whole o (levels-marked c level n w marks lw (lv .integer) k l o)
+          go false o = other o (loose (marks k) refl o)
+
+      in-frame : Point c (g .ends) E (cutOf c t) M
+      unfolding N
+      in-frame = record { above = λ k l. low k l (sort k l); below = λ k l. high k l (sort k l); fits = p .fits; whole = λ k l x. made k l x (sort k l) }
+        where
+          -- a whole item keeps its end
+          free : (k : ℕ) (x z : ℤ) → wholeAt w k ≡ true → z ≡ frameBy (wholeAt w k) (eqb k (cutOf c t)) x (stand c e t k) → z ≡ x
+          free k x z q h = h ∙ ap (λ a. frameBy a (eqb k (cutOf c t)) x (stand c e t k)) q
+
+          low : (k : ℕ) → k < c .count → Sort k → (at (g .ends .lo) k *ℤ pos E) ≤ℤ M k
+          low k l (whole q i) = subst (λ z. (z *ℤ pos E) ≤ℤ M k) (sym (free k (at (e .lo) k) (at (g .ends .lo) k) q (g .framed .low k l)))
+              (p .keeps k l .above)
+          low k l (other q i) = subst (λ z. (at (g .ends .lo) k *ℤ pos E) ≤ℤ z) (sym i) (g .is-point .above k l)
+
+          high : (k : ℕ) → k < c .count → Sort k → M k ≤ℤ (at (g .ends .hi) k *ℤ pos E)
+          high k l (whole q i) = subst (λ z. M k ≤ℤ (z *ℤ pos E)) (sym (free k (at (e .hi) k) (at (g .ends .hi) k) q (g .framed .high k l)))
+              (p .keeps k l .below)
+          high k l (other q i) = subst (λ z. z ≤ℤ (at (g .ends .hi) k *ℤ pos E)) (sym i) (g .is-point .below k l)
+
+          made : (k : ℕ) → k < c .count → k ≢ cutOf c t → Sort k → (x : ℤ) × (M k ≡ x *ℤ pos E)
+          made k l x (whole q i) = subst (λ m. KeepsMarkᴰ E m (M k)) i (p .keeps k l .marked)
+          made k l x (other q i) = let y = g .is-point .whole k l x in (y .0, i ∙ y .1)
+
+      as-good : valueOf c M ≡ valueOf c N
+      as-good = ≤ℤ-antisym (times-≤-back E _ _ E≥1 (highest marks lv E M E≥1 p)) as-much
+
+      comes-first : NotAfter (c .count) N M
+      unfolding N lossOf
+      comes-first = g .first M in-frame (ap (λ z. topOf (r .p) (r .q) c e *ℤ pos E -ℤ pos (r .q) *ℤ z) as-good ∙ g .loses)
+
+    -- in the last frame it is whole
+    pub found-first : eqb t (c .live) ≡ true → FirstPlace c e level n 1 (at ys)
+    found-first i = subst (λ D. FirstPlace c e level n D (at ys)) (last-scale c t (eqb-true t (c .live) i))
+        (record { point = N; at-place = level-whole; optimal = best-point; first = comes-first })
 
 -- ---- how much is written
 
 pub most-cells : mostCells ≡ 36 * runCells
 most-cells = refl
 
-pub settle-most : {c : Columns} {e : Ends} {level : List ℕ} {n : ℕ} {known : Bool} {v : Mixed} {k : ℕ} → SettleWrites c e level n known v k → k ≤ mostCells
+pub settle-most : {c : Columns} {e : Ends} {level : List ℕ} {n : ℕ} {known : Bool} {v : Mixed} {f : Bool} {k : ℕ}
+    → SettleWrites c e level n known v f k → k ≤ mostCells
 settle-most (empty h) = omega arith
 settle-most (kept w b r l h f) = omega (arith, h .few)
 settle-most (framed w b s r l h f g) = omega (arith, h .few, g .few)

@@ -6,21 +6,24 @@
 --   Tried c e level n P v     P is feasible, and v what its filling is worth
 --   BestAt c e marks f        the filling of the ends f is one, and worth its bound
 --   Best c e level n P        the filling of P is an optimal point of the box
+--   FirstPlace c e level n D P   P has the whole amounts of an optimal point over D, which comes first of those whose other items stand as its do
 --   mostCells                 the most cells that are written for any box: those of 36 runs
---   SettleWrites c e level n known v k   k cells are written for a box where the value v is known: those of its bound, and of the first point of a frame
---   Settles c e level n r     the place of r is best, or nothing in the box is feasible; and few cells were written for it
+--   SettleWrites c e level n known v f k   k cells are written for a box where the value v is known: those of its bound, and of the first point of a
+--                             frame; f tells whether that is the frame in which no item is cut
+--   Settles c e level n r     the place of r is best, or nothing in the box is feasible; it is a first one if r says so; and few cells were written for it
 use mathlib.Core.Path.{_≡_}
 use mathlib.Core.Bool.{Bool, true, false}
 use mathlib.Core.List.{List}
 use mathlib.Core.Logic.{_≢_}
 use Prim.Native.Nat.{ℕ, _+_, _≤_, _<_}
-use lib.IntN.{ℤ, pos}
+use lib.Dec.{eqb}
+use lib.IntN.{ℤ, pos, _*ℤ_}
 use lib.Signed.{_≤ℤ_, _<ℤ_}
 use Rattle.arith.specs.Mixed.{Proper}
 use Rattle.arith.specs.declared.Mixed.{Mixed}
 use Rattle.arith.proofs.Mixes.{over}
 use Rattle.knapsack.specs.declared.Mark.{Mark}
-use Rattle.knapsack.specs.declared.Mark.the-variants.{Integer}
+use Rattle.knapsack.specs.declared.Mark.the-variants.{Integer, Continuous}
 use Rattle.knapsack.proofs.Common.{valueᴰ, Feasibleᴰ, Optimalᴰ}
 use Rattle.greedy.specs.declared.Columns.{Columns}
 use Rattle.greedy.specs.declared.Ends.{Ends}
@@ -32,7 +35,7 @@ use Rattle.ceiling.specs.declared.Limit.{Limit}
 use Rattle.ceiling.specs.declared.Seen.{Seen}
 use Rattle.ceiling.specs.Bound.{Bounded}
 use Rattle.ceiling.specs.Frames.{Levelled}
-use Rattle.ceiling.specs.Least.{FrameFirst}
+use Rattle.ceiling.specs.Least.{NotAfter, FrameFirst}
 use Rattle.ceiling.specs.Sizes.{Spanned}
 use Rattle.settling.specs.declared.Settled.{Settled}
 
@@ -73,18 +76,28 @@ pub record Best (c : Columns) (e : Ends) (level : List ℕ) (n : ℕ) (P : ℕ �
   pub between : Between e level n P
   pub best : (f : Ends) → Fixes e level n P f → (marks : ℕ → Mark) → Levels c level n marks → BestAt c e marks f
 
+-- of the optimal points whose continuous items stand as its do, the one with the whole amounts P comes first
+pub record FirstPlace (c : Columns) (e : Ends) (level : List ℕ) (n D : ℕ) (P : ℕ → ℤ) : Type 0 where
+  pub point : ℕ → ℤ
+  pub at-place : (d : ℕ) → d < n → point (place level d) ≡ P d *ℤ pos D
+  pub optimal : (marks : ℕ → Mark) → Levels c level n marks → Optimalᴰ (boxOf c e marks) D point
+  pub first : (marks : ℕ → Mark) → Levels c level n marks → (M : ℕ → ℤ) → Feasibleᴰ (boxOf c e marks) D M
+      → valueᴰ (boxOf c e marks) point ≤ℤ valueᴰ (boxOf c e marks) M → ((k : ℕ) → k < c .count → marks k ≡ Continuous → M k ≡ point k)
+      → NotAfter (c .count) point M
+
 -- one run for each of 17 frames, and one for each of 16 groups of keys (proofs/Best, most-cells, settle-most)
 abbrev pub mostCells : ℕ
 mostCells = 3418251804
 
-pub data SettleWrites (c : Columns) (e : Ends) (level : List ℕ) (n : ℕ) (known : Bool) (v : Mixed) : ℕ → Type 0 where
-  empty : fill c e .room <ℤ pos 0 → SettleWrites c e level n known v 0
+pub data SettleWrites (c : Columns) (e : Ends) (level : List ℕ) (n : ℕ) (known : Bool) (v : Mixed) : Bool → ℕ → Type 0 where
+  empty : fill c e .room <ℤ pos 0 → SettleWrites c e level n known v false 0
   kept : (w : List Bool) (b : Limit) → pos 0 ≤ℤ fill c e .room → Levelled level n w → Bounded c e w known v b → b .found ≡ false →
-      SettleWrites c e level n known v (b .written)
+      SettleWrites c e level n known v false (b .written)
   framed : (w : List Bool) (b : Limit) (s : Seen) → pos 0 ≤ℤ fill c e .room → Levelled level n w → Bounded c e w known v b → b .found ≡ true →
-      FrameFirst (b .p) (b .q) c e w (b .at) (b .lost .num) s → SettleWrites c e level n known v (b .written + s .written)
+      FrameFirst (b .p) (b .q) c e w (b .at) (b .lost .num) s → SettleWrites c e level n known v (eqb (b .at) (c .live)) (b .written + s .written)
 
 pub record Settles (c : Columns) (e : Ends) (level : List ℕ) (n : ℕ) (r : Settled) : Type 0 where
   pub few : r .written ≤ mostCells
   pub found : r .found ≡ true → Best c e level n (at (r .place))
+  pub first : r .first ≡ true → FirstPlace c e level n 1 (at (r .place))
   pub none : r .found ≡ false → (marks : ℕ → Mark) (D : ℕ) (N : ℕ → ℤ) → 1 ≤ D → ¬ Feasibleᴰ (boxOf c e marks) D N

@@ -11,16 +11,27 @@ use greedy::fill_up;
 ghost use mathlib.Core.Path.{_≡_};
 ghost use mathlib.Core.Bool.{true, false};
 ghost use Prim.Native.Nat.{ℕ, _≤_, _<_};
+ghost use lib.Dec.{eqb};
 ghost use lib.ListN.{length};
 ghost use Rattle.greedy.specs.Fill.{at, place};
 ghost use Rattle.ceiling.specs.Least.{Placed};
 ghost use Rattle.settling.specs.Settling.{Boxes, Tried, SettleWrites, Settles};
 
-// An optimal place by level, if anything in the box is feasible; and how many cells were written.
+// An optimal place by level, if anything in the box is feasible; whether it is known to come first where no continuous item can change; and how many
+// cells were written.
 pub struct Settled {
     pub found: bool,
     pub place: [i64; 16],
+    pub first: bool,
     pub written: u64,
+}
+
+// Whether frame t is the last one, in which no item is cut.
+fn is_last(cols: Columns, t: usize) -> bool
+    ensures { λ r. ⌜ r ≡ eqb t (cols .live) ⌝ }
+{
+    let n = cols.live;
+    t == n
 }
 
 // The amounts of the first n levels.
@@ -54,13 +65,14 @@ pub fn settle(
     requires { ⌜ Boxes cols ends level levels × (known ≡ true → Tried cols ends level levels (at x) value) ⌝ }
     requires { ⌜ 65535 ≤ length (now cells) ⌝ }
     ensures { λ r. ⌜ Settles cols ends level levels r ⌝ }
-    ensures { λ r. ⌜ SettleWrites cols ends level levels known value (r .written) ⌝ }
+    ensures { λ r. ⌜ SettleWrites cols ends level levels known value (r .first) (r .written) ⌝ }
 {
     let f = fill_up(cols, ends);
     if f.room < 0 {
         return Settled {
             found: false,
             place: x,
+            first: false,
             written: 0,
         };
     }
@@ -70,15 +82,18 @@ pub fn settle(
         let s = first_of_frame(cols, ends, whole, b.p, b.q, b.at, b.top, b.lost.num, cells);
         let first = s.place;
         let y = by_level(first, level, levels);
+        let last = is_last(cols, b.at);
         return Settled {
             found: true,
             place: y,
+            first: last,
             written: b.written + s.written,
         };
     }
     Settled {
         found: true,
         place: x,
+        first: false,
         written: b.written,
     }
 }

@@ -17,11 +17,11 @@ use Rattle.settling.specs.Settling.{mostCells}
 use Rattle.settling.proofs.Best.{settle-most}
 use Rattle.solver.specs.Outcomes.{mostWork, PlaceWrites, ended, stopped, Scaled, CellsAs}
 
-pub place-most : {s : Setting} {end : State} {k : ℕ} → PlaceWrites s end k → k ≤ mostCells
+pub place-most : {s : Setting} {end : State} {first : Bool} {k : ℕ} → PlaceWrites s end first k → k ≤ mostCells
 place-most (ended h) = omega arith
-place-most (stopped k h w) = settle-most w
+place-most (stopped first k h w) = settle-most w
 
-pub shown-most : {p : Problem} {k : ℕ} → ShownWrites p k → k ≤ 17 * firstCells
+pub shown-most : {p : Problem} {first : Bool} {k : ℕ} → ShownWrites p first k → k ≤ 17 * firstCells
 shown-most (kept h) = omega arith
 shown-most (placed s P k low h o w) = point-most w
 

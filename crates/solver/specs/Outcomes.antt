@@ -7,8 +7,9 @@
 --   Best s x a        a shows the relaxation of the place x and its value in lowest terms, and no steps
 --   standing s f x    the incumbent that the place x is
 --   mostWork          the most cells that the scales write for a problem: those of 359 runs
---   PlaceWrites s end k
---                     k cells are written for the best place of a box, where its search has come to `end`: none if that is done
+--   PlaceWrites s end first k
+--                     k cells are written for the best place of a box, where its search has come to `end`: none if that is done; first tells whether the
+--                     scales know it to come first
 --   BestPlace s p n r r is the best place of the box, with the steps of a search that may take n
 --   Walked most p named n
 --                     n steps were taken by the search of p that may take `most` and discards by no pair with an item that is named
@@ -51,7 +52,7 @@ use Rattle.search.specs.declared.State.{State}
 use Rattle.setting.specs.Box.{fixedBy}
 use Rattle.search.specs.Searched.{Searched}
 use Rattle.search.specs.Steps.{Stops}
-use Rattle.settling.specs.Settling.{SettleWrites}
+use Rattle.settling.specs.Settling.{FirstPlace, SettleWrites}
 use Rattle.solver.specs.declared.Found.{Found}
 use Rattle.solver.specs.declared.Solved.{Solved}
 
@@ -97,19 +98,20 @@ abbrev pub mostWork : ℕ
 mostWork = 34087566601
 
 -- the scales go on from the search's incumbent
-pub data PlaceWrites (s : Setting) (end : State) : ℕ → Type 0 where
-  ended : end .done ≡ true → PlaceWrites s end 0
-  stopped : (k : ℕ) → end .done ≡ false → SettleWrites (s .cols) (s .ends) (s .level) (s .levels) (end .best .found) (end .best .value) k →
-      PlaceWrites s end k
+pub data PlaceWrites (s : Setting) (end : State) : Bool → ℕ → Type 0 where
+  ended : end .done ≡ true → PlaceWrites s end false 0
+  stopped : (first : Bool) (k : ℕ) → end .done ≡ false
+      → SettleWrites (s .cols) (s .ends) (s .level) (s .levels) (end .best .found) (end .best .value) first k → PlaceWrites s end first k
 
 -- the place is best in the box, or there is none; the steps are those of a search that may take n
 pub record BestPlace (s : Setting) (p : Pairs) (n : ℕ) (r : Found) : Type 0 where
   pub searched : Searched s (standing s (r .found) (r .place))
   pub at-place : r .found ≡ true → OptimalAt s (at (r .place))
+  pub first : r .first ≡ true → FirstPlace (s .cols) (s .ends) (s .level) (s .levels) 1 (at (r .place))
   pub end : State
   pub stops : Stops s p n end
   pub steps-are : r .steps ≡ end .steps
-  pub writes : PlaceWrites s end (r .cells)
+  pub writes : PlaceWrites s end (r .first) (r .cells)
 
 -- ---- the answer of a problem, and the steps of its search
 
@@ -136,10 +138,11 @@ Counts most p named a n = CountsAs most (a .kind) p named n
 pub record Scaled (most : ℕ) (p : Problem) (named : List Bool) (k : ℕ) : Type 0 where
   pub steps : ℕ
   pub walked : Walked most p named steps
+  pub first : Bool
   pub placing : ℕ
-  pub place-writes : PlaceWrites (walked .setting) (walked .end) placing
+  pub place-writes : PlaceWrites (walked .setting) (walked .end) first placing
   pub showing : ℕ
-  pub show-writes : ShownWrites p showing
+  pub show-writes : ShownWrites p first showing
   pub cells-are : k ≡ placing + showing
 
 abbrev pub CellsAs : ℕ → Kind → Problem → List Bool → ℕ → Type 0

@@ -104,10 +104,12 @@ fn optimal(s: Setting, x: [i64; 16]) -> Answer
     }
 }
 
-// A place that is best, if the box holds one; the steps of its search, and the cells that the scales wrote.
+// A place that is best, if the box holds one; whether it is known to come first where no continuous item can change; the steps of its search, and the
+// cells that the scales wrote.
 pub struct Found {
     pub found: bool,
     pub place: [i64; 16],
+    pub first: bool,
     pub steps: u64,
     pub cells: u64,
 }
@@ -116,7 +118,7 @@ pub struct Found {
 fn settled(s: Setting, b: Incumbent) -> Settled
     requires { ⌜ ReadySetting s × (Spanned (s .cols) (s .ends) × GoodBest s b) ⌝ }
     ensures { λ r. ⌜ Settles (s .cols) (s .ends) (s .level) (s .levels) r ⌝ }
-    ensures { λ r. ⌜ SettleWrites (s .cols) (s .ends) (s .level) (s .levels) (b .found) (b .value) (r .written) ⌝ }
+    ensures { λ r. ⌜ SettleWrites (s .cols) (s .ends) (s .level) (s .levels) (b .found) (b .value) (r .first) (r .written) ⌝ }
 {
     let cols = s.cols;
     let ends = s.ends;
@@ -139,6 +141,7 @@ fn best_place(s: Setting, p: Pairs, most: u64) -> Found
         return Found {
             found: best.found,
             place: place,
+            first: false,
             steps: q.steps,
             cells: 0,
         };
@@ -148,6 +151,7 @@ fn best_place(s: Setting, p: Pairs, most: u64) -> Found
     Found {
         found: t.found,
         place: place,
+        first: t.first,
         steps: q.steps,
         cells: t.written,
     }
@@ -195,7 +199,7 @@ fn decide(p: Problem, named: [bool; 16], most: u64) -> Solved
     let b = best_place(near, pairs, most);
     let place = b.place;
     let a = optimal(near, place);
-    let f = shown_first(p, near, place, a);
+    let f = shown_first(p, near, place, b.first, a);
     let first = f.answer;
     let cells = b.cells + f.cells;
     with_work(first, b.steps, cells)

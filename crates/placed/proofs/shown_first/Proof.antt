@@ -34,10 +34,10 @@ returns c =
     let b = d .first-lead .ensures .0 in
     let z : Answer = record { kind = a .a .kind; point = r .point; steps = a .a .steps; value = a .a .value } in
     rw (c .placed-at .ensures, w .with-point .ensures) (record {
-      kind-is = s .pre .kind-is;
-      shown = first-optimal (a .p) (a .s) (at (a .x)) (a .a) (s .pre) low r b z refl refl refl;
-      first = λ _ e. first-foremost (a .p) (a .s) (at (a .x)) (a .a) (s .pre) low r b z refl refl refl;
-      writes = placed (a .s) (at (a .x)) (r .written) low (s .pre .prepared) (s .pre .optimal-at) (d .first-lead .ensures .1);
+      kind-is = s .pre .0 .kind-is;
+      shown = first-optimal (a .p) (a .s) (at (a .x)) (a .a) (s .pre .0) low r b z refl refl refl;
+      first = λ _ e. first-foremost (a .p) (a .s) (at (a .x)) (a .a) (s .pre .0) low r b z refl refl refl;
+      writes = placed (a .s) (at (a .x)) (r .written) low (s .pre .0 .prepared) (s .pre .0 .optimal-at) (d .first-lead .ensures .1);
     })
 
 placed-at-requires-2 : tie.Need-placed-at-requires-2
@@ -47,7 +47,7 @@ returns-2 : tie.Need-returns-2
 returns-2 c =
     let e = c .before in
     let l = e .before in
-    let h = l .before .pre in
+    let h = l .before .pre .0 in
     rw (c .placed-at2 .ensures) (record {
       kind-is = h .kind-is;
       shown = h .shown;

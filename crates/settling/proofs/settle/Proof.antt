@@ -16,7 +16,7 @@ use Rattle.greedy.proofs.Relaxed.{fill-empty}
 use Rattle.ceiling.specs.Bound.{Bounded, BestFrame}
 use Rattle.ceiling.proofs.Framing.{ordered-ranked}
 use Rattle.settling.specs.Settling.{Boxes, SettleWrites, empty, kept, framed}
-use Rattle.settling.proofs.Best.{kept-best, found-some, found-best, settle-most}
+use Rattle.settling.proofs.Best.{kept-best, found-some, found-best, found-first, settle-most}
 use Rattle.settling.proofs.settle.Statement.{statement}
 use Rattle.settling.proofs.settle.Tie as tie
 use Rattle.ceiling.proofs.ceiling.Reads as ceiling-reads
@@ -37,6 +37,12 @@ clear m = m .before .before .before
 abbrev ceiled : tie.After-first-of-frame → tie.After-ceiling
 ceiled f =
     let h = f .before .before .before in
+    h .before .before .before
+
+-- from the place by level, back to the frame's first point
+abbrev decoded : tie.After-by-level → tie.After-first-of-frame
+decoded l =
+    let h = l .before in
     h .before .before .before
 
 box : (c : tie.After-struct-told) → let a = entry c .args in Boxes (a .cols) (a .ends) (a .level) (a .levels)
@@ -73,6 +79,7 @@ returns c =
       record {
         few = omega arith;
         found = λ i. absurd (impossible i);
+        first = λ i. absurd (impossible i);
         none = λ i marks D N d p. fill-empty (a .cols) (a .ends) marks (x .ordered) (x .in-order) none D N d p;
       },
       empty none,
@@ -110,32 +117,40 @@ by-level-requires c κs =
     let e = clear (ceiled (c .before .before .before)) in
     (box (e .before) .few, level-in e)
 
-add-t20 : tie.Need-add-t20
-add-t20 c = search needs
+is-last-requires : tie.Need-is-last-requires
+is-last-requires c κs = search needs
+
+add-t21 : tie.Need-add-t21
+add-t21 c = search needs
 
 same-length : tie.Need-same-length
 same-length c = search needs
 
 returns-2 : tie.Need-returns-2
 returns-2 c =
-    let h = c .before .before .before in
-    let f = h .before .before .before in
+    let k = c .before .before in
+    let l = k .before in
+    let f = decoded l in
     let t = f .before .before .before in
     let m = ceiled f in
     let e = clear m in
     let a = entry (e .before) .args in
     let w = m .before .before .wholes in
     let g = f .first-of-frame in
-    let y = c .before .before .by-level in
+    let y = l .by-level in
     let b = bounded m in
     let some = found-some (a .cols) (a .ends) (a .level) (a .levels) (box (e .before)) (w .result) (w .ensures) (a .known) (a .value) (m .ceiling .result) b
     (best-frame t) (g .result) (g .ensures) in
-    let writes : SettleWrites (a .cols) (a .ends) (a .level) (a .levels) (a .known) (a .value) (m .ceiling .result .written + g .result .written)
-      = framed (w .result) (m .ceiling .result) (g .result) (roomy e) (w .ensures) b (t .if2 .taken) (g .ensures) in (
+    let writes : SettleWrites (a .cols) (a .ends) (a .level) (a .levels) (a .known) (a .value) (k .is-last .result)
+    (m .ceiling .result .written + g .result .written)
+    = rw (k .is-last .ensures) (framed (w .result) (m .ceiling .result) (g .result) (roomy e) (w .ensures) b (t .if2 .taken) (g .ensures)) in (
       record {
         few = omega (arith, settle-most writes);
         found = λ i. found-best (a .cols) (a .ends) (a .level) (a .levels) (box (e .before)) (w .result) (w .ensures) (a .known) (a .value)
             (m .ceiling .result) b (best-frame t) (g .result .place) (y .result) (g .ensures .found some) (y .ensures);
+        first = λ i. found-first (a .cols) (a .ends) (a .level) (a .levels) (box (e .before)) (w .result) (w .ensures) (a .known) (a .value)
+            (m .ceiling .result) b (best-frame t) (g .result .place) (y .result) (g .ensures .found some) (y .ensures)
+            (sym (k .is-last .ensures) ∙ i);
         none = λ i. absurd (impossible (sym i));
       },
       writes,
@@ -152,12 +167,13 @@ returns-3 c =
     let a = s .args in
     let w = m .before .before .wholes in
     let k = bounded m .kept (c .if2 .left) in
-    let writes : SettleWrites (a .cols) (a .ends) (a .level) (a .levels) (a .known) (a .value) (m .ceiling .result .written)
-      = kept (w .result) (m .ceiling .result) (roomy e) (w .ensures) (bounded m) (c .if2 .left) in (
+    let writes : SettleWrites (a .cols) (a .ends) (a .level) (a .levels) (a .known) (a .value) false (m .ceiling .result .written)
+    = kept (w .result) (m .ceiling .result) (roomy e) (w .ensures) (bounded m) (c .if2 .left) in (
       record {
         few = omega (arith, settle-most writes);
         found = λ i. kept-best (a .cols) (a .ends) (a .level) (a .levels) (box (e .before)) (at (a .x)) (a .value) (w .result) (w .ensures)
             (s .pre .0 .1 (k .0)) (k .1);
+        first = λ i. absurd (impossible i);
         none = λ i. absurd (impossible (sym i));
       },
       writes,
@@ -173,7 +189,8 @@ settle-spec =
     ceiling-requires
     first-of-frame-requires
     by-level-requires
-    add-t20
+    is-last-requires
+    add-t21
     same-length
     returns-2
     same-length-2

@@ -2,6 +2,7 @@
 use mathlib.Core.Path.{refl}
 use native.Mathlib.Omega.{arith}
 use borrow.Author.Needs.{needs}
+use Rattle.arith.proofs.Parts.{impossible}
 use Rattle.setting.specs.Box.{Long}
 use Rattle.solver.specs.Outcomes.{standing, ended, stopped}
 use Rattle.solver.proofs.Scales.{standing-searched, settled-searched, optimal-at}
@@ -24,6 +25,7 @@ returns c =
     record {
       searched = g;
       at-place = optimal-at (s .args .s) (s .pre .0 .setting) (long s) (standing (s .args .s) (m .run .result .best .found) (m .run .result .best .place)) g;
+      first = λ i. absurd (impossible i);
       end = m .run .result;
       stops = e .stops;
       steps-are = refl;
@@ -42,10 +44,11 @@ returns-2 c =
     record {
       searched = g;
       at-place = optimal-at (s .args .s) (s .pre .0 .setting) (long s) (standing (s .args .s) (t .settled .result .found) (t .settled .result .place)) g;
+      first = t .settled .ensures .0 .first;
       end = m .run .result;
       stops = m .run .ensures .stops;
       steps-are = refl;
-      writes = stopped (t .settled .result .written) (t .before .if1 .left) (t .settled .ensures .1);
+      writes = stopped (t .settled .result .first) (t .settled .result .written) (t .before .if1 .left) (t .settled .ensures .1);
     }
 
 pub best-place-spec : {M : Type 1} → statement M

@@ -176,16 +176,18 @@ shown-first-requires c κs =
     let n = c .before .before in
     let w = n .before .before in
     let e2 = w .before .before in
-    let s = Prep e2 .before in
-    record {
-      range = s .pre;
-      prepared = near w;
-      spanned = near-spanned (s .args .p) (s .pre) (w .narrowed .result) (near w);
-      no-ray = e2 .before .find-ray .ensures .none (e2 .if2 .left);
-      optimal-at = n .best-place .ensures .at-place (found n);
-      kind-is = c .optimal .ensures .kind-is;
-      shown = shown c;
-    }
+    let s = Prep e2 .before in (
+      record {
+        range = s .pre;
+        prepared = near w;
+        spanned = near-spanned (s .args .p) (s .pre) (w .narrowed .result) (near w);
+        no-ray = e2 .before .find-ray .ensures .none (e2 .if2 .left);
+        optimal-at = n .best-place .ensures .at-place (found n);
+        kind-is = c .optimal .ensures .kind-is;
+        shown = shown c;
+      },
+      n .best-place .ensures .first,
+    )
 
 add-cells : tie.Need-add-cells
 add-cells c =
@@ -216,6 +218,7 @@ unfolding Prep walked
 scaled f = let b = placed-at f .best-place in record {
   steps = b .result .steps;
   walked = walked (placed-at f);
+  first = b .result .first;
   placing = b .result .cells;
   place-writes = b .ensures .writes;
   showing = f .shown-first .result .cells;
