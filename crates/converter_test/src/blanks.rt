@@ -120,7 +120,7 @@ fn reason_at(m: Model, k: usize) -> Reason
     Reason::Harmless
 }
 
-pub fn hinders(r: Reason) -> bool {
+fn hinders(r: Reason) -> bool {
     match r {
         Reason::NoBlank => false,
         Reason::Harmless => false,

@@ -13,7 +13,6 @@ use crate::blanks::Fate;
 use crate::blanks::Reason;
 use crate::blanks::blanks_among;
 use crate::blanks::fate_of;
-use crate::blanks::hinders;
 use crate::blanks::moves_need;
 use crate::blanks::with_drawn_blanks;
 use crate::meaning::outcome_beside;
@@ -98,9 +97,12 @@ fn answered(m: Model, n: usize, o: Model, sure: bool) -> Trial
     }
 }
 
-fn converted_trial(m: Model, n: usize, k: Kept, sure: bool) -> Trial
+fn converted_trial(m: Model, n: usize, s: Sheet, k: Kept, sure: bool) -> Trial
     requires { ⌜ n ≤ 15 ⌝ }
 {
+    if !fits(s, k) {
+        return no_answer(false);
+    }
     let r = reading_of(k);
     let v = r.verdict;
     let o = r.model;
@@ -144,20 +146,26 @@ fn is_cut(m: Model, n: usize, s: Sheet) -> bool
     is_refused(converted(s, len - 1, ROOM), 2, last_line(m, n))
 }
 
-fn trial_of(m: Model, n: usize, s: Sheet, f: Fate, sure: bool) -> Trial
+fn reply_trial(m: Model, n: usize, s: Sheet, f: Fate, sure: bool) -> Trial
     requires { ⌜ n ≤ 15 ⌝ }
 {
     let k = converted(s, s.len, ROOM);
     let r = f.reason;
-    if hinders(r) {
-        return no_answer(is_hindered(s, k, f.item) && is_cut(m, n, s));
+    match r {
+        Reason::NoBlank => no_answer(is_same(s, k) && fits(s, k)),
+        Reason::Harmless => converted_trial(m, n, s, k, sure),
+        Reason::NothingLeft => no_answer(is_hindered(s, k, f.item)),
+        Reason::Crossing => no_answer(is_hindered(s, k, f.item)),
+        Reason::Named => no_answer(is_hindered(s, k, f.item)),
     }
-    let t = match r {
-        Reason::NoBlank => no_answer(is_same(s, k)),
-        _ => converted_trial(m, n, k, sure),
-    };
+}
+
+fn trial_of(m: Model, n: usize, s: Sheet, f: Fate, sure: bool) -> Trial
+    requires { ⌜ n ≤ 15 ⌝ }
+{
+    let t = reply_trial(m, n, s, f, sure);
     Trial {
-        agrees: t.agrees && fits(s, k) && is_cut(m, n, s),
+        agrees: t.agrees && is_cut(m, n, s),
         met: t.met,
         kind: t.kind,
     }
@@ -239,7 +247,11 @@ fn needing(m: Model, item: usize, cover: usize) -> Model {
 // A need's number moves down; an item that stays has bounds that cross; a ray beside a blank item; weight or price alone makes no item blank.
 fn show_converted() {
     let open = make::loose(make::item(0, 0, Bound::Absent, Bound::At(7)));
-    show(needing(make::first_of(20, 3, make::held(9, 13, 0, 2), open, make::held(3, 2, 0, 5)), 3, 1));
+    show(needing(
+        make::first_of(20, 3, make::held(9, 13, 0, 2), open, make::held(3, 2, 0, 5)),
+        3,
+        1,
+    ));
     show(make::two(4, make::free(0, 0), make::held(1, 1, 1, 0)));
     show(make::two(4, make::from_zero(-1, 1), make::held(0, 0, -2, 2)));
     show(make::two(4, make::held(0, 1, 0, 1), make::held(1, 0, 0, 1)));
