@@ -133,6 +133,7 @@ fn hinders(r: Reason) -> bool {
 // How many of the first n items are blank.
 pub fn blanks_among(m: Model, n: usize) -> usize
     requires { ⌜ n ≤ 16 ⌝ }
+    ensures { λ r. ⌜ r ≤ n ⌝ }
 {
     let items = m.items;
     let mut found: usize = 0;
@@ -140,7 +141,7 @@ pub fn blanks_among(m: Model, n: usize) -> usize
     while k < n {
         let x = items[k];
         k += 1;
-        if is_blank(x) && found < k {
+        if is_blank(x) {
             found += 1;
         }
     }

@@ -173,12 +173,18 @@ fn trial_of(m: Model, n: usize, s: Sheet, f: Fate, sure: bool) -> Trial
 
 // ---- printing
 
+fn put_slash(out: &mut [u8], at: usize) {
+    if at < out.len() {
+        if out[at] == b'\n' {
+            out[at] = b'/';
+        }
+    }
+}
+
 fn put_on_one_line(out: &mut [u8]) {
     let mut i: usize = 0;
     while i < out.len() {
-        if out[i] == b'\n' {
-            out[i] = b'/';
-        }
+        put_slash(out, i);
         i += 1;
     }
 }
@@ -337,7 +343,10 @@ fn counted(c: Counts, r: Reason, moves: bool, behind: bool, t: Trial) -> Counts 
 // Whether a blank item stands before the one that hinders.
 fn is_behind(m: Model, f: Fate) -> bool {
     let item = f.item;
-    if item == 0 || 16 < item {
+    if item == 0 {
+        return false;
+    }
+    if 16 < item {
         return false;
     }
     0 < blanks_among(m, item - 1)

@@ -49,7 +49,10 @@ fn with_prices(m: Model) -> Model {
 
 // Whether a line is that of a blank item.
 fn is_blank_line(m: Model, line: u64) -> bool {
-    if line < 4 || 19 < line {
+    if line < 4 {
+        return false;
+    }
+    if 19 < line {
         return false;
     }
     let k = line as usize - 4;
@@ -57,9 +60,15 @@ fn is_blank_line(m: Model, line: u64) -> bool {
     k < m.count && is_blank(x)
 }
 
-// The byte before a place becomes 0.
-fn put_zero_before(out: &mut [u8], at: usize) {
-    if 0 < at && at <= out.len() {
+// The byte before a place becomes 0, if it is to.
+fn put_zero_before(out: &mut [u8], at: usize, due: bool) {
+    if !due {
+        return;
+    }
+    if at == 0 {
+        return;
+    }
+    if at <= out.len() {
         out[at - 1] = b'0';
     }
 }
@@ -69,9 +78,7 @@ fn put_blank_prices(out: &mut [u8], m: Model) {
     let mut i: usize = 0;
     while i < out.len() {
         let ends = out[i] == b'\n';
-        if ends && is_blank_line(m, line) {
-            put_zero_before(out, i);
-        }
+        put_zero_before(out, i, ends && is_blank_line(m, line));
         line = one_more(line, ends);
         i += 1;
     }
