@@ -14,10 +14,10 @@ use trials::outcome::Outcome;
 use trials::outcome::shut_problem;
 ghost use Prim.Native.Nat.{_≤_};
 
-const REACH: i64 = 12;
+const REACH: i64 = 20;
 
 // No weight is farther from zero than 4, so that unbounded steps need not be longer.
-const FARTHER: i64 = 16;
+const FARTHER: i64 = 24;
 
 fn best_within(m: Model, n: usize, reach: i64) -> Best
     requires { ⌜ n ≤ 15 ⌝ }
