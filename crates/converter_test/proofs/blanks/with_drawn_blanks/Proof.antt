@@ -1,0 +1,50 @@
+-- The measure is the places left.
+use Prim.Native.Nat.{_≤_, _-_}
+use borrow.Author.Needs.{needs}
+use Rattle.converter_test.proofs.blanks.with_drawn_blanks.Statement.{statement}
+use Rattle.converter_test.proofs.blanks.with_drawn_blanks.Tie as tie
+
+abbrev Inv-loop : tie.InvT-loop
+Inv-loop state p₀ now₀ k₀ p now k = k ≤ 16
+
+abbrev μ-loop : tie.MeasureT-loop
+μ-loop state p₀ now₀ k₀ p now k = 16 - k
+
+loop-holds : tie.Need-loop-holds Inv-loop μ-loop
+loop-holds c = search needs
+
+next-requires : tie.Need-next-requires Inv-loop μ-loop
+next-requires c κs = search needs
+
+below-requires : tie.Need-below-requires Inv-loop μ-loop
+below-requires c κs = search needs
+
+with-weightless-requires : tie.Need-with-weightless-requires Inv-loop μ-loop
+with-weightless-requires c κs = search needs
+
+add-k : tie.Need-add-k Inv-loop μ-loop
+add-k c = search needs
+
+loop-less : tie.Need-loop-less Inv-loop μ-loop
+loop-less c = search needs
+
+loop-again : tie.Need-loop-again Inv-loop μ-loop
+loop-again c = search needs
+
+returns : tie.Need-returns Inv-loop μ-loop
+returns c = search needs
+
+pub with-drawn-blanks-spec : {M : Type 1} → statement M
+with-drawn-blanks-spec =
+    tie.close
+    (tie.spec
+    Inv-loop
+    μ-loop
+    loop-holds
+    next-requires
+    below-requires
+    with-weightless-requires
+    add-k
+    loop-less
+    loop-again
+    returns)
