@@ -1,6 +1,7 @@
 -- A sheet on which a need moves the answer: a guard that the theorems say something.
 --   sheet       room 3, items (1, 1, 0 .. 3), (1, 1, 0 .. 3), (1, -5, 0 .. 1) as (weight, price, bounds); the second needs the third
--- The plain first best point 0, 3, 0 breaks the need; the best with it is 3, 0, 0, in the case without the second item: the other is worth -3 at most.
+-- answer-is-best (end theorem): the best point with the need is 3, 0, 0, in the case without the second item; the other is worth -3 at most. The plain
+-- first best point 0, 3, 0 breaks the need.
 use mathlib.Core.Path.{_≡_, refl, subst}
 use mathlib.Core.List.{List, [], _∷_}
 use Prim.Native.Nat.{ℕ, zero, suc}
