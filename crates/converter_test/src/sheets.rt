@@ -5,6 +5,8 @@ use crate::blanks::with_weightless;
 use converter::convert;
 use model::Model;
 use text::Listed;
+use trials::bytes::first;
+use trials::bytes::same_from;
 use trials::count::one_more;
 use writer::write_sheet;
 ghost use mathlib.Core.Path.{_≡_};
@@ -103,11 +105,6 @@ pub fn sheet_of(m: Model) -> Sheet {
 
 // ---- the converter's reply
 
-// The first n bytes.
-pub fn first(s: &[u8], n: usize) -> &[u8] {
-    if s.len() < n { &s[0..0] } else { &s[..n] }
-}
-
 fn convert_in_part(s: &[u8], out: &mut [u8], size: usize) -> Listed {
     if out.len() < size {
         return convert(s, out);
@@ -127,20 +124,6 @@ pub fn converted(s: Sheet, n: usize, size: usize) -> Kept {
 }
 
 // ---- comparing
-
-fn same_from(a: &[u8], b: &[u8], from: usize) -> bool {
-    let mut i = from;
-    while i < a.len() {
-        if b.len() <= i {
-            return false;
-        }
-        if a[i] != b[i] {
-            return false;
-        }
-        i += 1;
-    }
-    true
-}
 
 fn same_bytes(k: Kept, o: Kept) -> bool {
     let a = k.bytes;

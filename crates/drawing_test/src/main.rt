@@ -1,14 +1,9 @@
 // The first sheet of the test load for three seeds that draw weight 0 and price 0 for item 1 (paper 02, request 9): its price is 1, and what is
 // drawn behind it is what it was. The stored output was computed by a program that shares no code.
 use text::Listed;
+use trials::bytes::first;
 use trials::print::print;
 use writer::write_sheet;
-
-fn print_start(bytes: &[u8], n: usize) {
-    if n <= bytes.len() {
-        print(&bytes[..n]);
-    }
-}
 
 fn print_first(seed: u64) {
     let d = drawing::draw_problem(seed);
@@ -16,7 +11,7 @@ fn print_first(seed: u64) {
     let mut out = text::space();
     let w = write_sheet(m, &mut out);
     if let Listed::Written(n) = w {
-        print_start(&out, n);
+        print(first(&out, n));
     }
 }
 

@@ -16,6 +16,8 @@ use model::Need;
 use model::Needs;
 use model::setters::with_needs;
 use text::Listed;
+use trials::bytes::first;
+use trials::bytes::same_from;
 use trials::count::one_more;
 use trials::make::record_of;
 use trials::print::print;
@@ -34,26 +36,12 @@ fn print_refusal(refusal: Refusal) {
     print_field(refusal.line);
 }
 
-fn same_bytes(a: &[u8], b: &[u8]) -> bool {
-    let mut i: usize = 0;
-    while i < a.len() {
-        if b.len() <= i {
-            return false;
-        }
-        if a[i] != b[i] {
-            return false;
-        }
-        i += 1;
-    }
-    true
-}
-
 // Whether the writer gives the very bytes for what was read.
 fn comes_back(sheet: &[u8]) -> bool {
     let mut buffer = io::large_buffer();
     let told = writer::rewrite_sheet(sheet, &mut buffer);
     match told {
-        Listed::Written(n) => n == sheet.len() && same_bytes(sheet, &buffer),
+        Listed::Written(n) => n == sheet.len() && same_from(sheet, &buffer, 0),
         Listed::Refused(_) => false,
     }
 }
@@ -112,11 +100,6 @@ fn report(k: u64, sheet: &[u8], line: u64) {
     print_number(k);
     print_reading(sheet);
     print_line(sheet, line);
-}
-
-// The first n bytes.
-fn first(s: &[u8], n: usize) -> &[u8] {
-    if s.len() < n { &s[0..0] } else { &s[..n] }
 }
 
 // Writes the record of the row at a place.

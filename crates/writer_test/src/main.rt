@@ -14,6 +14,7 @@ use model::naming::no_need;
 use model::setters;
 use sheet::Reading;
 use text::Listed;
+use trials::bytes::same_from;
 use trials::count::one_more;
 use trials::count::print_count;
 use trials::draw::DrawnProblem;
@@ -57,20 +58,6 @@ fn written(m: Model, size: usize) -> Kept {
 }
 
 // ---- comparing
-
-fn same_from(a: &[u8], b: &[u8], from: usize) -> bool {
-    let mut i = from;
-    while i < a.len() {
-        if b.len() <= i {
-            return false;
-        }
-        if a[i] != b[i] {
-            return false;
-        }
-        i += 1;
-    }
-    true
-}
 
 fn same_bytes(k: Kept, o: Kept) -> bool {
     let a = k.bytes;

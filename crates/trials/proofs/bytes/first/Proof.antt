@@ -1,10 +1,10 @@
--- `converter_test::sheets::first` lends no byte beyond the end.
+-- `trials::bytes::first` lends no byte beyond the end.
 use mathlib.Core.Path.{sym}
 use native.Mathlib.Omega.{arith}
 use lib.Seq.{length-take-le}
 use borrow.Author.Needs.{needs}
-use Rattle.converter_test.proofs.sheets.first.Statement.{statement}
-use Rattle.converter_test.proofs.sheets.first.Tie as tie
+use Rattle.trials.proofs.bytes.first.Statement.{statement}
+use Rattle.trials.proofs.bytes.first.Tie as tie
 
 sub-result : tie.Need-sub-result
 sub-result c = search needs

@@ -1,9 +1,9 @@
--- `writer_test::same_from` reads no byte beyond either end.
+-- `trials::bytes::same_from` reads no byte beyond either end.
 use Prim.Native.Nat.{_-_}
 use lib.ListN.{length}
 use borrow.Author.Needs.{needs}
-use Rattle.writer_test.proofs.same_from.Statement.{statement}
-use Rattle.writer_test.proofs.same_from.Tie as tie
+use Rattle.trials.proofs.bytes.same_from.Statement.{statement}
+use Rattle.trials.proofs.bytes.same_from.Tie as tie
 
 abbrev Inv-loop : tie.InvT-loop
 Inv-loop a b from i₀ i = Unit {0}
