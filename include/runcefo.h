@@ -18,8 +18,8 @@
 #include <stdint.h>
 
 #define RUNCEFO_VERSION_MAJOR 0
-#define RUNCEFO_VERSION_MINOR 9
-#define RUNCEFO_VERSION "0.9"
+#define RUNCEFO_VERSION_MINOR 10
+#define RUNCEFO_VERSION "0.10"
 
 /* The longest sheet that is not refused unread, the bytes that hold every reply (as charge_room says), and the stack of a call. */
 #define CHARGE_SHEET 4096
