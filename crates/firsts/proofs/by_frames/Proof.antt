@@ -56,7 +56,7 @@ abbrev wholed : tie.After-lead-of Inv-loop μ-loop → tie.After-wholes Inv-loop
 wholed k = k .before .before
 
 abbrev lossed : tie.After-lead-of Inv-loop μ-loop → tie.After-loss-of Inv-loop μ-loop
-lossed k = k .before .before .before .before
+lossed k = wholed k .before .before
 
 abbrev ordered : tie.After-lead-of Inv-loop μ-loop → tie.After-tied Inv-loop μ-loop
 ordered k = lossed k .before .before

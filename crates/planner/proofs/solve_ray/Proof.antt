@@ -21,7 +21,7 @@ use Rattle.planner.proofs.solve_ray.Tie as tie
 
 -- the test of the point, and the start, from where nothing is found yet
 abbrev asked : tie.After-nothing-yet → tie.After-first-broken
-asked c = c .before .before .before .before
+asked c = let n = c .before .before in n .before .before
 
 abbrev start : tie.After-nothing-yet → tie.Start
 start c = asked c .before .before .before
