@@ -8,7 +8,7 @@ use lib.IntN.{ℤ, pos, _*ℤ_}
 use lib.Signed.{_≤ℤ_}
 use Rattle.arith.proofs.Integers.{split, zed, times-≡-back}
 use Rattle.arith.specs.Fractions.{Frac, int, _≤ᶠ_}
-use Rattle.knapsack.proofs.Common.{KeepsMarkᴰ, KeepsLowerᴰ, KeepsUpperᴰ, Keepsᴰ, weighsᴰ, valueᴰ, Feasibleᴰ, Optimalᴰ}
+use Rattle.knapsack.proofs.Common.{KeepsMarkᴰ, KeepsLowerᴰ, KeepsUpperᴰ, Keepsᴰ, weighsᴰ, Feasibleᴰ, Optimalᴰ}
 use Rattle.knapsack.specs.Meaning.{Instance, Point, KeepsMark, KeepsLower, KeepsUpper, Keeps, weighs, value, Feasible, Optimal, Infeasible}
 use Rattle.knapsack.specs.declared.Bound.{Bound}
 use Rattle.knapsack.specs.declared.Bound.the-variants.{Absent, At}
@@ -65,10 +65,6 @@ bridge-feasible s D x N d h = (
       above = over-lower d (h k l) (s .item k .lower) .1 (p .above);
       below = over-upper d (h k l) (s .item k .upper) .1 (p .below);
     }
-
-pub bridge-value : (s : Instance) (D : ℕ) (x y : Point) (N M : ℕ → ℤ) → 1 ≤ D → Reads s D x N → Reads s D y M →
-    (value s x ≤ᶠ value s y) ↔ (valueᴰ s N ≤ℤ valueᴰ s M)
-bridge-value s D x y N M d h k = over-≤ d (over-total D (s .count) x N h (λ j. s .item j .price)) (over-total D (s .count) y M k (λ j. s .item j .price))
 
 -- ---- optimal, over integers: no feasible numerators over any D are worth more
 
