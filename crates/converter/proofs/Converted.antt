@@ -1,8 +1,8 @@
 -- What a converted sheet is.
 --   asked m          the record as the solver's instance
--- unhindered, written: where 15 is not told, the blank items can be left out, and what remains is accepted. agree-sym: records agree both ways.
--- converted-read: the reader reads a converted sheet. converted-gives: the meaning gives it the kind and the value that it gives the old one.
--- converted-replies: so the planner's reply to it shows them.
+-- unhindered, written: where 15 is not told, the blank items can be left out, and what remains is accepted. dropped-tidy: and is as the reader leaves it.
+-- converted-fair, converted-short, converted-read: a converted sheet is that of an accepted record, at most so long, and is read as that record.
+-- converted-gives: the meaning gives it the kind and the value that it gives the old one. converted-replies: so the planner's reply to it shows them.
 -- unblanked-sheet: a sheet that the reader accepts comes back as it is.
 use mathlib.Core.Bool.{Bool, true, false, cond}
 use mathlib.Core.List.{List}
@@ -12,6 +12,7 @@ use Prim.Native.Nat.{ℕ, _+_, _≤_}
 use native.Mathlib.Omega.{arith}
 use borrow.Author.Tests.{ltb-false, le-ltb}
 use lib.Dec.{ltb}
+use lib.ListN.{length}
 use Rattle.arith.specs.declared.Fraction.{Fraction}
 use Rattle.knapsack.specs.Meaning.{Instance, instanceOf}
 use Rattle.knapsack.specs.Ranges.{blank}
@@ -22,34 +23,25 @@ use Rattle.knapsack.specs.declared.Verdict.the-variants.{Accepted, Refused}
 use Rattle.model.specs.declared.Blanks.the-variants as blanks
 use Rattle.model.specs.declared.Model.{Model}
 use Rattle.model.specs.Promises.{Planned}
-use Rattle.model.specs.Records.{plainOf, needsOf, verdict, Agree, AdmissibleBy, Admissible}
+use Rattle.model.specs.Records.{plainOf, needsOf, verdict, AdmissibleBy, Admissible}
 use Rattle.model.specs.Refusals as refusal
-use Rattle.model.proofs.BeyondCount.{beyond-planned}
-use Rattle.model.proofs.Records.{accepted, admitted, both-accept}
+use Rattle.model.proofs.Records.{unfaulted, accepted, admitted, both-accept}
 use Rattle.lines.specs.Places.{refusalOn}
 use Rattle.sheet.specs.declared.Reading.{Reading}
+use Rattle.sheet.specs.Printing.{Tidy}
 use Rattle.sheet.specs.Reading.{readSheet}
+use Rattle.sheet.proofs.Lengths.{printing-short}
 use Rattle.sheet.proofs.Sections.{no-refusal}
 use Rattle.sheet.proofs.Sheets.{accepted-sheet, sheet-accepted}
-use Rattle.writer.specs.Writing.{tidied}
-use Rattle.writer.proofs.Roundtrip.{Sized, agree-text, tidied-agrees, written-read}
+use Rattle.writer.proofs.Roundtrip.{agree-text}
 use Rattle.dropping.specs.Dropping.{kept, dropped, hindrance, Droppable}
 use Rattle.dropping.specs.Gives.{Gives}
-use Rattle.dropping.proofs.Dropped.{droppable, line-length, dropped-admissible, dropped-gives, dropped-planned, unblanked, unblanked-free}
-use Rattle.dropping.proofs.Kept.{length-packed}
+use Rattle.dropping.proofs.Dropped.{droppable, line-length, line-behind, dropped-admissible, dropped-gives, dropped-planned, unblanked, unblanked-free}
+use Rattle.dropping.proofs.Kept.{length-packed, packed-behind}
 use Rattle.converter.specs.Converting.{keptReading, hindered, convertible, converted}
 
 abbrev asked : Model → Instance
 asked m = instanceOf (plainOf m)
-
-agree-sym : (m o : Model) → Agree m o → Agree o m
-agree-sym m o e = record {
-  count = sym (e .count);
-  capacity = sym (e .capacity);
-  items = λ k l. sym (e .items k (omega (arith, e .count)));
-  need-count = sym (e .need-count);
-  needs = λ j l. sym (e .needs j (omega (arith, e .need-count)));
-}
 
 -- ---- the record that is written
 
@@ -61,13 +53,16 @@ unhindered m a h = droppable m (a .figures .some-items) (go (ltb (hindrance m) (
     go true e h = no-refusal h
     go false e h = ltb-false (hindrance m) (m .count) e
 
-pub written : (m : Model) → AdmissibleBy blanks.Kept m → hindered m ≡ Accepted → verdict (dropped m) ≡ Accepted
+written : (m : Model) → AdmissibleBy blanks.Kept m → hindered m ≡ Accepted → verdict (dropped m) ≡ Accepted
 written m a h = admitted (dropped m) (dropped-admissible m a (unhindered m a h))
 
-dropped-sized : (m : Model) → Sized (dropped m)
-dropped-sized m = record {
+-- unused places are as the reader leaves them
+dropped-tidy : (m : Model) → Tidy (dropped m)
+dropped-tidy m = record {
   places = length-packed (kept m) blank (m .items) (m .count);
+  unused = packed-behind (kept m) blank (m .items) (m .count);
   lines = line-length (kept m) (m .needs .lines) (m .needs .count);
+  spare = line-behind (kept m) (m .needs .lines) (m .needs .count);
 }
 
 -- ---- the sheet
@@ -82,22 +77,30 @@ module _ (s : List ℕ) (h : convertible s ≡ Accepted) where
   old-admissible : AdmissibleBy blanks.Kept old
   old-admissible = accepted old (accepted-sheet s old (ap (λ (v : Verdict). record { verdict = v; model = old }) (parts .0)) .fair)
 
+  pub converted-fair : verdict (dropped old) ≡ Accepted
+  converted-fair = written old old-admissible (parts .1)
+
+  -- End theorem: it is at most so long, so a buffer of `room` bytes is never too short.
+  pub converted-short : length (converted s) ≤ 1275
+  converted-short = printing-short (dropped old) (unfaulted (dropped old) converted-fair)
+
   -- End theorem: the reader reads a converted sheet.
-  pub converted-read : readSheet (converted s) ≡ record { verdict = Accepted; model = tidied (dropped old) }
-  converted-read = written-read (dropped old) (dropped-sized old) (written old old-admissible (parts .1))
+  pub converted-read : readSheet (converted s) ≡ record { verdict = Accepted; model = dropped old }
+  converted-read = sheet-accepted (converted s) (dropped old) (record { fair = converted-fair; tidy = dropped-tidy old; text = refl })
+
+  abbrev new : Model
+  new = readSheet (converted s) .model
 
   -- End theorem: what the meaning gives the old sheet it gives the new one.
-  pub converted-gives : (k : Kind) (v : Fraction) →
-      Gives (asked old) (needsOf (old .needs)) k v ↔ Gives (asked (dropped old)) (needsOf (dropped old .needs)) k v
-  converted-gives = dropped-gives old old-admissible (unhindered old old-admissible (parts .1))
+  pub converted-gives : (k : Kind) (v : Fraction) → Gives (asked old) (needsOf (old .needs)) k v ↔ Gives (asked new) (needsOf (new .needs)) k v
+  converted-gives k v =
+      subst (λ (r : Reading). Gives (asked old) (needsOf (old .needs)) k v ↔ Gives (asked (r .model)) (needsOf (r .model .needs)) k v) (sym converted-read)
+      (dropped-gives old old-admissible (unhindered old old-admissible (parts .1)) k v)
 
   -- End theorem: the planner's reply to the new sheet has the kind and the value that the meaning gives the old one.
-  pub converted-replies : (b : Answer) → Planned (readSheet (converted s) .model) b → Gives (asked old) (needsOf (old .needs)) (b .kind) (b .value)
+  pub converted-replies : (b : Answer) → Planned new b → Gives (asked old) (needsOf (old .needs)) (b .kind) (b .value)
   converted-replies b p =
-      let d = dropped old in
-      let e = agree-sym d (tidied d) (tidied-agrees d (dropped-sized old) (written old old-admissible (parts .1))) in
-      let q = subst (λ (r : Reading). Planned (r .model) b) converted-read p in
-      dropped-planned old old-admissible (unhindered old old-admissible (parts .1)) b (beyond-planned (tidied d) d e b q)
+      dropped-planned old old-admissible (unhindered old old-admissible (parts .1)) b (subst (λ (r : Reading). Planned (r .model) b) converted-read p)
 
 -- End theorem: a sheet that the reader accepts, so without blank items, comes back as it is.
 pub unblanked-sheet : (s : List ℕ) → readSheet s .verdict ≡ Accepted → (convertible s ≡ Accepted) × (converted s ≡ s)

@@ -8,6 +8,7 @@ use listing::refusal_text;
 use model::Blanks;
 use model::Model;
 use model::refusals;
+use sheet::Reading;
 use sheet::read_by;
 use text::Listed;
 use text::Text;
@@ -18,12 +19,10 @@ ghost use Prim.Native.Nat.{_≤_};
 ghost use Rattle.knapsack.specs.declared.Verdict.the-variants.{Accepted};
 ghost use Rattle.model.specs.declared.Blanks.the-variants as blanks;
 ghost use Rattle.model.specs.Records.{verdictBy};
-ghost use Rattle.text.specs.Buffer.{Shows, told, filled, noted};
+ghost use Rattle.text.specs.Buffer.{Shows};
 ghost use Rattle.listing.specs.Printing.{refusedLine};
-ghost use Rattle.sheet.specs.Printing.{printing};
 ghost use Rattle.writer.specs.Writing.{onAccepted};
-ghost use Rattle.dropping.specs.Dropping.{dropped};
-ghost use Rattle.converter.specs.Converting.{hindered, convertible, converted};
+ghost use Rattle.converter.specs.Converting.{hindered, convertible, converted, conversion, cleared, Dropped, Unblanked};
 
 // Refusal 15, told at the line of the item that stands against it.
 fn check_blanks(m: Model) -> Verdict
@@ -40,56 +39,64 @@ fn check_blanks(m: Model) -> Verdict
     Verdict::Accepted
 }
 
-fn convert_model(m: Model, out: &mut [u8]) -> Listed
+// The record without its blank items, if they can go.
+fn without_blanks(m: Model) -> Reading
     requires { ⌜ verdictBy blanks.Kept m ≡ Accepted ⌝ }
-    ensures { λ r. ⌜ r ≡ onAccepted (hindered m) noted (told (printing (dropped m)) (now (out .entry))) ⌝ }
-    ensures { λ r. ⌜ now (out .exit) ≡ onAccepted (hindered m) (λ f. now (out .entry)) (filled (printing (dropped m)) (now (out .entry))) ⌝ }
+    ensures { λ r. ⌜ Dropped m r ⌝ }
 {
     let v = check_blanks(m);
     if let Verdict::Refused(f) = v {
-        return Listed::Refused(f);
+        return Reading {
+            verdict: Verdict::Refused(f),
+            model: m,
+        };
     }
-    write_sheet(drop_blanks(m), out)
+    let model = drop_blanks(m);
+    Reading {
+        verdict: Verdict::Accepted,
+        model: model,
+    }
+}
+
+// The record of a sheet without its blank items, or why there is none.
+fn unblanked(s: &[u8]) -> Reading
+    ensures { λ r. ⌜ Unblanked (now (s .entry)) r ⌝ }
+{
+    let r = read_by(s, Blanks::Kept);
+    let v = r.verdict;
+    let m = r.model;
+    if let Verdict::Refused(f) = v {
+        return Reading {
+            verdict: Verdict::Refused(f),
+            model: m,
+        };
+    }
+    without_blanks(m)
 }
 
 // The sheet without its blank items at the start of a lent buffer; the bytes behind it stay. A refusal changes no byte.
 pub fn convert(s: &[u8], out: &mut [u8]) -> Listed
-    ensures { λ r. ⌜ r ≡ onAccepted (convertible (now (s .entry))) noted (told (converted (now (s .entry))) (now (out .entry))) ⌝ }
-    ensures {
-      λ r. ⌜ now (out .exit) ≡ onAccepted (convertible (now (s .entry))) (λ f. now (out .entry)) (filled (converted (now (s .entry))) (now (out .entry))) ⌝
-    }
+    ensures { λ r. ⌜ r ≡ conversion (now (s .entry)) (now (out .entry)) ⌝ }
+    ensures { λ r. ⌜ now (out .exit) ≡ cleared (now (s .entry)) (now (out .entry)) ⌝ }
 {
-    let r = read_by(s, Blanks::Kept);
+    let r = unblanked(s);
     let v = r.verdict;
     let m = r.model;
     if let Verdict::Refused(f) = v {
         return Listed::Refused(f);
     }
-    convert_model(m, out)
+    write_sheet(m, out)
 }
 
-// ---- by value, with the line of a refusal in its place
-
-fn model_text(m: Model) -> Text
-    requires { ⌜ verdictBy blanks.Kept m ≡ Accepted ⌝ }
-    ensures { λ r. ⌜ Shows (onAccepted (hindered m) refusedLine (printing (dropped m))) r ⌝ }
-{
-    let v = check_blanks(m);
-    if let Verdict::Refused(f) = v {
-        return refusal_text(f);
-    }
-    sheet_text(drop_blanks(m))
-}
-
-// What the program prints.
+// What the program prints: the same by value, with the line of a refusal in its place.
 pub fn convert_text(s: &[u8]) -> Text
     ensures { λ r. ⌜ Shows (onAccepted (convertible (now (s .entry))) refusedLine (converted (now (s .entry)))) r ⌝ }
 {
-    let r = read_by(s, Blanks::Kept);
+    let r = unblanked(s);
     let v = r.verdict;
     let m = r.model;
     if let Verdict::Refused(f) = v {
         return refusal_text(f);
     }
-    model_text(m)
+    sheet_text(m)
 }

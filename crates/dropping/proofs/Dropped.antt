@@ -2,7 +2,7 @@
 -- dropped-none, rank-next, dropped-next: an item more. lines-next: a line more. line-numbers: a line has item numbers.
 -- named-more, named-found, none-named: a line of needs more, and what the search for a name tells.
 -- droppable, undisturbed: the search finds no hindrance exactly where there is none.
--- line-length, line-at, dropped-item, dropped-each, dropped-need, dropped-line: what stands in it.
+-- line-length, line-at, line-behind, dropped-item, dropped-each, dropped-need, dropped-line: what stands in it.
 -- drops-blanks: it is the problem with idle items left out, and the needs moved along.
 -- dropped-gives: the meaning gives it the kind and the value that it gives the record, blank items included. dropped-planned: so the planner's reply to it
 -- shows what the meaning gives the old record.
@@ -41,7 +41,7 @@ use Rattle.model.proofs.NeedLines.{before-next, needs-in, needs-from}
 use Rattle.model.proofs.Records.{admitted}
 use Rattle.model.proofs.Tests.{neither}
 use Rattle.dropping.proofs.Drops.{Idle}
-use Rattle.dropping.proofs.Kept.{rank-strict, rank-injective, rank-most, rank-all, at-rank, Source, packed-at, first-false, first-all}
+use Rattle.dropping.proofs.Kept.{rank-strict, rank-injective, rank-most, rank-all, at-rank, Source, filled-with, packed-at, first-false, first-all}
 use Rattle.dropping.proofs.Needed.{movedNeed, Stays, DropsNeeds, drops-gives, answers-give}
 use Rattle.dropping.specs.Dropping.{kept, renumber, renumbered, linesTo, droppedTo, dropped, appended, appendedUnlessBlank}
 use Rattle.dropping.specs.Dropping.{namesItem, namedIn, hinders, firstHindered, hindrance, Droppable}
@@ -156,6 +156,12 @@ module _ (keep : ℕ → Bool) (l : List Need) where
           → getD (set (linesTo keep l t) t new) j noNeed ≡ renumbered keep (getD l j noNeed)
       go (yes e) ih = rw e (getD-set-same (linesTo keep l t) t new noNeed (omega (arith, line-length t)))
       go (no e) ih = getD-set-other (linesTo keep l t) t j new noNeed e ∙ ih (omega arith)
+
+  pub line-behind : (t j : ℕ) → t ≤ j → getD (linesTo keep l t) j noNeed ≡ noNeed
+  unfolding linesTo
+  line-behind zero j h = filled-with 16 noNeed j
+  line-behind (suc t) j h =
+      getD-set-other (linesTo keep l t) t j (renumbered keep (getD l t noNeed)) noNeed (λ r. omega arith) ∙ line-behind t j (omega arith)
 
 not-blank : (b : Bool) → not b ≡ true → b ≡ false
 not-blank true h = absurd (impossible h)

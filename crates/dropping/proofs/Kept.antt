@@ -3,7 +3,7 @@
 -- places; rank-all: as fast where all are kept.
 --   Source n j       a kept place of the first n that goes to j
 -- place-rank, at-rank: ranks below the last are those of kept places, each of one.
--- length-packed, packed-at: a packed list, and what stands in it.
+-- filled-with: a list of one thing. length-packed, packed-at, packed-behind: a packed list, what stands in it and behind.
 -- first-here, first-later, first-none: a search for the first place; first-false: none before it passes; first-all: where none does it goes to the end.
 use mathlib.Core.Bool.{Bool, true, false, cond}
 use mathlib.Core.List.{List}
@@ -13,10 +13,17 @@ use native.Mathlib.Omega.{arith}
 use native.Mathlib.Decide.{ℕ-discrete, decLt}
 use borrow.Author.Tests.{eq-eqb, ne-eqb}
 use lib.Dec.{eqb}
-use lib.ListN.{length, getD, set, replicate, length-set, length-replicate}
+use lib.ListN.{length, getD, set, replicate, length-set, length-replicate, getD-replicate, List·getD-eq-default}
 use lib.Seq.{getD-set-same, getD-set-other}
 use Rattle.arith.specs.Sum.{Each}
 use Rattle.dropping.specs.Kept.{rank, place, packed, firstFrom}
+
+pub filled-with : {A : Type 0} (n : ℕ) (d : A) (k : ℕ) → getD (replicate n d) k d ≡ d
+filled-with n d k = go (decLt k n)
+  where
+    go : Dec (k < n) → getD (replicate n d) k d ≡ d
+    go (yes h) = getD-replicate n k d d h
+    go (no h) = List·getD-eq-default (replicate n d) d {n = k} (omega (arith, length-replicate n d))
 
 module _ (keep : ℕ → Bool) where
   pub rank-kept : (k : ℕ) → keep k ≡ true → rank keep (suc k) ≡ suc (rank keep k)
@@ -148,6 +155,17 @@ module _ (keep : ℕ → Bool) where
             rw (packed-kept n f) (getD-set-other (packed d keep l n) (rank keep n) (rank keep k) (getD l n d) d
             (λ r. omega (arith, rank-strict n k (omega arith) e)) ∙ ih (omega arith))
         go (no c) false f ih = rw (packed-left n f) (ih (omega arith))
+
+    -- behind the kept ones d stays
+    pub packed-behind : (n j : ℕ) → rank keep n ≤ j → getD (packed d keep l n) j d ≡ d
+    packed-behind zero j h = rw packed-none (filled-with 16 d j)
+    packed-behind (suc n) j h = go (keep n) refl (packed-behind n j)
+      where
+        go : (b : Bool) → keep n ≡ b → (rank keep n ≤ j → getD (packed d keep l n) j d ≡ d) → getD (packed d keep l (suc n)) j d ≡ d
+        go true e ih =
+            rw (packed-kept n e) (getD-set-other (packed d keep l n) (rank keep n) j (getD l n d) d (λ r. omega (arith, rank-kept n e))
+            ∙ ih (omega (arith, rank-kept n e)))
+        go false e ih = rw (packed-left n e) (ih (omega (arith, rank-left n e)))
 
 -- ---- the first place that passes a test
 

@@ -5,8 +5,6 @@
 --   listedVerdict w    what is told of a text, as a verdict
 --   saved s b          the verdict of rewriting the sheet s into the buffer b: that of s, or refusal 11 where b is shorter
 --   left s b           the buffer afterwards: the sheet and the bytes behind it, or the buffer as it was
---   conversion s b     what is told of converting the sheet s into the buffer b: the length, or the refusal
---   cleared s b        the buffer afterwards: the sheet without its blank items and the bytes behind it, or the buffer as it was
 --   WorkAs f v m n     the work for the record m with that verdict is n, as f counts it; 0 where it is refused
 --   Steps r n, Cells r n
 --                      n steps are those of the searches for what was read, of at most 1,000 each; n cells are those that the scales write for it
@@ -27,7 +25,6 @@ use Rattle.replies.specs.Replies.{SheetLists}
 use Rattle.sheet.specs.declared.Reading.{Reading}
 use Rattle.sheet.specs.Reading.{readSheet}
 use Rattle.writer.specs.Writing.{onAccepted}
-use Rattle.converter.specs.Converting.{convertible, converted}
 
 abbrev pub toldNumber : Verdict → ℕ
 toldNumber Accepted = 0
@@ -50,12 +47,6 @@ saved s b = listedVerdict (onAccepted (readSheet s .verdict) noted (told s b))
 
 abbrev pub left : List ℕ → List ℕ → List ℕ
 left s b = onAccepted (readSheet s .verdict) (λ f. b) (filled s b)
-
-abbrev pub conversion : List ℕ → List ℕ → Listed
-conversion s b = onAccepted (convertible s) noted (told (converted s) b)
-
-abbrev pub cleared : List ℕ → List ℕ → List ℕ
-cleared s b = onAccepted (convertible s) (λ f. b) (filled (converted s) b)
 
 abbrev pub WorkAs : (Solved → ℕ) → Verdict → Model → ℕ → Type 0
 WorkAs f Accepted m n = (r : Solved) × ((SolvesNeeds 1000 (plainOf m) (needsOf (m .needs)) r × NeedsTake 1000 (plainOf m) (m .needs) r) × (n ≡ f r))

@@ -13,24 +13,13 @@ use text::Listed;
 use text::ROOM;
 use writer::rewrite_sheet;
 ghost use mathlib.Core.Path.{_≡_};
+ghost use Rattle.converter.specs.Converting.{conversion, cleared};
 ghost use Rattle.knapsack.specs.declared.Verdict.the-variants.{Accepted};
 ghost use Rattle.listing.specs.Printing.{room};
 ghost use Rattle.model.specs.Records.{plainOf};
 ghost use Rattle.planner.specs.Branching.{Needed};
 ghost use Rattle.sheet.specs.Reading.{readSheet};
-ghost use Rattle.runcefo.specs.Entries.{
-  toldNumber,
-  toldLine,
-  lengthOf,
-  listedVerdict,
-  Plans,
-  Steps,
-  Cells,
-  saved,
-  left,
-  conversion,
-  cleared,
-};
+ghost use Rattle.runcefo.specs.Entries.{toldNumber, toldLine, lengthOf, listedVerdict, Plans, Steps, Cells, saved, left};
 
 // 01's number of a refusal, 0 where there is none.
 fn told_number(v: Verdict) -> u64
@@ -72,7 +61,7 @@ fn listed_verdict(w: Listed) -> Verdict
     }
 }
 
-// The steps of the searches, and the cells that the scales write where one has not ended.
+// The steps of the searches, and the cells that the scales write.
 pub struct Work {
     pub steps: u64,
     pub cells: u64,
@@ -187,7 +176,7 @@ pub extern "C" fn charge_steps(sheet: &[u8]) -> u64
     w.steps
 }
 
-// The cells that the scales write for a sheet; none where its searches end, or where there are none.
+// The cells that the scales write for a sheet; none where every search ends and no first point is owed.
 #[no_mangle]
 pub extern "C" fn charge_cells(sheet: &[u8]) -> u64
     ensures { λ r. ⌜ Cells (readSheet (now (sheet .entry))) r ⌝ }

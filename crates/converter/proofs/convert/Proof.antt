@@ -1,30 +1,24 @@
--- `converter::convert` meets its contract: what is read with its blank items is accepted, but for them.
-use mathlib.Core.Path.{_≡_, sym, ap, _∙_}
+-- `converter::convert` meets its contract: what remains of the record is accepted, so it is written.
+use mathlib.Core.Path.{_≡_, sym, _∙_}
 use Rattle.knapsack.specs.declared.Verdict.the-variants.{Accepted}
-use Rattle.sheet.specs.declared.Reading.{Reading}
-use Rattle.sheet.proofs.Sheets.{accepted-sheet}
-use Rattle.converter.specs.Converting.{keptReading}
+use Rattle.converter.specs.Converting.{convertible}
+use Rattle.converter.proofs.Converted.{converted-fair}
 use borrow.Author.Needs.{needs}
 use Rattle.converter.proofs.convert.Statement.{statement}
 use Rattle.converter.proofs.convert.Tie as tie
 
 -- the moments that are spoken of below
-abbrev reading : tie.After-enum-told → tie.After-read-by
+abbrev reading : tie.After-enum-told → tie.After-unblanked
 reading c = c .before .before .before
 
-abbrev start : tie.After-read-by → tie.Start
+abbrev start : tie.After-unblanked → tie.Start
 start c = c .before .before .before
 
--- the sheet was accepted
-taken : (c : tie.After-enum-told) →
-    let d = reading c in
-    keptReading (start d .args .s .now) ≡ record { verdict = Accepted; model = d .read-by .result .model }
-taken c =
-    let r = reading c .read-by in
-    sym (r .ensures) ∙ ap (λ v. record { verdict = v; model = r .result .model }) (c .enum-told .given .1)
+free : (c : tie.After-enum-told) → convertible (start (reading c) .args .s .now) ≡ Accepted
+free c = sym (reading c .unblanked .ensures .told) ∙ c .enum-told .given .1
 
-read-by-requires : tie.Need-read-by-requires
-read-by-requires c κs = search needs
+unblanked-requires : tie.Need-unblanked-requires
+unblanked-requires c κs = search needs
 
 enum-known-v : tie.Need-enum-known-v
 enum-known-v c = search needs
@@ -32,16 +26,14 @@ enum-known-v c = search needs
 returns : tie.Need-returns
 returns c =
     let k = c .before in
-    let e = ap (λ (r : Reading). r .verdict) (sym (k .before .before .before .read-by .ensures)) ∙ k .v .given .1 in
+    let e = sym (k .before .before .before .unblanked .ensures .told) ∙ k .v .given .1 in
     (rw e, rw e)
 
 enum-told : tie.Need-enum-told
 enum-told c = search needs
 
-convert-model-requires : tie.Need-convert-model-requires
-convert-model-requires c κs =
-    let d = reading (c .before) in
-    accepted-sheet (start d .args .s .now) (d .read-by .result .model) (taken (c .before)) .fair
+write-sheet-requires : tie.Need-write-sheet-requires
+write-sheet-requires c κs = search needs
 
 same-length : tie.Need-same-length
 same-length c = search needs
@@ -50,16 +42,18 @@ returns-2 : tie.Need-returns-2
 returns-2 c =
     let w = c .before .before in
     let t = w .before .before in
-    (rw (taken t) (w .convert-model .ensures .0), rw (taken t) (w .convert-model .ensures .1))
+    let m = reading t .unblanked .ensures .left (t .enum-told .given .1) in
+    let f = rw (m, converted-fair (start (reading t) .args .s .now) (free t)) at (w .write-sheet .ensures) in
+    (rw (free t) (f .0), rw (free t) (f .1))
 
 pub convert-spec : {M : Type 1} → statement M
 convert-spec =
     tie.close
     (tie.spec
-    read-by-requires
+    unblanked-requires
     enum-known-v
     returns
     enum-told
-    convert-model-requires
+    write-sheet-requires
     same-length
     returns-2)
