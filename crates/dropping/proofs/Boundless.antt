@@ -18,9 +18,9 @@ use Rattle.arith.specs.Fractions.{Frac, int, _+ᶠ_}
 use Rattle.knapsack.specs.Meaning.{Instance, Point, Keeps, value, Unbounded, stepped}
 use Rattle.dropping.proofs.Drops.{Drops, Agree, between, between-keeps, keeps-≃, restricted, extended, restrict-agree}
 use Rattle.dropping.proofs.Drops.{to-feasible, from-feasible, restrict-feasible, extend-feasible, worth-same}
-use Rattle.dropping.proofs.Kept.{rank-strict, rank-injective, place-rank, at-rank, Source}
+use Rattle.dropping.proofs.Kept.{place, rank-strict, rank-injective, place-rank, at-rank, Source}
 use Rattle.dropping.proofs.Sums.{_≃_, ≃-refl, ≃-sym, nothing-more, <-≃}
-use Rattle.dropping.specs.Kept.{rank, place}
+use Rattle.dropping.specs.Kept.{rank}
 
 abbrev pub spread : (ℕ → Bool) → (ℕ → ℤ) → ℕ → ℤ
 spread keep e k = cond (keep k) (e (rank keep k)) (pos 0)

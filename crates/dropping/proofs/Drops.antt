@@ -23,9 +23,9 @@ use Rattle.knapsack.specs.declared.Bound.the-variants.{Absent, At}
 use Rattle.knapsack.specs.declared.Item.{Item}
 use Rattle.knapsack.specs.declared.Mark.{Mark}
 use Rattle.knapsack.specs.declared.Mark.the-variants.{Integer, Continuous}
-use Rattle.dropping.proofs.Kept.{rank-strict, place-rank, at-rank, Source}
+use Rattle.dropping.proofs.Kept.{place, rank-strict, place-rank, at-rank, Source}
 use Rattle.dropping.proofs.Sums.{_≃_, ≃-refl, ≃-sym, none-≃, ≤-≃, total-kept}
-use Rattle.dropping.specs.Kept.{rank, place}
+use Rattle.dropping.specs.Kept.{rank}
 
 pub record Idle (i : Item) : Type 0 where
   pub weightless : i .weight ≡ pos 0

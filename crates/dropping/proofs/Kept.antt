@@ -1,6 +1,7 @@
 -- Laws of kept places.
 -- rank-none, rank-kept, rank-left: no place, a place more; rank-mono, rank-strict, rank-injective, rank-most: ranks rise at kept places, no faster than
 -- places; rank-all: as fast where all are kept.
+--   place keep n j   the kept place before n that goes to j
 --   Source n j       a kept place of the first n that goes to j
 -- place-rank, at-rank: ranks below the last are those of kept places, each of one.
 -- filled-with: a list of one thing. length-packed, packed-at, packed-behind: a packed list, what stands in it and behind.
@@ -16,7 +17,12 @@ use lib.Dec.{eqb}
 use lib.ListN.{length, getD, set, replicate, length-set, length-replicate, getD-replicate, List·getD-eq-default}
 use lib.Seq.{getD-set-same, getD-set-other}
 use Rattle.arith.specs.Sum.{Each}
-use Rattle.dropping.specs.Kept.{rank, place, packed, firstFrom}
+use Rattle.dropping.specs.Kept.{rank, packed, firstFrom}
+
+-- the kept place before n that goes to j
+unfoldable pub place : (ℕ → Bool) → ℕ → ℕ → ℕ
+place keep zero j = 0
+place keep (suc n) j = cond (cond (keep n) (eqb (rank keep n) j) false) n (place keep n j)
 
 pub filled-with : {A : Type 0} (n : ℕ) (d : A) (k : ℕ) → getD (replicate n d) k d ≡ d
 filled-with n d k = go (decLt k n)
