@@ -1,6 +1,6 @@
 -- Why each answer of the solver is true: of a problem in range, and what its preparation, its rays and its search say.
 -- infeasible-corner: even the light ends do not fit.
--- unbounded-corner: they fit, and there is a ray.
+-- unbounded-corner: they fit, and there is a ray. corner-work: what that takes.
 -- optimal-found: there is no ray, and the search found a place.
 -- must-find: a search finds a place where there is a feasible point, as the light ends are if they fit (corner-feasible-at).
 use mathlib.Core.Path.{_≡_, refl, sym, ap, ap₂, _∙_, subst, subst₂}
@@ -50,7 +50,7 @@ use Rattle.rays.proofs.Corner.{LightCorner, ranges-of, corner-feasible, corner-
 use Rattle.search.specs.declared.Incumbent.{Incumbent}
 use Rattle.setting.specs.declared.Setting.{Setting}
 use Rattle.search.specs.Searched.{Searched}
-use Rattle.solver.specs.Outcomes.{unfilled, Cornered, boxAt, fillAt, valueAt, Best}
+use Rattle.solver.specs.Outcomes.{unfilled, Cornered, boxAt, fillAt, valueAt, Best, CountsAs, Counts, CellsAs, Cells}
 use Rattle.firsts.proofs.Terms.{over-lowest, lowest-one}
 use Rattle.placed.proofs.Amounts.{ColumnsOf, near-zero, filling-shown}
 
@@ -160,6 +160,13 @@ module _ (p : Problem) (range : InRange p) (s : Setting) (q : Prepared p s) wher
     steps = rw (h .steps-are) (found .small);
     endless = h .value-is;
   })
+
+pub corner-work : (most : ℕ) (p : Problem) (named : List Bool) (s : Setting) (d : List ℤ) (a : Answer) → Prepared p s → Cornered s d a
+  → Counts most p named a 0 × Cells most p named a 0
+corner-work most p named s d a q h = (
+    subst (λ k. CountsAs most k p named a 0) (sym (h .kind-is)) (record { setting = s; prepared = q; moves = d; cornered = h; none = refl }),
+    subst (λ k. CellsAs most k p named 0) (sym (h .kind-is)) refl,
+  )
 
 -- ---- what a search says, where an absent bound is at the problem's reach
 

@@ -13,8 +13,9 @@
 --   BestPlace s p n r r is the best place of the box, with the steps of a search that may take n
 --   Walked most p named n
 --                     n steps were taken by the search of p that may take `most` and discards by no pair with an item that is named
---   CountsAs most k p named n, Counts most p named a n
---                     n steps were taken for an answer of that kind, for the answer a
+--   Started p a n     a starts where every item of p is lightest, and no step was taken for it
+--   CountsAs most k p named a n, Counts most p named a n
+--                     n steps were taken for an answer a of that kind, for the answer a
 --   Scaled most p named k
 --                     k cells are written for an optimum: those of its place, after the search, and those of the first point
 --   CellsAs most k p named n, Cells most p named a n
@@ -44,7 +45,7 @@ use Rattle.knapsack.specs.declared.Problem.{Problem}
 use Rattle.placed.specs.Placed.{ShownWrites}
 use Rattle.prepare.specs.Pairs.{PairsOf}
 use Rattle.prepare.specs.Narrowing.{spanOf}
-use Rattle.prepare.specs.Prepared.{PreparedAt}
+use Rattle.prepare.specs.Prepared.{PreparedAt, Prepared}
 use Rattle.setting.specs.declared.Pairs.{Pairs}
 use Rattle.setting.specs.declared.Setting.{Setting}
 use Rattle.search.specs.declared.Incumbent.{Incumbent}
@@ -125,15 +126,23 @@ pub record Walked (most : ℕ) (p : Problem) (named : List Bool) (n : ℕ) : Typ
   pub stops : Stops setting pairs most end
   pub steps-are : n ≡ end .steps
 
+-- the start of a ray is one point of the problem: what needs come to from there hangs on it
+pub record Started (p : Problem) (a : Answer) (n : ℕ) : Type 0 where
+  pub setting : Setting
+  pub prepared : Prepared p setting
+  pub moves : List ℤ
+  pub cornered : Cornered setting moves a
+  pub none : n ≡ 0
+
 -- an optimum is searched for; no other answer is
-abbrev pub CountsAs : ℕ → Kind → Problem → List Bool → ℕ → Type 0
-CountsAs most kind.Optimal p named n = Walked most p named n
-CountsAs most kind.Infeasible p named n = n ≡ 0
-CountsAs most kind.Unbounded p named n = n ≡ 0
-CountsAs most (kind.Refused f) p named n = ⊥
+abbrev pub CountsAs : ℕ → Kind → Problem → List Bool → Answer → ℕ → Type 0
+CountsAs most kind.Optimal p named a n = Walked most p named n
+CountsAs most kind.Infeasible p named a n = n ≡ 0
+CountsAs most kind.Unbounded p named a n = Started p a n
+CountsAs most (kind.Refused f) p named a n = ⊥
 
 abbrev pub Counts : ℕ → Problem → List Bool → Answer → ℕ → Type 0
-Counts most p named a n = CountsAs most (a .kind) p named n
+Counts most p named a n = CountsAs most (a .kind) p named a n
 
 pub record Scaled (most : ℕ) (p : Problem) (named : List Bool) (k : ℕ) : Type 0 where
   pub steps : ℕ

@@ -13,7 +13,7 @@ use Rattle.prepare.specs.Prepared.{PreparedAt}
 use Rattle.prepare.proofs.Nearer.{reach-small, narrowed-prepared, near-spanned}
 use Rattle.solver.specs.Outcomes.{standing, Walked, Scaled}
 use Rattle.solver.proofs.Cells.{place-most, shown-most, scaled-most}
-use Rattle.solver.proofs.Outcomes.{infeasible-corner, corner-feasible-at, unbounded-corner, must-find, optimal-found, not-unbounded, not-infeasible}
+use Rattle.solver.proofs.Outcomes.{infeasible-corner, corner-feasible-at, unbounded-corner, corner-work, must-find, optimal-found, not-unbounded, not-infeasible}
 use Rattle.solver.proofs.Values.{begun-within}
 use Rattle.solver.proofs.decide.Statement.{statement}
 use Rattle.solver.proofs.decide.Tie as tie
@@ -80,7 +80,8 @@ returns-2 c =
         few-steps = omega arith;
         few-cells = omega arith;
       },
-      rw (u .unbounded .ensures .kind-is) (refl, refl),
+      corner-work (a .before .args .most) (a .before .args .p) (a .before .args .named) s (r .find-ray .result .steps) (u .unbounded .result) q
+      (u .unbounded .ensures),
     )
 
 -- from the best place, back to where there is no ray; from the first point, back to the best place
