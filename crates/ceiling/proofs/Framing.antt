@@ -620,7 +620,7 @@ stay : {p q : ℕ} {c : Columns} {e : Ends} {w : List Bool} {known : Lost} {b r 
 stay (i, (j, k)) (inl (g, h)) = inl (j ∙ g, i ∙ h)
 stay {p} {q} {c} {e} {w} {known} {b} {r} (i, (j, k)) (inr f) = inr (record {
   at-in = rw k (f .at-in);
-  loose = rw k (f .loose);
+  usable = rw k (f .usable);
   frame = subst (λ x. AtFrame p q c e w x r) (sym k) (record {
     found = j ∙ f .frame .found;
     at-is = k;
@@ -651,7 +651,7 @@ module _ {p q : ℕ} {c : Columns} {e : Ends} {w : List Bool} {known : Lost} {t 
       exact (inl i) = stay i (h .exact)
       exact (inr (u, f)) = inr (record {
         at-in = omega (arith, f .at-is);
-        loose = λ m. rw (f .at-is) (u .loose);
+        usable = λ m. rw (f .at-is) u;
         frame = subst (λ x. AtFrame p q c e w x r) (sym (f .at-is)) f;
       })
 
@@ -696,6 +696,6 @@ module _ {p q : ℕ} {c : Columns} {e : Ends} {w : List Bool} {known : Lost} {t 
       exact (inl j) = stay j (h .exact)
       exact (inr f) = inr (record {
         at-in = omega (arith, f .at-is);
-        loose = λ m. absurd (omega (arith, f .at-is));
+        usable = λ m. absurd (omega (arith, f .at-is));
         frame = subst (λ x. AtFrame p q c e w x r) (sym (f .at-is)) f;
       })

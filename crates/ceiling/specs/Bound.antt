@@ -20,14 +20,14 @@ use Rattle.knapsack.specs.declared.Mark.{Mark}
 use Rattle.knapsack.proofs.Branch.{AtMost}
 use Rattle.greedy.specs.declared.Columns.{Columns}
 use Rattle.greedy.specs.declared.Ends.{Ends}
-use Rattle.greedy.specs.Fill.{at, itemOf, fill}
+use Rattle.greedy.specs.Fill.{at, fill}
 use Rattle.greedy.proofs.Relaxed.{boxOf}
 use Rattle.ceiling.specs.declared.Price.{Price}
 use Rattle.ceiling.specs.declared.Known.{Known}
 use Rattle.ceiling.specs.declared.Limit.{Limit}
 use Rattle.ceiling.specs.Least.{LossWrites}
 use Rattle.ceiling.specs.Loss.{topOf}
-use Rattle.ceiling.specs.Frames.{wholeAt, scaleOf, Marked, FrameFloor, FrameAttained, Counted}
+use Rattle.ceiling.specs.Frames.{scaleOf, Usable, Marked, FrameFloor, FrameAttained, Counted}
 
 pub record Priced (c : Columns) (e : Ends) (r : Price) : Type 0 where
   pub p-is : r .p ≡ cond (ltb (fill c e .at) (c .live)) (natAbs (at (c .rate) (fill c e .at))) 0
@@ -59,10 +59,10 @@ pub record BoundWrites (c : Columns) (e : Ends) (w : List Bool) (known : Bool) (
   pub known-by : KnownBy (r .top) (r .q) known (v .whole) (v .part) (v .parts) from
   pub frames : LossWrites (r .p) (r .q) c e w (from .lost) (r .written)
 
--- the best point is one of frame `at`, which cuts no whole item
+-- the best point is one of frame `at`, which is used
 pub record BestFrame (c : Columns) (e : Ends) (w : List Bool) (r : Limit) : Type 0 where
   pub at-in : r .at ≤ c .live
-  pub loose : r .at < c .live → wholeAt w (itemOf c (r .at)) ≡ false
+  pub usable : r .at < c .live → Usable c e w (r .at)
   pub den-is : r .lost .den ≡ scaleOf c (r .at)
   pub deep : r .lost .num < 10000000000
   pub floor : FrameFloor (r .p) (r .q) c e w (r .at) (r .lost .num)

@@ -37,7 +37,7 @@ use Rattle.fillings.specs.Runs.{runCells, WholeWrites}
 use Rattle.fillings.specs.Foremost.{firstCells, FirstWrites}
 use Rattle.greedy.specs.declared.Columns.{Columns}
 use Rattle.greedy.specs.declared.Ends.{Ends}
-use Rattle.greedy.specs.Fill.{at, itemOf}
+use Rattle.greedy.specs.Fill.{at}
 use Rattle.ceiling.specs.declared.Room.{Room}
 use Rattle.ceiling.specs.declared.Frame.{Frame}
 use Rattle.ceiling.specs.declared.Lost.{Lost}
@@ -45,7 +45,7 @@ use Rattle.ceiling.specs.declared.Least.{Least}
 use Rattle.ceiling.specs.declared.Seen.{Seen}
 use Rattle.ceiling.specs.Loss.{topOf, lossOf, Point, Floor, Attained}
 use Rattle.ceiling.specs.Pieces.{amountOf, roomBy, Pieces}
-use Rattle.ceiling.specs.Frames.{wholeAt, cutOf, scaleOf, Framed, Usable, FrameEnds, FrameBound, FrameFloor, FrameAttained, Ceiling, Counted}
+use Rattle.ceiling.specs.Frames.{cutOf, scaleOf, Framed, Usable, FrameEnds, FrameBound, FrameFloor, FrameAttained, Ceiling, Counted}
 
 pub record HasRoom (c : Columns) (e : Ends) (r : Room) : Type 0 where
   pub left-is : r .fits ≡ true → pos (r .left) ≡ roomBy c e
@@ -154,10 +154,10 @@ pub record Considered (p q : ℕ) (c : Columns) (e : Ends) (w : List Bool) (t : 
   pub few : r .written ≤ b .written + runCells
   pub writes : (Usable c e w t × LowerWrites p q c e w t b r) ⊎ ((Usable c e w t → ⊥) × (r .written ≡ b .written))
 
--- the frame of the loss, which cuts no whole item
+-- the frame of the loss, one that is used
 pub record Found (p q : ℕ) (c : Columns) (e : Ends) (w : List Bool) (r : Least) : Type 0 where
   pub at-in : r .at ≤ c .live
-  pub loose : r .at < c .live → wholeAt w (itemOf c (r .at)) ≡ false
+  pub usable : r .at < c .live → Usable c e w (r .at)
   pub frame : AtFrame p q c e w (r .at) r
 
 pub data Gone (p q : ℕ) (c : Columns) (e : Ends) (w : List Bool) (known : Lost) : ℕ → Least → Type 0 where

@@ -217,7 +217,7 @@ module _ (c : Columns) (e : Ends) (level : List ℕ) (n : ℕ) (bx : Boxes c e l
   E≥1 = scale-in c t (bx .sized .columns) .0
 
   not-cut : (k : ℕ) → k < c .count → wholeAt w k ≡ true → k ≢ cutOf c t
-  not-cut = loose-cut c w t (bx .sized .columns .few) (h .at-in) (h .loose)
+  not-cut = loose-cut c w t (bx .sized .columns .few) (h .at-in) (λ m. h .usable m .loose)
 
   -- there is one
   pub found-some : (s : Seen) → FrameFirst (r .p) (r .q) c e w t (r .lost .num) s → s .found ≡ true
