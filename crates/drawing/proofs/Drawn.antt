@@ -1,6 +1,6 @@
 -- Every drawn problem is admissible: paper 02, requests 8 and 9. Its bounds may cross.
--- bound-in, mended-in, line-in: what a line draws is in range. mended-full, drawn-full: no item is blank.
--- section-figures, heading-figures, drawn-figures: so are the figures of all.
+-- bound-in, mended-in, line-in: what a line draws is in range. section-figures, heading-figures, drawn-figures: so are the figures of all.
+-- mended-full, drawn-full: no item is blank.
 -- lines-needs, section-needs, heading-needs, drawn-needs: there are no needs. drawn-admissible: the theorem.
 use mathlib.Core.Path.{_≡_, refl, ap, _∙_}
 use mathlib.Core.Bool.{Bool, true, false, cond}

@@ -1,5 +1,5 @@
 -- The demands of paper 01 in their own words. `Answers s a` is what the planner owes; Demands says what follows from it for every true answer.
--- That each accepted problem has a true answer is the contract of `solve` and `plan` (crate planner): they reply with one.
+-- That each accepted problem has a true answer is the contract of `solve` (crate solver) and `plan` (crate planner): they reply with one.
 --   HasOptimal s         some point is optimal
 --   HasRay s             some feasible point has steps that are unbounded
 --   Endless s            for every number some feasible point is worth more

@@ -3,7 +3,7 @@
 --   amounts, amount, pair-numbers, pair-items, short-buffer     7 to 11: the point check's, the least pair's, a lent buffer's
 --   heading-word, number                                        12, 13: a sheet's, in the place of 2 (paper 02, request 3)
 --   named-item                                                  14: a record's and a sheet's, of a line of needs (paper 02, request 7)
---   blank-item                                                  15: a record's and a sheet's, of an item (paper 02, request 9)
+--   blank-item                                                  15: a record's and a sheet's, of an item; the converter's (paper 02, request 9)
 use Prim.Native.Nat.{ℕ}
 
 abbrev pub overlong : ℕ

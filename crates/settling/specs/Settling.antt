@@ -85,7 +85,7 @@ pub record FirstPlace (c : Columns) (e : Ends) (level : List ℕ) (n D : ℕ) (P
       → valueᴰ (boxOf c e marks) point ≤ℤ valueᴰ (boxOf c e marks) M → ((k : ℕ) → k < c .count → marks k ≡ Continuous → M k ≡ point k)
       → NotAfter (c .count) point M
 
--- one run for each of 17 frames, and one for each of 16 groups of keys (proofs/Best, most-cells, settle-most)
+-- one run for each of 17 frames; for a first filling three leaps, and one for each of 16 parts (proofs/Best, most-cells, settle-most)
 abbrev pub mostCells : ℕ
 mostCells = 3418251804
 
