@@ -13,7 +13,8 @@ use Rattle.prepare.specs.Prepared.{PreparedAt}
 use Rattle.prepare.proofs.Nearer.{reach-small, narrowed-prepared, near-spanned}
 use Rattle.solver.specs.Outcomes.{standing, Walked, Scaled}
 use Rattle.solver.proofs.Cells.{place-most, shown-most, scaled-most}
-use Rattle.solver.proofs.Outcomes.{infeasible-corner, corner-feasible-at, unbounded-corner, corner-work, must-find, optimal-found, not-unbounded, not-infeasible}
+use Rattle.solver.proofs.Outcomes.{infeasible-corner, corner-feasible-at, unbounded-corner, corner-work, must-find, optimal-found}
+use Rattle.solver.proofs.Outcomes.{not-unbounded, not-infeasible}
 use Rattle.solver.proofs.Values.{begun-within}
 use Rattle.solver.proofs.decide.Statement.{statement}
 use Rattle.solver.proofs.decide.Tie as tie
