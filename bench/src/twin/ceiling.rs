@@ -241,12 +241,23 @@ impl Frame {
         }
     }
 
-    /// Part after part before `to` at the first amount that is left to it.
-    fn fix_first(&mut self, cap: u64, to: usize) {
+    /// Of the amounts of part k the first and `range` more.
+    fn shorten(&mut self, k: usize, range: u64) {
+        if self.falls[k] {
+            self.low[k] += self.range[k] - range;
+        }
+        self.range[k] = range;
+    }
+
+    /// Part after part before `to` at the first amount that is left to it, and part `to` at a share of them.
+    fn open(&mut self, cap: u64, to: usize, share: u64) {
         for k in 0..to {
             self.near(cap);
-            self.fix(k, self.low[k] + if self.falls[k] { self.range[k] } else { 0 });
+            self.shorten(k, 0);
         }
+        self.near(cap);
+        self.shorten(to, self.range[to] / share);
+        self.near(cap);
     }
 }
 
@@ -346,16 +357,15 @@ fn least_loss(h: &Shape, known: Loss, cells: &mut Cells) -> Option<(Loss, usize)
     found
 }
 
-/// So many parts are tried at their first amounts.
-const LEAPS: [usize; 3] = [12, 8, 4];
+/// So many parts are tried at their first amounts, and the next one at this share of those that are left to it.
+const LEAPS: [(usize, u64); 7] = [(12, 1), (8, 1), (4, 1), (3, 16), (2, 16), (1, 16), (0, 16)];
 
-/// A run with the first parts at their first amounts; if it finds a loss below the cap, it is that of the first point. The first part that is
-/// not fixed is told; 0 if no leap finds any.
+/// A run over these amounts; if it finds a loss below the cap, it is that of the first point. The first part that is not fixed is told; 0 if
+/// no leap finds any.
 fn leap(f: &mut Frame, cap: u64, cells: &mut Cells) -> usize {
-    for to in LEAPS {
+    for (to, share) in LEAPS {
         let mut n = *f;
-        n.fix_first(cap, to);
-        n.near(cap);
+        n.open(cap, to, share);
         if n.spare() < 0 {
             continue;
         }

@@ -1,5 +1,5 @@
 -- The first filling, group after group.
--- whole-among, whole-inside, whole-least: all amounts.
+-- whole-among, whole-inside, whole-least: all amounts. among-less, wide-less: narrower ranges.
 -- heads-first, sought-first, sought-step, sought-more, sought-done, sought-none: from run to run.
 use mathlib.Core.Path.{_≡_, refl, sym, ap, _∙_}
 use mathlib.Core.Bool.{true, false}
@@ -31,6 +31,12 @@ inside-within p r long a y h j l = let m : j < 17 = omega (arith, long) in omega
 pub among-less : (p : Parts) (r r′ : Ranges) → Among p r → ((y : ℕ → ℕ) → Inside r′ y → Inside r y) → Among p r′
 among-less p r r′ a h j l = omega (arith, a j l, h (λ i. num (r′ .low) i + num (r′ .wide) i) (λ i m. (omega arith, omega arith)) j l .1)
 
+pub wide-less : (r r′ : Ranges) → ((y : ℕ → ℕ) → Inside r′ y → Inside r y) → (j : ℕ) → j < 17 → num (r′ .wide) j ≤ num (r .wide) j
+wide-less r r′ h j l =
+    let low = h (λ i. num (r′ .low) i) (λ i v. (omega arith, omega arith)) j l in
+    let high = h (λ i. num (r′ .low) i + num (r′ .wide) i) (λ i v. (omega arith, omega arith)) j l in
+    omega (arith, low .0, high .1)
+
 pub whole-least : (p : Parts) (r : Ranges) (C cap : ℕ) (n : Run) → length (p .weight) ≡ 17 → Whole p r → Runs p r C cap 0 0 n →
     Least cap (itemsIn p) C (n .cost)
 whole-least p r C cap n long w h = record {
@@ -47,7 +53,7 @@ whole-least p r C cap n long w h = record {
 pub earlier-more : {p : Parts} {m n : ℕ} {y z : ℕ → ℕ} → m ≤ n → Earlier p m y z → Earlier p n y z
 earlier-more l h = record { place = h .place; below = omega (arith, h .below); same = h .same; less = h .less }
 
-pub heads-first : (p : Parts) (C c : ℕ) (r : Ranges) → length (p .weight) ≡ 17 → Whole p r → Heads p C c r 0
+pub heads-first : (p : Parts) (C c : ℕ) (r : Ranges) → length (p .weight) ≡ 17 → Whole p r → Heads p C c r 0 0
 heads-first p C c r long w = record {
   inside = omega arith;
   among = whole-among p r w;
@@ -71,7 +77,7 @@ module _ (p : Parts) (C cap : ℕ) (long : length (p .weight) ≡ 17) (cap≥1 :
       go (yes q) = omega (arith, h .bounds y (s .whole q y i) fl)
       go (no q) = let v = s .some (omega arith) in absurd (omega (arith, h .bounds (v .amounts) (v .inside) (v .fills), v .costs))
 
-  module _ (r : Ranges) (f : ℕ) (s : Heads p C c r f) (n : Run) (h : Runs p r C cap f 16 n) where
+  module _ (r : Ranges) (f m : ℕ) (s : Heads p C c r f m) (n : Run) (h : Runs p r C cap f 16 n) where
     -- something was
     module _ (ne : n .cost ≡ cap → ⊥) where
       found : n .cost < cap
@@ -96,8 +102,8 @@ module _ (p : Parts) (C cap : ℕ) (long : length (p .weight) ≡ 17) (cap≥1 :
               up : (w v : ℕ) → w ≤ v → suc w ≤ suc v
               up w v i = omega arith
 
-      pub sought-step : 0 < n .to → Sought p C c (n .ranges) (n .to)
-      sought-step l = record {
+      pub sought-step : 0 < n .to → m ≤ n .to → Sought p C c (n .ranges) (n .to)
+      sought-step l last = record {
         heads = record {
           inside = h .end .1 (s .inside);
           among = among-less p r (n .ranges) (s .among) (h .among found);
@@ -110,18 +116,15 @@ module _ (p : Parts) (C cap : ℕ) (long : length (p .weight) ≡ 17) (cap≥1 :
         where
           -- the parts before f stay fixed
           same : (a y : ℕ → ℕ) → Inside r a → Inside r y → (j : ℕ) → j < f → a j ≡ y j
-          same a y i k j m = let l : j < 17 = omega (arith, s .inside) in omega (arith, i j l .0, i j l .1, k j l .0, k j l .1, s .fixed j m)
+          same a y i k j q = let l : j < 17 = omega (arith, s .inside) in omega (arith, i j l .0, i j l .1, k j l .0, k j l .1, s .fixed j q)
 
           fixed : (j : ℕ) → j < n .to → Dec (j < f) → num (n .ranges .wide) j ≡ 0
-          fixed j k (no m) = h .fixed found j (omega arith) k
-          fixed j k (yes m) = let q : j < 17 = omega (arith, s .inside) in
-              let low = h .among found (λ i. num (n .ranges .low) i) (λ i v. (omega arith, omega arith)) j q in
-              let high = h .among found (λ i. num (n .ranges .low) i + num (n .ranges .wide) i) (λ i v. (omega arith, omega arith)) j q in
-              omega (arith, low .0, low .1, high .0, high .1, s .fixed j m)
+          fixed j k (no q) = h .fixed found j (omega arith) k
+          fixed j k (yes q) = omega (arith, wide-less r (n .ranges) (h .among found) j (omega (arith, s .inside)), s .fixed j q)
 
-          kept : (y : ℕ → ℕ) → Fills p C y → cost (itemsIn p) y ≡ c → Inside r y ⊎ ((a : ℕ → ℕ) → Inside r a → Earlier p f a y) →
+          kept : (y : ℕ → ℕ) → Fills p C y → cost (itemsIn p) y ≡ c → Inside r y ⊎ ((a : ℕ → ℕ) → Inside r a → Earlier p m a y) →
               Inside (n .ranges) y ⊎ ((a : ℕ → ℕ) → Inside (n .ranges) a → Earlier p (n .to) a y)
-          kept y fl e (inr g) = inr (λ a i. earlier-more (h .end .0) (g a (h .among found a i)))
+          kept y fl e (inr g) = inr (λ a i. earlier-more last (g a (h .among found a i)))
           kept y fl e (inl i) = go (h .first found y i fl (e ∙ sym cost-is))
             where
               go : Inside (n .ranges) y ⊎ ((a : ℕ → ℕ) → Inside (n .ranges) a → ((j : ℕ) → j < f → a j ≡ y j) → Earlier p (n .to) a y)

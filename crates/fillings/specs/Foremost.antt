@@ -42,9 +42,9 @@ pub record FirstAt (p : Parts) (C c : ℕ) (a : List ℕ) : Type 0 where
   pub costs : cost (itemsIn p) amounts ≡ c
   pub first : (y : ℕ → ℕ) → Within (itemsIn p) y → Fills p C y → cost (itemsIn p) y ≡ c → ((j : ℕ) → j < 16 → amounts j ≡ y j) ⊎ Earlier p 16 amounts y
 
--- the most cells: three leaps, and a run for each part
+-- the most cells: seven leaps, and a run for each part
 abbrev pub firstCells : ℕ
-firstCells = 1804077341
+firstCells = 2183883097
 
 pub record FirstOf (p : Parts) (C cap : ℕ) (r : First) : Type 0 where
   pub few : r .written ≤ firstCells

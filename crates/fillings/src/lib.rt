@@ -8,12 +8,12 @@ ghost use Prim.Native.Nat.{ℕ, suc, _+_, _-_, _*_, _/_, _%_, _^_, _≤_, _<_, m
 ghost use Rattle.scales.specs.Filling.{load, sum, Bounds, Least};
 ghost use lib.ListN.{length};
 ghost use Rattle.fillings.specs.Keys.{keys, digits, radix};
-ghost use Rattle.fillings.specs.Ranges.{num, flag, itemsIn, Among, offsetAt, offsetOf, boxed, nearWide, nearLow};
+ghost use Rattle.fillings.specs.Ranges.{num, flag, itemsIn, Among, offsetOf, boxed, nearWide, nearLow};
 ghost use Rattle.fillings.specs.Ranges.{nearWideOf, nearLowOf, Made, Narrows, Fair};
 ghost use Rattle.fillings.specs.Runs.{Grouped, Gathers, inGroup, keyedBy, takenKey, leftKey, keyedTaken, keyedLeft};
 ghost use Rattle.fillings.specs.Runs.{fixedLow, fixedWide, Fixable, Fixes, Begins, LeastKeyed, Decodes, Runs};
 ghost use Rattle.fillings.specs.Runs.{ScalesWrite, RunWrites, Whole, WholeWrites};
-ghost use Rattle.fillings.specs.Leaps.{Nears, Keeps, Weighs, Heads, Leaps, Leapt};
+ghost use Rattle.fillings.specs.Leaps.{Nears, Keeps, Weighs, shortLow, Shortens, Heads, Opens, leapTo, leapShare, Leaps, Leapt};
 ghost use Rattle.fillings.specs.Foremost.{Keyable, FirstOf};
 
 // The parts of a load, and for each whether its amount falls where more of it is taken.
@@ -72,6 +72,21 @@ fn lesser(a: u64, b: u64) -> u64
 
 // ---- what is left of a cap
 
+// How many of so many units a cap affords. Mostly it is all of them, which a product tells without a division.
+fn affordable(cap: u64, cost: u64, units: u64) -> u64
+    requires { ⌜ 1 ≤ cost ⌝ }
+    ensures { λ r. ⌜ r ≡ min units (cap / cost) ⌝ }
+{
+    if cost < 4294967296 {
+        if units < 4294967296 {
+            if cost * units <= cap {
+                return units;
+            }
+        }
+    }
+    lesser(units, cap / cost)
+}
+
 // A cap less what so many units cost; 0 if that is no less.
 fn less_units(cap: u64, cost: u64, units: u64) -> u64
     ensures { λ r. ⌜ r ≡ cap - cost * units ⌝ }
@@ -79,24 +94,19 @@ fn less_units(cap: u64, cost: u64, units: u64) -> u64
     if cost == 0 {
         return cap;
     }
-    if cap / cost < units {
+    if affordable(cap, cost, units) < units {
         0
     } else {
         cap - cost * units
     }
 }
 
-// Less what part k costs at least.
-fn less_part(p: Parts, r: Ranges, k: usize, cap: u64) -> u64
-    requires { ⌜ Among p r × (k < 17) ⌝ }
-    ensures { λ n. ⌜ n ≡ cap - offsetAt p r k ⌝ }
+// Less what a part costs at least with amounts from low on, and wide more.
+fn less_part(cap: u64, t: u64, l: u64, low: u64, wide: u64, range: u64) -> u64
+    requires { ⌜ low + wide ≤ range ⌝ }
+    ensures { λ n. ⌜ n ≡ cap - (t * low + l * (range - (low + wide))) ⌝ }
 {
-    let a = r.low[k];
-    let w = r.wide[k];
-    let t = p.taken[k];
-    let l = p.left[k];
-    let u = p.range[k];
-    less_units(less_units(cap, t, a), l, u - a - w)
+    less_units(less_units(cap, t, low), l, range - low - wide)
 }
 
 fn remaining(p: Parts, r: Ranges, cap: u64) -> u64
@@ -106,7 +116,12 @@ fn remaining(p: Parts, r: Ranges, cap: u64) -> u64
     let mut left = cap;
     let mut k: usize = 0;
     while k < 17 {
-        left = less_part(p, r, k, left);
+        let t = p.taken[k];
+        let l = p.left[k];
+        let a = r.low[k];
+        let w = r.wide[k];
+        let u = p.range[k];
+        left = less_part(left, t, l, a, w, u);
         k += 1;
     }
     left
@@ -139,11 +154,11 @@ fn near_wide(left: u64, t: u64, l: u64, wide: u64) -> u64
         if t == 0 {
             wide
         } else {
-            lesser(wide, (left - 1) / t)
+            affordable(left - 1, t, wide)
         }
     } else {
         if t == 0 {
-            lesser(wide, (left - 1) / l)
+            affordable(left - 1, l, wide)
         } else {
             wide
         }
@@ -162,27 +177,6 @@ fn near_low(left: u64, t: u64, l: u64, low: u64, wide: u64) -> u64
     }
 }
 
-fn near_wide_at(p: Parts, r: Ranges, left: u64, k: usize) -> u64
-    requires { ⌜ (1 ≤ left) × (k < 17) ⌝ }
-    ensures { λ n. ⌜ n ≡ nearWideOf left p r k ⌝ }
-{
-    let t = p.taken[k];
-    let l = p.left[k];
-    let w = r.wide[k];
-    near_wide(left, t, l, w)
-}
-
-fn near_low_at(p: Parts, r: Ranges, left: u64, k: usize) -> u64
-    requires { ⌜ (1 ≤ left) × ((k < 17) × (Fair p × Among p r)) ⌝ }
-    ensures { λ n. ⌜ n ≡ nearLowOf left p r k ⌝ }
-{
-    let t = p.taken[k];
-    let l = p.left[k];
-    let a = r.low[k];
-    let w = r.wide[k];
-    near_low(left, t, l, a, w)
-}
-
 fn near_wides(p: Parts, r: Ranges, left: u64) -> [u64; 17]
     requires { ⌜ 1 ≤ left ⌝ }
     ensures { λ xs. ⌜ Made 17 (nearWideOf left p r) xs ⌝ }
@@ -190,7 +184,10 @@ fn near_wides(p: Parts, r: Ranges, left: u64) -> [u64; 17]
     let mut to = [0; 17];
     let mut k: usize = 0;
     while k < 17 {
-        to[k] = near_wide_at(p, r, left, k);
+        let t = p.taken[k];
+        let l = p.left[k];
+        let w = r.wide[k];
+        to[k] = near_wide(left, t, l, w);
         k += 1;
     }
     to
@@ -203,7 +200,11 @@ fn near_lows(p: Parts, r: Ranges, left: u64) -> [u64; 17]
     let mut to = [0; 17];
     let mut k: usize = 0;
     while k < 17 {
-        to[k] = near_low_at(p, r, left, k);
+        let t = p.taken[k];
+        let l = p.left[k];
+        let a = r.low[k];
+        let w = r.wide[k];
+        to[k] = near_low(left, t, l, a, w);
         k += 1;
     }
     to
@@ -624,21 +625,46 @@ fn nearer(p: Parts, w: Weighing, cap: u64, r: Ranges) -> Ranges
     near(down, b, w.spare)
 }
 
+// The least of the first amounts, v and one: these are the highest if the part falls.
+fn short_low(falls: bool, low: u64, wide: u64, v: u64) -> u64
+    requires { ⌜ (v ≤ wide) × (low + wide < 2 ^ 64) ⌝ }
+    ensures { λ n. ⌜ n ≡ shortLow falls low wide v ⌝ }
+{
+    if falls { low + (wide - v) } else { low }
+}
+
+// Of the amounts of part k the first and v more.
+fn shortened(p: Parts, r: Ranges, k: usize, v: u64) -> Ranges
+    requires { ⌜ Fair p × (Among p r × ((k < 17) × (v ≤ num (r .wide) k))) ⌝ }
+    ensures { λ n. ⌜ Shortens p k v r n ⌝ }
+{
+    let mut low = r.low;
+    let mut wide = r.wide;
+    let a = low[k];
+    let w = wide[k];
+    let f = p.falls[k];
+    low[k] = short_low(f, a, w, v);
+    wide[k] = v;
+    Ranges {
+        low: low,
+        wide: wide,
+    }
+}
+
 // With part k at the first amount that is left to it.
 fn ahead(p: Parts, w: Weighing, cap: u64, r: Ranges, k: usize) -> Ranges
     requires { ⌜ Fair p × (Weighs p w × ((1 ≤ cap) × (k < 16))) ⌝ }
-    requires { ⌜ Heads p (w .capacity) (cap - 1) r k ⌝ }
-    ensures { λ n. ⌜ Heads p (w .capacity) (cap - 1) n (k + 1) ⌝ }
+    requires { ⌜ Heads p (w .capacity) (cap - 1) r k k ⌝ }
+    ensures { λ n. ⌜ Heads p (w .capacity) (cap - 1) n (k + 1) (k + 1) ⌝ }
 {
     let n = nearer(p, w, cap, r);
-    let ds = [0; 17];
-    fixed(p, n, k, k + 1, ds)
+    shortened(p, n, k, 0)
 }
 
 // The parts before `to` at the first amounts, one after the other.
 fn head(p: Parts, w: Weighing, cap: u64, to: usize) -> Ranges
     requires { ⌜ Fair p × (Weighs p w × ((1 ≤ cap) × (to ≤ 16))) ⌝ }
-    ensures { λ n. ⌜ Heads p (w .capacity) (cap - 1) n to ⌝ }
+    ensures { λ n. ⌜ Heads p (w .capacity) (cap - 1) n to to ⌝ }
 {
     let mut r = whole_of(p);
     let mut k: usize = 0;
@@ -649,14 +675,25 @@ fn head(p: Parts, w: Weighing, cap: u64, to: usize) -> Ranges
     r
 }
 
-// A run with the parts before `to` at the first amounts. What it finds is the first of all fillings of that cost.
-fn leap(p: Parts, w: Weighing, cap: u64, to: usize, cells: &mut [u64]) -> Run
-    requires { ⌜ Fair p × (Weighs p w × ((1 ≤ cap) × ((cap < 2 ^ 63) × (to ≤ 16)))) ⌝ }
-    requires { ⌜ 65535 ≤ length (now cells) ⌝ }
-    ensures { λ n. ⌜ Leaps p (w .capacity) cap to n ⌝ }
+// And part `to` at a share of those that are left to it.
+fn opening(p: Parts, w: Weighing, cap: u64, to: usize, share: u64) -> Ranges
+    requires { ⌜ Fair p × (Weighs p w × ((1 ≤ cap) × ((to < 16) × (1 ≤ share)))) ⌝ }
+    ensures { λ n. ⌜ Opens p (w .capacity) (cap - 1) n to share ⌝ }
 {
     let f = head(p, w, cap, to);
-    let h = nearer(p, w, cap, f);
+    let g = nearer(p, w, cap, f);
+    let wide = g.wide[to];
+    let s = shortened(p, g, to, wide / share);
+    nearer(p, w, cap, s)
+}
+
+// A run over these ranges. What it finds is the first of all fillings of that cost.
+fn leap(p: Parts, w: Weighing, cap: u64, to: usize, share: u64, cells: &mut [u64]) -> Run
+    requires { ⌜ Fair p × (Weighs p w × ((1 ≤ cap) × ((cap < 2 ^ 63) × ((to < 16) × (1 ≤ share))))) ⌝ }
+    requires { ⌜ 65535 ≤ length (now cells) ⌝ }
+    ensures { λ n. ⌜ Leaps p (w .capacity) cap to share n ⌝ }
+{
+    let h = opening(p, w, cap, to, share);
     let down = w.down;
     let spare = remaining(down, h, w.spare);
     if spare == 0 {
@@ -665,17 +702,32 @@ fn leap(p: Parts, w: Weighing, cap: u64, to: usize, cells: &mut [u64]) -> Run
     run_over(p, h, w.capacity, cap, to, 16, cells)
 }
 
-// The ranges of the first leap that finds a filling, with 12, 8 or 4 parts fixed; all amounts if none does.
+// How many parts the next leap fixes where i are left: 12, 8, 4, then 3, 2, 1 and none.
+fn leap_to(i: usize) -> usize
+    requires { ⌜ (1 ≤ i) × (i ≤ 7) ⌝ }
+    ensures { λ n. ⌜ n ≡ leapTo i ⌝ }
+{
+    if 4 < i { 4 * (i - 4) } else { i - 1 }
+}
+
+// The share of the part after them: few parts leave much to do.
+fn leap_share(i: usize) -> u64
+    ensures { λ n. ⌜ n ≡ leapShare i ⌝ }
+{
+    if 4 < i { 1 } else { 16 }
+}
+
+// The ranges of the first leap that finds a filling; all amounts if none does.
 fn leaps(p: Parts, capacity: u64, cap: u64, cells: &mut [u64]) -> Run
-    requires { ⌜ Fair p × ((1 ≤ cap) × ((cap < 2 ^ 63) × Bounds (itemsIn p) capacity (cap - 1))) ⌝ }
+    requires { ⌜ Fair p × ((1 ≤ cap) × ((cap < 2 ^ 63) × (Keyable p cap × Bounds (itemsIn p) capacity (cap - 1)))) ⌝ }
     requires { ⌜ 65535 ≤ length (now cells) ⌝ }
     ensures { λ n. ⌜ Leapt p capacity cap n ⌝ }
 {
     let w = by_weight(p, capacity);
     let mut written: u64 = 0;
-    let mut i: usize = 3;
+    let mut i: usize = 7;
     while 0 < i {
-        let n = leap(p, w, cap, 4 * i, cells);
+        let n = leap(p, w, cap, leap_to(i), leap_share(i), cells);
         written += n.written;
         if n.cost < cap {
             let ranges = n.ranges;

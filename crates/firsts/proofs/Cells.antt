@@ -1,5 +1,5 @@
 -- How many cells the first point has written, at most.
--- try-most: for a frame. lead-most: for the frames before t. last-most: for the last one. frames-most: for all frames, 19 runs for each of 17.
+-- try-most: for a frame. lead-most: for the frames before t. last-most: for the last one. frames-most: for all frames, 23 runs for each of 17.
 -- point-most: for the first point.
 use mathlib.Core.List.{List}
 use mathlib.Core.Bool.{Bool}

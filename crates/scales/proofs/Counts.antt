@@ -1,15 +1,17 @@
 -- How many cells a call writes at most.
--- rest-small: a range below 2 ^ k has at most k digits. pass-most, live-most, fill-most, half-most: what a scale writes and leaves live.
+-- rest-small: a range below 2 ^ k has at most k digits. live-pass, pass-live, pass-most, live-most, fill-most, thin-most: what a scale writes and leaves live.
 -- cells-most: what so many scales write. written-most: what a call writes, by the digits of the greatest range; call-most: by a number.
 use mathlib.Core.Path.{_≡_, sym, _∙_}
-use Prim.Native.Nat.{ℕ, zero, suc, _+_, _-_, _*_, _/_, _%_, _^_, _≤_, _<_}
+use Prim.Native.Nat.{ℕ, zero, suc, _+_, _-_, _*_, _/_, _%_, _^_, _≤_, _<_, min}
 use native.Mathlib.Omega.{arith}
 use native.Mathlib.Numerals.{unary-clauses}
-use native.Mathlib.Nat.{mul-le-mul-left, mul-le-mul-right}
+use native.Mathlib.Nat.{mul-le-mul-left, mul-le-mul-right, div-add-mod, div-le-self}
 use Rattle.scales.specs.Digits.{rest, digit, restAt}
-use Rattle.scales.specs.Filling.{Items, sum, next}
-use Rattle.scales.specs.Counts.{passCells, liveAt, fillCells, halfOf, cellsOf, Takes}
+use Rattle.scales.specs.Filling.{Items, sum, heft, shared, stride, next}
+use Rattle.scales.specs.Counts.{liveOf, passCells, liveAt, heftAt, fillCells, thinOf, cellsOf, Takes}
 use Rattle.scales.proofs.Digits.{rest-shift}
+use Rattle.scales.proofs.Sums.{sum-mono}
+use Rattle.scales.proofs.Shared.{shared-pos}
 
 pub rest-small : (k u : ℕ) → u < 2 ^ k → restAt k u ≡ 0
 unfolding restAt
@@ -19,47 +21,83 @@ rest-small (suc k) u h = sym (rest-shift k u) ∙ rest-small k (rest u) (half (2
     half : (n : ℕ) → suc u ≤ n * 2 → rest u < n
     half n h = omega arith
 
-pub pass-most : (d w n : ℕ) → d ≤ 2 → passCells d w n ≤ 2 * (n + 2 * w)
+pub live-pass : (d w n K : ℕ) → liveOf d w n K ≤ n + d * w
+unfolding liveOf
+live-pass zero w n K = omega arith
+live-pass (suc d) w n K = omega (arith, live-pass d w n K)
+
+-- each pass writes at most what is live after it
+pub pass-live : (d w n K R M : ℕ) → n + d * w ≤ M → passCells d w n K R ≤ d * M
 unfolding passCells
-pass-most zero w n h = omega arith
-pass-most (suc zero) w n h = omega arith
-pass-most (suc (suc zero)) w n h = omega arith
-pass-most (suc (suc (suc d))) w n h = absurd (omega arith)
+pass-live zero w n K R M h = omega arith
+pass-live (suc d) w n K R M h = less (liveOf (suc d) w n K) (min (K - (R - suc d * w)) (liveOf d w n K)) (live-pass (suc d) w n K)
+    (pass-live d w n K R M (omega arith))
+  where
+    less : (a b : ℕ) → a ≤ n + suc d * w → passCells d w n K R ≤ d * M → passCells d w n K R + (a - b) ≤ suc d * M
+    less a b l k = omega arith
 
-pub live-most : (I : Items) (j n : ℕ) → liveAt I j n ≤ n + 2 * sum j (I .weight)
+pub pass-most : (d w n K R : ℕ) → d ≤ 2 → passCells d w n K R ≤ 2 * (n + 2 * w)
+pass-most d w n K R h =
+    let M = n + 2 * w in
+    let one : d * w ≤ 2 * w = mul-le-mul-right w h in
+    let two : d * M ≤ 2 * M = mul-le-mul-right M h in
+    omega (arith, pass-live d w n K R M (omega arith))
+
+pub live-most : (I : Items) (j n K : ℕ) → liveAt I j n K ≤ n + 2 * sum j (I .weight)
 unfolding liveAt
-live-most I zero n = omega arith
-live-most I (suc j) n = omega (arith, live-most I j n, mul-le-mul-right (I .weight j) (few (I .range j)))
+live-most I zero n K = omega arith
+live-most I (suc j) n K =
+    omega (
+      arith,
+      live-most I j n K,
+      live-pass (digit (I .range j)) (I .weight j) (liveAt I j n K) K,
+      mul-le-mul-right (I .weight j) (few (I .range j)),
+    )
   where
     few : (u : ℕ) → digit u ≤ 2
     few u = omega arith
 
-pub fill-most : (I : Items) (j n M : ℕ) → n + 2 * sum j (I .weight) ≤ M → fillCells I j n ≤ j * (2 * M)
+pub fill-most : (I : Items) (j n K R M : ℕ) → n + 2 * sum j (I .weight) ≤ M → fillCells I j n K R ≤ j * (2 * M)
 unfolding fillCells
-fill-most I zero n M h = omega arith
-fill-most I (suc j) n M h =
-    omega (arith, fill-most I j n M (omega arith), live-most I j n, pass-most (digit (I .range j)) (I .weight j) (liveAt I j n) (few (I .range j)))
+fill-most I zero n K R M h = omega arith
+fill-most I (suc j) n K R M h =
+    omega (
+      arith,
+      fill-most I j n K R M (omega arith),
+      live-most I j n K,
+      pass-most (digit (I .range j)) (I .weight j) (liveAt I j n K) K (heftAt I j R) (few (I .range j)),
+    )
   where
     few : (u : ℕ) → digit u ≤ 2
     few u = omega arith
 
-pub half-most : (live W K : ℕ) → live ≤ 4 * W + 1 → halfOf live K ≤ 2 * W + 1
-half-most live W K h = omega arith
+pub thin-most : (live W s bit : ℕ) → 2 ≤ s → live ≤ 4 * W + 1 → thinOf live s bit ≤ 2 * W + 1
+thin-most live W s bit h l = go (thinOf live s bit) (div-add-mod (live + (s - 1 - bit)) s)
+  where
+    go : (q : ℕ) → s * q + (live + (s - 1 - bit)) % s ≡ live + (s - 1 - bit) → q ≤ 2 * W + 1
+    go zero e = omega arith
+    go (suc q) e = let two : 2 * q ≤ s * q = mul-le-mul-right q h in omega arith
 
 -- what a scale writes, of m items that weigh W together
 abbrev pub mostOf : ℕ → ℕ → ℕ
 mostOf m W = m * (2 * (4 * W + 1)) + (2 * W + 1)
 
-pub cells-most : (cap s : ℕ) (I : Items) (n K W : ℕ) → sum (I .count) (I .weight) ≤ W → n ≤ 2 * W + 1 → cellsOf cap s I n K ≤ s * mostOf (I .count) W
+-- weights do not grow from scale to scale
+lighter : (cap : ℕ) (I : Items) → sum (I .count) (next cap I .weight) ≤ sum (I .count) (I .weight)
+lighter cap I = sum-mono (I .count) (next cap I .weight) (I .weight) (λ j l. div-le-self (I .weight j) (shared I))
+
+pub cells-most : (cap s : ℕ) (I : Items) (n K R W : ℕ) → sum (I .count) (I .weight) ≤ W → n ≤ 2 * W + 1 → cellsOf cap s I n K R ≤ s * mostOf (I .count) W
 unfolding cellsOf
-cells-most cap zero I n K W h k = omega arith
-cells-most cap (suc s) I n K W h k =
-    let live : liveAt I (I .count) n ≤ 4 * W + 1 = omega (arith, live-most I (I .count) n) in
+cells-most cap zero I n K R W h k = omega arith
+cells-most cap (suc s) I n K R W h k =
+    let live : liveAt I (I .count) n K ≤ 4 * W + 1 = omega (arith, live-most I (I .count) n K) in
+    let m = thinOf (liveAt I (I .count) n K) (stride I) (K % stride I) in
+    let kept : m ≤ 2 * W + 1 = thin-most (liveAt I (I .count) n K) W (stride I) (K % stride I) (omega (arith, shared-pos I)) live in
     omega (
       arith,
-      fill-most I (I .count) n (4 * W + 1) (omega arith),
-      half-most (liveAt I (I .count) n) W K live,
-      cells-most cap s (next cap I) (halfOf (liveAt I (I .count) n) K) (K / 2) W h (half-most (liveAt I (I .count) n) W K live),
+      fill-most I (I .count) n K R (4 * W + 1) (omega arith),
+      kept,
+      cells-most cap s (next cap I) m (K / stride I) (heftAt I (I .count) R / stride I) W (omega (arith, lighter cap I)) kept,
     )
 
 pub written-most : (cap : ℕ) (I : Items) (C n k W : ℕ) → Takes cap I C n → sum (I .count) (I .weight) ≤ W → ((j : ℕ) → j < I .count → I .range j < 2 ^ k) →
@@ -68,7 +106,7 @@ written-most cap I C n k W t h r =
     omega (
       arith,
       t .written,
-      cells-most cap (t .scales) I 1 C W h (omega arith),
+      cells-most cap (t .scales) I 1 C (heft I) W h (omega arith),
       mul-le-mul-right (mostOf (I .count) W) (t .soonest k (λ j l. rest-small k (I .range j) (r j l))),
     )
 

@@ -1,8 +1,12 @@
 pub mod Sums
 pub mod Digits
 pub mod Passes
+pub mod Shared
 pub mod Sound
+pub mod Bands
 pub mod Cells
-pub mod Scaling
 pub mod Exact
 pub mod Counts
+pub mod Timing
+pub mod Itemwise
+pub mod Scaling

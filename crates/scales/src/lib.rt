@@ -1,20 +1,33 @@
 // Exact filling at least cost, by binary digits of the amounts, low scale first. At scale i a unit of an item stands for 2 ^ i; each range
-// has a digit of 0, 1 or 2 units there. The cells hold the least cost of each load by the units so far, and each scale drops a binary
-// digit of the load, as it has to be that of the capacity.
+// has a digit of 0, 1 or 2 units there. The cells hold the least cost of each load by the units so far. A scale drops a binary digit of the
+// load, as it has to be that of the capacity, and with it a divisor that the weights of all units to come share.
+use arith::gcd;
 ghost use mathlib.Core.Path.{_≡_};
-ghost use Prim.Native.Nat.{ℕ, _+_, _-_, _*_, _/_, _^_, _≤_, _<_, min, max};
+ghost use mathlib.Core.Bool.{cond};
+ghost use lib.Dec.{ltb};
+ghost use Rattle.arith.specs.Gcd.{gcdOf};
+ghost use Prim.Native.Nat.{ℕ, suc, _+_, _-_, _*_, _/_, _^_, _≤_, _<_, min, max};
 ghost use lib.ListN.{length, getD};
 ghost use Rattle.scales.specs.Digits.{rest, digit, restAt, costAt};
-ghost use Rattle.scales.specs.Tables.{at, pass, passes, halve};
-ghost use Rattle.scales.specs.Filling.{fillItem, fill, scaled, start, least, itemsOf, Least};
-ghost use Rattle.scales.specs.Lent.{Priced, Shown, Shows, Listed, total};
-ghost use Rattle.scales.specs.Counts.{passCells, cellsOf, ScalesOf, ScalesOfAll, Takes};
-ghost use Rattle.scales.specs.Filled.{ItemFilled, AllFilled};
+ghost use Rattle.scales.specs.Tables.{at, pass, passes, thin};
+ghost use Rattle.scales.specs.Filling.{heft, start, least, itemsOf, Least};
+ghost use Rattle.scales.specs.Lent.{Priced, Shown, Passed, Shows, Listed, total};
+ghost use Rattle.scales.specs.Counts.{liveOf, passCells, thinOf, cellsOf, ScalesOf, ScalesOfAll, Takes};
+ghost use Rattle.scales.specs.Filled.{stageItems, SharedOf, ItemFilled, AllFilled};
 
-// How many cells are live, and how many were written.
+// How many cells are live, how many were written, and what the units to come weigh.
 pub struct Live {
     pub n: usize,
     pub written: u64,
+    pub heft: u64,
+}
+
+// A scale: its number, the divisor of the weights, the cap on costs, and what is left of the capacity.
+pub struct Stage {
+    pub i: usize,
+    pub divisor: u64,
+    pub cap: u64,
+    pub rest: u64,
 }
 
 // The least cost of a filling, and how many cells were written for it.
@@ -91,57 +104,95 @@ fn passed(cells: &[u64], n: usize, w: usize, a: u64, b: u64, cap: u64, x: usize)
     }
 }
 
-// One more unit to take or leave. From the highest load down, so that a load without the unit still has its old cost.
-fn pass_over(cells: &mut [u64], n: usize, w: usize, a: u64, b: u64, cap: u64)
+// The same of a load whose cell is live, with and without the unit. A cost of 0 spares the cap: no cell is above it.
+fn passed_inside(cells: &[u64], n: usize, w: usize, a: u64, b: u64, cap: u64, x: usize) -> u64
+    requires { ⌜ Priced cap a b ⌝ }
+    requires { ⌜ Shown cap n (now cells) × ((w ≤ x) × (x < n)) ⌝ }
+    ensures { λ r. ⌜ r ≡ pass cap w a b (at cap n (now (cells .entry))) x ⌝ }
+{
+    let left = cells[x];
+    let taken = cells[x - w];
+    if b == 0 {
+        return lesser(left, taken + a);
+    }
+    if a == 0 {
+        return lesser(left + b, taken);
+    }
+    lesser(cap, lesser(left + b, taken + a))
+}
+
+// A pass over the loads from lo to below hi. From the highest load down, so that a load without the unit still has its old cost.
+fn pass_edge(cells: &mut [u64], n: usize, w: usize, a: u64, b: u64, cap: u64, lo: usize, hi: usize)
     requires { ⌜ Priced cap a b ⌝ }
     requires { ⌜ Shown cap n (now cells) ⌝ }
-    requires { ⌜ n + w ≤ length (now cells) ⌝ }
-    ensures { λ _. ⌜ Shows cap (pass cap w a b (at cap n (now (cells .entry)))) (n + w) (now (cells .entry)) (now (cells .exit)) ⌝ }
+    requires { ⌜ (lo ≤ hi) × (hi ≤ length (now cells)) ⌝ }
+    ensures { λ _. ⌜ Passed cap n w a b lo hi (now (cells .entry)) (now (cells .exit)) ⌝ }
 {
-    let mut x = n + w;
-    while 0 < x {
+    let mut x = hi;
+    while lo < x {
         x -= 1;
         let v = passed(cells, n, w, a, b, cap, x);
         cells[x] = v;
     }
 }
 
-// A pass for each unit of a digit.
-fn pass_times(cells: &mut [u64], n: usize, d: u64, w: usize, a: u64, b: u64, cap: u64) -> Live
+// The same of loads that are live with and without the unit: most of them.
+fn pass_inside(
+    cells: &mut [u64],
+    n: usize,
+    w: usize,
+    a: u64,
+    b: u64,
+    cap: u64,
+    lo: usize,
+    hi: usize,
+)
     requires { ⌜ Priced cap a b ⌝ }
     requires { ⌜ Shown cap n (now cells) ⌝ }
-    requires { ⌜ (d ≤ 2) × ((n + d * w ≤ length (now cells)) × (n + d * w ≤ 65536)) ⌝ }
-    ensures { λ r. ⌜ (r .n ≡ n + d * w) × (r .written ≡ passCells d w n) ⌝ }
-    ensures { λ r. ⌜ Shows cap (passes cap d w a b (at cap n (now (cells .entry)))) (r .n) (now (cells .entry)) (now (cells .exit)) ⌝ }
+    requires { ⌜ (lo ≤ hi) × ((min w hi ≤ lo) × (hi ≤ n)) ⌝ }
+    ensures { λ _. ⌜ Passed cap n w a b lo hi (now (cells .entry)) (now (cells .exit)) ⌝ }
 {
-    let mut live = n;
-    let mut written: u64 = 0;
-    let mut k: u64 = 0;
-    while k < d {
-        pass_over(cells, live, w, a, b, cap);
-        live += w;
-        written += live as u64;
-        k += 1;
-    }
-    Live {
-        n: live,
-        written: written,
+    let mut x = hi;
+    while lo < x {
+        x -= 1;
+        let v = passed_inside(cells, n, w, a, b, cap, x);
+        cells[x] = v;
     }
 }
 
-// Keeps the loads of a parity, halved. From the lowest load up: what is read has not been written.
-fn halve_cells(cells: &mut [u64], n: usize, bit: usize, cap: u64) -> usize
-    requires { ⌜ (n ≤ length (now cells)) × (bit < 2) ⌝ }
-    ensures { λ r. ⌜ r ≡ (n + 1 - bit) / 2 ⌝ }
-    ensures { λ r. ⌜ Shows cap (halve bit (at cap n (now (cells .entry)))) r (now (cells .entry)) (now (cells .exit)) ⌝ }
+fn smaller(a: usize, b: usize) -> usize
+    ensures { λ r. ⌜ r ≡ min a b ⌝ }
 {
-    let half = (n + 1 - bit) / 2;
-    let mut x: usize = 0;
-    while x < half {
-        cells[x] = cells[2 * x + bit];
-        x += 1;
-    }
-    half
+    if a < b { a } else { b }
+}
+
+fn greater(a: usize, b: usize) -> usize
+    ensures { λ r. ⌜ r ≡ max a b ⌝ }
+{
+    if a < b { b } else { a }
+}
+
+// One more unit to take or leave.
+fn pass_over(
+    cells: &mut [u64],
+    n: usize,
+    w: usize,
+    a: u64,
+    b: u64,
+    cap: u64,
+    from: usize,
+    to: usize,
+)
+    requires { ⌜ Priced cap a b ⌝ }
+    requires { ⌜ Shown cap n (now cells) ⌝ }
+    requires { ⌜ (from ≤ n) × ((from ≤ to) × (to ≤ length (now cells))) ⌝ }
+    ensures { λ _. ⌜ Passed cap n w a b from to (now (cells .entry)) (now (cells .exit)) ⌝ }
+{
+    let high = smaller(n, to);
+    let low = smaller(greater(w, from), high);
+    pass_edge(cells, n, w, a, b, cap, high, to);
+    pass_inside(cells, n, w, a, b, cap, low, high);
+    pass_edge(cells, n, w, a, b, cap, from, low);
 }
 
 fn index(x: u64) -> usize
@@ -150,60 +201,184 @@ fn index(x: u64) -> usize
     x as usize
 }
 
-// The units of item j at scale i.
+// No load above the capacity is of use.
+fn up_to(n: usize, rest: u64) -> usize
+    requires { ⌜ n ≤ 65536 ⌝ }
+    ensures { λ r. ⌜ r ≡ min n (suc rest) ⌝ }
+{
+    if rest < n as u64 { index(rest) + 1 } else { n }
+}
+
+// Nor is one so low that all units to come cannot fill the capacity.
+fn down_to(n: usize, rest: u64, heft: u64) -> usize
+    requires { ⌜ n ≤ 65536 ⌝ }
+    ensures { λ r. ⌜ r ≡ min (rest - heft) n ⌝ }
+{
+    if rest < heft {
+        return 0;
+    }
+    let least = rest - heft;
+    if least < n as u64 { index(least) } else { n }
+}
+
+// A pass for each unit of a digit.
+fn pass_times(
+    cells: &mut [u64],
+    n: usize,
+    d: u64,
+    w: usize,
+    a: u64,
+    b: u64,
+    cap: u64,
+    rest: u64,
+    heft: u64,
+) -> Live
+    requires { ⌜ Priced cap a b ⌝ }
+    requires { ⌜ Shown cap n (now cells) ⌝ }
+    requires { ⌜ (d ≤ 2) × ((d * w ≤ heft) × ((n + d * w ≤ length (now cells)) × (n + d * w ≤ 65536))) ⌝ }
+    ensures { λ r. ⌜ (r .n ≡ liveOf d w n rest) × ((r .written ≡ passCells d w n rest heft) × (r .heft ≡ heft - d * w)) ⌝ }
+    ensures { λ r. ⌜ Shows cap (passes cap d w a b (at cap n (now (cells .entry)))) rest (r .heft) (r .n) (now (cells .entry)) (now (cells .exit)) ⌝ }
+{
+    let mut live = n;
+    let mut left = heft;
+    let mut written: u64 = 0;
+    let mut k: u64 = 0;
+    while k < d {
+        left -= w as u64;
+        let to = up_to(live + w, rest);
+        let from = down_to(live, rest, left);
+        pass_over(cells, live, w, a, b, cap, from, to);
+        written += (to - from) as u64;
+        live = to;
+        k += 1;
+    }
+    Live {
+        n: live,
+        written: written,
+        heft: left,
+    }
+}
+
+// Keeps every s-th load, from bit on. From the lowest load up: what is read has not been written.
+fn thin_cells(cells: &mut [u64], n: usize, s: usize, bit: usize) -> usize
+    requires { ⌜ (n ≤ length (now cells)) × ((bit < s) × (s ≤ 65536)) ⌝ }
+    ensures { λ r. ⌜ r ≡ thinOf n s bit ⌝ }
+    ensures { λ r. ⌜ (length (now (cells .exit)) ≡ length (now (cells .entry))) ×
+        ((cap : ℕ) → at cap r (now (cells .exit)) ≡ thin s bit (at cap n (now (cells .entry)))) ⌝ }
+{
+    let kept = (n + (s - 1 - bit)) / s;
+    let mut x: usize = 0;
+    while x < kept {
+        cells[x] = cells[s * x + bit];
+        x += 1;
+    }
+    kept
+}
+
+// The units of item j at a scale.
 fn fill_item<'a>(
     ws: &'a [u64],
     us: &'a [u64],
     ts: &'a [u64],
     ls: &'a [u64],
     j: usize,
-    i: usize,
-    cap: u64,
+    s: Stage,
+    heft: u64,
     cells: &mut [u64],
     n: usize,
 ) -> Live
-    requires { ⌜ Listed cap (now ws) (now us) (now ts) (now ls) ⌝ }
+    requires { ⌜ Listed (s .cap) (now ws) (now us) (now ts) (now ls) × (1 ≤ s .divisor) ⌝ }
     requires { ⌜ j < length (now ws) ⌝ }
-    requires { ⌜ Shown cap n (now cells) ⌝ }
+    requires { ⌜ Shown (s .cap) n (now cells) ⌝ }
+    requires { ⌜ digit (restAt (s .i) (getD (now us) j 0)) * (getD (now ws) j 0 / s .divisor) ≤ heft ⌝ }
     requires { ⌜ (n + 2 * getD (now ws) j 0 ≤ length (now cells)) × (n + 2 * getD (now ws) j 0 ≤ 65536) ⌝ }
-    ensures { λ r. ⌜ ItemFilled cap i j (now (ws .entry)) (now (us .entry)) (now (ts .entry)) (now (ls .entry)) n (now (cells .entry)) (now (cells .exit)) r ⌝ }
+    ensures { λ r. ⌜ ItemFilled s j (stageItems s (now (ws .entry)) (now (us .entry)) (now (ts .entry)) (now (ls .entry))) heft n
+        (now (cells .entry)) (now (cells .exit)) r ⌝ }
 {
-    let w = index(ws[j]);
+    let i = s.i;
+    let cap = s.cap;
+    let w = index(ws[j] / s.divisor);
     let d = digit_of(rest_at(us[j], i));
     let a = cost_at(ts[j], i, cap);
     let b = cost_at(ls[j], i, cap);
-    pass_times(cells, n, d, w, a, b, cap)
+    pass_times(cells, n, d, w, a, b, cap, s.rest, heft)
 }
 
-// The units of all items at scale i.
+// The units of all items at a scale.
 fn fill_all<'a>(
     ws: &'a [u64],
     us: &'a [u64],
     ts: &'a [u64],
     ls: &'a [u64],
-    i: usize,
-    cap: u64,
+    s: Stage,
+    whole: u64,
     cells: &mut [u64],
     n: usize,
 ) -> Live
-    requires { ⌜ Listed cap (now ws) (now us) (now ts) (now ls) ⌝ }
-    requires { ⌜ Shown cap n (now cells) ⌝ }
+    requires { ⌜ Listed (s .cap) (now ws) (now us) (now ts) (now ls) × (1 ≤ s .divisor) ⌝ }
+    requires { ⌜ Shown (s .cap) n (now cells) ⌝ }
+    requires { ⌜ whole ≡ heft (stageItems s (now ws) (now us) (now ts) (now ls)) ⌝ }
     requires { ⌜ (n + 2 * total (now ws) ≤ length (now cells)) × (n + 2 * total (now ws) ≤ 65536) ⌝ }
-    ensures { λ r. ⌜ AllFilled cap i (now (ws .entry)) (now (us .entry)) (now (ts .entry)) (now (ls .entry)) n (now (cells .entry)) (now (cells .exit)) r ⌝ }
+    ensures { λ r. ⌜ AllFilled s (stageItems s (now (ws .entry)) (now (us .entry)) (now (ts .entry)) (now (ls .entry))) whole n
+        (now (cells .entry)) (now (cells .exit)) r ⌝ }
 {
     let mut live = n;
+    let mut left = whole;
     let mut written: u64 = 0;
     let mut j: usize = 0;
     while j < ws.len() {
-        let f = fill_item(ws, us, ts, ls, j, i, cap, cells, live);
+        let f = fill_item(ws, us, ts, ls, j, s, left, cells, live);
         live = f.n;
+        left = f.heft;
         written += f.written;
         j += 1;
     }
     Live {
         n: live,
         written: written,
+        heft: left,
     }
+}
+
+// A common divisor with one more weight, if anything of its range goes on.
+fn joined(g: u64, w: u64, rest: u64) -> u64
+    ensures { λ r. ⌜ r ≡ cond (ltb 0 rest) (gcdOf g w) g ⌝ }
+{
+    if 0 < rest { gcd(g, w) } else { g }
+}
+
+fn at_least_one(g: u64) -> u64
+    ensures { λ r. ⌜ r ≡ max 1 g ⌝ }
+{
+    if g == 0 { 1 } else { g }
+}
+
+// The greatest divisor that the weights of what goes on after scale i share; 1 if nothing does.
+fn shared_of<'a>(ws: &'a [u64], us: &'a [u64], i: usize, divisor: u64) -> u64
+    requires { ⌜ (length (now us) ≡ length (now ws)) × (1 ≤ divisor) ⌝ }
+    ensures { λ r. ⌜ SharedOf i divisor (now (ws .entry)) (now (us .entry)) r ⌝ }
+{
+    let mut g: u64 = 0;
+    let mut j: usize = 0;
+    while j < ws.len() {
+        g = joined(g, ws[j] / divisor, rest_of(rest_at(us[j], i)));
+        j += 1;
+    }
+    at_least_one(g)
+}
+
+// What all units weigh.
+fn heft_of<'a>(ws: &'a [u64], us: &'a [u64]) -> u64
+    requires { ⌜ (length (now us) ≡ length (now ws)) × (heft (itemsOf (now ws) (now us) (now us) (now us)) < 2 ^ 64) ⌝ }
+    ensures { λ r. ⌜ r ≡ heft (itemsOf (now (ws .entry)) (now (us .entry)) (now (us .entry)) (now (us .entry))) ⌝ }
+{
+    let mut sum: u64 = 0;
+    let mut j: usize = 0;
+    while j < ws.len() {
+        sum += ws[j] * us[j];
+        j += 1;
+    }
+    sum
 }
 
 // What the tables say of the capacity after so many scales. At the start of a scale at most two units of each item are loaded.
@@ -220,19 +395,31 @@ fn solve<'a>(
     requires { ⌜ Listed cap (now ws) (now us) (now ts) (now ls) × (scales ≤ 64) ⌝ }
     requires { ⌜ 4 * total (now ws) < length (now cells) ⌝ }
     ensures { λ r. ⌜ r .least ≡ least cap scales (itemsOf (now (ws .entry)) (now (us .entry)) (now (ts .entry)) (now (ls .entry))) (start cap) capacity ⌝ }
-    ensures { λ r. ⌜ r .written ≡ cellsOf cap scales (itemsOf (now (ws .entry)) (now (us .entry)) (now (ts .entry)) (now (ls .entry))) 1 capacity ⌝ }
+    ensures { λ r. ⌜ r .written ≡ cellsOf cap scales (itemsOf (now (ws .entry)) (now (us .entry)) (now (ts .entry)) (now (ls .entry))) 1 capacity
+        (heft (itemsOf (now (ws .entry)) (now (us .entry)) (now (ts .entry)) (now (ls .entry)))) ⌝ }
 {
     cells[0] = 0;
     let mut n: usize = 1;
     let mut written: u64 = 0;
+    let mut divisor: u64 = 1;
     let mut rest = capacity;
+    let mut left = heft_of(ws, us);
     let mut i: usize = 0;
     while i < scales {
-        let f = fill_all(ws, us, ts, ls, i, cap, cells, n);
-        let bit = index(rest % 2);
-        n = halve_cells(cells, f.n, bit, cap);
+        let s = Stage {
+            i: i,
+            divisor: divisor,
+            cap: cap,
+            rest: rest,
+        };
+        let f = fill_all(ws, us, ts, ls, s, left, cells, n);
+        let g = shared_of(ws, us, i, divisor);
+        let stride = 2 * g;
+        n = thin_cells(cells, f.n, index(stride), index(rest % stride));
         written += f.written + (n as u64);
-        rest = rest / 2;
+        left = f.heft / stride;
+        rest = rest / stride;
+        divisor = divisor * g;
         i += 1;
     }
     let x = index(rest);
@@ -253,12 +440,6 @@ fn scales_of(u: u64) -> usize
         k += 1;
     }
     k
-}
-
-fn greater(a: usize, b: usize) -> usize
-    ensures { λ r. ⌜ r ≡ max a b ⌝ }
-{
-    if a < b { b } else { a }
 }
 
 // The scale from which on nothing is left of any range.

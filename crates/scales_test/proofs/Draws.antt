@@ -5,7 +5,7 @@ use Prim.Native.Nat.{ℕ, _*_, _≤_, _<_}
 use native.Mathlib.Omega.{arith}
 use lib.ListN.{length, getD}
 use Rattle.scales.specs.Lent.{Listed, total}
-use Rattle.scales.proofs.Sums.{sum-most}
+use Rattle.scales.proofs.Sums.{sum-most, load-most}
 use Rattle.scales_test.specs.Draws.{Drawn}
 
 pub light : (w : List ℕ) → Drawn 10 w → 4 * total w < 128
@@ -18,6 +18,8 @@ listed cap w u t l c d =
       small = omega arith;
       few = omega (arith, n);
       light = omega (arith, light w (d .0 .0));
+      fits = omega (arith, light w (d .0 .0), load-most (length w) 16 (λ j. getD w j 0) (λ j. getD u j 0)
+          (λ j h. omega (arith, d .0 .1 .small j (omega (arith, n)))));
       ranges = d .0 .1 .three ∙ sym n;
       takens = d .1 .0 .three ∙ sym n;
       lefts = d .1 .1 .three ∙ sym n;

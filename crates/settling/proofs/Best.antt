@@ -1,7 +1,7 @@
 -- Why a place is best: a feasible point that nothing beats has its whole amounts, and its filling is worth no less.
 -- best-of: of such a point. kept-best: of an incumbent that nothing beats. found-best: of the first point of the frame that loses least.
 -- found-first: in the last frame that point comes first, of those that are worth as much and whose other items stand as its do.
--- most-cells (end theorem): the most cells of `Settles` are those of 36 runs. settle-most: no box has more of them written.
+-- most-cells (end theorem): the most cells of `Settles` are those of 40 runs. settle-most: no box has more of them written.
 use mathlib.Core.Path.{_≡_, refl, sym, ap, _∙_, subst, subst₂}
 use mathlib.Core.Bool.{Bool, true, false, cond}
 use mathlib.Core.List.{List}
@@ -344,7 +344,7 @@ module _ (c : Columns) (e : Ends) (level : List ℕ) (n : ℕ) (bx : Boxes c e l
 
 -- ---- how much is written
 
-pub most-cells : mostCells ≡ 36 * runCells
+pub most-cells : mostCells ≡ 40 * runCells
 most-cells = refl
 
 pub settle-most : {c : Columns} {e : Ends} {level : List ℕ} {n : ℕ} {known : Bool} {v : Mixed} {f : Bool} {k : ℕ}

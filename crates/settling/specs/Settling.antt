@@ -7,7 +7,7 @@
 --   BestAt c e marks f        the filling of the ends f is one, and worth its bound
 --   Best c e level n P        the filling of P is an optimal point of the box
 --   FirstPlace c e level n D P   P has the whole amounts of an optimal point over D, which comes first of those whose other items stand as its do
---   mostCells                 the most cells that are written for any box: those of 36 runs
+--   mostCells                 the most cells that are written for any box: those of 40 runs
 --   SettleWrites c e level n known v f k   k cells are written for a box where the value v is known: those of its bound, and of the first point of a
 --                             frame; f tells whether that is the frame in which no item is cut
 --   Settles c e level n r     the place of r is best, or nothing in the box is feasible; it is a first one if r says so; and few cells were written for it
@@ -85,9 +85,9 @@ pub record FirstPlace (c : Columns) (e : Ends) (level : List ℕ) (n D : ℕ) (P
       → valueᴰ (boxOf c e marks) point ≤ℤ valueᴰ (boxOf c e marks) M → ((k : ℕ) → k < c .count → marks k ≡ Continuous → M k ≡ point k)
       → NotAfter (c .count) point M
 
--- one run for each of 17 frames; for a first filling three leaps, and one for each of 16 parts (proofs/Best, most-cells, settle-most)
+-- one run for each of 17 frames; for a first filling seven leaps, and one for each of 16 parts (proofs/Best, most-cells, settle-most)
 abbrev pub mostCells : ℕ
-mostCells = 3418251804
+mostCells = 3798057560
 
 pub data SettleWrites (c : Columns) (e : Ends) (level : List ℕ) (n : ℕ) (known : Bool) (v : Mixed) : Bool → ℕ → Type 0 where
   empty : fill c e .room <ℤ pos 0 → SettleWrites c e level n known v false 0

@@ -14,7 +14,7 @@ use Rattle.fillings.proofs.first_filling.Tie as tie
 
 abbrev Inv-loop : tie.InvT-loop
 Inv-loop p capacity cap cells₀ r₀ written₀ from₀ cells r written from = ((length cells ≡ length cells₀) ×
-    ((written ≤ (3 + from) * runCells) × Gone p capacity cap r from written)) × Sought p capacity (cap - 1) r from
+    ((written ≤ (7 + from) * runCells) × Gone p capacity cap r from written)) × Sought p capacity (cap - 1) r from
 
 abbrev μ-loop : tie.MeasureT-loop
 μ-loop p capacity cap cells₀ r₀ written₀ from₀ cells r written from = 16 - from
@@ -31,7 +31,7 @@ abbrev start : tie.At-loop Inv-loop μ-loop → tie.Start Inv-loop μ-loop
 start w = w .before .before .before .before .before .before .before
 
 leaps-requires : tie.Need-leaps-requires Inv-loop μ-loop
-leaps-requires c κs = let x = c .before .before .pre in ((x .0 .0, (x .0 .1 .0, (x .0 .1 .1 .0, x .0 .1 .1 .1 .1))), x .1)
+leaps-requires c κs = c .before .before .pre
 
 loop-holds : tie.Need-loop-holds Inv-loop μ-loop
 loop-holds c = let n = c .before .before .before .leaps in
@@ -88,7 +88,7 @@ loop-less c =
     omega (
       arith,
       t .loop-test .taken,
-      sought-more (s .args .p) (s .args .capacity) (s .args .cap) (x .0 .long) (x .1 .0) (x .1 .1 .1 .1) (l .r) (l .from)
+      sought-more (s .args .p) (s .args .capacity) (s .args .cap) (x .0 .long) (x .1 .0) (x .1 .1 .1 .1) (l .r) (l .from) (l .from)
           (l .inv .1 .heads) (n .result) (n .ensures .0) (c .before .if1 .left) (t .loop-test .taken) (x .1 .1 .1 .0),
     )
 
@@ -102,7 +102,7 @@ loop-again c =
     let l = w .loop in
     let n = ro .run-over in
     let x = s .pre .0 in
-    let more = sought-more (s .args .p) (s .args .capacity) (s .args .cap) (x .0 .long) (x .1 .0) (x .1 .1 .1 .1) (l .r) (l .from) (l .inv .1 .heads)
+    let more = sought-more (s .args .p) (s .args .capacity) (s .args .cap) (x .0 .long) (x .1 .0) (x .1 .1 .1 .1) (l .r) (l .from) (l .from) (l .inv .1 .heads)
     (n .result) (n .ensures .0) (c .before .if1 .left) (t .loop-test .taken) (x .1 .1 .1 .0) in (
       (
         search needs,
@@ -112,7 +112,8 @@ loop-again c =
         ),
       ),
       sought-step (s .args .p) (s .args .capacity) (s .args .cap) (x .0 .long) (x .1 .0)
-          (x .1 .1 .1 .1) (l .r) (l .from) (l .inv .1 .heads) (n .result) (n .ensures .0) (c .before .if1 .left) (omega (arith, more)),
+          (x .1 .1 .1 .1) (l .r) (l .from) (l .from) (l .inv .1 .heads) (n .result) (n .ensures .0) (c .before .if1 .left) (omega (arith, more))
+          (omega (arith, more)),
     )
 
 same-length-2 : tie.Need-same-length-2 Inv-loop μ-loop

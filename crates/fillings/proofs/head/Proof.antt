@@ -9,7 +9,7 @@ use Rattle.fillings.proofs.head.Statement.{statement}
 use Rattle.fillings.proofs.head.Tie as tie
 
 abbrev Inv-loop : tie.InvT-loop
-Inv-loop p w cap to r₀ k₀ r k = (k ≤ to) × Heads p (w .capacity) (cap - 1) r k
+Inv-loop p w cap to r₀ k₀ r k = (k ≤ to) × Heads p (w .capacity) (cap - 1) r k k
 
 abbrev μ-loop : tie.MeasureT-loop
 μ-loop p w cap to r₀ k₀ r k = to - k
@@ -42,7 +42,7 @@ returns c =
     let l = c .before .loop in
     let s = c .before .before .before in
     let e : l .k ≡ s .args .to = omega (arith, l .inv .0, c .loop-test .left) in
-    subst (λ t. Heads (s .args .p) (s .args .w .capacity) (s .args .cap - 1) (l .r) t) e (l .inv .1)
+    subst (λ t. Heads (s .args .p) (s .args .w .capacity) (s .args .cap - 1) (l .r) t t) e (l .inv .1)
 
 pub head-spec : {M : Type 1} → statement M
 head-spec =

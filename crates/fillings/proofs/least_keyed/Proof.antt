@@ -59,7 +59,7 @@ least-cost-requires c κs =
     let x = s .pre .0 in
     let m = k .keyed-lefts in (
       listed (s .args .p) (s .args .r) (s .args .from) (s .args .left) (s .args .g) (e .radices .result) (kt .keyed-takens .result) (m .result) (x .0)
-          (x .1 .1 .0) (x .1 .1 .1) (kt .keyed-takens .ensures) (m .ensures),
+          (x .1 .0) (x .1 .1 .0) (x .1 .1 .1) (kt .keyed-takens .ensures) (m .ensures),
       omega (arith, x .0 .light),
     )
 

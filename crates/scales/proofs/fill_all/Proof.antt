@@ -1,61 +1,82 @@
 -- `scales::fill_all` meets its contract: the units of the first j items are done.
-use mathlib.Core.Path.{_≡_, refl, ap₂}
-use Prim.Native.Nat.{suc, _+_, _-_, _*_, _≤_}
+use mathlib.Core.Path.{_≡_, refl}
+use Prim.Native.Nat.{ℕ, suc, _+_, _-_, _*_, _≤_}
 use native.Mathlib.Omega.{arith}
-use native.Mathlib.Numerals.{add-one}
+use native.Mathlib.Nat.{div-le-self}
 use lib.ListN.{length, getD}
-use Rattle.scales.specs.Digits.{digit, restAt}
-use Rattle.scales.specs.Tables.{at}
-use Rattle.scales.specs.Filling.{sum, fillItem, fill, scaled, itemsOf}
-use Rattle.scales.specs.Lent.{Shows}
-use Rattle.scales.specs.Counts.{liveAt, fillCells}
+use Rattle.scales.specs.Digits.{digit}
+use Rattle.scales.specs.Filling.{sum}
+use Rattle.scales.specs.Filled.{stageItems}
+use Rattle.scales.proofs.Sums.{sum-mono, sum-more}
 use Rattle.scales.proofs.Counts.{pass-most, live-most, fill-most}
-use Rattle.scales.proofs.Sums.{sum-more}
-use Rattle.scales.proofs.Passes.{fill-below}
-use Rattle.scales.proofs.Cells.{shows-on}
+use Rattle.scales.proofs.Itemwise.{Itemwise, itemwise-first, itemwise-heavy, itemwise-step}
 use Rattle.scales.proofs.fill_all.Statement.{statement}
 use Rattle.scales.proofs.fill_all.Tie as tie
 
 abbrev Inv-loop : tie.InvT-loop
-Inv-loop ws us ts ls i cap cells₀ n live₀ written₀ j₀ cells live written j =
-    ((j ≤ length ws) × ((live ≡ liveAt (scaled cap i (itemsOf ws us ts ls)) j n) × (written ≡ fillCells (scaled cap i (itemsOf ws us ts ls)) j n)))
-    × Shows cap (fill cap (scaled cap i (itemsOf ws us ts ls)) j (at cap n cells₀)) live cells₀ cells
+Inv-loop ws us ts ls s whole cells₀ n live₀ left₀ written₀ j₀ cells live left written j =
+    Itemwise (s .cap) (s .rest) (stageItems s ws us ts ls) whole n cells₀ cells live left written j
 
 abbrev μ-loop : tie.MeasureT-loop
-μ-loop ws us ts ls i cap cells₀ n live₀ written₀ j₀ cells live written j = length ws - j
+μ-loop ws us ts ls s whole cells₀ n live₀ left₀ written₀ j₀ cells live left written j = length ws - j
+
+-- from before the loop, and from the loop, to the start; from an item's digit to the loop
+abbrev begun : tie.After-slice-known Inv-loop μ-loop → tie.Start Inv-loop μ-loop
+begun c = c .before .before .before .before .before
+
+abbrev start : tie.At-loop Inv-loop μ-loop → tie.Start Inv-loop μ-loop
+start w = begun (w .before)
+
+abbrev turn : tie.After-fill-item Inv-loop μ-loop → tie.At-loop Inv-loop μ-loop
+turn f = f .before .before .before
+
+-- what is live, before the digit of item j
+lives : (w : tie.At-loop Inv-loop μ-loop) → let a = start w .args in w .loop .live ≤ a .n + 2 * sum (w .loop .j) (λ k. getD (a .ws .now) k 0)
+lives w =
+    let a = start w .args in
+    let j = w .loop .j in
+    let I = stageItems (a .s) (a .ws .now) (a .us .now) (a .ts .now) (a .ls .now) in
+    let lighter = sum-mono j (I .weight) (λ k. getD (a .ws .now) k 0) (λ k l. div-le-self (getD (a .ws .now) k 0) (a .s .divisor)) in
+    omega (arith, w .loop .inv .lives, live-most I j (a .n) (a .s .rest))
 
 loop-holds : tie.Need-loop-holds Inv-loop μ-loop
-unfolding fill liveAt fillCells
-loop-holds c = ((omega arith, (refl, refl)), record { same = refl; table = refl })
+loop-holds c = itemwise-first (begun c .pre .1 .0 .below)
 
 fill-item-requires : tie.Need-fill-item-requires Inv-loop μ-loop
 fill-item-requires c κs =
-    let h = c .before .before .before in
-    let g = h .before .before .before in
-    let s = g .before .before in
-    let l = c .before .before .loop in
-    let I = scaled (s .args .cap) (s .args .i) (itemsOf (s .args .ws .now) (s .args .us .now) (s .args .ts .now) (s .args .ls .now)) in
-    let T = at (s .args .cap) (s .args .n) (s .args .cells .now) in
+    let w = c .before .before in
+    let l = w .loop in
+    let s = start w in
+    let i = l .inv in
     let more = sum-more (suc (l .j)) (length (s .args .ws .now)) (λ k. getD (s .args .ws .now) k 0) (omega arith) in
-    let live = live-most I (l .j) (s .args .n) in
-    let below = fill-below (s .args .cap) I (l .j) T (s .pre .1 .0 .below) in
-    (s .pre .0, (omega arith, (record { room = omega arith; below = rw (l .inv .1 .table) below }, (omega arith, omega arith))))
+    let live = lives w in
+    let here = i .shows .same in (
+      s .pre .0,
+      (
+        omega arith,
+        (
+          record { room = omega arith; below = i .shows .below },
+          (itemwise-heavy (omega arith) (s .pre .1 .1 .0) i, (omega arith, omega arith)),
+        ),
+      ),
+    )
 
 add-written : tie.Need-add-written Inv-loop μ-loop
 add-written c =
-    let h = c .before .before .before in
-    let w = h .before .before .before in
-    let g = w .before .before .before in
-    let s = g .before .before .before in
+    let f = c .before .before .before in
+    let w = turn f in
     let l = w .loop in
-    let I = scaled (s .args .cap) (s .args .i) (itemsOf (s .args .ws .now) (s .args .us .now) (s .args .ts .now) (s .args .ls .now)) in
-    let more = sum-more (suc (l .j)) (length (s .args .ws .now)) (λ k. getD (s .args .ws .now) k 0) (omega arith) in
-    let few : length (s .args .ws .now) ≤ 17 = s .pre .0 .few in
-    let so-far = fill-most I (l .j) (s .args .n) 65536 (omega arith) in
-    let r = h .fill-item .ensures in
-    let live = live-most I (l .j) (s .args .n) in
-    let here = pass-most (digit (restAt (s .args .i) (getD (s .args .us .now) (l .j) 0))) (getD (s .args .ws .now) (l .j) 0) (l .live) (omega arith) in
-    omega (arith, r .written)
+    let s = start w in
+    let a = s .args in
+    let I = stageItems (a .s) (a .ws .now) (a .us .now) (a .ts .now) (a .ls .now) in
+    let ws : ℕ → ℕ = λ k. getD (a .ws .now) k 0 in
+    let more = sum-more (suc (l .j)) (length (a .ws .now)) ws (omega arith) in
+    let lighter = sum-mono (l .j) (I .weight) ws (λ k m. div-le-self (ws k) (a .s .divisor)) in
+    let here = fill-most I (l .j) (a .n) (a .s .rest) (a .whole) 65536 (omega arith) in
+    let one = pass-most (digit (I .range (l .j))) (I .weight (l .j)) (l .live) (a .s .rest) (l .left) (omega arith) in
+    let light = div-le-self (ws (l .j)) (a .s .divisor) in
+    let few = s .pre .0 .0 .few in
+    omega (arith, l .inv .counted, f .fill-item .ensures .written, lives w)
 
 add-j : tie.Need-add-j Inv-loop μ-loop
 add-j c = omega arith
@@ -64,32 +85,24 @@ loop-less : tie.Need-loop-less Inv-loop μ-loop
 loop-less c = omega arith
 
 loop-again : tie.Need-loop-again Inv-loop μ-loop
-unfolding fill liveAt fillCells
 loop-again c =
-    let h = c .before .before .before in
-    let w = h .before .before .before in
-    let g = w .before .before .before in
-    let s = g .before .before .before in
+    let f = c .before .before .before in
+    let w = turn f in
     let l = w .loop in
-    let I = scaled (s .args .cap) (s .args .i) (itemsOf (s .args .ws .now) (s .args .us .now) (s .args .ts .now) (s .args .ls .now)) in
-    let r = h .fill-item .ensures in
-    let here : l .live ≡ liveAt I (l .j) (s .args .n) = l .inv .0 .1 .0 in
-    let before : l .written ≡ fillCells I (l .j) (s .args .n) = l .inv .0 .1 .1 in (
-      (omega arith, (rw add-one (omega (arith, r .live, here)), rw add-one (ap₂ _+_ before (rw here at (r .written))))),
-      rw add-one (shows-on (fillItem (s .args .cap) I (l .j)) (l .inv .1) (r .shows)),
-    )
+    let s = start w in
+    itemwise-step (s .args .s) (f .fill-item .result) refl refl (omega arith) (itemwise-heavy (omega arith) (s .pre .1 .1 .0) (l .inv)) (f .fill-item .ensures)
+    (l .inv)
 
 same-length : tie.Need-same-length Inv-loop μ-loop
-same-length c = c .before .loop .inv .1 .same
+same-length c = c .before .loop .inv .shows .same
 
 returns : tie.Need-returns Inv-loop μ-loop
 returns c =
-    let h = c .before .before .before in
-    let g = h .before .before .before in
-    let s = g .before in
-    let l = c .before .loop in
-    let e : l .j ≡ length (s .args .ws .now) = omega arith in
-    record { live = rw e at (l .inv .0 .1 .0); written = rw e at (l .inv .0 .1 .1); shows = rw e at (l .inv .1) }
+    let w = c .before in
+    let l = w .loop in
+    let i = l .inv in
+    let e : l .j ≡ length (start w .args .ws .now) = omega (arith, i .inside) in
+    record { live = rw e at (i .lives); written = rw e at (i .counted); heft = rw e at (i .hefts); shows = rw e at (i .shows) }
 
 pub fill-all-spec : {M : Type 1} → statement M
 fill-all-spec =

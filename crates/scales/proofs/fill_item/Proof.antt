@@ -1,20 +1,30 @@
 -- `scales::fill_item` meets its contract: the digit is at most 2.
-use mathlib.Core.Path.{_≡_, ap, _∙_}
-use Prim.Native.Nat.{_*_, _≤_}
+use mathlib.Core.Path.{ap, _∙_}
+use Prim.Native.Nat.{_*_, _/_, _≤_}
 use native.Mathlib.Omega.{arith}
-use native.Mathlib.Nat.{mul-le-mul-right}
-use borrow.Author.Needs.{needs}
+use native.Mathlib.Nat.{mul-le-mul-right, div-le-self}
 use lib.ListN.{getD}
 use Rattle.scales.specs.Digits.{digit, restAt}
 use Rattle.scales.proofs.Digits.{cost-below}
+use borrow.Author.Needs.{needs}
 use Rattle.scales.proofs.fill_item.Statement.{statement}
 use Rattle.scales.proofs.fill_item.Tie as tie
+
+-- from the digit back to the weight, and to the start
+abbrev indexed : tie.After-digit-of → tie.After-index
+indexed e = e .before .before .before
+
+abbrev start : tie.After-index → tie.Start
+start i = i .before .before .before .before .before .before .before .before
 
 mul-index : tie.Need-mul-index
 mul-index c = search needs
 
 shared-slice-read-index : tie.Need-shared-slice-read-index
 shared-slice-read-index c = search needs
+
+div-index : tie.Need-div-index
+div-index c = search needs
 
 index-requires : tie.Need-index-requires
 index-requires c κs = search needs
@@ -39,11 +49,8 @@ shared-slice-read-cost-at c = search needs
 
 cost-at-requires : tie.Need-cost-at-requires
 cost-at-requires c κs =
-    let h = c .before .before .before in
-    let g = h .before .before .before in
-    let e = g .before .before .before in
-    let s = e .before .before in
-    (s .pre .0 .taken (s .args .j) (s .pre .1 .0), s .pre .0 .small)
+    let s = start (indexed (c .before)) in
+    (s .pre .0 .0 .taken (s .args .j) (s .pre .1 .0), s .pre .0 .0 .small)
 
 mul-cost-at-2 : tie.Need-mul-cost-at-2
 mul-cost-at-2 c = search needs
@@ -53,29 +60,28 @@ shared-slice-read-cost-at-2 c = search needs
 
 cost-at-requires-2 : tie.Need-cost-at-requires-2
 cost-at-requires-2 c κs =
-    let h = c .before .before .before in
-    let g = h .before .before .before in
-    let e = g .before .before .before in
-    let b = e .before .before .before in
-    let s = b .before in
-    (s .pre .0 .left (s .args .j) (s .pre .1 .0), s .pre .0 .small)
+    let s = start (indexed (c .before .before .before)) in
+    (s .pre .0 .0 .left (s .args .j) (s .pre .1 .0), s .pre .0 .0 .small)
 
 pass-times-requires : tie.Need-pass-times-requires
 pass-times-requires c κs =
-    let h = c .before .before .before in
-    let o = h .before .before in
-    let g = o .before .before .before in
-    let e = g .before .before .before in
-    let k = e .before .before .before in
-    let s = k .before in
-    let d = o .digit-of in
-    let w = g .index in
-    let l = s .pre .0 in
-    let two : d .result * w .result ≤ 2 * w .result = mul-le-mul-right (w .result) (omega (arith, d .ensures)) in
-    let a = cost-below (s .args .cap) (s .args .i) (getD (s .args .ts .now) (s .args .j) 0) (l .taken (s .args .j) (s .pre .1 .0)) in
-    let b = cost-below (s .args .cap) (s .args .i) (getD (s .args .ls .now) (s .args .j) 0) (l .left (s .args .j) (s .pre .1 .0)) in (
-      record { small = l .small; taken = rw (h .cost-at .ensures) a; left = rw (c .before .cost-at2 .ensures) b },
-      (s .pre .1 .1 .0, (omega (arith, d .ensures), (omega (arith, two, w .ensures), omega (arith, two, w .ensures)))),
+    let k = c .before .before .before in
+    let e = k .before .before in
+    let i = indexed e in
+    let s = start i in
+    let a = s .args in
+    let l = s .pre .0 .0 in
+    let j-in = s .pre .1 .0 in
+    let d = e .digit-of .ensures ∙ ap digit (e .before .rest-at .ensures) in
+    let w = i .index .ensures in
+    let D = a .s .divisor in
+    let x = getD (a .ws .now) (a .j) 0 in
+    let light : x / D ≤ x = div-le-self x D in
+    let two : digit (restAt (a .s .i) (getD (a .us .now) (a .j) 0)) * (x / D) ≤ 2 * (x / D) = mul-le-mul-right (x / D) (omega arith) in
+    let ta = cost-below (a .s .cap) (a .s .i) (getD (a .ts .now) (a .j) 0) (l .taken (a .j) j-in) in
+    let le = cost-below (a .s .cap) (a .s .i) (getD (a .ls .now) (a .j) 0) (l .left (a .j) j-in) in (
+      record { small = l .small; taken = rw (k .cost-at .ensures) ta; left = rw (c .before .cost-at2 .ensures) le },
+      (s .pre .1 .1 .0, rw (d, w) (omega arith, (s .pre .1 .1 .1 .0, (omega arith, omega arith)))),
     )
 
 same-length : tie.Need-same-length
@@ -83,19 +89,21 @@ same-length c = search needs
 
 returns : tie.Need-returns
 returns c =
-    let h = c .before .before .before in
-    let ca = h .before in
-    let g = ca .before .before in
-    let o = g .before .before in
-    let ra = o .before in
-    let i = ra .before .before in
-    let r = ra .rest-at .ensures in
-    let d = o .digit-of .ensures ∙ ap digit r in
-    let w = i .index .ensures in
-    let a = g .cost-at .ensures in
-    let b = ca .cost-at2 .ensures in
-    let p = c .before .before .pass-times .ensures in
-    record { live = rw (d, w) at (p .0 .0); written = rw (d, w) at (p .0 .1); shows = rw (d, w, a, b) at (p .1) }
+    let o = c .before .before in
+    let l-at = o .before .before in
+    let a-at = l-at .before .before in
+    let e = a-at .before .before in
+    let d = e .digit-of .ensures ∙ ap digit (e .before .rest-at .ensures) in
+    let w = indexed e .index .ensures in
+    let a = a-at .cost-at .ensures in
+    let l = l-at .cost-at2 .ensures in
+    let p = o .pass-times .ensures in
+    record {
+      live = rw (d, w) at (p .0 .0);
+      written = rw (d, w) at (p .0 .1 .0);
+      heft = rw (d, w) at (p .0 .1 .1);
+      shows = rw (d, w, a, l) at (p .1);
+    }
 
 pub fill-item-spec : {M : Type 1} → statement M
 fill-item-spec =
@@ -103,6 +111,7 @@ fill-item-spec =
     (tie.spec
     mul-index
     shared-slice-read-index
+    div-index
     index-requires
     mul-rest-at
     shared-slice-read-rest-at
