@@ -1,6 +1,6 @@
 -- The other way round: a way to fill the room is a point of the box that loses just what it costs.
 --   Made b E a r l u y x    the amount x is y pieces: it lies between the ends, weighs and loses what they do
--- made-whole, made-cut: the amounts. made-point, made-loses, attained: the point.
+-- made-whole, made-cut: the amounts. made-point, made-loses: the point.
 use mathlib.Core.Path.{_≡_, refl, sym, ap, ap₂, _∙_}
 use mathlib.Core.Bool.{Bool, true, false, cond}
 use mathlib.Core.Logic.{_≢_}
@@ -23,7 +23,7 @@ use Rattle.greedy.proofs.Relaxed.{InOrder}
 use Rattle.scales.specs.Filling as filling
 use Rattle.fillings.specs.declared.Parts.{Parts}
 use Rattle.fillings.specs.Ranges.{num, itemsIn}
-use Rattle.ceiling.specs.Loss.{scoreOf, goodEnd, weighOf, lossOf, Point, Attained}
+use Rattle.ceiling.specs.Loss.{scoreOf, goodEnd, weighOf, lossOf, Point}
 use Rattle.ceiling.specs.Pieces.{footBy, sizeBy, spanBy, costBy, heavyBy, amountBy, sizeOf, spanOf, takenOf, leftOf, footOf, amountOf, roomBy, Pieces}
 use Rattle.ceiling.proofs.Loss.{term, loss-is}
 use Rattle.ceiling.proofs.Pieces.{Apart, apart, abs-pos}
@@ -224,13 +224,3 @@ module _ (p q : ℕ) (c : Columns) (e : Ends) (E cut : ℕ) (few : c .count ≤ 
 
   pub made-point : Point c e E cut N
   made-point = record { above = λ k l. made k l .above; below = λ k l. made k l .below; fits = fits; whole = λ k l i. whole k i }
-
-module _ (p q : ℕ) (c : Columns) (e : Ends) (E cut : ℕ) (few : c .count ≤ 16) (E≥1 : 1 ≤ E) (cut-size : cut < c .count →
-    natAbs (weightOf c cut) ≡ E) (o : InOrder c e)
-    (room : ℕ) (room-is : pos room ≡ roomBy c e) (ps : Parts) (b : Pieces p q c e E cut room (c .count) ps) where
-  pub attained : (r : ℕ) → filling.Reached (itemsIn ps) room r → Attained p q c e E cut r
-  attained r h = record {
-    point = amountOf c e E cut (h .amounts);
-    is-point = made-point p q c e E cut few E≥1 cut-size o room room-is ps b (h .amounts) (h .within) (h .fills);
-    loses = made-loses p q c e E cut few E≥1 cut-size o room room-is ps b (h .amounts) (h .within) (h .fills) ∙ ap pos (h .costs);
-  }

@@ -1,8 +1,8 @@
 -- Frames as the code makes them, and the losses of their points.
--- framed-made: the ends of a frame. frame-floor: a bound of a frame's losses, with what the frame itself loses. frame-attained: a point that has just
--- so much. frame-feasible: a point of a frame is feasible in the box; loose-cut: where no whole item is cut.
+-- framed-made: the ends of a frame. frame-floor: a bound of a frame's losses, with what the frame itself loses.
+-- frame-feasible: a point of a frame is feasible in the box; loose-cut: where no whole item is cut.
 -- ordered-ranked: an order by price per weight is an order.
--- frame-scale, frame-sized, frame-modest, frame-cut, of-floor, of-attained, frame-narrow: a frame as the code has it.
+-- frame-scale, frame-sized, frame-modest, frame-cut, of-floor, frame-narrow: a frame as the code has it.
 -- own-floor, own-none, own-later, own-first: the first of its points that lose so much.
 -- lowered-counted, lowered-new, lowered-old: the least so far.  last-bound: the latest frame that can be needed stands for the last one.
 --   Sofar p q c e w known t b   b is the least of what is known and the frames before t that can be needed
@@ -17,6 +17,7 @@ use native.Mathlib.Nat.{mul-le-mul, mul-le-mul-left, mul-le-mul-right, le-of-mul
 use native.Mathlib.Decide.{ℕ-discrete, decLt}
 use lib.Dec.{ltb, eqb}
 use lib.IntN.{ℤ, pos, natAbs, _+ℤ_, _-ℤ_, _*ℤ_}
+use lib.ListN.{replicate}
 use lib.Signed.{_≤ℤ_, _<ℤ_, ≤ℤ-refl, ltZ}
 use borrow.Author.Tests.{ltb-true, lt-ltb, le-ltb, eq-eqb, ne-eqb}
 use Rattle.arith.specs.Within.{Within}
@@ -26,7 +27,7 @@ use Rattle.arith.proofs.Sums.{sum-mono, sum-times}
 use Rattle.knapsack.specs.declared.Mark.{Mark}
 use Rattle.knapsack.specs.declared.Mark.the-variants.{Integer, Continuous}
 use Rattle.knapsack.proofs.Common.{KeepsMarkᴰ, Feasibleᴰ}
-use Rattle.fillings.specs.Runs.{runCells}
+use Rattle.fillings.specs.Foremost.{leastCells}
 use Rattle.greedy.specs.declared.Columns.{Columns}
 use Rattle.greedy.specs.declared.Ends.{Ends}
 use Rattle.greedy.specs.Fill.{at, weightOf, priceOf, itemOf, rankOf, lightest, heaviest, stand}
@@ -37,10 +38,10 @@ use Rattle.greedy.proofs.Sizes.{cond-within, light-within, heavy-within}
 use Rattle.ceiling.specs.declared.Frame.{Frame}
 use Rattle.ceiling.specs.declared.Lost.{Lost}
 use Rattle.ceiling.specs.declared.Least.{Least}
-use Rattle.ceiling.specs.Loss.{scoreOf, goodOf, valueOf, weighOf, topOf, lossOf, Point, Floor, Attained}
+use Rattle.ceiling.specs.Loss.{scoreOf, goodOf, valueOf, weighOf, topOf, lossOf, Point, Floor}
 use Rattle.ceiling.specs.Sizes.{Modest, Cut, Narrow, Spanned}
 use Rattle.ceiling.specs.Frames.{Altered, wholeAt, cutOf, scaleOf, frameBy, frameLo, frameHi, frameEndBy, Framed, Usable, Loses, FrameBound, Unmarked}
-use Rattle.ceiling.specs.Frames.{FrameEnds, FrameFloor, FrameAttained, Counted, Ranked, Ready, Ceiling}
+use Rattle.ceiling.specs.Frames.{FrameEnds, FrameFloor, Counted, Ranked, Ready}
 use Rattle.ceiling.specs.Least.{FirstPoint, IsFrame, Same, AtFrame, Lowered, Considered, Found, Gone, begun, onward, some, none, LeastLoss, FirstIn}
 use Rattle.ceiling.specs.Pieces.{amountOf, wholeOf}
 use Rattle.ceiling.proofs.Loss.{good-above}
@@ -164,21 +165,6 @@ module _ (c : Columns) (e : Ends) (w : List Bool) (t : ℕ) (o : InOrder c e) wh
         go : (M : ℕ → ℤ) → pos r ≤ℤ (topOf p q c e′ *ℤ pos E -ℤ pos q *ℤ valueOf c M) → pos m ≤ℤ (topOf p q c e *ℤ pos E -ℤ pos q *ℤ valueOf c M)
         go M j = close m r d E (topOf p q c e) (topOf p q c e′) (pos q *ℤ valueOf c M) k less-is j
 
-    -- with it, a point of the frame's own ends loses in the box
-    pub frame-attained : (r d m : ℕ) → Attained p q c e′ (scaleOf c t) (cutOf c t) r → d ≡ natAbs (topOf p q c e -ℤ topOf p q c e′) → m ≡ scaleOf c t * d + r →
-        FrameAttained p q c e w t m
-    unfolding lossOf
-    frame-attained r d m a h k = record {
-      ends = e′;
-      framed = fr;
-      point = a .point;
-      is-point = a .is-point;
-      loses = close m r d (scaleOf c t) (topOf p q c e) (topOf p q c e′) (pos q *ℤ valueOf c (a .point)) k (ap pos h ∙ frame-less) (a .loses);
-    }
-      where
-        close : (m r d E : ℕ) (T S v : ℤ) → m ≡ E * d + r → pos d ≡ T -ℤ S → S *ℤ pos E -ℤ v ≡ pos r → T *ℤ pos E -ℤ v ≡ pos m
-        close m r d E = split3 _ (λ a b x y u z h. simp zed (λ i j. omega (arith, ap (λ (n : ℕ). n * E) i)))
-
   -- a point of a frame that does not cut a whole item is feasible
   pub frame-feasible : (e′ : Ends) (M : ℕ → ℤ) → Framed c e w t e′ → Point c e′ (scaleOf c t) (cutOf c t) M →
       ((k : ℕ) → k < c .count → wholeAt w k ≡ true → k ≢ cutOf c t)
@@ -262,10 +248,6 @@ module _ {p q : ℕ} {c : Columns} {e : Ends} {w : List Bool} {t : ℕ} {f : Fra
   of-floor m n fl l = frame-floor c e w t (r .in-order) p q (f .ends) (h .ends-are .framed) m (f .less) n
       (subst₂ (λ x y. Floor p q c (f .ends) x y m) (h .scale-is) (h .cut-is) fl) (h .less-is) (subst (λ x. n ≤ x * f .less + m) (h .scale-is) l)
 
-  pub of-attained : (m n : ℕ) → Attained p q c (f .ends) (f .scale) (f .cut) m → n ≡ f .scale * f .less + m → FrameAttained p q c e w t n
-  of-attained m n a l = frame-attained c e w t (r .in-order) p q (f .ends) (h .ends-are .framed) m (f .less) n
-      (subst₂ (λ x y. Attained p q c (f .ends) x y m) (h .scale-is) (h .cut-is) a) (h .less-is) (subst (λ x. n ≡ x * f .less + m) (h .scale-is) l)
-
   -- what a point loses in the box and within the frame's ends
   frame-loss : (M : ℕ → ℤ) → lossOf p q c e (f .scale) M ≡ lossOf p q c (f .ends) (f .scale) M +ℤ pos (f .scale * f .less)
   unfolding lossOf
@@ -336,16 +318,17 @@ module _ {p q : ℕ} {c : Columns} {e : Ends} {w : List Bool} {t : ℕ} {f : Fra
         more : (x y : ℕ) (z : ℤ) → pos x <ℤ z → m ≡ x + y → pos m <ℤ (z +ℤ pos y)
         more x y = split _ (λ a b. simp zed (omega arith))
 
-    pub own-first : off ≤ m → (ys : ℕ → ℕ) (place : List ℤ) →
-        FirstPoint p q c (f .ends) (f .scale) (f .cut) (m - off) (amountOf c (f .ends) (f .scale) (f .cut) ys) →
+    -- the first point that loses n within its ends
+    pub own-first : (n : ℕ) → m ≡ off + n → (ys : ℕ → ℕ) (place : List ℤ) →
+        FirstPoint p q c (f .ends) (f .scale) (f .cut) n (amountOf c (f .ends) (f .scale) (f .cut) ys) →
         ((k : ℕ) → k < 16 → at place k ≡ wholeOf c (f .ends) ys k) → FirstIn p q c e w t m place
-    own-first l ys place g made = record {
+    own-first n l ys place g made = record {
       ends = f .ends;
       framed = h .ends-are .framed;
       point = N;
       is-point = box-point N (g .is-point);
       loses = subst (λ x. lossOf p q c e x N ≡ pos m) (h .scale-is) (frame-loss N ∙ ap (λ z. z +ℤ pos off) (g .loses) ∙
-          plus (m - off) off ∙ ap pos (omega arith));
+          plus n off ∙ ap pos (omega arith));
       first = λ M pt i. g .first M (subst₂ (λ x y. Point c (f .ends) x y M) (sym (h .scale-is)) (sym (h .cut-is)) pt)
           (same M (subst (λ x. lossOf p q c e x M ≡ pos m) (sym (h .scale-is)) i));
       shown = λ k i ne. shown k i (λ j. ne (j ∙ h .cut-is));
@@ -357,8 +340,8 @@ module _ {p q : ℕ} {c : Columns} {e : Ends} {w : List Bool} {t : ℕ} {f : Fra
         plus : (x y : ℕ) → pos x +ℤ pos y ≡ pos (x + y)
         plus x y = simp zed (omega arith)
 
-        same : (M : ℕ → ℤ) → lossOf p q c e (f .scale) M ≡ pos m → lossOf p q c (f .ends) (f .scale) M ≡ pos (m - off)
-        same M i = minus (lossOf p q c (f .ends) (f .scale) M) (m - off) off (sym (frame-loss M) ∙ i) (omega arith)
+        same : (M : ℕ → ℤ) → lossOf p q c e (f .scale) M ≡ pos m → lossOf p q c (f .ends) (f .scale) M ≡ pos n
+        same M i = minus (lossOf p q c (f .ends) (f .scale) M) n off (sym (frame-loss M) ∙ i) (omega arith)
           where
             minus : (z : ℤ) (x y : ℕ) → z +ℤ pos y ≡ pos m → m ≡ x + y → z ≡ pos x
             minus = split _ (λ a b x y. simp zed (omega arith))
@@ -601,11 +584,11 @@ pub record Sofar (p q : ℕ) (c : Columns) (e : Ends) (w : List Bool) (known : L
   pub bounds : (s : ℕ) → s < t → Usable c e w s → FrameBound p q c e w (b .lost .num) (b .lost .den) s
   pub exact : Exact p q c e w known b
   pub latest : b .any ≡ true → (u : ℕ) × Latest c e w t u
-  pub few : b .written ≤ t * runCells
+  pub few : b .written ≤ t * leastCells
   pub gone : Gone p q c e w known t b
 
 pub sofar-first : (p q : ℕ) (c : Columns) (e : Ends) (w : List Bool) (known : Lost) → Counted (known .num) (known .den) →
-    Sofar p q c e w known 0 (record { lost = known; found = false; at = 0; any = false; written = 0 })
+    Sofar p q c e w known 0 (record { lost = known; found = false; at = 0; place = replicate 16 (pos 0); any = false; written = 0 })
 sofar-first p q c e w known k = record {
   counted = k;
   bounds = λ s l u. absurd (omega arith);
@@ -617,8 +600,8 @@ sofar-first p q c e w known k = record {
 
 -- a frame that is found stays found while the loss stays
 stay : {p q : ℕ} {c : Columns} {e : Ends} {w : List Bool} {known : Lost} {b r : Least} → Same b r → Exact p q c e w known b → Exact p q c e w known r
-stay (i, (j, k)) (inl (g, h)) = inl (j ∙ g, i ∙ h)
-stay {p} {q} {c} {e} {w} {known} {b} {r} (i, (j, k)) (inr f) = inr (record {
+stay (i, (j, (k, l))) (inl (g, h)) = inl (j ∙ g, i ∙ h)
+stay {p} {q} {c} {e} {w} {known} {b} {r} (i, (j, (k, l))) (inr f) = inr (record {
   at-in = rw k (f .at-in);
   usable = rw k (f .usable);
   frame = subst (λ x. AtFrame p q c e w x r) (sym k) (record {
@@ -627,7 +610,7 @@ stay {p} {q} {c} {e} {w} {known} {b} {r} (i, (j, k)) (inr f) = inr (record {
     den-is = ap (λ (x : Lost). x .den) i ∙ f .frame .den-is;
     deep = rw i (f .frame .deep);
     floor = rw i (f .frame .floor);
-    attained = rw i (f .frame .attained);
+    first = rw (i, l) (f .frame .first);
   });
 })
 

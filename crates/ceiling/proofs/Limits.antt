@@ -100,7 +100,7 @@ same-value s top q n d v h e i m D N d≥1 f = times-≤-back q _ _ h
 pub bounded-made : (p q : ℕ) (c : Columns) (e : Ends) (w : List Bool) (known : Bool) (v : Mixed) (k : Known) (top : ℤ) (r : Least) →
     Priced c e (record { p = p; q = q }) → top ≡ topOf p q c e → Within 100000000000000000 top
     → KnownBy top q known (v .whole) (v .part) (v .parts) k → LeastLoss p q c e w (k .lost) r → Shallow p q c e
-    → Bounded c e w known v (record { top = top; p = p; q = q; lost = r .lost; found = r .found; at = r .at; written = r .written })
+    → Bounded c e w known v (record { top = top; p = p; q = q; lost = r .lost; found = r .found; at = r .at; place = r .place; written = r .written })
 bounded-made p q c e w known v k top r price t top-in h l low = record {
   few = l .few;
   writes = record { priced = price; from = k; known-by = h; frames = l .writes };
@@ -138,7 +138,7 @@ bounded-made p q c e w known v k top r price t top-in h l low = record {
         go false y = absurd (too-deep p q c e w low (r .lost .num) (r .lost .den) (num-is ∙ h .loss .deep y .0) (den-is ∙ h .loss .deep y .1) (l .ceiling))
 
     found : r .found ≡ true → ((r .found ≡ false) × (r .lost ≡ k .lost)) ⊎ Found p q c e w r →
-        BestFrame c e w (record { top = top; p = p; q = q; lost = r .lost; found = r .found; at = r .at; written = r .written })
+        BestFrame c e w (record { top = top; p = p; q = q; lost = r .lost; found = r .found; at = r .at; place = r .place; written = r .written })
     found i (inl (j, same)) = absurd (impossible (sym j ∙ i))
     found i (inr f) = record {
       at-in = f .at-in;
@@ -146,7 +146,7 @@ bounded-made p q c e w known v k top r price t top-in h l low = record {
       den-is = f .frame .den-is;
       deep = f .frame .deep;
       floor = f .frame .floor;
-      attained = f .frame .attained;
+      first = f .frame .first;
     }
 
 -- ---- levels

@@ -2,7 +2,7 @@
 -- listing-first, -step, -done: a list of numbers that is being made;  flags-first, -step, -done: one of tests;  altered-first, -step, -done: one of ends;
 -- placed-first,
 -- -step, -done: one of amounts.
--- pieces-fair, pieces-narrow, pieces-keyable: the pieces are what the fillings ask for.
+-- pieces-fair, pieces-narrow, pieces-keyable: the pieces are what the fillings ask for. pieces-few: a first filling takes few of each.
 use mathlib.Core.Path.{_≡_, refl, sym, subst, _∙_}
 use mathlib.Core.Bool.{Bool, true, false}
 use mathlib.Core.List.{List}
@@ -19,7 +19,7 @@ use Rattle.scales.specs.Filling as filling
 use Rattle.scales.proofs.Sums.{sum-most}
 use Rattle.fillings.specs.declared.Parts.{Parts}
 use Rattle.fillings.specs.Ranges.{num, flag, Fair}
-use Rattle.fillings.specs.Foremost.{Keyable}
+use Rattle.fillings.specs.Foremost.{Keyable, FirstAt}
 use Rattle.arith.specs.Within.{Within}
 use Rattle.arith.proofs.Parts.{within-abs, within-sub}
 use Rattle.greedy.specs.declared.Columns.{Columns}
@@ -135,6 +135,9 @@ module _ {p q : ℕ} {c : Columns} {e : Ends} {E cut room m : ℕ} {ps : Parts} 
       few : (k : ℕ) → k < m → spanOf e E cut k ≤ 900000000
       few k i = span-narrow (eqb k cut) E (at (e .lo) k) (at (e .hi) k) (z .lo-in k) (z .hi-in k) (λ b. let q = eqb-true k cut b in
           subst (λ n. E * natAbs (at (e .hi) n -ℤ at (e .lo) n) ≤ 900000000) (sym q) (narrow (subst (λ n. n < m) q i)))
+
+  pub pieces-few : {C r : ℕ} {a : List ℕ} → FirstAt ps C r a → (j : ℕ) → j < 16 → num a j ≤ 900000000
+  pieces-few f j l = omega (arith, f .shown j l, f .within j (omega (arith, h .weights .long)), pieces-narrow j l)
 
   pub pieces-keyable : (cap : ℕ) → cap ≤ 10000000000 → Keyable ps cap
   pieces-keyable cap small j l = omega (arith, mul-le-mul small (up (num (ps .range) j) (pieces-narrow j l)))

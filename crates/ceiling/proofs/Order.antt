@@ -1,9 +1,10 @@
 -- The first point that loses r, from the first filling that costs r.
 -- amount-less: fewer pieces, an amount that comes first, or last where it falls. first-point: the point. first-none: there is none.
-use mathlib.Core.Path.{_≡_, refl, sym, ap, _∙_, subst, subst₂}
+use mathlib.Core.Path.{_≡_, sym, ap, _∙_, subst}
 use mathlib.Core.Bool.{Bool, true, false, cond}
+use mathlib.Core.List.{List}
 use mathlib.Core.Logic.{_⊎_, inl, inr}
-use Prim.Native.Nat.{ℕ, suc, _+_, _*_, _-_, _≤_, _<_}
+use Prim.Native.Nat.{ℕ, _+_, _*_, _-_, _≤_, _<_}
 use native.Mathlib.Omega.{arith}
 use native.Mathlib.Nat.{mul-le-mul-right}
 use native.Mathlib.Decide.{decLt}
@@ -15,7 +16,6 @@ use Rattle.arith.proofs.Integers.{split, zed}
 use Rattle.arith.proofs.Sums.{sum-cong}
 use Rattle.scales.specs.Filling as filling
 use Rattle.fillings.specs.declared.Parts.{Parts}
-use Rattle.fillings.specs.declared.First.{First}
 use Rattle.fillings.specs.Ranges.{num, flag, itemsIn}
 use Rattle.fillings.specs.Runs as runs
 use Rattle.fillings.specs.Foremost.{FirstAt}
@@ -24,8 +24,8 @@ use Rattle.greedy.specs.declared.Ends.{Ends}
 use Rattle.greedy.specs.Fill.{at, weightOf, priceOf}
 use Rattle.greedy.proofs.Relaxed.{InOrder}
 use Rattle.ceiling.specs.Loss.{weighOf, topOf, lossOf, Point, Floor}
-use Rattle.ceiling.specs.Pieces.{amountBy, amountOf, fallsOf, roomBy, Pieces}
-use Rattle.ceiling.specs.Least.{Agree, Earlier, NotAfter, FirstPoint, Firsts}
+use Rattle.ceiling.specs.Pieces.{amountBy, amountOf, roomBy, Pieces}
+use Rattle.ceiling.specs.Least.{Earlier, NotAfter, FirstPoint}
 use Rattle.ceiling.proofs.Bounded.{way, way-within, way-fills, way-costs, way-makes}
 use Rattle.ceiling.proofs.Attained.{made-point, made-loses}
 
@@ -75,12 +75,12 @@ module _ (p q : ℕ) (c : Columns) (e : Ends) (E cut : ℕ) (few : c .count ≤ 
       up : (m n : ℕ) → m + 1 ≤ n → pos m <ℤ pos n
       up m n h = simp zed (omega arith)
 
-  module _ (s : First) (h : FirstAt ps room r (s .amounts)) where
+  module _ (ys : List ℕ) (h : FirstAt ps room r ys) where
     abbrev y : ℕ → ℕ
     y = h .amounts
 
     abbrev N : ℕ → ℤ
-    N = amountOf c e E cut (num (s .amounts))
+    N = amountOf c e E cut (num ys)
 
     same : (k : ℕ) → k < n → N k ≡ amountOf c e E cut y k
     same k l = ap (amountBy (eqb k cut) E (weightOf c k) (at (e .lo) k) (at (e .hi) k)) (h .shown k (omega (arith, few)))

@@ -4,7 +4,7 @@
 --   KnownLoss top q whole part parts k   where k is exact, it is what the value whole + part / parts loses
 --   KnownBy top q known whole part parts k   the same, where the value is known
 --   BoundWrites c e w known v r  r tells the cells that are written for all frames, at the critical item's price, from what v loses on
---   BestFrame c e w r       the bound is the value of a point of frame `at`
+--   BestFrame c e w r       the bound is the value of a point of frame `at`: the place shows the first one
 --   Bounded c e w known v r      no value of the box is above (top - num / den) / q, and one is just that: v, or that of a point of frame `at`
 use mathlib.Core.Path.{_≡_}
 use mathlib.Core.Bool.{Bool, true, false, cond}
@@ -15,7 +15,7 @@ use lib.IntN.{ℤ, pos, natAbs, _+ℤ_, _-ℤ_, _*ℤ_}
 use Rattle.arith.specs.Within.{Within}
 use Rattle.arith.specs.declared.Mixed.{Mixed}
 use Rattle.arith.proofs.Mixes.{over}
-use Rattle.fillings.specs.Runs.{runCells}
+use Rattle.fillings.specs.Foremost.{leastCells}
 use Rattle.knapsack.specs.declared.Mark.{Mark}
 use Rattle.knapsack.proofs.Branch.{AtMost}
 use Rattle.greedy.specs.declared.Columns.{Columns}
@@ -25,9 +25,9 @@ use Rattle.greedy.proofs.Relaxed.{boxOf}
 use Rattle.ceiling.specs.declared.Price.{Price}
 use Rattle.ceiling.specs.declared.Known.{Known}
 use Rattle.ceiling.specs.declared.Limit.{Limit}
-use Rattle.ceiling.specs.Least.{LossWrites}
+use Rattle.ceiling.specs.Least.{LossWrites, FirstIn}
 use Rattle.ceiling.specs.Loss.{topOf}
-use Rattle.ceiling.specs.Frames.{scaleOf, Usable, Marked, FrameFloor, FrameAttained, Counted}
+use Rattle.ceiling.specs.Frames.{scaleOf, Usable, Marked, FrameFloor, Counted}
 
 pub record Priced (c : Columns) (e : Ends) (r : Price) : Type 0 where
   pub p-is : r .p ≡ cond (ltb (fill c e .at) (c .live)) (natAbs (at (c .rate) (fill c e .at))) 0
@@ -66,10 +66,10 @@ pub record BestFrame (c : Columns) (e : Ends) (w : List Bool) (r : Limit) : Type
   pub den-is : r .lost .den ≡ scaleOf c (r .at)
   pub deep : r .lost .num < 10000000000
   pub floor : FrameFloor (r .p) (r .q) c e w (r .at) (r .lost .num)
-  pub attained : FrameAttained (r .p) (r .q) c e w (r .at) (r .lost .num)
+  pub first : FirstIn (r .p) (r .q) c e w (r .at) (r .lost .num) (r .place)
 
 pub record Bounded (c : Columns) (e : Ends) (w : List Bool) (known : Bool) (v : Mixed) (r : Limit) : Type 0 where
-  pub few : r .written ≤ 17 * runCells
+  pub few : r .written ≤ 17 * leastCells
   pub writes : BoundWrites c e w known v r
   pub p-in : r .p ≤ 10000
   pub q-in : r .q ≤ 1000

@@ -10,7 +10,6 @@
 --   Loses p q c e n d E N   N / E loses at least n / d
 --   FrameBound .. n d t     so does each point of frame t
 --   Ceiling .. n d      so does each feasible point of the box
---   FrameAttained .. t r    some point of frame t loses r / scale
 --   Marked c w marks    the whole items are marked;  Unmarked: only they are
 --   Altered n f xs ys   a list changed at its first n places
 --   FrameEnds .. e′     the ends of a frame, in order
@@ -22,7 +21,7 @@
 use mathlib.Core.Path.{_≡_}
 use mathlib.Core.Bool.{Bool, true, false, cond}
 use mathlib.Core.List.{List}
-use mathlib.Core.Logic.{_≢_, _⊎_}
+use mathlib.Core.Logic.{_≢_}
 use Prim.Native.Nat.{ℕ, _*_, _≤_, _<_}
 use lib.Dec.{ltb, eqb}
 use lib.IntN.{ℤ, pos, natAbs, _*ℤ_}
@@ -104,14 +103,6 @@ pub record FrameEnds (c : Columns) (e : Ends) (w : List Bool) (t : ℕ) (e′ : 
 -- no point of frame t loses less than r
 pub record FrameFloor (p q : ℕ) (c : Columns) (e : Ends) (w : List Bool) (t r : ℕ) : Type 0 where
   pub floor : (e′ : Ends) → Framed c e w t e′ → (M : ℕ → ℤ) → Point c e′ (scaleOf c t) (cutOf c t) M → pos r ≤ℤ lossOf p q c e (scaleOf c t) M
-
--- some point of frame t loses just r
-pub record FrameAttained (p q : ℕ) (c : Columns) (e : Ends) (w : List Bool) (t r : ℕ) : Type 0 where
-  pub ends : Ends
-  pub framed : Framed c e w t ends
-  pub point : ℕ → ℤ
-  pub is-point : Point c ends (scaleOf c t) (cutOf c t) point
-  pub loses : lossOf p q c e (scaleOf c t) point ≡ pos r
 
 -- a loss that can be compared: n / d
 pub record Counted (n d : ℕ) : Type 0 where

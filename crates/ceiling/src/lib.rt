@@ -2,6 +2,7 @@
 // take whole amounts is a way to fill the room with pieces, and costs what it loses; the scales find the least cost.
 use arith::Mixed;
 use arith::magnitude;
+use fillings::Filled;
 use fillings::First;
 use fillings::Parts;
 use fillings::first_filling;
@@ -12,18 +13,17 @@ use greedy::begin;
 use greedy::fill_up;
 use greedy::heavy_end;
 use greedy::light_end;
-use scales::Cost;
 ghost use mathlib.Core.Path.{_≡_};
 ghost use mathlib.Core.Bool.{true, false};
 ghost use Prim.Native.Nat.{ℕ, _+_, _*_, _≤_, _<_};
 ghost use lib.IntN.{pos, _+ℤ_, _*ℤ_};
-ghost use lib.ListN.{length};
+ghost use lib.ListN.{length, replicate};
 ghost use lib.Signed.{_≤ℤ_};
 ghost use Rattle.arith.specs.Mixed.{Proper};
 ghost use Rattle.arith.specs.Within.{Within};
 ghost use Rattle.fillings.specs.Ranges.{num};
-ghost use Rattle.fillings.specs.Runs.{runCells};
-ghost use Rattle.greedy.specs.Fill.{at, place, fill, stand, itemOf};
+ghost use Rattle.fillings.specs.Foremost.{leastCells};
+ghost use Rattle.greedy.specs.Fill.{at, place, fill, stand};
 ghost use Rattle.greedy.specs.Ordered.{Ordered};
 ghost use Rattle.greedy.proofs.Relaxed.{InOrder};
 ghost use Rattle.greedy.specs.Sized.{SizedColumns, SizedEnds, Sized};
@@ -281,7 +281,7 @@ fn room_of(cols: Columns, ends: Ends) -> Room
     }
 }
 
-// At most what any point of the box loses, and at most cap; below cap some point loses just that.
+// At most what any point of the box loses, and at most cap; below cap the pieces of the first point that loses just that.
 fn floor_of(
     cols: Columns,
     ends: Ends,
@@ -291,9 +291,9 @@ fn floor_of(
     cut: usize,
     cap: u64,
     cells: &mut [u64],
-) -> Cost
+) -> Filled
     requires { ⌜ Sized cols ends × (Modest p q scale × (Cut cols scale cut × InOrder cols ends)) ⌝ }
-    requires { ⌜ Roomy cap (now cells) ⌝ }
+    requires { ⌜ Roomy cap (now cells) × Narrow ends scale cut (cols .count) ⌝ }
     ensures { λ r. ⌜ Floored p q cols ends scale cut cap r ⌝ }
 {
     let f = room_of(cols, ends);
@@ -302,8 +302,15 @@ fn floor_of(
         let ps = pieces_of(cols, ends, p, q, scale, cut, room);
         return least_filling(ps, room, cap, cells);
     }
-    Cost {
+    unfilled(cap)
+}
+
+fn unfilled(cap: u64) -> Filled
+    ensures { λ r. ⌜ (r .least ≡ cap) × (r .written ≡ 0) ⌝ }
+{
+    Filled {
         least: cap,
+        amounts: [0; 17],
         written: 0,
     }
 }
@@ -524,7 +531,57 @@ fn frame_of(
     }
 }
 
-// At most what any point of frame t loses, and at most cap; below cap some point loses just that.
+// The amount that y units make, from the end where the item weighs least on.
+fn made_of(a: i64, l: i64, u: i64, y: u64) -> i64
+    requires { ⌜ Within 300000000 l × (Within 300000000 u × (y ≤ 900000000)) ⌝ }
+    ensures { λ x. ⌜ x ≡ wholeBy a l u y ⌝ }
+{
+    let n = y as i64;
+    if a < 0 { u - n } else { l + n }
+}
+
+fn made_at(cols: Columns, ends: Ends, ys: [u64; 17], k: usize) -> i64
+    requires { ⌜ Sized cols ends × ((k < 16) × (num ys k ≤ 900000000)) ⌝ }
+    ensures { λ x. ⌜ x ≡ wholeOf cols ends (num ys) k ⌝ }
+{
+    let a = cols.weight[k];
+    let l = ends.lo[k];
+    let u = ends.hi[k];
+    let y = ys[k];
+    made_of(a, l, u, y)
+}
+
+fn made(cols: Columns, ends: Ends, ys: [u64; 17]) -> [i64; 16]
+    requires { ⌜ Sized cols ends × ((k : ℕ) → k < 16 → num ys k ≤ 900000000) ⌝ }
+    ensures { λ r. ⌜ Placed 16 (wholeOf cols ends (num ys)) r ⌝ }
+{
+    let mut to = [0; 16];
+    let mut k: usize = 0;
+    while k < 16 {
+        to[k] = made_at(cols, ends, ys, k);
+        k += 1;
+    }
+    to
+}
+
+// The least loss of a frame, and the amounts of a point that has it, but for the item cut; and how many cells were written.
+pub struct Lowest {
+    pub least: u64,
+    pub place: [i64; 16],
+    pub written: u64,
+}
+
+fn capped(cap: u64, written: u64) -> Lowest
+    ensures { λ r. ⌜ (r .least ≡ cap) × (r .written ≡ written) ⌝ }
+{
+    Lowest {
+        least: cap,
+        place: [0; 16],
+        written: written,
+    }
+}
+
+// At most what any point of frame t loses, and at most cap; below cap the first point that loses just that.
 fn frame_floor(
     cols: Columns,
     ends: Ends,
@@ -535,8 +592,8 @@ fn frame_floor(
     top: i64,
     cap: u64,
     cells: &mut [u64],
-) -> Cost
-    requires { ⌜ Ready cols ends p q × ((top ≡ topOf p q cols ends) × Within 100000000000000000 top) ⌝ }
+) -> Lowest
+    requires { ⌜ Ready cols ends p q × ((top ≡ topOf p q cols ends) × (Within 100000000000000000 top × Spanned cols ends)) ⌝ }
     requires { ⌜ Roomy cap (now cells) ⌝ }
     ensures { λ r. ⌜ FrameFloored p q cols ends whole t cap r ⌝ }
 {
@@ -544,17 +601,22 @@ fn frame_floor(
     let scale = f.scale;
     let less = f.less;
     if cap / scale < less {
-        return Cost {
-            least: cap,
-            written: 0,
-        };
+        return capped(cap, 0);
     }
     let off = scale * less;
-    let c = floor_of(cols, f.ends, p, q, scale, f.cut, cap - off, cells);
-    Cost {
-        least: off + c.least,
-        written: c.written,
+    let left = cap - off;
+    let e = f.ends;
+    let c = floor_of(cols, e, p, q, scale, f.cut, left, cells);
+    if c.least < left {
+        let ys = c.amounts;
+        let place = made(cols, e, ys);
+        return Lowest {
+            least: off + c.least,
+            place: place,
+            written: c.written,
+        };
     }
+    capped(cap, c.written)
 }
 
 // Whether frame t can be needed: the item of rank t is neither whole nor fixed.
@@ -580,11 +642,13 @@ pub struct Lost {
     pub den: u64,
 }
 
-// The least loss so far; if found, that of frame `at`. Whether any frame was looked at, and how many cells were written.
+// The least loss so far; if found, that of frame `at`, and of the point of the frame that the place shows. Whether any frame was looked at, and how
+// many cells were written.
 pub struct Least {
     pub lost: Lost,
     pub found: bool,
     pub at: usize,
+    pub place: [i64; 16],
     pub any: bool,
     pub written: u64,
 }
@@ -601,8 +665,8 @@ fn lowered(
     top: i64,
     cells: &mut [u64],
 ) -> Least
-    requires { ⌜ Ready cols ends p q × ((top ≡ topOf p q cols ends) × Within 100000000000000000 top) ⌝ }
-    requires { ⌜ Counted (best .lost .num) (best .lost .den) × ((best .written ≤ 16 * runCells) × (65535 ≤ length (now cells))) ⌝ }
+    requires { ⌜ Ready cols ends p q × ((top ≡ topOf p q cols ends) × (Within 100000000000000000 top × Spanned cols ends)) ⌝ }
+    requires { ⌜ Counted (best .lost .num) (best .lost .den) × ((best .written ≤ 16 * leastCells) × (65535 ≤ length (now cells))) ⌝ }
     ensures { λ r. ⌜ Lowered p q cols ends whole t best r ⌝ }
 {
     let n = best.lost.num;
@@ -616,19 +680,23 @@ fn lowered(
             num: r.least,
             den: scale,
         };
+        let place = r.place;
         return Least {
             lost: lost,
             found: true,
             at: t,
+            place: place,
             any: true,
             written: written,
         };
     }
     let same = best.lost;
+    let stays = best.place;
     Least {
         lost: same,
         found: best.found,
         at: best.at,
+        place: stays,
         any: true,
         written: written,
     }
@@ -646,8 +714,8 @@ fn considered(
     top: i64,
     cells: &mut [u64],
 ) -> Least
-    requires { ⌜ Ready cols ends p q × ((top ≡ topOf p q cols ends) × (Within 100000000000000000 top × (t < cols .live))) ⌝ }
-    requires { ⌜ Counted (best .lost .num) (best .lost .den) × ((best .written ≤ 16 * runCells) × (65535 ≤ length (now cells))) ⌝ }
+    requires { ⌜ Ready cols ends p q × ((top ≡ topOf p q cols ends) × (Within 100000000000000000 top × (Spanned cols ends × (t < cols .live)))) ⌝ }
+    requires { ⌜ Counted (best .lost .num) (best .lost .den) × ((best .written ≤ 16 * leastCells) × (65535 ≤ length (now cells))) ⌝ }
     ensures { λ r. ⌜ Considered p q cols ends whole t best r ⌝ }
 {
     if is_usable(cols, ends, whole, t) {
@@ -667,7 +735,7 @@ fn least_loss(
     known: Lost,
     cells: &mut [u64],
 ) -> Least
-    requires { ⌜ Ready cols ends p q ⌝ }
+    requires { ⌜ Ready cols ends p q × Spanned cols ends ⌝ }
     requires { ⌜ Counted (known .num) (known .den) × ((65535 ≤ length (now cells)) × Ordered cols) ⌝ }
     ensures { λ r. ⌜ LeastLoss p q cols ends whole known r ⌝ }
 {
@@ -686,12 +754,13 @@ fn least_loss(
 }
 
 fn unlowered(known: Lost) -> Least
-    ensures { λ r. ⌜ r ≡ record { lost = known; found = false; at = 0; any = false; written = 0 } ⌝ }
+    ensures { λ r. ⌜ r ≡ record { lost = known; found = false; at = 0; place = replicate 16 (pos 0); any = false; written = 0 } ⌝ }
 {
     Least {
         lost: known,
         found: false,
         at: 0,
+        place: [0; 16],
         any: false,
         written: 0,
     }
@@ -711,7 +780,7 @@ pub struct Known {
     pub exact: bool,
 }
 
-// (top - lost) / q, by the price p / q: the loss of frame `at` if found, else that of the value that was known.
+// (top - lost) / q, by the price p / q: if found, the loss of frame `at` and of its point that the place shows, else that of the value that was known.
 pub struct Limit {
     pub top: i64,
     pub p: u64,
@@ -719,6 +788,7 @@ pub struct Limit {
     pub lost: Lost,
     pub found: bool,
     pub at: usize,
+    pub place: [i64; 16],
     pub written: u64,
 }
 
@@ -824,7 +894,7 @@ pub fn ceiling(
     cells: &mut [u64],
 ) -> Limit
     requires { ⌜ Sized cols ends × (Ordered cols × (InOrder cols ends × ((pos 0 ≤ℤ fill cols ends .room) × (known ≡ true → Proper value)))) ⌝ }
-    requires { ⌜ 65535 ≤ length (now cells) ⌝ }
+    requires { ⌜ Spanned cols ends × (65535 ≤ length (now cells)) ⌝ }
     ensures { λ r. ⌜ Bounded cols ends whole known value r ⌝ }
 {
     let c = price_of(cols, ends);
@@ -837,6 +907,7 @@ pub fn ceiling(
     let k = known_loss(top, q, known, w, part, parts);
     let b = least_loss(cols, ends, whole, p, q, k.lost, cells);
     let lost = b.lost;
+    let place = b.place;
     Limit {
         top: top,
         p: p,
@@ -844,6 +915,7 @@ pub fn ceiling(
         lost: lost,
         found: b.found,
         at: b.at,
+        place: place,
         written: b.written,
     }
 }
@@ -855,39 +927,6 @@ pub struct Seen {
     pub found: bool,
     pub place: [i64; 16],
     pub written: u64,
-}
-
-// The amount that y units make, from the end where the item weighs least on.
-fn made_of(a: i64, l: i64, u: i64, y: u64) -> i64
-    requires { ⌜ Within 300000000 l × (Within 300000000 u × (y ≤ 900000000)) ⌝ }
-    ensures { λ x. ⌜ x ≡ wholeBy a l u y ⌝ }
-{
-    let n = y as i64;
-    if a < 0 { u - n } else { l + n }
-}
-
-fn made_at(cols: Columns, ends: Ends, ys: [u64; 17], k: usize) -> i64
-    requires { ⌜ Sized cols ends × ((k < 16) × (num ys k ≤ 900000000)) ⌝ }
-    ensures { λ x. ⌜ x ≡ wholeOf cols ends (num ys) k ⌝ }
-{
-    let a = cols.weight[k];
-    let l = ends.lo[k];
-    let u = ends.hi[k];
-    let y = ys[k];
-    made_of(a, l, u, y)
-}
-
-fn made(cols: Columns, ends: Ends, ys: [u64; 17]) -> [i64; 16]
-    requires { ⌜ Sized cols ends × ((k : ℕ) → k < 16 → num ys k ≤ 900000000) ⌝ }
-    ensures { λ r. ⌜ Placed 16 (wholeOf cols ends (num ys)) r ⌝ }
-{
-    let mut to = [0; 16];
-    let mut k: usize = 0;
-    while k < 16 {
-        to[k] = made_at(cols, ends, ys, k);
-        k += 1;
-    }
-    to
 }
 
 fn unseen(written: u64) -> Seen

@@ -1,8 +1,9 @@
 -- The first filling, group after group.
 -- whole-among, whole-inside, whole-least: all amounts. among-less, wide-less: narrower ranges.
--- heads-first, sought-first, sought-step, sought-more, sought-done, sought-none: from run to run.
-use mathlib.Core.Path.{_≡_, refl, sym, ap, _∙_}
-use mathlib.Core.Bool.{true, false}
+-- lower-cap: a run below another cap. heads-first, sought-first, sought-step, sought-more, sought-done, sought-none: from run to run.
+-- bounds-begun, sought-begun, begun-found: after a run over all amounts.
+use mathlib.Core.Path.{_≡_, refl, sym, ap, subst, _∙_}
+use mathlib.Core.Bool.{Bool, true, false}
 use mathlib.Core.List.{List}
 use mathlib.Core.Logic.{_⊎_, inl, inr}
 use Prim.Native.Nat.{ℕ, zero, suc, _+_, _*_, _-_, _^_, _≤_, _<_}
@@ -17,7 +18,8 @@ use Rattle.fillings.specs.declared.Run.{Run}
 use Rattle.fillings.specs.Ranges.{num, itemsIn, Inside, Among}
 use Rattle.fillings.specs.Runs.{Earlier, Fills, Filling, Runs, Whole}
 use Rattle.fillings.specs.Leaps.{Heads, Sought}
-use Rattle.fillings.specs.Foremost.{Keyable, FirstAt}
+use Rattle.fillings.specs.declared.First.{First}
+use Rattle.fillings.specs.Foremost.{Keyable, FirstAt, Goes}
 
 pub whole-among : (p : Parts) (r : Ranges) → Whole p r → Among p r
 whole-among p r w j l = rw (w .all) (omega (arith, w .none j))
@@ -37,9 +39,9 @@ wide-less r r′ h j l =
     let high = h (λ i. num (r′ .low) i + num (r′ .wide) i) (λ i v. (omega arith, omega arith)) j l in
     omega (arith, low .0, high .1)
 
-pub whole-least : (p : Parts) (r : Ranges) (C cap : ℕ) (n : Run) → length (p .weight) ≡ 17 → Whole p r → Runs p r C cap 0 0 n →
+pub whole-least : (p : Parts) (r : Ranges) (C cap f : ℕ) (n : Run) → length (p .weight) ≡ 17 → Whole p r → Runs p r C cap f n →
     Least cap (itemsIn p) C (n .cost)
-whole-least p r C cap n long w h = record {
+whole-least p r C cap f n long w h = record {
   capped = h .capped;
   bounds = λ y i f. h .bounds y (whole-inside p r long w y i) f;
   reached = λ l. let v = h .reached l in record {
@@ -48,6 +50,21 @@ whole-least p r C cap n long w h = record {
     fills = v .fills;
     costs = v .costs;
   };
+}
+
+-- what a run has found, it finds below any higher cap
+lower-cap : (p : Parts) (r : Ranges) (C cap f : ℕ) (n : Run) → Runs p r C cap f n → n .cost < cap → cap * suc (num (r .wide) f) < 2 ^ 63 →
+    Runs p r C (n .cost + 1) f n
+lower-cap p r C cap f n h l k = record {
+  few = h .few;
+  capped = omega arith;
+  bounds = h .bounds;
+  reached = λ _. h .reached l;
+  among = λ _. h .among l;
+  fixed = λ _. h .fixed l;
+  first = λ _. h .first l;
+  end = h .end;
+  some = λ _ m _. h .some l m k;
 }
 
 pub earlier-more : {p : Parts} {m n : ℕ} {y z : ℕ → ℕ} → m ≤ n → Earlier p m y z → Earlier p n y z
@@ -69,7 +86,7 @@ module _ (p : Parts) (C cap : ℕ) (long : length (p .weight) ≡ 17) (cap≥1 :
   sought-first r w = record { heads = heads-first p C c r long w; whole = λ e. whole-inside p r long w; some = λ l. absurd (omega arith) }
 
   -- nothing was found
-  pub sought-none : (r : Ranges) (f : ℕ) (s : Sought p C c r f) (n : Run) (h : Runs p r C cap f 16 n) → n .cost ≡ cap → (y : ℕ → ℕ) →
+  pub sought-none : (r : Ranges) (f : ℕ) (s : Sought p C c r f) (n : Run) (h : Runs p r C cap f n) → n .cost ≡ cap → (y : ℕ → ℕ) →
       Within (itemsIn p) y → Fills p C y → cap ≤ cost (itemsIn p) y
   sought-none r f s n h e y i fl = go (ℕ-discrete f 0)
     where
@@ -77,7 +94,7 @@ module _ (p : Parts) (C cap : ℕ) (long : length (p .weight) ≡ 17) (cap≥1 :
       go (yes q) = omega (arith, h .bounds y (s .whole q y i) fl)
       go (no q) = let v = s .some (omega arith) in absurd (omega (arith, h .bounds (v .amounts) (v .inside) (v .fills), v .costs))
 
-  module _ (r : Ranges) (f m : ℕ) (s : Heads p C c r f m) (n : Run) (h : Runs p r C cap f 16 n) where
+  module _ (r : Ranges) (f m : ℕ) (s : Heads p C c r f m) (n : Run) (h : Runs p r C cap f n) where
     -- something was
     module _ (ne : n .cost ≡ cap → ⊥) where
       found : n .cost < cap
@@ -152,3 +169,29 @@ module _ (p : Parts) (C cap : ℕ) (long : length (p .weight) ≡ 17) (cap≥1 :
       go : (y : ℕ → ℕ) → Inside r y ⊎ ((a : ℕ → ℕ) → Inside r a → Earlier p f a y) → ((j : ℕ) → j < 16 → v .amounts j ≡ y j) ⊎ Earlier p 16 (v .amounts) y
       go y (inl i) = inl (λ j k. sym (shown (v .amounts) (v .inside) j k) ∙ shown y i j k)
       go y (inr g) = inr (earlier-more (s .heads .inside) (g (v .amounts) (v .inside)))
+
+-- what a run over all amounts has found
+module _ (p : Parts) (r : Ranges) (C cap : ℕ) (n : Run) (long : length (p .weight) ≡ 17) (w : Whole p r) (h : Runs p r C cap 0 n) (l : n .cost < cap) where
+  pub bounds-begun : Bounds (itemsIn p) C (n .cost + 1 - 1)
+  bounds-begun y i f = omega (arith, whole-least p r C cap 0 n long w h .bounds y i f)
+
+  pub sought-begun : Keyable p cap → Sought p C (n .cost + 1 - 1) (n .ranges) (n .to)
+  sought-begun keys =
+      sought-step p C (n .cost + 1) long (omega arith) bounds-begun r 0 0 (heads-first p C (n .cost + 1 - 1) r long w) n (lower-cap p r C cap 0 n h l k)
+      (λ e. omega (arith, e)) (h .some l (omega arith) k) (omega arith)
+    where
+      k : cap * suc (num (r .wide) 0) < 2 ^ 63
+      k = rw (w .all) (keys 0 (omega arith))
+
+  -- and what is found from there on
+  pub begun-found : (s : Run) (f : First) → Goes p C (n .cost + 1) s f → FirstAt p C (n .cost) (f .amounts)
+  begun-found s f g = go (f .found) refl
+    where
+      e : n .cost + 1 - 1 ≡ n .cost
+      e = omega arith
+
+      go : (b : Bool) → f .found ≡ b → FirstAt p C (n .cost) (f .amounts)
+      go true t = subst (λ c. FirstAt p C c (f .amounts)) e (g .found t)
+      go false t =
+          let v = whole-least p r C cap 0 n long w h .reached l in
+          absurd (omega (arith, g .none t (v .amounts) (v .within) (v .fills), v .costs))

@@ -1,30 +1,18 @@
 -- Lists as loops make them.
--- num-zeros: nothing everywhere. made-first, made-step, made-done: place by place from the front.
--- begun-first, -step, -done: the same with nothing at the other places.
-use mathlib.Core.Path.{_≡_, refl, subst, _∙_}
+-- num-zeros: nothing everywhere. begun-first, -step, -done: place by place from the front, as made-first, -step, -done (residues), with nothing at the
+-- other places.
+use mathlib.Core.Path.{_≡_, refl, _∙_}
 use mathlib.Core.List.{List}
 use Prim.Native.Nat.{ℕ, zero, suc, _+_, _≤_, _<_}
 use native.Mathlib.Omega.{arith}
 use native.Mathlib.Decide.{ℕ-discrete, decLt}
 use lib.ListN.{length, set, length-set, replicate}
 use lib.Seq.{getD-set-same, getD-set-other}
+pub use Rattle.residues.proofs.Lists.{made-first, made-step, made-done}
 use Rattle.fillings.specs.Ranges.{num, Made}
 
 abbrev pub zeros : List ℕ
 zeros = replicate 17 0
-
-pub made-first : (f : ℕ → ℕ) → Made 0 f zeros
-made-first f = record { long = refl; each = λ k l. absurd (omega arith) }
-
-pub made-step : (f : ℕ → ℕ) (k v : ℕ) {xs : List ℕ} → k < 17 → v ≡ f k → Made k f xs → Made (k + 1) f (set xs k v)
-made-step f k v {xs} l e h = record { long = length-set xs k v ∙ h .long; each = λ j m. go j m (ℕ-discrete j k) }
-  where
-    go : (j : ℕ) → j < k + 1 → Dec (j ≡ k) → num (set xs k v) j ≡ f j
-    go j m (yes q) = rw q (getD-set-same xs k v 0 (omega (arith, h .long)) ∙ e)
-    go j m (no q) = getD-set-other xs k j v 0 q ∙ h .each j (omega arith)
-
-pub made-done : {f : ℕ → ℕ} {m n : ℕ} {xs : List ℕ} → m ≡ n → Made m f xs → Made n f xs
-made-done {f} {m} {n} {xs} e h = subst (λ i. Made i f xs) e h
 
 -- the places below k are those of f, the others hold nothing
 pub record Begun (k : ℕ) (f : ℕ → ℕ) (xs : List ℕ) : Type 0 where

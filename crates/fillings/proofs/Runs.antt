@@ -30,9 +30,9 @@ use Rattle.fillings.proofs.Narrow.{near-inside, near-offset, near-keeps
 
 -- ---- nothing is found
 
-pub runs-none : (p : Parts) (r : Ranges) (C cap f e w : ℕ) → w ≤ runCells → ((y : ℕ → ℕ) → Inside r y → Fills p C y → cap ≤ cost (itemsIn p) y)
-    → Runs p r C cap f e (record { cost = cap; ranges = r; to = f; written = w })
-runs-none p r C cap f e w few h = record {
+pub runs-none : (p : Parts) (r : Ranges) (C cap f w : ℕ) → w ≤ runCells → ((y : ℕ → ℕ) → Inside r y → Fills p C y → cap ≤ cost (itemsIn p) y)
+    → Runs p r C cap f (record { cost = cap; ranges = r; to = f; written = w })
+runs-none p r C cap f w few h = record {
   few = few;
   capped = omega arith;
   bounds = h;
@@ -46,10 +46,9 @@ runs-none p r C cap f e w few h = record {
 
 -- ---- within the narrowed ranges
 
-pub runs-wider : (p : Parts) (r r′ : Ranges) (C cap f e left : ℕ) (n : Run) → length (p .weight) ≡ 17 → Among p r → f ≤ e → e ≤ 17 → left ≡ cap - offsetOf p r →
-    1 ≤ left → Narrows p left r r′
-    → Runs p r′ C cap f e n → Runs p r C cap f e n
-runs-wider p r r′ C cap f e left n long among fe e-in left-is left≥1 near h = record {
+pub runs-wider : (p : Parts) (r r′ : Ranges) (C cap f left : ℕ) (n : Run) → length (p .weight) ≡ 17 → Among p r → left ≡ cap - offsetOf p r →
+    1 ≤ left → Narrows p left r r′ → Runs p r′ C cap f n → Runs p r C cap f n
+runs-wider p r r′ C cap f left n long among left-is left≥1 near h = record {
   few = h .few;
   capped = h .capped;
   bounds = λ y i k. bounds y i k (decLt (cost (itemsIn p) y) cap);
@@ -73,9 +72,9 @@ runs-wider p r r′ C cap f e left n long among fe e-in left-is left≥1 near h 
 
 -- ---- by keys
 
-module _ (p : Parts) (r : Ranges) (long : length (p .weight) ≡ 17) (among : Among p r) (C cap f e left room : ℕ) (fe : f ≤ e) (e-in : e ≤ 17)
+module _ (p : Parts) (r : Ranges) (long : length (p .weight) ≡ 17) (among : Among p r) (C cap f left room : ℕ) (fe : f ≤ 16)
     (left-is : left ≡ cap - offsetOf p r) (left≥1 : 1 ≤ left) (room-is : load (itemsIn p) (num (r .low)) + room ≡ C) (g : Group)
-    (grouped : Grouped (r .wide) f e left g)
+    (grouped : Grouped (r .wide) f 16 left g)
     (rad ts ls : List ℕ) (rads : Made 17 (radix (num (r .wide)) f (g .to)) rad) (takens : Made 17 (keyedTaken p (left * g .base) left (g .base) rad) ts)
     (lefts : Made 17 (keyedLeft p (left * g .base) left (g .base) rad) ls) where
   abbrev N : ℕ
@@ -352,8 +351,8 @@ module _ (p : Parts) (r : Ranges) (long : length (p .weight) ≡ 17) (among : Am
           go (inl e) = inl (same-inside y x (s y i fl) e)
           go (inr e) = inr (sooner-earlier y x (s y i fl) e)
 
-      pub runs-made : (n t : ℕ) → t ≤ runCells → n ≡ (cap - left) + c / base → Runs p r C cap f e (record { cost = n; ranges = r′; to = to; written = t })
-      runs-made n t few is = subst (λ x. Runs p r C cap f e (record { cost = x; ranges = r′; to = to; written = t })) (sym (is ∙ whole)) (record {
+      pub runs-made : (n t : ℕ) → t ≤ runCells → n ≡ (cap - left) + c / base → Runs p r C cap f (record { cost = n; ranges = r′; to = to; written = t })
+      runs-made n t few is = subst (λ x. Runs p r C cap f (record { cost = x; ranges = r′; to = to; written = t })) (sym (is ∙ whole)) (record {
         few = few;
         capped = omega (arith, below);
         bounds = λ y i fl. quotient-low y i fl;
@@ -389,16 +388,16 @@ module _ (p : Parts) (r : Ranges) (long : length (p .weight) ≡ 17) (among : Am
 
 -- ---- as the code has it
 
-module _ {p : Parts} {r : Ranges} {C cap f e left room : ℕ} {g : Group} {c : Cost} (b : Begins p r C cap f e left room) (h : Grouped (r .wide) f e left g)
-    (k : LeastKeyed p r f left room g c) where
-  pub keyed-none : c .least ≡ left * g .base → Runs p r C cap f e (record { cost = cap; ranges = r; to = f; written = c .written })
-  keyed-none is = runs-none p r C cap f e (c .written) (k .few)
-      (none-made p r (b .fair .long) (b .among) C cap f e left room (b .start) (omega (arith, b .end)) (b .left-is) (b .left≥1) (b .room-is) g h
+module _ {p : Parts} {r : Ranges} {C cap f left room free : ℕ} {g : Group} {c : Cost} (b : Begins p r C cap f left room)
+    (h : Grouped (r .wide) f 16 left g) (k : LeastKeyed p r f left room g free c) where
+  pub keyed-none : c .least ≡ left * g .base → Runs p r C cap f (record { cost = cap; ranges = r; to = f; written = c .written })
+  keyed-none is = runs-none p r C cap f (c .written) (k .few)
+      (none-made p r (b .fair .long) (b .among) C cap f left room (b .start) (b .left-is) (b .left≥1) (b .room-is) g h
       (k .rad) (k .ts) (k .ls) (k .rads) (k .takens) (k .lefts) (c .least) (k .least) is)
 
   pub keyed-made : {r′ : Ranges} → (c .least ≡ left * g .base → ⊥) → Decodes p r f g (c .least % g .base) r′
-      → Runs p r C cap f e (record { cost = (cap - left) + c .least / g .base; ranges = r′; to = g .to; written = c .written })
-  keyed-made {r′} ne d = runs-made p r (b .fair .long) (b .among) C cap f e left room (b .start) (omega (arith, b .end)) (b .left-is)
+      → Runs p r C cap f (record { cost = (cap - left) + c .least / g .base; ranges = r′; to = g .to; written = c .written })
+  keyed-made {r′} ne d = runs-made p r (b .fair .long) (b .among) C cap f left room (b .start) (b .left-is)
       (b .left≥1) (b .room-is) g h
       (k .rad) (k .ts) (k .ls) (k .rads) (k .takens) (k .lefts) (c .least) (k .least) (omega (arith, k .least .capped)) (d .ds) (d .read) r′ (d .fixes) _
       (c .written) (k .few) refl

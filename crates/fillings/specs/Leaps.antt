@@ -77,7 +77,7 @@ leapShare i = cond (ltb 4 i) 1 16
 
 pub data LeapWrites (p : Parts) (C cap t s : ℕ) : ℕ → Type 0 where
   shut : (h : Ranges) → Opens p C (cap - 1) h t s → ((y : ℕ → ℕ) → Inside h y → Fills p C y → ⊥) → LeapWrites p C cap t s 0
-  ran : (h : Ranges) (n : ℕ) → Opens p C (cap - 1) h t s → RunWrites p h C cap n → LeapWrites p C cap t s n
+  ran : (h : Ranges) (n : ℕ) → Opens p C (cap - 1) h t s → RunWrites p h C cap t n → LeapWrites p C cap t s n
 
 pub data TriedWrite (p : Parts) (C cap : ℕ) : ℕ → ℕ → Type 0 where
   untried : TriedWrite p C cap 7 0
@@ -86,7 +86,7 @@ pub data TriedWrite (p : Parts) (C cap : ℕ) : ℕ → ℕ → Type 0 where
 pub record Leaps (p : Parts) (C cap t s : ℕ) (n : Run) : Type 0 where
   pub head : Ranges
   pub opens : Opens p C (cap - 1) head t s
-  pub runs : Runs p head C cap t 16 n
+  pub runs : Runs p head C cap t n
   pub writes : LeapWrites p C cap t s (n .written)
 
 -- with the cells of the leaps that were tried

@@ -1,12 +1,11 @@
 -- Parts of a load, and ranges of their amounts. A part is an item of a filling; the last one, of weight 1, is the slack.
---   num xs k, flag xs k    what stands at k
+--   flag xs k              what stands at k, as num xs k does (residues)
 --   itemsIn p              the 17 parts as items
 --   Inside r y             each amount of y is one of r: low, or up to wide more
 --   Among p r              the ranges r are within those of the parts
 --   offsetAt p r k         what part k costs at least, within r;  offsetOf p r: all parts together
 --   boxed p r              the parts with the ranges of r alone, amounts counted from low on
 --   nearWide, nearLow      the amounts of a part that alone cost less than left;  nearWideOf, nearLowOf: of part k
---   Made n f xs            a list of 17 numbers, of which the first n are those of f
 --   Narrows p left r r′    the ranges r′ are those of r near the cheaper ends
 --   Fair p                 17 parts, light enough for the cells, with ranges that can be counted
 use mathlib.Core.Path.{_≡_}
@@ -16,12 +15,10 @@ use Prim.Native.Nat.{ℕ, _+_, _-_, _*_, _/_, _^_, _≤_, _<_, min}
 use lib.Dec.{eqb}
 use lib.ListN.{length, getD}
 use Rattle.scales.specs.Filling.{Items, sum, itemsOf}
-use Rattle.scales.specs.Lent.{total}
+pub use Rattle.residues.specs.Asked.{num, Made}
+use Rattle.residues.specs.Asked.{Fit}
 use Rattle.fillings.specs.declared.Parts.{Parts}
 use Rattle.fillings.specs.declared.Ranges.{Ranges}
-
-abbrev pub num : List ℕ → ℕ → ℕ
-num xs k = getD xs k 0
 
 abbrev pub flag : List Bool → ℕ → Bool
 flag xs k = getD xs k false
@@ -57,15 +54,10 @@ nearWideOf left p r k = nearWide left (num (p .taken) k) (num (p .left) k) (num 
 abbrev pub nearLowOf : ℕ → Parts → Ranges → ℕ → ℕ
 nearLowOf left p r k = nearLow left (num (p .taken) k) (num (p .left) k) (num (r .low) k) (num (r .wide) k)
 
-pub record Made (n : ℕ) (f : ℕ → ℕ) (xs : List ℕ) : Type 0 where
-  pub long : length xs ≡ 17
-  pub each : (k : ℕ) → k < n → num xs k ≡ f k
-
 pub record Narrows (p : Parts) (left : ℕ) (r r′ : Ranges) : Type 0 where
   pub lows : Made 17 (nearLowOf left p r) (r′ .low)
   pub wides : Made 17 (nearWideOf left p r) (r′ .wide)
 
-pub record Fair (p : Parts) : Type 0 where
-  pub long : length (p .weight) ≡ 17
-  pub light : total (p .weight) ≤ 16001
-  pub ranges-in : (k : ℕ) → k < 17 → num (p .range) k < 2 ^ 43
+-- 17 parts, light enough for the cells, with ranges that can be counted
+abbrev pub Fair : Parts → Type 0
+Fair p = Fit (p .weight) (p .range)

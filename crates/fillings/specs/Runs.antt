@@ -15,13 +15,14 @@
 --   Filling p r C c            a filling within r at the cost c
 --   runCells                   the most cells that a run writes
 --   Begins p r C cap ..        what a run by keys asks
---   LeastKeyed p r ..          the least cost with keys
+--   LeastKeyed p r .. free c   the least cost with keys, where part `free` absorbs the others, or is none
 --   Decodes p r f g key r′     the ranges r′ have the group fixed at the digits of the key
---   Runs p r C cap f e n       what a run from part f on, to e at most, finds
---   ScalesWrite p r K n        the scales write n cells for the parts within r and the capacity K, whatever a unit costs
---   RunWrites p r C cap n      a run over r writes n cells: those of the scales within the narrowed ranges, or none where nothing is left to look for
+--   Runs p r C cap f n         what a run from part f on finds
+--   ScalesWrite p r K f n      the scales write n cells for the parts within r and the capacity K, whatever a unit costs: by the first part after f that
+--                              absorbs the others, if one does
+--   RunWrites p r C cap f n    a run over r from part f on writes n cells: those of the scales within the narrowed ranges, or none where nothing is left
+--                              to look for
 --   Whole p r                  the ranges of all amounts
---   WholeWrites p C cap n      the run over all amounts writes n cells
 use mathlib.Core.Path.{_≡_}
 use mathlib.Core.Bool.{Bool, true, false, cond}
 use mathlib.Core.List.{List}
@@ -30,15 +31,15 @@ use Prim.Native.Nat.{ℕ, suc, _+_, _-_, _*_, _^_, _≤_, _<_, min}
 use lib.Dec.{ltb}
 use lib.ListN.{length}
 use Rattle.scales.specs.declared.Cost.{Cost}
-use Rattle.scales.specs.Counts.{Takes}
 use Rattle.scales.specs.Filling.{load, cost, Within, itemsOf, Least}
+use Rattle.residues.specs.Asked.{Chosen, TakesBy}
 use Rattle.fillings.specs.declared.Parts.{Parts}
 use Rattle.fillings.specs.declared.Ranges.{Ranges}
 use Rattle.fillings.specs.declared.Group.{Group}
 use Rattle.fillings.specs.declared.Run.{Run}
 use Rattle.fillings.specs.declared.First.{First}
 use Rattle.fillings.specs.Keys.{keys, digits, radix}
-use Rattle.fillings.specs.Ranges.{num, flag, itemsIn, Inside, Among, offsetOf, Made, Narrows, Fair}
+use Rattle.fillings.specs.Ranges.{num, flag, itemsIn, Inside, Among, offsetOf, boxed, Made, Narrows, Fair}
 
 pub record Grouped (wide : List ℕ) (f e left : ℕ) (g : Group) : Type 0 where
   pub from : f ≤ g .to
@@ -109,22 +110,21 @@ pub record Filling (p : Parts) (r : Ranges) (C c : ℕ) : Type 0 where
 
 -- the most cells that a run writes
 abbrev pub runCells : ℕ
-runCells = 94951439
+runCells = 99367785
 
 -- what a run by keys asks: ranges whose offset leaves `left` of the cap, and a room that the least amounts leave
-pub record Begins (p : Parts) (r : Ranges) (C cap f e left room : ℕ) : Type 0 where
+pub record Begins (p : Parts) (r : Ranges) (C cap f left room : ℕ) : Type 0 where
   pub fair : Fair p
   pub among : Among p r
   pub wide-long : length (r .wide) ≡ 17
-  pub start : f ≤ e
-  pub end : e ≤ 16
+  pub start : f ≤ 16
   pub cap-in : cap < 2 ^ 63
   pub left-is : left ≡ cap - offsetOf p r
   pub left≥1 : 1 ≤ left
   pub room-is : load (itemsIn p) (num (r .low)) + room ≡ C
 
 -- the least cost with keys, of the parts as four lists show them
-pub record LeastKeyed (p : Parts) (r : Ranges) (f left room : ℕ) (g : Group) (c : Cost) : Type 0 where
+pub record LeastKeyed (p : Parts) (r : Ranges) (f left room : ℕ) (g : Group) (free : ℕ) (c : Cost) : Type 0 where
   pub few : c .written ≤ runCells
   pub rad : List ℕ
   pub ts : List ℕ
@@ -133,7 +133,7 @@ pub record LeastKeyed (p : Parts) (r : Ranges) (f left room : ℕ) (g : Group) (
   pub takens : Made 17 (keyedTaken p (left * g .base) left (g .base) rad) ts
   pub lefts : Made 17 (keyedLeft p (left * g .base) left (g .base) rad) ls
   pub least : Least (left * g .base) (itemsOf (p .weight) (r .wide) ts ls) room (c .least)
-  pub takes : Takes (left * g .base) (itemsOf (p .weight) (r .wide) ts ls) room (c .written)
+  pub takes : TakesBy (left * g .base) (itemsOf (p .weight) (r .wide) ts ls) room free (c .written)
 
 -- the ranges with a group fixed at the digits of a key
 pub record Decodes (p : Parts) (r : Ranges) (f : ℕ) (g : Group) (key : ℕ) (r′ : Ranges) : Type 0 where
@@ -141,7 +141,7 @@ pub record Decodes (p : Parts) (r : Ranges) (f : ℕ) (g : Group) (key : ℕ) (r
   pub read : Made 17 (digits (num (r .wide)) f (g .to - f) key) ds
   pub fixes : Fixes p f (g .to) ds r r′
 
-pub record Runs (p : Parts) (r : Ranges) (C cap f e : ℕ) (n : Run) : Type 0 where
+pub record Runs (p : Parts) (r : Ranges) (C cap f : ℕ) (n : Run) : Type 0 where
   pub few : n .written ≤ runCells
   pub capped : n .cost ≤ cap
   pub bounds : (y : ℕ → ℕ) → Inside r y → Fills p C y → n .cost ≤ cost (itemsIn p) y
@@ -150,31 +150,27 @@ pub record Runs (p : Parts) (r : Ranges) (C cap f e : ℕ) (n : Run) : Type 0 wh
   pub fixed : n .cost < cap → (j : ℕ) → f ≤ j → j < n .to → num (n .ranges .wide) j ≡ 0
   pub first : n .cost < cap → (y : ℕ → ℕ) → Inside r y → Fills p C y → cost (itemsIn p) y ≡ n .cost
       → Inside (n .ranges) y ⊎ ((a : ℕ → ℕ) → Inside (n .ranges) a → ((j : ℕ) → j < f → a j ≡ y j) → Earlier p (n .to) a y)
-  pub end : (f ≤ n .to) × (f ≤ e → n .to ≤ e)
-  pub some : n .cost < cap → f < e → cap * suc (num (r .wide) f) < 2 ^ 63 → f < n .to
+  pub end : (f ≤ n .to) × (f ≤ 16 → n .to ≤ 16)
+  pub some : n .cost < cap → f < 16 → cap * suc (num (r .wide) f) < 2 ^ 63 → f < n .to
 
 -- ---- what is written
 
 -- the costs of a unit, taken or left, change which cells hold what, not how many there are
-pub record ScalesWrite (p : Parts) (r : Ranges) (K n : ℕ) : Type 0 where
+pub record ScalesWrite (p : Parts) (r : Ranges) (K f n : ℕ) : Type 0 where
+  pub free : ℕ
+  pub chosen : Chosen (boxed p r) (f + 1) K free
   pub top : ℕ
   pub ts : List ℕ
   pub ls : List ℕ
-  pub takes : Takes top (itemsOf (p .weight) (r .wide) ts ls) K n
+  pub takes : TakesBy top (itemsOf (p .weight) (r .wide) ts ls) K free n
 
-pub data RunWrites (p : Parts) (r : Ranges) (C cap : ℕ) : ℕ → Type 0 where
-  costly : cap ≤ offsetOf p r → RunWrites p r C cap 0
-  heavy : (r′ : Ranges) → offsetOf p r < cap → Narrows p (cap - offsetOf p r) r r′ → C < load (itemsIn p) (num (r′ .low)) → RunWrites p r C cap 0
+pub data RunWrites (p : Parts) (r : Ranges) (C cap f : ℕ) : ℕ → Type 0 where
+  costly : cap ≤ offsetOf p r → RunWrites p r C cap f 0
+  heavy : (r′ : Ranges) → offsetOf p r < cap → Narrows p (cap - offsetOf p r) r r′ → C < load (itemsIn p) (num (r′ .low)) → RunWrites p r C cap f 0
   scaled : (r′ : Ranges) (K n : ℕ) → offsetOf p r < cap → Narrows p (cap - offsetOf p r) r r′ → load (itemsIn p) (num (r′ .low)) + K ≡ C →
-      ScalesWrite p r′ K n → RunWrites p r C cap n
+      ScalesWrite p r′ K f n → RunWrites p r C cap f n
 
 -- all amounts
 pub record Whole (p : Parts) (r : Ranges) : Type 0 where
   pub none : (j : ℕ) → num (r .low) j ≡ 0
   pub all : r .wide ≡ p .range
-
-pub record WholeWrites (p : Parts) (C cap n : ℕ) : Type 0 where
-  pub few : n ≤ runCells
-  pub ranges : Ranges
-  pub all : Whole p ranges
-  pub run : RunWrites p ranges C cap n

@@ -1,20 +1,22 @@
 // Fillings of a capacity at least cost, and the first of them. A load has 17 parts, of which the last is the slack. Amounts that alone cost too much
 // are taken out before the scales look for the least cost. Which of the fillings that have it comes first is read off a key that is added to the
 // costs: the amounts of some parts as digits of one number. Before that, leaps try the first amounts of many parts at once.
+use residues::free_part;
+use residues::least_beside;
 use scales::Cost;
-use scales::least_cost;
 ghost use mathlib.Core.Path.{_≡_};
 ghost use Prim.Native.Nat.{ℕ, suc, _+_, _-_, _*_, _/_, _%_, _^_, _≤_, _<_, min};
-ghost use Rattle.scales.specs.Filling.{load, sum, Bounds, Least};
+ghost use Rattle.scales.specs.Filling.{load, sum, Bounds};
 ghost use lib.ListN.{length};
+ghost use Rattle.residues.specs.Asked.{Chosen};
 ghost use Rattle.fillings.specs.Keys.{keys, digits, radix};
 ghost use Rattle.fillings.specs.Ranges.{num, flag, itemsIn, Among, offsetOf, boxed, nearWide, nearLow};
 ghost use Rattle.fillings.specs.Ranges.{nearWideOf, nearLowOf, Made, Narrows, Fair};
 ghost use Rattle.fillings.specs.Runs.{Grouped, Gathers, inGroup, keyedBy, takenKey, leftKey, keyedTaken, keyedLeft};
 ghost use Rattle.fillings.specs.Runs.{fixedLow, fixedWide, Fixable, Fixes, Begins, LeastKeyed, Decodes, Runs};
-ghost use Rattle.fillings.specs.Runs.{ScalesWrite, RunWrites, Whole, WholeWrites};
-ghost use Rattle.fillings.specs.Leaps.{Nears, Keeps, Weighs, shortLow, Shortens, Heads, Opens, leapTo, leapShare, Leaps, Leapt};
-ghost use Rattle.fillings.specs.Foremost.{Keyable, FirstOf};
+ghost use Rattle.fillings.specs.Runs.{ScalesWrite, RunWrites, Whole, runCells};
+ghost use Rattle.fillings.specs.Leaps.{Nears, Keeps, Weighs, shortLow, Shortens, Heads, Opens, Sought, leapTo, leapShare, Leaps, Leapt};
+ghost use Rattle.fillings.specs.Foremost.{Keyable, Goes, FirstOf, LeastOf};
 
 // The parts of a load, and for each whether its amount falls where more of it is taken.
 pub struct Parts {
@@ -61,10 +63,23 @@ pub struct First {
     pub written: u64,
 }
 
+// The least cost of a filling, the amounts of the first filling that has it, if it is below the cap, and how many cells were written.
+pub struct Filled {
+    pub least: u64,
+    pub amounts: [u64; 17],
+    pub written: u64,
+}
+
 // No cap is above this: two costs below it can be added.
 const HIGHEST: u64 = 9223372036854775807;
 
 fn lesser(a: u64, b: u64) -> u64
+    ensures { λ r. ⌜ r ≡ min a b ⌝ }
+{
+    if a < b { a } else { b }
+}
+
+fn sooner(a: usize, b: usize) -> usize
     ensures { λ r. ⌜ r ≡ min a b ⌝ }
 {
     if a < b { a } else { b }
@@ -428,6 +443,18 @@ fn nothing(r: Ranges, cap: u64, from: usize, written: u64) -> Run
     }
 }
 
+// The first part after one that costs nothing and makes up for all others; 17 if there is none.
+fn free_after(p: Parts, r: Ranges, from: usize, room: u64) -> usize
+    requires { ⌜ Fair p × (Among p r × ((length (r .wide) ≡ 17) × (from ≤ 16))) ⌝ }
+    ensures { λ n. ⌜ Chosen (boxed p r) (from + 1) room n ⌝ }
+{
+    let ws = p.weight;
+    let us = r.wide;
+    let ts = p.taken;
+    let ls = p.left;
+    free_part(ws, us, ts, ls, from + 1, room)
+}
+
 // The least cost with the keys of a group, from the least amounts on.
 fn least_keyed(
     p: Parts,
@@ -436,11 +463,13 @@ fn least_keyed(
     left: u64,
     room: u64,
     g: Group,
+    free: usize,
     cells: &mut [u64],
 ) -> Cost
     requires { ⌜ Fair p × (Among p r × ((length (r .wide) ≡ 17) × Gathers (r .wide) from left g)) ⌝ }
+    requires { ⌜ Chosen (boxed p r) (from + 1) room free × (g .to ≤ free) ⌝ }
     requires { ⌜ 65535 ≤ length (now cells) ⌝ }
-    ensures { λ c. ⌜ LeastKeyed p r from left room g c ⌝ }
+    ensures { λ c. ⌜ LeastKeyed p r from left room g free c ⌝ }
 {
     let wide = r.wide;
     let ws = p.weight;
@@ -450,7 +479,7 @@ fn least_keyed(
     let most = left * base;
     let ts = keyed_takens(p, most, left, base, rad);
     let ls = keyed_lefts(p, most, left, base, rad);
-    least_cost(&ws, &wide, &ts, &ls, room, most, cells)
+    least_beside(ws, wide, ts, ls, free, room, most, cells)
 }
 
 // The ranges with a group fixed at the digits of a key.
@@ -474,17 +503,17 @@ fn keyed_run(
     cap: u64,
     left: u64,
     from: usize,
-    end: usize,
     cells: &mut [u64],
 ) -> Run
-    requires { ⌜ Begins p r capacity cap from end left room ⌝ }
+    requires { ⌜ Begins p r capacity cap from left room ⌝ }
     requires { ⌜ 65535 ≤ length (now cells) ⌝ }
-    ensures { λ n. ⌜ Runs p r capacity cap from end n ⌝ }
-    ensures { λ n. ⌜ ScalesWrite p r room (n .written) ⌝ }
+    ensures { λ n. ⌜ Runs p r capacity cap from n ⌝ }
+    ensures { λ n. ⌜ ScalesWrite p r room from (n .written) ⌝ }
 {
     let wide = r.wide;
-    let g = group_of(wide, from, end, left);
-    let c = least_keyed(p, r, from, left, room, g, cells);
+    let free = free_after(p, r, from, room);
+    let g = group_of(wide, from, sooner(16, free), left);
+    let c = least_keyed(p, r, from, left, room, g, free, cells);
     let least = c.least;
     let base = g.base;
     if least == left * base {
@@ -506,13 +535,12 @@ fn run_over(
     capacity: u64,
     cap: u64,
     from: usize,
-    end: usize,
     cells: &mut [u64],
 ) -> Run
-    requires { ⌜ Fair p × (Among p r × ((from ≤ end) × ((end ≤ 16) × (cap < 2 ^ 63)))) ⌝ }
+    requires { ⌜ Fair p × (Among p r × ((from ≤ 16) × (cap < 2 ^ 63))) ⌝ }
     requires { ⌜ 65535 ≤ length (now cells) ⌝ }
-    ensures { λ n. ⌜ Runs p r capacity cap from end n ⌝ }
-    ensures { λ n. ⌜ RunWrites p r capacity cap (n .written) ⌝ }
+    ensures { λ n. ⌜ Runs p r capacity cap from n ⌝ }
+    ensures { λ n. ⌜ RunWrites p r capacity cap from (n .written) ⌝ }
 {
     let left = remaining(p, r, cap);
     if left == 0 {
@@ -523,7 +551,7 @@ fn run_over(
     if capacity < low {
         return nothing(r, cap, from, 0);
     }
-    keyed_run(p, n, capacity, capacity - low, cap, left, from, end, cells)
+    keyed_run(p, n, capacity, capacity - low, cap, left, from, cells)
 }
 
 fn whole_of(p: Parts) -> Ranges
@@ -534,20 +562,6 @@ fn whole_of(p: Parts) -> Ranges
     Ranges {
         low: low,
         wide: wide,
-    }
-}
-
-// The least cost of filling the capacity, at most cap.
-pub fn least_filling(p: Parts, capacity: u64, cap: u64, cells: &mut [u64]) -> Cost
-    requires { ⌜ Fair p × (cap < 2 ^ 63) ⌝ }
-    requires { ⌜ 65535 ≤ length (now cells) ⌝ }
-    ensures { λ r. ⌜ Least cap (itemsIn p) capacity (r .least) × WholeWrites p capacity cap (r .written) ⌝ }
-{
-    let r = whole_of(p);
-    let n = run_over(p, r, capacity, cap, 0, 0, cells);
-    Cost {
-        least: n.cost,
-        written: n.written,
     }
 }
 
@@ -699,7 +713,7 @@ fn leap(p: Parts, w: Weighing, cap: u64, to: usize, share: u64, cells: &mut [u64
     if spare == 0 {
         return nothing(h, cap, to, 0);
     }
-    run_over(p, h, w.capacity, cap, to, 16, cells)
+    run_over(p, h, w.capacity, cap, to, cells)
 }
 
 // How many parts the next leap fixes where i are left: 12, 8, 4, then 3, 2, 1 and none.
@@ -744,19 +758,20 @@ fn leaps(p: Parts, capacity: u64, cap: u64, cells: &mut [u64]) -> Run
     nothing(r, cap, 0, written)
 }
 
-// The first filling that costs less than cap, where none costs less than cap - 1: by the first part whose amount differs.
-pub fn first_filling(p: Parts, capacity: u64, cap: u64, cells: &mut [u64]) -> First
+// ---- the first filling
+
+// From what a run has found on, run after run: the first filling that costs less than cap, where none costs less than cap - 1.
+fn onward(p: Parts, capacity: u64, cap: u64, s: Run, cells: &mut [u64]) -> First
     requires { ⌜ Fair p × ((1 ≤ cap) × ((cap < 2 ^ 63) × (Keyable p cap × Bounds (itemsIn p) capacity (cap - 1)))) ⌝ }
-    requires { ⌜ 65535 ≤ length (now cells) ⌝ }
-    ensures { λ r. ⌜ FirstOf p capacity cap r ⌝ }
+    requires { ⌜ Sought p capacity (cap - 1) (s .ranges) (s .to) × ((s .written ≤ 7 * runCells) × (65535 ≤ length (now cells))) ⌝ }
+    ensures { λ r. ⌜ Goes p capacity cap s r ⌝ }
 {
-    let s = leaps(p, capacity, cap, cells);
     let ranges = s.ranges;
     let mut r = ranges;
     let mut written = s.written;
     let mut from = s.to;
     while from < 16 {
-        let n = run_over(p, r, capacity, cap, from, 16, cells);
+        let n = run_over(p, r, capacity, cap, from, cells);
         written += n.written;
         if n.cost == cap {
             let amounts = r.low;
@@ -775,5 +790,40 @@ pub fn first_filling(p: Parts, capacity: u64, cap: u64, cells: &mut [u64]) -> Fi
         found: true,
         amounts: amounts,
         written: written,
+    }
+}
+
+// The first filling that costs less than cap, where none costs less than cap - 1: by the first part whose amount differs.
+pub fn first_filling(p: Parts, capacity: u64, cap: u64, cells: &mut [u64]) -> First
+    requires { ⌜ Fair p × ((1 ≤ cap) × ((cap < 2 ^ 63) × (Keyable p cap × Bounds (itemsIn p) capacity (cap - 1)))) ⌝ }
+    requires { ⌜ 65535 ≤ length (now cells) ⌝ }
+    ensures { λ r. ⌜ FirstOf p capacity cap r ⌝ }
+{
+    let s = leaps(p, capacity, cap, cells);
+    onward(p, capacity, cap, s, cells)
+}
+
+// The least cost of filling the capacity, at most cap, and the first filling that has it.
+pub fn least_filling(p: Parts, capacity: u64, cap: u64, cells: &mut [u64]) -> Filled
+    requires { ⌜ Fair p × ((cap < 2 ^ 63) × Keyable p cap) ⌝ }
+    requires { ⌜ 65535 ≤ length (now cells) ⌝ }
+    ensures { λ r. ⌜ LeastOf p capacity cap r ⌝ }
+{
+    let r = whole_of(p);
+    let n = run_over(p, r, capacity, cap, 0, cells);
+    let least = n.cost;
+    if least == cap {
+        return Filled {
+            least: cap,
+            amounts: [0; 17],
+            written: n.written,
+        };
+    }
+    let f = onward(p, capacity, least + 1, n, cells);
+    let amounts = f.amounts;
+    Filled {
+        least: least,
+        amounts: amounts,
+        written: f.written,
     }
 }

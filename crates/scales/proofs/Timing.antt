@@ -1,6 +1,7 @@
 -- The loop over the units of a digit.
 --   Timing ..       after k passes the cells show their table, so many are live and were written, and the units to come weigh so much
--- timing-first, -step: that holds at the start and pass by pass; timing-room: the cells have room for one more.
+--   Roomy ..        before a pass: the unit is among those to come, and cells and count have room for it
+-- timing-first, -step: that holds at the start and pass by pass; timing-room: there is room for one more.
 use mathlib.Core.Path.{_≡_, refl}
 use mathlib.Core.List.{List}
 use Prim.Native.Nat.{ℕ, suc, _+_, _-_, _*_, _≤_, _<_, min}
@@ -21,11 +22,10 @@ pub record Timing (cap n d w a b K R : ℕ) (old new : List ℕ) (live left writ
   pub counted : written ≡ passCells k w n K R
   pub shows : Shows cap (passes cap k w a b (at cap n old)) K left live old new
 
--- before pass k
-pub record Roomy (d w n R M live left written : ℕ) : Type 0 where
+pub record Roomy (d w n live left written : ℕ) : Type 0 where
   pub heavy : w ≤ left
   pub room : live + w ≤ n + d * w
-  pub few : written ≤ d * M
+  pub few : written ≤ d * (n + d * w)
 
 module _ {cap n d w a b K R : ℕ} {old : List ℕ} where
   pub timing-first : Below cap (at cap n old) → Timing cap n d w a b K R old old n R 0 0
@@ -39,7 +39,7 @@ module _ {cap n d w a b K R : ℕ} {old : List ℕ} where
   }
 
   pub timing-room : {new : List ℕ} {live left written k : ℕ} → k < d → d * w ≤ R → Timing cap n d w a b K R old new live left written k →
-      Roomy d w n R (n + d * w) live left written
+      Roomy d w n live left written
   timing-room {new} {live} {left} {written} {k} l h t =
       let more : suc k * w ≤ d * w = mul-le-mul-right w l in
       let most : k * (n + d * w) ≤ d * (n + d * w) = mul-le-mul-right (n + d * w) (omega arith) in

@@ -1,12 +1,12 @@
 -- Why a place is best: a feasible point that nothing beats has its whole amounts, and its filling is worth no less.
 -- best-of: of such a point. kept-best: of an incumbent that nothing beats. found-best: of the first point of the frame that loses least.
 -- found-first: in the last frame that point comes first, of those that are worth as much and whose other items stand as its do.
--- most-cells (end theorem): the most cells of `Settles` are those of 40 runs. settle-most: no box has more of them written.
+-- most-cells (end theorem): the most cells of `Settles` are those of 289 runs. settle-most: no box has more of them written.
 use mathlib.Core.Path.{_≡_, refl, sym, ap, _∙_, subst, subst₂}
 use mathlib.Core.Bool.{Bool, true, false, cond}
 use mathlib.Core.List.{List}
 use mathlib.Core.Logic.{_≢_, _⊎_, inl, inr}
-use Prim.Native.Nat.{ℕ, zero, suc, _+_, _*_, _≤_, _<_}
+use Prim.Native.Nat.{ℕ, zero, suc, _*_, _≤_, _<_}
 use native.Mathlib.Omega.{arith}
 use native.Mathlib.Decide.{ℕ-discrete}
 use borrow.Author.Tests.{le-ltb, eqb-true}
@@ -23,14 +23,13 @@ use Rattle.knapsack.proofs.Common.{KeepsMarkᴰ, Keepsᴰ, valueᴰ, Feasible�
 use Rattle.knapsack.proofs.Branch.{AtMost}
 use Rattle.greedy.specs.declared.Columns.{Columns}
 use Rattle.greedy.specs.declared.Ends.{Ends}
-use Rattle.greedy.specs.Fill.{at, place, itemOf, stand, fill, bound, solution}
+use Rattle.greedy.specs.Fill.{at, place, stand, fill, bound, solution}
 use Rattle.greedy.specs.Ordered.{Ordered}
 use Rattle.greedy.proofs.Relaxed.{boxOf, InOrder, Stopped, fill-empty, fill-stopped, fill-bound, fill-value, fill-point, parts≥1}
 use Rattle.ceiling.specs.declared.Limit.{Limit}
 use Rattle.ceiling.specs.Loss.{valueOf, topOf, lossOf, Point}
-use Rattle.ceiling.specs.Frames.{wholeAt, cutOf, scaleOf, frameBy, Marked, Unmarked, FrameAttained, Levelled}
-use Rattle.ceiling.specs.Least.{NotAfter, Placed, FirstIn, FrameFirst}
-use Rattle.ceiling.specs.declared.Seen.{Seen}
+use Rattle.ceiling.specs.Frames.{wholeAt, cutOf, scaleOf, frameBy, Marked, Unmarked, Levelled}
+use Rattle.ceiling.specs.Least.{NotAfter, Placed, FirstIn}
 use Rattle.ceiling.specs.Bound.{BestFrame, Bounded}
 use Rattle.ceiling.proofs.Framing.{scale-in, frame-feasible, loose-cut}
 use Rattle.ceiling.proofs.Limits.{levels-marked, levels-unmarked}
@@ -219,19 +218,10 @@ module _ (c : Columns) (e : Ends) (level : List ℕ) (n : ℕ) (bx : Boxes c e l
   not-cut : (k : ℕ) → k < c .count → wholeAt w k ≡ true → k ≢ cutOf c t
   not-cut = loose-cut c w t (bx .sized .columns .few) (h .at-in) (λ m. h .usable m .loose)
 
-  -- there is one
-  pub found-some : (s : Seen) → FrameFirst (r .p) (r .q) c e w t (r .lost .num) s → s .found ≡ true
-  found-some s g = go (s .found) refl
-    where
-      go : (x : Bool) → s .found ≡ x → s .found ≡ true
-      go true i = i
-      go false i = absurd (clash (lossOf (r .p) (r .q) c e E (h .attained .point))
-          (g .none i (h .attained .ends) (h .attained .framed) (h .attained .point) (h .attained .is-point)) (h .attained .loses))
-        where
-          clash : (z : ℤ) → pos (r .lost .num) <ℤ z → z ≡ pos (r .lost .num) → ⊥
-          clash = split _ (λ a b. simp zed (omega arith))
+  abbrev g : FirstIn (r .p) (r .q) c e w t (r .lost .num) (r .place)
+  g = h .first
 
-  module _ (xs ys : List ℤ) (g : FirstIn (r .p) (r .q) c e w t (r .lost .num) xs) (pl : Placed n (λ d. at xs (place level d)) ys) where
+  module _ (ys : List ℤ) (pl : Placed n (λ d. at (r .place) (place level d)) ys) where
     N : ℕ → ℤ
     N = g .point
 
@@ -344,11 +334,11 @@ module _ (c : Columns) (e : Ends) (level : List ℕ) (n : ℕ) (bx : Boxes c e l
 
 -- ---- how much is written
 
-pub most-cells : mostCells ≡ 40 * runCells
+pub most-cells : mostCells ≡ 289 * runCells
 most-cells = refl
 
 pub settle-most : {c : Columns} {e : Ends} {level : List ℕ} {n : ℕ} {known : Bool} {v : Mixed} {f : Bool} {k : ℕ}
     → SettleWrites c e level n known v f k → k ≤ mostCells
 settle-most (empty h) = omega arith
 settle-most (kept w b r l h f) = omega (arith, h .few)
-settle-most (framed w b s r l h f g) = omega (arith, h .few, g .few)
+settle-most (framed w b r l h f) = omega (arith, h .few)

@@ -7,15 +7,15 @@
 --   BestAt c e marks f        the filling of the ends f is one, and worth its bound
 --   Best c e level n P        the filling of P is an optimal point of the box
 --   FirstPlace c e level n D P   P has the whole amounts of an optimal point over D, which comes first of those whose other items stand as its do
---   mostCells                 the most cells that are written for any box: those of 40 runs
---   SettleWrites c e level n known v f k   k cells are written for a box where the value v is known: those of its bound, and of the first point of a
---                             frame; f tells whether that is the frame in which no item is cut
+--   mostCells                 the most cells that are written for any box: those of 289 runs
+--   SettleWrites c e level n known v f k   k cells are written for a box where the value v is known: those of its bound; f tells whether its point is one of
+--                             the frame in which no item is cut
 --   Settles c e level n r     the place of r is best, or nothing in the box is feasible; it is a first one if r says so; and few cells were written for it
 use mathlib.Core.Path.{_≡_}
 use mathlib.Core.Bool.{Bool, true, false}
 use mathlib.Core.List.{List}
 use mathlib.Core.Logic.{_≢_}
-use Prim.Native.Nat.{ℕ, _+_, _≤_, _<_}
+use Prim.Native.Nat.{ℕ, _≤_, _<_}
 use lib.Dec.{eqb}
 use lib.IntN.{ℤ, pos, _*ℤ_}
 use lib.Signed.{_≤ℤ_, _<ℤ_}
@@ -32,10 +32,9 @@ use Rattle.greedy.specs.Ordered.{Ordered}
 use Rattle.greedy.specs.Sized.{Sized}
 use Rattle.greedy.proofs.Relaxed.{boxOf, InOrder}
 use Rattle.ceiling.specs.declared.Limit.{Limit}
-use Rattle.ceiling.specs.declared.Seen.{Seen}
 use Rattle.ceiling.specs.Bound.{Bounded}
 use Rattle.ceiling.specs.Frames.{Levelled}
-use Rattle.ceiling.specs.Least.{NotAfter, FrameFirst}
+use Rattle.ceiling.specs.Least.{NotAfter}
 use Rattle.ceiling.specs.Sizes.{Spanned}
 use Rattle.settling.specs.declared.Settled.{Settled}
 
@@ -85,16 +84,16 @@ pub record FirstPlace (c : Columns) (e : Ends) (level : List ℕ) (n D : ℕ) (P
       → valueᴰ (boxOf c e marks) point ≤ℤ valueᴰ (boxOf c e marks) M → ((k : ℕ) → k < c .count → marks k ≡ Continuous → M k ≡ point k)
       → NotAfter (c .count) point M
 
--- one run for each of 17 frames; for a first filling seven leaps, and one for each of 16 parts (proofs/Best, most-cells, settle-most)
+-- for each of 17 frames one run, and one for each of 16 parts (proofs/Best, most-cells, settle-most)
 abbrev pub mostCells : ℕ
-mostCells = 3798057560
+mostCells = 28717289865
 
 pub data SettleWrites (c : Columns) (e : Ends) (level : List ℕ) (n : ℕ) (known : Bool) (v : Mixed) : Bool → ℕ → Type 0 where
   empty : fill c e .room <ℤ pos 0 → SettleWrites c e level n known v false 0
   kept : (w : List Bool) (b : Limit) → pos 0 ≤ℤ fill c e .room → Levelled level n w → Bounded c e w known v b → b .found ≡ false →
       SettleWrites c e level n known v false (b .written)
-  framed : (w : List Bool) (b : Limit) (s : Seen) → pos 0 ≤ℤ fill c e .room → Levelled level n w → Bounded c e w known v b → b .found ≡ true →
-      FrameFirst (b .p) (b .q) c e w (b .at) (b .lost .num) s → SettleWrites c e level n known v (eqb (b .at) (c .live)) (b .written + s .written)
+  framed : (w : List Bool) (b : Limit) → pos 0 ≤ℤ fill c e .room → Levelled level n w → Bounded c e w known v b → b .found ≡ true →
+      SettleWrites c e level n known v (eqb (b .at) (c .live)) (b .written)
 
 pub record Settles (c : Columns) (e : Ends) (level : List ℕ) (n : ℕ) (r : Settled) : Type 0 where
   pub few : r .written ≤ mostCells

@@ -3,7 +3,6 @@
 // frame that loses least.
 use arith::Mixed;
 use ceiling::ceiling;
-use ceiling::first_of_frame;
 use ceiling::wholes;
 use greedy::Columns;
 use greedy::Ends;
@@ -79,15 +78,14 @@ pub fn settle(
     let whole = wholes(level, levels);
     let b = ceiling(cols, ends, whole, known, value, cells);
     if b.found {
-        let s = first_of_frame(cols, ends, whole, b.p, b.q, b.at, b.top, b.lost.num, cells);
-        let first = s.place;
-        let y = by_level(first, level, levels);
+        let best = b.place;
+        let y = by_level(best, level, levels);
         let last = is_last(cols, b.at);
         return Settled {
             found: true,
             place: y,
             first: last,
-            written: b.written + s.written,
+            written: b.written,
         };
     }
     Settled {

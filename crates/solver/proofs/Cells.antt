@@ -1,5 +1,5 @@
 -- How many cells the scales write for a problem, at most.
--- place-most: for its best place, 36 runs. shown-most: for its first point, 323. scaled-most: for an optimum.
+-- place-most: for its best place, 289 runs. shown-most: for its first point, 391. scaled-most: for an optimum.
 -- cells-most (end theorem): for any answer.
 use mathlib.Core.Bool.{Bool}
 use mathlib.Core.List.{List}

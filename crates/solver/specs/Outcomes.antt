@@ -6,7 +6,7 @@
 --                     the box of the place x, its filling, and its value
 --   Best s x a        a shows the relaxation of the place x and its value in lowest terms, and no steps
 --   standing s f x    the incumbent that the place x is
---   mostWork          the most cells that the scales write for a problem: those of 431 runs
+--   mostWork          the most cells that the scales write for a problem: those of 680 runs
 --   PlaceWrites s end first k
 --                     k cells are written for the best place of a box, where its search has come to `end`: none if that is done; first tells whether the
 --                     scales know it to come first
@@ -94,9 +94,9 @@ pub record Best (s : Setting) (x : List ℤ) (a : Answer) : Type 0 where
 abbrev pub standing : Setting → Bool → List ℤ → Incumbent
 standing s f x = record { found = f; place = x; value = valueAt s x }
 
--- the cells of a best place, and those of the first point: 36 runs and 323 (proofs/Cells)
+-- the cells of a best place, and those of the first point: 289 runs and 391 (proofs/Cells)
 abbrev pub mostWork : ℕ
-mostWork = 40924070209
+mostWork = 67570093800
 
 -- the scales go on from the search's incumbent
 pub data PlaceWrites (s : Setting) (end : State) : Bool → ℕ → Type 0 where

@@ -1,6 +1,5 @@
 -- `ceiling::ceiling` meets its contract.
 use borrow.Author.Needs.{needs}
-use native.Mathlib.Omega.{arith}
 use Rattle.arith.proofs.Words.{back}
 use Rattle.arith.proofs.Parts.{within-back}
 use Rattle.ceiling.proofs.Framing.{ordered-ranked}
@@ -28,14 +27,17 @@ least-loss-requires c κs =
     let s = m .before .before .before in
     let pr = m .before .price-of in
     let z = s .pre .0 in (
-      record {
-        sized = z .0;
-        ranked = ordered-ranked (s .args .cols) (z .1 .0);
-        in-order = z .1 .1 .0;
-        p-in = pr .ensures .p-in;
-        q-in = pr .ensures .q-in;
-      },
-      (c .before .known-loss .ensures .loss .counted, (search needs, z .1 .0)),
+      (
+        record {
+          sized = z .0;
+          ranked = ordered-ranked (s .args .cols) (z .1 .0);
+          in-order = z .1 .1 .0;
+          p-in = pr .ensures .p-in;
+          q-in = pr .ensures .q-in;
+        },
+        s .pre .1 .0,
+      ),
+      (c .before .known-loss .ensures .loss .counted, (s .pre .1 .1, z .1 .0)),
     )
 
 same-length : tie.Need-same-length
@@ -43,7 +45,7 @@ same-length c = search needs
 
 returns : tie.Need-returns
 returns c =
-    let h = c .before .before .before in
+    let h = c .before .before .before .before in
     let kl = h .before .before in
     let st = kl .before in
     let to = st .before in

@@ -3,20 +3,18 @@ use native.Mathlib.Omega.{arith}
 use mathlib.Core.Path.{refl}
 use mathlib.Core.Logic.{_⊎_, inl, inr}
 use Rattle.arith.proofs.Parts.{within-back}
-use Rattle.ceiling.specs.Frames.{Usable}
-use Rattle.ceiling.specs.Least.{Same, AtFrame}
 use borrow.Author.Needs.{needs}
 use Rattle.ceiling.proofs.considered.Statement.{statement}
 use Rattle.ceiling.proofs.considered.Tie as tie
 
 is-usable-requires : tie.Need-is-usable-requires
-is-usable-requires c κs = let s = c .before in let r = s .pre .0 .0 in (r .sized, (r .ranked, (r .in-order, s .pre .0 .1 .1 .1)))
+is-usable-requires c κs = let s = c .before in let r = s .pre .0 .0 in (r .sized, (r .ranked, (r .in-order, s .pre .0 .1 .1 .1 .1)))
 
 lowered-requires : tie.Need-lowered-requires
 lowered-requires c κs =
     let h = c .before .before .before in
     let s = h .before in
-    rw (within-back tt (s .pre .0 .1 .1 .0)) ((s .pre .0 .0, (s .pre .0 .1 .0, s .pre .0 .1 .1 .0)), s .pre .1)
+    rw (within-back tt (s .pre .0 .1 .1 .0)) ((s .pre .0 .0, (s .pre .0 .1 .0, (s .pre .0 .1 .1 .0, s .pre .0 .1 .1 .1 .0))), s .pre .1)
 
 same-length : tie.Need-same-length
 same-length c = search needs
@@ -51,7 +49,7 @@ returns-2 c =
       counted = s .pre .1 .0;
       lower = omega arith;
       bound = λ u. absurd (no u);
-      exact = inl (refl, (refl, refl));
+      exact = inl (refl, (refl, (refl, refl)));
       any = inr (no, refl);
       few = omega arith;
       writes = inr (no, refl);

@@ -1,21 +1,17 @@
 -- `ceiling::first_of` meets its contract.
 use borrow.Author.Needs.{needs}
 use native.Mathlib.Omega.{arith}
-use mathlib.Core.Path.{_≡_, refl, sym, ap, _∙_, subst}
+use mathlib.Core.Path.{_≡_, sym, _∙_, subst}
 use Prim.Native.Nat.{ℕ, _+_, _-_}
 use lib.IntN.{ℤ, pos}
 use lib.Signed.{_≤ℤ_, _<ℤ_}
 use Rattle.arith.proofs.Integers.{split, zed}
-use Rattle.scales.specs.Filling.{Bounds}
-use Rattle.fillings.specs.Ranges.{itemsIn}
 use Rattle.fillings.specs.Foremost.{FirstAt}
 use Rattle.arith.proofs.Parts.{impossible}
 use Rattle.ceiling.specs.Least.{fit, unfit}
-use Rattle.ceiling.proofs.Lists.{pieces-fair, pieces-keyable, listing-items}
+use Rattle.ceiling.proofs.Lists.{pieces-fair, pieces-few, pieces-keyable}
 use Rattle.ceiling.proofs.Order.{floor-bounds, first-none, first-point}
 use Rattle.ceiling.proofs.Rooms.{roomless}
-use Rattle.ceiling.proofs.Lists.{pieces-narrow}
-use lib.ListN.{length}
 use Rattle.ceiling.proofs.first_of.Statement.{statement}
 use Rattle.ceiling.proofs.first_of.Tie as tie
 use Rattle.fillings.proofs.first_filling.Reads as first-filling-reads
@@ -81,14 +77,9 @@ returns c =
       few = r .ensures .few;
       writes = fit (m .result .left) (r .result .written) (ps .result) (m .ensures .left-is fits) (ps .ensures) (r .ensures .writes);
       found = λ i. first-point (a .p) (a .q) (a .cols) (a .ends) (a .scale) (a .cut) (z .0 .columns .few) (z .1 .0 .scale≥1) (z .1 .1 .0) (z .1 .1 .1)
-          (m .result .left) (m .ensures .left-is fits) (ps .result) (ps .ensures) (a .r) (r .result)
+          (m .result .left) (m .ensures .left-is fits) (ps .result) (ps .ensures) (a .r) (r .result .amounts)
           (subst (λ n. FirstAt (ps .result) (m .result .left) n (r .result .amounts)) same (r .ensures .found i));
-      small = λ i k l. let h = r .ensures .found i in omega (
-        arith,
-        h .shown k l,
-        h .within k (omega (arith, ps .ensures .weights .long)),
-        pieces-narrow (ps .ensures) (z .0 .ends) (s .pre .1 .0 .0) k l,
-      );
+      small = λ i. pieces-few (ps .ensures) (z .0 .ends) (s .pre .1 .0 .0) (r .ensures .found i);
       none = λ i. first-none (a .p) (a .q) (a .cols) (a .ends) (a .scale) (a .cut) (z .0 .columns .few) (z .1 .0 .scale≥1) (z .1 .1 .0) (z .1 .1 .1)
           (m .result .left) (m .ensures .left-is fits) (ps .result) (ps .ensures) (a .r) (r .ensures .none i);
     }

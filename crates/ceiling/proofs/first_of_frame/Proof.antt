@@ -3,7 +3,7 @@ use borrow.Author.Needs.{needs}
 use native.Mathlib.Omega.{arith}
 use mathlib.Core.Path.{sym, _∙_}
 use Prim.Native.Nat.{_*_, _≤_}
-use Rattle.arith.proofs.Parts.{impossible, within-back}
+use Rattle.arith.proofs.Parts.{impossible}
 use Rattle.fillings.specs.Ranges.{num}
 use Rattle.ceiling.specs.Least.{IsFrame, beyond, within}
 use Rattle.ceiling.proofs.Framing.{frame-scale, frame-sized, frame-modest, frame-cut, frame-narrow, own-floor, own-none, own-later, own-first}
@@ -96,7 +96,7 @@ returns-2 c =
     record {
       few = g .ensures .few;
       writes = within (m .frame-of .result) (g .result .written) (frame m) (off-in e) (g .ensures .writes);
-      found = λ i. own-first (frame m) (s .pre .0 .0) (a .r) (off-in e) (num (g .result .amounts)) (c .made .result)
+      found = λ i. own-first (frame m) (s .pre .0 .0) (a .r) _ (omega (arith, off-in e)) (num (g .result .amounts)) (c .made .result)
           (g .ensures .found (c .before .before .if2 .taken)) (c .made .ensures .each);
       none = λ i. absurd (impossible (sym i));
     }

@@ -1,11 +1,10 @@
 -- `ceiling::floor_of` meets its contract.
 use borrow.Author.Needs.{needs}
 use native.Mathlib.Omega.{arith}
-use mathlib.Core.Path.{sym, _∙_}
 use Rattle.ceiling.specs.Least.{fit, unfit}
-use Rattle.ceiling.proofs.Lists.{pieces-fair}
+use Rattle.ceiling.proofs.Lists.{pieces-fair, pieces-few, pieces-keyable}
 use Rattle.ceiling.proofs.Bounded.{bounds-loss}
-use Rattle.ceiling.proofs.Attained.{attained}
+use Rattle.ceiling.proofs.Order.{first-point}
 use Rattle.ceiling.proofs.Rooms.{roomless}
 use Rattle.ceiling.proofs.floor_of.Statement.{statement}
 use Rattle.ceiling.proofs.floor_of.Tie as tie
@@ -27,8 +26,15 @@ pieces-of-requires c κs = search needs
 least-filling-requires : tie.Need-least-filling-requires
 least-filling-requires c κs =
     let s = start (c .before) in
-    let r = rooms (c .before) .room-of .ensures in
-    ((pieces-fair (c .before .pieces-of .ensures) (s .pre .0 .0) (s .pre .0 .1 .0 .scale-in) (r .small), omega (arith, s .pre .1 .cap-in)), s .pre .1 .long)
+    let z = s .pre .0 in
+    let ps = c .before .pieces-of .ensures in
+    let cap = s .pre .1 .0 in (
+      (
+        pieces-fair ps (z .0) (z .1 .0 .scale-in) (rooms (c .before) .room-of .ensures .small),
+        (omega (arith, cap .cap-in), pieces-keyable ps (z .0 .ends) (s .pre .1 .1) (s .args .cap) (cap .cap-in)),
+      ),
+      cap .long,
+    )
 
 same-length : tie.Need-same-length
 same-length c = search needs
@@ -37,35 +43,43 @@ returns : tie.Need-returns
 returns c =
     let l = c .before .before in
     let po = l .before .before in
-    let a = start po .args in
-    let z = start po .pre .0 in
+    let s = start po in
+    let a = s .args in
+    let z = s .pre .0 in
     let m = rooms po .room-of in
     let fits = po .before .if1 .taken in
     let ps = po .pieces-of in
     let r = l .least-filling in
     record {
-      few = r .ensures .1 .few;
-      writes = fit (m .result .left) (r .result .written) (ps .result) (m .ensures .left-is fits) (ps .ensures) (r .ensures .1);
-      capped = r .ensures .0 .capped;
+      few = r .ensures .few;
+      writes = fit (m .result .left) (r .result .written) (ps .result) (m .ensures .left-is fits) (ps .ensures) (r .ensures .writes);
+      capped = r .ensures .least .capped;
       floor = record {
         floor = λ N pt. bounds-loss (a .p) (a .q) (a .cols) (a .ends) (a .scale) (a .cut) (z .0 .columns .few) (z .1 .0 .scale≥1) (z .1 .1 .0) N
-            pt (m .result .left) (m .ensures .left-is fits) (ps .result) (ps .ensures) (r .result .least) (r .ensures .0 .bounds);
+            pt (m .result .left) (m .ensures .left-is fits) (ps .result) (ps .ensures) (r .result .least) (r .ensures .least .bounds);
       };
-      attained = λ i. attained (a .p) (a .q) (a .cols) (a .ends) (a .scale) (a .cut) (z .0 .columns .few) (z .1 .0 .scale≥1) (z .1 .1 .0) (z .1 .1 .1)
-          (m .result .left) (m .ensures .left-is fits) (ps .result) (ps .ensures) (r .result .least) (r .ensures .0 .reached i);
+      found = λ i. first-point (a .p) (a .q) (a .cols) (a .ends) (a .scale) (a .cut) (z .0 .columns .few) (z .1 .0 .scale≥1) (z .1 .1 .0) (z .1 .1 .1)
+          (m .result .left) (m .ensures .left-is fits) (ps .result) (ps .ensures) (r .result .least) (r .result .amounts) (r .ensures .found i);
+      small = λ i. pieces-few (ps .ensures) (z .0 .ends) (s .pre .1 .1) (r .ensures .found i);
     }
+
+unfilled-requires : tie.Need-unfilled-requires
+unfilled-requires c κs = search needs
 
 returns-2 : tie.Need-returns-2
 returns-2 c =
-    let s = c .before .before .before in
+    let m = c .before .before in
+    let s = m .before .before in
     let a = s .args in
+    let u = c .unfilled .ensures in
+    let none = m .room-of .ensures .none (c .before .if1 .left) in
     record {
-      few = omega arith;
-      writes = unfit (c .before .room-of .ensures .none (c .if1 .left));
-      capped = omega arith;
-      floor = roomless (a .p) (a .q) (a .cols) (a .ends) (a .scale) (a .cut) (a .cap) (s .pre .0 .1 .0 .scale≥1)
-          (c .before .room-of .ensures .none (c .if1 .left));
-      attained = λ i. absurd (omega arith);
+      few = omega (arith, u .1);
+      writes = rw (u .1) (unfit none);
+      capped = omega (arith, u .0);
+      floor = rw (u .0) (roomless (a .p) (a .q) (a .cols) (a .ends) (a .scale) (a .cut) (a .cap) (s .pre .0 .1 .0 .scale≥1) none);
+      found = λ i. absurd (omega (arith, u .0));
+      small = λ i. absurd (omega (arith, u .0));
     }
 
 pub floor-of-spec : {M : Type 1} → statement M
@@ -77,4 +91,5 @@ floor-of-spec =
     least-filling-requires
     same-length
     returns
+    unfilled-requires
     returns-2)

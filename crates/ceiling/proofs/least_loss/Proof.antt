@@ -1,7 +1,7 @@
 -- `ceiling::least_loss` meets its contract: the frames before t are looked at.
 use native.Mathlib.Omega.{arith}
 use mathlib.Core.Path.{_≡_, refl, sym, subst}
-use Prim.Native.Nat.{_*_, _-_, _≤_}
+use Prim.Native.Nat.{_-_, _≤_}
 use lib.ListN.{length}
 use Rattle.arith.proofs.Parts.{within-back}
 use Rattle.ceiling.proofs.Framing.{Sofar, sofar-first, sofar-step, sofar-any, sofar-done}
@@ -26,7 +26,7 @@ abbrev start : tie.At-loop Inv-loop μ-loop → tie.Start Inv-loop μ-loop
 start w = w .before .before .before .before
 
 top-of-requires : tie.Need-top-of-requires Inv-loop μ-loop
-top-of-requires c κs = let s = c .before in (s .pre .0 .sized, (s .pre .0 .p-in, s .pre .0 .q-in))
+top-of-requires c κs = let s = c .before in (s .pre .0 .0 .sized, (s .pre .0 .0 .p-in, s .pre .0 .0 .q-in))
 
 unlowered-requires : tie.Need-unlowered-requires Inv-loop μ-loop
 unlowered-requires c κs = search needs
@@ -50,11 +50,11 @@ considered-requires c κs =
     let l = w .loop in
     let t = topped w .top-of in
     rw (within-back tt (t .ensures .1)) (
-      (s .pre .0, (t .ensures .0, (t .ensures .1, c .before .loop-test .taken))),
+      (s .pre .0 .0, (t .ensures .0, (t .ensures .1, (s .pre .0 .1, c .before .loop-test .taken)))),
       (
         l .inv .1 .1 .counted,
         (
-          omega (arith, l .inv .1 .1 .few, c .before .loop-test .taken, s .pre .0 .sized .columns .live-few),
+          omega (arith, l .inv .1 .1 .few, c .before .loop-test .taken, s .pre .0 .0 .sized .columns .live-few),
           omega (arith, l .inv .1 .0, s .pre .1 .1 .0),
         ),
       ),
@@ -64,7 +64,7 @@ add-t : tie.Need-add-t Inv-loop μ-loop
 add-t c =
     let h = c .before .before .before in
     let t = h .before in
-    omega (arith, t .loop-test .taken, start (t .before) .pre .0 .sized .columns .live-few)
+    omega (arith, t .loop-test .taken, start (t .before) .pre .0 .0 .sized .columns .live-few)
 
 loop-less : tie.Need-loop-less Inv-loop μ-loop
 loop-less c =
@@ -90,7 +90,7 @@ returns c =
     let s = start w in
     let a = s .args in
     let l = w .loop in
-    let z = s .pre .0 in
+    let z = s .pre .0 .0 in
     let t : l .t ≡ a .cols .live = omega (arith, c .before .loop-test .left, l .inv .0) in
     let known = ap (λ (b : Least). b .lost) (w .before .unlowered .ensures) in
     subst (λ k. LeastLoss (a .p) (a .q) (a .cols) (a .ends) (a .whole) k (l .best)) known
@@ -103,8 +103,11 @@ lowered-requires c κs =
     let l = w .loop in
     let t = topped w .top-of in
     rw (within-back tt (t .ensures .1)) (
-      (s .pre .0, (t .ensures .0, t .ensures .1)),
-      (l .inv .1 .1 .counted, (omega (arith, l .inv .1 .1 .few, l .inv .0, s .pre .0 .sized .columns .live-few), omega (arith, l .inv .1 .0, s .pre .1 .1 .0))),
+      (s .pre .0 .0, (t .ensures .0, (t .ensures .1, s .pre .0 .1))),
+      (
+        l .inv .1 .1 .counted,
+        (omega (arith, l .inv .1 .1 .few, l .inv .0, s .pre .0 .0 .sized .columns .live-few), omega (arith, l .inv .1 .0, s .pre .1 .1 .0)),
+      ),
     )
 
 same-length-2 : tie.Need-same-length-2 Inv-loop μ-loop
@@ -119,7 +122,7 @@ returns-2 c =
     let s = start w in
     let a = s .args in
     let l = w .loop in
-    let z = s .pre .0 in
+    let z = s .pre .0 .0 in
     let r = m .lowered in
     let t : l .t ≡ a .cols .live = omega (arith, tested .loop-test .left, l .inv .0) in
     let known = ap (λ (b : Least). b .lost) (w .before .unlowered .ensures) in

@@ -5,12 +5,11 @@ use mathlib.Core.Logic.{inl, inr}
 use Prim.Native.Nat.{_+_, _*_, _-_, _/_, _≤_, _<_}
 use Rattle.arith.proofs.Parts.{within-back}
 use Rattle.ceiling.specs.declared.Least.{Least}
-use Rattle.ceiling.specs.Frames.{scaleOf, FrameBound, Counted}
+use Rattle.ceiling.specs.Frames.{scaleOf}
 use Rattle.ceiling.proofs.Framing.{scale-in, cap-small, cap-least, below-cap, lowered-counted, lowered-new, lowered-old}
 use borrow.Author.Needs.{needs}
 use mathlib.Core.Bool.{true}
 use Rattle.ceiling.specs.Least.{Lowered, byLeast, FrameWrites, LowerWrites}
-use native.Mathlib.Nat.{mul-le-mul}
 use Rattle.ceiling.proofs.lowered.Statement.{statement}
 use Rattle.ceiling.proofs.lowered.Tie as tie
 
@@ -51,7 +50,7 @@ div-cap c = c .before .before .pre .1 .0 .some
 frame-floor-requires : tie.Need-frame-floor-requires
 frame-floor-requires c κs =
     let s = c .before .before .before in
-    rw (within-back tt (s .pre .0 .1 .1)) (s .pre .0, record { cap-in = capped (c .before); long = s .pre .1 .1 .1 })
+    rw (within-back tt (s .pre .0 .1 .1 .0)) (s .pre .0, record { cap-in = capped (c .before); long = s .pre .1 .1 .1 })
 
 add-written : tie.Need-add-written
 add-written c =
@@ -79,7 +78,7 @@ same-length c = search needs
 returns : tie.Need-returns
 returns c =
     let h = c .before .before .before in
-    let ff = h .before .before .before in
+    let ff = h .before .before .before .before in
     let s = start ff in
     let a = s .args in
     let n = a .best .lost .num in
@@ -87,10 +86,17 @@ returns c =
     let f = ff .frame-floor in
     let i = scale-is (scaled ff) in
     let z = scale-in (a .cols) (a .t) (s .pre .0 .0 .sized .columns) in
-    let under = subst (λ x. f .result .least < (x * n + (d - 1)) / d) i (c .if1 .taken) in
+    let under = subst (λ x. f .result .least < (x * n + (d - 1)) / d) i (c .before .if1 .taken) in
     let less = below-cap (a .p) (a .q) (a .cols) (a .ends) (a .whole) (a .t) n d (f .result .least) (s .pre .1 .0) (f .ensures .floor) under in
     subst (λ x. Lowered (a .p) (a .q) (a .cols) (a .ends) (a .whole) (a .t) (a .best)
-    (record { lost = record { num = f .result .least; den = x }; found = true; at = a .t; any = true; written = a .best .written + f .result .written }))
+    (record {
+      lost = record { num = f .result .least; den = x };
+      found = true;
+      at = a .t;
+      place = f .result .place;
+      any = true;
+      written = a .best .written + f .result .written;
+    }))
     (sym i)
     (record {
       counted = lowered-counted (a .p) (a .q) (a .cols) (a .ends) (a .whole) (a .t) n d (f .result .least) (s .pre .1 .0) (f .ensures .floor) z under;
@@ -100,9 +106,9 @@ returns c =
         found = refl;
         at-is = refl;
         den-is = refl;
-        deep = omega (arith, c .if1 .taken, capped (scaled ff));
+        deep = omega (arith, c .before .if1 .taken, capped (scaled ff));
         floor = f .ensures .floor;
-        attained = f .ensures .attained (c .if1 .taken);
+        first = f .ensures .first (c .before .if1 .taken);
       });
       any = refl;
       few = omega (arith, f .ensures .few);
@@ -116,7 +122,7 @@ returns-2 : tie.Need-returns-2
 returns-2 c =
     let h = c .before .before .before in
     let g = h .before .before .before in
-    let ff = g .before in
+    let ff = g .before .before in
     let s = start ff in
     let a = s .args in
     let n = a .best .lost .num in
@@ -127,8 +133,8 @@ returns-2 c =
       counted = s .pre .1 .0;
       lower = omega arith;
       bound = lowered-old (a .p) (a .q) (a .cols) (a .ends) (a .whole) (a .t) n d (f .result .least) (s .pre .1 .0) (f .ensures .floor)
-          (subst (λ x. (x * n + (d - 1)) / d ≤ f .result .least) i (omega (arith, c .before .if1 .left)));
-      exact = inl (refl, (refl, refl));
+          (subst (λ x. (x * n + (d - 1)) / d ≤ f .result .least) i (omega (arith, c .before .before .if1 .left)));
+      exact = inl (refl, (refl, (refl, refl)));
       any = refl;
       few = omega (arith, f .ensures .few);
       writes = more ff _ refl;

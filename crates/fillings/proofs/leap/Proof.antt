@@ -43,7 +43,7 @@ returns c =
     rw (c .nothing .ensures) (record {
       head = r;
       opens = h .opening .ensures;
-      runs = runs-none (a .p) r (a .w .capacity) (a .cap) (a .to) 16 0 (omega arith) (λ y i f. absurd (none y i f));
+      runs = runs-none (a .p) r (a .w .capacity) (a .cap) (a .to) 0 (omega arith) (λ y i f. absurd (none y i f));
       writes = shut r (h .opening .ensures) none;
     })
 
@@ -51,7 +51,7 @@ run-over-requires : tie.Need-run-over-requires
 run-over-requires c κs =
     let h = c .before .before .before .before in
     let x = start h .pre in
-    ((x .0 .0, (h .opening .ensures .heads .among, (omega (arith, x .0 .1 .1 .1 .1 .0), (omega arith, x .0 .1 .1 .1 .0)))), search needs)
+    ((x .0 .0, (h .opening .ensures .heads .among, (omega (arith, x .0 .1 .1 .1 .1 .0), x .0 .1 .1 .1 .0))), search needs)
 
 same-length : tie.Need-same-length
 same-length c = search needs

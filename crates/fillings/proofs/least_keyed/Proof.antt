@@ -1,15 +1,16 @@
 -- `fillings::least_keyed` meets its contract.
 use borrow.Author.Needs.{needs}
 use native.Mathlib.Omega.{arith}
-use Rattle.fillings.proofs.Asked.{radices-small, listed, written-few}
+use Prim.Native.Nat.{_<_}
+use Rattle.scales.specs.Filling.{itemsOf}
+use Rattle.residues.specs.Folding.{Absorbs}
+use Rattle.residues.proofs.Few.{takes-few}
+use Rattle.fillings.proofs.Asked.{radices-small, listed, fit, unkeyed}
 use Rattle.fillings.proofs.least_keyed.Statement.{statement}
 use Rattle.fillings.proofs.least_keyed.Tie as tie
-use Rattle.scales.proofs.least_cost.Reads as least-cost-reads
+use Rattle.residues.proofs.least_beside.Reads as least-beside-reads
 
--- from the scales, back to the costs with keys; from the radices, back to the start
-abbrev keyed : tie.After-least-cost → tie.After-keyed-lefts
-keyed l = l .before .before .before .before .before .before
-
+-- from the radices, back to the start
 abbrev start : tie.After-radices → tie.Start
 start e = e .before .before .before .before
 
@@ -37,30 +38,33 @@ keyed-lefts-requires c κs =
           (c .before .radices .ensures),
     )
 
-slice-aggregate-least-cost : tie.Need-slice-aggregate-least-cost
-slice-aggregate-least-cost c = search needs
-
-slice-aggregate-least-cost-2 : tie.Need-slice-aggregate-least-cost-2
-slice-aggregate-least-cost-2 c = search needs
-
-slice-aggregate-least-cost-3 : tie.Need-slice-aggregate-least-cost-3
-slice-aggregate-least-cost-3 c = search needs
-
-slice-aggregate-least-cost-4 : tie.Need-slice-aggregate-least-cost-4
-slice-aggregate-least-cost-4 c = search needs
-
-least-cost-requires : tie.Need-least-cost-requires
-least-cost-requires c κs =
-    let h = c .before .before .before in
-    let k = h .before .before in
+-- what is free costs nothing with keys either
+free : (k : tie.After-keyed-lefts) → let kt = k .before in let a = start (kt .before) .args in
+    a .free < 17 → Absorbs (itemsOf (a .p .weight) (a .r .wide) (kt .keyed-takens .result) (k .keyed-lefts .result)) (a .free) (a .room)
+free k =
     let kt = k .before in
     let e = kt .before in
     let s = start e in
+    let a = s .args in
+    let y = s .pre .1 .0 in
+    unkeyed (a .p) (a .r) (a .from) (a .left) (a .room) (a .free) (a .g) (e .radices .result) (kt .keyed-takens .result) (k .keyed-lefts .result) (y .0) (y .1)
+    (e .radices .ensures) (kt .keyed-takens .ensures) (k .keyed-lefts .ensures)
+
+least-beside-requires : tie.Need-least-beside-requires
+least-beside-requires c κs =
+    let k = c .before in
+    let kt = k .before in
+    let e = kt .before in
+    let s = start e in
+    let a = s .args in
     let x = s .pre .0 in
     let m = k .keyed-lefts in (
-      listed (s .args .p) (s .args .r) (s .args .from) (s .args .left) (s .args .g) (e .radices .result) (kt .keyed-takens .result) (m .result) (x .0)
-          (x .1 .0) (x .1 .1 .0) (x .1 .1 .1) (kt .keyed-takens .ensures) (m .ensures),
-      omega (arith, x .0 .light),
+      (
+        listed (a .p) (a .r) (a .from) (a .left) (a .g) (e .radices .result) (kt .keyed-takens .result) (m .result) (x .0) (x .1 .0) (x .1 .1 .0) (x .1 .1 .1)
+            (kt .keyed-takens .ensures) (m .ensures),
+        (fit (a .p) (a .r) (x .0) (x .1 .0), free k),
+      ),
+      omega (arith, x .0 .light, s .pre .1 .1),
     )
 
 same-length : tie.Need-same-length
@@ -68,23 +72,25 @@ same-length c = search needs
 
 returns : tie.Need-returns
 returns c =
-    let lc = c .before .before in
-    let k = keyed lc in
+    let b = c .before .before in
+    let k = b .before .before in
     let kt = k .before in
     let e = kt .before in
     let s = start e in
+    let a = s .args in
     let x = s .pre .0 in
-    let l = lc .least-cost in
+    let l = b .least-beside .ensures in
     record {
-      few = written-few (s .args .p) (s .args .r) (kt .keyed-takens .result) (k .keyed-lefts .result) _ _ (l .result .written) (x .0) (x .1 .0) (l .ensures .1);
+      few = takes-few _ (a .p .weight) (a .r .wide) (kt .keyed-takens .result) (k .keyed-lefts .result) (a .free) (a .room) _
+          (fit (a .p) (a .r) (x .0) (x .1 .0)) (free k) (l .1);
       rad = e .radices .result;
       ts = kt .keyed-takens .result;
       ls = k .keyed-lefts .result;
       rads = e .radices .ensures;
       takens = kt .keyed-takens .ensures;
       lefts = k .keyed-lefts .ensures;
-      least = l .ensures .0;
-      takes = l .ensures .1;
+      least = l .0;
+      takes = l .1;
     }
 
 pub least-keyed-spec : {M : Type 1} → statement M
@@ -95,10 +101,6 @@ least-keyed-spec =
     mul-most
     keyed-takens-requires
     keyed-lefts-requires
-    slice-aggregate-least-cost
-    slice-aggregate-least-cost-2
-    slice-aggregate-least-cost-3
-    slice-aggregate-least-cost-4
-    least-cost-requires
+    least-beside-requires
     same-length
     returns)

@@ -53,7 +53,7 @@ returns c =
     let a = s .args in
     let x = s .pre .0 in
     rw (c .nothing .ensures) (
-      runs-none (a .p) (a .r) (a .capacity) (a .cap) (a .from) (a .end) 0 (omega arith)
+      runs-none (a .p) (a .r) (a .capacity) (a .cap) (a .from) 0 (omega arith)
           (λ y i f. omega (arith, offset-least (a .p) (a .r) (x .0 .long) (x .1 .0) y i, c .before .before .remaining .ensures)),
       costly (omega (arith, c .before .before .remaining .ensures)),
     )
@@ -81,7 +81,7 @@ returns-2 c =
     let n = h .narrowed in
     let over : a .capacity < load (itemsIn (a .p)) (num (n .result .low)) = omega (arith, c .before .before .low-load .ensures .0) in
     rw (c .nothing2 .ensures) (
-      runs-none (a .p) (a .r) (a .capacity) (a .cap) (a .from) (a .end) 0 (omega arith)
+      runs-none (a .p) (a .r) (a .capacity) (a .cap) (a .from) 0 (omega arith)
           (too-heavy (a .p) (a .r) (n .result) (a .capacity) (a .cap) (m .result) (x .0 .long) (x .1 .0) (m .ensures) (omega arith) (n .ensures) over),
       heavy (n .result) (near h .0) (near h .1) over,
     )
@@ -100,8 +100,7 @@ keyed-run-requires c κs =
         among = near-among (a .p) (a .r) (n .result) _ (x .0 .long) (x .1 .0) (n .ensures);
         wide-long = n .ensures .wides .long;
         start = x .1 .1 .0;
-        end = x .1 .1 .1 .0;
-        cap-in = x .1 .1 .1 .1;
+        cap-in = x .1 .1 .1;
         left-is = omega (arith, m .ensures, near-offset (a .p) (a .r) (n .result) _ (x .0 .long) (x .1 .0) (n .ensures));
         left≥1 = omega arith;
         room-is = omega (arith, c .before .before .low-load .ensures .0);
@@ -125,8 +124,8 @@ returns-3 c =
     let n = g .narrowed in
     let low = h .before .before .low-load in
     let k = c .before .before .keyed-run in (
-      runs-wider (a .p) (a .r) (n .result) (a .capacity) (a .cap) (a .from) (a .end) (m .result) (k .result) (x .0 .long) (x .1 .0)
-          (x .1 .1 .0) (omega (arith, x .1 .1 .1 .0)) (m .ensures) (omega (arith, i .if1 .left)) (n .ensures) (k .ensures .0),
+      runs-wider (a .p) (a .r) (n .result) (a .capacity) (a .cap) (a .from) (m .result) (k .result) (x .0 .long) (x .1 .0)
+          (m .ensures) (omega (arith, i .if1 .left)) (n .ensures) (k .ensures .0),
       scaled (n .result) (a .capacity - low .result) (k .result .written) (near g .0) (near g .1) (omega (arith, low .ensures .0)) (k .ensures .1),
     )
 

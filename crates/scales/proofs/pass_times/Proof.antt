@@ -24,7 +24,7 @@ start t = t .before .before .before
 
 -- one more pass has room
 roomy : (t : tie.In-loop Inv-loop μ-loop) → let a = start t .args in let l = t .before .loop in
-    Roomy (a .d) (a .w) (a .n) (a .heft) (a .n + a .d * a .w) (l .live) (l .left) (l .written)
+    Roomy (a .d) (a .w) (a .n) (l .live) (l .left) (l .written)
 roomy t = timing-room (omega arith) (start t .pre .1 .1 .1 .0) (t .before .loop .inv)
 
 -- what is written lies in order
