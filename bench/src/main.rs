@@ -7,6 +7,7 @@ mod damage;
 mod draw;
 mod enumeration;
 mod families;
+mod firstly;
 mod hunt;
 mod independent;
 mod load;
@@ -57,7 +58,7 @@ fn usage() -> ! {
 
 /// The commands that stand there; compare and speed if none does.
 fn commands(a: &mut Arguments) -> Vec<&'static str> {
-    let mut named = ["compare", "damage", "speed", "reading", "self", "hunt", "needs", "convert", "reply"].to_vec();
+    let mut named = ["compare", "damage", "speed", "reading", "self", "hunt", "needs", "convert", "first", "reply"].to_vec();
     named.retain(|word| a.word(word));
     if named.is_empty() {
         named = vec!["compare", "speed"];
@@ -96,6 +97,7 @@ fn main() {
             "self" => trial::trial(seed, sheets.unwrap_or(choose(2000, 20_000))),
             "hunt" => hunt::hunt(seed, rounds, rules),
             "needs" => needy::needs(seed, speed.sheets, speed.raced),
+            "first" => firstly::firstly(&speed),
             "convert" => blanks::convert(seed, sheets.unwrap_or(choose(5000, 100_000))),
             _ => rivals::reply(),
         };

@@ -106,7 +106,7 @@ fn measure(p: &Problem, o: &Options, row: &mut Row) {
     });
 }
 
-fn sheets(family: &Family, bound: i64, continuous: usize, o: &Options) -> Vec<Problem> {
+pub fn sheets(family: &Family, bound: i64, continuous: usize, o: &Options) -> Vec<Problem> {
     let mut rng = Rng(o.seed);
     (0..o.sheets).map(|_| family.draw(&mut rng, bound, continuous)).collect()
 }

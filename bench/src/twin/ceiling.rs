@@ -272,7 +272,7 @@ struct Group {
 }
 
 impl Frame {
-    /// As many parts from `from` on, up to `end`, as keep left * base within HIGHEST.
+    /// As many parts from `from` on, before `end`, as keep left * base within HIGHEST.
     fn group(&self, from: usize, end: usize, left: u64) -> Group {
         let mut g = Group { from, to: from, base: 1, radix: [0; PARTS] };
         while g.to < end && self.range[g.to] < HIGHEST / left / g.base {
@@ -316,11 +316,42 @@ impl Frame {
     }
 }
 
+// ---- a free part
+
+/// Where the other parts weigh less in all, a run is short as it is.
+const HEAVY: u64 = 16_384;
+
+impl Frame {
+    /// Whether part k costs nothing and is so wide that it can make up for all others: only their weights modulo its own matter then.
+    fn absorbs(&self, k: usize, room: u64) -> bool {
+        let all = self.weight[k] * (self.range[k] + 1);
+        let others: u64 = (0..PARTS).filter(|&j| j != k).map(|j| self.weight[j] * self.range[j]).sum();
+        self.cost[k] == 0 && self.weight[k] > 0 && others >= HEAVY && others < room + self.weight[k] && room < all
+    }
+}
+
+impl Load {
+    /// Weights modulo that of the free part, from the nearer side: from above, a part is counted from its other end.
+    fn fold(&mut self, free: usize) {
+        let modulus = self.weight[free];
+        for k in (0..PARTS).filter(|&k| k != free) {
+            let residue = self.weight[k] % modulus;
+            self.weight[k] = residue;
+            if 2 * residue > modulus {
+                self.weight[k] = modulus - residue;
+                (self.taken[k], self.left[k]) = (self.left[k], self.taken[k]);
+                self.capacity += self.weight[k] as u64 * self.range[k];
+            }
+        }
+        self.range[free] = self.capacity / modulus as u64;
+    }
+}
+
 // ---- runs
 
 /// The least loss below a cap, or the cap. If it is below, the frame has lost what is at or above the cap, and a group of its parts from ..
-/// end is fixed at the first amounts of the points that have this loss; the first part that is not fixed is told too.
-fn run(f: &mut Frame, cap: u64, from: usize, end: usize, cells: &mut Cells) -> (u64, usize) {
+/// is fixed at the first amounts of the points that have this loss; the first part that is not fixed is told too.
+fn run(f: &mut Frame, cap: u64, from: usize, cells: &mut Cells) -> (u64, usize) {
     let left = f.remaining(cap);
     if left == 0 {
         return (cap, from);
@@ -331,8 +362,10 @@ fn run(f: &mut Frame, cap: u64, from: usize, end: usize, cells: &mut Cells) -> (
     if room < 0 {
         return (cap, from);
     }
-    let g = n.group(from, end, left);
-    let l = n.load(&g, room as u64, left);
+    let free = (from + 1..PARTS).find(|&k| n.absorbs(k, room as u64));
+    let g = n.group(from, free.unwrap_or(ITEMS).min(ITEMS), left);
+    let mut l = n.load(&g, room as u64, left);
+    free.into_iter().for_each(|k| l.fold(k));
     let cost = cells.least_cost(l);
     if cost == l.cap {
         return (cap, from);
@@ -342,19 +375,17 @@ fn run(f: &mut Frame, cap: u64, from: usize, end: usize, cells: &mut Cells) -> (
     (cap - left + cost / g.base, g.to)
 }
 
-/// The least loss of the box and the frame that has it, if it is less than `known`.
-fn least_loss(h: &Shape, known: Loss, cells: &mut Cells) -> Option<(Loss, usize)> {
-    let (mut best, mut found) = (known, None);
-    for l in 0..h.frames() {
-        let mut f = h.frame(l);
-        let cap = (f.scale * best.num).div_ceil(best.den);
-        let (loss, _) = run(&mut f, cap, 0, 0, cells);
-        if loss < cap {
-            best = Loss { num: loss, den: f.scale };
-            found = Some((best, l));
+/// From part `from` on, the first amounts of those that lose just less than the cap, where none loses less; whether any does.
+fn onward(f: &mut Frame, cap: u64, mut from: usize, cells: &mut Cells) -> bool {
+    while from < ITEMS {
+        let (loss, to) = run(f, cap, from, cells);
+        if loss == cap && from == 0 {
+            return false;
         }
+        assert!(loss + 1 == cap && to > from, "a run's least cost is attained");
+        from = to;
     }
-    found
+    true
 }
 
 /// So many parts are tried at their first amounts, and the next one at this share of those that are left to it.
@@ -369,7 +400,7 @@ fn leap(f: &mut Frame, cap: u64, cells: &mut Cells) -> usize {
         if n.spare() < 0 {
             continue;
         }
-        let (loss, next) = run(&mut n, cap, to, ITEMS, cells);
+        let (loss, next) = run(&mut n, cap, to, cells);
         if loss < cap {
             *f = n;
             return next;
@@ -382,22 +413,24 @@ fn leap(f: &mut Frame, cap: u64, cells: &mut Cells) -> usize {
 pub fn first_of_frame(h: &Shape, l: usize, t: Loss, cells: &mut Cells) -> Option<Frame> {
     let mut f = h.frame(l);
     let cap = f.scale * t.num / t.den + 1;
-    let mut from = leap(&mut f, cap, cells);
-    while from < ITEMS {
-        let (loss, to) = run(&mut f, cap, from, ITEMS, cells);
-        if loss == cap && from == 0 {
-            return None;
-        }
-        assert!(loss + 1 == cap && to > from, "a run's least cost is attained");
-        from = to;
-    }
-    Some(f)
+    let from = leap(&mut f, cap, cells);
+    onward(&mut f, cap, from, cells).then_some(f)
 }
 
-/// The amounts of the integer items at a point of less loss than `known` and of the least; none if no loss is less.
+/// The amounts of the integer items at the first point of a frame that has the least loss of the box; none if no loss is less than `known`.
 pub fn better_amounts(h: &Shape, known: Loss, cells: &mut Cells) -> Option<[i64; ITEMS]> {
-    let (least, l) = least_loss(h, known, cells)?;
-    let f = first_of_frame(h, l, least, cells)?;
+    let (mut best, mut found) = (known, None);
+    for l in 0..h.frames() {
+        let mut f = h.frame(l);
+        let cap = (f.scale * best.num).div_ceil(best.den);
+        let (loss, to) = run(&mut f, cap, 0, cells);
+        if loss < cap {
+            best = Loss { num: loss, den: f.scale };
+            assert!(onward(&mut f, loss + 1, to, cells), "a run's least cost is attained");
+            found = Some(f);
+        }
+    }
+    let f = found?;
     let mut x = [0; ITEMS];
     for k in 0..h.count {
         let y = f.low[k] as i64;
