@@ -71,7 +71,7 @@ uint64_t charge_convert(const uint8_t *sheet, size_t length, uint8_t *out, size_
    it is refused or needs no search. */
 uint64_t charge_steps(const uint8_t *sheet, size_t length);
 
-/* How many cells the scales write for a sheet: at most 40,924,070,209 without needs, and so many in each case with them (proved); 0 if every search ends
+/* How many cells the scales write for a sheet: at most 67,570,093,800 without needs, and so many in each case with them (proved); 0 if every search ends
    and no first point is owed. */
 uint64_t charge_cells(const uint8_t *sheet, size_t length);
 
