@@ -2,6 +2,7 @@
 // multiples of its weight: only what their weights are modulo that one matters. This is Gomory's group relaxation, exact here because the
 // free part never runs out.
 use scales::Cost;
+use scales::heft_of;
 use scales::least_cost;
 ghost use mathlib.Core.Path.{_≡_};
 ghost use Prim.Native.Nat.{_+_, _*_, _^_, _≤_, _<_};
@@ -17,22 +18,6 @@ ghost use Rattle.residues.specs.Asked.{num, Made, Fit, Tells, Chosen, Ta
 
 // Where the other parts weigh less in all, the cells are few without folding.
 const WORTH: u64 = 16384;
-
-// What all units weigh.
-fn heft_of(ws: [u64; 17], us: [u64; 17]) -> u64
-    requires { ⌜ Fit ws us ⌝ }
-    ensures { λ n. ⌜ n ≡ heft (itemsOf ws us us us) ⌝ }
-{
-    let mut sum: u64 = 0;
-    let mut k: usize = 0;
-    while k < 17 {
-        let w = ws[k];
-        let u = us[k];
-        sum += w * u;
-        k += 1;
-    }
-    sum
-}
 
 // Whether a part of weight m and range u absorbs the others, where all units weigh so much.
 fn is_absorbing(m: u64, u: u64, t: u64, l: u64, whole: u64, capacity: u64) -> bool
@@ -71,7 +56,7 @@ pub fn free_part(
     requires { ⌜ Fit ws us ⌝ }
     ensures { λ f. ⌜ Chosen (itemsOf ws us ts ls) from capacity f ⌝ }
 {
-    let whole = heft_of(ws, us);
+    let whole = heft_of(&ws, &us);
     let mut k = from;
     while k < 17 {
         let m = ws[k];

@@ -368,7 +368,7 @@ fn shared_of<'a>(ws: &'a [u64], us: &'a [u64], i: usize, divisor: u64) -> u64
 }
 
 // What all units weigh.
-fn heft_of<'a>(ws: &'a [u64], us: &'a [u64]) -> u64
+pub fn heft_of<'a>(ws: &'a [u64], us: &'a [u64]) -> u64
     requires { ⌜ (length (now us) ≡ length (now ws)) × (heft (itemsOf (now ws) (now us) (now us) (now us)) < 2 ^ 64) ⌝ }
     ensures { λ r. ⌜ r ≡ heft (itemsOf (now (ws .entry)) (now (us .entry)) (now (us .entry)) (now (us .entry))) ⌝ }
 {

@@ -3,6 +3,7 @@ use borrow.Author.Needs.{needs}
 use native.Mathlib.Omega.{arith}
 use mathlib.Core.Path.{_≡_, subst, sym}
 use Prim.Native.Nat.{ℕ, _-_, _≤_, _<_}
+use lib.ListN.{length}
 use Rattle.scales.specs.Filling.{heft, itemsOf}
 use Rattle.residues.specs.Folding.{AbsorbsBy, Absorbs}
 use Rattle.residues.proofs.Sizes.{beyond-small, heft-small}
@@ -16,24 +17,37 @@ Inv-loop from capacity ws us ts ls whole k₀ k = (from ≤ k) × Barren (itemsO
 abbrev μ-loop : tie.MeasureT-loop
 μ-loop from capacity ws us ts ls whole k₀ k = 17 - k
 
+-- from what all units weigh, back to the start
+abbrev start : tie.After-heft-of Inv-loop μ-loop → tie.Start Inv-loop μ-loop
+start h = h .before .before .before
+
 -- what all units weigh is the heft
-by-heft : (l : tie.At-loop Inv-loop μ-loop) {m u t n C : ℕ} → let g = l .before .before .args in
+by-heft : (l : tie.At-loop Inv-loop μ-loop) {m u t n C : ℕ} → let g = start (l .before) .args in
     AbsorbsBy m u t n (heft (itemsOf (g .t1) (g .t2) (g .t3) (g .t4))) C → AbsorbsBy m u t n (l .before .heft-of .result) C
 by-heft l {m} {u} {t} {n} {C} a = subst (λ H. AbsorbsBy m u t n H C) (sym (l .before .heft-of .ensures)) a
 
-chosen : (l : tie.At-loop Inv-loop μ-loop) → let g = l .before .before .args in let I = itemsOf (g .t1) (g .t2) (g .t3) (g .t4) in let k = l .loop .k in
+chosen : (l : tie.At-loop Inv-loop μ-loop) → let g = start (l .before) .args in let I = itemsOf (g .t1) (g .t2) (g .t3) (g .t4) in let k = l .loop .k in
     k < 17 → AbsorbsBy (I .weight k) (I .range k) (I .taken k) (I .left k) (l .before .heft-of .result) (g .capacity) → Absorbs I k (g .capacity)
 chosen l in-17 a = record {
-  inside = omega (arith, in-17, l .before .before .pre .long);
+  inside = omega (arith, in-17, start (l .before) .pre .long);
   by =
-      let g = l .before .before .args in
+      let g = start (l .before) .args in
       let I = itemsOf (g .t1) (g .t2) (g .t3) (g .t4) in
       let k = l .loop .k in
       subst (λ H. AbsorbsBy (I .weight k) (I .range k) (I .taken k) (I .left k) H (g .capacity)) (l .before .heft-of .ensures) a;
 }
 
+slice-aggregate-heft-of : tie.Need-slice-aggregate-heft-of Inv-loop μ-loop
+slice-aggregate-heft-of c = search needs
+
+slice-aggregate-heft-of-2 : tie.Need-slice-aggregate-heft-of-2 Inv-loop μ-loop
+slice-aggregate-heft-of-2 c = search needs
+
 heft-of-requires : tie.Need-heft-of-requires Inv-loop μ-loop
-heft-of-requires c κs = c .pre
+heft-of-requires c κs =
+    let s = c .before .before in
+    let long : length (s .args .t2) ≡ 17 = search needs in
+    (omega (arith, long, s .pre .long), omega (arith, heft-small (s .args .t1) (s .args .t2) (s .pre)))
 
 loop-holds : tie.Need-loop-holds Inv-loop μ-loop
 loop-holds c = (omega arith, barren-first _ _)
@@ -65,7 +79,7 @@ array-read-l c = search needs
 is-absorbing-requires : tie.Need-is-absorbing-requires Inv-loop μ-loop
 is-absorbing-requires c κs =
     let h = c .before .before in
-    let s = h .before in
+    let s = start h in
     let k = c .before .loop .k in
     (
       s .pre .ranges-in k (omega arith),
@@ -110,6 +124,8 @@ free-part-spec =
     (tie.spec
     Inv-loop
     μ-loop
+    slice-aggregate-heft-of
+    slice-aggregate-heft-of-2
     heft-of-requires
     loop-holds
     mul-m
