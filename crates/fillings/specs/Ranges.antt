@@ -5,7 +5,7 @@
 --   Among p r              the ranges r are within those of the parts
 --   offsetAt p r k         what part k costs at least, within r;  offsetOf p r: all parts together
 --   boxed p r              the parts with the ranges of r alone, amounts counted from low on
---   nearWide, nearLow      the amounts of a part that alone cost less than left;  nearWideOf, nearLowOf: of part k
+--   nearWide, nearLow      the amounts of a part that alone cost less than left: how many, and by lowNear the least;  nearWideOf, nearLowOf: of part k
 --   Narrows p left r r′    the ranges r′ are those of r near the cheaper ends
 --   Fair p                 17 parts, light enough for the cells, with ranges that can be counted
 use mathlib.Core.Path.{_≡_}
@@ -45,8 +45,12 @@ boxed p r = itemsOf (p .weight) (r .wide) (p .taken) (p .left)
 abbrev pub nearWide : ℕ → ℕ → ℕ → ℕ → ℕ
 nearWide left t l wide = cond (eqb l 0) (cond (eqb t 0) wide (min wide ((left - 1) / t))) (cond (eqb t 0) (min wide ((left - 1) / l)) wide)
 
+-- the least of n and one amounts, the highest ones where taking is free
+abbrev pub lowNear : ℕ → ℕ → ℕ → ℕ → ℕ
+lowNear t low wide n = cond (eqb t 0) (low + (wide - n)) low
+
 abbrev pub nearLow : ℕ → ℕ → ℕ → ℕ → ℕ → ℕ
-nearLow left t l low wide = cond (eqb t 0) (low + (wide - nearWide left t l wide)) low
+nearLow left t l low wide = lowNear t low wide (nearWide left t l wide)
 
 abbrev pub nearWideOf : ℕ → Parts → Ranges → ℕ → ℕ
 nearWideOf left p r k = nearWide left (num (p .taken) k) (num (p .left) k) (num (r .wide) k)

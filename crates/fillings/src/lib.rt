@@ -10,8 +10,8 @@ ghost use Rattle.scales.specs.Filling.{load, sum, Bounds};
 ghost use lib.ListN.{length};
 ghost use Rattle.residues.specs.Asked.{Chosen};
 ghost use Rattle.fillings.specs.Keys.{keys, digits, radix};
-ghost use Rattle.fillings.specs.Ranges.{num, flag, itemsIn, Among, offsetOf, boxed, nearWide, nearLow};
-ghost use Rattle.fillings.specs.Ranges.{nearWideOf, nearLowOf, Made, Narrows, Fair};
+ghost use Rattle.fillings.specs.Ranges.{num, flag, itemsIn, Among, offsetOf, boxed, nearWide, lowNear};
+ghost use Rattle.fillings.specs.Ranges.{Made, Narrows, Fair};
 ghost use Rattle.fillings.specs.Runs.{Grouped, Gathers, inGroup, keyedBy, takenKey, leftKey, keyedTaken, keyedLeft};
 ghost use Rattle.fillings.specs.Runs.{fixedLow, fixedWide, Fixable, Fixes, Begins, LeastKeyed, Decodes, Runs};
 ghost use Rattle.fillings.specs.Runs.{ScalesWrite, RunWrites, Whole, runCells};
@@ -180,57 +180,31 @@ fn near_wide(left: u64, t: u64, l: u64, wide: u64) -> u64
     }
 }
 
-fn near_low(left: u64, t: u64, l: u64, low: u64, wide: u64) -> u64
-    requires { ⌜ (1 ≤ left) × (low + wide < 2 ^ 64) ⌝ }
-    ensures { λ n. ⌜ n ≡ nearLow left t l low wide ⌝ }
+// The least of n and one amounts near the cheaper end.
+fn near_low(t: u64, low: u64, wide: u64, n: u64) -> u64
+    requires { ⌜ (n ≤ wide) × (low + wide < 2 ^ 64) ⌝ }
+    ensures { λ r. ⌜ r ≡ lowNear t low wide n ⌝ }
 {
-    if t == 0 {
-        let n = near_wide(left, t, l, wide);
-        low + (wide - n)
-    } else {
-        low
-    }
-}
-
-fn near_wides(p: Parts, r: Ranges, left: u64) -> [u64; 17]
-    requires { ⌜ 1 ≤ left ⌝ }
-    ensures { λ xs. ⌜ Made 17 (nearWideOf left p r) xs ⌝ }
-{
-    let mut to = [0; 17];
-    let mut k: usize = 0;
-    while k < 17 {
-        let t = p.taken[k];
-        let l = p.left[k];
-        let w = r.wide[k];
-        to[k] = near_wide(left, t, l, w);
-        k += 1;
-    }
-    to
-}
-
-fn near_lows(p: Parts, r: Ranges, left: u64) -> [u64; 17]
-    requires { ⌜ (1 ≤ left) × (Fair p × Among p r) ⌝ }
-    ensures { λ xs. ⌜ Made 17 (nearLowOf left p r) xs ⌝ }
-{
-    let mut to = [0; 17];
-    let mut k: usize = 0;
-    while k < 17 {
-        let t = p.taken[k];
-        let l = p.left[k];
-        let a = r.low[k];
-        let w = r.wide[k];
-        to[k] = near_low(left, t, l, a, w);
-        k += 1;
-    }
-    to
+    if t == 0 { low + (wide - n) } else { low }
 }
 
 fn narrowed(p: Parts, r: Ranges, left: u64) -> Ranges
     requires { ⌜ (1 ≤ left) × (Fair p × Among p r) ⌝ }
     ensures { λ n. ⌜ Narrows p left r n ⌝ }
 {
-    let low = near_lows(p, r, left);
-    let wide = near_wides(p, r, left);
+    let mut low = [0; 17];
+    let mut wide = [0; 17];
+    let mut k: usize = 0;
+    while k < 17 {
+        let t = p.taken[k];
+        let l = p.left[k];
+        let a = r.low[k];
+        let w = r.wide[k];
+        let n = near_wide(left, t, l, w);
+        low[k] = near_low(t, a, w, n);
+        wide[k] = n;
+        k += 1;
+    }
     Ranges {
         low: low,
         wide: wide,
