@@ -19,12 +19,14 @@ struct Row {
     alike: usize,
 }
 
-/// Without the lower bound of the item that is worth most for its weight, which seldom stands there; the same problem if no weight is above nought.
+/// Without the lower bound of the item that is worth most for its weight, which seldom stands there; no need may name it. The same problem if no such
+/// item weighs more than nought.
 fn unowed(p: &Problem) -> Problem {
     let mut q = p.clone();
-    let weighty = q.items.iter_mut().filter(|i| i.weight > 0);
-    let best = weighty.max_by(|i, j| (i.price * j.weight).cmp(&(j.price * i.weight)));
-    best.into_iter().for_each(|i| i.lower = None);
+    let is_free = |k: &usize| p.items[*k].weight > 0 && p.needs.iter().all(|n| n.item != *k && n.cover != *k);
+    let ratio = |j: usize, k: usize| (p.items[j].price * p.items[k].weight).cmp(&(p.items[k].price * p.items[j].weight));
+    let best = (0..p.items.len()).filter(is_free).max_by(|&j, &k| ratio(j, k));
+    best.into_iter().for_each(|k| q.items[k].lower = None);
     q
 }
 
