@@ -1,6 +1,7 @@
 // Fillings of a capacity at least cost, and the first of them. A load has 17 parts, of which the last is the slack. Amounts that alone cost too much
-// are taken out before the scales look for the least cost. Which of the fillings that have it comes first is read off a key that is added to the
-// costs: the amounts of some parts as digits of one number. Before that, leaps try the first amounts of many parts at once.
+// are taken out before the scales look for the least cost, modulo the weight of a part that costs nothing if there is enough of it. Which of the
+// fillings that have it comes first is read off a key that is added to the costs: the amounts of some parts as digits of one number. Where only the
+// first filling is sought, leaps try the first amounts of many parts at once before that.
 use residues::free_part;
 use residues::least_beside;
 use scales::Cost;

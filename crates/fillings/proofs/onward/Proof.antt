@@ -2,7 +2,7 @@
 use native.Mathlib.Omega.{arith}
 use mathlib.Core.Path.{_≡_, refl, _∙_, sym}
 use mathlib.Core.Bool.{true, false}
-use Prim.Native.Nat.{ℕ, _+_, _-_, _*_, _≤_}
+use Prim.Native.Nat.{ℕ, _+_, _-_, _*_, _≤_, _<_}
 use lib.ListN.{length}
 use Rattle.fillings.specs.Runs.{runCells}
 use Rattle.fillings.specs.Leaps.{Sought}
@@ -71,22 +71,24 @@ returns c =
           (n .ensures .0) (c .before .if1 .taken);
     }
 
-loop-less : tie.Need-loop-less Inv-loop μ-loop
-loop-less c =
-    let h = c .before .before .before in
-    let ro = h .before .before .before in
+-- from where the loop goes on, back to its run, which has fixed one part more
+abbrev ran : tie.After-ranges2 Inv-loop μ-loop → tie.After-run-over Inv-loop μ-loop
+ran c = c .before .before .before .before .before .before
+
+more : (c : tie.After-ranges2 Inv-loop μ-loop) → let ro = ran c in turn ro .before .loop .from < ro .run-over .result .to
+more c =
+    let ro = ran c in
     let t = turn ro in
     let w = t .before in
     let s = start w in
     let l = w .loop in
     let n = ro .run-over in
     let x = s .pre .0 in
-    omega (
-      arith,
-      t .loop-test .taken,
-      sought-more (s .args .p) (s .args .capacity) (s .args .cap) (x .0 .long) (x .1 .0) (x .1 .1 .1 .1) (l .r) (l .from) (l .from)
-          (l .inv .1 .heads) (n .result) (n .ensures .0) (c .before .if1 .left) (omega (arith, t .loop-test .taken)) (x .1 .1 .1 .0),
-    )
+    sought-more (s .args .p) (s .args .capacity) (s .args .cap) (x .0 .long) (x .1 .0) (x .1 .1 .1 .1) (l .r) (l .from) (l .from) (l .inv .1 .heads)
+    (n .result) (n .ensures .0) (c .before .if1 .left) (omega (arith, t .loop-test .taken)) (x .1 .1 .1 .0)
+
+loop-less : tie.Need-loop-less Inv-loop μ-loop
+loop-less c = omega (arith, turn (ran c) .loop-test .taken, more c)
 
 loop-again : tie.Need-loop-again Inv-loop μ-loop
 loop-again c =
@@ -97,20 +99,17 @@ loop-again c =
     let s = start w in
     let l = w .loop in
     let n = ro .run-over in
-    let x = s .pre .0 in
-    let more = sought-more (s .args .p) (s .args .capacity) (s .args .cap) (x .0 .long) (x .1 .0) (x .1 .1 .1 .1) (l .r) (l .from) (l .from) (l .inv .1 .heads)
-    (n .result) (n .ensures .0) (c .before .if1 .left) (omega (arith, t .loop-test .taken)) (x .1 .1 .1 .0) in (
+    let x = s .pre .0 in (
       (
         search needs,
         (
-          omega (arith, l .inv .0 .1 .0, n .ensures .0 .few),
+          omega (arith, l .inv .0 .1 .0, n .ensures .0 .few, more c),
           onward (l .r) (l .from) (l .written) (n .result) (l .inv .0 .1 .1) (omega (arith, t .loop-test .taken)) (n .ensures .0) (n .ensures .1)
               (c .before .if1 .left),
         ),
       ),
-      sought-step (s .args .p) (s .args .capacity) (s .args .cap) (x .0 .long) (x .1 .0)
-          (x .1 .1 .1 .1) (l .r) (l .from) (l .from) (l .inv .1 .heads) (n .result) (n .ensures .0) (c .before .if1 .left) (omega (arith, more))
-          (omega (arith, more)),
+      sought-step (s .args .p) (s .args .capacity) (s .args .cap) (x .0 .long) (x .1 .0) (x .1 .1 .1 .1) (l .r) (l .from) (l .from) (l .inv .1 .heads) (n .result)
+          (n .ensures .0) (c .before .if1 .left) (omega (arith, more c)) (omega (arith, more c)),
     )
 
 same-length-2 : tie.Need-same-length-2 Inv-loop μ-loop
