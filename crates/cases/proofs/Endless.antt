@@ -83,9 +83,11 @@ passes s x d r v = go (common (s .count) x)
 
     go : Common (s .count) x → (t : ℕ) × (v <ᶠ value s (stepped x d t))
     go c =
-        let g = gap (v .num *ℤ pos (c .D) +ℤ pos 1) (valueᴰ s (c .N) *ℤ pos (v .den)) in
-        (g .0, over-< (mul-le-mul (c .D≥1) (v .den≥1)) (over-own (c .D) v) (over-scale (v .den) (worth c (g .0)))
-        (enough (c .D) (v .den) (g .0) (c .D≥1) (v .den≥1) (valueᴰ s (c .N)) (valueᴰ s d) (v .num *ℤ pos (c .D)) (r .gain) (g .1)))
+        let g = gap (v .num *ℤ pos (c .D) +ℤ pos 1) (valueᴰ s (c .N) *ℤ pos (v .den)) in (
+          g .0,
+          over-< (mul-le-mul (c .D≥1) (v .den≥1)) (over-own (c .D) v) (over-scale (v .den) (worth c (g .0)))
+              (enough (c .D) (v .den) (g .0) (c .D≥1) (v .den≥1) (valueᴰ s (c .N)) (valueᴰ s d) (v .num *ℤ pos (c .D)) (r .gain) (g .1)),
+        )
 
 pub unbounded-passes : (s : Instance) (ns : List Need) (x : Point) (d : ℕ → ℤ) → UnboundedNeeds s ns x d → (v : Frac)
     → (y : Point) × FeasibleNeeds s ns y × (v <ᶠ value s y)

@@ -261,5 +261,5 @@ relaxed-ray s ns a y d u =
     let r = unbounded-ray (relaxedBut ns s) y d v in
     let p = rounded-needs s ns (inside-allowed s ns a) y (u .from) in
     let w : Unbounded s (p .0) d = ray-unbounded s (p .0) d (v .i) (v .j) (v .i-in) (v .j-in) (v .i-moves) (v .j-moves) (v .others)
-        (record { up = r .up; down = r .down; light = r .light; gain = r .gain }) (p .1 .plain) in
+    (record { up = r .up; down = r .down; light = r .light; gain = r .gain }) (p .1 .plain) in
     (p .0, unbounded-needs s (p .0) d w ns a (p .1))

@@ -79,7 +79,7 @@ mended-full i = go (isBlank i) refl
     priced false = refl
 
     go : (b : Bool) → isBlank i ≡ b
-       → isBlank (cond b (record { mark = i .mark; weight = i .weight; price = pos 1; lower = i .lower; upper = i .upper }) i) ≡ false
+        → isBlank (cond b (record { mark = i .mark; weight = i .weight; price = pos 1; lower = i .lower; upper = i .upper }) i) ≡ false
     go true e = priced (eqb (natAbs (i .weight)) 0)
     go false e = e
 

@@ -274,7 +274,7 @@ module _ (m : Model) (a : AdmissibleBy blanks.Kept m) where
         }
 
     line-rises : (x y : Need) → Stays (kept m) (m .count) (placed x) → 1 ≤ x .item → 1 ≤ x .cover → Rises x y
-               → Rises (renumbered (kept m) x) (renumbered (kept m) y)
+        → Rises (renumbered (kept m) x) (renumbered (kept m) y)
     line-rises x y s i c (inl l) = inl (omega (arith, rank-strict (kept m) (y .item - 1) (x .item - 1) (omega arith) (s .item-kept)))
     line-rises x y s i c (inr (e, l)) =
         inr (ap (renumber (kept m)) e, omega (arith, rank-strict (kept m) (y .cover - 1) (x .cover - 1) (omega arith) (s .cover-kept)))

@@ -504,14 +504,7 @@ fn keyed_run(
 }
 
 // The least cost of a filling within the ranges, at most cap; of the fillings that have it, the first amounts of some parts from one on.
-fn run_over(
-    p: Parts,
-    r: Ranges,
-    capacity: u64,
-    cap: u64,
-    from: usize,
-    cells: &mut [u64],
-) -> Run
+fn run_over(p: Parts, r: Ranges, capacity: u64, cap: u64, from: usize, cells: &mut [u64]) -> Run
     requires { ⌜ Fair p × (Among p r × ((from ≤ 16) × (cap < 2 ^ 63))) ⌝ }
     requires { ⌜ 65535 ≤ length (now cells) ⌝ }
     ensures { λ n. ⌜ Runs p r capacity cap from n ⌝ }

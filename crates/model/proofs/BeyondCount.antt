@@ -63,9 +63,9 @@ module _ (m o : Model) (e : Agree m o) where
           let n = line-numbers (held (m .count)) (lineBefore (m .needs) j) (needAt (m .needs) j) h in
           let few = held-few (m .count) in
           let i : itemAt m (needAt (m .needs) j .item - 1) ≡ itemAt o (needAt (m .needs) j .item - 1) =
-            e .items _ (omega (arith, n .first-least, n .first-most)) in
+          e .items _ (omega (arith, n .first-least, n .first-most)) in
           let c : itemAt m (needAt (m .needs) j .cover - 1) ≡ itemAt o (needAt (m .needs) j .cover - 1) =
-            e .items _ (omega (arith, n .second-least, n .second-most)) in
+          e .items _ (omega (arith, n .second-least, n .second-most)) in
           rw (i, c)
 
   lines-same : (n : ℕ) → n ≤ m .needs .count → needsVerdict n m ≡ needsVerdict n o
@@ -80,9 +80,9 @@ module _ (m o : Model) (e : Agree m o) where
       let b : m .capacity ≡ o .capacity = e .capacity in
       let t : m .needs .count ≡ o .needs .count = e .need-count in
       let i : (test : Item → Bool) → someItem (held (m .count)) (itemAt m) test ≡ someItem (held (m .count)) (itemAt o) test =
-          λ test. some-same (held (m .count)) (itemAt m) (itemAt o) test (λ k l. e .items k (omega (arith, held-few (m .count)))) in
+      λ test. some-same (held (m .count)) (itemAt m) (itemAt o) test (λ k l. e .items k (omega (arith, held-few (m .count)))) in
       let n : needsVerdict (held (m .needs .count)) m ≡ needsVerdict (held (m .needs .count)) o =
-        lines-same (held (m .needs .count)) (held-few (m .needs .count)) in
+      lines-same (held (m .needs .count)) (held-few (m .needs .count)) in
       rw (n, i badFigure, i (barred kind), c, b, t)
 
   pub beyond-needs : needsOf (m .needs) ≡ needsOf (o .needs)
@@ -98,8 +98,8 @@ module _ (m o : Model) (e : Agree m o) where
   pub beyond-planned : (a : Answer) → Planned m a → Planned o a
   beyond-planned a p = record {
     replies =
-      rw (← beyond-needs)
-      (replies-same (asked m) (asked o) (needsOf (m .needs)) a (verdict m) (verdict o) same (beyond-verdict blanks.Refused) (p .replies));
+        rw (← beyond-needs)
+        (replies-same (asked m) (asked o) (needsOf (m .needs)) a (verdict m) (verdict o) same (beyond-verdict blanks.Refused) (p .replies));
     first = rw (← beyond-needs) (same-first-needs (asked m) (asked o) same (needsOf (m .needs)) a (p .first));
   }
 

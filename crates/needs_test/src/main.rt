@@ -11,8 +11,8 @@ use knapsack::Item;
 use model::Model;
 use model::Need;
 use model::setters;
-use solver::STEPS;
 use planner::plan_within;
+use solver::STEPS;
 use trials::count::print_count;
 use trials::draw::Spans;
 use trials::draw::drawn_problem;
@@ -99,13 +99,49 @@ fn show(p: Model) {
 // The two on which a pair with a named item would discard the best point, least and of equal value; the lightest point breaks the
 // need; nothing keeps it; a chain; a cycle; a ray beside a need.
 fn chosen() {
-    show(needing(first_of(12, 3, held(3, 5, 0, 10), held(4, 6, 0, 10), held(1, -100, 0, 1)), 0, 1, 3));
-    show(needing(first_of(3, 3, held(1, 1, 0, 3), held(1, 1, 0, 3), held(1, -5, 0, 1)), 0, 2, 3));
+    show(needing(
+        first_of(
+            12,
+            3,
+            held(3, 5, 0, 10),
+            held(4, 6, 0, 10),
+            held(1, -100, 0, 1),
+        ),
+        0,
+        1,
+        3,
+    ));
+    show(needing(
+        first_of(3, 3, held(1, 1, 0, 3), held(1, 1, 0, 3), held(1, -5, 0, 1)),
+        0,
+        2,
+        3,
+    ));
     show(needing(two(10, held(1, 1, 1, 5), held(1, -1, 0, 5)), 0, 1, 2));
     show(needing(two(1, held(1, 1, 1, 1), held(1, 1, 0, 1)), 0, 1, 2));
-    show(needing(needing(first_of(3, 3, held(1, 9, 0, 3), held(1, 1, 0, 3), held(1, -1, 0, 3)), 0, 1, 2), 1, 2, 3));
-    show(needing(needing(two(3, held(1, 2, 0, 3), held(1, 1, 0, 3)), 0, 1, 2), 1, 2, 1));
-    show(needing(first_of(2, 3, held(1, 5, 1, 2), held(1, -1, 0, 2), from_zero(-1, 1)), 0, 1, 2));
+    show(needing(
+        needing(
+            first_of(3, 3, held(1, 9, 0, 3), held(1, 1, 0, 3), held(1, -1, 0, 3)),
+            0,
+            1,
+            2,
+        ),
+        1,
+        2,
+        3,
+    ));
+    show(needing(
+        needing(two(3, held(1, 2, 0, 3), held(1, 1, 0, 3)), 0, 1, 2),
+        1,
+        2,
+        1,
+    ));
+    show(needing(
+        first_of(2, 3, held(1, 5, 1, 2), held(1, -1, 0, 2), from_zero(-1, 1)),
+        0,
+        1,
+        2,
+    ));
 }
 
 // ---- drawn problems

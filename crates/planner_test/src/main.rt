@@ -6,8 +6,8 @@ mod texts; // the text entry
 
 use knapsack::Answer;
 use model::Model;
-use solver::STEPS;
 use planner::plan_within;
+use solver::STEPS;
 use trials::draw::Spans;
 use trials::draw::drawn_problem;
 use trials::draw::small;

@@ -2,8 +2,6 @@
 // keep their marks (paper 02, request 7).
 // One thin function, proved by hand, over a core that is covered: the list is copied into a record, the core answers it and puts its
 // items in order, and the items are stored back.
-use planner::named_of;
-use planner::solve_needs;
 use knapsack::Answer;
 use knapsack::Item;
 use knapsack::Kind;
@@ -17,6 +15,8 @@ use model::check_model;
 use model::plain_of;
 use model::setters;
 use ordering::arrange;
+use planner::named_of;
+use planner::solve_needs;
 use solver::STEPS;
 use solver::no_point;
 ghost use mathlib.Core.Path.{_≡_};

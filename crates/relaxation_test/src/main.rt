@@ -179,11 +179,21 @@ fn needing_kinds() {
     show(b'6', with_need(two(11, x, held(1, 1, 0, 0)), 1, 1, 2));
     show(
         b'7',
-        with_need(three(0, held(1, 1, 0, 1), held(-1, -1, 0, 1), free(0, 1)), 1, 1, 2),
+        with_need(
+            three(0, held(1, 1, 0, 1), held(-1, -1, 0, 1), free(0, 1)),
+            1,
+            1,
+            2,
+        ),
     );
     show(
         b'8',
-        with_need(three(5, held(1, 1, 1, 1), held(1, 1, 0, 0), free(0, 1)), 1, 1, 2),
+        with_need(
+            three(5, held(1, 1, 1, 1), held(1, 1, 0, 0), free(0, 1)),
+            1,
+            1,
+            2,
+        ),
     );
 }
 
@@ -194,10 +204,7 @@ fn bad_needs() {
     show(b'!', with_need(two(11, x, x), 1, 2, 2));
     show(b'!', with_need(two(11, x, loose(x)), 1, 1, 2));
     show(b'!', with_need(two(11, x, from_zero(3, 5)), 1, 1, 2));
-    show(
-        b'!',
-        with_need(with_need(two(11, x, x), 1, 2, 1), 2, 1, 2),
-    );
+    show(b'!', with_need(with_need(two(11, x, x), 1, 2, 1), 2, 1, 2));
 }
 
 // ---- records that are refused

@@ -183,7 +183,11 @@ fn with_needs_of(p: Model, s: Sheet) -> Model {
 }
 
 fn is_of(need: Need, k: usize) -> bool {
-    if need.item == k { true } else { need.cover == k }
+    if need.item == k {
+        true
+    } else {
+        need.cover == k
+    }
 }
 
 // Whether a need of the record names the item number k.

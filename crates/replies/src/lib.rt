@@ -1,15 +1,15 @@
 // From end to end: what is printed for a sheet, and the text of the reply to a record or a sheet in a lent buffer. Paper 01, "What `charge`
 // prints" and the text among the parts that stand in public.
-use planner::plan;
 use knapsack::Answer;
 use knapsack::Kind;
 use knapsack::Verdict;
 use listing::list_reply;
 use listing::text_of;
 use model::Model;
-use solver::no_point;
+use planner::plan;
 use sheet::Reading;
 use sheet::read;
+use solver::no_point;
 use text::Listed;
 use text::Text;
 ghost use Rattle.model.specs.Promises.{Planned};

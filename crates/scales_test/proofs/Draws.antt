@@ -18,8 +18,12 @@ listed cap w u t l c d =
       small = omega arith;
       few = omega (arith, n);
       light = omega (arith, light w (d .0 .0));
-      fits = omega (arith, light w (d .0 .0), load-most (length w) 16 (λ j. getD w j 0) (λ j. getD u j 0)
-          (λ j h. omega (arith, d .0 .1 .small j (omega (arith, n)))));
+      fits = omega (
+        arith,
+        light w (d .0 .0),
+        load-most (length w) 16 (λ j. getD w j 0) (λ j. getD u j 0)
+            (λ j h. omega (arith, d .0 .1 .small j (omega (arith, n)))),
+      );
       ranges = d .0 .1 .three ∙ sym n;
       takens = d .1 .0 .three ∙ sym n;
       lefts = d .1 .1 .three ∙ sym n;

@@ -107,7 +107,7 @@ needs-short (suc n) f h = let l = h n (omega arith) in (need-short (f n) (l .0) 
 
 -- both numbers of a record's line are at most 16
 pub numbers-few : {kind : Blanks} (m : Model) → Unfaulted kind m
-  → Each (m .needs .count) (λ j. (needAt (m .needs) j .item ≤ 16) × (needAt (m .needs) j .cover ≤ 16))
+    → Each (m .needs .count) (λ j. (needAt (m .needs) j .item ≤ 16) × (needAt (m .needs) j .cover ≤ 16))
 numbers-few m r j l =
     let n = line-numbers (m .count) (lineBefore (m .needs) j) (needAt (m .needs) j) (r .needs j l .0) in
     (omega (arith, n .first-most, r .most), omega (arith, n .second-most, r .most))

@@ -182,7 +182,7 @@ items-end b vs p i = sym (upto-length (p .item) (itemAt (p .model))) ∙ ap leng
 
 -- items that were just read have no bounds
 no-bounds : {kind : Blanks} (side : Side) (b : ℤ) (vs : List Item) (p : Progress) → ItemsIn kind b (length vs) vs p
-  → (k : ℕ) → boundAt side (p .model) k ≡ Absent
+    → (k : ℕ) → boundAt side (p .model) k ≡ Absent
 no-bounds side b vs p i k = go side (decLt k (p .item))
   where
     go : (side : Side) → Dec (k < p .item) → boundAt side (p .model) k ≡ Absent
@@ -335,7 +335,7 @@ sections kind s g =
     let b = o .0 in
     let is : limitSection s .model ≡ withCapacity emptyModel b = a .holds .is ∙ ap limited (o .1) in
     let i =
-      section-read (itemFormBy kind) (λ p i. Bare kind i) (item-laws kind) (ItemsIn kind b) (items-next kind b) items 1 16 _ s (limitSection s) items-bytes
+    section-read (itemFormBy kind) (λ p i. Bare kind i) (item-laws kind) (ItemsIn kind b) (items-next kind b) items 1 16 _ s (limitSection s) items-bytes
     (λ n at x y. items-start kind (limitSection s .model) b n at is y) hi in
     let q = headOf kind s .model in
     let free : (side : Side) (k : ℕ) → boundAt side q k ≡ Absent = λ side. no-bounds side b (i .values) (headOf kind s) (i .holds) in
@@ -344,8 +344,8 @@ sections kind s g =
     let y = side-read s Upper (lowerOf kind s) (omega (arith, few, x .holds .count)) (x .holds .places) (λ k. x .holds .same k .other ∙ free Upper k) h in
     let empty : upperOf kind s .model .needs ≡ noNeeds = y .holds .needs ∙ x .holds .needs ∙ i .holds .needs in
     let z =
-      section-read needForm NeedFits need-laws (NeedsIn (upperOf kind s .model)) (needs-next (upperOf kind s .model)) needs 0 16 _ s (upperOf kind s)
-      needs-bytes (λ n at u v. needs-start (upperOf kind s .model) n at empty v) g in
+    section-read needForm NeedFits need-laws (NeedsIn (upperOf kind s .model)) (needs-next (upperOf kind s .model)) needs 0 16 _ s (upperOf kind s)
+    needs-bytes (λ n at u v. needs-start (upperOf kind s .model) n at empty v) g in
     record {
       limit = b;
       vi = i .values;
@@ -367,17 +367,17 @@ found-sheet kind s t =
     let m = lastOf kind s .model in
     let z = r .needs-read in
     let l =
-      laid (r .limit) (r .vi) (r .vl) (r .vu) (r .vn) (headOf kind s) (lowerOf kind s) (upperOf kind s) (lastOf kind s)
-      (r .items) (r .lower) (r .upper) z in
+    laid (r .limit) (r .vi) (r .vl) (r .vu) (r .vn) (headOf kind s) (lowerOf kind s) (upperOf kind s) (lastOf kind s)
+    (r .items) (r .lower) (r .upper) z in
     let c =
-      counted (r .limit) (r .vi) (r .vl) (r .vu) (r .vn) (headOf kind s) (lowerOf kind s) (upperOf kind s) (lastOf kind s)
-      (r .items) (r .lower) (r .upper) z .0 in
+    counted (r .limit) (r .vi) (r .vl) (r .vu) (r .vn) (headOf kind s) (lowerOf kind s) (upperOf kind s) (lastOf kind s)
+    (r .items) (r .lower) (r .upper) z .0 in
     let f =
-      fair-figures (r .limit) (r .vi) (r .vl) (r .vu) (r .vn) (headOf kind s) (lowerOf kind s) (upperOf kind s) (lastOf kind s)
-      (r .items) (r .lower) (r .upper) z in
+    fair-figures (r .limit) (r .vi) (r .vl) (r .vu) (r .vn) (headOf kind s) (lowerOf kind s) (upperOf kind s) (lastOf kind s)
+    (r .items) (r .lower) (r .upper) z in
     let b =
-      unbarred (r .limit) (r .vi) (r .vl) (r .vu) (r .vn) (headOf kind s) (lowerOf kind s) (upperOf kind s) (lastOf kind s)
-      (r .items) (r .lower) (r .upper) z in
+    unbarred (r .limit) (r .vi) (r .vl) (r .vu) (r .vn) (headOf kind s) (lowerOf kind s) (upperOf kind s) (lastOf kind s)
+    (r .items) (r .lower) (r .upper) z in
     let n = items-end (r .limit) (r .vi) (headOf kind s) (r .items) in
     let e = needs-end (upperOf kind s .model) (r .vn) (lastOf kind s) z in
     record {
@@ -457,7 +457,7 @@ module _ (kind : Blanks) (m : Model) (r : Unfaulted kind m) (tidy : Tidy m) wher
   items-fits : Fitting (ItemsIn kind (m .capacity) (length vi)) (λ p i. Bare kind i) vi
   unfolding vi
   items-fits =
-    items-fit kind (m .capacity) (length vi) (m .count) (λ k. bareOf (itemAt m k)) (λ k l. bare-of kind (itemAt m k) (r .figures k l) (r .unbarred k l))
+      items-fit kind (m .capacity) (length vi) (m .count) (λ k. bareOf (itemAt m k)) (λ k l. bare-of kind (itemAt m k) (r .figures k l) (r .unbarred k l))
 
   items-back : Back (ItemsIn kind (m .capacity) (length vi)) sheet lower-left vi (headOf kind sheet)
   unfolding headOf itemsSection
@@ -536,8 +536,8 @@ module _ (kind : Blanks) (m : Model) (r : Unfaulted kind m) (tidy : Tidy m) wher
       let p = goesOn (withNeedCount bounded 0) 0 0 in
       let z : NeedsIn bounded 0 [] p = needs-start bounded 0 0 bounded-empty (omega arith) in
       let l =
-        laid (m .capacity) vi vl vu [] (headOf kind sheet) (lowerOf kind sheet) (upperOf kind sheet) p
-        (items-back .holds) (lower-back .holds) (upper-back .holds) z in
+      laid (m .capacity) vi vl vu [] (headOf kind sheet) (lowerOf kind sheet) (upperOf kind sheet) p
+      (items-back .holds) (lower-back .holds) (upper-back .holds) z in
       let e : withNeedCount bounded 0 ≡ withNeeds m noNeeds = laid-once (withNeedCount bounded 0) (withNeeds m noNeeds) (m .capacity) vi vl vu [] l bare-own in
       let u : bounded ≡ withNeedCount bounded 0 = same-model bounded (withNeedCount bounded 0) refl refl refl (bounded-empty ∙ sym (rw bounded-empty refl)) in
       u ∙ e
@@ -561,7 +561,7 @@ module _ (kind : Blanks) (m : Model) (r : Unfaulted kind m) (tidy : Tidy m) wher
   unfolding bare bounded
   model-back =
       let l =
-        laid (m .capacity) vi vl vu vn (headOf kind sheet) (lowerOf kind sheet) (upperOf kind sheet) (lastOf kind sheet) (items-back .holds) (lower-back .holds)
+      laid (m .capacity) vi vl vu vn (headOf kind sheet) (lowerOf kind sheet) (upperOf kind sheet) (lastOf kind sheet) (items-back .holds) (lower-back .holds)
       (upper-back .holds) (last-back .holds) in
       laid-once (lastOf kind sheet .model) m (m .capacity) vi vl vu vn l own
 

@@ -162,11 +162,11 @@ module _ (p : Problem) (range : InRange p) (s : Setting) (q : Prepared p s) wher
   })
 
 pub corner-work : (most : ℕ) (p : Problem) (named : List Bool) (s : Setting) (d : List ℤ) (a : Answer) → Prepared p s → Cornered s d a
-  → Counts most p named a 0 × Cells most p named a 0
+    → Counts most p named a 0 × Cells most p named a 0
 corner-work most p named s d a q h = (
-    subst (λ k. CountsAs most k p named a 0) (sym (h .kind-is)) (record { setting = s; prepared = q; moves = d; cornered = h; none = refl }),
-    subst (λ k. CellsAs most k p named 0) (sym (h .kind-is)) refl,
-  )
+  subst (λ k. CountsAs most k p named a 0) (sym (h .kind-is)) (record { setting = s; prepared = q; moves = d; cornered = h; none = refl }),
+  subst (λ k. CellsAs most k p named 0) (sym (h .kind-is)) refl,
+)
 
 -- ---- what a search says, where an absent bound is at the problem's reach
 

@@ -1,9 +1,5 @@
 // The points of a small problem that can be best (enumerate), each beside the point that an answer shows: none is worth more, and none that is
 // worth as much comes before it. With no order of filling, no relaxation, no loss and no key this has nothing of the planner.
-use arith::Fraction;
-use knapsack::Answer;
-use knapsack::Item;
-use model::Model;
 use crate::enumerate::Sums;
 use crate::enumerate::below;
 use crate::enumerate::between;
@@ -19,6 +15,10 @@ use crate::exact::plus;
 use crate::exact::times;
 use crate::kept::chosen;
 use crate::kept::keeps;
+use arith::Fraction;
+use knapsack::Answer;
+use knapsack::Item;
+use model::Model;
 ghost use Prim.Native.Nat.{_≤_};
 
 // The item that takes what the others leave of the capacity, and its amount p / q.

@@ -67,8 +67,7 @@ below-below-requires :
     (t : ℕ) → below-lts.Need-below-requires (below-below t, below.Post) (below-at t) below.Post
 below-below-requires t c κs =
     let e = c .before .before in
-    let s = e .before .before in
-    (
+    let s = e .before .before in (
       omega (arith, s .pre .0, mod-lt (s .args .n) {m = s .args .d} (s .pre .1 .0), mod-lt (s .args .m) {m = s .args .e} (s .pre .1 .1)),
       (omega (arith, c .before .if3 .left), omega (arith, c .if4 .left)),
     )

@@ -55,10 +55,11 @@ at-loop c = c .before .before .before
 loop-again : tie.Need-loop-again Inv-loop μ-loop
 loop-again c =
     let l = at-loop (c .before) in
-    let a = l .before .before .args in
-    (omega arith,
-    rw add-one
-    (some-more (l .loop .k) (itemAt (a .t1)) (hasFault (a .fault)) (l .loop .inv .1) (sym (c .before .has-fault .ensures) ∙ c .if1 .left)))
+    let a = l .before .before .args in (
+      omega arith,
+      rw add-one
+          (some-more (l .loop .k) (itemAt (a .t1)) (hasFault (a .fault)) (l .loop .inv .1) (sym (c .before .has-fault .ensures) ∙ c .if1 .left)),
+    )
 
 returns-2 : tie.Need-returns-2 Inv-loop μ-loop
 returns-2 c =

@@ -143,7 +143,7 @@ module _ (t : ℕ) where
       let i = instanceOf (s .args .p) in
       let k = o .outdoes .ensures .ahead (f .before .before .if1 .taken) .0 in
       let b : breaks (a .point) (broken c) ≡ true =
-          subst (λ n. breaks (a .point) n ≡ true) (sym (c .need-at .ensures)) (f .first-broken .ensures .broken (c .before .if2 .taken)) in
+      subst (λ n. breaks (a .point) n ≡ true) (sym (c .need-at .ensures)) (f .first-broken .ensures .broken (c .before .if2 .taken)) in
       broken-open i (broken c) (its c .item .inside, its c .cover .inside) (pointOf a) (optimal-of i a (s .pre .1 .solved .answers) k .optimal .feasible)
       (breaks-yes i a (broken c) b)
 
@@ -215,8 +215,13 @@ module _ (t : ℕ) where
   branch-outdoes-requires c κs =
       let s = c .before .before in
       let b = s .pre .1 in
-      rw (c .before .counted .ensures) (b .figures .few-items, (plain-comparable (instanceOf (s .args .p)) (s .args .r .answer) (b .solved .answers),
-      λ f. comparable (instanceOf (s .args .p)) (s .args .b .answer) (b .holds f)))
+      rw (c .before .counted .ensures) (
+        b .figures .few-items,
+        (
+          plain-comparable (instanceOf (s .args .p)) (s .args .r .answer) (b .solved .answers),
+          λ f. comparable (instanceOf (s .args .p)) (s .args .b .answer) (b .holds f),
+        ),
+      )
 
   branch-first-broken-requires : branch-lts.Need-first-broken-requires (calls t) (branch-at t) branch.Post
   branch-first-broken-requires c κs = places (after-counted (c .before .before) .before)
@@ -238,13 +243,12 @@ module _ (t : ℕ) where
       let s = start (w .before) in
       let b = s .pre .1 in
       let u = undecided (instanceOf (w .without .result)) (needsOf (s .args .ns)) in
-      let part = q-part w in
-      (
+      let part = q-part w in (
         subst (λ n. u < n) (s .pre .0) (part .fewer),
         rw (counts (w .before) .counted .ensures)
-        (enter (s .args .p) (w .without .result) (s .args .ns) (s .args .most) (c .solve-case .result) (countedOf (s .args .b) (s .args .r))
-        (q-figures w) (c .solve-case .ensures .0) (b .short) (b .few) part (b .holds) (own-work (more-work s))
-        (omega (arith, b .room, twigs-two u u (undecided (instanceOf (s .args .p)) (needsOf (s .args .ns))) (part .fewer) (part .fewer)))),
+            (enter (s .args .p) (w .without .result) (s .args .ns) (s .args .most) (c .solve-case .result) (countedOf (s .args .b) (s .args .r))
+            (q-figures w) (c .solve-case .ensures .0) (b .short) (b .few) part (b .holds) (own-work (more-work s))
+            (omega (arith, b .room, twigs-two u u (undecided (instanceOf (s .args .p)) (needsOf (s .args .ns))) (part .fewer) (part .fewer)))),
       )
 
   branch-having-requires : branch-lts.Need-having-requires (calls t) (branch-at t) branch.Post
@@ -263,12 +267,11 @@ module _ (t : ℕ) where
       let part = h-part h in
       let d = h .before .branch in
       let most : d .result .cases ≤ s .args .b .cases + 1 + twigs (undecided (instanceOf (lacks h .without .result)) ns) =
-          rw (counts n .counted .ensures) at (d .ensures .0 .worked .cases) in
-      (
+      rw (counts n .counted .ensures) at (d .ensures .0 .worked .cases) in (
         subst (λ u. undecided (instanceOf (h .having .result)) ns < u) (s .pre .0) (part .fewer),
         enter (s .args .p) (h .having .result) (s .args .ns) (s .args .most) (c .solve-case2 .result) (d .result) (h-figures h) (c .solve-case2 .ensures .0)
-        (b .short) (b .few) part (λ f. q-part (lacks h) .out (d .result .answer) (d .ensures .0 .holds f)) (own-work (d .ensures .0 .worked))
-        (omega (arith, b .room, most, both-few h)),
+            (b .short) (b .few) part (λ f. q-part (lacks h) .out (d .result .answer) (d .ensures .0 .holds f)) (own-work (d .ensures .0 .worked))
+            (omega (arith, b .room, most, both-few h)),
       )
 
   -- the point is ahead of what is known
@@ -299,9 +302,9 @@ module _ (t : ℕ) where
       let v = h .before .before .solve-case in
       let z = c .before .solve-case2 in
       let q : w .without .result ≡ cappedAt (s .args .p) (placed (needAt ns i) .item) =
-          w .without .ensures ∙ ap (λ (x : Need). cappedAt (s .args .p) (x .item)) (n .need-at .ensures) in
+      w .without .ensures ∙ ap (λ (x : Need). cappedAt (s .args .p) (x .item)) (n .need-at .ensures) in
       let g : h .having .result ≡ raisedAt (s .args .p) (placed (needAt ns i) .cover) =
-          h .having .ensures ∙ ap (λ (x : Need). raisedAt (s .args .p) (x .cover)) (n .need-at .ensures) in
+      h .having .ensures ∙ ap (λ (x : Need). raisedAt (s .args .p) (x .cover)) (n .need-at .ensures) in
       split (s .args .p) (s .args .r) (s .args .b) i (v .result) (z .result) (d .result) (c .branch2 .result)
       (ahead-of f) (f .first-broken .ensures) (n .before .if2 .taken)
       (subst (λ x. SolvesCase most x (needsOf ns) (v .result)) q (v .ensures))
@@ -316,11 +319,13 @@ module _ (t : ℕ) where
       let w = lacks h in
       let n = w .before in
       let s = start n in
-      let k = counts n .counted in
-      (through-split (instanceOf (s .args .p)) (needsOf (s .args .ns)) (s .args .most) (s .pre .1 .allowed) (broken n) (among n)
-      (instanceOf (w .without .result)) (instanceOf (h .having .result)) (q-is w) (h-is h) (q-part w) (h-part h) (s .args .b) (k .result)
-      (h .before .branch .result) (c .branch2 .result) (ap known (k .ensures)) (ap (λ (x : Best). x .cases) (k .ensures)) (h .before .branch .ensures .0)
-      (c .branch2 .ensures .0), split-take c)
+      let k = counts n .counted in (
+        through-split (instanceOf (s .args .p)) (needsOf (s .args .ns)) (s .args .most) (s .pre .1 .allowed) (broken n) (among n)
+            (instanceOf (w .without .result)) (instanceOf (h .having .result)) (q-is w) (h-is h) (q-part w) (h-part h) (s .args .b) (k .result)
+            (h .before .branch .result) (c .branch2 .result) (ap known (k .ensures)) (ap (λ (x : Best). x .cases) (k .ensures)) (h .before .branch .ensures .0)
+            (c .branch2 .ensures .0),
+        split-take c,
+      )
 
   branch-with-best-requires : branch-lts.Need-with-best-requires (calls t) (branch-at t) branch.Post
   branch-with-best-requires c κs = tt
@@ -337,12 +342,13 @@ module _ (t : ℕ) where
       let e = f .first-broken .ensures in
       let all : f .first-broken .result ≡ s .args .ns .count = omega (arith, e .most, c .before .if2 .left) in
       let ahead = rw (k .counted .ensures) at (o .outdoes .ensures .ahead (f .before .before .if1 .taken)) in
-      rw (c .with-best .ensures, k .counted .ensures)
-      (through-kept i (needsOf (s .args .ns)) (s .args .most) (s .args .b) (s .args .r) a (b .solved .answers) (b .solved .first) (b .limited) (b .holds)
-      (more-work s) ahead
-      (every-kept (s .args .ns) i a (b .allowed) (optimal-of i a (b .solved .answers) (ahead .0) .optimal .feasible)
-      (λ j m. e .kept j (omega (arith, all, m)))),
-      kept (s .args .p) (s .args .r) (s .args .b) (ahead-of f) (subst (FirstBroken (a .point) (s .args .ns)) all e))
+      rw (c .with-best .ensures, k .counted .ensures) (
+        through-kept i (needsOf (s .args .ns)) (s .args .most) (s .args .b) (s .args .r) a (b .solved .answers) (b .solved .first) (b .limited) (b .holds)
+            (more-work s) ahead
+            (every-kept (s .args .ns) i a (b .allowed) (optimal-of i a (b .solved .answers) (ahead .0) .optimal .feasible)
+            (λ j m. e .kept j (omega (arith, all, m)))),
+        kept (s .args .p) (s .args .r) (s .args .b) (ahead-of f) (subst (FirstBroken (a .point) (s .args .ns)) all e),
+      )
 
   branch-returns-3 : branch-lts.Need-returns-3 (calls t) (branch-at t) branch.Post
   branch-returns-3 c =
@@ -350,12 +356,13 @@ module _ (t : ℕ) where
       let k = after-counted o in
       let s = k .before in
       let b = s .pre .1 in
-      rw (k .counted .ensures)
-      (through-behind (instanceOf (s .args .p)) (needsOf (s .args .ns)) (s .args .most) (s .args .b) (s .args .r) (s .args .r .answer) (b .solved .answers)
-      (b .solved .first) (b .limited) (b .holds) (more-work s) (rw (k .counted .ensures) at (o .outdoes .ensures .behind (c .if1 .left))),
-      left (s .args .p) (s .args .r) (s .args .b)
-      (subst (Outdoes (s .args .p .count) (s .args .r .answer) (countedOf (s .args .b) (s .args .r))) (c .if1 .left)
-      (rw (k .counted .ensures) at (o .outdoes .ensures))))
+      rw (k .counted .ensures) (
+        through-behind (instanceOf (s .args .p)) (needsOf (s .args .ns)) (s .args .most) (s .args .b) (s .args .r) (s .args .r .answer) (b .solved .answers)
+            (b .solved .first) (b .limited) (b .holds) (more-work s) (rw (k .counted .ensures) at (o .outdoes .ensures .behind (c .if1 .left))),
+        left (s .args .p) (s .args .r) (s .args .b)
+            (subst (Outdoes (s .args .p .count) (s .args .r .answer) (countedOf (s .args .b) (s .args .r))) (c .if1 .left)
+            (rw (k .counted .ensures) at (o .outdoes .ensures))),
+      )
 
 pub +branch-spec : {M : Type 1} → statement M
 +branch-spec = close μ-branch λ t. branch-lts.spec (calls t)

@@ -42,8 +42,7 @@ loop-less c = omega (arith, c .before .loop-test .taken)
 
 loop-again : tie.Need-loop-again Inv-loop μ-loop
 loop-again c =
-    let l = c .before .before in
-    (
+    let l = c .before .before in (
       omega (arith, c .before .loop-test .taken),
       named-more (needAt (l .before .args .ns)) (l .loop .i) (l .loop .named) (c .need-at .result) (c .need-at .ensures) (inside c) (l .loop .inv .1),
     )

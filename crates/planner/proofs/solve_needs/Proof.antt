@@ -56,10 +56,11 @@ returns c =
     let e = c .before in
     let v = solved (e .before) in
     let s = start (e .before) in
-    let z = c .solve-ray in
-    (more-steps (few v .0) (z .ensures .0),
-    by-ray (v .solve-case .result) (z .result) (plain-case v) (sym (e .before .is-unbounded .ensures) ∙ e .if1 .taken)
-    (subst (λ m. RayTakes (s .args .ns) m (s .args .p) (v .solve-case .result) (z .result)) (v .before .few-steps .ensures) (z .ensures .1)))
+    let z = c .solve-ray in (
+      more-steps (few v .0) (z .ensures .0),
+      by-ray (v .solve-case .result) (z .result) (plain-case v) (sym (e .before .is-unbounded .ensures) ∙ e .if1 .taken)
+          (subst (λ m. RayTakes (s .args .ns) m (s .args .p) (v .solve-case .result) (z .result)) (v .before .few-steps .ensures) (z .ensures .1)),
+    )
 
 nothing-yet-requires : tie.Need-nothing-yet-requires
 nothing-yet-requires c κs = search needs
@@ -96,20 +97,21 @@ returns-2 c =
     let f = v .before .few-steps in
     let e = n .before in
     let th : Through i ns (f .result) nothingYet (b .branch .result) =
-        subst (λ x. Through i ns (f .result) x (b .branch .result)) (n .nothing-yet .ensures) (b .branch .ensures .0) in
+    subst (λ x. Through i ns (f .result) x (b .branch .result)) (n .nothing-yet .ensures) (b .branch .ensures .0) in
     let take : CasesTake (s .args .ns) (f .result) (s .args .p) (v .solve-case .result) nothingYet (b .branch .result) =
-        subst (λ x. CasesTake (s .args .ns) (f .result) (s .args .p) (v .solve-case .result) x (b .branch .result)) (n .nothing-yet .ensures)
-        (b .branch .ensures .1) in
+    subst (λ x. CasesTake (s .args .ns) (f .result) (s .args .p) (v .solve-case .result) x (b .branch .result)) (n .nothing-yet .ensures)
+    (b .branch .ensures .1) in
     let t = c .told .ensures in
-    let w = few-work {n = mostCases ns} (omega (arith, cases-plain i ns)) (th .worked) in
-    (more-steps (few v .0) (record {
-      answers = told-answers i ns (b .branch .result) (c .told .result .answer) (th .worth) (th .holds) (t .found) (t .none);
-      first = told-first i ns (b .branch .result) (c .told .result .answer) (th .first) (t .found) (t .none);
-      few-steps = omega (arith, t .steps, w .0);
-      few-cells = omega (arith, t .cells, w .1);
-    }),
-    by-cases (v .solve-case .result) (c .told .result) (b .branch .result) (plain-case v) (sym (e .before .is-unbounded .ensures) ∙ e .if1 .left)
-    (subst (λ m. CasesTake (s .args .ns) m (s .args .p) (v .solve-case .result) nothingYet (b .branch .result)) (f .ensures) take) t)
+    let w = few-work {n = mostCases ns} (omega (arith, cases-plain i ns)) (th .worked) in (
+      more-steps (few v .0) (record {
+        answers = told-answers i ns (b .branch .result) (c .told .result .answer) (th .worth) (th .holds) (t .found) (t .none);
+        first = told-first i ns (b .branch .result) (c .told .result .answer) (th .first) (t .found) (t .none);
+        few-steps = omega (arith, t .steps, w .0);
+        few-cells = omega (arith, t .cells, w .1);
+      }),
+      by-cases (v .solve-case .result) (c .told .result) (b .branch .result) (plain-case v) (sym (e .before .is-unbounded .ensures) ∙ e .if1 .left)
+          (subst (λ m. CasesTake (s .args .ns) m (s .args .p) (v .solve-case .result) nothingYet (b .branch .result)) (f .ensures) take) t,
+    )
 
 pub solve-needs-spec : {M : Type 1} → statement M
 solve-needs-spec =

@@ -99,24 +99,25 @@ returns c =
     let most = s .args .most in
     let one = countedOf nothingYet (s .args .r) in
     let q : Through (instanceOf (u .unpriced .result)) ns most one (b .branch .result) =
-        subst (λ x. Through (instanceOf (u .unpriced .result)) ns most x (b .branch .result)) (one-case (u .before)) (b .branch .ensures .0) in
+    subst (λ x. Through (instanceOf (u .unpriced .result)) ns most x (b .branch .result)) (one-case (u .before)) (b .branch .ensures .0) in
     let th : Through (worthless i) ns most one (b .branch .result) = subst (λ x. Through x ns most one (b .branch .result)) (q-is u) q in
     let t = c .from-ray .ensures in
     let n = u .before .before in
     let f = asked n .first-broken in
     let v = b .before .solve-case in
     let some : 1 ≤ s .args .ns .count = omega (arith, n .before .before .if1 .taken) in
-    let w = few-work {n = mostCases ns} (omega (arith, cases-ray (worthless i) (s .args .ns) some)) (th .worked) in
-    (record {
-      answers = ray-answers i ns (b .branch .result) (c .from-ray .result .answer) (s .pre .needed .allowed) a (shown s) (th .worth) (th .holds)
-          (t .found) (t .none);
-      first = ray-first i ns (b .branch .result) (c .from-ray .result .answer) (s .pre .needed .allowed) a (shown s) (t .found) (t .none);
-      few-steps = omega (arith, t .steps, w .0);
-      few-cells = omega (arith, t .cells, w .1);
-    },
-    moves (f .result) (u .unpriced .result) (v .result) (c .from-ray .result) (b .branch .result) (f .ensures) (n .before .before .if1 .taken)
-    (u .unpriced .ensures) (v .ensures)
-    (subst (λ x. CasesTake (s .args .ns) most (u .unpriced .result) (v .result) x (b .branch .result)) (one-case (u .before)) (b .branch .ensures .1)) t)
+    let w = few-work {n = mostCases ns} (omega (arith, cases-ray (worthless i) (s .args .ns) some)) (th .worked) in (
+      record {
+        answers = ray-answers i ns (b .branch .result) (c .from-ray .result .answer) (s .pre .needed .allowed) a (shown s) (th .worth) (th .holds)
+            (t .found) (t .none);
+        first = ray-first i ns (b .branch .result) (c .from-ray .result .answer) (s .pre .needed .allowed) a (shown s) (t .found) (t .none);
+        few-steps = omega (arith, t .steps, w .0);
+        few-cells = omega (arith, t .cells, w .1);
+      },
+      moves (f .result) (u .unpriced .result) (v .result) (c .from-ray .result) (b .branch .result) (f .ensures) (n .before .before .if1 .taken)
+          (u .unpriced .ensures) (v .ensures)
+          (subst (λ x. CasesTake (s .args .ns) most (u .unpriced .result) (v .result) x (b .branch .result)) (one-case (u .before)) (b .branch .ensures .1)) t,
+    )
 
 returns-2 : tie.Need-returns-2
 returns-2 c =
@@ -127,14 +128,15 @@ returns-2 c =
     let ns = needsOf (s .args .ns) in
     let e = f .first-broken .ensures in
     let all : f .first-broken .result ≡ s .args .ns .count = omega (arith, e .most, c .if1 .left) in
-    let kept = every-kept (s .args .ns) i a (s .pre .needed .allowed) (shown s .unbounded .from) (λ j m. e .kept j (omega (arith, all, m))) in
-    (record {
-      answers = ray-kept i ns nothingYet a (s .pre .needed .allowed) a (shown s) (s .pre .kind-is) kept;
-      first = no-first i ns a (s .pre .kind-is);
-      few-steps = omega (arith, s .pre .solved .few-steps, mul-le-mul-right (s .args .most) (cases-some ns));
-      few-cells = omega (arith, s .pre .solved .few-cells, cases-some ns);
-    },
-    stands (subst (FirstBroken (a .point) (s .args .ns)) all e))
+    let kept = every-kept (s .args .ns) i a (s .pre .needed .allowed) (shown s .unbounded .from) (λ j m. e .kept j (omega (arith, all, m))) in (
+      record {
+        answers = ray-kept i ns nothingYet a (s .pre .needed .allowed) a (shown s) (s .pre .kind-is) kept;
+        first = no-first i ns a (s .pre .kind-is);
+        few-steps = omega (arith, s .pre .solved .few-steps, mul-le-mul-right (s .args .most) (cases-some ns));
+        few-cells = omega (arith, s .pre .solved .few-cells, cases-some ns);
+      },
+      stands (subst (FirstBroken (a .point) (s .args .ns)) all e),
+    )
 
 pub solve-ray-spec : {M : Type 1} → statement M
 solve-ray-spec =

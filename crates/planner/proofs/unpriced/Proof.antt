@@ -47,7 +47,7 @@ loop-again c =
     let p = b .before .args .t1 in
     let x : c .before .unpriced-item .result ≡ unpricedItem (itemAt p (b .loop .k)) = c .before .unpriced-item .ensures in
     let q : c .with-item .result ≡ withItem (b .loop .q) (b .loop .k) (unpricedItem (itemAt p (b .loop .k))) =
-        c .with-item .ensures ∙ ap (withItem (b .loop .q) (b .loop .k)) x in
+    c .with-item .ensures ∙ ap (withItem (b .loop .q) (b .loop .k)) x in
     (omega arith, rw q (unpriced-more p (b .loop .q) (b .loop .k) (omega arith) (b .loop .inv .1)))
 
 returns : tie.Need-returns Inv-loop μ-loop

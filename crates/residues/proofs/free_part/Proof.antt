@@ -80,8 +80,7 @@ is-absorbing-requires : tie.Need-is-absorbing-requires Inv-loop μ-loop
 is-absorbing-requires c κs =
     let h = c .before .before in
     let s = start h in
-    let k = c .before .loop .k in
-    (
+    let k = c .before .loop .k in (
       s .pre .ranges-in k (omega arith),
       (
         beyond-small (s .args .t1) (s .args .t2) k (s .pre) (omega arith),

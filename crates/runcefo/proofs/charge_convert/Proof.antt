@@ -29,9 +29,10 @@ returns c =
     let n = l .before in
     let v = n .before in
     let w = v .before .before .before in
-    let e = v .listed-verdict .ensures ∙ ap listedVerdict (w .convert .ensures .0) in
-    (c .told-number .ensures ∙ ap toldNumber e,
-    (l .told-line .ensures ∙ ap toldLine e, (n .length-of .ensures ∙ ap lengthOf (w .convert .ensures .0), w .convert .ensures .1)))
+    let e = v .listed-verdict .ensures ∙ ap listedVerdict (w .convert .ensures .0) in (
+      c .told-number .ensures ∙ ap toldNumber e,
+      (l .told-line .ensures ∙ ap toldLine e, (n .length-of .ensures ∙ ap lengthOf (w .convert .ensures .0), w .convert .ensures .1)),
+    )
 
 pub charge-convert-spec : {M : Type 1} → statement M
 charge-convert-spec =

@@ -82,7 +82,7 @@ returns-2 c =
         few-cells = omega arith;
       },
       corner-work (a .before .args .most) (a .before .args .p) (a .before .args .named) s (r .find-ray .result .steps) (u .unbounded .result) q
-      (u .unbounded .ensures),
+          (u .unbounded .ensures),
     )
 
 -- from the best place, back to where there is no ray; from the first point, back to the best place
