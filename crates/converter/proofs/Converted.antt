@@ -23,7 +23,7 @@ use Rattle.knapsack.specs.declared.Verdict.the-variants.{Accepted, Refused}
 use Rattle.model.specs.declared.Blanks.the-variants as blanks
 use Rattle.model.specs.declared.Model.{Model}
 use Rattle.model.specs.Promises.{Planned}
-use Rattle.model.specs.Records.{plainOf, needsOf, verdict, AdmissibleBy, Admissible}
+use Rattle.model.specs.Records.{itemAt, plainOf, needsOf, verdict, AdmissibleBy, Admissible}
 use Rattle.model.specs.Refusals as refusal
 use Rattle.model.proofs.Records.{unfaulted, accepted, admitted, both-accept}
 use Rattle.lines.specs.Places.{refusalOn}
@@ -59,8 +59,8 @@ written m a h = admitted (dropped m) (dropped-admissible m a (unhindered m a h))
 -- unused places are as the reader leaves them
 dropped-tidy : (m : Model) → Tidy (dropped m)
 dropped-tidy m = record {
-  places = length-packed (kept m) blank (m .items) (m .count);
-  unused = packed-behind (kept m) blank (m .items) (m .count);
+  places = length-packed (kept m) blank (itemAt m) (m .count);
+  unused = packed-behind (kept m) blank (itemAt m) (m .count);
   lines = line-length (kept m) (m .needs .lines) (m .needs .count);
   spare = line-behind (kept m) (m .needs .lines) (m .needs .count);
 }

@@ -2,14 +2,15 @@
 -- dropped-none, rank-next, dropped-next: an item more. lines-next: a line more. line-numbers: a line has item numbers.
 -- named-more, named-found, none-named: a line of needs more, and what the search for a name tells.
 -- droppable, undisturbed: the search finds no hindrance exactly where there is none.
--- line-length, line-at, line-behind, dropped-item, dropped-each, dropped-need, dropped-line: what stands in it.
+-- line-length, line-at, line-behind, dropped-item, dropped-need, dropped-line: what stands in it.
+-- not-true: what a test does not say.
 -- drops-blanks: it is the problem with idle items left out, and the needs moved along.
 -- dropped-gives: the meaning gives it the kind and the value that it gives the record, blank items included. dropped-planned: so the planner's reply to it
 -- shows what the meaning gives the old record.
 -- dropped-admissible: it is accepted as a record. unblanked: a record without blank items comes back as it is; unblanked-free: nothing hinders it.
 use mathlib.Core.Bool.{Bool, true, false, cond, not}
 use mathlib.Core.List.{List}
-use mathlib.Core.Logic.{_↔_, _⊎_, inl, inr}
+use mathlib.Core.Logic.{_↔_}
 use mathlib.Core.Path.{_≡_, refl, sym, ap, ap₂, _∙_, subst}
 use Prim.Native.Nat.{ℕ, zero, suc, _-_, _≤_, _<_}
 use native.Mathlib.Omega.{arith}
@@ -24,27 +25,27 @@ use Rattle.arith.specs.Sum.{Each}
 use Rattle.knapsack.specs.Meaning.{Instance, instanceOf}
 use Rattle.knapsack.specs.Ranges.{blank}
 use Rattle.knapsack.specs.declared.Answer.{Answer}
-use Rattle.knapsack.specs.declared.Item.{Item}
 use Rattle.knapsack.specs.declared.Kind.{Kind}
 use Rattle.knapsack.specs.declared.Verdict.the-variants.{Accepted}
 use Rattle.model.specs.declared.Blanks.the-variants as blanks
 use Rattle.model.specs.declared.Model.{Model}
 use Rattle.model.specs.declared.Need.{Need}
-use Rattle.model.specs.Needs.{In, noNeed, Named, Allowed}
+use Rattle.model.specs.Needs.{noNeed}
 use Rattle.model.specs.Promises.{RepliesAs, Planned}
-use Rattle.model.specs.Records.{emptyModel, itemAt, needAt, plainOf, placed, needsOf, isBlank, crosses, lineBefore, verdict}
-use Rattle.model.specs.Records.{Agree, ItemFigures, Numbers, Rises, GoodLine, AdmissibleBy, Admissible}
-use Rattle.model.specs.Setters.{withCapacity, withNeed}
+use Rattle.model.specs.Records.{emptyModel, itemAt, needAt, plainOf, placed, needsOf, isBlank, crosses, namesItem, verdict}
+use Rattle.model.specs.Records.{Agree, Numbers, AdmissibleBy, Admissible}
+use Rattle.model.specs.Setters.{withCapacity, appended, withNeed}
 use Rattle.model.proofs.BlankItems.{blank-nothing}
 use Rattle.model.proofs.Crossings.{order-in}
-use Rattle.model.proofs.NeedLines.{before-next, needs-in, needs-from}
+use Rattle.model.proofs.NeedLines.{needs-in, needs-from}
 use Rattle.model.proofs.Records.{admitted}
 use Rattle.model.proofs.Tests.{neither}
 use Rattle.dropping.proofs.Drops.{Idle}
-use Rattle.dropping.proofs.Kept.{rank-strict, rank-injective, rank-most, rank-all, at-rank, Source, filled-with, packed-at, first-false, first-all}
+use Rattle.dropping.proofs.Kept.{rank-all, filled-with, packed-at, first-false, first-all}
 use Rattle.dropping.proofs.Needed.{movedNeed, Stays, DropsNeeds, drops-gives, answers-give}
-use Rattle.dropping.specs.Dropping.{kept, renumber, renumbered, linesTo, droppedTo, dropped, appended, appendedUnlessBlank}
-use Rattle.dropping.specs.Dropping.{namesItem, namedIn, hinders, firstHindered, hindrance, Droppable}
+use Rattle.dropping.proofs.Thinned.{Thins, renumbered-placed, thinned-admissible}
+use Rattle.dropping.specs.Dropping.{kept, renumber, renumbered, linesTo, droppedTo, dropped, appendedUnlessBlank}
+use Rattle.dropping.specs.Dropping.{namedIn, hinders, firstHindered, hindrance, Droppable}
 use Rattle.dropping.specs.Gives.{Gives}
 use Rattle.dropping.specs.Kept.{rank, packed}
 
@@ -67,7 +68,7 @@ unfolding rank packed
 dropped-next m k = go (isBlank (itemAt m k))
   where
     go : (b : Bool) → record {
-      items = cond (not b) (set (packed blank (kept m) (m .items) k) (rank (kept m) k) (itemAt m k)) (packed blank (kept m) (m .items) k);
+      items = cond (not b) (set (packed blank (kept m) (itemAt m) k) (rank (kept m) k) (itemAt m k)) (packed blank (kept m) (itemAt m) k);
       count = cond (not b) (suc (rank (kept m) k)) (rank (kept m) k);
       capacity = m .capacity;
       needs = droppedTo m k 0 .needs;
@@ -163,9 +164,9 @@ module _ (keep : ℕ → Bool) (l : List Need) where
   line-behind (suc t) j h =
       getD-set-other (linesTo keep l t) t j (renumbered keep (getD l t noNeed)) noNeed (λ r. omega arith) ∙ line-behind t j (omega arith)
 
-not-blank : (b : Bool) → not b ≡ true → b ≡ false
-not-blank true h = absurd (impossible h)
-not-blank false h = refl
+pub not-true : (b : Bool) → not b ≡ true → b ≡ false
+not-true true h = absurd (impossible h)
+not-true false h = refl
 
 not-kept : (b : Bool) → not b ≡ false → b ≡ true
 not-kept true h = refl
@@ -192,23 +193,14 @@ module _ (m : Model) (a : AdmissibleBy blanks.Kept m) where
   few = a .figures .few-items
 
   pub dropped-item : (k : ℕ) → k < m .count → kept m k ≡ true → itemAt (dropped m) (rank (kept m) k) ≡ itemAt m k
-  dropped-item k h e = packed-at (kept m) blank (m .items) (m .count) k few h e
-
-  dropped-each : (P : Item → Type 0) → Each (m .count) (λ k. kept m k ≡ true → P (itemAt m k)) → Each (dropped m .count) (λ j. P (itemAt (dropped m) j))
-  dropped-each P h j l = at (at-rank (kept m) (m .count) j l)
-    where
-      at : Source (kept m) (m .count) j → P (itemAt (dropped m) j)
-      at c = subst (λ i. P (itemAt (dropped m) i)) (c .goes) (rw (dropped-item (c .from) (c .from-in) (c .from-kept)) (h (c .from) (c .from-in) (c .from-kept)))
+  dropped-item k h e = packed-at (kept m) blank (itemAt m) (m .count) k few h e
 
   dropped-need : (j : ℕ) → j < m .needs .count → needAt (dropped m .needs) j ≡ renumbered (kept m) (needAt (m .needs) j)
   dropped-need j l = line-at (kept m) (m .needs .lines) (m .needs .count) j (a .few-needs) l
 
   -- by places
   dropped-line : (j : ℕ) → j < m .needs .count → placed (needAt (dropped m .needs) j) ≡ movedNeed (kept m) (placed (needAt (m .needs) j))
-  dropped-line j l = ap placed (dropped-need j l) ∙ same (needAt (m .needs) j)
-    where
-      same : (n : Need) → placed (renumbered (kept m) n) ≡ movedNeed (kept m) (placed n)
-      same n = ap₂ {C = Need} (λ i c. record { item = i; cover = c }) (omega arith) (omega arith)
+  dropped-line j l = ap placed (dropped-need j l) ∙ renumbered-placed (kept m) (needAt (m .needs) j)
 
   -- ---- the answers
 
@@ -263,66 +255,22 @@ module _ (m : Model) (a : AdmissibleBy blanks.Kept m) where
 
     -- ---- it is accepted
 
-    named-moved : (k : ℕ) → kept m k ≡ true → Named (asked m) k → Named (asked (dropped m)) (rank (kept m) k)
-    named-moved k e n =
-        let i = dropped-item k (n .inside) e in
-        record {
-          inside = rank-strict (kept m) (m .count) k (n .inside) e;
-          whole = rw i (n .whole);
-          above = rw i (n .above);
-          below = rw i (n .below);
-        }
-
-    line-rises : (x y : Need) → Stays (kept m) (m .count) (placed x) → 1 ≤ x .item → 1 ≤ x .cover → Rises x y
-        → Rises (renumbered (kept m) x) (renumbered (kept m) y)
-    line-rises x y s i c (inl l) = inl (omega (arith, rank-strict (kept m) (y .item - 1) (x .item - 1) (omega arith) (s .item-kept)))
-    line-rises x y s i c (inr (e, l)) =
-        inr (ap (renumber (kept m)) e, omega (arith, rank-strict (kept m) (y .cover - 1) (x .cover - 1) (omega arith) (s .cover-kept)))
-
-    rises : (j : ℕ) → j < m .needs .count → Rises (lineBefore (dropped m .needs) j) (needAt (dropped m .needs) j)
-    rises zero l = rw (dropped-need 0 l) (inl (omega arith))
-    rises (suc j) l =
-        let n = numbers j (omega arith) in
-        let r = rw (before-next (m .needs) j) at (a .needs (suc j) l .rises) in
-        rw (before-next (dropped m .needs) j, dropped-need j (omega arith), dropped-need (suc j) l)
-        (line-rises (needAt (m .needs) j) (needAt (m .needs) (suc j)) (line-stays j (omega arith)) (n .first-least) (n .second-least) r)
-
-    good : (j : ℕ) → j < m .needs .count → GoodLine (dropped m) j
-    good j l =
-        let n = numbers j l in
-        let s = line-stays j l in
-        let x = needAt (m .needs) j in
-        let i = rank-strict (kept m) (m .count) (x .item - 1) (s .item-in) (s .item-kept) in
-        let c = rank-strict (kept m) (m .count) (x .cover - 1) (s .cover-in) (s .cover-kept) in
-        record {
-          numbers = rw (dropped-need j l) (record {
-            first-least = omega arith;
-            first-most = omega (arith, i);
-            second-least = omega arith;
-            second-most = omega (arith, c);
-            different = λ e.
-                let same = rank-injective (kept m) (x .item - 1) (x .cover - 1) (s .item-kept) (s .cover-kept) (omega arith) in
-                n .different (omega (arith, same, n .first-least, n .second-least));
-          });
-          rises = rises j l;
-          allowed = rw (dropped-line j l) (record {
-            item = named-moved (x .item - 1) (s .item-kept) (a .needs j l .allowed .item);
-            cover = named-moved (x .cover - 1) (s .cover-kept) (a .needs j l .allowed .cover);
-          });
-        }
+    thins : Thins (kept m) m (dropped m)
+    thins = record {
+      capacity = refl;
+      count = refl;
+      moved = dropped-item;
+      few-lines = a .few-needs;
+      source = λ j. j;
+      source-in = λ j l. l;
+      rising = λ j l. omega arith;
+      stays = line-stays;
+      line = dropped-need;
+    }
 
     pub dropped-admissible : Admissible (dropped m)
-    dropped-admissible = record {
-      figures = record {
-        some-items = d .remains;
-        few-items = omega (arith, rank-most (kept m) (m .count), few);
-        capacity-in = a .figures .capacity-in;
-        items-in = dropped-each ItemFigures (λ k l e. a .figures .items-in k l);
-      };
-      unbarred = dropped-each (λ i. isBlank i ≡ false) (λ k l e. not-blank (isBlank (itemAt m k)) e);
-      few-needs = a .few-needs;
-      needs = good;
-    }
+    dropped-admissible =
+        thinned-admissible (kept m) m (dropped m) thins blanks.Kept a (d .remains) (λ k l e. not-true (isBlank (itemAt m k)) e)
 
     -- End theorem: what the planner replies to it.
     pub dropped-planned : (b : Answer) → Planned (dropped m) b → Gives (asked m) (needsOf (m .needs)) (b .kind) (b .value)

@@ -3,12 +3,12 @@
 -- places; rank-all: as fast where all are kept.
 --   place keep n j   the kept place before n that goes to j
 --   Source n j       a kept place of the first n that goes to j
--- place-rank, at-rank: ranks below the last are those of kept places, each of one.
+-- place-rank, at-rank: ranks below the last are those of kept places, each of one. place-in, place-kept, place-goes, place-rises: which these are.
 -- filled-with: a list of one thing. length-packed, packed-at, packed-behind: a packed list, what stands in it and behind.
+-- rank-cong, packed-cong: tests that agree.
 -- first-here, first-later, first-none: a search for the first place; first-false: none before it passes; first-all: where none does it goes to the end.
 use mathlib.Core.Bool.{Bool, true, false, cond}
-use mathlib.Core.List.{List}
-use mathlib.Core.Path.{_≡_, refl, sym, ap, _∙_}
+use mathlib.Core.Path.{_≡_, refl, sym, ap, _∙_, subst}
 use Prim.Native.Nat.{ℕ, zero, suc, _+_, _-_, _≤_, _<_}
 use native.Mathlib.Omega.{arith}
 use native.Mathlib.Decide.{ℕ-discrete, decLt}
@@ -124,54 +124,91 @@ module _ (keep : ℕ → Bool) where
       go true e (no d) ih = more (ih (omega (arith, rank-kept n e)))
       go false e d ih = more (ih (omega (arith, rank-left n e)))
 
+  -- below the last rank that is the place told
+  place-from : (n j : ℕ) (h : j < rank keep n) → place keep n j ≡ at-rank n j h .from
+  place-from n j h = let c = at-rank n j h in subst (λ i. place keep n i ≡ c .from) (c .goes) (place-rank n (c .from) (c .from-in) (c .from-kept))
+
+  pub place-in : (n j : ℕ) → j < rank keep n → place keep n j < n
+  place-in n j h = rw (place-from n j h) (at-rank n j h .from-in)
+
+  pub place-kept : (n j : ℕ) → j < rank keep n → keep (place keep n j) ≡ true
+  place-kept n j h = rw (place-from n j h) (at-rank n j h .from-kept)
+
+  pub place-goes : (n j : ℕ) → j < rank keep n → rank keep (place keep n j) ≡ j
+  place-goes n j h = rw (place-from n j h) (at-rank n j h .goes)
+
+  -- later ranks are those of later places
+  pub place-rises : (n i j : ℕ) → i < j → j < rank keep n → place keep n i < place keep n j
+  place-rises n i j l h = go (decLt (place keep n i) (place keep n j))
+    where
+      go : Dec (place keep n i < place keep n j) → place keep n i < place keep n j
+      go (yes d) = d
+      go (no d) =
+          absurd (omega (arith, place-goes n i (omega arith), place-goes n j h, rank-mono (place keep n i) (place keep n j) (omega arith)))
+
   -- ---- packed lists
 
-  module _ {A : Type 0} (d : A) (l : List A) where
-    packed-kept : (n : ℕ) → keep n ≡ true → packed d keep l (suc n) ≡ set (packed d keep l n) (rank keep n) (getD l n d)
+  module _ {A : Type 0} (d : A) (f : ℕ → A) where
+    packed-kept : (n : ℕ) → keep n ≡ true → packed d keep f (suc n) ≡ set (packed d keep f n) (rank keep n) (f n)
     unfolding packed
     packed-kept n e = rw e
 
-    packed-left : (n : ℕ) → keep n ≡ false → packed d keep l (suc n) ≡ packed d keep l n
+    packed-left : (n : ℕ) → keep n ≡ false → packed d keep f (suc n) ≡ packed d keep f n
     unfolding packed
     packed-left n e = rw e
 
-    packed-none : packed d keep l 0 ≡ replicate 16 d
+    packed-none : packed d keep f 0 ≡ replicate 16 d
     unfolding packed
     packed-none = refl
 
-    pub length-packed : (n : ℕ) → length (packed d keep l n) ≡ 16
+    pub length-packed : (n : ℕ) → length (packed d keep f n) ≡ 16
     length-packed zero = ap length packed-none ∙ length-replicate 16 d
     length-packed (suc n) = go (keep n) refl (length-packed n)
       where
-        go : (b : Bool) → keep n ≡ b → length (packed d keep l n) ≡ 16 → length (packed d keep l (suc n)) ≡ 16
+        go : (b : Bool) → keep n ≡ b → length (packed d keep f n) ≡ 16 → length (packed d keep f (suc n)) ≡ 16
         go true e ih = rw (packed-kept n e) (simp length-set ih)
         go false e ih = rw (packed-left n e) ih
 
     -- a kept item stands at its rank
-    pub packed-at : (n k : ℕ) → n ≤ 16 → k < n → keep k ≡ true → getD (packed d keep l n) (rank keep k) d ≡ getD l k d
+    pub packed-at : (n k : ℕ) → n ≤ 16 → k < n → keep k ≡ true → getD (packed d keep f n) (rank keep k) d ≡ f k
     packed-at zero k m h e = absurd (omega arith)
     packed-at (suc n) k m h e = go (ℕ-discrete k n) (keep n) refl (λ o. packed-at n k (omega arith) o e)
       where
-        go : Dec (k ≡ n) → (b : Bool) → keep n ≡ b → (k < n → getD (packed d keep l n) (rank keep k) d ≡ getD l k d)
-            → getD (packed d keep l (suc n)) (rank keep k) d ≡ getD l k d
-        go (yes c) b f ih =
-            rw (c, packed-kept n (ap keep (sym c) ∙ e)) (getD-set-same (packed d keep l n) (rank keep n) (getD l n d) d
+        go : Dec (k ≡ n) → (b : Bool) → keep n ≡ b → (k < n → getD (packed d keep f n) (rank keep k) d ≡ f k)
+            → getD (packed d keep f (suc n)) (rank keep k) d ≡ f k
+        go (yes c) b g ih =
+            rw (c, packed-kept n (ap keep (sym c) ∙ e)) (getD-set-same (packed d keep f n) (rank keep n) (f n) d
             (omega (arith, length-packed n, rank-most n)))
-        go (no c) true f ih =
-            rw (packed-kept n f) (getD-set-other (packed d keep l n) (rank keep n) (rank keep k) (getD l n d) d
+        go (no c) true g ih =
+            rw (packed-kept n g) (getD-set-other (packed d keep f n) (rank keep n) (rank keep k) (f n) d
             (λ r. omega (arith, rank-strict n k (omega arith) e)) ∙ ih (omega arith))
-        go (no c) false f ih = rw (packed-left n f) (ih (omega arith))
+        go (no c) false g ih = rw (packed-left n g) (ih (omega arith))
 
     -- behind the kept ones d stays
-    pub packed-behind : (n j : ℕ) → rank keep n ≤ j → getD (packed d keep l n) j d ≡ d
+    pub packed-behind : (n j : ℕ) → rank keep n ≤ j → getD (packed d keep f n) j d ≡ d
     packed-behind zero j h = rw packed-none (filled-with 16 d j)
     packed-behind (suc n) j h = go (keep n) refl (packed-behind n j)
       where
-        go : (b : Bool) → keep n ≡ b → (rank keep n ≤ j → getD (packed d keep l n) j d ≡ d) → getD (packed d keep l (suc n)) j d ≡ d
+        go : (b : Bool) → keep n ≡ b → (rank keep n ≤ j → getD (packed d keep f n) j d ≡ d) → getD (packed d keep f (suc n)) j d ≡ d
         go true e ih =
-            rw (packed-kept n e) (getD-set-other (packed d keep l n) (rank keep n) j (getD l n d) d (λ r. omega (arith, rank-kept n e))
+            rw (packed-kept n e) (getD-set-other (packed d keep f n) (rank keep n) j (f n) d (λ r. omega (arith, rank-kept n e))
             ∙ ih (omega (arith, rank-kept n e)))
         go false e ih = rw (packed-left n e) (ih (omega (arith, rank-left n e)))
+
+-- ---- two tests that agree
+
+pub rank-cong : (keep held : ℕ → Bool) (n : ℕ) → Each n (λ k. keep k ≡ held k) → rank keep n ≡ rank held n
+unfolding rank
+rank-cong keep held zero h = refl
+rank-cong keep held (suc n) h = rw (h n (omega arith), rank-cong keep held n (λ k l. h k (omega arith)))
+
+pub packed-cong : {A : Type 0} (d : A) (keep held : ℕ → Bool) (f g : ℕ → A) (n : ℕ) → Each n (λ k. keep k ≡ held k) → Each n (λ k. f k ≡ g k)
+    → packed d keep f n ≡ packed d held g n
+unfolding packed
+packed-cong d keep held f g zero h e = refl
+packed-cong d keep held f g (suc n) h e =
+    let r = rank-cong keep held n (λ k l. h k (omega arith)) in
+    rw (h n (omega arith), e n (omega arith), r, packed-cong d keep held f g n (λ k l. h k (omega arith)) (λ k l. e k (omega arith)))
 
 -- ---- the first place that passes a test
 

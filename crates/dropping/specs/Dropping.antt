@@ -4,8 +4,8 @@
 --   linesTo keep l t     sixteen lines of needs: the first t of l by the new numbers, and unused ones behind them
 --   droppedTo m n t      what is made of the first n items and the first t lines of needs, which are not counted as yet
 --   dropped m            the record with its blank items left out
---   appended q x         the record with one item more;  appendedUnlessBlank: or without
---   namesItem n k        a need names item k, from 1;  namedIn t f k: one of the first t lines does
+--   appendedUnlessBlank q x   the record with one item more, or without
+--   namedIn t f k        one of the first t lines names item k, from 1
 --   hinders m k          the item at place k is blank and cannot be left out: its bounds cross or a need names it
 --   firstHindered m      the first such place; the count if there is none
 --   hindrance m          place 0 if nothing would remain, else the first such place
@@ -22,8 +22,8 @@ use Rattle.knapsack.specs.declared.Item.{Item}
 use Rattle.model.specs.declared.Model.{Model}
 use Rattle.model.specs.declared.Need.{Need}
 use Rattle.model.specs.Needs.{noNeed}
-use Rattle.model.specs.Records.{itemAt, needAt, isBlank, crosses}
-use Rattle.model.specs.Setters.{withItem, withCount, withNeedCount}
+use Rattle.model.specs.Records.{itemAt, needAt, isBlank, crosses, namesItem}
+use Rattle.model.specs.Setters.{appended, withNeedCount}
 use Rattle.dropping.specs.Kept.{rank, packed, firstFrom}
 
 abbrev pub kept : Model → ℕ → Bool
@@ -41,7 +41,7 @@ linesTo keep l (suc t) = set (linesTo keep l t) t (renumbered keep (getD l t noN
 
 abbrev pub droppedTo : Model → ℕ → ℕ → Model
 droppedTo m n t = record {
-  items = packed blank (kept m) (m .items) n;
+  items = packed blank (kept m) (itemAt m) n;
   count = rank (kept m) n;
   capacity = m .capacity;
   needs = record { lines = linesTo (kept m) (m .needs .lines) t; count = 0 };
@@ -50,16 +50,10 @@ droppedTo m n t = record {
 abbrev pub dropped : Model → Model
 dropped m = withNeedCount (droppedTo m (m .count) (m .needs .count)) (m .needs .count)
 
-abbrev pub appended : Model → Item → Model
-appended q x = withCount (withItem q (q .count) x) (suc (q .count))
-
 abbrev pub appendedUnlessBlank : Model → Item → Model
 appendedUnlessBlank q x = cond (isBlank x) q (appended q x)
 
 -- ---- what stands against it
-
-abbrev pub namesItem : Need → ℕ → Bool
-namesItem n k = cond (eqb (n .item) k) true (eqb (n .cover) k)
 
 unfoldable pub namedIn : ℕ → (ℕ → Need) → ℕ → Bool
 namedIn zero f k = false

@@ -6,6 +6,7 @@ use model::Need;
 use model::Needs;
 use model::does_cross;
 use model::is_blank;
+use model::naming;
 use model::setters;
 ghost use mathlib.Core.Path.{_≡_};
 ghost use mathlib.Core.Bool.{cond};
@@ -13,8 +14,8 @@ ghost use Prim.Native.Nat.{suc, _-_, _≤_, _<_};
 ghost use Rattle.model.specs.declared.Blanks.the-variants as blanks;
 ghost use Rattle.model.specs.Records.{isBlank, needAt, Numbers, AdmissibleBy};
 ghost use Rattle.dropping.specs.Kept.{rank};
-ghost use Rattle.dropping.specs.Dropping.{kept, renumbered, droppedTo, dropped, appended, appendedUnlessBlank};
-ghost use Rattle.dropping.specs.Dropping.{namesItem, namedIn, hinders, firstHindered, hindrance};
+ghost use Rattle.dropping.specs.Dropping.{kept, renumbered, droppedTo, dropped, appendedUnlessBlank};
+ghost use Rattle.dropping.specs.Dropping.{namedIn, hinders, firstHindered, hindrance};
 
 // ---- the items
 
@@ -27,15 +28,6 @@ fn none_of(m: Model) -> Model
     setters::with_capacity(empty, b)
 }
 
-fn append(q: Model, x: Item) -> Model
-    requires { ⌜ q .count < 16 ⌝ }
-    ensures { λ r. ⌜ r ≡ appended q x ⌝ }
-{
-    let n = q.count;
-    let r = setters::with_item(q, n, x);
-    setters::with_count(r, n + 1)
-}
-
 fn append_unless_blank(q: Model, x: Item) -> Model
     requires { ⌜ q .count < 16 ⌝ }
     ensures { λ r. ⌜ r ≡ appendedUnlessBlank q x ⌝ }
@@ -43,7 +35,7 @@ fn append_unless_blank(q: Model, x: Item) -> Model
     if is_blank(x) {
         return q;
     }
-    append(q, x)
+    setters::append(q, x)
 }
 
 // The items that are not blank, moved down, and no needs as yet.
@@ -137,21 +129,12 @@ fn is_named(ns: Needs, k: usize) -> bool
     let mut j: usize = 0;
     while j < t {
         let x = ns.lines[j];
-        if does_name(x, k) {
+        if naming::does_name(x, k) {
             return true;
         }
         j += 1;
     }
     false
-}
-
-fn does_name(x: Need, k: usize) -> bool
-    ensures { λ r. ⌜ r ≡ namesItem x k ⌝ }
-{
-    if x.item == k {
-        return true;
-    }
-    x.cover == k
 }
 
 // Whether the item at place k is blank and cannot be left out: its bounds cross, or a need names it.

@@ -13,6 +13,7 @@
 --   someCrosses p    the bounds of some item cross
 --   badCount n       n is no number of items
 --   wrongNumber n k, wrongNumbers n i j   k is no item number of 1 to n; i or j is none, or both are one
+--   namesItem n k    a need names item k, from 1
 --   held n           how many of n items or lines there are to be tried: at most 16
 --   outOfOrder a b   the line b does not rise above the line a, by item and then by cover
 --   badLine n a b    refusal 5 of the line b, which follows a, over n items
@@ -148,6 +149,9 @@ abbrev pub wrongNumbers : ℕ → ℕ → ℕ → Bool
 wrongNumbers n i j = cond (wrongNumber n i) true (cond (wrongNumber n j) true (eqb i j))
 
 -- ---- tests of a line of needs
+
+abbrev pub namesItem : Need → ℕ → Bool
+namesItem n k = cond (eqb (n .item) k) true (eqb (n .cover) k)
 
 abbrev pub outOfOrder : Need → Need → Bool
 outOfOrder a b = cond (ltb (a .item) (b .item)) false (cond (ltb (b .item) (a .item)) true (cond (ltb (a .cover) (b .cover)) false true))

@@ -4,6 +4,7 @@
 --   heading-word, number                                        12, 13: a sheet's, in the place of 2 (paper 02, request 3)
 --   named-item                                                  14: a record's and a sheet's, of a line of needs (paper 02, request 7)
 --   blank-item                                                  15: a record's and a sheet's, of an item; the converter's (paper 02, request 9)
+--   full-record, missing-item, only-item                        16 to 18: a standing plan's, of a change (paper 02, request 10)
 use Prim.Native.Nat.{ℕ}
 
 abbrev pub overlong : ℕ
@@ -47,3 +48,12 @@ named-item = 14
 
 abbrev pub blank-item : ℕ
 blank-item = 15
+
+abbrev pub full-record : ℕ
+full-record = 16
+
+abbrev pub missing-item : ℕ
+missing-item = 17
+
+abbrev pub only-item : ℕ
+only-item = 18

@@ -3,13 +3,15 @@
 --   withCount m n       with that count
 --   withItems m l       with those items, all 16 places
 --   withItem m j x      with x at place j
+--   appended m x        with an item more
 --   bounded side b i    the item with the bound b on that side
 --   withBound m side j b   with that bound of the item at place j
 --   withNeeds m ns      with those needs
 --   withNeedCount m t   with that number of needs
 --   withNeed m j x      with x as line j
+--   appendedNeed m x    with a line of needs more
 use mathlib.Core.List.{List}
-use Prim.Native.Nat.{ℕ}
+use Prim.Native.Nat.{ℕ, suc}
 use lib.IntN.{ℤ}
 use lib.ListN.{set}
 use Rattle.knapsack.specs.declared.Bound.{Bound}
@@ -33,6 +35,9 @@ withItems m l = record { items = l; count = m .count; capacity = m .capacity; ne
 abbrev pub withItem : Model → ℕ → Item → Model
 withItem m j x = record { items = set (m .items) j x; count = m .count; capacity = m .capacity; needs = m .needs }
 
+abbrev pub appended : Model → Item → Model
+appended m x = withCount (withItem m (m .count) x) (suc (m .count))
+
 abbrev pub bounded : Side → Bound → Item → Item
 bounded Lower b i = record { mark = i .mark; weight = i .weight; price = i .price; lower = b; upper = i .upper }
 bounded Upper b i = record { mark = i .mark; weight = i .weight; price = i .price; lower = i .lower; upper = b }
@@ -48,3 +53,6 @@ withNeedCount m t = withNeeds m (record { lines = m .needs .lines; count = t })
 
 abbrev pub withNeed : Model → ℕ → Need → Model
 withNeed m j x = withNeeds m (record { lines = set (m .needs .lines) j x; count = m .needs .count })
+
+abbrev pub appendedNeed : Model → Need → Model
+appendedNeed m x = withNeedCount (withNeed m (m .needs .count) x) (suc (m .needs .count))

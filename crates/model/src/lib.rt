@@ -228,7 +228,7 @@ pub fn refusal_of(number: u64) -> Refusal
     Refusal { number, line: 0 }
 }
 
-fn refused_if(test: bool, number: u64) -> Verdict
+pub fn refused_if(test: bool, number: u64) -> Verdict
     ensures { λ r. ⌜ r ≡ refusedIf test number ⌝ }
 {
     if test {
@@ -238,7 +238,7 @@ fn refused_if(test: bool, number: u64) -> Verdict
 }
 
 // The first that refuses.
-fn first_of(v: Verdict, w: Verdict) -> Verdict
+pub fn first_of(v: Verdict, w: Verdict) -> Verdict
     ensures { λ r. ⌜ r ≡ orElse v w ⌝ }
 {
     match v {

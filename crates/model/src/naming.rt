@@ -12,6 +12,7 @@ ghost use Rattle.model.specs.Records.{
   itemAt,
   wrongNumber,
   wrongNumbers,
+  namesItem,
   outOfOrder,
   badLine,
   isContinuous,
@@ -59,6 +60,16 @@ pub fn are_wrong(n: usize, i: usize, j: usize) -> bool
         return true;
     }
     i == j
+}
+
+// Whether a need names item k.
+pub fn does_name(x: Need, k: usize) -> bool
+    ensures { λ r. ⌜ r ≡ namesItem x k ⌝ }
+{
+    if x.item == k {
+        return true;
+    }
+    x.cover == k
 }
 
 // Whether a line does not rise above the one before, by item and then by cover.

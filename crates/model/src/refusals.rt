@@ -26,3 +26,9 @@ pub const NUMBER: u64 = 13;
 pub const NAMED_ITEM: u64 = 14;
 
 pub const BLANK_ITEM: u64 = 15;
+
+pub const FULL_RECORD: u64 = 16;
+
+pub const MISSING_ITEM: u64 = 17;
+
+pub const ONLY_ITEM: u64 = 18;

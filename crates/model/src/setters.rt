@@ -9,7 +9,19 @@ use knapsack::Item;
 ghost use mathlib.Core.Path.{_≡_};
 ghost use Prim.Native.Nat.{_<_};
 ghost use Rattle.model.specs.Records.{emptyModel};
-ghost use Rattle.model.specs.Setters.{withCapacity, withCount, withItems, withItem, bounded, withBound, withNeeds, withNeedCount, withNeed};
+ghost use Rattle.model.specs.Setters.{
+  withCapacity,
+  withCount,
+  withItems,
+  withItem,
+  appended,
+  bounded,
+  withBound,
+  withNeeds,
+  withNeedCount,
+  withNeed,
+  appendedNeed,
+};
 
 // The record of a refusal.
 pub fn empty_model() -> Model
@@ -57,6 +69,16 @@ pub fn with_item(m: Model, j: usize, x: Item) -> Model
     let mut n = m;
     n.items[j] = x;
     n
+}
+
+// With an item more, in the first unused place.
+pub fn append(m: Model, x: Item) -> Model
+    requires { ⌜ m .count < 16 ⌝ }
+    ensures { λ r. ⌜ r ≡ appended m x ⌝ }
+{
+    let n = m.count;
+    let r = with_item(m, n, x);
+    with_count(r, n + 1)
 }
 
 // An item with another bound on one side.
@@ -117,4 +139,15 @@ pub fn with_need(m: Model, j: usize, x: Need) -> Model
     let mut ns = m.needs;
     ns.lines[j] = x;
     with_needs(m, ns)
+}
+
+// With a line of needs more.
+pub fn append_need(m: Model, x: Need) -> Model
+    requires { ⌜ m .needs .count < 16 ⌝ }
+    ensures { λ r. ⌜ r ≡ appendedNeed m x ⌝ }
+{
+    let ns = m.needs;
+    let t = ns.count;
+    let r = with_need(m, t, x);
+    with_need_count(r, t + 1)
 }

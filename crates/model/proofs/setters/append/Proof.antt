@@ -1,8 +1,8 @@
--- `dropping::append` meets its contract.
+-- `model::setters::append` meets its contract.
 use native.Mathlib.Numerals.{add-one}
 use borrow.Author.Needs.{needs}
-use Rattle.dropping.proofs.append.Statement.{statement}
-use Rattle.dropping.proofs.append.Tie as tie
+use Rattle.model.proofs.setters.append.Statement.{statement}
+use Rattle.model.proofs.setters.append.Tie as tie
 
 with-item-requires : tie.Need-with-item-requires
 with-item-requires c κs = search needs

@@ -1,7 +1,7 @@
--- `dropping::does_name` meets its contract.
+-- `model::naming::does_name` meets its contract.
 use borrow.Author.Tests.{eq-eqb, ne-eqb}
-use Rattle.dropping.proofs.does_name.Statement.{statement}
-use Rattle.dropping.proofs.does_name.Tie as tie
+use Rattle.model.proofs.naming.does_name.Statement.{statement}
+use Rattle.model.proofs.naming.does_name.Tie as tie
 
 returns : tie.Need-returns
 returns c = rw (eq-eqb _ _ (c .if1 .taken))

@@ -1,0 +1,4 @@
+pub mod Removed
+pub mod Rows
+pub mod Effects
+pub mod Afresh
