@@ -8,7 +8,7 @@
    Overlap     What is written (`out`, `written`, `line`) overlaps nothing else that is handed over.
    Threads     There is no state between calls: any number of threads may call at the same time, on buffers of their own.
    Heap        None is used, and nothing is read or written but what is handed over. Of the C library only memcpy, memmove and memset are needed.
-   Stack       637,344 bytes were measured (`bench/run stack`), of which 524,280 are the scales' cells; CHARGE_STACK is a safe figure.
+   Stack       638,968 bytes were measured (`bench/run stack`), of which 524,280 are the scales' cells; CHARGE_STACK is a safe figure.
    Time        Every call ends in bounded time: a search takes at most 1,000 steps (charge_steps), then scales answer (charge_cells). Needs come to
                cases, each with a search of its own: one without needs, at most 2^(t + 1) with t of them. */
 #ifndef RUNCEFO_H
@@ -18,8 +18,8 @@
 #include <stdint.h>
 
 #define RUNCEFO_VERSION_MAJOR 0
-#define RUNCEFO_VERSION_MINOR 10
-#define RUNCEFO_VERSION "0.10"
+#define RUNCEFO_VERSION_MINOR 11
+#define RUNCEFO_VERSION "0.11"
 
 /* The longest sheet that is not refused unread, the bytes that hold every reply (as charge_room says), and the stack of a call. */
 #define CHARGE_SHEET 4096
@@ -53,7 +53,8 @@ size_t charge_room(void);
 uint64_t charge_read(const uint8_t *sheet, size_t length, uint64_t *line);
 
 /* Plans a sheet: what `charge` prints for it, at the start of out; *written gets its length, there is no closing zero byte, and CHARGE_ACCEPTED
-   is told. Else no byte of out changes and *written gets 0: the sheet's own refusal is told, then CHARGE_SHORT_BUFFER; *line gets its line, or 0. */
+   is told. Of an amount p q, q is the weight without sign of an item with mark L (1 where that is 0), and 1 with mark W; only the value is in lowest
+   terms. Else no byte of out changes and *written gets 0: the sheet's own refusal is told, then CHARGE_SHORT_BUFFER; *line gets its line, or 0. */
 uint64_t charge_plan(const uint8_t *sheet, size_t length, uint8_t *out, size_t room, size_t *written, uint64_t *line);
 
 /* Reads a sheet and writes what was read at the start of out, to save it: an accepted sheet comes back byte by byte, in length bytes, and

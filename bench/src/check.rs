@@ -1,7 +1,7 @@
 //! Our reply held to the independent one: kind, refusal and value exactly; what is free, the point and the steps, held to the sheet.
 
 use crate::independent::Reply;
-use crate::problem::{gcd, Item, Problem};
+use crate::problem::{Item, Problem};
 
 /// The figures of item k's line, behind its number; written as the paper writes numbers.
 fn figures(line: Option<&str>, k: usize, count: usize) -> Result<Vec<i128>, String> {
@@ -15,18 +15,26 @@ fn figures(line: Option<&str>, k: usize, count: usize) -> Result<Vec<i128>, Stri
 }
 
 fn amount_keeps(i: &Item, p: i128, q: i128) -> bool {
-    q >= 1
-        && gcd(p, q) == 1
+    q == i.own_divisor() as i128
         && p.abs() <= 1_000_000_000 * q
-        && (q == 1 || (!i.integer && i.weight as i128 % q == 0))
         && i.lower.is_none_or(|l| l as i128 * q <= p)
         && i.upper.is_none_or(|u| p <= u as i128 * q)
 }
 
-/// The sum of figure times amount, over the largest divisor: no other is above 1.
+fn is_part(x: &&(i128, i128)) -> bool {
+    x.0 % x.1 != 0
+}
+
+/// The sum of figure times amount, over the divisor of the one amount that is not a whole number.
 fn total(p: &Problem, point: &[(i128, i128)], figure: impl Fn(&Item) -> i64) -> (i128, i128) {
-    let d = point.iter().map(|x| x.1).max().unwrap_or(1);
-    (p.items.iter().zip(point).map(|(i, x)| figure(i) as i128 * x.0 * (d / x.1)).sum(), d)
+    let d = point.iter().find(is_part).map_or(1, |x| x.1);
+    (p.items.iter().zip(point).map(|(i, x)| figure(i) as i128 * (x.0 * d / x.1)).sum(), d)
+}
+
+/// A point over its items' own divisors.
+pub fn own(p: &Problem, point: &[(i128, i128)]) -> Vec<(i128, i128)> {
+    let over = |i: &Item, x: &(i128, i128)| (x.0 * i.own_divisor() as i128 / x.1, i.own_divisor() as i128);
+    p.items.iter().zip(point).map(|(i, x)| over(i, x)).collect()
 }
 
 pub fn check_point(p: &Problem, point: &[(i128, i128)]) -> Result<(), String> {
@@ -38,7 +46,7 @@ pub fn check_point(p: &Problem, point: &[(i128, i128)]) -> Result<(), String> {
     if let Some(n) = p.needs.iter().find(|n| point[n.item].0 > 0 && point[n.cover].0 < point[n.cover].1) {
         return Err(format!("need of item {}", n.item + 1));
     }
-    if point.iter().filter(|x| x.1 > 1).count() > 1 {
+    if point.iter().filter(is_part).count() > 1 {
         return Err("two fractions".into());
     }
     let (weight, d) = total(p, point, |i| i.weight);

@@ -1,6 +1,6 @@
 //! Our replies beside those of the independent planner, on drawn sheets of mixed kinds.
 
-use crate::check::{check, check_is};
+use crate::check::{check, check_is, own};
 use crate::draw::{kind, Rng, KINDS};
 use crate::independent::{self, Reply};
 use crate::ours;
@@ -41,7 +41,7 @@ fn check_verdict(sheet: &[u8], expected: Reply) -> Result<(), String> {
 
 fn check_first(problem: &Problem, text: &str) -> Result<(), String> {
     match independent::first(problem) {
-        Some(point) => check_is(&point, text),
+        Some(point) => check_is(&own(problem, &point), text),
         None => Ok(()),
     }
 }

@@ -1,6 +1,6 @@
 //! The bench tried on itself: the twin and the independent planner held to plain enumeration of small problems, and to each other on large ones.
 
-use crate::check::{check_is, check_point};
+use crate::check::{check_is, check_point, own};
 use crate::draw::{tiny, Rng};
 use crate::enumeration::{first_best, Found, GRID};
 use crate::families::{CONTINUOUS, FAMILIES};
@@ -46,9 +46,10 @@ fn check_twin(p: &Problem, expected: Reply) -> Result<(), String> {
 /// The independent first point is a point, and the twin's is the same, whatever the steps.
 fn check_point_of(p: &Problem) -> Result<Point, String> {
     let first = independent::first(p).ok_or("no first best point")?;
-    check_point(p, &first)?;
+    let shown = own(p, &first);
+    check_point(p, &shown)?;
     for steps in STEPS {
-        check_is(&first, &twin::plan(p, Rules { steps, ..FIRST }).text)?;
+        check_is(&shown, &twin::plan(p, Rules { steps, ..FIRST }).text)?;
     }
     Ok(first)
 }

@@ -48,22 +48,16 @@ pub shown-narrow : (s : Instance) (k : ℕ) (l u : Bound) (x : ℕ → Fraction)
 shown-narrow s k l u x h = record {
   small = h .small;
   divisor = h .divisor;
-  lowest = h .lowest;
   single = h .single;
-  divides = h .divides;
   beyond = h .beyond;
-  weightless = h .weightless;
 }
 
 pub shown-priced : (s : Instance) (p : ℕ → ℤ) (x : ℕ → Fraction) → Shown (priced s p) x → Shown s x
 shown-priced s p x h = record {
   small = h .small;
   divisor = h .divisor;
-  lowest = h .lowest;
   single = h .single;
-  divides = h .divides;
   beyond = h .beyond;
-  weightless = h .weightless;
 }
 
 -- ---- records

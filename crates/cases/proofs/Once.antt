@@ -20,13 +20,14 @@ use Rattle.arith.proofs.Lowest.{same-fraction}
 use Rattle.arith.specs.Fractions.{int, _≤ᶠ_, _≈ᶠ_}
 use Rattle.arith.specs.declared.Fraction.{Fraction}
 use Rattle.knapsack.specs.Demands.{shownValue}
-use Rattle.knapsack.specs.Meaning.{Instance, Point, instanceOf, value, nought, amountAt, pointOf, stepsOf, AllLower}
+use Rattle.knapsack.specs.Meaning.{Instance, Point, instanceOf, value, nought, ownDivisor, amountAt, pointOf, stepsOf, AllLower}
 use Rattle.knapsack.specs.declared.Answer.{Answer}
 use Rattle.knapsack.specs.declared.Kind.{Kind}
 use Rattle.knapsack.specs.declared.Kind.the-variants as kind
 use Rattle.knapsack.specs.declared.Verdict.{Verdict}
 use Rattle.knapsack.specs.declared.Verdict.the-variants.{Accepted, Refused}
 use Rattle.foremost.proofs.Points.{neither-same}
+use Rattle.model.proofs.Showing.{own-some, same-over}
 use Rattle.model.specs.Needs.{InfeasibleNeeds, OptimalNeeds, ForemostNeeds, ShownOptimalNeeds, AnswersNeeds, AnswersAsNeeds, ShownFirstNeeds}
 use Rattle.model.specs.Promises.{RepliesAs, Planned}
 use Rattle.model.specs.Records.{plainOf, needsOf, verdict}
@@ -107,7 +108,7 @@ module _ (s : Instance) (ns : List Need) (a b : Answer) where
     amounts-once f g k = go (decLt k (s .count))
       where
         go : Dec (k < s .count) → amountAt a k ≡ amountAt b k
-        go (yes l) = same-fraction (amountAt a k) (amountAt b k) (x .shown .divisor k l) (y .shown .divisor k l) (x .shown .lowest k l) (y .shown .lowest k l)
+        go (yes l) = same-over (amountAt a k) (amountAt b k) (ownDivisor (s .item k)) (own-some (s .item k)) (x .shown .divisor k l) (y .shown .divisor k l)
             (foremost-needs-same s ns (pointOf a) (pointOf b) (x .optimal) f (y .optimal) g k l)
         go (no l) = x .shown .beyond k (omega arith) ∙ sym (y .shown .beyond k (omega arith))
 

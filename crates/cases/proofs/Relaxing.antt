@@ -2,6 +2,7 @@
 -- relaxed-needs: what is feasible with needs stays so.  relaxed-never-below: so the relaxed value is never below the best.
 -- rounded-needs, relaxed-ray: where it has a point, or a ray, the problem has: bounds are whole, so that amounts can be rounded.
 -- allowed-relaxed: allowed needs stay allowed, so that it is solved by the same cases.
+-- relaxed-own, named-own (end theorems): amounts of items that no need names are shown over their weights, those of the others over 1.
 -- relaxed-none (end theorem): where there are no needs every item becomes continuous.  names-item, names-cover: the items of a need are named.
 --   Rounded D w n r     r / D is whole, weighs no more than n / D at weight w, and keeps every whole bound that n / D keeps
 use mathlib.Core.Path.{_≡_, refl, sym, ap, subst, _∙_}
@@ -23,7 +24,7 @@ use Rattle.arith.specs.Fractions.{Frac, frac, _≤ᶠ_}
 use Rattle.arith.proofs.Fractions.{Common, common}
 use Rattle.knapsack.proofs.Common.{KeepsMarkᴰ, KeepsLowerᴰ, KeepsUpperᴰ}
 use Rattle.knapsack.proofs.Rays.{ray-unbounded, unbounded-ray}
-use Rattle.knapsack.specs.Meaning.{Instance, Point, KeepsMark, Unbounded, weights, value, relaxed}
+use Rattle.knapsack.specs.Meaning.{Instance, Point, KeepsMark, Unbounded, weights, value, relaxed, weightDivisor, divisorBy, ownDivisor}
 use Rattle.knapsack.specs.declared.Bound.{Bound}
 use Rattle.knapsack.specs.declared.Bound.the-variants.{Absent, At}
 use Rattle.knapsack.specs.declared.Mark.{Mark}
@@ -96,6 +97,14 @@ allowed-relaxed s ns a n i = record {
 
 pub relaxed-none : (s : Instance) → relaxedBut [] s ≡ relaxed s
 relaxed-none s = refl
+
+-- ---- what its amounts are shown over
+
+pub relaxed-own : (s : Instance) (ns : List Need) (k : ℕ) → names ns k ≡ false → ownDivisor (relaxedBut ns s .item k) ≡ weightDivisor (weights s k)
+relaxed-own s ns k e = subst (λ b. divisorBy (loosened b (s .item k .mark)) (weights s k) ≡ weightDivisor (weights s k)) (sym e) refl
+
+pub named-own : (s : Instance) (ns : List Need) (k : ℕ) → names ns k ≡ true → Named s k → ownDivisor (relaxedBut ns s .item k) ≡ 1
+named-own s ns k e n = subst (λ m. divisorBy m (weights s k) ≡ 1) (sym (named-relaxed s ns k e n .whole)) refl
 
 -- ---- where it has a point the problem has, and where it has a ray
 

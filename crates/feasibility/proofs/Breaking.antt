@@ -3,21 +3,17 @@
 --   Lacking n ns c m    what it says of the first n lines of needs;  lacking: it is true of firstLacking
 -- none-yet, stays: a number that is not 0 stays. kept-iff: a need whose item does not lack its cover is kept in the meaning's sense.
 -- keeps-iff: an amount that breaks nothing keeps its item's mark and bounds in the meaning's sense.
-use mathlib.Core.Path.{_≡_, refl, sym, ap, _∙_, subst}
+use mathlib.Core.Path.{_≡_, refl, sym, _∙_}
 use mathlib.Core.Bool.{Bool, true, false, cond}
 use mathlib.Core.Logic.{_↔_, ⊎-elim}
-use Prim.Native.Nat.{ℕ, zero, suc, _-_, _≤_, _<_, max}
+use Prim.Native.Nat.{ℕ, zero, suc, _-_, _≤_, _<_}
 use native.Mathlib.Omega.{arith}
-use lib.Dec.{ltb}
-use lib.IntN.{ℤ, pos, natAbs, _*ℤ_}
-use borrow.Author.Tests.{le-ltb, ltb-false}
+use lib.IntN.{ℤ, pos, _*ℤ_}
 use Rattle.arith.specs.Fractions.{Frac, int, frac, _≤ᶠ_, _<ᶠ_}
-use Rattle.arith.specs.Gcd.{Divides}
 use Rattle.arith.specs.Sum.{Each}
 use Rattle.arith.specs.declared.Fraction.{Fraction}
-use Rattle.arith.proofs.Divisors.{gcd-is, divides-self}
 use Rattle.arith.proofs.Fractions.{over-int, over-frac, over-≤, <ᶠ-not-≤}
-use Rattle.arith.proofs.Integers.{split, zed, natAbs-times, ≤ℤ-or-<}
+use Rattle.arith.proofs.Integers.{split, zed, ≤ℤ-or-<}
 use Rattle.arith.proofs.Parts.{impossible}
 use Rattle.arith.proofs.Words.{no-lt, le-no}
 use Rattle.knapsack.specs.declared.Bound.{Bound}
@@ -27,15 +23,15 @@ use Rattle.knapsack.specs.declared.Mark.{Mark}
 use Rattle.knapsack.specs.declared.Mark.the-variants.{Integer, Continuous}
 use Rattle.knapsack.specs.declared.Problem.{Problem}
 use Rattle.knapsack.specs.Ranges.{itemAt}
-use Rattle.knapsack.specs.Meaning.{KeepsMark, KeepsLower, KeepsUpper, Keeps}
+use Rattle.knapsack.specs.Meaning.{divisorBy, KeepsMark, KeepsLower, KeepsUpper, Keeps}
 use Rattle.feasibility.specs.declared.Candidate.{Candidate}
 use Rattle.model.specs.declared.Needs.{Needs}
 use Rattle.model.specs.declared.Side.the-variants.{Lower, Upper}
 use Rattle.model.specs.Records.{needAt}
-use Rattle.feasibility.specs.Amounts.{proposedAt, GoodAmount}
-use Rattle.feasibility.specs.Check.{breaksMark, breaksBound, breaks, earlierOf, numbered, firstBroken, lacks, uncoveredAt, firstLacking}
+use Rattle.feasibility.specs.Amounts.{proposedAt, OwnAmount, GoodAmount}
+use Rattle.feasibility.specs.Check.{breaksBound, breaks, earlierOf, numbered, firstBroken, lacks, uncoveredAt, firstLacking}
 use Rattle.model.proofs.Tests.{neither}
-use Rattle.feasibility.proofs.Divisor.{not-above, one-more}
+use Rattle.feasibility.proofs.Divisor.{one-more}
 
 -- ---- what is found
 
@@ -90,26 +86,16 @@ lacking (suc n) ns c some = go (firstLacking n ns c) (lacking n ns c (λ j l. so
 
 -- ---- an amount that breaks nothing keeps its item
 
--- in lowest terms a whole number has the divisor 1
-whole : (x : Fraction) (n : ℤ) → GoodAmount x → x .p ≡ n *ℤ pos (x .q) → x .q ≤ 1
-whole x n g e = not-above (x .q) (subst (Divides (x .q)) (g .lowest)
-    (gcd-is (natAbs (x .p)) (x .q) .most (x .q) (natAbs n, ap natAbs e ∙ natAbs-times n (x .q)) (divides-self (x .q))))
-
-keeps-mark : (m : Mark) (x : Fraction) → GoodAmount x → (breaksMark m (x .q) ≡ false) ↔ KeepsMark m (frac (x .p) (x .q))
-keeps-mark Integer x g = (to, from)
+-- over its own divisor
+keeps-mark : (i : Item) (x : Fraction) → OwnAmount i x → KeepsMark (i .mark) (frac (x .p) (x .q))
+keeps-mark i x g = go (i .mark) (g .own)
   where
-    own : max 1 (x .q) ≡ x .q
-    own = omega (arith, g .some)
-
     once : (z : ℤ) → z ≡ z *ℤ pos 1
     once = split _ (λ a b. simp zed (omega arith))
 
-    to : ltb 1 (x .q) ≡ false → (n : ℤ) × (x .p ≡ n *ℤ pos (max 1 (x .q)))
-    to h = let e : max 1 (x .q) ≡ 1 = omega (arith, g .some, ltb-false 1 (x .q) h) in (x .p, rw e (once (x .p)))
-
-    from : (n : ℤ) × (x .p ≡ n *ℤ pos (max 1 (x .q))) → ltb 1 (x .q) ≡ false
-    from (n, e) = le-ltb 1 (x .q) (whole x n g (rw own at e))
-keeps-mark Continuous x g = (λ h. tt, λ h. refl)
+    go : (m : Mark) → x .q ≡ divisorBy m (i .weight) → KeepsMark m (frac (x .p) (x .q))
+    go Integer e = (x .p, rw e (once (x .p)))
+    go Continuous e = tt
 
 keeps-lower : (b : Bound) (x : Fraction) → GoodAmount x → (breaksBound Lower b (x .p) (x .q) ≡ false) ↔ KeepsLower b (frac (x .p) (x .q))
 keeps-lower Absent x g = (λ h. tt, λ h. refl)
@@ -119,14 +105,13 @@ keeps-upper : (b : Bound) (x : Fraction) → GoodAmount x → (breaksBound Upper
 keeps-upper Absent x g = (λ h. tt, λ h. refl)
 keeps-upper (At u) x g = let o = over-≤ (g .some) (over-frac (x .p) (x .q) (g .some)) (over-int (x .q) u) in (λ h. o .1 (no-lt h), λ h. le-no (o .0 h))
 
-pub keeps-iff : (i : Item) (x : Fraction) → GoodAmount x → (breaks i x ≡ false) ↔ Keeps i (frac (x .p) (x .q))
+pub keeps-iff : (i : Item) (x : Fraction) → OwnAmount i x → GoodAmount x → (breaks i x ≡ false) ↔ Keeps i (frac (x .p) (x .q))
 unfolding breaks
-keeps-iff i x g = (
+keeps-iff i x o g = (
   λ h.
-      let m = neither (breaksMark (i .mark) (x .q)) _ h in
-      let b = neither (breaksBound Lower (i .lower) (x .p) (x .q)) _ (m .1) in
-      record { marked = keeps-mark (i .mark) x g .0 (m .0); above = keeps-lower (i .lower) x g .0 (b .0); below = keeps-upper (i .upper) x g .0 (b .1) },
-  λ k. rw (keeps-mark (i .mark) x g .1 (k .marked), keeps-lower (i .lower) x g .1 (k .above)) (keeps-upper (i .upper) x g .1 (k .below)),
+      let b = neither (breaksBound Lower (i .lower) (x .p) (x .q)) _ h in
+      record { marked = keeps-mark i x o; above = keeps-lower (i .lower) x g .0 (b .0); below = keeps-upper (i .upper) x g .0 (b .1) },
+  λ k. rw (keeps-lower (i .lower) x g .1 (k .above)) (keeps-upper (i .upper) x g .1 (k .below)),
 )
 
 -- ---- a need whose item does not lack its cover is kept

@@ -1,75 +1,89 @@
 -- Laws of the common divisor.
---   Divided n x d    d is a divisor over which each of the first n amounts is an integer
+--   Divided n i x d    over d each of the first n amounts is an integer: it is whole, or d is its divisor
+-- good-amount: an amount over its item's own divisor can be reckoned with.
 -- good-iff: an amount is not bad exactly if it is good.
 -- divided: the common divisor is such, where it is not 0.
 -- divisor-iff: it is 0 exactly if row 8 refuses the amounts.
 use mathlib.Core.Path.{_≡_, refl, sym, ap, _∙_, subst}
-use mathlib.Core.Bool.{Bool, true, false}
-use mathlib.Core.Logic.{_↔_, _≢_}
-use Prim.Native.Nat.{ℕ, zero, suc, _*_, _≤_, _<_}
+use mathlib.Core.Bool.{Bool, true, false, cond}
+use mathlib.Core.Logic.{_↔_, _≢_, _⊎_, inl, inr}
+use Prim.Native.Nat.{ℕ, zero, suc, _*_, _%_, _≤_, _<_}
 use native.Mathlib.Decide.{ℕ-discrete}
 use native.Mathlib.Omega.{arith}
 use lib.Dec.{ltb, eqb}
-use lib.IntN.{natAbs}
+use lib.IntN.{ℤ, pos, natAbs, _*ℤ_}
 use borrow.Author.Tests.{eq-eqb, ne-eqb, le-ltb, eqb-true, eqb-false, ltb-false}
-use Rattle.arith.specs.Gcd.{Divides, gcdOf}
 use Rattle.arith.specs.Sum.{Each}
 use Rattle.arith.specs.declared.Fraction.{Fraction}
-use Rattle.arith.proofs.Divisors.{gcd-is, divisor-pos}
-use Rattle.model.proofs.Tests.{neither}
-use Rattle.feasibility.specs.Amounts.{GoodAmount, GoodPoint, badAmount, joined, commonDivisor}
+use Rattle.arith.proofs.Integers.{split, zed}
+use Rattle.arith.proofs.Parts.{impossible}
+use Rattle.knapsack.specs.Meaning.{ownDivisor, WholeAmount}
+use Rattle.knapsack.specs.declared.Item.{Item}
+use Rattle.model.specs.Records.{ItemFigures}
+use Rattle.model.proofs.Showing.{own-some, own-few, whole-iff}
+use Rattle.feasibility.specs.Amounts.{OwnAmount, GoodPoint, GoodAmount, farther, badAmount, isWhole, joined, commonDivisor}
 
-good : (x : Fraction) → badAmount x ≡ false → GoodAmount x
+pub good-amount : (i : Item) (x : Fraction) → ItemFigures i → OwnAmount i x → GoodAmount x
+good-amount i x r g = record { some = rw (g .own) (own-some i); few = rw (g .own) (own-few i (r .weight-in)); near = g .near }
+
+good : (i : Item) (x : Fraction) → badAmount i x ≡ false → OwnAmount i x
 unfolding badAmount
-good x h =
-    let a = neither (eqb (x .q) 0) _ h in
-    let b = neither (ltb 1000 (x .q)) _ (a .1) in
-    let c = neither (ltb 1 (gcdOf (natAbs (x .p)) (x .q))) _ (b .1) in
-    let q≥1 = positive (x .q) (eqb-false (x .q) 0 (a .0)) in
-    record {
-      some = q≥1;
-      few = ltb-false 1000 (x .q) (b .0);
-      lowest = one (gcdOf (natAbs (x .p)) (x .q)) (divisor-pos _ (x .q) (gcd-is (natAbs (x .p)) (x .q) .right) q≥1) (ltb-false 1 _ (c .0));
-      near = ltb-false (1000000000 * x .q) (natAbs (x .p)) (c .1);
-    }
+good i x h = go (eqb (x .q) (ownDivisor i)) refl h
   where
-    positive : (n : ℕ) → n ≢ 0 → 1 ≤ n
-    positive zero h = absurd (h refl)
-    positive (suc n) h = omega arith
+    go : (b : Bool) → eqb (x .q) (ownDivisor i) ≡ b → cond b (farther (x .p) (x .q)) true ≡ false → OwnAmount i x
+    go true e f = record { own = eqb-true (x .q) (ownDivisor i) e; near = ltb-false (1000000000 * x .q) (natAbs (x .p)) f }
+    go false e f = absurd (impossible (sym f))
 
-    one : (g : ℕ) → 0 < g → g ≤ 1 → g ≡ 1
-    one g h k = omega arith
-
-not-bad : (x : Fraction) → GoodAmount x → badAmount x ≡ false
+not-bad : (i : Item) (x : Fraction) → OwnAmount i x → badAmount i x ≡ false
 unfolding badAmount
-not-bad x g = rw (ne-eqb (x .q) 0 (λ e. omega (arith, g .some)), le-ltb 1000 (x .q) (g .few), g .lowest) (le-ltb _ _ (g .near))
+not-bad i x g = rw (eq-eqb (x .q) (ownDivisor i) (g .own)) (le-ltb _ _ (g .near))
 
 -- End theorem: row 8's test of an amount is what row 8 asks.
-pub good-iff : (x : Fraction) → (badAmount x ≡ false) ↔ GoodAmount x
-good-iff x = (good x, not-bad x)
+pub good-iff : (i : Item) (x : Fraction) → (badAmount i x ≡ false) ↔ OwnAmount i x
+good-iff i x = (good i x, not-bad i x)
+
+-- ---- whole amounts
+
+own-parts : (i : Item) (x : Fraction) → OwnAmount i x → 1 ≤ x .q
+own-parts i x g = rw (g .own) (own-some i)
+
+is-whole : (i : Item) (x : Fraction) → OwnAmount i x → isWhole x ≡ true → WholeAmount x
+is-whole i x g h = whole-iff x (own-parts i x g) .0 (eqb-true (natAbs (x .p) % x .q) 0 h)
+
+not-whole : (i : Item) (x : Fraction) → OwnAmount i x → isWhole x ≡ false → ¬ WholeAmount x
+not-whole i x g h w = eqb-false (natAbs (x .p) % x .q) 0 h (whole-iff x (own-parts i x g) .1 w)
+
+whole-test : (i : Item) (x : Fraction) → OwnAmount i x → WholeAmount x → isWhole x ≡ true
+whole-test i x g w = eq-eqb (natAbs (x .p) % x .q) 0 (whole-iff x (own-parts i x g) .1 w)
+
+part-test : (i : Item) (x : Fraction) → OwnAmount i x → ¬ WholeAmount x → isWhole x ≡ false
+part-test i x g n = ne-eqb (natAbs (x .p) % x .q) 0 (λ e. n (whole-iff x (own-parts i x g) .0 e))
+
+whole-one : (x : Fraction) → x .q ≡ 1 → WholeAmount x
+whole-one x e = (x .p, once (x .p) ∙ ap (λ (t : ℕ). x .p *ℤ pos t) (sym e))
+  where
+    once : (z : ℤ) → z ≡ z *ℤ pos 1
+    once = split _ (λ a b. simp zed (omega arith))
 
 -- ---- one amount more
 
--- how the divisor of the amounts so far goes on: past a whole amount, or from 1 to the one divisor above 1
+-- how the divisor of the amounts so far goes on: past a whole amount, or from 1 to the divisor of the one that is not
 data Joins (d : ℕ) (x : Fraction) : ℕ → Type 0 where
-  whole : x .q ≡ 1 → Joins d x d
-  part : 1 < x .q → d ≡ 1 → Joins d x (x .q)
+  whole : WholeAmount x → Joins d x d
+  part : ¬ WholeAmount x → d ≡ 1 → Joins d x (x .q)
 
-record Joining (d : ℕ) (x : Fraction) : Type 0 where
-  fine : GoodAmount x
-  joins : Joins d x (joined d x)
+record Joining (d : ℕ) (i : Item) (x : Fraction) : Type 0 where
+  fine : OwnAmount i x
+  joins : Joins d x (joined d i x)
 
-joining : (d : ℕ) (x : Fraction) → joined d x ≢ 0 → Joining d x
+joining : (d : ℕ) (i : Item) (x : Fraction) → joined d i x ≢ 0 → Joining d i x
 unfolding joined
-joining d x h = go (badAmount x) refl (eqb (x .q) 1) refl (eqb d 1) refl
+joining d i x h = go (badAmount i x) refl (isWhole x) refl (eqb d 1) refl
   where
-    above : (n : ℕ) → 1 ≤ n → n ≢ 1 → 1 < n
-    above n l h = omega arith
-
-    go : (a : Bool) → badAmount x ≡ a → (b : Bool) → eqb (x .q) 1 ≡ b → (c : Bool) → eqb d 1 ≡ c → Joining d x
+    go : (a : Bool) → badAmount i x ≡ a → (b : Bool) → isWhole x ≡ b → (c : Bool) → eqb d 1 ≡ c → Joining d i x
     go true e b f c g = absurd (h (rw e))
-    go false e true f c g = record { fine = good x e; joins = rw (e, f) (whole (eqb-true (x .q) 1 f)) }
-    go false e false f true g = record { fine = good x e; joins = rw (e, f, g) (part (above (x .q) (good x e .some) (eqb-false (x .q) 1 f)) (eqb-true d 1 g)) }
+    go false e true f c g = record { fine = good i x e; joins = rw (e, f) (whole (is-whole i x (good i x e) f)) }
+    go false e false f true g = record { fine = good i x e; joins = rw (e, f, g) (part (not-whole i x (good i x e) f) (eqb-true d 1 g)) }
     go false e false f false g = absurd (h (rw (e, f, g)))
 
 -- what holds of the first n, and of place n, holds of the first n + 1
@@ -82,116 +96,123 @@ one-more {P} n h new k l = go (ℕ-discrete k n)
 
 -- ---- all amounts over one divisor
 
-pub record Divided (n : ℕ) (x : ℕ → Fraction) (d : ℕ) : Type 0 where
+pub record Divided (n : ℕ) (i : ℕ → Item) (x : ℕ → Fraction) (d : ℕ) : Type 0 where
   pub some : 1 ≤ d
-  pub few : d ≤ 1000
-  pub fine : Each n (λ k. GoodAmount (x k))
-  pub divides : Each n (λ k. Divides (x k .q) d)
+  pub fine : Each n (λ k. OwnAmount (i k) (x k))
+  pub parts : Each n (λ k. WholeAmount (x k) ⊎ (x k .q ≡ d))
 
-divides-one : (q d : ℕ) → Divides q 1 → Divides q d
-divides-one q d (m, e) = (d * m, omega (arith, ap (λ t. d * t) e))
+-- over the divisor 1 all are whole
+all-one : {x : Fraction} {d : ℕ} → WholeAmount x ⊎ (x .q ≡ d) → d ≡ 1 → WholeAmount x
+all-one (inl w) o = w
+all-one {x} (inr e) o = whole-one x (e ∙ o)
 
-divided-more : (n : ℕ) (x : ℕ → Fraction) (d : ℕ) → (d ≢ 0 → Divided n x d) → joined d (x n) ≢ 0 → Divided (suc n) x (joined d (x n))
-divided-more n x d ih h = go (joined d (x n)) h (joining d (x n) h .fine) (joining d (x n) h .joins)
+divided-more : (n : ℕ) (i : ℕ → Item) (x : ℕ → Fraction) (d : ℕ) → (d ≢ 0 → Divided n i x d) → joined d (i n) (x n) ≢ 0
+    → Divided (suc n) i x (joined d (i n) (x n))
+divided-more n i x d ih h = go (joined d (i n) (x n)) h (joining d (i n) (x n) h .fine) (joining d (i n) (x n) h .joins)
   where
-    go : (e : ℕ) → e ≢ 0 → GoodAmount (x n) → Joins d (x n) e → Divided (suc n) x e
-    go e z g (whole q) = let s = ih z in record {
+    go : (e : ℕ) → e ≢ 0 → OwnAmount (i n) (x n) → Joins d (x n) e → Divided (suc n) i x e
+    go e z g (whole w) = let s = ih z in record {
       some = s .some;
-      few = s .few;
       fine = one-more n (s .fine) g;
-      divides = one-more n (s .divides) (d, omega (arith, ap (λ t. d * t) q));
+      parts = one-more n (s .parts) (inl w);
     }
     go e z g (part l o) = let s = ih (λ w. omega arith) in record {
-      some = g .some;
-      few = g .few;
+      some = own-parts (i n) (x n) g;
       fine = one-more n (s .fine) g;
-      divides = one-more n (λ k m. divides-one (x k .q) (x n .q) (subst (Divides (x k .q)) o (s .divides k m))) (1, omega arith);
+      parts = one-more n (λ k m. inl (all-one (s .parts k m) o)) (inr refl);
     }
 
-pub divided : (n : ℕ) (x : ℕ → Fraction) → commonDivisor n x ≢ 0 → Divided n x (commonDivisor n x)
+pub divided : (n : ℕ) (i : ℕ → Item) (x : ℕ → Fraction) → commonDivisor n i x ≢ 0 → Divided n i x (commonDivisor n i x)
 unfolding commonDivisor
-divided zero x h = record { some = omega arith; few = omega arith; fine = λ k l. absurd (omega arith); divides = λ k l. absurd (omega arith) }
-divided (suc n) x h = divided-more n x (commonDivisor n x) (divided n x) h
+divided zero i x h = record { some = omega arith; fine = λ k l. absurd (omega arith); parts = λ k l. absurd (omega arith) }
+divided (suc n) i x h = divided-more n i x (commonDivisor n i x) (divided n i x) h
+
+-- the common divisor is 1, or some amount's
+pub divided-few : (n : ℕ) (i : ℕ → Item) (x : ℕ → Fraction) → Each n (λ k. ItemFigures (i k)) → commonDivisor n i x ≢ 0 → commonDivisor n i x ≤ 1000
+unfolding commonDivisor
+divided-few zero i x r h = omega arith
+divided-few (suc n) i x r h = go (joined (commonDivisor n i x) (i n) (x n)) h (joining _ (i n) (x n) h .fine) (joining _ (i n) (x n) h .joins)
+    (divided-few n i x (λ k l. r k (omega arith)))
+  where
+    go : (e : ℕ) → e ≢ 0 → OwnAmount (i n) (x n) → Joins (commonDivisor n i x) (x n) e → (commonDivisor n i x ≢ 0 → commonDivisor n i x ≤ 1000) → e ≤ 1000
+    go e z g (whole w) ih = ih z
+    go e z g (part l o) ih = good-amount (i n) (x n) (r n (omega arith)) g .few
 
 -- ---- row 8
 
--- a divisor of 1 is not above 1
-pub not-above : (q : ℕ) → Divides q 1 → q ≤ 1
-not-above q (zero, e) = omega arith
-not-above q (suc m, e) = go q m e
-  where
-    go : (q m : ℕ) → 1 ≡ suc m * q → q ≤ 1
-    go q m e = omega arith
-
 abbrev Single : ℕ → (ℕ → Fraction) → Type 0
-Single n x = (j k : ℕ) → j < n → k < n → 1 < x j .q → 1 < x k .q → j ≡ k
+Single n x = (j k : ℕ) → j < n → k < n → ¬ WholeAmount (x j) → ¬ WholeAmount (x k) → j ≡ k
 
-single-more : (n : ℕ) (x : ℕ → Fraction) (d : ℕ) → (d ≢ 0 → Divided n x d) → (d ≢ 0 → Single n x) → joined d (x n) ≢ 0 → Single (suc n) x
-single-more n x d ih jh h = go (joined d (x n)) h (joining d (x n) h .joins)
+single-more : (n : ℕ) (i : ℕ → Item) (x : ℕ → Fraction) (d : ℕ) → (d ≢ 0 → Divided n i x d) → (d ≢ 0 → Single n x) → joined d (i n) (x n) ≢ 0
+    → Single (suc n) x
+single-more n i x d ih jh h = go (joined d (i n) (x n)) h (joining d (i n) (x n) h .joins)
   where
     -- place n is whole, or all before it are
     go : (e : ℕ) → e ≢ 0 → Joins d (x n) e → Single (suc n) x
-    go e z (whole q) j k lj lk aj ak = jh z j k (last j lj aj) (last k lk ak) aj ak
+    go e z (whole w) j k lj lk aj ak = jh z j k (last j lj aj) (last k lk ak) aj ak
       where
-        last : (i : ℕ) → i < suc n → 1 < x i .q → i < n
-        last i l a = lower (ℕ-discrete i n)
+        last : (t : ℕ) → t < suc n → ¬ WholeAmount (x t) → t < n
+        last t l a = lower (ℕ-discrete t n)
           where
-            lower : Dec (i ≡ n) → i < n
-            lower (yes w) = absurd (let v : x i .q ≡ 1 = rw w q in omega arith)
-            lower (no w) = omega arith
+            lower : Dec (t ≡ n) → t < n
+            lower (yes v) = absurd (a (rw v w))
+            lower (no v) = omega arith
     go e z (part l o) j k lj lk aj ak = last j lj aj ∙ sym (last k lk ak)
       where
-        last : (i : ℕ) → i < suc n → 1 < x i .q → i ≡ n
-        last i l a = upper (ℕ-discrete i n)
+        last : (t : ℕ) → t < suc n → ¬ WholeAmount (x t) → t ≡ n
+        last t l a = upper (ℕ-discrete t n)
           where
-            upper : Dec (i ≡ n) → i ≡ n
+            upper : Dec (t ≡ n) → t ≡ n
             upper (yes w) = w
-            upper (no w) = absurd (omega (arith, not-above (x i .q) (subst (Divides (x i .q)) o (ih (λ v. omega arith) .divides i (omega arith)))))
+            upper (no w) = absurd (a (all-one (ih (λ v. omega arith) .parts t (omega arith)) o))
 
-single : (n : ℕ) (x : ℕ → Fraction) → commonDivisor n x ≢ 0 → Single n x
+single : (n : ℕ) (i : ℕ → Item) (x : ℕ → Fraction) → commonDivisor n i x ≢ 0 → Single n x
 unfolding commonDivisor
-single zero x h = λ j k lj lk. absurd (omega arith)
-single (suc n) x h = single-more n x (commonDivisor n x) (divided n x) (single n x) h
+single zero i x h = λ j k lj lk. absurd (omega arith)
+single (suc n) i x h = single-more n i x (commonDivisor n i x) (divided n i x) (single n i x) h
 
 -- past whole amounts the divisor stays
-past-whole : (d : ℕ) (x : Fraction) → GoodAmount x → x .q ≡ 1 → joined d x ≡ d
+past-whole : (d : ℕ) (i : Item) (x : Fraction) → OwnAmount i x → WholeAmount x → joined d i x ≡ d
 unfolding joined
-past-whole d x g e = rw (not-bad x g, eq-eqb (x .q) 1 e)
+past-whole d i x g w = rw (not-bad i x g, whole-test i x g w)
 
-to-part : (x : Fraction) → GoodAmount x → 1 < x .q → joined 1 x ≡ x .q
+to-part : (i : Item) (x : Fraction) → OwnAmount i x → ¬ WholeAmount x → joined 1 i x ≡ x .q
 unfolding joined
-to-part x g l = rw (not-bad x g, ne-eqb (x .q) 1 (λ e. omega arith))
+to-part i x g n = rw (not-bad i x g, part-test i x g n)
 
-all-whole : (n : ℕ) (x : ℕ → Fraction) → Each n (λ k. GoodAmount (x k)) → Each n (λ k. x k .q ≡ 1) → commonDivisor n x ≡ 1
+all-whole : (n : ℕ) (i : ℕ → Item) (x : ℕ → Fraction) → Each n (λ k. OwnAmount (i k) (x k)) → Each n (λ k. WholeAmount (x k)) → commonDivisor n i x ≡ 1
 unfolding commonDivisor
-all-whole zero x g w = refl
-all-whole (suc n) x g w = past-whole (commonDivisor n x) (x n) (g n (omega arith)) (w n (omega arith)) ∙
-    all-whole n x (λ k l. g k (omega arith)) (λ k l. w k (omega arith))
+all-whole zero i x g w = refl
+all-whole (suc n) i x g w = past-whole (commonDivisor n i x) (i n) (x n) (g n (omega arith)) (w n (omega arith)) ∙
+    all-whole n i x (λ k l. g k (omega arith)) (λ k l. w k (omega arith))
 
-divisor : (n : ℕ) (x : ℕ → Fraction) → GoodPoint n x → commonDivisor n x ≢ 0
+divisor : (n : ℕ) (i : ℕ → Item) (x : ℕ → Fraction) → GoodPoint n i x → commonDivisor n i x ≢ 0
 unfolding commonDivisor
-divisor zero x p e = omega arith
-divisor (suc n) x p e = go (ℕ-discrete (x n .q) 1) (divisor n x
+divisor zero i x p e = omega arith
+divisor (suc n) i x p e = go (isWhole (x n)) refl (divisor n i x
     (record { good = λ k l. p .good k (omega arith); single = λ j k lj lk. p .single j k (omega arith) (omega arith) }))
   where
-    g : GoodAmount (x n)
+    g : OwnAmount (i n) (x n)
     g = p .good n (omega arith)
 
-    -- before a divisor above 1 all are whole
-    whole-before : 1 < x n .q → Each n (λ k. x k .q ≡ 1)
-    whole-before l k m = one (ℕ-discrete (x k .q) 1)
+    -- before one that is not whole all are
+    whole-before : ¬ WholeAmount (x n) → Each n (λ k. WholeAmount (x k))
+    whole-before l k m = one (isWhole (x k)) refl
       where
-        one : Dec (x k .q ≡ 1) → x k .q ≡ 1
-        one (yes w) = w
-        one (no w) = absurd (let v : k ≡ n = p .single k n (omega arith) (omega arith) (omega (arith, p .good k (omega arith) .some)) l in omega arith)
+        own : OwnAmount (i k) (x k)
+        own = p .good k (omega arith)
 
-    go : Dec (x n .q ≡ 1) → commonDivisor n x ≢ 0 → ⊥
-    go (yes w) ih = ih (sym (past-whole (commonDivisor n x) (x n) g w) ∙ e)
-    go (no w) ih =
-        let l : 1 < x n .q = omega (arith, g .some) in
-        let o = all-whole n x (λ k m. p .good k (omega arith)) (whole-before l) in
-        let t : x n .q ≡ 0 = sym (to-part (x n) g l) ∙ sym (ap (λ d. joined d (x n)) o) ∙ e in
-        omega arith
+        one : (b : Bool) → isWhole (x k) ≡ b → WholeAmount (x k)
+        one true w = is-whole (i k) (x k) own w
+        one false w = absurd (let v : k ≡ n = p .single k n (omega arith) (omega arith) (not-whole (i k) (x k) own w) l in omega arith)
 
-pub divisor-iff : (n : ℕ) (x : ℕ → Fraction) → (commonDivisor n x ≢ 0) ↔ GoodPoint n x
-divisor-iff n x = (λ h. record { good = divided n x h .fine; single = single n x h }, divisor n x)
+    go : (b : Bool) → isWhole (x n) ≡ b → commonDivisor n i x ≢ 0 → ⊥
+    go true w ih = ih (sym (past-whole (commonDivisor n i x) (i n) (x n) g (is-whole (i n) (x n) g w)) ∙ e)
+    go false w ih =
+        let l = not-whole (i n) (x n) g w in
+        let o = all-whole n i x (λ k m. p .good k (omega arith)) (whole-before l) in
+        let t : x n .q ≡ 0 = sym (to-part (i n) (x n) g l) ∙ sym (ap (λ d. joined d (i n) (x n)) o) ∙ e in
+        omega (arith, own-parts (i n) (x n) g)
+
+pub divisor-iff : (n : ℕ) (i : ℕ → Item) (x : ℕ → Fraction) → (commonDivisor n i x ≢ 0) ↔ GoodPoint n i x
+divisor-iff n i x = (λ h. record { good = divided n i x h .fine; single = single n i x h }, divisor n i x)

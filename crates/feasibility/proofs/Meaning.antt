@@ -4,20 +4,18 @@
 use mathlib.Core.Path.{_≡_, refl, sym, ap, _∙_, subst}
 use mathlib.Core.Bool.{Bool, true, false, cond, not}
 use mathlib.Core.Logic.{_↔_, _⊎_, inl, inr}
-use Prim.Native.Nat.{ℕ, zero, suc, _-_, _*_, _/_, _≤_, _<_, max}
+use Prim.Native.Nat.{ℕ, zero, suc, _-_, _≤_, _<_}
 use native.Mathlib.Decide.{decLt}
-use native.Mathlib.Nat.{div-eq-of-eq-mul-left}
 use native.Mathlib.Omega.{arith}
 use lib.Dec.{eqb}
 use lib.IntN.{ℤ, pos, _*ℤ_}
 use lib.Signed.{ltZ, clashℤ}
 use borrow.Author.Tests.{eqb-true, eqb-false}
-use Rattle.arith.specs.Fractions.{Frac, frac, _·ᶠ_, _≤ᶠ_, _<ᶠ_, total}
-use Rattle.arith.specs.Gcd.{Divides, lowest}
+use Rattle.arith.specs.Fractions.{Frac, _·ᶠ_, _≤ᶠ_, _<ᶠ_, total}
+use Rattle.arith.specs.Gcd.{lowest}
 use Rattle.arith.specs.declared.Fraction.{Fraction}
-use Rattle.arith.proofs.Divisors.{lowest-den, lowest-value, lowest-coprime}
+use Rattle.arith.proofs.Divisors.{lowest-den, lowest-coprime}
 use Rattle.arith.proofs.Fractions.{Over, over-int, over-total, over-≤, over-<, over-≈}
-use Rattle.arith.proofs.Integers.{split, zed}
 use Rattle.arith.proofs.Parts.{impossible}
 use Rattle.arith.proofs.Words.{yes-lt, no-lt}
 use Rattle.knapsack.specs.declared.Refusal.{Refusal}
@@ -31,12 +29,13 @@ use Rattle.model.specs.declared.Model.{Model}
 use Rattle.model.specs.declared.Need.{Need}
 use Rattle.model.proofs.NeedLines.{needs-in, needs-from}
 use Rattle.model.proofs.Records.{accepted, admitted}
+use Rattle.model.proofs.Showing.{over-lowest, parted}
 use Rattle.feasibility.specs.declared.Candidate.{Candidate}
 use Rattle.feasibility.specs.declared.Figure.{Figure}
 use Rattle.feasibility.specs.declared.Figure.the-variants.{Weight, Price}
 use Rattle.feasibility.specs.declared.PointReply.{PointReply}
 use Rattle.feasibility.specs.declared.PointReply.the-variants as reply
-use Rattle.feasibility.specs.Amounts.{proposedAt, GoodPoint, commonDivisor, numerator}
+use Rattle.feasibility.specs.Amounts.{proposedAt, GoodAmount, GoodPoint, commonDivisor, numerator}
 use Rattle.feasibility.specs.Check.{
   breaks,
   earlierOf,
@@ -63,33 +62,20 @@ use Rattle.feasibility.specs.Check.{
   Told,
 }
 use Rattle.feasibility.proofs.Breaking.{Found, none, first, found, keeps-iff, none-yet, stays, lackAt, Lacking, all, broken, lacking, kept-iff}
-use Rattle.feasibility.proofs.Divisor.{Divided, divided, divisor-iff}
-
--- ---- amounts and values over the common divisor
-
-over-numerator : (d : ℕ) (x : Fraction) → 1 ≤ x .q → Divides (x .q) d → Over d (frac (x .p) (x .q)) (numerator d x)
-over-numerator d x l (m, e) =
-    let a : d / x .q ≡ m = div-eq-of-eq-mul-left l e in
-    let b : max 1 (x .q) ≡ x .q = omega arith in
-    record { eq = rw (a, b, e) (join (x .p) m (x .q)) }
-  where
-    join : (z : ℤ) (m q : ℕ) → z *ℤ pos (m * q) ≡ (z *ℤ pos m) *ℤ pos q
-    join = split _ (λ a b m q. simp zed (omega arith))
-
-over-lowest : (v : ℤ) (d : ℕ) → 1 ≤ d → Over d (frac (lowest v d .p) (lowest v d .q)) v
-over-lowest v d l =
-    let b : max 1 (lowest v d .q) ≡ lowest v d .q = omega (arith, lowest-den v d l) in
-    record { eq = rw b (lowest-value v d l) }
+use Rattle.feasibility.proofs.Divisor.{good-amount, Divided, divided, divisor-iff}
 
 -- ---- yes or no
 
-module _ (m : Model) (c : Candidate) (d : ℕ) (asked : Proposed m c) (s : Divided (m .count) (proposedAt c) d) where
+module _ (m : Model) (c : Candidate) (d : ℕ) (asked : Proposed m c) (s : Divided (m .count) (itemAt m) (proposedAt c) d) where
+  fine : (k : ℕ) → k < m .count → GoodAmount (proposedAt c k)
+  fine k l = good-amount (itemAt m k) (proposedAt c k) (asked .admissible .figures .items-in k l) (s .fine k l)
+
   total-over : (f : Figure) → Over d (total (m .count) (λ k. figureOf f (itemAt m k) ·ᶠ proposedPoint c k)) (totalOf f d (m .count) (plainOf m) c)
   total-over f = over-total d (m .count) (proposedPoint c) (λ k. numerator d (proposedAt c k))
-      (λ k l. over-numerator d (proposedAt c k) (s .fine k l .some) (s .divides k l)) (λ k. figureOf f (itemAt m k))
+      (λ k l. parted d (proposedAt c k) (fine k l .some) (s .parts k l) .over) (λ k. figureOf f (itemAt m k))
 
   kept : (k : ℕ) → k < m .count → (breaks (itemAt m k) (proposedAt c k) ≡ false) ↔ Keeps (itemAt m k) (proposedPoint c k)
-  kept k l = keeps-iff (itemAt m k) (proposedAt c k) (s .fine k l)
+  kept k l = keeps-iff (itemAt m k) (proposedAt c k) (s .fine k l) (fine k l)
 
   abbrev given : ℕ → Need
   given j = needAt (m .needs) j
@@ -99,7 +85,7 @@ module _ (m : Model) (c : Candidate) (d : ℕ) (asked : Proposed m c) (s : Divid
       let n = asked .admissible .needs j l .numbers in
       let i : given j .item - 1 < m .count = omega (arith, n .first-least, n .first-most) in
       let k : given j .cover - 1 < m .count = omega (arith, n .second-least, n .second-most) in
-      kept-iff (proposedAt c (given j .item - 1)) (proposedAt c (given j .cover - 1)) (s .fine _ i) (s .fine _ k)
+      kept-iff (proposedAt c (given j .item - 1)) (proposedAt c (given j .cover - 1)) (fine _ i) (fine _ k)
 
   -- line by line is need by need
   every : ((j : ℕ) → j < m .needs .count → KeepsNeed (placed (given j)) (proposedPoint c)) → KeepsNeeds (needsOf (m .needs)) (proposedPoint c)
@@ -167,22 +153,22 @@ amounts-told : (m : Model) (c : Candidate) → Admissible m → Told m c (amount
 unfolding amountCheck
 amounts-told m c r = go _ refl _ refl
   where
-    go : (b : Bool) → eqb (c .count) (m .count) ≡ b → (z : Bool) → eqb (commonDivisor (c .count) (proposedAt c)) 0 ≡ z →
-        Told m c (cond (not b) (refusePoint amounts) (cond z (refusePoint amount) (judged (commonDivisor (c .count) (proposedAt c)) (plainOf m) (m .needs) c)))
+    go : (b : Bool) → eqb (c .count) (m .count) ≡ b → (z : Bool) → eqb (commonDivisor (c .count) (itemAt m) (proposedAt c)) 0 ≡ z →
+        Told m c (cond (not b) (refusePoint amounts) (cond z (refusePoint amount) (judged (commonDivisor (c .count) (itemAt m) (proposedAt c)) (plainOf m) (m .needs) c)))
     go false e z f = by-count r (eqb-false (c .count) (m .count) e)
     go true e true f =
         let n = eqb-true (c .count) (m .count) e in
-        by-amounts r n (λ g. divisor-iff (c .count) (proposedAt c) .1 (rw n g) (eqb-true _ 0 f))
+        by-amounts r n (λ g. divisor-iff (c .count) (itemAt m) (proposedAt c) .1 (rw n g) (eqb-true _ 0 f))
     go true e false f =
         let n = eqb-true (c .count) (m .count) e in
-        let h = eqb-false (commonDivisor (c .count) (proposedAt c)) 0 f in
+        let h = eqb-false (commonDivisor (c .count) (itemAt m) (proposedAt c)) 0 f in
         judged-told m c _ (record {
           admissible = r;
           counted = n;
-          amounts = subst (λ n. GoodPoint n (proposedAt c)) n
-              (divisor-iff (c .count) (proposedAt c) .0 h);
-        }) (subst (λ n. Divided n (proposedAt c) (commonDivisor (c .count) (proposedAt c))) n (divided (c .count)
-        (proposedAt c) h))
+          amounts = subst (λ n. GoodPoint n (itemAt m) (proposedAt c)) n
+              (divisor-iff (c .count) (itemAt m) (proposedAt c) .0 h);
+        }) (subst (λ n. Divided n (itemAt m) (proposedAt c) (commonDivisor (c .count) (itemAt m) (proposedAt c))) n (divided (c .count)
+        (itemAt m) (proposedAt c) h))
 
 pub told : (m : Model) (c : Candidate) → Told m c (pointCheck m c)
 unfolding pointCheck

@@ -12,7 +12,7 @@ use Rattle.arith.specs.Sum.{Each}
 use Rattle.arith.specs.declared.Fraction.{Fraction}
 use Rattle.arith.proofs.Fractions.{total-cong, ≤ᶠ-trans, ≤ᶠ-antisym, ≈ᶠ-≤, ≈ᶠ-≥}
 use Rattle.arith.proofs.Lowest.{same-fraction}
-use Rattle.knapsack.specs.Meaning.{Instance, Point, Keeps, weights, value, Feasible, Shown, nought, amountAt, pointOf}
+use Rattle.knapsack.specs.Meaning.{Instance, Point, Keeps, weights, value, Feasible, WholeAmount, Shown, nought, amountAt, pointOf}
 use Rattle.knapsack.specs.declared.Answer.{Answer}
 use Rattle.knapsack.specs.declared.Kind.{Kind}
 use Rattle.knapsack.specs.declared.Kind.the-variants as kind
@@ -21,12 +21,12 @@ use Rattle.knapsack.specs.declared.Verdict.{Verdict}
 use Rattle.knapsack.specs.declared.Verdict.the-variants.{Accepted, Refused}
 use Rattle.model.specs.Needs.{KeepsNeeds, FeasibleNeeds, ShownOptimalNeeds, AnswersAsNeeds, Named}
 use Rattle.model.specs.Promises.{RepliesAs, Planned}
-use Rattle.model.specs.Records.{needAt, plainOf, needsOf, verdict}
+use Rattle.model.specs.Records.{needAt, needsOf, verdict}
 use Rattle.model.specs.declared.Need.{Need}
 use Rattle.model.specs.declared.Model.{Model}
 use Rattle.model.proofs.NeedLines.{needs-from}
 use Rattle.model.proofs.Records.{accepted}
-use Rattle.model.proofs.Showing.{default, shown-few}
+use Rattle.model.proofs.Showing.{default}
 use Rattle.feasibility.specs.declared.Candidate.{Candidate}
 use Rattle.feasibility.specs.declared.PointReply.the-variants as reply
 use Rattle.feasibility.specs.Amounts.{proposedAt}
@@ -59,19 +59,10 @@ module _ (m : Model) (a : Answer) (size : length (a .point) ≡ 16) (fair : verd
     admissible = accepted m fair;
     counted = refl;
     amounts = record {
-      good = λ k l. rw (← same k l)
-          (record {
-            some = shown .divisor k l;
-            few = shown-few (plainOf m) (amountAt a) (accepted m fair .figures) shown k l;
-            lowest = shown .lowest k l;
-            near = shown .small k l;
-          });
-      single = λ j k l n g h. shown .single j k l n (whole j l g) (whole k n h);
+      good = λ k l. rw (← same k l) (record { own = shown .divisor k l; near = shown .small k l });
+      single = λ j k l n g h. shown .single j k l n (λ w. g (subst WholeAmount (same j l) w)) (λ w. h (subst WholeAmount (same k n) w));
     };
   }
-    where
-      whole : (k : ℕ) → k < m .count → 1 < proposedAt (shownBy m a) k .q → amountAt a k .q ≡ 1 → ⊥
-      whole k l h e = omega (arith, sym (ap (λ (z : Fraction). z .q) (same k l)) ∙ e)
 
   abbrev agree : Each (m .count) (λ k. pointOf a k ≡ proposedPoint (shownBy m a) k)
   agree k l = ap (λ (z : Fraction). frac (z .p) (z .q)) (same k l)

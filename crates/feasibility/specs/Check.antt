@@ -1,5 +1,6 @@
--- The point check. Paper 01, "Point check" and rows 7 and 8 of "Refused, by place"; paper 02, request 7: needs after bounds and before weight.
---   breaks i x            whether the amount x breaks the item's mark or a bound: breaksMark, breaksBound
+-- The point check. Paper 01, "Point check" and rows 7 and 8 of "Refused, by place"; paper 02, request 7: needs after bounds and before weight;
+-- request 12: own divisors.
+--   breaks i x            whether the amount x breaks a bound of the item: breaksBound
 --   earlierOf m n         the number m, or n where m is 0
 --   numbered k i x        the number of the item at place k if it breaks, or 0
 --   firstBroken n p c     the first of the first n items, from 1, whose amount does; 0 where none does
@@ -35,8 +36,6 @@ use Rattle.arith.specs.declared.Fraction.{Fraction}
 use Rattle.knapsack.specs.declared.Bound.{Bound}
 use Rattle.knapsack.specs.declared.Bound.the-variants.{Absent, At}
 use Rattle.knapsack.specs.declared.Item.{Item}
-use Rattle.knapsack.specs.declared.Mark.{Mark}
-use Rattle.knapsack.specs.declared.Mark.the-variants.{Integer, Continuous}
 use Rattle.knapsack.specs.declared.Problem.{Problem}
 use Rattle.knapsack.specs.declared.Refusal.{Refusal}
 use Rattle.knapsack.specs.declared.Verdict.{Verdict}
@@ -59,21 +58,16 @@ use Rattle.feasibility.specs.Amounts.{proposedAt, GoodAmount, GoodPoint,
 
 -- ---- yes or no
 
--- in lowest terms p / q is whole exactly if q is 1
-abbrev pub breaksMark : Mark → ℕ → Bool
-breaksMark Integer q = ltb 1 q
-breaksMark Continuous q = false
-
 abbrev pub breaksBound : Side → Bound → ℤ → ℕ → Bool
 breaksBound side Absent p q = false
 breaksBound Lower (At l) p q = ltZ p (l *ℤ pos q)
 breaksBound Upper (At u) p q = ltZ (u *ℤ pos q) p
 
+-- an integer item's own divisor is 1, so its amounts keep their mark
 unfoldable pub breaks : Item → Fraction → Bool
 breaks i x =
-    cond (breaksMark (i .mark) (x .q)) true
-    (cond (breaksBound Lower (i .lower) (x .p) (x .q)) true
-    (breaksBound Upper (i .upper) (x .p) (x .q)))
+    cond (breaksBound Lower (i .lower) (x .p) (x .q)) true
+    (breaksBound Upper (i .upper) (x .p) (x .q))
 
 -- a number that is not 0 stays
 abbrev pub earlierOf : ℕ → ℕ → ℕ
@@ -132,8 +126,8 @@ refusePoint n = reply.Refused (refusalOf n)
 unfoldable pub amountCheck : Problem → Needs → Candidate → PointReply
 amountCheck p ns c =
     cond (not (eqb (c .count) (p .count))) (refusePoint refusal.amounts)
-    (cond (eqb (commonDivisor (c .count) (proposedAt c)) 0) (refusePoint refusal.amount)
-    (judged (commonDivisor (c .count) (proposedAt c)) p ns c))
+    (cond (eqb (commonDivisor (c .count) (itemAt p) (proposedAt c)) 0) (refusePoint refusal.amount)
+    (judged (commonDivisor (c .count) (itemAt p) (proposedAt c)) p ns c))
 
 abbrev pub afterRecord : Verdict → PointReply → PointReply
 afterRecord verdicts.Accepted r = r
@@ -169,13 +163,13 @@ proposedPoint c k = frac (proposedAt c k .p) (proposedAt c k .q)
 pub record Proposed (m : Model) (c : Candidate) : Type 0 where
   pub admissible : Admissible m
   pub counted : c .count ≡ m .count
-  pub amounts : GoodPoint (m .count) (proposedAt c)
+  pub amounts : GoodPoint (m .count) (asked m .item) (proposedAt c)
 
 -- 01's numbers of the refusals, in their order, with line 0
 pub data RefusedAs (m : Model) (c : Candidate) : Refusal → Type 0 where
   by-record : (f : Refusal) → verdict m ≡ verdicts.Refused f → RefusedAs m c f
   by-count : Admissible m → c .count ≢ m .count → RefusedAs m c (refusalOf refusal.amounts)
-  by-amounts : Admissible m → c .count ≡ m .count → ¬ GoodPoint (m .count) (proposedAt c) → RefusedAs m c (refusalOf refusal.amount)
+  by-amounts : Admissible m → c .count ≡ m .count → ¬ GoodPoint (m .count) (asked m .item) (proposedAt c) → RefusedAs m c (refusalOf refusal.amount)
 
 -- 01's yes: feasible, and v is the value in lowest terms
 pub record ToldValue (m : Model) (c : Candidate) (v : Fraction) : Type 0 where

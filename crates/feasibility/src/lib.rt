@@ -1,17 +1,17 @@
 // Point check: whether a proposed point is feasible, and what it is worth. Paper 01, "Parts that stand in public", rows 7 and 8 of "Refused, by place";
-// paper 02, request 7.
-// Once nothing is refused at most one amount has a divisor above 1; over that divisor every amount is an integer, and so are the sums of
+// paper 02, requests 7 and 12.
+// Once nothing is refused at most one amount is not a whole number; over its divisor every amount is an integer, and so are the sums of
 // weights and prices, below 2 · 10^17. What a reply says is `Told` in specs/Check, which the entry promises (proofs/Meaning).
 use arith::Fraction;
-use arith::gcd;
+use arith::floor_div;
 use arith::magnitude;
 use arith::reduce;
 use knapsack::Bound;
 use knapsack::Item;
-use knapsack::Mark;
 use knapsack::Problem;
 use knapsack::Refusal;
 use knapsack::Verdict;
+use knapsack::own_divisor;
 use model::Model;
 use model::Needs;
 use model::Side;
@@ -23,11 +23,10 @@ use model::refusals;
 ghost use mathlib.Core.Path.{_≡_};
 ghost use Prim.Native.Nat.{_*_, _≤_, _<_};
 ghost use lib.IntN.{pos, natAbs, _*ℤ_};
-ghost use Rattle.knapsack.specs.Ranges.{BoundInRange};
+ghost use Rattle.knapsack.specs.Ranges.{itemAt, BoundInRange};
 ghost use Rattle.model.specs.Records.{ItemFigures, FiguresInRange};
-ghost use Rattle.feasibility.specs.Amounts.{proposedAt, farther, badAmount, joined, commonDivisor, GoodAmount};
+ghost use Rattle.feasibility.specs.Amounts.{proposedAt, farther, badAmount, isWhole, joined, commonDivisor, numerator, GoodAmount};
 ghost use Rattle.feasibility.specs.Check.{
-  breaksMark,
   breaksBound,
   breaks,
   earlierOf,
@@ -72,7 +71,7 @@ enum Figure {
 
 // v · q.
 fn times(v: i64, q: u64) -> i64
-    requires { ⌜ (natAbs v * q ≤ 1000000000000) × (q ≤ 1000) ⌝ }
+    requires { ⌜ (natAbs v * q ≤ 1000000000000000) × (q ≤ 1000) ⌝ }
     ensures { λ r. ⌜ r ≡ v *ℤ pos q ⌝ }
 {
     let n = q as i64;
@@ -87,62 +86,62 @@ fn is_farther(p: i64, q: u64) -> bool
     beyond(p, times(1000000000, q))
 }
 
-// Refusal 8 of an amount by itself. The size is tried before the common divisor, so that |p| is known to fit.
-fn is_bad_amount(x: Fraction) -> bool
-    ensures { λ r. ⌜ r ≡ badAmount x ⌝ }
+// Refusal 8 of an amount by itself: its divisor is the item's own.
+fn is_bad_amount(i: Item, x: Fraction) -> bool
+    requires { ⌜ ItemFigures i ⌝ }
+    ensures { λ r. ⌜ r ≡ badAmount i x ⌝ }
 {
+    let m = i.mark;
+    let a = i.weight;
+    let d = own_divisor(m, a);
     let q = x.q;
-    if q == 0 {
-        return true;
+    if q == d {
+        let p = x.p;
+        return is_farther(p, q);
     }
-    if 1000 < q {
-        return true;
-    }
+    true
+}
+
+fn is_whole(x: Fraction) -> bool
+    requires { ⌜ GoodAmount x ⌝ }
+    ensures { λ r. ⌜ r ≡ isWhole x ⌝ }
+{
     let p = x.p;
-    if is_farther(p, q) {
-        return true;
-    }
-    let m = magnitude(p);
-    1 < gcd(m, q)
+    let q = x.q;
+    let n = magnitude(p);
+    n % q == 0
 }
 
 // The common divisor d of the amounts so far and of one more.
-fn join(d: u64, x: Fraction) -> u64
-    ensures { λ r. ⌜ r ≡ joined d x ⌝ }
+fn join(d: u64, i: Item, x: Fraction) -> u64
+    requires { ⌜ ItemFigures i ⌝ }
+    ensures { λ r. ⌜ r ≡ joined d i x ⌝ }
 {
-    if is_bad_amount(x) {
+    if is_bad_amount(i, x) {
         return 0;
     }
-    let q = x.q;
-    if q == 1 {
+    if is_whole(x) {
         return d;
     }
+    let q = x.q;
     if d == 1 { q } else { 0 }
 }
 
-// The one divisor above 1, or 1; 0 where refusal 8 is due.
-fn common_divisor(c: Candidate) -> u64
-    requires { ⌜ c .count ≤ 16 ⌝ }
-    ensures { λ r. ⌜ r ≡ commonDivisor (c .count) (proposedAt c) ⌝ }
+// The divisor of the one amount that is not whole, or 1; 0 where refusal 8 is due.
+fn common_divisor(p: Problem, c: Candidate) -> u64
+    requires { ⌜ FiguresInRange p × (c .count ≡ p .count) ⌝ }
+    ensures { λ r. ⌜ r ≡ commonDivisor (c .count) (itemAt p) (proposedAt c) ⌝ }
 {
     let n = c.count;
     let mut d: u64 = 1;
     let mut k: usize = 0;
     while k < n {
+        let i = p.items[k];
         let x = c.amounts[k];
-        d = join(d, x);
+        d = join(d, i, x);
         k += 1;
     }
     d
-}
-
-fn breaks_mark(m: Mark, q: u64) -> bool
-    ensures { λ r. ⌜ r ≡ breaksMark m q ⌝ }
-{
-    match m {
-        Mark::Integer => 1 < q,
-        Mark::Continuous => false,
-    }
 }
 
 // Whether p / q is past a bound on its side.
@@ -160,17 +159,13 @@ fn breaks_bound(s: Side, b: Bound, p: i64, q: u64) -> bool
     }
 }
 
-// Whether an amount breaks its item's mark or a bound.
+// Whether an amount breaks a bound of its item. Over their own divisor all amounts keep their mark.
 fn does_break(i: Item, x: Fraction) -> bool
     requires { ⌜ ItemFigures i × GoodAmount x ⌝ }
     ensures { λ r. ⌜ r ≡ breaks i x ⌝ }
 {
     let p = x.p;
     let q = x.q;
-    let m = i.mark;
-    if breaks_mark(m, q) {
-        return true;
-    }
     let l = i.lower;
     if breaks_bound(Side::Lower, l, p, q) {
         return true;
@@ -276,15 +271,24 @@ fn figure_of(f: Figure, i: Item) -> i64
     }
 }
 
+// An amount in d-th parts.
+fn parts(d: u64, x: Fraction) -> i64
+    requires { ⌜ (d ≤ 1000) × GoodAmount x ⌝ }
+    ensures { λ r. ⌜ r ≡ numerator d x ⌝ }
+{
+    let p = x.p;
+    let q = x.q;
+    let n = times(p, d);
+    floor_div(n, q as i64)
+}
+
 // An item's figure times its amount, over the divisor d: within 10^16.
 fn one_term(f: Figure, d: u64, i: Item, x: Fraction) -> i64
     requires { ⌜ (d ≤ 1000) × (ItemFigures i × GoodAmount x) ⌝ }
     ensures { λ r. ⌜ r ≡ term f d i x ⌝ }
 {
     let a = figure_of(f, i);
-    let p = x.p;
-    let q = x.q;
-    let n = times(p, d / q);
+    let n = parts(d, x);
     a * n
 }
 
@@ -337,7 +341,7 @@ fn check_amounts(p: Problem, needs: Needs, c: Candidate) -> PointReply
     if c.count != p.count {
         return refused(refusals::AMOUNTS);
     }
-    let d = common_divisor(c);
+    let d = common_divisor(p, c);
     if d == 0 {
         return refused(refusals::AMOUNT);
     }

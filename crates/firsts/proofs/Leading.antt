@@ -53,7 +53,7 @@ use Rattle.firsts.specs.Order.{pointIn, NoLater}
 use Rattle.firsts.specs.declared.Optimum.{Optimum}
 use Rattle.firsts.specs.declared.Lead.{Lead}
 use Rattle.firsts.specs.Leading.{Tying, endsAt, Shows, OptimalAt, IsLosing, LossOf, InsideBy, Sooner, Led, FirstBest, Cutting}
-use Rattle.firsts.proofs.Places.{some-marks, tied-order, place-sized, place-room, place-leads, place-feasible, place-parts}
+use Rattle.firsts.proofs.Places.{some-marks, tied-order, place-room, place-leads, place-feasible, place-parts}
 use Rattle.firsts.proofs.Shown.{no-later}
 use Rattle.firsts.proofs.Worth.{worth-room}
 use Rattle.firsts.proofs.Uncut.{last-led}
@@ -302,8 +302,7 @@ module _ (s : Setting) (c : Columns) (y : Tying s c) (l : Optimum) (g : IsLosing
                       worth = loses-worth (l .top) (l .q) (worth marks) (l .num) (l .den) (g .priced .q≥1) (g .den≥1) (parts c f) (parts c f′) (filling c f)
                           (filling c f′)
                           (h .just marks m) (more-new marks m);
-                      sooner = λ k. no-later c f f′ (place-sized s c y (h .place) (h .inside)) (place-sized s c y P inside) (b .point) (o .other) (h .shows)
-                          (o .shows) n;
+                      sooner = λ k. no-later s c y (h .place) P (h .inside) inside (h .room) room′ (b .point) (o .other) (h .shows) (o .shows) n;
                     }) (leads-new marks m))
                 go (inr (i, n)) = record {
                   place = P;
@@ -316,8 +315,7 @@ module _ (s : Setting) (c : Columns) (y : Tying s c) (l : Optimum) (g : IsLosing
                         worth = loses-worth (l .top) (l .q) (worth marks) (l .num) (l .den) (g .priced .q≥1) (g .den≥1) (parts c f′) (parts c f) (filling c f′)
                             (filling c f)
                             (just-new marks m) (more-old marks m);
-                        sooner = λ k. no-later c f′ f (place-sized s c y P inside) (place-sized s c y (h .place) (h .inside)) (o .other) (b .point)
-                            (o .shows) (h .shows) n;
+                        sooner = λ k. no-later s c y P (h .place) inside (h .inside) room′ (h .room) (o .other) (b .point) (o .shows) (h .shows) n;
                       }) (h .leads marks m u j fr))
                       (λ fr. leads-new marks m);
                   few = omega (arith, q .few, few-z, h .few);

@@ -1,4 +1,3 @@
-pub mod Terms
 pub mod Order
 pub mod Places
 pub mod Shown

@@ -1,76 +1,85 @@
 -- A filling as a list shows it.
--- shown-parts: its divisor.  shown-over: the amounts are the filling's.  shown-small: they can be compared.
+-- shown-parts: the divisor of its bound.  shown-small: the amounts can be compared.
+-- level-fixed: the whole items are fixed.  shown-over: so the amounts are the filling's.
 -- no-later: what comes no later in the list comes no later as a filling.
-use mathlib.Core.Path.{_≡_, sym, ap, _∙_}
+use mathlib.Core.Path.{_≡_, sym, ap, _∙_, subst}
+use mathlib.Core.Bool.{Bool, true}
 use mathlib.Core.List.{List}
 use mathlib.Core.Logic.{_⊎_, inl, inr}
-use Prim.Native.Nat.{ℕ, _*_, _≤_, _<_}
+use Prim.Native.Nat.{ℕ, _≤_, _<_}
 use native.Mathlib.Omega.{arith}
-use native.Mathlib.Nat.{div-le-self, mul-le-mul-left, le-of-mul-le-mul-right}
-use lib.IntN.{ℤ, pos, natAbs, _*ℤ_}
-use Rattle.arith.specs.Gcd.{gcdOf, lowest}
+use lib.IntN.{ℤ, pos}
+use lib.Signed.{_≤ℤ_}
 use Rattle.arith.specs.declared.Fraction.{Fraction}
-use Rattle.arith.proofs.Divisors.{lowest-den, lowest-value}
 use Rattle.arith.proofs.Fractions.{Over}
-use Rattle.arith.proofs.Integers.{natAbs-mul}
-use Rattle.arith.proofs.Parts.{abs-within, within-abs}
 use Rattle.greedy.specs.declared.Columns.{Columns}
 use Rattle.greedy.specs.declared.Ends.{Ends}
-use Rattle.greedy.specs.Amounts.{Countable, Amounts}
-use Rattle.greedy.specs.Fill.{fill}
+use Rattle.greedy.specs.Amounts.{wholeIn, divisorIn}
+use Rattle.greedy.specs.Fill.{at, fill}
 use Rattle.greedy.specs.Sized.{Sized}
 use Rattle.greedy.proofs.Bounds.{bound-proper}
-use Rattle.greedy.proofs.Numerators.{numerator-within}
+use Rattle.greedy.proofs.Numerators.{divisor-few, numerator-within}
+use Rattle.greedy.proofs.Owning.{divisor-some, fill-over}
 use Rattle.greedy.proofs.Sizes.{fill-sized}
+use Rattle.ceiling.specs.Frames.{Levelled}
 use Rattle.foremost.proofs.Earlier as order
 use Rattle.foremost.proofs.Filling.{parts, filling}
 use Rattle.foremost.proofs.Points.{bridge-earlier, bridge-agree}
-use Rattle.firsts.specs.Order.{pointIn, SmallFraction, Comparable, NoLater}
-use Rattle.firsts.proofs.Terms.{over-lowest}
-
--- ---- lowest terms
-
-lowest-few : (n : ℤ) (q : ℕ) → lowest n q .q ≤ q
-unfolding lowest
-lowest-few n q = div-le-self q (gcdOf (natAbs n) q)
-
-lowest-less : (n : ℤ) (q : ℕ) → 1 ≤ q → natAbs (lowest n q .p) ≤ natAbs n
-lowest-less n q h = le-of-mul-le-mul-right {k = q} (omega (arith, products, mul-le-mul-left (natAbs n) (lowest-few n q))) h
-  where
-    products : natAbs (lowest n q .p) * q ≡ natAbs n * lowest n q .q
-    products = sym (natAbs-mul (lowest n q .p) (pos q)) ∙ ap natAbs (lowest-value n q h) ∙ natAbs-mul n (pos (lowest n q .q))
+use Rattle.setting.specs.declared.Setting.{Setting}
+use Rattle.setting.specs.Box.{Inside, Long}
+use Rattle.setting.specs.Ready.{ReadySetting}
+use Rattle.setting.proofs.Boxes.{fixed-level}
+use Rattle.firsts.specs.Leading.{Tying, endsAt, OwnAmounts, Shows}
+use Rattle.firsts.specs.Order.{pointIn, Comparable, NoLater}
+use Rattle.firsts.proofs.Places.{place-sized}
 
 -- ---- a filling
 
 module _ (c : Columns) (e : Ends) (z : Sized c e) where
-  countable : (k : ℕ) → k < 16 → Countable c e (fill c e) (parts c e) k
-  countable k l = let b = bound-proper c (fill c e) (fill-sized c e z) in
-      record { sized = z; filled = fill-sized c e z; divisor = omega (arith, b .low); few = b .few; item-in = l }
-
   pub shown-parts : (1 ≤ parts c e) × (parts c e ≤ 1000)
   shown-parts = let b = bound-proper c (fill c e) (fill-sized c e z) in (omega (arith, b .low), b .few)
 
-  module _ (l : List Fraction) (h : Amounts c e (fill c e) (parts c e) l) where
-    pub shown-over : (k : ℕ) → k < c .count → Over (parts c e) (pointIn l k) (filling c e k)
-    shown-over k m = rw (h .counted k m) (over-lowest (filling c e k) (parts c e) (shown-parts .0))
+  pub shown-small : (s : Setting) (l : List Fraction) → OwnAmounts s c e (fill c e) l → Comparable (c .count) l
+  shown-small s l h k m = let few = divisor-few c (h .whole) k (z .columns) in rw (h .amounts .counted k m) (record {
+    small = numerator-within c e (fill c e) (divisorIn c (h .whole) k) k
+        (record { sized = z; filled = fill-sized c e z; few = few; item-in = omega (arith, z .columns .few) });
+    some = divisor-some c (h .whole) k;
+    few = few;
+  })
 
-    pub shown-small : Comparable (c .count) l
-    shown-small k m = rw (h .counted k m) (record {
-      small = abs-within (lowest (filling c e k) (parts c e) .p) (omega (
-        arith,
-        lowest-less (filling c e k) (parts c e) (shown-parts .0),
-        within-abs (filling c e k) (numerator-within c e (fill c e) (parts c e) k (countable k (omega (arith, z .columns .few)))),
-      ));
-      some = lowest-den (filling c e k) (parts c e) (shown-parts .0);
-      few = omega (arith, lowest-few (filling c e k) (parts c e), shown-parts .1);
-    })
+-- ---- at a place
 
--- ---- two fillings of the same columns
+pub level-fixed : (s : Setting) → ReadySetting s → Long (s .ends) → (P : ℕ → ℤ) (w : List Bool) → Levelled (s .level) (s .levels) w → (k : ℕ)
+    → wholeIn w k ≡ true → at (endsAt s P .lo) k ≡ at (endsAt s P .hi) k
+level-fixed s r long P w lw k q =
+    let d = lw .level k q in
+    let h = fixed-level s r long P (s .levels) (d .0) (omega arith) (d .1) in
+    subst (λ j. at (endsAt s P .lo) j ≡ at (endsAt s P .hi) j) (d .2) (h .0 ∙ sym (h .1))
 
-module _ (c : Columns) (e f : Ends) (ze : Sized c e) (zf : Sized c f) (x y : List Fraction) (hx : Amounts c e (fill c e) (parts c e) x)
-    (hy : Amounts c f (fill c f) (parts c f) y) where
-  pub no-later : NoLater (c .count) (pointIn x) (pointIn y) → order.NoLater (c .count) (parts c e) (filling c e) (parts c f) (filling c f)
-  no-later (inl h) = inl (bridge-agree (c .count) (parts c e) (parts c f) (pointIn x) (pointIn y) (filling c e) (filling c f) (shown-parts c e ze .0)
-      (shown-parts c f zf .0) (shown-over c e ze x hx) (shown-over c f zf y hy) h)
-  no-later (inr h) = inr (bridge-earlier (c .count) (parts c e) (parts c f) (pointIn x) (pointIn y) (filling c e) (filling c f) (shown-parts c e ze .0)
-      (shown-parts c f zf .0) (shown-over c e ze x hx) (shown-over c f zf y hy) h)
+-- a place that fits, and its list
+module _ (s : Setting) (c : Columns) (y : Tying s c) (P : ℕ → ℤ) (inside : Inside s P) where
+  abbrev f : Ends
+  f = endsAt s P
+
+  some : 1 ≤ parts c f
+  some = shown-parts c f (place-sized s c y P inside) .0
+
+  pub shown-over : pos 0 ≤ℤ fill c f .room → (l : List Fraction) → Shows s c P l → (k : ℕ) → k < c .count → Over (parts c f) (pointIn l k) (filling c f k)
+  shown-over room l h k m = rw (h .amounts .counted k m) (fill-over c f (h .whole) (y .tied .tied .item-rank) (y .tied .tied .sizes) some
+      (λ j i. level-fixed s (y .ready) (y .long) P (h .whole) (h .levelled) j) room k m)
+
+-- ---- two places
+
+module _ (s : Setting) (c : Columns) (y : Tying s c) (P Q : ℕ → ℤ) (in-p : Inside s P) (in-q : Inside s Q)
+    (room-p : pos 0 ≤ℤ fill c (endsAt s P) .room) (room-q : pos 0 ≤ℤ fill c (endsAt s Q) .room) (l m : List Fraction) (hl : Shows s c P l) (hm : Shows s c Q m) where
+  abbrev e : Ends
+  e = endsAt s P
+
+  abbrev g : Ends
+  g = endsAt s Q
+
+  pub no-later : NoLater (c .count) (pointIn l) (pointIn m) → order.NoLater (c .count) (parts c e) (filling c e) (parts c g) (filling c g)
+  no-later (inl h) = inl (bridge-agree (c .count) (parts c e) (parts c g) (pointIn l) (pointIn m) (filling c e) (filling c g) (some s c y P in-p)
+      (some s c y Q in-q) (shown-over s c y P in-p room-p l hl) (shown-over s c y Q in-q room-q m hm) h)
+  no-later (inr h) = inr (bridge-earlier (c .count) (parts c e) (parts c g) (pointIn l) (pointIn m) (filling c e) (filling c g) (some s c y P in-p)
+      (some s c y Q in-q) (shown-over s c y P in-p room-p l hl) (shown-over s c y Q in-q room-q m hm) h)

@@ -1,6 +1,7 @@
 -- How the first of the optimal points is found.
 --   Tying s c           a setting in order, and its columns in the order of filling of Tied
 --   endsAt s P          the box with all levels fixed at P
+--   OwnAmounts s c e f l   l has the amounts of the filling f, each over its item's own divisor: the whole items are those of the levels
 --   Shows s c P l       l is the point of the filling at P
 --   Fills s c P r       r has it, and what it is worth
 --   OptimalAt s P       some optimal point has the integer amounts P
@@ -37,6 +38,7 @@ use Rattle.knapsack.specs.declared.Mark.{Mark}
 use Rattle.knapsack.proofs.Common.{valueᴰ, Feasibleᴰ, Optimalᴰ}
 use Rattle.greedy.specs.declared.Columns.{Columns}
 use Rattle.greedy.specs.declared.Ends.{Ends}
+use Rattle.greedy.specs.declared.Fill.{Fill}
 use Rattle.greedy.specs.Amounts.{Amounts}
 use Rattle.greedy.specs.Fill.{at, fill, bound}
 use Rattle.greedy.proofs.Relaxed.{boxOf}
@@ -71,8 +73,13 @@ endsAt s P = fixedBy s P (s .levels)
 
 -- ---- fillings
 
+pub record OwnAmounts (s : Setting) (c : Columns) (e : Ends) (f : Fill) (l : List Fraction) : Type 0 where
+  pub whole : List Bool
+  pub levelled : Levelled (s .level) (s .levels) whole
+  pub amounts : Amounts c e f whole l
+
 abbrev pub Shows : Setting → Columns → (ℕ → ℤ) → List Fraction → Type 0
-Shows s c P l = Amounts c (endsAt s P) (fill c (endsAt s P)) (parts c (endsAt s P)) l
+Shows s c P l = OwnAmounts s c (endsAt s P) (fill c (endsAt s P)) l
 
 pub record Fills (s : Setting) (c : Columns) (P : ℕ → ℤ) (r : Filled) : Type 0 where
   pub shows : Shows s c P (r .point)

@@ -1,4 +1,4 @@
--- The order of points as the code has them: lists of fractions in lowest terms.
+-- The order of points as the code has them: lists of fractions.
 --   amountIn l k        the amount at place k;  pointIn l: the point of a list
 --   SmallFraction x     a fraction whose products do not overflow
 --   Comparable n l      the first n amounts are such

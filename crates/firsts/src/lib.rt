@@ -11,8 +11,10 @@ use ceiling::scale_of;
 use ceiling::top_of;
 use ceiling::wholes;
 use foremost::tied;
+use greedy::Amounted;
 use greedy::Columns;
 use greedy::Ends;
+use greedy::Fill;
 use greedy::amounts;
 use greedy::bound_of;
 use greedy::fill_up;
@@ -29,13 +31,13 @@ ghost use Rattle.arith.specs.Mixed.{Proper};
 ghost use Rattle.arith.specs.Within.{Within};
 ghost use Rattle.arith.proofs.Mixes.{over};
 ghost use Rattle.greedy.specs.Fill.{at};
-ghost use Rattle.greedy.specs.Sized.{SizedEnds};
+ghost use Rattle.greedy.specs.Sized.{SizedEnds, Sized, SizedFill};
 ghost use Rattle.ceiling.specs.Frames.{Usable, Levelled};
 ghost use Rattle.ceiling.specs.Sizes.{Spanned};
 ghost use Rattle.setting.specs.Box.{Inside};
 ghost use Rattle.setting.specs.Ready.{ReadySetting};
 ghost use Rattle.firsts.specs.Order.{Comparable, Compares, SmallFraction};
-ghost use Rattle.firsts.specs.Leading.{Tying, OptimalAt, Fills, IsWorth, Fair, IsLosing, LossOf, Led, Sooner, InsideBy, FirstBest};
+ghost use Rattle.firsts.specs.Leading.{Tying, OptimalAt, OwnAmounts, Fills, IsWorth, Fair, IsLosing, LossOf, Led, Sooner, InsideBy, FirstBest};
 ghost use Rattle.settling.specs.Settling.{FirstPlace};
 ghost use Rattle.firsts.specs.Leading.{CutsSome, TryWrites, ConsiderWrites, FramesWrite};
 ghost use Rattle.firsts.specs.Leading.{Still, Held, TellsStill, Known, PointWrites};
@@ -97,6 +99,16 @@ fn comes_before(x: [Fraction; 16], y: [Fraction; 16], n: usize) -> bool
 
 // ---- fillings
 
+// The amounts of a filling over the items' own divisors: the whole items are those of the levels.
+pub fn amounts_of(s: Setting, c: Columns, e: Ends, f: Fill) -> Amounted
+    requires { ⌜ ReadySetting s × (Sized c e × SizedFill c f) ⌝ }
+    ensures { λ r. ⌜ OwnAmounts s c e f (r .point) ⌝ }
+{
+    let level = s.level;
+    let whole = wholes(level, s.levels);
+    amounts(c, e, f, whole)
+}
+
 // The filling at the place x, in the order of filling of c.
 fn filling_at(s: Setting, c: Columns, x: [i64; 16]) -> Filled
     requires { ⌜ Tying s c × Inside s (at x) ⌝ }
@@ -105,7 +117,7 @@ fn filling_at(s: Setting, c: Columns, x: [i64; 16]) -> Filled
     let e = fixed(s, x, s.levels);
     let f = fill_up(c, e);
     let v = bound_of(c, f);
-    let y = amounts(c, e, f, v.parts);
+    let y = amounts_of(s, c, e, f);
     let point = y.point;
     Filled {
         point: point,

@@ -1,6 +1,7 @@
 -- A list of amounts that is counted from the front.
 --   Counted F k l   the first k amounts are F's, the rest are zero
 -- counted-first, counted-step, counted-done: at the first turn of a loop, after a turn, and after the last.
+use mathlib.Core.Bool.{Bool}
 use mathlib.Core.List.{List}
 use mathlib.Core.Path.{_≡_, refl, _∙_}
 use Prim.Native.Nat.{ℕ, zero, suc, _+_, _≤_, _<_}
@@ -13,7 +14,7 @@ use Rattle.knapsack.specs.Meaning.{nought}
 use Rattle.greedy.specs.declared.Columns.{Columns}
 use Rattle.greedy.specs.declared.Ends.{Ends}
 use Rattle.greedy.specs.declared.Fill.{Fill}
-use Rattle.greedy.specs.Amounts.{amountOf, Amounts}
+use Rattle.greedy.specs.Amounts.{divisorIn, amountOf, Amounts}
 
 pub record Counted (F : ℕ → Fraction) (k : ℕ) (l : List Fraction) : Type 0 where
   pub long : length l ≡ 16
@@ -40,5 +41,6 @@ module _ (F : ℕ → Fraction) where
       at-j j m (yes e) = rw e (getD-set-same l k (F k) nought (omega (arith, c .long)))
       at-j j m (no d) = getD-set-other l k j (F k) nought d ∙ c .counted j (omega (arith, d))
 
-pub counted-done : (c : Columns) (e : Ends) (f : Fill) (q k : ℕ) (l : List Fraction) → k ≡ c .count → Counted (amountOf c e f q) k l → Amounts c e f q l
-counted-done c e f q k l h g = record { counted = λ j m. g .counted j (omega arith); beyond = λ j m. g .beyond j (omega arith) }
+pub counted-done : (c : Columns) (e : Ends) (f : Fill) (w : List Bool) (k : ℕ) (l : List Fraction) → k ≡ c .count
+    → Counted (λ j. amountOf c e f (divisorIn c w j) j) k l → Amounts c e f w l
+counted-done c e f w k l h g = record { counted = λ j m. g .counted j (omega arith); beyond = λ j m. g .beyond j (omega arith) }

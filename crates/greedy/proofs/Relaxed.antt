@@ -40,6 +40,7 @@ use Rattle.greedy.specs.Ordered.{Idle, weightAt, Ordered}
 use Rattle.greedy.proofs.Greedy.{Boxed, LightAt, HeavyAt, Ranked, Inv, Critical, too-heavy, begin, raise, finish, inv-feasible, standing, critical}
 use Rattle.greedy.proofs.Greedy.{not-idle, abs≥1, times-sign-abs, light-in, unit-abs, price-abs}
 use Rattle.greedy.proofs.Critical.{own-score}
+use Rattle.greedy.proofs.Owning.{fill-begun, fill-on}
 use Rattle.greedy.proofs.Sides.{is-lightest, is-heaviest, lift-price}
 
 abbrev pub boxOf : Columns → Ends → (ℕ → Mark) → Instance
@@ -205,26 +206,18 @@ module _ (c : Columns) (e : Ends) (marks : ℕ → Mark) (o : Ordered c) (b : In
   nonneg? : (r : ℤ) → (pos 0 ≤ℤ r) ⊎ (r <ℤ pos 0)
   nonneg? r = ≤ℤ-or-< (pos 0) r
 
-  fill-begun : begun c e .room <ℤ pos 0 → fill c e ≡ begun c e
-  unfolding fill
-  fill-begun h = rw (lt-yes h)
-
-  fill-on : pos 0 ≤ℤ begun c e .room → fill c e ≡ fillFrom c e (c .live) (begun c e)
-  unfolding fill
-  fill-on h = rw (le-no h)
-
   pub fill-stopped : pos 0 ≤ℤ fill c e .room → Stopped (fill c e)
   fill-stopped h = go (nonneg? (begun c e .room))
     where
       go : (pos 0 ≤ℤ begun c e .room) ⊎ (begun c e .room <ℤ pos 0) → Stopped (fill c e)
-      go (inl k) = rw (fill-on k) (stops (c .live) (begun c e) (omega arith) (begin-good k))
-      go (inr k) = clashℤ k (subst (λ (f : Fill). pos 0 ≤ℤ f .room) (fill-begun k) h)
+      go (inl k) = rw (fill-on c e k) (stops (c .live) (begun c e) (omega arith) (begin-good k))
+      go (inr k) = clashℤ k (subst (λ (f : Fill). pos 0 ≤ℤ f .room) (fill-begun c e k) h)
 
   pub fill-empty : fill c e .room <ℤ pos 0 → (D : ℕ) (N : ℕ → ℤ) → 1 ≤ D → ¬ Feasibleᴰ s D N
   fill-empty h = go (nonneg? (begun c e .room))
     where
       go : (pos 0 ≤ℤ begun c e .room) ⊎ (begun c e .room <ℤ pos 0) → (D : ℕ) (N : ℕ → ℤ) → 1 ≤ D → ¬ Feasibleᴰ s D N
-      go (inl k) = clashℤ h (rw (fill-on k) (stops (c .live) (begun c e) (omega arith) (begin-good k) .good .inv .room))
+      go (inl k) = clashℤ h (rw (fill-on c e k) (stops (c .live) (begun c e) (omega arith) (begin-good k) .good .inv .room))
       go (inr k) = empty s 1 (stand c e 0) (too-heavy s lo hi boxed (stand c e 0) (begun c e .room) (λ j l. at-light 0 j (omega arith)) begun-level k)
 
   -- ---- the solution

@@ -1,17 +1,19 @@
-// The amounts of a filling, item by item, in lowest terms. Paper 01: the point of an answer.
+// The amounts of a filling, item by item, each over its item's own divisor. Paper 01: the point of an answer; paper 02, request 12.
 use super::Columns;
 use super::Ends;
 use super::Fill;
 use super::heavy_end;
 use super::light_end;
 use arith::Fraction;
-use arith::reduce;
+use knapsack::weight_divisor;
 ghost use mathlib.Core.Path.{_≡_};
 ghost use mathlib.Core.Bool.{cond};
+ghost use Prim.Native.Nat.{_<_};
 ghost use Rattle.arith.specs.Limits.{mostRoom};
 ghost use Rattle.arith.specs.Within.{Within};
 ghost use Rattle.greedy.specs.Fill.{lightest, heaviest, takenBy, numerator};
-ghost use Rattle.greedy.specs.Amounts.{amountOf, Countable, Amounts};
+ghost use Rattle.greedy.specs.Sized.{Sized, SizedColumns, SizedFill};
+ghost use Rattle.greedy.specs.Amounts.{divisorIn, amountOf, Countable, Amounts};
 
 // A point, item by item.
 pub struct Amounted {
@@ -61,19 +63,32 @@ fn numerator_of(cols: Columns, ends: Ends, f: Fill, q: u64, k: usize) -> i64
     x * (q as i64) + t
 }
 
-// Item k's amount in lowest terms.
+// Item k's amount over q.
 fn amount(cols: Columns, ends: Ends, f: Fill, q: u64, k: usize) -> Fraction
     requires { ⌜ Countable cols ends f q k ⌝ }
     ensures { λ r. ⌜ r ≡ amountOf cols ends f q k ⌝ }
 {
     let n = numerator_of(cols, ends, f, q, k);
-    reduce(n, q)
+    Fraction { p: n, q: q }
 }
 
-// All amounts; zero beyond the count.
-pub fn amounts(cols: Columns, ends: Ends, f: Fill, q: u64) -> Amounted
-    requires { ⌜ Countable cols ends f q 0 ⌝ }
-    ensures { λ r. ⌜ Amounts cols ends f q (r .point) ⌝ }
+// The divisor of item k's amounts: its weight without sign, unless it is whole.
+fn divisor_at(cols: Columns, whole: [bool; 16], k: usize) -> u64
+    requires { ⌜ SizedColumns cols × (k < 16) ⌝ }
+    ensures { λ r. ⌜ r ≡ divisorIn cols whole k ⌝ }
+{
+    let w = whole[k];
+    let a = cols.weight[k];
+    if w {
+        return 1;
+    }
+    weight_divisor(a)
+}
+
+// All amounts; zero beyond the count. whole tells which items have whole amounts.
+pub fn amounts(cols: Columns, ends: Ends, f: Fill, whole: [bool; 16]) -> Amounted
+    requires { ⌜ Sized cols ends × SizedFill cols f ⌝ }
+    ensures { λ r. ⌜ Amounts cols ends f whole (r .point) ⌝ }
 {
     let n = cols.count;
     let mut r = Amounted {
@@ -81,6 +96,7 @@ pub fn amounts(cols: Columns, ends: Ends, f: Fill, q: u64) -> Amounted
     };
     let mut k: usize = 0;
     while k < n {
+        let q = divisor_at(cols, whole, k);
         let x = amount(cols, ends, f, q, k);
         r.point[k] = x;
         k += 1;

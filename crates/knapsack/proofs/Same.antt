@@ -5,14 +5,13 @@
 use mathlib.Core.Path.{_≡_, sym, ap, _∙_, subst, subst₂}
 use Prim.Native.Nat.{ℕ, suc, _<_}
 use native.Mathlib.Omega.{arith}
-use lib.IntN.{ℤ, natAbs}
+use lib.IntN.{ℤ}
 use Rattle.arith.proofs.Fractions.{total-cong}
 use Rattle.arith.specs.Fractions.{int, _·ᶠ_, _≤ᶠ_, _<ᶠ_, total}
-use Rattle.arith.specs.Gcd.{Divides}
 use Rattle.arith.specs.Sum.{Each}
 use Rattle.arith.specs.declared.Fraction.{Fraction}
 use Rattle.knapsack.specs.declared.Item.{Item}
-use Rattle.knapsack.specs.Meaning.{Instance, Point, Keeps, value, Feasible, Unbounded, stepped, Shown}
+use Rattle.knapsack.specs.Meaning.{Instance, Point, Keeps, value, Feasible, Unbounded, stepped, ownDivisor, Shown}
 
 pub record Same (s t : Instance) : Type 0 where
   pub capacity : s .capacity ≡ t .capacity
@@ -54,14 +53,11 @@ module _ (s t : Instance) (e : Same s t) where
     rises = λ n. subst₂ _<ᶠ_ (same-value (stepped x d n)) (same-value (stepped x d (suc n))) (u .rises n);
   }
 
-  -- what is shown depends on the count and the weights alone
+  -- what is shown depends on the count, the marks and the weights alone
   pub same-shown : (x : ℕ → Fraction) → Shown s x → Shown t x
   same-shown x h = record {
+    divisor = λ k l. h .divisor k (in-s k l) ∙ ap ownDivisor (e .items k (in-s k l));
     small = λ k l. h .small k (in-s k l);
-    divisor = λ k l. h .divisor k (in-s k l);
-    lowest = λ k l. h .lowest k (in-s k l);
     single = λ j k l n. h .single j k (in-s j l) (in-s k n);
-    divides = λ k l n. subst (λ (i : Item). Divides (x k .q) (natAbs (i .weight))) (e .items k (in-s k l)) (h .divides k (in-s k l) n);
-    weightless = λ k l w. h .weightless k (in-s k l) (ap (λ (i : Item). i .weight) (e .items k (in-s k l)) ∙ w);
     beyond = λ k l. h .beyond k (omega (arith, e .count));
   }

@@ -14,6 +14,9 @@
 --   Unbounded s x d   steps d on one or two items that keep x feasible and raise its value every time (01: whole steps)
 --   relaxed s         every item continuous
 --   nought            zero as an answer shows it
+--   weightDivisor a   a weight without its sign, 1 where it is 0
+--   divisorBy, ownDivisor   the divisor of an item's amounts, by its mark and weight, and of an item (02, request 12)
+--   WholeAmount x     the amount is a whole number
 --   Shown, ShownSteps the limits on the amounts and steps of an answer
 --   amountAt, pointOf, stepsOf   the amounts of an answer, its point, its steps
 --   ShownOptimal, ShownUnbounded, bare   an answer with a best point, with a ray, with no point
@@ -23,12 +26,12 @@
 --   CostPair, LeastPair, NoPair, EqualPair   steps on two integer items that a search may take away (01: least pair, none, equal-value pair)
 use mathlib.Core.Path.{_≡_}
 use mathlib.Core.Logic.{_≢_}
-use Prim.Native.Nat.{ℕ, suc, _*_, _≤_, _<_}
+use Prim.Native.Nat.{ℕ, suc, _*_, _≤_, _<_, max}
 use lib.IntN.{ℤ, pos, natAbs, _+ℤ_, _-ℤ_, _*ℤ_}
 use lib.ListN.{getD, replicate}
 use lib.Signed.{_≤ℤ_, _<ℤ_}
 use Rattle.arith.specs.Fractions.{Frac, int, frac, _+ᶠ_, _·ᶠ_, _≤ᶠ_, _<ᶠ_, _≈ᶠ_, total}
-use Rattle.arith.specs.Gcd.{Divides, gcdOf}
+use Rattle.arith.specs.Gcd.{gcdOf}
 use Rattle.arith.specs.declared.Fraction.{Fraction}
 use Rattle.knapsack.specs.declared.Bound.{Bound}
 use Rattle.knapsack.specs.declared.Bound.the-variants.{Absent, At}
@@ -140,14 +143,25 @@ relaxed s = record {
 abbrev pub nought : Fraction
 nought = record { p = pos 0; q = 1 }
 
--- within ±1,000,000,000, in lowest terms, at most one not whole, and its divisor divides its item's weight, which is not 0; zero beyond the items
+abbrev pub weightDivisor : ℤ → ℕ
+weightDivisor a = max 1 (natAbs a)
+
+-- a continuous item's amounts are shown over its weight
+abbrev pub divisorBy : Mark → ℤ → ℕ
+divisorBy Integer a = 1
+divisorBy Continuous a = weightDivisor a
+
+abbrev pub ownDivisor : Item → ℕ
+ownDivisor i = divisorBy (i .mark) (i .weight)
+
+abbrev pub WholeAmount : Fraction → Type 0
+WholeAmount x = (n : ℤ) × (x .p ≡ n *ℤ pos (x .q))
+
+-- over the item's own divisor, within ±1,000,000,000, and at most one not whole; zero beyond the items
 pub record Shown (s : Instance) (x : ℕ → Fraction) : Type 0 where
+  pub divisor : (k : ℕ) → k < s .count → x k .q ≡ ownDivisor (s .item k)
   pub small : (k : ℕ) → k < s .count → natAbs (x k .p) ≤ 1000000000 * x k .q
-  pub divisor : (k : ℕ) → k < s .count → 1 ≤ x k .q
-  pub lowest : (k : ℕ) → k < s .count → gcdOf (natAbs (x k .p)) (x k .q) ≡ 1
-  pub single : (j k : ℕ) → j < s .count → k < s .count → x j .q ≢ 1 → x k .q ≢ 1 → j ≡ k
-  pub divides : (k : ℕ) → k < s .count → x k .q ≢ 1 → Divides (x k .q) (natAbs (weights s k))
-  pub weightless : (k : ℕ) → k < s .count → weights s k ≡ pos 0 → x k .q ≡ 1
+  pub single : (j k : ℕ) → j < s .count → k < s .count → ¬ WholeAmount (x j) → ¬ WholeAmount (x k) → j ≡ k
   pub beyond : (k : ℕ) → s .count ≤ k → x k ≡ nought
 
 abbrev pub ShownSteps : Instance → (ℕ → ℤ) → Type 0

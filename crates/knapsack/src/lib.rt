@@ -1,9 +1,12 @@
 // The mixed integer knapsack problem of paper 01 as the solver knows it: its types, and what its answers mean (specs/).
 // The theorems about the meaning that every crate above cites are in proofs/. What is handed over is crate model's.
 use arith::Fraction;
+use arith::magnitude;
 ghost use mathlib.Core.Path.{_≡_};
 ghost use Prim.Native.Nat.{_<_};
+ghost use Rattle.arith.specs.Within.{Within};
 ghost use Rattle.knapsack.specs.Items.{isAbsent, isOpen, withItem};
+ghost use Rattle.knapsack.specs.Meaning.{weightDivisor, divisorBy};
 ghost use Rattle.knapsack.specs.Ranges.{blank};
 
 // A bound of an item (01: an item that is not listed has no such bound).
@@ -105,4 +108,26 @@ pub fn with_item(p: Problem, j: usize, x: Item) -> Problem
     let mut q = p;
     q.items[j] = x;
     q
+}
+
+// ---- what amounts are shown over: paper 02, "Loose amounts over the item's own weight"
+
+// A weight without its sign; 1 where it is 0.
+pub fn weight_divisor(a: i64) -> u64
+    requires { ⌜ Within 1000 a ⌝ }
+    ensures { λ r. ⌜ r ≡ weightDivisor a ⌝ }
+{
+    let m = magnitude(a);
+    if m == 0 { 1 } else { m }
+}
+
+// The divisor of an item's amounts: that of its weight where it is continuous.
+pub fn own_divisor(m: Mark, a: i64) -> u64
+    requires { ⌜ Within 1000 a ⌝ }
+    ensures { λ r. ⌜ r ≡ divisorBy m a ⌝ }
+{
+    match m {
+        Mark::Integer => 1,
+        Mark::Continuous => weight_divisor(a),
+    }
 }

@@ -1,14 +1,14 @@
 -- Every reply fits the room.
---   Parted           a divisor that the amounts of an answer have in common, at most 1,000
+--   Common           a divisor over which all amounts of an answer are whole numbers of parts, at most 1,000
 -- room-enough (end theorem): the text of a true answer to an accepted record is no longer than `room`.
 -- value-small: numerator and divisor of a value that is shown. item-short, lines-short, best-short: the lengths of lines.
 use mathlib.Core.Path.{_≡_, refl, sym, ap, _∙_, subst}
 use mathlib.Core.Bool.{Bool, true, false}
 use mathlib.Core.List.{List}
 use mathlib.Core.Logic.{_⊎_, _≢_, inl, inr, ⊎-elim}
-use Prim.Native.Nat.{ℕ, zero, suc, _+_, _*_, _/_, _≤_, _<_, min}
+use Prim.Native.Nat.{ℕ, zero, suc, _+_, _*_, _%_, _≤_, _<_, min}
 use native.Mathlib.Decide.{ℕ-discrete, decLt}
-use native.Mathlib.Nat.{mul-comm, mul-le-mul-right, le-of-mul-le-mul-right, div-eq-of-eq-mul-left}
+use native.Mathlib.Nat.{mul-comm, mul-le-mul-right, le-of-mul-le-mul-right}
 use native.Mathlib.Omega.{arith}
 use lib.IntN.{ℤ, pos, natAbs, _*ℤ_}
 use lib.ListN.{length, length-append, List·getD-eq-default}
@@ -34,11 +34,15 @@ use Rattle.model.specs.Records.{plainOf, needsOf, verdict, FiguresInRange}
 use Rattle.model.specs.declared.Model.{Model}
 use Rattle.model.specs.declared.Need.{Need}
 use Rattle.model.proofs.Records.{accepted}
-use Rattle.model.proofs.Showing.{default, small-divisor, shown-few}
+use Rattle.model.proofs.Showing.{default, own-some, shown-few, whole-iff, partsOf, Parted, parted}
 use Rattle.text.proofs.Decimals.{decimal-length, integer-length}
 use Rattle.listing.specs.Printing.{bestLine, itemLine, amountAt as printedAmount, stepAt, itemLines, printedAs, printed, room}
 
 -- ---- the value that is shown
+
+small-divisor : (q n : ℕ) → Divides q n → n ≡ 0 ⊎ (q ≤ n)
+small-divisor q n (zero, e) = inl (omega (arith, e))
+small-divisor q n (suc t, e) = inr (omega (arith, e))
 
 sum-small : (c n : ℕ) (f : ℕ → ℤ) → Each n (λ k. natAbs (f k) ≤ c) → Within (n * c) (sum n f)
 sum-small c zero f h = record { above = omega arith; below = omega arith }
@@ -51,56 +55,63 @@ module _ (p : Problem) (a : Answer) (range : FiguresInRange p) (shown : Shown (i
   abbrev s : Instance
   s = instanceOf p
 
-  abbrev q : ℕ → ℕ
-  q k = amountAt a k .q
+  abbrev rest : ℕ → ℕ
+  rest k = natAbs (amountAt a k .p) % amountAt a k .q
 
-  record Parted : Type 0 where
+  -- no divisor is 0
+  some-parts : (k : ℕ) → k < p .count → 1 ≤ amountAt a k .q
+  some-parts k l = rw (shown .divisor k l) (own-some (s .item k))
+
+  record Common : Type 0 where
     D : ℕ
     some : 1 ≤ D
     most : D ≤ 1000
-    divides : (k : ℕ) → k < p .count → Divides (q k) D
+    parts : (k : ℕ) → k < p .count → Parted D (amountAt a k)
 
-  parted : Parted
-  parted = go (find (p .count) (λ k. q k ≢ 1) (λ k. q k ≡ 1) (λ k. either k (ℕ-discrete (q k) 1)))
+  -- the divisor of the one amount that is not whole
+  common : Common
+  common = go (find (p .count) (λ k. rest k ≢ 0) (λ k. rest k ≡ 0)
+      (λ k. either k (ℕ-discrete (rest k) 0)))
     where
-      either : (k : ℕ) → Dec (q k ≡ 1) → (q k ≢ 1) ⊎ (q k ≡ 1)
+      either : (k : ℕ) → Dec (rest k ≡ 0)
+          → (rest k ≢ 0) ⊎ (rest k ≡ 0)
       either k (yes e) = inr e
       either k (no n) = inl n
 
-      into : (i : ℕ) → i < p .count → q i ≢ 1 → (k : ℕ) → k < p .count → Dec (q k ≡ 1) → Divides (q k) (q i)
-      into i l n k h (yes e) = (q i, omega (arith, ap (λ t. q i * t) e))
-      into i l n k h (no o) = (1, omega (arith, ap q (shown .single i k l h n o)))
+      into : (i : ℕ) → i < p .count → rest i ≢ 0 → (k : ℕ) → k < p .count
+          → Dec (rest k ≡ 0) → Parted (amountAt a i .q) (amountAt a k)
+      into i l n k h (yes e) = parted (amountAt a i .q) (amountAt a k) (some-parts k h) (inl (whole-iff (amountAt a k) (some-parts k h) .0 e))
+      into i l n k h (no o) = parted (amountAt a i .q) (amountAt a k) (some-parts k h) (inr (ap (λ (j : ℕ). amountAt a j .q)
+          (shown .single k i h l (λ w. o (whole-iff (amountAt a k) (some-parts k h) .1 w)) (λ w. n (whole-iff (amountAt a i) (some-parts i l) .1 w)))))
 
-      go : ((k : ℕ) × (k < p .count) × (q k ≢ 1)) ⊎ Each (p .count) (λ k. q k ≡ 1) → Parted
+      go : ((k : ℕ) × (k < p .count) × (rest k ≢ 0)) ⊎ Each (p .count) (λ k. rest k ≡ 0)
+          → Common
       go (inl (i, l, n)) = record {
-        D = q i;
-        some = shown .divisor i l;
+        D = amountAt a i .q;
+        some = some-parts i l;
         most = shown-few p (amountAt a) range shown i l;
-        divides = λ k h. into i l n k h (ℕ-discrete (q k) 1);
+        parts = λ k h. into i l n k h (ℕ-discrete (rest k) 0);
       }
-      go (inr h) = record { D = 1; some = omega arith; most = omega arith; divides = λ k l. (1, omega (arith, h k l)) }
+      go (inr h) = record {
+        D = 1;
+        some = omega arith;
+        most = omega arith;
+        parts = λ k l. parted 1 (amountAt a k) (some-parts k l) (inl (whole-iff (amountAt a k) (some-parts k l) .0 (h k l)));
+      }
 
-  module _ (d : Parted) where
+  module _ (d : Common) where
     abbrev D : ℕ
     D = d .D
 
     -- the amounts in D-th parts
     abbrev N : ℕ → ℤ
-    N k = amountAt a k .p *ℤ pos (D / q k)
-
-    parts : (k : ℕ) → (l : k < p .count) → D / q k ≡ d .divides k l .0
-    parts k l = div-eq-of-eq-mul-left (shown .divisor k l) (d .divides k l .1)
+    N k = partsOf D (amountAt a k)
 
     reads : (k : ℕ) → k < p .count → Over D (pointOf a k) (N k)
-    reads k l =
-        let t = d .divides k l .0 in
-        let e : q k * t ≡ D = mul-comm (q k) t ∙ sym (d .divides k l .1) in
-        rw (parts k l) (subst (λ n. Over n (pointOf a k) (amountAt a k .p *ℤ pos t)) e (over-scale t (over-frac (amountAt a k .p) (q k) (shown .divisor k l))))
+    reads k l = d .parts k l .over
 
     part-small : (k : ℕ) → k < p .count → natAbs (N k) ≤ 1000000000 * D
-    part-small k l =
-        let t = d .divides k l .0 in
-        rw (natAbs-times (amountAt a k .p) (D / q k), parts k l) (omega (arith, mul-le-mul-right t (shown .small k l), d .divides k l .1))
+    part-small k l = d .parts k l .near 1000000000 (shown .small k l)
 
     abbrev T : ℤ
     T = sum (p .count) (λ k. prices s k *ℤ N k)
@@ -146,7 +157,7 @@ module _ (p : Problem) (a : Answer) (range : FiguresInRange p) (shown : Shown (i
 pub value-small : (p : Problem) (a : Answer) (ns : List Need) → FiguresInRange p → ShownOptimalNeeds (instanceOf p) ns a →
     (natAbs (a .value .p) < 1000000000000000000) × (a .value .q ≤ 1000)
 value-small p a ns range o =
-    let d = parted p a range (o .shown) in
+    let d = common p a range (o .shown) in
     let q = divisor-small p a range (o .shown) d ns o in
     let n = numerator-small p a range (o .shown) d ns o in
     (omega (arith, d .most, q, n), omega (arith, d .most, q))

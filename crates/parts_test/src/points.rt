@@ -1,4 +1,5 @@
-// The point check on drawn points. The fraction is mostly at one place, the filler; some amounts are at the limits or beyond.
+// The point check on drawn points. What is not a whole number is mostly at one place, the filler; some amounts are at the limits or beyond, and some over
+// a divisor that is not the item's.
 use arith::Fraction;
 use feasibility::Candidate;
 use feasibility::PointReply;
@@ -35,39 +36,47 @@ fn fraction(p: i64, q: u64) -> Fraction {
     Fraction { p: p, q: q }
 }
 
-// At the limits of paper 01's refusal 8, or just beyond.
-fn limit_amount(n: u64) -> Fraction {
+// At the limits of paper 01's refusal 8, or just beyond: over the divisor q, or 0.
+fn limit_amount(n: u64, q: u64) -> Fraction
+    requires { ⌜ q ≤ 6 ⌝ }
+{
+    let most = product(as_signed(q), 1000000000);
+    let least = product(as_signed(q), -1000000000);
     match n {
         0 => fraction(0, 0),
-        1 => fraction(1, 1000),
-        2 => fraction(1, 1001),
-        3 => fraction(1000000000, 1),
-        4 => fraction(-1000000000, 1),
-        5 => fraction(1000000001, 1),
-        6 => fraction(-1000000001, 1),
-        7 => fraction(999999999999, 1000),
-        8 => fraction(1000000000001, 1000),
-        _ => fraction(-9223372036854775808, 1),
+        1 => fraction(0, 1001),
+        2 => fraction(most, q),
+        3 => fraction(least, q),
+        4 => fraction(total(most, 1), q),
+        5 => fraction(total(least, -1), q),
+        6 => fraction(total(most, -1), q),
+        7 => fraction(1, q + 1),
+        _ => fraction(-9223372036854775808, q),
     }
 }
 
-// The filler's divisor is up to 6; of the others one in 32 is 2.
-fn drawn_divisor(state: u64, filler: bool) -> u64
+// One divisor in 32 is that of any weight.
+fn drawn_divisor(state: u64, i: Item) -> u64
     ensures { λ r. ⌜ r ≤ 6 ⌝ }
 {
-    if filler {
-        return 1 + below(state, 5);
+    if below(state, 31) == 0 {
+        return 1 + below(next(state), 5);
     }
-    if below(state, 31) == 0 { 2 } else { 1 }
+    let q = own_divisor(i);
+    if q < 6 { q } else { 6 }
 }
 
-fn drawn_amount(state: u64, filler: bool) -> Fraction {
+// The filler has any amount, the others whole ones.
+fn drawn_amount(state: u64, i: Item, filler: bool) -> Fraction {
     let a = next(state);
+    let q = drawn_divisor(state, i);
     if below(state, 39) == 0 {
-        return limit_amount(below(a, 9));
+        return limit_amount(below(a, 8), q);
     }
-    let q = drawn_divisor(state, filler);
-    fraction(figure(a, 3 * q), q)
+    if filler || below(next(a), 15) == 0 {
+        return fraction(figure(a, 3 * q), q);
+    }
+    fraction(times(figure(a, 3), as_signed(q)), q)
 }
 
 // One count in 16 is any number up to 20.
@@ -82,7 +91,8 @@ fn no_amounts() -> [Fraction; 16] {
     [Fraction { p: 0, q: 1 }; 16]
 }
 
-fn drawn_point(state: u64, n: usize) -> DrawnPoint {
+fn drawn_point(state: u64, m: Model, n: usize) -> DrawnPoint {
+    let items = m.items;
     let mut amounts = no_amounts();
     let filler = below(state, n as u64) as usize;
     let mut now = next(state);
@@ -90,7 +100,8 @@ fn drawn_point(state: u64, n: usize) -> DrawnPoint {
     let mut k: usize = 0;
     while k < 16 {
         now = next(now);
-        let x = drawn_amount(now, k == filler);
+        let i = items[k];
+        let x = drawn_amount(now, i, k == filler);
         amounts[k] = x;
         now = next(now);
         k += 1;
@@ -107,7 +118,7 @@ fn drawn_point(state: u64, n: usize) -> DrawnPoint {
 
 // ---- the amounts, plainly
 
-// What is known of the amounts so far: one is refused, how many are fractions, and the last of their divisors, or 1.
+// What is known of the amounts so far: one is refused, how many are not whole numbers, and the last of their divisors, or 1.
 struct Shape {
     bad: bool,
     fractions: u64,
@@ -134,34 +145,41 @@ fn shares(n: u64, q: u64) -> bool {
     found
 }
 
-fn is_bad(x: Fraction) -> bool {
+// A continuous item's amounts are over its weight without sign, 1 where it is 0 (paper 02, request 12).
+fn own_divisor(i: Item) -> u64 {
+    let m = i.mark;
+    let size = size_of(i.weight);
+    if is_integer(m) || size == 0 { 1 } else { size }
+}
+
+fn is_bad(i: Item, x: Fraction) -> bool {
     let q = x.q;
-    if q == 0 {
+    if q != own_divisor(i) {
         return true;
     }
     if q > 1000 {
         return true;
     }
-    let n = size_of(x.p);
-    if n > 1000000000 * q {
-        return true;
-    }
-    shares(n, q)
+    size_of(x.p) > 1000000000 * q
 }
 
-fn with_amount(h: Shape, x: Fraction) -> Shape {
-    let q = x.q;
-    let above = q > 1;
+fn is_whole(x: Fraction) -> bool {
+    divides(x.q, size_of(x.p))
+}
+
+fn with_amount(h: Shape, i: Item, x: Fraction) -> Shape {
+    let split = !is_whole(x);
     Shape {
-        bad: h.bad || is_bad(x),
-        fractions: one_more(h.fractions, above),
-        divisor: if above { q } else { h.divisor },
+        bad: h.bad || is_bad(i, x),
+        fractions: one_more(h.fractions, split),
+        divisor: if split { x.q } else { h.divisor },
     }
 }
 
-fn shape_of(c: Candidate, n: usize) -> Shape
+fn shape_of(m: Model, c: Candidate, n: usize) -> Shape
     requires { ⌜ n ≤ 15 ⌝ }
 {
+    let items = m.items;
     let amounts = c.amounts;
     let mut h = Shape {
         bad: false,
@@ -170,8 +188,9 @@ fn shape_of(c: Candidate, n: usize) -> Shape
     };
     let mut k: usize = 0;
     while k < n {
+        let i = items[k];
         let x = amounts[k];
-        h = with_amount(h, x);
+        h = with_amount(h, i, x);
         k += 1;
     }
     h
@@ -230,11 +249,9 @@ fn is_above(x: Fraction, b: Bound) -> bool {
 }
 
 fn breaks(i: Item, x: Fraction) -> bool {
-    let m = i.mark;
     let l = i.lower;
     let u = i.upper;
-    let split = is_integer(m) && x.q > 1;
-    split || is_below(x, l) || is_above(x, u)
+    is_below(x, l) || is_above(x, u)
 }
 
 fn first_of(found: usize, k: usize, broken: bool) -> usize {
@@ -247,10 +264,20 @@ fn first_of(found: usize, k: usize, broken: bool) -> usize {
     if broken { k + 1 } else { 0 }
 }
 
-// p / q over the divisor.
+// The multiples of q from 0 to n.
+fn quotient(n: u64, q: u64) -> u64 {
+    if q == 0 {
+        return 0;
+    }
+    n / q
+}
+
+// p / q over the divisor: a whole number times it, or the one that is none.
 fn numerator(x: Fraction, divisor: u64) -> i64 {
-    if x.q == 1 {
-        product(as_signed(divisor), x.p)
+    if is_whole(x) {
+        let n = as_signed(quotient(size_of(x.p), x.q));
+        let whole = if x.p < 0 { times(n, -1) } else { n };
+        product(as_signed(divisor), whole)
     } else {
         x.p
     }
@@ -340,7 +367,7 @@ fn is_refused(r: PointReply, number: u64) -> bool {
 fn agrees(r: PointReply, p: Model, c: Candidate, n: usize) -> bool
     requires { ⌜ n ≤ 15 ⌝ }
 {
-    let h = shape_of(c, n);
+    let h = shape_of(p, c, n);
     let number = refusal_of(c, h, n);
     if number > 0 {
         return is_refused(r, number);
@@ -447,8 +474,8 @@ fn tally_of(seed: u64, points: u64, n: usize) -> Tally
     let mut k: u64 = 0;
     while k < points {
         let d = drawn_problem(state, n, spans());
-        let e = drawn_point(d.state, n);
         let p = d.problem;
+        let e = drawn_point(d.state, p, n);
         let c = e.point;
         t = tried(t, p, c, n);
         state = e.state;

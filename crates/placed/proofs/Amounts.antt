@@ -1,46 +1,39 @@
 -- The amounts of a filling, as an answer shows them.
 -- near-zero: what is within ends that are in range is so too.
--- filling-shown: a filling of a box is within the limits of an answer, whatever its order of filling.
-use mathlib.Core.Path.{_≡_, refl, sym, ap, _∙_, subst₂}
-use mathlib.Core.Bool.{Bool, true, false, cond}
+-- setting-marks: the whole items of a setting are the integer ones.
+-- own-is: its own divisors are those of the columns.
+-- filling-shown: a filling over own divisors is within the limits of an answer, whatever its order of filling.
+use mathlib.Core.Path.{_≡_, refl, sym, ap, _∙_}
+use mathlib.Core.Bool.{Bool, true, false}
+use mathlib.Core.List.{List}
 use mathlib.Core.Logic.{_≢_, _⊎_, inl, inr}
-use Prim.Native.Nat.{ℕ, _*_, _≤_, _<_}
+use Prim.Native.Nat.{ℕ, _*_, _≤_, _<_, max}
 use native.Mathlib.Omega.{arith}
-use native.Mathlib.Decide.{ℕ-discrete}
-use lib.Dec.{ltb, eqb}
+use native.Mathlib.Nat.{mul-le-mul-right, le-of-mul-le-mul-right}
 use lib.IntN.{ℤ, pos, natAbs, _+ℤ_, _*ℤ_}
 use lib.Signed.{_≤ℤ_}
-use borrow.Author.Tests.{lt-ltb, ltb-true, eqb-true}
-use Rattle.arith.specs.Gcd.{Divides, lowest}
+use Rattle.arith.specs.Fractions.{frac}
 use Rattle.arith.specs.Limits.{farthest}
 use Rattle.arith.specs.Within.{Within}
 use Rattle.arith.specs.declared.Fraction.{Fraction}
-use Rattle.arith.proofs.Divisors.{lowest-den, lowest-coprime}
-use Rattle.arith.proofs.Integers.{split, zed}
-use Rattle.arith.proofs.Parts.{within-mul, within-abs, abs-within}
+use Rattle.arith.proofs.Fractions.{Over}
+use Rattle.arith.proofs.Integers.{split, zed, natAbs-times}
+use Rattle.arith.proofs.Parts.{within-mul, within-abs, abs-within, impossible}
+use Rattle.ceiling.specs.Frames.{Levelled}
+use Rattle.ceiling.proofs.Limits.{levels-marked, levels-unmarked}
+use Rattle.foremost.proofs.Frames.{by-mark}
 use Rattle.greedy.specs.declared.Columns.{Columns}
 use Rattle.greedy.specs.declared.Ends.{Ends}
 use Rattle.greedy.specs.declared.Fill.{Fill}
-use Rattle.greedy.specs.Fill.{at, weightOf, itemOf, rankOf, numerator, bound, unit, stand}
-use Rattle.greedy.specs.Ordered.{weightAt}
-use Rattle.knapsack.specs.Meaning.{Instance, weights, nought, Shown}
+use Rattle.greedy.specs.Amounts.{wholeIn, divisorIn, amountOf}
+use Rattle.greedy.specs.Fill.{weightOf, itemOf, rankOf, taken, numerator, stand}
+use Rattle.greedy.proofs.Owning.{CriticalAt, none-or-critical, divisor-some}
+use Rattle.knapsack.specs.Meaning.{Instance, weights, ownDivisor, WholeAmount, nought, Shown}
+use Rattle.knapsack.specs.declared.Mark.{Mark}
+use Rattle.knapsack.specs.declared.Mark.the-variants.{Integer, Continuous}
+use Rattle.setting.specs.declared.Setting.{Setting}
+use Rattle.setting.specs.Ready.{Marked}
 use Rattle.setting.proofs.Boxes.{between}
-use Rattle.firsts.proofs.Terms.{lowest-whole, lowest-divides, lowest-small}
-
--- an amount is whole, unless its item is the critical one
-whole-or-critical : (c : Columns) (e : Ends) (f : Fill) (q k : ℕ) → (numerator c e f q k ≡ stand c e (f .at) k *ℤ pos q)
-    ⊎ ((rankOf c k ≡ f .at) × (f .at < c .live))
-whole-or-critical c e f q k = go (ltb (f .at) (c .live)) (eqb (rankOf c k) (f .at)) refl refl
-  where
-    none : (x : ℤ) → x +ℤ pos 0 ≡ x
-    none = split _ (λ a b. simp zed (omega arith))
-
-    go : (b t : Bool) → ltb (f .at) (c .live) ≡ b → eqb (rankOf c k) (f .at) ≡ t
-        → (stand c e (f .at) k *ℤ pos q +ℤ cond b (cond t (unit (weightOf c k) *ℤ f .room) (pos 0)) (pos 0) ≡ stand c e (f .at) k *ℤ pos q)
-        ⊎ ((rankOf c k ≡ f .at) × (f .at < c .live))
-    go false t x y = inl (none (stand c e (f .at) k *ℤ pos q))
-    go true false x y = inl (none (stand c e (f .at) k *ℤ pos q))
-    go true true x y = inr (eqb-true (rankOf c k) (f .at) y, ltb-true (f .at) (c .live) x)
 
 pub near-zero : (l u n : ℤ) (q : ℕ) → Within farthest l → Within farthest u → (l *ℤ pos q) ≤ℤ n → n ≤ℤ (u *ℤ pos q) → natAbs n ≤ farthest * q
 near-zero l u n q hl hu low high = within-abs n (between (l *ℤ pos q) (u *ℤ pos q) n (within-mul hl own) (within-mul hu own) low high)
@@ -48,55 +41,63 @@ near-zero l u n q hl hu low high = within-abs n (between (l *ℤ pos q) (u *ℤ 
     own : Within q (pos q)
     own = abs-within (pos q) (omega arith)
 
--- the divisor of a filling that ends at a live rank is that item's weight
-parts-critical : (c : Columns) (f : Fill) → ((u : ℕ) → u < c .live → at (c .size) u ≡ pos (natAbs (weightAt c u))) → (k : ℕ) → itemOf c (rankOf c k) ≡ k
-    → rankOf c k ≡ f .at → f .at < c .live → bound c f .parts ≡ natAbs (weightOf c k)
-unfolding bound
-parts-critical c f sizes k i r h =
-    rw (lt-ltb (f .at) (c .live) h, sizes (f .at) h) (ap (λ (j : ℕ). natAbs (weightOf c j)) (ap (itemOf c) (sym r) ∙ i))
+-- an amount p / q that is n / D, where that is near
+own-small : (p n : ℤ) (q D : ℕ) → 1 ≤ q → 1 ≤ D → Over D (frac p q) n → natAbs n ≤ farthest * D → natAbs p ≤ 1000000000 * q
+own-small p n q D q≥1 D≥1 o small =
+    le-of-mul-le-mul-right {k = D} (omega (arith, same, mul-le-mul-right q small)) D≥1
+  where
+    some : max 1 q ≡ q
+    some = omega arith
 
--- the columns of an instance: ranks lead back to their items, and the live ones have their sizes
-pub record ColumnsOf (s : Instance) (c : Columns) : Type 0 where
+    same : natAbs p * D ≡ natAbs n * q
+    same = sym (natAbs-times p D) ∙ ap natAbs (o .eq ∙ ap (λ (d : ℕ). n *ℤ pos d) some) ∙ natAbs-times n q
+
+pub setting-marks : (s : Setting) (w : List Bool) → Levelled (s .level) (s .levels) w → (marks : ℕ → Mark) → Marked s marks → (k : ℕ) → k < s .cols .count
+    → (wholeIn w k ≡ true → marks k ≡ Integer) × (wholeIn w k ≡ false → marks k ≡ Continuous)
+setting-marks s w lw marks m k l =
+    (levels-marked (s .cols) (s .level) (s .levels) w marks lw (m .integer) k l, λ q. loose q (by-mark (marks k)))
+  where
+    loose : wholeIn w k ≡ false → (marks k ≡ Integer) ⊎ (marks k ≡ Continuous) → marks k ≡ Continuous
+    loose q (inr i) = i
+    loose q (inl i) = absurd (impossible (sym q ∙ levels-unmarked (s .cols) (s .level) (s .levels) w marks lw (m .level) k l i))
+
+-- the columns of an instance, whose whole items are its integer ones; ranks lead back to their items
+pub record ColumnsOf (s : Instance) (c : Columns) (w : List Bool) : Type 0 where
   pub count : c .count ≡ s .count
   pub own-weight : (k : ℕ) → k < s .count → weightOf c k ≡ weights s k
   pub item-rank : (k : ℕ) → k < c .count → itemOf c (rankOf c k) ≡ k
-  pub sizes : (u : ℕ) → u < c .live → at (c .size) u ≡ pos (natAbs (weightAt c u))
+  pub whole : (k : ℕ) → k < s .count → wholeIn w k ≡ true → s .item k .mark ≡ Integer
+  pub loose : (k : ℕ) → k < s .count → wholeIn w k ≡ false → s .item k .mark ≡ Continuous
 
-module _ (s : Instance) (c : Columns) (o : ColumnsOf s c) (e : Ends) (f : Fill) (D≥1 : 1 ≤ bound c f .parts) where
-  abbrev D : ℕ
-  D = bound c f .parts
-
+module _ (s : Instance) (c : Columns) (w : List Bool) (o : ColumnsOf s c w) where
   inner : (k : ℕ) → k < s .count → k < c .count
   inner k l = omega (arith, o .count)
 
-  module _ (small : (k : ℕ) → k < s .count → natAbs (numerator c e f D k) ≤ farthest * D) (x : ℕ → Fraction)
-      (shows : (k : ℕ) → k < s .count → x k ≡ lowest (numerator c e f D k) D) (beyond : (k : ℕ) → s .count ≤ k → x k ≡ nought) where
-    critical : (k : ℕ) → k < s .count → x k .q ≢ 1 → (rankOf c k ≡ f .at) × (f .at < c .live)
-    critical k l n = go (whole-or-critical c e f D k)
-      where
-        go : (numerator c e f D k ≡ stand c e (f .at) k *ℤ pos D) ⊎ ((rankOf c k ≡ f .at) × (f .at < c .live)) → (rankOf c k ≡ f .at) × (f .at < c .live)
-        go (inl y) = absurd (n (ap (λ (z : Fraction). z .q) (shows k l) ∙ ap (λ z. lowest z D .q) y ∙ lowest-whole (stand c e (f .at) k) D D≥1))
-        go (inr y) = y
+  pub own-is : (k : ℕ) → k < s .count → divisorIn c w k ≡ ownDivisor (s .item k)
+  own-is k l = go (wholeIn w k) refl
+    where
+      go : (b : Bool) → wholeIn w k ≡ b → divisorIn c w k ≡ ownDivisor (s .item k)
+      go true q = rw (q, o .whole k l q)
+      go false q = rw (q, o .loose k l q, o .own-weight k l)
 
-    -- the divisor of an amount that is not whole is its item's weight
-    heavy : (k : ℕ) → k < s .count → x k .q ≢ 1 → D ≡ natAbs (weights s k)
-    heavy k l n =
-        parts-critical c f (o .sizes) k (o .item-rank k (inner k l)) (critical k l n .0) (critical k l n .1) ∙ ap natAbs (o .own-weight k l)
-
-    weightless : (k : ℕ) → k < s .count → weights s k ≡ pos 0 → x k .q ≡ 1
-    weightless k l e = go (ℕ-discrete (x k .q) 1)
+  module _ (e : Ends) (f : Fill) (D : ℕ) (D≥1 : 1 ≤ D) (N : ℕ → ℤ) (small : (k : ℕ) → k < s .count → natAbs (N k) ≤ farthest * D) (x : ℕ → Fraction)
+      (shows : (k : ℕ) → k < s .count → x k ≡ amountOf c e f (divisorIn c w k) k) (beyond : (k : ℕ) → s .count ≤ k → x k ≡ nought)
+      (over : (k : ℕ) → k < s .count → Over D (frac (x k .p) (x k .q)) (N k)) where
+    -- an amount is whole, unless its item is the critical one
+    critical : (k : ℕ) → k < s .count → ¬ WholeAmount (x k) → CriticalAt c f k
+    critical k l n = go (none-or-critical c f k)
       where
-        go : Dec (x k .q ≡ 1) → x k .q ≡ 1
-        go (yes w) = w
-        go (no n) = let z : D ≡ 0 = heavy k l n ∙ ap natAbs e in absurd (omega (arith, D≥1))
+        none : (y : ℤ) → y +ℤ pos 0 ≡ y
+        none = split _ (λ a b. simp zed (omega arith))
+
+        go : (taken c f k ≡ pos 0) ⊎ CriticalAt c f k → CriticalAt c f k
+        go (inl t) = absurd (n (rw (shows k l, t) (stand c e (f .at) k, none _)))
+        go (inr h) = h
 
     pub filling-shown : Shown s x
     filling-shown = record {
-      small = λ k l. rw (shows k l) (lowest-small (numerator c e f D k) D D≥1 (small k l));
-      divisor = λ k l. rw (shows k l) (lowest-den (numerator c e f D k) D D≥1);
-      lowest = λ k l. rw (shows k l) (lowest-coprime (numerator c e f D k) D D≥1);
+      divisor = λ k l. ap (λ (z : Fraction). z .q) (shows k l) ∙ own-is k l;
+      small = λ k l. own-small (x k .p) (N k) (x k .q) D (rw (shows k l) (divisor-some c w k)) D≥1 (over k l) (small k l);
       single = λ j k l m nj nk. sym (o .item-rank j (inner j l)) ∙ ap (itemOf c) (critical j l nj .0 ∙ sym (critical k m nk .0)) ∙ o .item-rank k (inner k m);
-      divides = λ k l n. subst₂ Divides (ap (λ (z : Fraction). z .q) (sym (shows k l))) (heavy k l n) (lowest-divides (numerator c e f D k) D D≥1);
-      weightless = weightless;
       beyond = beyond;
     }

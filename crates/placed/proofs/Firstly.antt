@@ -15,8 +15,8 @@ use Rattle.arith.proofs.Fractions.{≤ᶠ-trans, ≤ᶠ-antisym, ≈ᶠ-≤, �
 use Rattle.arith.proofs.Parts.{impossible}
 use Rattle.greedy.specs.declared.Columns.{Columns}
 use Rattle.greedy.specs.declared.Ends.{Ends}
+use Rattle.greedy.specs.Amounts.{wholeIn}
 use Rattle.greedy.specs.Fill.{at, fill}
-use Rattle.greedy.specs.Sized.{Sized}
 use Rattle.knapsack.specs.Items.{isAbsent}
 use Rattle.knapsack.specs.Meaning.{Instance, instanceOf, Optimal, value, amountAt, pointOf, ShownOptimal, Foremost, AllLower}
 use Rattle.knapsack.specs.Ranges.{itemAt}
@@ -25,6 +25,7 @@ use Rattle.knapsack.specs.declared.Bound.{Bound}
 use Rattle.knapsack.specs.declared.Bound.the-variants.{Absent, At}
 use Rattle.knapsack.specs.declared.Kind.the-variants as kind
 use Rattle.knapsack.specs.declared.Mark.{Mark}
+use Rattle.knapsack.specs.declared.Mark.the-variants.{Integer, Continuous}
 use Rattle.knapsack.specs.declared.Problem.{Problem}
 use Rattle.knapsack.proofs.Bridge.{Reads}
 use Rattle.prepare.specs.Narrowing.{spanOf}
@@ -37,10 +38,10 @@ use Rattle.foremost.proofs.Filling.{parts, filling}
 use Rattle.foremost.proofs.First.{Closes, FirstAt, tied-closes, first-point, first-is-foremost}
 use Rattle.firsts.specs.Leading.{Tying, endsAt, FirstBest}
 use Rattle.firsts.specs.declared.Lead.{Lead}
-use Rattle.firsts.proofs.Places.{place-sized, place-choice, place-parts, place-feasible}
+use Rattle.firsts.proofs.Places.{place-choice, place-parts, place-feasible}
 use Rattle.firsts.proofs.Shown.{shown-over}
 use Rattle.placed.specs.Placed.{HasLower, Showable, FirstShown}
-use Rattle.placed.proofs.Amounts.{ColumnsOf, near-zero, filling-shown}
+use Rattle.placed.proofs.Amounts.{ColumnsOf, near-zero, setting-marks, filling-shown}
 
 -- ---- lower bounds
 
@@ -102,18 +103,19 @@ module _ (p : Problem) (s : Setting) (P : ℕ → ℤ) (a : Answer) (h : Showabl
       (prepared-closes p s (h .prepared) c (b .tied)) f (place-choice s c tying (b .place) (b .inside) marks (h .prepared .marked)) (b .room)
       (b .first marks (h .prepared .marked))
 
-  sized : Sized c f
-  sized = place-sized s c tying (b .place) (b .inside)
-
   inner : (k : ℕ) → k < p .count → k < c .count
   inner k l = omega (arith, b .tied .count, h .prepared .count)
 
-  columns-of : ColumnsOf I c
+  marks-are : (k : ℕ) → k < p .count → (wholeIn (b .shows .whole) k ≡ true → marks k ≡ Integer) × (wholeIn (b .shows .whole) k ≡ false → marks k ≡ Continuous)
+  marks-are k l = setting-marks s (b .shows .whole) (b .shows .levelled) marks (h .prepared .marked) k (omega (arith, h .prepared .count))
+
+  columns-of : ColumnsOf I c (b .shows .whole)
   columns-of = record {
     count = b .tied .count ∙ h .prepared .count;
     own-weight = λ k l. ap (λ w. at w k) (b .tied .weight) ∙ h .prepared .weights k l;
     item-rank = b .tied .tied .item-rank;
-    sizes = b .tied .tied .sizes;
+    whole = λ k l. marks-are k l .0;
+    loose = λ k l. marks-are k l .1;
   }
 
   amount-small : (k : ℕ) → k < p .count → natAbs (filling c f k) ≤ farthest * parts c f
@@ -123,7 +125,7 @@ module _ (p : Problem) (s : Setting) (P : ℕ → ℤ) (a : Answer) (h : Showabl
 
   module _ (z : Answer) (point-is : z .point ≡ r .point) (steps-are : z .steps ≡ a .steps) (value-is : z .value ≡ a .value) where
     reads : Reads I (parts c f) (pointOf z) (filling c f)
-    reads k l = rw point-is (shown-over c f sized (r .point) (b .shows) k (inner k l))
+    reads k l = rw point-is (shown-over s c tying (b .place) (b .inside) (b .room) (r .point) (b .shows) k (inner k l))
 
     best : Optimal I (pointOf z) × Foremost I (pointOf z)
     best = first-is-foremost I c (s .ends) marks f first-at (pointOf z) reads
@@ -134,8 +136,9 @@ module _ (p : Problem) (s : Setting) (P : ℕ → ℤ) (a : Answer) (h : Showabl
     pub first-optimal : ShownOptimal I z
     first-optimal = record {
       optimal = best .0;
-      shown = filling-shown I c columns-of f (fill c f) (first-at .divisor) amount-small (amountAt z) (λ k l. rw point-is (b .shows .counted k (inner k l)))
-          (λ k l. rw point-is (b .shows .beyond k (omega (arith, b .tied .count, h .prepared .count))));
+      shown = filling-shown I c (b .shows .whole) columns-of f (fill c f) (parts c f) (first-at .divisor) (filling c f) amount-small (amountAt z)
+          (λ k l. rw point-is (b .shows .amounts .counted k (inner k l)))
+          (λ k l. rw point-is (b .shows .amounts .beyond k (omega (arith, b .tied .count, h .prepared .count)))) reads;
       exact = rw value-is (≈-trans (frac (a .value .p) (a .value .q)) (value I (pointOf a)) (value I (pointOf z)) (h .shown .exact)
           (≤ᶠ-antisym (value I (pointOf a)) (value I (pointOf z)) (best .0 .highest (pointOf a) (h .shown .optimal .feasible))
           (h .shown .optimal .highest (pointOf z) (best .0 .feasible))));

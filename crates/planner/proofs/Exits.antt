@@ -21,6 +21,7 @@ use Rattle.knapsack.specs.declared.Answer.{Answer}
 use Rattle.knapsack.specs.declared.Kind.{Kind}
 use Rattle.knapsack.specs.declared.Kind.the-variants as kind
 use Rattle.knapsack.specs.declared.Problem.{Problem}
+use Rattle.model.proofs.Showing.{own-some}
 use Rattle.model.specs.Records.{FiguresInRange, needsOf}
 use Rattle.model.specs.declared.Needs.{Needs}
 use Rattle.solver.specs.Outcomes.{mostWork, SolvesWithin}
@@ -51,7 +52,7 @@ kind-of kind.Unbounded h = absurd (impossible h)
 kind-of (kind.Refused f) h = absurd (impossible h)
 
 pub comparable : (s : Instance) (a : Answer) → Worthy s a → Comparable (s .count) a
-comparable s a w = record { value = w .divisor; amounts = w .shown .divisor }
+comparable s a w = record { value = w .divisor; amounts = λ k l. rw (w .shown .divisor k l) (own-some (s .item k)) }
 
 worthy : (s : Instance) (a : Answer) → a .kind ≡ kind.Optimal → ShownOptimal s a → Worthy s a
 worthy s a k o = record { kind-is = k; shown = o .shown; exact = o .exact; divisor = o .divisor; lowest = o .lowest; still = o .still }

@@ -112,11 +112,8 @@ module _ (s : Instance) (k : ℕ) (l u : Bound) where
     shown = record {
       small = w .shown .small;
       divisor = w .shown .divisor;
-      lowest = w .shown .lowest;
       single = w .shown .single;
-      divides = w .shown .divides;
       beyond = w .shown .beyond;
-      weightless = w .shown .weightless;
     };
     exact = w .exact;
     divisor = w .divisor;

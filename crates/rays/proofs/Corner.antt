@@ -13,9 +13,8 @@ use native.Mathlib.Nat.{mul-le-mul, mul-le-mul-right}
 use lib.IntN.{ℤ, pos, negsuc, negℤ, natAbs, _+ℤ_, _*ℤ_}
 use lib.Signed.{_≤ℤ_, _<ℤ_, ≤ℤ-refl, ltZ-yes}
 use Rattle.arith.specs.Limits.{farthest}
-use Rattle.arith.proofs.Integers.{split, split3, zed, ≤ℤ-trans, natAbs-mul}
+use Rattle.arith.proofs.Integers.{split, split3, zed, ≤ℤ-trans, natAbs-times, natAbs-mul}
 use Rattle.arith.proofs.Sums.{sum-scale, even-part-of-sum}
-use Rattle.arith.specs.Gcd.{gcdOf, gcdIn}
 use Rattle.arith.specs.Sum.{Each}
 use Rattle.arith.specs.declared.Fraction.{Fraction}
 use Rattle.knapsack.specs.declared.Bound.{Bound}
@@ -24,7 +23,7 @@ use Rattle.knapsack.specs.declared.Mark.{Mark}
 use Rattle.knapsack.specs.declared.Mark.the-variants.{Integer, Continuous}
 use Rattle.knapsack.specs.declared.Problem.{Problem}
 use Rattle.knapsack.specs.Ranges.{itemAt, BoundInRange, InRange}
-use Rattle.knapsack.specs.Meaning.{Instance, Point, instanceOf, weights, Feasible, Infeasible, Unbounded, nought, Shown}
+use Rattle.knapsack.specs.Meaning.{Instance, Point, instanceOf, weights, Feasible, Infeasible, Unbounded, nought, ownDivisor, Shown}
 use Rattle.knapsack.proofs.Branch.{empty}
 use Rattle.knapsack.proofs.Bridge.{Reads, bridge-feasible, bridge-infeasible}
 use Rattle.knapsack.proofs.Common.{KeepsMarkᴰ, weighsᴰ, Feasibleᴰ}
@@ -205,16 +204,16 @@ module _ (s : Instance) (g : Ranges s) (lo hi e : ℕ → ℤ) (c : LightCorner 
   pub corner-point : (x : Point) → Reads s 1 x e → weighsᴰ s e ≤ℤ s .capacity → Feasible s x
   corner-point x h fits = bridge-feasible s 1 x e (omega arith) h .1 (corner-feasible fits)
 
-  pub corner-shown : (x : ℕ → Fraction) → ((k : ℕ) → k < s .count → x k ≡ record { p = e k; q = 1 }) → ((k : ℕ) → s .count ≤ k → x k ≡ nought) → Shown s x
-  unfolding gcdOf gcdIn
-  corner-shown x h g = record {
-    small = λ k l. rw (h k l) (omega (arith, corner-small k l));
-    divisor = λ k l. rw (h k l) (omega arith);
-    lowest = λ k l. rw (h k l);
-    single = λ j k l m n. absurd (n (rw (h j l)));
-    divides = λ k l n. absurd (n (rw (h k l)));
-    weightless = λ k l e. rw (h k l);
-    beyond = g;
+  -- over own divisors
+  abbrev pub cornerAmount : ℕ → Fraction
+  cornerAmount k = record { p = e k *ℤ pos (ownDivisor (s .item k)); q = ownDivisor (s .item k) }
+
+  pub corner-shown : (x : ℕ → Fraction) → ((k : ℕ) → k < s .count → x k ≡ cornerAmount k) → ((k : ℕ) → s .count ≤ k → x k ≡ nought) → Shown s x
+  corner-shown x h b = record {
+    divisor = λ k l. rw (h k l);
+    small = λ k l. rw (h k l, natAbs-times (e k) (ownDivisor (s .item k))) (omega (arith, mul-le-mul-right (ownDivisor (s .item k)) (corner-small k l)));
+    single = λ j k l m n. absurd (n (rw (h j l) (e j, refl)));
+    beyond = b;
   }
 
 pub corner-unbounded : (p : Problem) (r : RayReply) (lo hi e : ℕ → ℤ) (x : Point) → InRange p → RayFound p r → r .found ≡ true

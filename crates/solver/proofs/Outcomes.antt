@@ -7,7 +7,7 @@ use mathlib.Core.Path.{_≡_, refl, sym, ap, ap₂, _∙_, subst, subst₂}
 use mathlib.Core.Bool.{Bool, true, false, cond}
 use mathlib.Core.List.{List}
 use mathlib.Core.Logic.{_≢_, _⊎_, inl, inr}
-use Prim.Native.Nat.{ℕ, _+_, _*_, _≤_, _<_}
+use Prim.Native.Nat.{ℕ, _*_, _≤_, _<_, max}
 use native.Mathlib.Omega.{arith}
 use lib.Dec.{ltb, eqb}
 use lib.IntN.{ℤ, pos, natAbs, _+ℤ_, _-ℤ_, _*ℤ_}
@@ -15,7 +15,6 @@ use lib.Signed.{_≤ℤ_, _<ℤ_, ltZ}
 use borrow.Author.Tests.{lt-ltb, le-ltb, ltb-true, eqb-true}
 use Rattle.arith.specs.Limits.{farthest}
 use Rattle.arith.specs.Within.{Within}
-use Rattle.arith.specs.Gcd.{Divides, lowest}
 use Rattle.arith.specs.declared.Fraction.{Fraction}
 use Rattle.arith.specs.declared.Mixed.{Mixed}
 use Rattle.arith.proofs.Divisors.{lowest-den, lowest-coprime}
@@ -25,13 +24,16 @@ use Rattle.arith.proofs.Mixes.{over}
 use Rattle.arith.proofs.Parts.{within-mul, within-abs, abs-within, lt-le}
 use Rattle.arith.proofs.Sums.{sum-cong}
 use Rattle.arith.proofs.Words.{lt-yes, le-no}
+use Rattle.ceiling.specs.Frames.{Levelled}
+use Rattle.greedy.specs.Amounts.{divisorIn, amountOf}
+use Rattle.greedy.proofs.Owning.{fill-over}
 use Rattle.greedy.specs.Fill.{numerator, at, weightOf, priceOf, itemOf, rankOf, lightest, lightOf, cornerWeight, begun, bound, unit, stand, solution}
 use Rattle.greedy.specs.declared.Columns.{Columns}
 use Rattle.greedy.specs.declared.Ends.{Ends}
 use Rattle.greedy.specs.declared.Fill.{Fill}
 use Rattle.greedy.specs.Ordered.{Ordered}
 use Rattle.knapsack.specs.Ranges.{itemAt, InRange}
-use Rattle.knapsack.specs.Meaning.{Instance, instanceOf, amountAt, pointOf, weights, prices, Infeasible, Shown, bare, Answers}
+use Rattle.knapsack.specs.Meaning.{Instance, instanceOf, amountAt, pointOf, weights, prices, Infeasible, ownDivisor, Shown, bare, Answers}
 use Rattle.knapsack.specs.declared.Answer.{Answer}
 use Rattle.knapsack.specs.declared.Item.{Item}
 use Rattle.knapsack.specs.declared.Kind.{Kind}
@@ -40,6 +42,7 @@ use Rattle.knapsack.specs.declared.Kind.the-variants as kind
 use Rattle.knapsack.specs.declared.Problem.{Problem}
 use Rattle.knapsack.proofs.Bridge.{Reads, bridge-optimal}
 use Rattle.knapsack.proofs.Common.{weighsᴰ, valueᴰ, Feasibleᴰ, Optimalᴰ}
+use Rattle.model.proofs.Showing.{own-some, over-lowest}
 use Rattle.prepare.specs.Narrowing.{spanOf}
 use Rattle.prepare.specs.Prepared.{PreparedAt, Prepared}
 use Rattle.prepare.proofs.Box.{box, box-same, box-is-shut, box-optimal, box-empty}
@@ -51,8 +54,8 @@ use Rattle.search.specs.declared.Incumbent.{Incumbent}
 use Rattle.setting.specs.declared.Setting.{Setting}
 use Rattle.search.specs.Searched.{Searched}
 use Rattle.solver.specs.Outcomes.{unfilled, Cornered, boxAt, fillAt, valueAt, Best, CountsAs, Counts, CellsAs, Cells}
-use Rattle.firsts.proofs.Terms.{over-lowest, lowest-one}
-use Rattle.placed.proofs.Amounts.{ColumnsOf, near-zero, filling-shown}
+use Rattle.firsts.proofs.Shown.{level-fixed}
+use Rattle.placed.proofs.Amounts.{ColumnsOf, near-zero, setting-marks, own-is, filling-shown}
 
 -- no other kind is optimal
 pub not-unbounded : (k : Kind) → k ≡ kind.Unbounded → k ≡ kind.Optimal → ⊥
@@ -78,6 +81,17 @@ light-flat a c l u h = rw h (go (ltZ (pos 0) c))
     go : (b : Bool) → (cond b u l ≡ l) ⊎ (cond b u l ≡ u)
     go true = inr refl
     go false = inl refl
+
+-- the columns of a prepared setting are those of its problem
+setting-columns : {R : ℕ → ℕ} (p : Problem) (s : Setting) → PreparedAt R p s → (w : List Bool) → Levelled (s .level) (s .levels) w
+    → ColumnsOf (instanceOf p) (s .cols) w
+setting-columns p s q w lw = record {
+  count = q .count;
+  own-weight = q .weights;
+  item-rank = q .ready .ordered .item-rank;
+  whole = λ k l. setting-marks s w lw (λ j. itemAt p j .mark) (q .marked) k (omega (arith, q .count)) .0;
+  loose = λ k l. setting-marks s w lw (λ j. itemAt p j .mark) (q .marked) k (omega (arith, q .count)) .1;
+}
 
 module _ (p : Problem) (range : InRange p) (s : Setting) (q : Prepared p s) where
   abbrev I : Instance
@@ -131,8 +145,8 @@ module _ (p : Problem) (range : InRange p) (s : Setting) (q : Prepared p s) wher
 
   -- ---- the corner as an answer shows it
 
-  corner-numerator : (k : ℕ) → numerator (s .cols) (s .ends) unfilled 1 k ≡ light k *ℤ pos 1
-  corner-numerator k = rw (le-ltb (rankOf c k) 0 (omega arith)) (go (ltb 0 (c .live)) (eqb (rankOf c k) 0))
+  corner-numerator : (d k : ℕ) → numerator (s .cols) (s .ends) unfilled d k ≡ light k *ℤ pos d
+  corner-numerator d k = rw (le-ltb (rankOf c k) 0 (omega arith)) (go (ltb 0 (c .live)) (eqb (rankOf c k) 0))
     where
       none : (x : ℤ) → x +ℤ pos 0 ≡ x
       none = split _ (λ a b. simp zed (omega arith))
@@ -140,23 +154,36 @@ module _ (p : Problem) (range : InRange p) (s : Setting) (q : Prepared p s) wher
       still : (x : ℤ) → x *ℤ pos 0 ≡ pos 0
       still = split _ (λ a b. simp zed (omega arith))
 
-      go : (b t : Bool) → light k *ℤ pos 1 +ℤ cond b (cond t (unit (weightOf c k) *ℤ pos 0) (pos 0)) (pos 0) ≡ light k *ℤ pos 1
+      go : (b t : Bool) → light k *ℤ pos d +ℤ cond b (cond t (unit (weightOf c k) *ℤ pos 0) (pos 0)) (pos 0) ≡ light k *ℤ pos d
       go false t = none _
       go true false = none _
       go true true = rw (still (unit (weightOf c k))) (none _)
 
-  corner-amount : (d : List ℤ) (a : Answer) → Cornered s d a → (k : ℕ) → k < p .count → amountAt a k ≡ record { p = light k; q = 1 }
-  corner-amount d a h k l = h .point-is .counted k (in-box k l) ∙ ap (λ z. lowest z 1) (corner-numerator k) ∙ lowest-one (light k) 1 (omega arith)
+  corner-amount : (d : List ℤ) (a : Answer) → Cornered s d a → (k : ℕ) → k < p .count
+      → amountAt a k ≡ record { p = light k *ℤ pos (ownDivisor (I .item k)); q = ownDivisor (I .item k) }
+  corner-amount d a h k l = h .point-is .amounts .counted k (in-box k l)
+      ∙ ap (λ z. made z (divisorIn c (h .point-is .whole) k)) (corner-numerator (divisorIn c (h .point-is .whole) k) k)
+      ∙ ap (λ (t : ℕ). made (light k *ℤ pos t) t)
+      (own-is I c (h .point-is .whole) (setting-columns p s q (h .point-is .whole) (h .point-is .levelled)) k l)
+    where
+      made : ℤ → ℕ → Fraction
+      made n t = record { p = n; q = t }
 
   corner-reads : (d : List ℤ) (a : Answer) → Cornered s d a → Reads I 1 (pointOf a) light
-  corner-reads d a h k l = rw (corner-amount d a h k l) (record { eq = refl })
+  corner-reads d a h k l = rw (corner-amount d a h k l) (record { eq = once (light k) (ownDivisor (I .item k)) (own-some (I .item k)) })
+    where
+      twice : (x : ℤ) (t : ℕ) → (x *ℤ pos t) *ℤ pos 1 ≡ x *ℤ pos t
+      twice = split _ (λ a b t. simp zed (omega arith))
+
+      once : (x : ℤ) (t : ℕ) → 1 ≤ t → (x *ℤ pos t) *ℤ pos 1 ≡ x *ℤ pos (max 1 t)
+      once x t m = twice x t ∙ ap (λ (n : ℕ). x *ℤ pos n) (omega arith)
 
   pub unbounded-corner : (r : RayReply) (a : Answer) → pos 0 ≤ℤ begun (s .cols) (s .ends) .room → RayFound p r → r .found ≡ true → Cornered s (r .steps) a
       → Answers I a
   unbounded-corner r a fits found y h = rw (h .kind-is) (record {
     unbounded = rw (h .steps-are) (corner-unbounded p r lo hi light (pointOf a) range found y corner (corner-reads (r .steps) a h) (corner-fits fits));
     shown = corner-shown I (ranges-of p range) lo hi light corner (amountAt a) (corner-amount (r .steps) a h)
-        (λ k l. h .point-is .beyond k (omega (arith, q .count)));
+        (λ k l. h .point-is .amounts .beyond k (omega (arith, q .count)));
     steps = rw (h .steps-are) (found .small);
     endless = h .value-is;
   })
@@ -218,17 +245,19 @@ module _ (p : Problem) (range : InRange p) (s : Setting) (q : PreparedAt (spanOf
         (best-box .feasible .keeps k (in-near k l) .above) (best-box .feasible .keeps k (in-near k l) .below)
 
     module _ (a : Answer) (h : Best s (b .place) a) where
-      shows : (k : ℕ) → k < p .count → amountAt a k ≡ lowest (N k) D
-      shows k l = h .point-is .counted k (in-near k l)
+      abbrev w : List Bool
+      w = h .point-is .whole
+
+      shows : (k : ℕ) → k < p .count → amountAt a k ≡ amountOf d e f (divisorIn d w k) k
+      shows k l = h .point-is .amounts .counted k (in-near k l)
 
       reads : Reads J D (pointOf a) N
-      reads k l = rw (shows k l) (over-lowest (N k) D D≥1)
-
-      columns-of : ColumnsOf J d
-      columns-of = record { count = q .count; own-weight = q .weights; item-rank = q .ready .ordered .item-rank; sizes = q .ready .ordered .sizes }
+      reads k l = rw (shows k l) (fill-over d e w (q .ready .ordered .item-rank) (q .ready .ordered .sizes) D≥1
+          (λ j i. level-fixed s (q .ready) (h .long) (at (b .place)) w (h .point-is .levelled) j) (g .roomy y (λ j. itemAt p j .mark) (q .marked)) k (in-near k l))
 
       shown : Shown J (amountAt a)
-      shown = filling-shown J d columns-of e f D≥1 amount-small (amountAt a) shows (λ k l. h .point-is .beyond k (omega (arith, q .count)))
+      shown = filling-shown J d w (setting-columns p s q w (h .point-is .levelled)) e f D D≥1 N amount-small (amountAt a) shows
+          (λ k l. h .point-is .amounts .beyond k (omega (arith, q .count))) reads
 
       pub optimal-found : (r : RayReply) → RayFound p r → r .found ≡ false → Answers J a
       optimal-found r ray n = rw (h .kind-is) (record {

@@ -32,8 +32,7 @@ use Rattle.arith.specs.Within.{Within}
 use Rattle.arith.specs.Gcd.{lowest}
 use Rattle.arith.specs.declared.Mixed.{Mixed}
 use Rattle.arith.proofs.Mixes.{over}
-use Rattle.firsts.specs.Leading.{OptimalAt}
-use Rattle.greedy.specs.Amounts.{Amounts}
+use Rattle.firsts.specs.Leading.{OptimalAt, OwnAmounts}
 use Rattle.greedy.specs.declared.Ends.{Ends}
 use Rattle.greedy.specs.declared.Fill.{Fill}
 use Rattle.greedy.specs.Fill.{at, fill, bound}
@@ -50,7 +49,7 @@ use Rattle.setting.specs.declared.Pairs.{Pairs}
 use Rattle.setting.specs.declared.Setting.{Setting}
 use Rattle.search.specs.declared.Incumbent.{Incumbent}
 use Rattle.search.specs.declared.State.{State}
-use Rattle.setting.specs.Box.{fixedBy}
+use Rattle.setting.specs.Box.{fixedBy, Long}
 use Rattle.search.specs.Searched.{Searched}
 use Rattle.search.specs.Steps.{Stops}
 use Rattle.settling.specs.Settling.{FirstPlace, SettleWrites}
@@ -68,7 +67,7 @@ unfilled = record { at = 0; room = pos 0; worth = pos 0 }
 
 pub record Cornered (s : Setting) (d : List ℤ) (a : Answer) : Type 0 where
   pub kind-is : a .kind ≡ kind.Unbounded
-  pub point-is : Amounts (s .cols) (s .ends) unfilled 1 (a .point)
+  pub point-is : OwnAmounts s (s .cols) (s .ends) unfilled (a .point)
   pub steps-are : a .steps ≡ d
   pub value-is : a .value ≡ nought
 
@@ -84,7 +83,8 @@ valueAt s x = bound (s .cols) (fillAt s x)
 
 pub record Best (s : Setting) (x : List ℤ) (a : Answer) : Type 0 where
   pub kind-is : a .kind ≡ kind.Optimal
-  pub point-is : Amounts (s .cols) (boxAt s x) (fillAt s x) (valueAt s x .parts) (a .point)
+  pub long : Long (s .ends)
+  pub point-is : OwnAmounts s (s .cols) (boxAt s x) (fillAt s x) (a .point)
   pub steps-are : a .steps ≡ replicate 16 (pos 0)
   pub value-is : a .value ≡ lowest (over (valueAt s x)) (valueAt s x .parts)
 

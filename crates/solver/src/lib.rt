@@ -3,8 +3,8 @@
 use arith::Fraction;
 use arith::Mixed;
 use arith::reduce;
+use firsts::amounts_of;
 use greedy::Fill;
-use greedy::amounts;
 use greedy::begin;
 use greedy::bound_of;
 use greedy::fill_up;
@@ -28,7 +28,6 @@ use settling::settle;
 ghost use mathlib.Core.Path.{_≡_};
 ghost use Rattle.arith.proofs.Mixes.{over};
 ghost use Rattle.greedy.specs.Fill.{at};
-ghost use Rattle.greedy.specs.Sized.{Sized};
 ghost use Rattle.knapsack.specs.Ranges.{InRange};
 ghost use Rattle.knapsack.specs.Meaning.{bare};
 ghost use Rattle.model.specs.Records.{FiguresInRange};
@@ -64,7 +63,7 @@ pub fn no_point(k: Kind) -> Answer
 
 // The answer of a ray: its steps, from the point where every item is lightest.
 fn unbounded(s: Setting, steps: [i64; 16]) -> Answer
-    requires { ⌜ Sized (s .cols) (s .ends) ⌝ }
+    requires { ⌜ ReadySetting s ⌝ }
     ensures { λ r. ⌜ Cornered s steps r ⌝ }
 {
     let f = Fill {
@@ -72,7 +71,7 @@ fn unbounded(s: Setting, steps: [i64; 16]) -> Answer
         room: 0,
         worth: 0,
     };
-    let x = amounts(s.cols, s.ends, f, 1);
+    let x = amounts_of(s, s.cols, s.ends, f);
     let point = x.point;
     let nought = Fraction { p: 0, q: 1 };
     Answer {
@@ -91,7 +90,7 @@ fn optimal(s: Setting, x: [i64; 16]) -> Answer
     let e = fixed(s, x, s.levels);
     let f = fill_up(s.cols, e);
     let v = bound_of(s.cols, f);
-    let y = amounts(s.cols, e, f, v.parts);
+    let y = amounts_of(s, s.cols, e, f);
     let n = joined(v);
     let value = reduce(n, v.parts);
     let point = y.point;

@@ -11,6 +11,7 @@ use feasibility::check_point;
 use knapsack::Answer;
 use knapsack::Bound;
 use knapsack::Item;
+use knapsack::Mark;
 use model::Model;
 use model::beyond;
 ghost use Prim.Native.Nat.{_≤_};
@@ -42,14 +43,17 @@ fn is_feasible(r: PointReply) -> bool {
     }
 }
 
-fn divides(q: u64, weight: i64) -> bool {
-    if q == 0 {
-        return false;
+// The divisor of an item's amounts: a continuous one's is its weight without sign, 1 where it is 0 (paper 02, request 12).
+fn own_divisor(x: Item) -> u64 {
+    let m = x.mark;
+    let size = size_of(x.weight);
+    match m {
+        Mark::Integer => 1,
+        Mark::Continuous => { if size == 0 { 1 } else { size } }
     }
-    size_of(weight) % q == 0
 }
 
-// Whether the divisor of each amount divides the item's weight, a limit of paper 01 that the point check does not ask for.
+// Whether each amount is over its item's own divisor.
 fn divisors_hold(p: Model, a: Answer) -> bool {
     let items = p.items;
     let amounts = a.point;
@@ -58,7 +62,7 @@ fn divisors_hold(p: Model, a: Answer) -> bool {
     while k < 16 {
         let x = items[k];
         let v = amounts[k];
-        if k < n && !divides(v.q, x.weight) {
+        if k < n && v.q != own_divisor(x) {
             return false;
         }
         k += 1;

@@ -1,11 +1,14 @@
 -- `feasibility::check_amounts` meets its contract: where the common divisor is not 0 the amounts are ready for yes or no.
-use mathlib.Core.Path.{sym, _∙_}
+use mathlib.Core.Path.{_≡_, sym, _∙_}
+use Prim.Native.Nat.{ℕ, _<_}
 use native.Mathlib.Omega.{arith}
 use borrow.Author.Needs.{needs}
 use borrow.Author.Tests.{eq-eqb, ne-eqb}
-use Rattle.feasibility.specs.Amounts.{proposedAt}
+use Rattle.feasibility.specs.Amounts.{proposedAt, GoodAmount, commonDivisor}
+use Rattle.knapsack.specs.Ranges.{itemAt}
+use Rattle.model.specs.Records.{ItemFigures}
 use Rattle.feasibility.specs.Check.{amountCheck}
-use Rattle.feasibility.proofs.Divisor.{Divided, divided}
+use Rattle.feasibility.proofs.Divisor.{good-amount, divided, divided-few}
 use Rattle.feasibility.proofs.check_amounts.Statement.{statement}
 use Rattle.feasibility.proofs.check_amounts.Tie as tie
 
@@ -32,22 +35,23 @@ returns-2 c =
 abbrev start : tie.Else1 → tie.Start
 start c = c .before .before .before
 
-served : (c : tie.Else2) →
-    let s = start (c .before .before) in
-    Divided (s .args .c .count) (proposedAt (s .args .c))
-    (c .before .common-divisor .result)
-served c = let e = c .before .common-divisor .ensures in rw e (divided _ _ (λ z. c .if2 .left (e ∙ z)))
+-- where the common divisor is not 0
+nonzero : (c : tie.Else2) → let s = start (c .before .before) in commonDivisor (s .args .c .count) (itemAt (s .args .p)) (proposedAt (s .args .c)) ≡ 0 → ⊥
+nonzero c z = c .if2 .left (c .before .common-divisor .ensures ∙ z)
 
 judge-requires : tie.Need-judge-requires
 judge-requires c κs =
     let d = c .before in
     let s = start (d .before) in
-    let v = served c in
-    let e = d .before .if1 .left in (
-      (v .some, v .few),
+    let e = d .before .if1 .left in
+    let n = s .args .c .count in
+    let v = divided n (itemAt (s .args .p)) (proposedAt (s .args .c)) (nonzero c) in
+    let r : (k : ℕ) → k < n → ItemFigures (itemAt (s .args .p) k) = λ k l. s .pre .0 .items-in k (rw (← e) l) in
+    let g : (k : ℕ) → k < n → GoodAmount (proposedAt (s .args .c) k) = λ k l. good-amount (itemAt (s .args .p) k) (proposedAt (s .args .c) k) (r k l) (v .fine k l) in (
+      rw (d .common-divisor .ensures) (v .some, divided-few n (itemAt (s .args .p)) (proposedAt (s .args .c)) r (nonzero c)),
       (
-        record { problem = s .pre .0; amounts = λ k l. v .fine k (rw e l) },
-        record { lined = rw e (s .pre .1); few-amounts = omega (arith, e, s .pre .0 .few-items); amounts = v .fine },
+        record { problem = s .pre .0; amounts = λ k l. g k (rw e l) },
+        record { lined = rw e (s .pre .1); few-amounts = omega (arith, e, s .pre .0 .few-items); amounts = g },
       ),
     )
 

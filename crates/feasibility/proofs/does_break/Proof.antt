@@ -9,53 +9,31 @@ use Rattle.model.specs.declared.Side.the-variants.{Lower}
 use Rattle.feasibility.proofs.does_break.Statement.{statement}
 use Rattle.feasibility.proofs.does_break.Tie as tie
 
--- the moments that are spoken of below
-abbrev start : tie.Else1 → tie.Start
-start c = c .before .before .before
-
 lower-test : (c : tie.After-breaks-bound) →
-    let s = start (c .before) in
-    breaksBound Lower (s .args .i .lower) (s .args .x .p)
-    (s .args .x .q) ≡ c .breaks-bound .result
+    let s = c .before .before in
+    breaksBound Lower (s .args .i .lower) (s .args .x .p) (s .args .x .q) ≡ c .breaks-bound .result
 lower-test c =
-    let s = start (c .before) in
+    let s = c .before .before in
     let h : SFits w64 (s .args .x .p) = search needs in
     sym (rw (toZ-ofZ h) at (c .breaks-bound .ensures))
-
-breaks-mark-requires : tie.Need-breaks-mark-requires
-breaks-mark-requires c κs = search needs
-
-returns : tie.Need-returns
-unfolding breaks
-returns c = rw (sym (c .before .breaks-mark .ensures) ∙ c .if1 .taken)
 
 breaks-bound-requires : tie.Need-breaks-bound-requires
 breaks-bound-requires c κs = search needs
 
-returns-2 : tie.Need-returns-2
+returns : tie.Need-returns
 unfolding breaks
-returns-2 c =
-    let m = c .before .before in
-    rw (sym (m .before .breaks-mark .ensures) ∙ m .if1 .left, lower-test (c .before) ∙ c .if2 .taken)
+returns c = rw (lower-test (c .before) ∙ c .if1 .taken)
 
 breaks-bound-requires-2 : tie.Need-breaks-bound-requires-2
 breaks-bound-requires-2 c κs = search needs
 
-returns-3 : tie.Need-returns-3
+returns-2 : tie.Need-returns-2
 unfolding breaks
-returns-3 c =
+returns-2 c =
     let l = c .before in
-    let m = l .before .before in
-    let h : SFits w64 (m .before .before .before .args .x .p) = search needs in
-    rw (sym (m .before .breaks-mark .ensures) ∙ m .if1 .left, lower-test (l .before) ∙ l .if2 .left) (rw (toZ-ofZ h) at (c .breaks-bound2 .ensures))
+    let s = l .before .before .before in
+    let h : SFits w64 (s .args .x .p) = search needs in
+    rw (lower-test (l .before) ∙ l .if1 .left) (rw (toZ-ofZ h) at (c .breaks-bound2 .ensures))
 
 pub does-break-spec : {M : Type 1} → statement M
-does-break-spec =
-    tie.close
-    (tie.spec
-    breaks-mark-requires
-    returns
-    breaks-bound-requires
-    returns-2
-    breaks-bound-requires-2
-    returns-3)
+does-break-spec = tie.close (tie.spec breaks-bound-requires returns breaks-bound-requires-2 returns-2)

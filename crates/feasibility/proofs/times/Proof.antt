@@ -13,7 +13,7 @@ use Rattle.feasibility.proofs.times.Statement.{statement}
 use Rattle.feasibility.proofs.times.Tie as tie
 
 fits : (c : tie.Start) → SFits w64 (c .args .v *ℤ pos (c .args .q))
-fits c = within-sfits {n = 1000000000000} (lit< tt) (abs-within (c .args .v *ℤ pos (c .args .q)) (rw natAbs-times (c .pre .0)))
+fits c = within-sfits {n = 1000000000000000} (lit< tt) (abs-within (c .args .v *ℤ pos (c .args .q)) (rw natAbs-times (c .pre .0)))
 
 is-n : (c : tie.Start) → toZ w64 (c .args .q) ≡ pos (c .args .q)
 is-n c = toZ-pos w64 (omega arith)

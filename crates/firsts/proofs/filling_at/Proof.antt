@@ -1,10 +1,8 @@
 -- `firsts::filling_at` meets its contract.
 use mathlib.Core.Path.{_≡_, ap, _∙_}
-use native.Mathlib.Omega.{arith}
 use borrow.Author.Needs.{needs}
 use Rattle.greedy.specs.Fill.{at, fill, bound}
 use Rattle.greedy.specs.Sized.{Sized, SizedFill}
-use Rattle.greedy.proofs.Bounds.{bound-proper}
 use Rattle.greedy.proofs.Sizes.{fill-sized}
 use Rattle.firsts.specs.Leading.{endsAt}
 use Rattle.firsts.proofs.Places.{place-sized}
@@ -34,22 +32,20 @@ value-is : (c : tie.After-bound-of) → let s = c .before .before .before in
     c .bound-of .result ≡ bound (s .args .c) (fill (s .args .c) (endsAt (s .args .s) (at (s .args .x))))
 value-is c = c .bound-of .ensures ∙ ap (bound (c .before .before .before .args .c)) (fill-is (c .before))
 
-amounts-requires : tie.Need-amounts-requires
-amounts-requires c κs =
+amounts-of-requires : tie.Need-amounts-of-requires
+amounts-of-requires c κs =
     let s = c .before .before .before in
-    let b = bound-proper (s .args .c) (fill (s .args .c) (endsAt (s .args .s) (at (s .args .x)))) (filled s) in
-    rw (c .before .before .fixed .ensures, fill-is (c .before), value-is c)
-    (record { sized = sized s; filled = filled s; divisor = omega (arith, b .low); few = b .few; item-in = omega arith })
+    rw (c .before .before .fixed .ensures, fill-is (c .before)) (s .pre .0 .ready, (sized s, filled s))
 
 returns : tie.Need-returns
 returns c =
     let a = c .before in
     let m = a .before in
     record {
-      shows = rw (m .before .before .fixed .ensures, fill-is (m .before), value-is m) at (a .amounts .ensures);
+      shows = rw (m .before .before .fixed .ensures, fill-is (m .before)) at (a .amounts-of .ensures);
       value-is = value-is m;
     }
 
 pub filling-at-spec : {M : Type 1} → statement M
 filling-at-spec =
-    tie.close (tie.spec fixed-requires fill-up-requires bound-of-requires amounts-requires returns)
+    tie.close (tie.spec fixed-requires fill-up-requires bound-of-requires amounts-of-requires returns)

@@ -30,7 +30,7 @@ comes-before-requires c κs =
     let e = endsAt (s .args .s) (at (p .by-level .result)) in (
       s .pre .0 .tied .sized .few,
       (
-        shown-small (s .args .c) e (place-sized (s .args .s) (s .args .c) (s .pre .0) (at (p .by-level .result)) (inside p)) (f .filling-at .result .point)
+        shown-small (s .args .c) e (place-sized (s .args .s) (s .args .c) (s .pre .0) (at (p .by-level .result)) (inside p)) (s .args .s) (f .filling-at .result .point)
             (f .filling-at .ensures .shows),
         s .pre .1 .0,
       ),

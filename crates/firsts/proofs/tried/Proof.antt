@@ -125,7 +125,7 @@ sooner-requires c κs =
     let h = s .pre .0 .1 .1 .1 in (
       y,
       (
-        shown-small (a .c) (endsAt (a .s) (h .place)) (place-sized (a .s) (a .c) y (h .place) (h .inside)) (a .b .point) (h .shows),
+        shown-small (a .c) (endsAt (a .s) (h .place)) (place-sized (a .s) (a .c) y (h .place) (h .inside)) (a .s) (a .b .point) (h .shows),
         seen-inside (a .s) (a .c) y (a .l) (s .pre .0 .1 .0) (a .t) (a .b) h (a .whole) (s .pre .0 .1 .1 .0) (s .pre .1 .0) (s .pre .1 .1 .0) _
             (over (test m))
             (m .first-of-frame .result) (m .first-of-frame .ensures) (c .before .if2 .taken),

@@ -57,7 +57,7 @@ unbounded-requires : tie.Need-unbounded-requires
 unbounded-requires c κs =
     let r = c .before .before .before in
     let b = r .before .before .before in
-    b .before .prepare .ensures .ready .sized
+    b .before .prepare .ensures .ready
 
 with-work-requires-2 : tie.Need-with-work-requires-2
 with-work-requires-2 c κs = search needs

@@ -44,12 +44,10 @@ bound-of-requires c κs = rw (fill-is c) (filled (c .before .before))
 value-is : (c : tie.After-bound-of) → c .bound-of .result ≡ valueAt (c .before .before .before .args .s) (c .before .before .before .args .x)
 value-is c = c .bound-of .ensures ∙ ap (bound (c .before .before .before .args .s .cols)) (fill-is (c .before))
 
-amounts-requires : tie.Need-amounts-requires
-amounts-requires c κs =
+amounts-of-requires : tie.Need-amounts-of-requires
+amounts-of-requires c κs =
     let s = c .before .before .before in
-    let b = bound-proper (s .args .s .cols) (fillAt (s .args .s) (s .args .x)) (filled s) in
-    rw (c .before .before .fixed .ensures, fill-is (c .before), value-is c)
-    (record { sized = sized s; filled = filled s; divisor = omega (arith, b .low); few = b .few; item-in = omega arith })
+    rw (c .before .before .fixed .ensures, fill-is (c .before)) (s .pre .0, (sized s, filled s))
 
 joined-requires : tie.Need-joined-requires
 joined-requires c κs =
@@ -78,9 +76,9 @@ returns c =
     let r = c .before in
     let j = r .before in
     let m = j .before in
-    let e = rw (m .before .before .before .fixed .ensures, fill-is (m .before .before), value-is (m .before)) at (m .amounts .ensures) in
+    let e = rw (m .before .before .before .fixed .ensures, fill-is (m .before .before)) at (m .amounts-of .ensures) in
     let v = rw (back (j .joined .result) (j .joined .ok), numerator-is j, value-is (m .before)) at (r .reduce .ensures) in
-    record { kind-is = refl; point-is = e; steps-are = refl; value-is = v }
+    record { kind-is = refl; long = long (m .before .before .before .before); point-is = e; steps-are = refl; value-is = v }
 
 pub optimal-spec : {M : Type 1} → statement M
 optimal-spec =
@@ -89,7 +87,7 @@ optimal-spec =
     fixed-requires
     fill-up-requires
     bound-of-requires
-    amounts-requires
+    amounts-of-requires
     joined-requires
     reduce-requires
     returns)

@@ -5,10 +5,10 @@ use Rattle.parts_test.proofs.points.drawn_point.Statement.{statement}
 use Rattle.parts_test.proofs.points.drawn_point.Tie as tie
 
 abbrev Inv-loop : tie.InvT-loop
-Inv-loop state n amounts₀ filler now₀ count k₀ amounts now k = Unit {0}
+Inv-loop state n items amounts₀ filler now₀ count k₀ amounts now k = Unit {0}
 
 abbrev μ-loop : tie.MeasureT-loop
-μ-loop state n amounts₀ filler now₀ count k₀ amounts now k = 16 - k
+μ-loop state n items amounts₀ filler now₀ count k₀ amounts now k = 16 - k
 
 no-amounts-requires : tie.Need-no-amounts-requires Inv-loop μ-loop
 no-amounts-requires c κs = search needs
@@ -27,6 +27,12 @@ loop-holds c = search needs
 
 next-requires-2 : tie.Need-next-requires-2 Inv-loop μ-loop
 next-requires-2 c κs = search needs
+
+mul-i : tie.Need-mul-i Inv-loop μ-loop
+mul-i c = search needs
+
+array-copy-out-i : tie.Need-array-copy-out-i Inv-loop μ-loop
+array-copy-out-i c = search needs
 
 drawn-amount-requires : tie.Need-drawn-amount-requires Inv-loop μ-loop
 drawn-amount-requires c κs = search needs
@@ -64,6 +70,8 @@ drawn-point-spec =
     drawn-count-requires
     loop-holds
     next-requires-2
+    mul-i
+    array-copy-out-i
     drawn-amount-requires
     mul-amounts
     array-set-from-amounts

@@ -5,13 +5,19 @@ use Rattle.parts_test.proofs.points.shape_of.Statement.{statement}
 use Rattle.parts_test.proofs.points.shape_of.Tie as tie
 
 abbrev Inv-loop : tie.InvT-loop
-Inv-loop n amounts h₀ k₀ h k = k ≤ n
+Inv-loop n items amounts h₀ k₀ h k = k ≤ n
 
 abbrev μ-loop : tie.MeasureT-loop
-μ-loop n amounts h₀ k₀ h k = n - k
+μ-loop n items amounts h₀ k₀ h k = n - k
 
 loop-holds : tie.Need-loop-holds Inv-loop μ-loop
 loop-holds c = search needs
+
+mul-i : tie.Need-mul-i Inv-loop μ-loop
+mul-i c = search needs
+
+array-copy-out-i : tie.Need-array-copy-out-i Inv-loop μ-loop
+array-copy-out-i c = search needs
 
 mul-x : tie.Need-mul-x Inv-loop μ-loop
 mul-x c = search needs
@@ -41,6 +47,8 @@ shape-of-spec =
     Inv-loop
     μ-loop
     loop-holds
+    mul-i
+    array-copy-out-i
     mul-x
     array-copy-out-x
     with-amount-requires

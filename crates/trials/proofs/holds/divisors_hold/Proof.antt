@@ -25,8 +25,8 @@ mul-v c = search needs
 array-copy-out-v : tie.Need-array-copy-out-v Inv-loop μ-loop
 array-copy-out-v c = search needs
 
-divides-requires : tie.Need-divides-requires Inv-loop μ-loop
-divides-requires c κs = search needs
+own-divisor-requires : tie.Need-own-divisor-requires Inv-loop μ-loop
+own-divisor-requires c κs = search needs
 
 returns : tie.Need-returns Inv-loop μ-loop
 returns c = search needs
@@ -54,7 +54,7 @@ divisors-hold-spec =
     array-copy-out-x
     mul-v
     array-copy-out-v
-    divides-requires
+    own-divisor-requires
     returns
     add-k
     loop-less
