@@ -4,7 +4,7 @@
 #include <stdio.h>
 #include <string.h>
 
-static const char sample[] = "limit 1\n20\nitems 2\nW 9 13\nL 3 2\nlower 2\n1 0\n2 0\nupper 2\n1 2\n2 5\nneeds 0\n";
+static const char sample[] = "limit 1\n20\nitems 2\nW 9 9 13\nL 3 3 2\nlower 2\n1 0\n2 0\nupper 2\n1 2\n2 5\nneeds 0\n";
 
 int main(void) {
     uint8_t sheet[CHARGE_SHEET + 1];

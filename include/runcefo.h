@@ -18,12 +18,12 @@
 #include <stdint.h>
 
 #define RUNCEFO_VERSION_MAJOR 0
-#define RUNCEFO_VERSION_MINOR 11
-#define RUNCEFO_VERSION "0.11"
+#define RUNCEFO_VERSION_MINOR 12
+#define RUNCEFO_VERSION "0.12"
 
 /* The longest sheet that is not refused unread, the bytes that hold every reply (as charge_room says), and the stack of a call. */
 #define CHARGE_SHEET 4096
-#define CHARGE_ROOM 1440
+#define CHARGE_ROOM 2880
 #define CHARGE_STACK 720896
 
 /* Why a sheet is refused, or not written. */
@@ -38,7 +38,9 @@ enum charge_refusal {
     CHARGE_BAD_WORD = 12,     /* a heading word other than the expected one */
     CHARGE_NO_NUMBER = 13,    /* a field in a number's place that is not a number, or in a bound's place neither that nor `none` */
     CHARGE_BAD_NEED = 14,     /* a need names an item that is continuous, lacks a bound, or has a lower bound below 0 */
-    CHARGE_BLANK_ITEM = 15    /* an item's weight and price are both 0; of charge_convert: such items cannot be left out */
+    CHARGE_BLANK_ITEM = 15,   /* an item's weights, low and high, and price are 0; of charge_convert: such items cannot be left out */
+    CHARGE_WEIGHT_RANGE = 19, /* an item's low weight is above its high one */
+    CHARGE_RANGED_ITEM = 20   /* an item's weight is a range, and its lower bound is absent or below 0 */
 };
 
 #ifdef __cplusplus
@@ -52,9 +54,10 @@ size_t charge_room(void);
 /* A sheet's verdict, one of charge_refusal; *line gets the refusal's line, or 0. */
 uint64_t charge_read(const uint8_t *sheet, size_t length, uint64_t *line);
 
-/* Plans a sheet: what `charge` prints for it, at the start of out; *written gets its length, there is no closing zero byte, and CHARGE_ACCEPTED
-   is told. Of an amount p q, q is the weight without sign of an item with mark L (1 where that is 0), and 1 with mark W; only the value is in lowest
-   terms. Else no byte of out changes and *written gets 0: the sheet's own refusal is told, then CHARGE_SHORT_BUFFER; *line gets its line, or 0. */
+/* Plans a sheet: what `charge` prints for it, the sure reply and then the possible one, at the start of out; *written gets its length, there is no
+   closing zero byte, and CHARGE_ACCEPTED is told. Of an amount p q, q is the weight without sign of an item with mark L, high in the sure reply and low
+   in the possible (1 where that is 0), and 1 with mark W; only the value is in lowest terms. Else no byte of out changes and *written gets 0: the
+   sheet's own refusal is told, then CHARGE_SHORT_BUFFER; *line gets its line, or 0. */
 uint64_t charge_plan(const uint8_t *sheet, size_t length, uint8_t *out, size_t room, size_t *written, uint64_t *line);
 
 /* Reads a sheet and writes what was read at the start of out, to save it: an accepted sheet comes back byte by byte, in length bytes, and
@@ -68,12 +71,13 @@ uint64_t charge_write(const uint8_t *sheet, size_t length, uint8_t *out, size_t 
    item would remain, else on that of the first blank item whose bounds cross or that a need names; then CHARGE_SHORT_BUFFER; *line gets its line, or 0. */
 uint64_t charge_convert(const uint8_t *sheet, size_t length, uint8_t *out, size_t room, size_t *written, uint64_t *line);
 
-/* How many steps the searches take for a sheet: at most 1,000 without needs, and 1,000 in each of at most 2^(t + 1) cases with t of them (proved); 0 if
-   it is refused or needs no search. */
+/* How many steps the searches take for a sheet: for each reply at most 1,000 without needs, and 1,000 in each of at most 2^(t + 1) cases with t of them
+   (proved); where every weight is one figure the sure reply is the possible one, and is searched for once. 0 if it is refused or
+   needs no search. */
 uint64_t charge_steps(const uint8_t *sheet, size_t length);
 
-/* How many cells the scales write for a sheet: at most 67,570,093,800 without needs, and so many in each case with them (proved); 0 if every search ends
-   and no first point is owed. */
+/* How many cells the scales write for a sheet, for each reply: at most 67,570,093,800 without needs, and so many in each case with them (proved); 0 if
+   every search ends and no first point is owed. */
 uint64_t charge_cells(const uint8_t *sheet, size_t length);
 
 #ifdef __cplusplus

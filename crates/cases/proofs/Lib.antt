@@ -10,4 +10,5 @@ pub mod Limits
 pub mod Relaxing
 pub mod Once
 pub mod Demands
+pub mod Senses
 pub mod Examples

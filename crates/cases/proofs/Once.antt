@@ -33,6 +33,7 @@ use Rattle.model.specs.Promises.{RepliesAs, Planned}
 use Rattle.model.specs.Records.{plainOf, needsOf, verdict}
 use Rattle.model.specs.declared.Model.{Model}
 use Rattle.model.specs.declared.Need.{Need}
+use Rattle.model.specs.declared.Sense.{Sense}
 use Rattle.cases.specs.Demands.{HasOptimalNeeds, HasRayNeeds, EndlessNeeds}
 use Rattle.cases.proofs.Endless.{unbounded-passes}
 
@@ -144,7 +145,7 @@ module _ (s : Instance) (ns : List Need) (low : AllLower s) (a b : Answer) (la :
   replied-once (Refused r) x y = inl (x ∙ sym y)
 
 -- End theorem: where every lower bound is present two replies of the planner are the same
-pub planned-once : (m : Model) → AllLower (instanceOf (plainOf m)) → (a b : Answer) → length (a .point) ≡ 16 → length (b .point) ≡ 16
-    → Planned m a → Planned m b → SameAnswer a b
-planned-once m low a b la lb x y = replied-once (instanceOf (plainOf m)) (needsOf (m .needs)) low a b la lb (x .first) (y .first) (verdict m)
-    (x .replies) (y .replies)
+pub planned-once : (sense : Sense) (m : Model) → AllLower (instanceOf (plainOf sense m)) → (a b : Answer) → length (a .point) ≡ 16 → length (b .point) ≡ 16
+    → Planned sense m a → Planned sense m b → SameAnswer a b
+planned-once sense m low a b la lb x y =
+    replied-once (instanceOf (plainOf sense m)) (needsOf (m .needs)) low a b la lb (x .first) (y .first) (verdict m) (x .replies) (y .replies)

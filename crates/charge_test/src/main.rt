@@ -19,7 +19,10 @@ fn main() {
     try_on(b"best");
     try_on(b"infeasible");
     try_on(b"unbounded");
+    try_on(b"ranged");
     try_on(b"refused");
+    try_on(b"reversed");
+    try_on(b"below_zero");
     try_on(b"long");
     try_on(b"empty");
     try_on(b".");

@@ -1,8 +1,8 @@
 // Blank items (paper 02, request 9) that the program makes itself, and what has to become of a record with some of them: each item is looked at by
 // itself, and none is moved here.
 use knapsack::Bound;
-use knapsack::Item;
 use model::Model;
+use model::ModelItem;
 use model::Need;
 use model::setters;
 use trials::draw::DrawnProblem;
@@ -27,13 +27,14 @@ pub struct Fate {
 
 // ---- made
 
-fn weightless(x: Item, price: i64) -> Item {
+fn weightless(x: ModelItem, price: i64) -> ModelItem {
     let m = x.mark;
     let l = x.lower;
     let u = x.upper;
-    Item {
+    ModelItem {
         mark: m,
-        weight: 0,
+        low: 0,
+        high: 0,
         price: price,
         lower: l,
         upper: u,
@@ -68,11 +69,11 @@ pub fn with_drawn_blanks(m: Model, state: u64) -> DrawnProblem {
 
 // ---- looked at
 
-pub fn is_blank(x: Item) -> bool {
-    x.weight == 0 && x.price == 0
+pub fn is_blank(x: ModelItem) -> bool {
+    x.low == 0 && x.high == 0 && x.price == 0
 }
 
-fn crosses(x: Item) -> bool {
+fn crosses(x: ModelItem) -> bool {
     let l = x.lower;
     let u = x.upper;
     match l {

@@ -30,6 +30,7 @@ use knapsack::Refusal;
 use knapsack::Verdict;
 use model::Model;
 use model::Need;
+use model::Sense;
 use model::setters;
 use planner::plan_within;
 use sheet::Reading;
@@ -87,7 +88,7 @@ fn has_gone(m: Model, n: usize, o: Model) -> bool
 fn answered(m: Model, n: usize, o: Model, sure: bool) -> Trial
     requires { ⌜ n ≤ 15 ⌝ }
 {
-    let a = plan_within(o, STEPS);
+    let a = plan_within(o, Sense::Sure, STEPS);
     let b = outcome_beside(m, n, a, sure);
     let k = a.kind;
     Trial {
@@ -213,7 +214,7 @@ fn print_reply(k: Kept) {
             let r = reading_of(k);
             let m = r.model;
             print(b": ");
-            print_kind(plan_within(m, STEPS));
+            print_kind(plan_within(m, Sense::Sure, STEPS));
         }
     }
 }

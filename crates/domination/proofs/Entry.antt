@@ -24,6 +24,7 @@ use Rattle.model.specs.Records.{plainOf, wrongNumbers, verdict, ItemFigures, Fi
 use Rattle.model.proofs.NeedLines.{numbers-iff}
 use Rattle.model.specs.Refusals.{pair-numbers, pair-items}
 use Rattle.model.specs.declared.Model.{Model}
+use Rattle.model.specs.declared.Sense.{Sense}
 use Rattle.domination.specs.declared.Pair.{Pair}
 use Rattle.domination.specs.declared.Pair.the-variants.{Missing, Steps}
 use Rattle.domination.specs.declared.PairReply.{PairReply}
@@ -45,22 +46,22 @@ succeeds : (t : Bool) → (t ≡ false → ⊥) → t ≡ true
 succeeds true h = refl
 succeeds false h = absurd (h refl)
 
-module _ (m : Model) (i j : ℕ) where
+module _ (sense : Sense) (m : Model) (i j : ℕ) where
   abbrev first : Item
-  first = itemAt (plainOf m) (i - 1)
+  first = itemAt (plainOf sense m) (i - 1)
 
   abbrev second : Item
-  second = itemAt (plainOf m) (j - 1)
+  second = itemAt (plainOf sense m) (j - 1)
 
-  pub refused-record : (f : Refusal) → verdict m ≡ Rejected f → leastPair m i j ≡ Refused f
+  pub refused-record : (f : Refusal) → verdict m ≡ Rejected f → leastPair sense m i j ≡ Refused f
   unfolding leastPair
   refused-record f e = rw e
 
-  pub refused-numbers : verdict m ≡ Accepted → (Numbers (m .count) i j → ⊥) → leastPair m i j ≡ refusePair pair-numbers
+  pub refused-numbers : verdict m ≡ Accepted → (Numbers (m .count) i j → ⊥) → leastPair sense m i j ≡ refusePair pair-numbers
   unfolding leastPair numbered
   refused-numbers e n = rw (e, succeeds (wrongNumbers (m .count) i j) (λ w. n (numbers-iff (m .count) i j .0 w)))
 
-  pub refused-items : verdict m ≡ Accepted → Numbers (m .count) i j → (Eligible first × Eligible second → ⊥) → leastPair m i j ≡ refusePair pair-items
+  pub refused-items : verdict m ≡ Accepted → Numbers (m .count) i j → (Eligible first × Eligible second → ⊥) → leastPair sense m i j ≡ refusePair pair-items
   unfolding leastPair numbered paired
   refused-items e n h = rw (e, numbers-iff (m .count) i j .1 n) (go (eligible first) (eligible second) refl refl)
     where
@@ -70,7 +71,7 @@ module _ (m : Model) (i j : ℕ) where
       go true false a b = refl
       go false t a b = refl
 
-  pub answered : Answerable m i j → leastPair m i j ≡ Found (pairOf first second)
+  pub answered : Answerable sense m i j → leastPair sense m i j ≡ Found (pairOf first second)
   unfolding leastPair numbered paired
   answered h = rw (
     h .is-accepted,
@@ -79,45 +80,45 @@ module _ (m : Model) (i j : ℕ) where
     eligible-iff second .1 (h .second-eligible),
   )
 
-  found : (q : Pair) → Answerable m i j → (leastPair m i j ≡ Found q) ↔ (pairOf first second ≡ q)
+  found : (q : Pair) → Answerable sense m i j → (leastPair sense m i j ≡ Found q) ↔ (pairOf first second ≡ q)
   found q h = let e = answered h in (λ k. cc, λ k. cc)
 
-  pub least-pair-steps : Answerable m i j → (r s : ℤ) → (leastPair m i j ≡ Found (Steps r s)) ↔ LeastPair first second r s
+  pub least-pair-steps : Answerable sense m i j → (r s : ℤ) → (leastPair sense m i j ≡ Found (Steps r s)) ↔ LeastPair first second r s
   least-pair-steps h r s =
       let a = found (Steps r s) h in
       let b = pair-steps first second (h .first-eligible) (h .second-eligible) r s in
       (λ k. b .0 (a .0 k), λ l. a .1 (b .1 l))
 
-  pub least-pair-missing : Answerable m i j → (leastPair m i j ≡ Found Missing) ↔ NoPair first second
+  pub least-pair-missing : Answerable sense m i j → (leastPair sense m i j ≡ Found Missing) ↔ NoPair first second
   least-pair-missing h =
       let a = found Missing h in
       let b = pair-missing first second (h .first-eligible) (h .second-eligible) in
       (λ k. b .0 (a .0 k), λ l. a .1 (b .1 l))
 
-  told-pair : Answerable m i j → Told m i j (Found (pairOf first second))
+  told-pair : Answerable sense m i j → Told sense m i j (Found (pairOf first second))
   told-pair h = go (pairOf first second) (pair-outcome first second (h .first-eligible) (h .second-eligible))
     where
-      go : (q : Pair) → Outcome first second q → Told m i j (Found q)
+      go : (q : Pair) → Outcome first second q → Told sense m i j (Found q)
       go Missing o = (h, o)
       go (Steps r s) o = (h, o)
 
-  pub told : Told m i j (leastPair m i j)
+  pub told : Told sense m i j (leastPair sense m i j)
   told = go (verdict m) (wrongNumbers (m .count) i j) (eligible first) (eligible second) refl refl refl refl
     where
-      is : (q : PairReply) → leastPair m i j ≡ q → Told m i j q → Told m i j (leastPair m i j)
-      is q e t = subst (Told m i j) (sym e) t
+      is : (q : PairReply) → leastPair sense m i j ≡ q → Told sense m i j q → Told sense m i j (leastPair sense m i j)
+      is q e t = subst (Told sense m i j) (sym e) t
 
-      unfit : verdict m ≡ Accepted → wrongNumbers (m .count) i j ≡ false → (Eligible first × Eligible second → ⊥) → Told m i j (leastPair m i j)
+      unfit : verdict m ≡ Accepted → wrongNumbers (m .count) i j ≡ false → (Eligible first × Eligible second → ⊥) → Told sense m i j (leastPair sense m i j)
       unfit e w n = let k = numbers-iff (m .count) i j .0 w in is _ (refused-items e k n) (by-items e k n)
 
       go : (v : Verdict) (w x y : Bool) → verdict m ≡ v → wrongNumbers (m .count) i j ≡ w → eligible first ≡ x → eligible second ≡ y →
-          Told m i j (leastPair m i j)
+          Told sense m i j (leastPair sense m i j)
       go (Rejected f) w x y e n a b = is _ (refused-record f e) (by-record f e)
       go Accepted true x y e n a b =
           let k : Numbers (m .count) i j → ⊥ = λ h. not-both _ n (numbers-iff (m .count) i j .1 h) in
           is _ (refused-numbers e k) (by-numbers e k)
       go Accepted false true true e n a b =
-          let h : Answerable m i j = record {
+          let h : Answerable sense m i j = record {
             is-accepted = e;
             numbers = numbers-iff (m .count) i j .0 n;
             first-eligible = eligible-iff first .0 a;

@@ -8,10 +8,12 @@ use Rattle.arith.specs.Gcd.{signed}
 use Rattle.knapsack.specs.declared.Bound.the-variants.{At}
 use Rattle.knapsack.specs.declared.Mark.the-variants.{Integer}
 use Rattle.knapsack.specs.declared.Item.{Item}
-use Rattle.knapsack.specs.Ranges.{blank}
 use Rattle.model.specs.Needs.{noNeeds}
-use Rattle.model.specs.Records.{someItem, needsVerdict, verdictBy}
+use Rattle.model.specs.Records.{noItem, itemsIn, someItem, needsVerdict, verdictBy}
 use Rattle.model.specs.declared.Model.{Model}
+use Rattle.model.specs.declared.ModelItem.{ModelItem}
+use Rattle.model.specs.declared.Sense.{Sense}
+use Rattle.model.specs.declared.Sense.the-variants.{Sure, Possible}
 use Rattle.knapsack.specs.Meaning.{LeastPair, NoPair}
 use Rattle.domination.specs.declared.Pair.the-variants.{Missing, Steps}
 use Rattle.domination.specs.declared.PairReply.the-variants.{Found}
@@ -24,17 +26,23 @@ use Rattle.domination.proofs.Eligible.{eligible-iff}
 abbrev pub item : ℕ → ℕ → ℕ → Item
 item a c u = record { mark = Integer; weight = pos a; price = pos c; lower = At (pos 0); upper = At (pos u) }
 
+-- with one weight, low and high
+abbrev weighed : Item → ModelItem
+weighed i = record { mark = i .mark; low = i .weight; high = i .weight; price = i .price; lower = i .lower; upper = i .upper }
+
 -- row F, with this upper bound of the first item
 abbrev pub rowF : ℕ → Model
-rowF u = record { items = item 3 5 u ∷ item 4 6 10 ∷ replicate 14 blank; count = 2; capacity = pos 10; needs = noNeeds }
+rowF u = record { items = weighed (item 3 5 u) ∷ weighed (item 4 6 10) ∷ replicate 14 noItem; count = 2; capacity = pos 10; needs = noNeeds }
 
-pub row-L : leastPair (rowF 10) 1 2 ≡ Found (Steps (negsuc 3) (pos 3))
-unfolding someItem needsVerdict verdictBy signed serving leastGive oneWay pairOf paired numbered leastPair
-row-L = refl
+pub row-L : (sense : Sense) → leastPair sense (rowF 10) 1 2 ≡ Found (Steps (negsuc 3) (pos 3))
+unfolding itemsIn someItem needsVerdict verdictBy signed serving leastGive oneWay pairOf paired numbered leastPair
+row-L Sure = refl
+row-L Possible = refl
 
-pub row-M : leastPair (rowF 3) 1 2 ≡ Found Missing
-unfolding someItem needsVerdict verdictBy signed serving leastGive oneWay pairOf paired numbered leastPair
-row-M = refl
+pub row-M : (sense : Sense) → leastPair sense (rowF 3) 1 2 ≡ Found Missing
+unfolding itemsIn someItem needsVerdict verdictBy signed serving leastGive oneWay pairOf paired numbered leastPair
+row-M Sure = refl
+row-M Possible = refl
 
 pair-L : pairOf (item 3 5 10) (item 4 6 10) ≡ Steps (negsuc 3) (pos 3)
 unfolding signed serving leastGive oneWay pairOf

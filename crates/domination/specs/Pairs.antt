@@ -12,7 +12,7 @@
 --   refusePair n         refusal n
 --   paired x y, numbered p i j   rows 10 and 9, then a pair
 --   after v q            the record's refusal, or q
---   leastPair m i j      the reply for items i and j, from 1: a refusal of the record, 9, 10, or a pair
+--   leastPair sense m i j   the reply for items i and j, from 1, by their weights in that sense: a refusal of the record, 9, 10, or a pair
 --   orMissing q          the pair of a reply
 --   isNamed named k      a need names the item at place k, from 0;  barred named i j: one of two items
 --   tabled p named i j   the table's entry for places i and j, from 0, of a plain problem: Missing where a need names one of the items, or 9 or 10 is due
@@ -37,6 +37,7 @@ use Rattle.knapsack.specs.Ranges.{itemAt}
 use Rattle.model.specs.Records.{plainOf, wrongNumbers, refusalOf, verdict, ItemFigures}
 use Rattle.model.specs.Refusals as refusal
 use Rattle.model.specs.declared.Model.{Model}
+use Rattle.model.specs.declared.Sense.{Sense}
 use Rattle.domination.specs.declared.Pair.{Pair}
 use Rattle.domination.specs.declared.Pair.the-variants.{Missing, Steps}
 use Rattle.domination.specs.declared.PairReply.{PairReply}
@@ -121,8 +122,8 @@ abbrev pub after : Verdict → PairReply → PairReply
 after Accepted q = q
 after (Rejected f) q = Refused f
 
-unfoldable pub leastPair : Model → ℕ → ℕ → PairReply
-leastPair m i j = after (verdict m) (numbered (plainOf m) i j)
+unfoldable pub leastPair : Sense → Model → ℕ → ℕ → PairReply
+leastPair sense m i j = after (verdict m) (numbered (plainOf sense m) i j)
 
 abbrev pub orMissing : PairReply → Pair
 orMissing (Refused f) = Missing

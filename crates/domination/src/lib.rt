@@ -6,6 +6,7 @@ use knapsack::Problem;
 use knapsack::Refusal;
 use knapsack::Verdict;
 use model::Model;
+use model::Sense;
 use model::check_model;
 use model::naming::are_wrong;
 use model::plain_of;
@@ -69,14 +70,14 @@ fn pair_numbered(p: Problem, i: usize, j: usize) -> PairReply
     pair_items(x, y)
 }
 
-// 01's least pair of the items i and j, numbered from 1: the one reply by definition, and what it says, by its case.
-pub fn least_pair(m: Model, i: usize, j: usize) -> PairReply
-    ensures { λ r. ⌜ r ≡ leastPair m i j ⌝ }
-    ensures { λ r. ⌜ Told m i j r ⌝ }
+// 01's least pair of the items i and j, numbered from 1, in a sense: the one reply by definition, and what it says, by its case.
+pub fn least_pair(m: Model, sense: Sense, i: usize, j: usize) -> PairReply
+    ensures { λ r. ⌜ r ≡ leastPair sense m i j ⌝ }
+    ensures { λ r. ⌜ Told sense m i j r ⌝ }
 {
     let v = check_model(m);
     match v {
-        Verdict::Accepted => pair_numbered(plain_of(m), i, j),
+        Verdict::Accepted => pair_numbered(plain_of(m, sense), i, j),
         Verdict::Refused(f) => PairReply::Refused(f),
     }
 }

@@ -9,6 +9,7 @@ use domination::pair_table;
 use knapsack::Verdict;
 use libc::STDIN_FILENO;
 use model::Model;
+use model::Sense;
 use model::check_model;
 use model::plain_of;
 use model::setters::with_needs;
@@ -73,7 +74,7 @@ fn print_replies(p: Model, i: usize, lines: usize)
 {
     let mut j: usize = 0;
     while j < lines + 2 {
-        let q = least_pair(p, i, j);
+        let q = least_pair(p, Sense::Sure, i, j);
         print_reply(q);
         print(b" ");
         j += 1;
@@ -110,7 +111,7 @@ fn named_by(m: Model) -> [bool; 16] {
 fn table_of(p: Model) -> [Pair; 256] {
     let v = check_model(p);
     match v {
-        Verdict::Accepted => pair_table(plain_of(p), named_by(p)),
+        Verdict::Accepted => pair_table(plain_of(p, Sense::Sure), named_by(p)),
         Verdict::Refused(_) => [Pair::Missing; 256],
     }
 }

@@ -1,19 +1,24 @@
--- Every drawn problem is admissible: paper 02, requests 8 and 9. Its bounds may cross.
+-- Every drawn problem is admissible: paper 02, requests 8, 9 and 11. Its bounds may cross.
 -- bound-in, mended-in, line-in: what a line draws is in range. section-figures, heading-figures, drawn-figures: so are the figures of all.
--- mended-full, drawn-full: no item is blank.
+-- mended-full, drawn-full: no item is blank. drawn-known: the weights are known, low and high are equal.
 -- lines-needs, section-needs, heading-needs, drawn-needs: there are no needs. drawn-admissible: the theorem.
-use mathlib.Core.Path.{_≡_, refl, ap, _∙_}
+use mathlib.Core.Path.{_≡_, refl, sym, ap, _∙_, subst}
 use mathlib.Core.Bool.{Bool, true, false, cond}
-use Prim.Native.Nat.{ℕ, zero, suc}
+use Prim.Native.Nat.{ℕ, zero, suc, _≤_}
 use native.Mathlib.Omega.{arith}
 use lib.Dec.{eqb}
 use lib.IntN.{pos, natAbs}
+use lib.Signed.{clashℤ}
 use Rattle.arith.specs.Sum.{Each}
+use Rattle.arith.proofs.Integers.{≤ℤ-reflexive}
 use Rattle.knapsack.specs.Ranges.{BoundInRange}
-use Rattle.knapsack.specs.declared.Item.{Item}
+use Rattle.model.specs.declared.ModelItem.{ModelItem}
 use Rattle.model.specs.declared.Needs.{Needs}
+use Rattle.model.specs.declared.Sense.{Sense}
+use Rattle.model.specs.declared.Sense.the-variants.{Sure, Possible}
 use Rattle.model.specs.Needs.{noNeeds}
-use Rattle.model.specs.Records.{plainOf, itemAt, isBlank, ItemFigures, FiguresInRange, Admissible}
+use Rattle.model.specs.Records.{itemAt, itemIn, isWeightless, isBlank, ItemFigures, Admissible}
+use Rattle.model.proofs.Plain.{plain-item}
 use Rattle.drawing.specs.declared.DrawnProblem.{DrawnProblem}
 use Rattle.drawing.specs.declared.Section.{Section}
 use Rattle.drawing.specs.declared.Section.the-variants.{Items, Lower, Upper}
@@ -33,23 +38,38 @@ bound-in s = go (nextState s) (eqb (choiceAt (nextState s) (pos 0) (pos 3)) 3)
     go a true = tt
     go a false = around-in (nextState a) 10000
 
-mended-in : (i : Item) → ItemFigures i → ItemFigures (mended i)
+-- an item's figures, in both senses
+abbrev Fair : ModelItem → Type 0
+Fair i = (sense : Sense) → ItemFigures (itemIn sense i)
+
+fair : (i : ModelItem) → natAbs (i .low) ≤ 1000 → natAbs (i .high) ≤ 1000 → natAbs (i .price) ≤ 10000 → BoundInRange (i .lower) → BoundInRange (i .upper) → Fair i
+fair i a b c l u Sure = record { weight-in = b; price-in = c; lower-in = l; upper-in = u }
+fair i a b c l u Possible = record { weight-in = a; price-in = c; lower-in = l; upper-in = u }
+
+mended-in : (i : ModelItem) → Fair i → Fair (mended i)
 unfolding mended
 mended-in i h = go (isBlank i)
   where
-    go : (b : Bool) → ItemFigures (cond b (record { mark = i .mark; weight = i .weight; price = pos 1; lower = i .lower; upper = i .upper }) i)
-    go true = record { weight-in = h .weight-in; price-in = omega arith; lower-in = h .lower-in; upper-in = h .upper-in }
+    go : (b : Bool) → Fair (cond b (record { mark = i .mark; low = i .low; high = i .high; price = pos 1; lower = i .lower; upper = i .upper }) i)
+    go true = fair _ (h Possible .weight-in) (h Sure .weight-in) (omega arith) (h Sure .lower-in) (h Sure .upper-in)
     go false = h
 
-line-in : (σ : Section) (i : Item) (s : ℕ) → ItemFigures i → ItemFigures (drawnLine σ i s .item)
+line-in : (σ : Section) (i : ModelItem) (s : ℕ) → Fair i → Fair (drawnLine σ i s .item)
 unfolding drawnLine drawnItem drawnFigures
 line-in Items i s h =
     let b = nextState (nextState s) in
-    mended-in _ (record { weight-in = around-in b 1000; price-in = around-in (nextState b) 10000; lower-in = tt; upper-in = tt })
-line-in Lower i s h = record { weight-in = h .weight-in; price-in = h .price-in; lower-in = bound-in s; upper-in = h .upper-in }
-line-in Upper i s h = record { weight-in = h .weight-in; price-in = h .price-in; lower-in = h .lower-in; upper-in = bound-in s }
+    mended-in _ (fair _ (around-in b 1000) (around-in b 1000) (around-in (nextState b) 10000) tt tt)
+line-in Lower i s h = fair _ (h Possible .weight-in) (h Sure .weight-in) (h Sure .price-in) (bound-in s) (h Sure .upper-in)
+line-in Upper i s h = fair _ (h Possible .weight-in) (h Sure .weight-in) (h Sure .price-in) (h Sure .lower-in) (bound-in s)
 
-section-figures : (σ : Section) (d : DrawnProblem) → Sized d → FiguresInRange (plainOf (d .problem)) → FiguresInRange (plainOf (drawnSection σ d .problem))
+-- what is to be shown of a problem's figures
+record Figured (d : DrawnProblem) : Type 0 where
+  some-items : 1 ≤ d .problem .count
+  few-items : d .problem .count ≤ 16
+  capacity-in : natAbs (d .problem .capacity) ≤ 100000000
+  items-in : Each (d .problem .count) (λ k. Fair (itemAt (d .problem) k))
+
+section-figures : (σ : Section) (d : DrawnProblem) → Sized d → Figured d → Figured (drawnSection σ d)
 section-figures σ d w r =
     let n = d .problem .count in
     let e = lines-count σ n d in
@@ -57,20 +77,20 @@ section-figures σ d w r =
       some-items = rw e (r .some-items);
       few-items = rw e (r .few-items);
       capacity-in = rw (lines-capacity σ n d) (r .capacity-in);
-      items-in = section-each σ ItemFigures ItemFigures (line-in σ) d w (r .items-in);
+      items-in = section-each σ Fair Fair (line-in σ) d w (r .items-in);
     }
 
-heading-figures : (s : ℕ) → FiguresInRange (plainOf (drawnHeading s .problem))
+heading-figures : (s : ℕ) → Figured (drawnHeading s)
 heading-figures s = record {
   some-items = heading-some s;
   few-items = heading-few s;
   capacity-in = heading-capacity s;
-  items-in = λ k h. rw (heading-blank s k h) (record { weight-in = omega arith; price-in = omega arith; lower-in = tt; upper-in = tt });
+  items-in = λ k h. rw (heading-blank s k h) (fair _ (omega arith) (omega arith) (omega arith) tt tt);
 }
 
 -- ---- no item is blank
 
-mended-full : (i : Item) → isBlank (mended i) ≡ false
+mended-full : (i : ModelItem) → isBlank (mended i) ≡ false
 unfolding mended
 mended-full i = go (isBlank i) refl
   where
@@ -79,22 +99,22 @@ mended-full i = go (isBlank i) refl
     priced false = refl
 
     go : (b : Bool) → isBlank i ≡ b
-        → isBlank (cond b (record { mark = i .mark; weight = i .weight; price = pos 1; lower = i .lower; upper = i .upper }) i) ≡ false
-    go true e = priced (eqb (natAbs (i .weight)) 0)
+        → isBlank (cond b (record { mark = i .mark; low = i .low; high = i .high; price = pos 1; lower = i .lower; upper = i .upper }) i) ≡ false
+    go true e = priced (isWeightless i)
     go false e = e
 
-abbrev Full : Item → Type 0
+abbrev Full : ModelItem → Type 0
 Full i = isBlank i ≡ false
 
-item-full : (i : Item) (s : ℕ) → Unit {0} → Full (drawnLine Items i s .item)
+item-full : (i : ModelItem) (s : ℕ) → Unit {0} → Full (drawnLine Items i s .item)
 unfolding drawnLine drawnItem
 item-full i s t = mended-full (drawnFigures s .item)
 
-lower-full : (i : Item) (s : ℕ) → Full i → Full (drawnLine Lower i s .item)
+lower-full : (i : ModelItem) (s : ℕ) → Full i → Full (drawnLine Lower i s .item)
 unfolding drawnLine
 lower-full i s h = h
 
-upper-full : (i : Item) (s : ℕ) → Full i → Full (drawnLine Upper i s .item)
+upper-full : (i : ModelItem) (s : ℕ) → Full i → Full (drawnLine Upper i s .item)
 unfolding drawnLine
 upper-full i s h = h
 
@@ -104,6 +124,35 @@ drawn-full s =
     let i = section-each Items (λ i. Unit {0}) Full item-full (drawnHeading s) (heading-sized s) (λ k h. tt) in
     let l = section-each Lower Full Full lower-full (withItems s) (items-sized s) i in
     section-each Upper Full Full upper-full (withLowers s) (lowers-sized s) l
+
+-- ---- the weights are known
+
+abbrev Known : ModelItem → Type 0
+Known i = i .low ≡ i .high
+
+line-known : (σ : Section) (i : ModelItem) (s : ℕ) → Known i → Known (drawnLine σ i s .item)
+unfolding drawnLine drawnItem drawnFigures mended
+line-known Items i s h = go (isBlank (drawnFigures s .item))
+  where
+    go : (b : Bool) → Known (cond b (record {
+      mark = drawnFigures s .item .mark;
+      low = drawnFigures s .item .low;
+      high = drawnFigures s .item .high;
+      price = pos 1;
+      lower = drawnFigures s .item .lower;
+      upper = drawnFigures s .item .upper;
+    }) (drawnFigures s .item))
+    go true = refl
+    go false = refl
+line-known Lower i s h = h
+line-known Upper i s h = h
+
+drawn-known : (s : ℕ) → Each (drawnProblem s .problem .count) (λ k. Known (itemAt (drawnProblem s .problem) k))
+unfolding drawnProblem
+drawn-known s =
+    let i = section-each Items Known Known (line-known Items) (drawnHeading s) (heading-sized s) (λ k h. rw (heading-blank s k h) refl) in
+    let l = section-each Lower Known Known (line-known Lower) (withItems s) (items-sized s) i in
+    section-each Upper Known Known (line-known Upper) (withLowers s) (lowers-sized s) l
 
 -- ---- the needs
 
@@ -123,7 +172,7 @@ drawn-needs : (s : ℕ) → drawnProblem s .problem .needs ≡ noNeeds
 unfolding drawnProblem
 drawn-needs s = section-needs Upper (withLowers s) ∙ section-needs Lower (withItems s) ∙ section-needs Items (drawnHeading s) ∙ heading-needs s
 
-drawn-figures : (s : ℕ) → FiguresInRange (plainOf (drawnProblem s .problem))
+drawn-figures : (s : ℕ) → Figured (drawnProblem s)
 unfolding drawnProblem
 drawn-figures s =
     section-figures Upper (withLowers s) (lowers-sized s)
@@ -132,4 +181,18 @@ drawn-figures s =
 pub drawn-admissible : (s : ℕ) → Admissible (drawnProblem s .problem)
 drawn-admissible s =
     let none = ap (λ (ns : Needs). ns .count) (drawn-needs s) in
-    record { figures = drawn-figures s; unbarred = drawn-full s; few-needs = omega (arith, none); needs = λ j h. absurd (omega (arith, none)) }
+    let m = drawnProblem s .problem in
+    let f = drawn-figures s in
+    record {
+      figures = λ sense. record {
+        some-items = f .some-items;
+        few-items = f .few-items;
+        capacity-in = f .capacity-in;
+        items-in = λ k l. subst ItemFigures (sym (plain-item sense m k)) (f .items-in k l sense);
+      };
+      ordered = λ k l. ≤ℤ-reflexive (drawn-known s k l);
+      unbarred = drawn-full s;
+      few-needs = omega (arith, none);
+      needs = λ j h. absurd (omega (arith, none));
+      ranged = λ k l less. clashℤ less (≤ℤ-reflexive (sym (drawn-known s k l)));
+    }

@@ -14,9 +14,8 @@ use lib.IntN.{natAbs}
 use lib.ListN.{length, getD, set, length-set, getD-replicate}
 use lib.Seq.{getD-set-same, getD-set-other}
 use Rattle.arith.specs.Sum.{Each}
-use Rattle.knapsack.specs.declared.Item.{Item}
-use Rattle.knapsack.specs.Ranges.{blank}
-use Rattle.model.specs.Records.{itemAt}
+use Rattle.model.specs.declared.ModelItem.{ModelItem}
+use Rattle.model.specs.Records.{noItem, itemAt}
 use Rattle.drawing.specs.declared.DrawnProblem.{DrawnProblem}
 use Rattle.drawing.specs.declared.Section.{Section}
 use Rattle.drawing.specs.declared.Section.the-variants.{Items, Lower}
@@ -50,31 +49,31 @@ unfolding lines withLine
 lines-beyond σ zero d k h = refl
 lines-beyond σ (suc n) d k h =
     let e : k ≡ n → ⊥ = λ e. omega arith in
-    getD-set-other (lines σ n d .problem .items) n k _ blank e ∙ lines-beyond σ n d k (omega arith)
+    getD-set-other (lines σ n d .problem .items) n k _ noItem e ∙ lines-beyond σ n d k (omega arith)
 
 -- ---- what they make
 
-lines-each : (σ : Section) (P Q : Item → Type 0) → ((i : Item) (s : ℕ) → P i → Q (drawnLine σ i s .item))
+lines-each : (σ : Section) (P Q : ModelItem → Type 0) → ((i : ModelItem) (s : ℕ) → P i → Q (drawnLine σ i s .item))
     → (n : ℕ) (d : DrawnProblem) → n ≤ length (d .problem .items)
     → Each n (λ k. P (itemAt (d .problem) k)) → Each n (λ k. Q (itemAt (lines σ n d .problem) k))
 unfolding lines withLine
 lines-each σ P Q f zero d l h k m = absurd (omega arith)
 lines-each σ P Q f (suc n) d l h k m = go (ℕ-discrete k n) (λ m. lines-each σ P Q f n d (omega arith) (λ j b. h j (omega arith)) k m)
   where
-    old : List Item
+    old : List ModelItem
     old = lines σ n d .problem .items
 
-    new : Item
-    new = drawnLine σ (getD old n blank) (lines σ n d .state) .item
+    new : ModelItem
+    new = drawnLine σ (getD old n noItem) (lines σ n d .state) .item
 
-    go : Dec (k ≡ n) → (k < n → Q (getD old k blank)) → Q (getD (set old n new) k blank)
+    go : Dec (k ≡ n) → (k < n → Q (getD old k noItem)) → Q (getD (set old n new) k noItem)
     go (yes e) ih =
         let l : n < length old = omega (arith, lines-length σ n d) in
-        rw (e, getD-set-same old n new blank l) (f _ _ (rw (lines-beyond σ n d n (omega arith)) (h n (omega arith))))
-    go (no e) ih = rw (getD-set-other old n k new blank e) (ih (omega arith))
+        rw (e, getD-set-same old n new noItem l) (f _ _ (rw (lines-beyond σ n d n (omega arith)) (h n (omega arith))))
+    go (no e) ih = rw (getD-set-other old n k new noItem e) (ih (omega arith))
 
 -- a section, item by item
-pub section-each : (σ : Section) (P Q : Item → Type 0) → ((i : Item) (s : ℕ) → P i → Q (drawnLine σ i s .item)) → (d : DrawnProblem) → Sized d
+pub section-each : (σ : Section) (P Q : ModelItem → Type 0) → ((i : ModelItem) (s : ℕ) → P i → Q (drawnLine σ i s .item)) → (d : DrawnProblem) → Sized d
     → Each (d .problem .count) (λ k. P (itemAt (d .problem) k))
     → Each (drawnSection σ d .problem .count) (λ k. Q (itemAt (drawnSection σ d .problem) k))
 section-each σ P Q f d w h k l =
@@ -104,9 +103,9 @@ heading-length : (s : ℕ) → length (drawnHeading s .problem .items) ≡ 16
 unfolding drawnHeading
 heading-length s = refl
 
-pub heading-blank : (s k : ℕ) → k < drawnHeading s .problem .count → itemAt (drawnHeading s .problem) k ≡ blank
+pub heading-blank : (s k : ℕ) → k < drawnHeading s .problem .count → itemAt (drawnHeading s .problem) k ≡ noItem
 unfolding drawnHeading
-heading-blank s k h = getD-replicate 16 k blank blank (omega (arith, h, heading-few s))
+heading-blank s k h = getD-replicate 16 k noItem noItem (omega (arith, h, heading-few s))
 
 pub heading-sized : (s : ℕ) → Sized (drawnHeading s)
 heading-sized s = record { few = heading-few s; places = heading-length s }

@@ -1,4 +1,4 @@
--- A test load from a seed number: paper 02, requests 8 and 9. The state starts at the seed, below 2^64; "after s" means by draws at nextState s and on.
+-- A test load from a seed number: paper 02, requests 8, 9 and 11. The state starts at the seed, below 2^64; "after s" means by draws at nextState s and on.
 --   nextState s          for each draw hexadecimal 9E3779B97F4A7C15 is added to the state, modulo 2 to the 64
 --   mixLeft k t, mixRight k t   t xor (t shifted left, right by k), in 64 bits
 --   drawAt s             the draw: a copy t of the state becomes t xor (t shifted left 13), then likewise right 7, then left 17
@@ -8,7 +8,7 @@
 --   limitAt s, countAt s, markAt s, weightAt s, priceAt s, valueAt s     a figure drawn at s, over its range in paper 01's table
 --   boundBy b s          a bound by whether its first draw, at s, was 3: none, or the number of the next draw;  boundFrom s: its first draw is at s
 --   drawnBound s         a bound after s: a first draw 0 to 3, 3 being none, then the number if present; and the state after
---   figuresAt a b c      an item with its mark, weight and price drawn at a, b, c, no bounds as yet
+--   figuresAt a b c      an item with its mark, weight, low and high equal, and price drawn at a, b, c, no bounds as yet
 --   drawnFigures s       mark, weight and price after s; and the state after
 --   mended i             a price 0 beside weight 0 becomes 1 (request 9)
 --   drawnItem s          an item after s: drawnFigures s, mended; and the state after
@@ -25,10 +25,10 @@ use lib.Bits.{bitXor}
 use lib.Dec.{eqb}
 use lib.IntN.{ℤ, pos, negℤ, natAbs, _+ℤ_, _-ℤ_}
 use Rattle.knapsack.specs.declared.Bound.the-variants.{Absent, At}
-use Rattle.knapsack.specs.declared.Item.{Item}
 use Rattle.knapsack.specs.declared.Mark.{Mark}
 use Rattle.knapsack.specs.declared.Mark.the-variants.{Integer, Continuous}
 use Rattle.model.specs.declared.Model.{Model}
+use Rattle.model.specs.declared.ModelItem.{ModelItem}
 use Rattle.model.specs.declared.Side.{Side}
 use Rattle.model.specs.declared.Side.the-variants as side
 use Rattle.model.specs.Records.{emptyModel, itemAt, isBlank}
@@ -99,8 +99,8 @@ boundFrom s = boundBy (eqb (choiceAt s (pos 0) (pos 3)) 3) s
 unfoldable pub drawnBound : ℕ → DrawnBound
 drawnBound s = boundFrom (nextState s)
 
-abbrev pub figuresAt : ℕ → ℕ → ℕ → Item
-figuresAt a b c = record { mark = markAt a; weight = weightAt b; price = priceAt c; lower = Absent; upper = Absent }
+abbrev pub figuresAt : ℕ → ℕ → ℕ → ModelItem
+figuresAt a b c = record { mark = markAt a; low = weightAt b; high = weightAt b; price = priceAt c; lower = Absent; upper = Absent }
 
 unfoldable pub drawnFigures : ℕ → DrawnItem
 drawnFigures s = record {
@@ -108,18 +108,18 @@ drawnFigures s = record {
   state = nextState (nextState (nextState s));
 }
 
-unfoldable pub mended : Item → Item
-mended i = cond (isBlank i) (record { mark = i .mark; weight = i .weight; price = pos 1; lower = i .lower; upper = i .upper }) i
+unfoldable pub mended : ModelItem → ModelItem
+mended i = cond (isBlank i) (record { mark = i .mark; low = i .low; high = i .high; price = pos 1; lower = i .lower; upper = i .upper }) i
 
 unfoldable pub drawnItem : ℕ → DrawnItem
 drawnItem s = record { item = mended (drawnFigures s .item); state = drawnFigures s .state }
 
 -- ---- a section, a problem
 
-abbrev pub drawnSide : Side → DrawnBound → Item → DrawnItem
+abbrev pub drawnSide : Side → DrawnBound → ModelItem → DrawnItem
 drawnSide side b i = record { item = bounded side (b .bound) i; state = b .state }
 
-unfoldable pub drawnLine : Section → Item → ℕ → DrawnItem
+unfoldable pub drawnLine : Section → ModelItem → ℕ → DrawnItem
 drawnLine Items i s = drawnItem s
 drawnLine Lower i s = drawnSide side.Lower (drawnBound s) i
 drawnLine Upper i s = drawnSide side.Upper (drawnBound s) i

@@ -1,10 +1,10 @@
-// A test load from a seed number (paper 02, request 8, and 9 for its blank items): the same problems at every site.
+// A test load from a seed number (paper 02, request 8, 9 for its blank items, and 11 for its weights): the same problems at every site.
 // A 64-bit state is added to for each draw; the draw is a scrambled copy of it. draw_problem draws one problem in sheet order and gives
 // the state from which the next one is drawn. Every problem so made is admissible: proofs/Drawn (drawn-admissible).
 use knapsack::Bound;
-use knapsack::Item;
 use knapsack::Mark;
 use model::Model;
+use model::ModelItem;
 use model::Side;
 use model::setters;
 ghost use mathlib.Core.Path.{_≡_};
@@ -46,7 +46,7 @@ struct DrawnBound {
 
 // An item, and the state after its draws.
 struct DrawnItem {
-    item: Item,
+    item: ModelItem,
     state: u64,
 }
 
@@ -175,7 +175,7 @@ fn draw_bound(state: u64) -> DrawnBound
     }
 }
 
-// Mark, weight and price as they are drawn.
+// Mark, weight and price as they are drawn; the weight is known: low and high are equal (request 11).
 fn draw_figures(state: u64) -> DrawnItem
     ensures { λ r. ⌜ r ≡ drawnFigures state ⌝ }
 {
@@ -183,9 +183,11 @@ fn draw_figures(state: u64) -> DrawnItem
     let b = next_state(a);
     let c = next_state(b);
     let mark = draw_mark(a);
-    let item = Item {
+    let weight = draw_weight(b);
+    let item = ModelItem {
         mark,
-        weight: draw_weight(b),
+        low: weight,
+        high: weight,
         price: draw_price(c),
         lower: Bound::Absent,
         upper: Bound::Absent,
@@ -194,7 +196,7 @@ fn draw_figures(state: u64) -> DrawnItem
 }
 
 // A price drawn as 0 beside weight 0 becomes 1, so that no item is blank.
-fn mend(item: Item) -> Item
+fn mend(item: ModelItem) -> ModelItem
     ensures { λ r. ⌜ r ≡ mended item ⌝ }
 {
     if model::is_blank(item) {
@@ -219,7 +221,7 @@ fn draw_item(state: u64) -> DrawnItem
 }
 
 // An item with a bound drawn on one side.
-fn draw_side(side: Side, item: Item, state: u64) -> DrawnItem
+fn draw_side(side: Side, item: ModelItem, state: u64) -> DrawnItem
     ensures { λ r. ⌜ r ≡ drawnSide side (drawnBound state) item ⌝ }
 {
     let d = draw_bound(state);
@@ -234,7 +236,7 @@ fn draw_side(side: Side, item: Item, state: u64) -> DrawnItem
 // ---- a section, a problem
 
 // What a section draws for an item.
-fn draw_line(section: Section, item: Item, state: u64) -> DrawnItem
+fn draw_line(section: Section, item: ModelItem, state: u64) -> DrawnItem
     ensures { λ r. ⌜ r ≡ drawnLine section item state ⌝ }
 {
     match section {

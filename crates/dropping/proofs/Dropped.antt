@@ -19,31 +19,36 @@ use borrow.Author.Tests.{eqb-false, ne-eqb}
 use lib.Dec.{eqb}
 use lib.ListN.{length, getD, set, length-set, length-replicate}
 use lib.Seq.{getD-set-same, getD-set-other}
+use lib.Signed.{_≤ℤ_, _<ℤ_}
 use Rattle.arith.proofs.Parts.{impossible}
 use Rattle.arith.specs.declared.Fraction.{Fraction}
 use Rattle.arith.specs.Sum.{Each}
 use Rattle.knapsack.specs.Meaning.{Instance, instanceOf}
-use Rattle.knapsack.specs.Ranges.{blank}
+use Rattle.knapsack.specs.Ranges.{itemAt as plainItem}
 use Rattle.knapsack.specs.declared.Answer.{Answer}
 use Rattle.knapsack.specs.declared.Kind.{Kind}
 use Rattle.knapsack.specs.declared.Verdict.the-variants.{Accepted}
 use Rattle.model.specs.declared.Blanks.the-variants as blanks
 use Rattle.model.specs.declared.Model.{Model}
+use Rattle.model.specs.declared.ModelItem.{ModelItem}
+use Rattle.model.specs.declared.Sense.{Sense}
+use Rattle.model.specs.declared.Sense.the-variants.{Sure}
 use Rattle.model.specs.declared.Need.{Need}
 use Rattle.model.specs.Needs.{noNeed}
 use Rattle.model.specs.Promises.{RepliesAs, Planned}
-use Rattle.model.specs.Records.{emptyModel, itemAt, needAt, plainOf, placed, needsOf, isBlank, crosses, namesItem, verdict}
+use Rattle.model.specs.Records.{noItem, emptyModel, itemAt, needAt, plainOf, placed, needsOf, isBlank, boundsCross, namesItem, verdict}
 use Rattle.model.specs.Records.{Agree, Numbers, AdmissibleBy, Admissible}
 use Rattle.model.specs.Setters.{withCapacity, appended, withNeed}
 use Rattle.model.proofs.BlankItems.{blank-nothing}
 use Rattle.model.proofs.Crossings.{order-in}
 use Rattle.model.proofs.NeedLines.{needs-in, needs-from}
+use Rattle.model.proofs.Plain.{plain-item}
 use Rattle.model.proofs.Records.{admitted}
 use Rattle.model.proofs.Tests.{neither}
 use Rattle.dropping.proofs.Drops.{Idle}
 use Rattle.dropping.proofs.Kept.{rank-all, filled-with, packed-at, first-false, first-all}
 use Rattle.dropping.proofs.Needed.{movedNeed, Stays, DropsNeeds, drops-gives, answers-give}
-use Rattle.dropping.proofs.Thinned.{Thins, renumbered-placed, thinned-admissible}
+use Rattle.dropping.proofs.Thinned.{Thins, thinned-plain, renumbered-placed, thinned-admissible}
 use Rattle.dropping.specs.Dropping.{kept, renumber, renumbered, linesTo, droppedTo, dropped, appendedUnlessBlank}
 use Rattle.dropping.specs.Dropping.{namedIn, hinders, firstHindered, hindrance, Droppable}
 use Rattle.dropping.specs.Gives.{Gives}
@@ -68,7 +73,7 @@ unfolding rank packed
 dropped-next m k = go (isBlank (itemAt m k))
   where
     go : (b : Bool) → record {
-      items = cond (not b) (set (packed blank (kept m) (itemAt m) k) (rank (kept m) k) (itemAt m k)) (packed blank (kept m) (itemAt m) k);
+      items = cond (not b) (set (packed noItem (kept m) (itemAt m) k) (rank (kept m) k) (itemAt m k)) (packed noItem (kept m) (itemAt m) k);
       count = cond (not b) (suc (rank (kept m) k)) (rank (kept m) k);
       capacity = m .capacity;
       needs = droppedTo m k 0 .needs;
@@ -114,8 +119,8 @@ droppable m some h = go (eqb (rank (kept m) (m .count)) 0) refl h
     clear false x e g = absurd (impossible e)
 
     free : m .count ≤ firstHindered m → (k : ℕ) → k < m .count → isBlank (itemAt m k) ≡ true
-        → (crosses (itemAt m k) ≡ false) × (namedIn (m .needs .count) (needAt (m .needs)) (suc k) ≡ false)
-    free e k l b = neither (crosses (itemAt m k)) (namedIn (m .needs .count) (needAt (m .needs)) (suc k))
+        → (boundsCross (itemAt m k) ≡ false) × (namedIn (m .needs .count) (needAt (m .needs)) (suc k) ≡ false)
+    free e k l b = neither (boundsCross (itemAt m k)) (namedIn (m .needs .count) (needAt (m .needs)) (suc k))
         (clear (isBlank (itemAt m k)) _ b (first-false (hinders m) (m .count) 0 k (omega arith) (omega arith)))
 
     go : (b : Bool) → eqb (rank (kept m) (m .count)) 0 ≡ b → m .count ≤ cond b 0 (firstHindered m) → Droppable m
@@ -133,7 +138,7 @@ undisturbed m d =
     rw (ne-eqb (rank (kept m) (m .count)) 0 some) (omega (arith, e))
   where
     none : (k : ℕ) → k < m .count → (b : Bool) → isBlank (itemAt m k) ≡ b
-        → cond b (cond (crosses (itemAt m k)) true (namedIn (m .needs .count) (needAt (m .needs)) (suc k))) false ≡ false
+        → cond b (cond (boundsCross (itemAt m k)) true (namedIn (m .needs .count) (needAt (m .needs)) (suc k))) false ≡ false
     none k l true e = rw (d .uncrossed k l e, d .unnamed k l e)
     none k l false e = refl
 
@@ -173,8 +178,8 @@ not-kept true h = refl
 not-kept false h = absurd (impossible (sym h))
 
 -- the record as the solver's instance
-abbrev asked : Model → Instance
-asked m = instanceOf (plainOf m)
+abbrev asked : Sense → Model → Instance
+asked sense m = instanceOf (plainOf sense m)
 
 module _ (m : Model) (a : AdmissibleBy blanks.Kept m) where
   -- the numbers of a line, for the code
@@ -183,17 +188,17 @@ module _ (m : Model) (a : AdmissibleBy blanks.Kept m) where
       let n = a .needs j l .numbers in
       record {
         first-least = n .first-least;
-        first-most = omega (arith, n .first-most, a .figures .few-items);
+        first-most = omega (arith, n .first-most, a .figures Sure .few-items);
         second-least = n .second-least;
-        second-most = omega (arith, n .second-most, a .figures .few-items);
+        second-most = omega (arith, n .second-most, a .figures Sure .few-items);
         different = n .different;
       }
 
   few : m .count ≤ 16
-  few = a .figures .few-items
+  few = a .figures Sure .few-items
 
   pub dropped-item : (k : ℕ) → k < m .count → kept m k ≡ true → itemAt (dropped m) (rank (kept m) k) ≡ itemAt m k
-  dropped-item k h e = packed-at (kept m) blank (itemAt m) (m .count) k few h e
+  dropped-item k h e = packed-at (kept m) noItem (itemAt m) (m .count) k few h e
 
   dropped-need : (j : ℕ) → j < m .needs .count → needAt (dropped m .needs) j ≡ renumbered (kept m) (needAt (m .needs) j)
   dropped-need j l = line-at (kept m) (m .needs .lines) (m .needs .count) j (a .few-needs) l
@@ -230,30 +235,12 @@ module _ (m : Model) (a : AdmissibleBy blanks.Kept m) where
           cover-kept = stays-kept (f j .cover) (n .second-least) (n .second-most) (λ h. none-named t f (f j .cover) j h l .1 refl);
         }
 
-    idle : (k : ℕ) → k < m .count → kept m k ≡ false → Idle (itemAt m k)
-    idle k l e =
+    idle : (sense : Sense) (k : ℕ) → k < m .count → kept m k ≡ false → Idle (plainItem (plainOf sense m) k)
+    idle sense k l e =
         let b = not-kept (isBlank (itemAt m k)) e in
         let z = blank-nothing (itemAt m k) b in
-        record { weightless = z .0; worthless = z .1; ordered = order-in (itemAt m k .lower) (itemAt m k .upper) (d .uncrossed k l b) }
-
-    drops-blanks : DropsNeeds (kept m) (asked m) (asked (dropped m)) (needsOf (m .needs)) (needsOf (dropped m .needs))
-    drops-blanks = record {
-      plain = record { capacity = refl; count = refl; moved = dropped-item; idle = idle };
-      stays = λ x i. let f = needs-from t (needAt (m .needs)) x i in rw (f .1 .1) (line-stays (f .0) (f .1 .0));
-      there = λ x i. let f = needs-from t (needAt (m .needs)) x i in
-          rw (f .1 .1, ← dropped-line (f .0) (f .1 .0)) (needs-in t (needAt (dropped m .needs)) (f .0) (f .1 .0));
-      back = λ y i. let f = needs-from t (needAt (dropped m .needs)) y i in
-          (placed (needAt (m .needs) (f .0)), (needs-in t (needAt (m .needs)) (f .0) (f .1 .0), f .1 .1 ∙ dropped-line (f .0) (f .1 .0)));
-    }
-      where
-        t : ℕ
-        t = m .needs .count
-
-    -- End theorem: the meaning gives the new record the kind and the value that it gives the old one.
-    pub dropped-gives : (k : Kind) (v : Fraction) → Gives (asked m) (needsOf (m .needs)) k v ↔ Gives (asked (dropped m)) (needsOf (dropped m .needs)) k v
-    dropped-gives = drops-gives (kept m) (asked m) (asked (dropped m)) (needsOf (m .needs)) (needsOf (dropped m .needs)) drops-blanks
-
-    -- ---- it is accepted
+        subst Idle (sym (plain-item sense m k))
+        (record { weightless = z .0 sense; worthless = z .1; ordered = order-in (itemAt m k .lower) (itemAt m k .upper) (d .uncrossed k l b) })
 
     thins : Thins (kept m) m (dropped m)
     thins = record {
@@ -268,16 +255,38 @@ module _ (m : Model) (a : AdmissibleBy blanks.Kept m) where
       line = dropped-need;
     }
 
+    drops-blanks : (sense : Sense) → DropsNeeds (kept m) (asked sense m) (asked sense (dropped m)) (needsOf (m .needs)) (needsOf (dropped m .needs))
+    drops-blanks sense = record {
+      plain = record { capacity = refl; count = refl; moved = thinned-plain (kept m) m (dropped m) thins sense; idle = idle sense };
+      stays = λ x i. let f = needs-from t (needAt (m .needs)) x i in rw (f .1 .1) (line-stays (f .0) (f .1 .0));
+      there = λ x i. let f = needs-from t (needAt (m .needs)) x i in
+          rw (f .1 .1, ← dropped-line (f .0) (f .1 .0)) (needs-in t (needAt (dropped m .needs)) (f .0) (f .1 .0));
+      back = λ y i. let f = needs-from t (needAt (dropped m .needs)) y i in
+          (placed (needAt (m .needs) (f .0)), (needs-in t (needAt (m .needs)) (f .0) (f .1 .0), f .1 .1 ∙ dropped-line (f .0) (f .1 .0)));
+    }
+      where
+        t : ℕ
+        t = m .needs .count
+
+    -- End theorem: the meaning gives the new record the kind and the value that it gives the old one.
+    pub dropped-gives : (sense : Sense) (k : Kind) (v : Fraction) →
+        Gives (asked sense m) (needsOf (m .needs)) k v ↔ Gives (asked sense (dropped m)) (needsOf (dropped m .needs)) k v
+    dropped-gives sense =
+        drops-gives (kept m) (asked sense m) (asked sense (dropped m)) (needsOf (m .needs)) (needsOf (dropped m .needs)) (drops-blanks sense)
+
+    -- ---- it is accepted
+
     pub dropped-admissible : Admissible (dropped m)
     dropped-admissible =
         thinned-admissible (kept m) m (dropped m) thins blanks.Kept a (d .remains) (λ k l e. not-true (isBlank (itemAt m k)) e)
 
     -- End theorem: what the planner replies to it.
-    pub dropped-planned : (b : Answer) → Planned (dropped m) b → Gives (asked m) (needsOf (m .needs)) (b .kind) (b .value)
-    dropped-planned b r =
+    pub dropped-planned : (sense : Sense) (b : Answer) → Planned sense (dropped m) b → Gives (asked sense m) (needsOf (m .needs)) (b .kind) (b .value)
+    dropped-planned sense b r =
         let ns = needsOf (dropped m .needs) in
         let e : verdict (dropped m) ≡ Accepted = admitted (dropped m) dropped-admissible in
-        dropped-gives (b .kind) (b .value) .1 (answers-give (asked (dropped m)) ns b (subst (RepliesAs (asked (dropped m)) ns b) e (r .replies)))
+        dropped-gives sense (b .kind) (b .value) .1
+        (answers-give (asked sense (dropped m)) ns b (subst (RepliesAs (asked sense (dropped m)) ns b) e (r .replies)))
 
 -- End theorem: a record without blank items comes back as it is.
 pub unblanked : (m : Model) → Admissible m → AdmissibleBy blanks.Kept m → Agree m (dropped m)
@@ -305,7 +314,7 @@ pub unblanked-free : (m : Model) → Admissible m → hindrance m ≡ m .count
 unblanked-free m full =
     let n = rank-all (kept m) (m .count) (λ k l. ap not (full .unbarred k l)) in
     undisturbed m (record {
-      remains = omega (arith, n, full .figures .some-items);
+      remains = omega (arith, n, full .figures Sure .some-items);
       uncrossed = λ k l e. absurd (impossible (sym (full .unbarred k l) ∙ e));
       unnamed = λ k l e. absurd (impossible (sym (full .unbarred k l) ∙ e));
     })

@@ -5,21 +5,26 @@
 -- thinned-admissible (end theorem): if m is admissible, some item is kept and no kept one is blank, o is admissible.
 use mathlib.Core.Bool.{Bool, true, false}
 use mathlib.Core.Logic.{inl, inr}
-use mathlib.Core.Path.{_≡_, ap, ap₂, _∙_, subst}
+use mathlib.Core.Path.{_≡_, sym, ap, ap₂, _∙_, subst}
 use Prim.Native.Nat.{ℕ, zero, suc, _-_, _≤_, _<_}
 use native.Mathlib.Omega.{arith}
 use native.Mathlib.Decide.{ℕ-discrete}
+use lib.Signed.{_≤ℤ_, _<ℤ_}
 use Rattle.arith.specs.Sum.{Each}
 use Rattle.knapsack.specs.Meaning.{Instance, instanceOf}
-use Rattle.knapsack.specs.declared.Item.{Item}
+use Rattle.knapsack.specs.Ranges.{itemAt as plainItem}
 use Rattle.model.specs.declared.Blanks.{Blanks}
 use Rattle.model.specs.declared.Model.{Model}
+use Rattle.model.specs.declared.ModelItem.{ModelItem}
 use Rattle.model.specs.declared.Need.{Need}
 use Rattle.model.specs.declared.Needs.{Needs}
-use Rattle.model.specs.Needs.{Named}
-use Rattle.model.specs.Records.{itemAt, needAt, plainOf, placed, isBlank, lineBefore}
+use Rattle.model.specs.declared.Sense.{Sense}
+use Rattle.model.specs.declared.Sense.the-variants.{Sure}
+use Rattle.model.specs.Needs.{Named, NotNegative}
+use Rattle.model.specs.Records.{itemAt, needAt, itemIn, plainOf, placed, isBlank, lineBefore}
 use Rattle.model.specs.Records.{ItemFigures, Rises, GoodLine, AdmissibleBy, Admissible}
 use Rattle.model.proofs.NeedLines.{before-next}
+use Rattle.model.proofs.Plain.{plain-item}
 use Rattle.dropping.proofs.Kept.{rank-strict, rank-injective, rank-most, at-rank, Source}
 use Rattle.dropping.proofs.Needed.{movedNeed, Stays}
 use Rattle.dropping.specs.Dropping.{renumber, renumbered}
@@ -37,8 +42,8 @@ pub record Thins (keep : ℕ → Bool) (m o : Model) : Type 0 where
   pub line : Each (o .needs .count) (λ j. needAt (o .needs) j ≡ renumbered keep (needAt (m .needs) (source j)))
 
 -- the record as the solver's instance
-abbrev asked : Model → Instance
-asked m = instanceOf (plainOf m)
+abbrev asked : Sense → Model → Instance
+asked sense m = instanceOf (plainOf sense m)
 
 -- a renumbered need, by places
 pub renumbered-placed : (keep : ℕ → Bool) (n : Need) → placed (renumbered keep n) ≡ movedNeed keep (placed n)
@@ -62,15 +67,19 @@ rises-later ns t h i (suc j) l n = go (ℕ-discrete i j) (λ o. rises-later ns t
     go (no d) ih = rises-trans (needAt ns i) (needAt ns j) (needAt ns (suc j)) (ih (omega arith)) next
 
 module _ (keep : ℕ → Bool) (m o : Model) (d : Thins keep m o) where
-  pub thinned-each : (P : Item → Type 0) → Each (m .count) (λ k. keep k ≡ true → P (itemAt m k)) → Each (o .count) (λ j. P (itemAt o j))
+  pub thinned-each : (P : ModelItem → Type 0) → Each (m .count) (λ k. keep k ≡ true → P (itemAt m k)) → Each (o .count) (λ j. P (itemAt o j))
   thinned-each P h j l = at (at-rank keep (m .count) j (omega (arith, d .count)))
     where
       at : Source keep (m .count) j → P (itemAt o j)
       at c = subst (λ i. P (itemAt o i)) (c .goes) (rw (d .moved (c .from) (c .from-in) (c .from-kept)) (h (c .from) (c .from-in) (c .from-kept)))
 
-  named-moved : (k : ℕ) → keep k ≡ true → Named (asked m) k → Named (asked o) (rank keep k)
-  named-moved k e n =
-      let i = d .moved k (n .inside) e in
+  -- so it is in every sense
+  pub thinned-plain : (sense : Sense) (k : ℕ) → k < m .count → keep k ≡ true → plainItem (plainOf sense o) (rank keep k) ≡ plainItem (plainOf sense m) k
+  thinned-plain sense k l e = plain-item sense o (rank keep k) ∙ ap (itemIn sense) (d .moved k l e) ∙ sym (plain-item sense m k)
+
+  named-moved : (sense : Sense) (k : ℕ) → keep k ≡ true → Named (asked sense m) k → Named (asked sense o) (rank keep k)
+  named-moved sense k e n =
+      let i = thinned-plain sense k (n .inside) e in
       record {
         inside = omega (arith, d .count, rank-strict keep (m .count) k (n .inside) e);
         whole = rw i (n .whole);
@@ -116,21 +125,24 @@ module _ (keep : ℕ → Bool) (m o : Model) (d : Thins keep m o) where
                 n .different (omega (arith, same, n .first-least, n .second-least));
           });
           rises = rises j l;
-          allowed = rw (ap placed (d .line j l) ∙ renumbered-placed keep x) (record {
-            item = named-moved (x .item - 1) (s .item-kept) (g .allowed .item);
-            cover = named-moved (x .cover - 1) (s .cover-kept) (g .allowed .cover);
+          allowed = λ sense. rw (ap placed (d .line j l) ∙ renumbered-placed keep x) (record {
+            item = named-moved sense (x .item - 1) (s .item-kept) (g .allowed sense .item);
+            cover = named-moved sense (x .cover - 1) (s .cover-kept) (g .allowed sense .cover);
           });
         }
 
     pub thinned-admissible : 1 ≤ o .count → Each (m .count) (λ k. keep k ≡ true → isBlank (itemAt m k) ≡ false) → Admissible o
     thinned-admissible some full = record {
-      figures = record {
+      figures = λ sense. record {
         some-items = some;
-        few-items = omega (arith, d .count, rank-most keep (m .count), a .figures .few-items);
-        capacity-in = rw (d .capacity) (a .figures .capacity-in);
-        items-in = thinned-each ItemFigures (λ k l e. a .figures .items-in k l);
+        few-items = omega (arith, d .count, rank-most keep (m .count), a .figures Sure .few-items);
+        capacity-in = rw (d .capacity) (a .figures sense .capacity-in);
+        items-in = λ j l. subst ItemFigures (sym (plain-item sense o j))
+            (thinned-each (λ i. ItemFigures (itemIn sense i)) (λ k h e. subst ItemFigures (plain-item sense m k) (a .figures sense .items-in k h)) j l);
       };
+      ordered = thinned-each (λ i. i .low ≤ℤ i .high) (λ k l e. a .ordered k l);
       unbarred = thinned-each (λ i. isBlank i ≡ false) full;
       few-needs = d .few-lines;
       needs = good;
+      ranged = thinned-each (λ i. i .low <ℤ i .high → NotNegative (i .lower)) (λ k l e. a .ranged k l);
     }

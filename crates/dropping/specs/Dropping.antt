@@ -17,12 +17,11 @@ use Prim.Native.Nat.{ℕ, zero, suc, _-_, _≤_}
 use lib.Dec.{eqb}
 use lib.ListN.{getD, set, replicate}
 use Rattle.arith.specs.Sum.{Each}
-use Rattle.knapsack.specs.Ranges.{blank}
-use Rattle.knapsack.specs.declared.Item.{Item}
 use Rattle.model.specs.declared.Model.{Model}
+use Rattle.model.specs.declared.ModelItem.{ModelItem}
 use Rattle.model.specs.declared.Need.{Need}
 use Rattle.model.specs.Needs.{noNeed}
-use Rattle.model.specs.Records.{itemAt, needAt, isBlank, crosses, namesItem}
+use Rattle.model.specs.Records.{noItem, itemAt, needAt, isBlank, boundsCross, namesItem}
 use Rattle.model.specs.Setters.{appended, withNeedCount}
 use Rattle.dropping.specs.Kept.{rank, packed, firstFrom}
 
@@ -41,7 +40,7 @@ linesTo keep l (suc t) = set (linesTo keep l t) t (renumbered keep (getD l t noN
 
 abbrev pub droppedTo : Model → ℕ → ℕ → Model
 droppedTo m n t = record {
-  items = packed blank (kept m) (itemAt m) n;
+  items = packed noItem (kept m) (itemAt m) n;
   count = rank (kept m) n;
   capacity = m .capacity;
   needs = record { lines = linesTo (kept m) (m .needs .lines) t; count = 0 };
@@ -50,7 +49,7 @@ droppedTo m n t = record {
 abbrev pub dropped : Model → Model
 dropped m = withNeedCount (droppedTo m (m .count) (m .needs .count)) (m .needs .count)
 
-abbrev pub appendedUnlessBlank : Model → Item → Model
+abbrev pub appendedUnlessBlank : Model → ModelItem → Model
 appendedUnlessBlank q x = cond (isBlank x) q (appended q x)
 
 -- ---- what stands against it
@@ -60,7 +59,7 @@ namedIn zero f k = false
 namedIn (suc t) f k = cond (namedIn t f k) true (namesItem (f t) k)
 
 abbrev pub hinders : Model → ℕ → Bool
-hinders m k = cond (isBlank (itemAt m k)) (cond (crosses (itemAt m k)) true (namedIn (m .needs .count) (needAt (m .needs)) (suc k))) false
+hinders m k = cond (isBlank (itemAt m k)) (cond (boundsCross (itemAt m k)) true (namedIn (m .needs .count) (needAt (m .needs)) (suc k))) false
 
 abbrev pub firstHindered : Model → ℕ
 firstHindered m = firstFrom (m .count) (hinders m) 0
@@ -70,5 +69,5 @@ hindrance m = cond (eqb (rank (kept m) (m .count)) 0) 0 (firstHindered m)
 
 pub record Droppable (m : Model) : Type 0 where
   pub remains : 1 ≤ rank (kept m) (m .count)
-  pub uncrossed : Each (m .count) (λ k. isBlank (itemAt m k) ≡ true → crosses (itemAt m k) ≡ false)
+  pub uncrossed : Each (m .count) (λ k. isBlank (itemAt m k) ≡ true → boundsCross (itemAt m k) ≡ false)
   pub unnamed : Each (m .count) (λ k. isBlank (itemAt m k) ≡ true → namedIn (m .needs .count) (needAt (m .needs)) (suc k) ≡ false)

@@ -1,10 +1,10 @@
-// Blank items, of weight 0 and price 0, left out of a record (paper 02, request 9): drop_blanks moves the later items down and gives the needs their
+// Blank items, of weight 0, low and high, and price 0, left out of a record (paper 02, request 9): drop_blanks moves the later items down and gives the needs their
 // new numbers, hindrance finds the item that stands against it. The kind of reply and the best value stay: proofs/Dropped (dropped-gives).
-use knapsack::Item;
 use model::Model;
+use model::ModelItem;
 use model::Need;
 use model::Needs;
-use model::does_cross;
+use model::do_bounds_cross;
 use model::is_blank;
 use model::naming;
 use model::setters;
@@ -28,7 +28,7 @@ fn none_of(m: Model) -> Model
     setters::with_capacity(empty, b)
 }
 
-fn append_unless_blank(q: Model, x: Item) -> Model
+fn append_unless_blank(q: Model, x: ModelItem) -> Model
     requires { ⌜ q .count < 16 ⌝ }
     ensures { λ r. ⌜ r ≡ appendedUnlessBlank q x ⌝ }
 {
@@ -56,7 +56,7 @@ fn kept_items(m: Model) -> Model
 
 // ---- the needs
 
-fn count_unless_blank(n: usize, x: Item) -> usize
+fn count_unless_blank(n: usize, x: ModelItem) -> usize
     requires { ⌜ n < 16 ⌝ }
     ensures { λ r. ⌜ r ≡ cond (isBlank x) n (suc n) ⌝ }
 {
@@ -146,7 +146,7 @@ fn is_hindered(m: Model, k: usize) -> bool
     if is_blank(x) {
         let ns = m.needs;
         let named = is_named(ns, k + 1);
-        if does_cross(x) { true } else { named }
+        if do_bounds_cross(x) { true } else { named }
     } else {
         false
     }

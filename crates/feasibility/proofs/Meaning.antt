@@ -22,11 +22,13 @@ use Rattle.knapsack.specs.declared.Refusal.{Refusal}
 use Rattle.knapsack.specs.declared.Verdict.{Verdict}
 use Rattle.knapsack.specs.declared.Verdict.the-variants as verdicts
 use Rattle.knapsack.specs.Meaning.{Keeps}
+use Rattle.knapsack.specs.Ranges.{itemAt}
 use Rattle.model.specs.Needs.{KeepsNeed, KeepsNeeds, FeasibleNeeds}
-use Rattle.model.specs.Records.{itemAt, needAt, plainOf, placed, needsOf, verdict, Admissible}
+use Rattle.model.specs.Records.{needAt, plainOf, placed, needsOf, verdict, Admissible}
 use Rattle.model.specs.Refusals.{amounts, amount}
 use Rattle.model.specs.declared.Model.{Model}
 use Rattle.model.specs.declared.Need.{Need}
+use Rattle.model.specs.declared.Sense.{Sense}
 use Rattle.model.proofs.NeedLines.{needs-in, needs-from}
 use Rattle.model.proofs.Records.{accepted, admitted}
 use Rattle.model.proofs.Showing.{over-lowest, parted}
@@ -66,16 +68,16 @@ use Rattle.feasibility.proofs.Divisor.{good-amount, Divided, divided, d
 
 -- ---- yes or no
 
-module _ (m : Model) (c : Candidate) (d : ℕ) (asked : Proposed m c) (s : Divided (m .count) (itemAt m) (proposedAt c) d) where
+module _ (sense : Sense) (m : Model) (c : Candidate) (d : ℕ) (asked : Proposed sense m c) (s : Divided (m .count) (itemAt (plainOf sense m)) (proposedAt c) d) where
   fine : (k : ℕ) → k < m .count → GoodAmount (proposedAt c k)
-  fine k l = good-amount (itemAt m k) (proposedAt c k) (asked .admissible .figures .items-in k l) (s .fine k l)
+  fine k l = good-amount (itemAt (plainOf sense m) k) (proposedAt c k) (asked .admissible .figures sense .items-in k l) (s .fine k l)
 
-  total-over : (f : Figure) → Over d (total (m .count) (λ k. figureOf f (itemAt m k) ·ᶠ proposedPoint c k)) (totalOf f d (m .count) (plainOf m) c)
+  total-over : (f : Figure) → Over d (total (m .count) (λ k. figureOf f (itemAt (plainOf sense m) k) ·ᶠ proposedPoint c k)) (totalOf f d (m .count) (plainOf sense m) c)
   total-over f = over-total d (m .count) (proposedPoint c) (λ k. numerator d (proposedAt c k))
-      (λ k l. parted d (proposedAt c k) (fine k l .some) (s .parts k l) .over) (λ k. figureOf f (itemAt m k))
+      (λ k l. parted d (proposedAt c k) (fine k l .some) (s .parts k l) .over) (λ k. figureOf f (itemAt (plainOf sense m) k))
 
-  kept : (k : ℕ) → k < m .count → (breaks (itemAt m k) (proposedAt c k) ≡ false) ↔ Keeps (itemAt m k) (proposedPoint c k)
-  kept k l = keeps-iff (itemAt m k) (proposedAt c k) (s .fine k l) (fine k l)
+  kept : (k : ℕ) → k < m .count → (breaks (itemAt (plainOf sense m) k) (proposedAt c k) ≡ false) ↔ Keeps (itemAt (plainOf sense m) k) (proposedPoint c k)
+  kept k l = keeps-iff (itemAt (plainOf sense m) k) (proposedAt c k) (s .fine k l) (fine k l)
 
   abbrev given : ℕ → Need
   given j = needAt (m .needs) j
@@ -92,13 +94,13 @@ module _ (m : Model) (c : Candidate) (d : ℕ) (asked : Proposed m c) (s : Divid
   every h n i = let f = needs-from (m .needs .count) given n i in subst (λ (z : Need). KeepsNeed z (proposedPoint c)) (sym (f .1 .1)) (h (f .0) (f .1 .0))
 
   -- where every item and every need is kept the weight decides
-  by-weight : ((k : ℕ) → k < m .count → Keeps (itemAt m k) (proposedPoint c k)) → KeepsNeeds (needsOf (m .needs)) (proposedPoint c) → (b : Bool) →
-      ltZ (m .capacity *ℤ pos d) (totalOf Weight d (m .count) (plainOf m) c) ≡ b →
-      Told m c (cond b (reply.Violates 0) (reply.Feasible (lowest (totalOf Price d (m .count) (plainOf m) c) d)))
+  by-weight : ((k : ℕ) → k < m .count → Keeps (itemAt (plainOf sense m) k) (proposedPoint c k)) → KeepsNeeds (needsOf (m .needs)) (proposedPoint c) → (b : Bool) →
+      ltZ (m .capacity *ℤ pos d) (totalOf Weight d (m .count) (plainOf sense m) c) ≡ b →
+      Told sense m c (cond b (reply.Violates 0) (reply.Feasible (lowest (totalOf Price d (m .count) (plainOf sense m) c) d)))
   by-weight k n true e =
       record { proposed = asked; keeps = k; kept = n; over = over-< (s .some) (over-int d (m .capacity)) (total-over Weight) (yes-lt e) }
   by-weight k n false e =
-      let v = totalOf Price d (m .count) (plainOf m) c in
+      let v = totalOf Price d (m .count) (plainOf sense m) c in
       record {
         proposed = asked;
         feasible = record {
@@ -111,16 +113,16 @@ module _ (m : Model) (c : Candidate) (d : ℕ) (asked : Proposed m c) (s : Divid
       }
 
   abbrev weighed : PointReply
-  weighed = cond (ltZ (m .capacity *ℤ pos d) (totalOf Weight d (m .count) (plainOf m) c)) (reply.Violates 0)
-      (reply.Feasible (lowest (totalOf Price d (m .count) (plainOf m) c) d))
+  weighed = cond (ltZ (m .capacity *ℤ pos d) (totalOf Weight d (m .count) (plainOf sense m) c)) (reply.Violates 0)
+      (reply.Feasible (lowest (totalOf Price d (m .count) (plainOf sense m) c) d))
 
   -- where every item is kept the needs come next
-  by-needs : ((k : ℕ) → k < m .count → Keeps (itemAt m k) (proposedPoint c k)) → (n : ℕ) → Lacking (m .needs .count) (m .needs) c n →
-      Told m c (afterItems n weighed)
+  by-needs : ((k : ℕ) → k < m .count → Keeps (itemAt (plainOf sense m) k) (proposedPoint c k)) → (n : ℕ) → Lacking (m .needs .count) (m .needs) c n →
+      Told sense m c (afterItems n weighed)
   by-needs k n (all h) = by-weight k (every (λ j l. covered j l .0 (h j l))) _ refl
   by-needs k n (broken j l e h) = numbered (given j .item) refl (asked .admissible .needs j l .numbers .first-least)
     where
-      numbered : (i : ℕ) → given j .item ≡ i → 1 ≤ given j .item → Told m c (afterItems i weighed)
+      numbered : (i : ℕ) → given j .item ≡ i → 1 ≤ given j .item → Told sense m c (afterItems i weighed)
       numbered zero f g = absurd (omega (arith, f, g))
       numbered (suc i) f g = inr (record {
         proposed = asked;
@@ -132,12 +134,12 @@ module _ (m : Model) (c : Candidate) (d : ℕ) (asked : Proposed m c) (s : Divid
         before = λ i u. covered i (omega arith) .0 (h i u);
       })
 
-  judged-told : Told m c (judged d (plainOf m) (m .needs) c)
+  judged-told : Told sense m c (judged d (plainOf sense m) (m .needs) c)
   unfolding judged
-  judged-told = go (firstBroken (m .count) (plainOf m) c) (found (m .count) (plainOf m) c)
+  judged-told = go (firstBroken (m .count) (plainOf sense m) c) (found (m .count) (plainOf sense m) c)
     where
-      go : (n : ℕ) → Found (m .count) (plainOf m) c n →
-          Told m c (afterItems (earlierOf n (firstLacking (m .needs .count) (m .needs) c)) weighed)
+      go : (n : ℕ) → Found (m .count) (plainOf sense m) c n →
+          Told sense m c (afterItems (earlierOf n (firstLacking (m .needs .count) (m .needs) c)) weighed)
       go n (none h) = by-needs (λ k l. kept k l .0 (h k l)) _
           (lacking (m .needs .count) (m .needs) c (λ j l. asked .admissible .needs j l .numbers .first-least))
       go n (first k l e h) = inl (record {
@@ -149,39 +151,39 @@ module _ (m : Model) (c : Candidate) (d : ℕ) (asked : Proposed m c) (s : Divid
 
 -- ---- the refusals before it
 
-amounts-told : (m : Model) (c : Candidate) → Admissible m → Told m c (amountCheck (plainOf m) (m .needs) c)
+amounts-told : (sense : Sense) (m : Model) (c : Candidate) → Admissible m → Told sense m c (amountCheck (plainOf sense m) (m .needs) c)
 unfolding amountCheck
-amounts-told m c r = go _ refl _ refl
+amounts-told sense m c r = go _ refl _ refl
   where
-    go : (b : Bool) → eqb (c .count) (m .count) ≡ b → (z : Bool) → eqb (commonDivisor (c .count) (itemAt m) (proposedAt c)) 0 ≡ z →
-        Told m c (cond (not b) (refusePoint amounts) (cond z (refusePoint amount) (judged (commonDivisor (c .count) (itemAt m) (proposedAt c)) (plainOf m) (m .needs) c)))
+    go : (b : Bool) → eqb (c .count) (m .count) ≡ b → (z : Bool) → eqb (commonDivisor (c .count) (itemAt (plainOf sense m)) (proposedAt c)) 0 ≡ z →
+        Told sense m c (cond (not b) (refusePoint amounts) (cond z (refusePoint amount) (judged (commonDivisor (c .count) (itemAt (plainOf sense m)) (proposedAt c)) (plainOf sense m) (m .needs) c)))
     go false e z f = by-count r (eqb-false (c .count) (m .count) e)
     go true e true f =
         let n = eqb-true (c .count) (m .count) e in
-        by-amounts r n (λ g. divisor-iff (c .count) (itemAt m) (proposedAt c) .1 (rw n g) (eqb-true _ 0 f))
+        by-amounts r n (λ g. divisor-iff (c .count) (itemAt (plainOf sense m)) (proposedAt c) .1 (rw n g) (eqb-true _ 0 f))
     go true e false f =
         let n = eqb-true (c .count) (m .count) e in
-        let h = eqb-false (commonDivisor (c .count) (itemAt m) (proposedAt c)) 0 f in
-        judged-told m c _ (record {
+        let h = eqb-false (commonDivisor (c .count) (itemAt (plainOf sense m)) (proposedAt c)) 0 f in
+        judged-told sense m c _ (record {
           admissible = r;
           counted = n;
-          amounts = subst (λ n. GoodPoint n (itemAt m) (proposedAt c)) n
-              (divisor-iff (c .count) (itemAt m) (proposedAt c) .0 h);
-        }) (subst (λ n. Divided n (itemAt m) (proposedAt c) (commonDivisor (c .count) (itemAt m) (proposedAt c))) n (divided (c .count)
-        (itemAt m) (proposedAt c) h))
+          amounts = subst (λ n. GoodPoint n (itemAt (plainOf sense m)) (proposedAt c)) n
+              (divisor-iff (c .count) (itemAt (plainOf sense m)) (proposedAt c) .0 h);
+        }) (subst (λ n. Divided n (itemAt (plainOf sense m)) (proposedAt c) (commonDivisor (c .count) (itemAt (plainOf sense m)) (proposedAt c))) n (divided (c .count)
+        (itemAt (plainOf sense m)) (proposedAt c) h))
 
-pub told : (m : Model) (c : Candidate) → Told m c (pointCheck m c)
+pub told : (sense : Sense) (m : Model) (c : Candidate) → Told sense m c (pointCheck sense m c)
 unfolding pointCheck
-told m c = go (verdict m) refl
+told sense m c = go (verdict m) refl
   where
-    go : (v : Verdict) → verdict m ≡ v → Told m c (afterRecord v (amountCheck (plainOf m) (m .needs) c))
-    go verdicts.Accepted e = amounts-told m c (accepted m e)
+    go : (v : Verdict) → verdict m ≡ v → Told sense m c (afterRecord v (amountCheck (plainOf sense m) (m .needs) c))
+    go verdicts.Accepted e = amounts-told sense m c (accepted m e)
     go (verdicts.Refused f) e = by-record f e
 
 -- ---- each reply exactly where it should be
 
 -- what is not refused is not refused
-no-refusal : {m : Model} {c : Candidate} {f : Refusal} → Proposed m c → ¬ RefusedAs m c f
+no-refusal : {sense : Sense} {m : Model} {c : Candidate} {f : Refusal} → Proposed sense m c → ¬ RefusedAs sense m c f
 no-refusal {m} a (by-record f e) = no-verdict (sym (admitted m (a .admissible)) ∙ e)
   where
     taken : Verdict → Type 0
@@ -198,65 +200,65 @@ over-not-fits : (x y : Frac) → x <ᶠ y → ¬ (y ≤ᶠ x)
 unfolding _<ᶠ_ _≤ᶠ_
 over-not-fits x y l h = clashℤ l h
 
-module _ (m : Model) (c : Candidate) where
+module _ (sense : Sense) (m : Model) (c : Candidate) where
   -- what the reply says, once it is known
-  of-reply : {r : PointReply} → pointCheck m c ≡ r → Told m c r
-  of-reply e = subst (Told m c) e (told m c)
+  of-reply : {r : PointReply} → pointCheck sense m c ≡ r → Told sense m c r
+  of-reply e = subst (Told sense m c) e (told sense m c)
 
-  proposed-of : {k : ℕ} → ToldItem m c k ⊎ ToldNeed m c k → Proposed m c
+  proposed-of : {k : ℕ} → ToldItem sense m c k ⊎ ToldNeed sense m c k → Proposed sense m c
   proposed-of (inl t) = t .proposed
   proposed-of (inr t) = t .proposed
 
   -- a point that keeps all items and needs is told no item
-  no-breach : {k : ℕ} → ToldItem m c k ⊎ ToldNeed m c k → ((i : ℕ) → i < m .count → Keeps (itemAt m i) (proposedPoint c i)) →
+  no-breach : {k : ℕ} → ToldItem sense m c k ⊎ ToldNeed sense m c k → ((i : ℕ) → i < m .count → Keeps (itemAt (plainOf sense m) i) (proposedPoint c i)) →
       KeepsNeeds (needsOf (m .needs)) (proposedPoint c) → ⊥
   no-breach {k} (inl t) i n = t .broken (i k (t .item))
   no-breach (inr t) i n = t .broken (n _ (needs-in (m .needs .count) (needAt (m .needs)) (t .line) (t .counted)))
 
-  pub refused-iff : ((f : Refusal) × (pointCheck m c ≡ reply.Refused f)) ↔ (¬ Proposed m c)
-  refused-iff = (λ (f, e) a. no-refusal a (of-reply e), λ n. go n (pointCheck m c) refl)
+  pub refused-iff : ((f : Refusal) × (pointCheck sense m c ≡ reply.Refused f)) ↔ (¬ Proposed sense m c)
+  refused-iff = (λ (f, e) a. no-refusal a (of-reply e), λ n. go n (pointCheck sense m c) refl)
     where
-      go : ¬ Proposed m c → (r : PointReply) → pointCheck m c ≡ r → (f : Refusal) × (pointCheck m c ≡ reply.Refused f)
+      go : ¬ Proposed sense m c → (r : PointReply) → pointCheck sense m c ≡ r → (f : Refusal) × (pointCheck sense m c ≡ reply.Refused f)
       go n (reply.Refused f) e = (f, e)
       go n (reply.Feasible v) e = absurd (n (of-reply e .proposed))
       go n (reply.Violates zero) e = absurd (n (of-reply e .proposed))
       go n (reply.Violates (suc k)) e = absurd (n (proposed-of (of-reply e)))
 
-  pub feasible-iff : Proposed m c → ((v : Fraction) × (pointCheck m c ≡ reply.Feasible v)) ↔ FeasibleNeeds (asked m) (needsOf (m .needs)) (proposedPoint c)
-  feasible-iff a = (λ (v, e). of-reply e .feasible, λ x. go x (pointCheck m c) refl)
+  pub feasible-iff : Proposed sense m c → ((v : Fraction) × (pointCheck sense m c ≡ reply.Feasible v)) ↔ FeasibleNeeds (asked sense m) (needsOf (m .needs)) (proposedPoint c)
+  feasible-iff a = (λ (v, e). of-reply e .feasible, λ x. go x (pointCheck sense m c) refl)
     where
-      go : FeasibleNeeds (asked m) (needsOf (m .needs)) (proposedPoint c) → (r : PointReply) → pointCheck m c ≡ r →
-          (v : Fraction) × (pointCheck m c ≡ reply.Feasible v)
+      go : FeasibleNeeds (asked sense m) (needsOf (m .needs)) (proposedPoint c) → (r : PointReply) → pointCheck sense m c ≡ r →
+          (v : Fraction) × (pointCheck sense m c ≡ reply.Feasible v)
       go x (reply.Refused f) e = absurd (no-refusal a (of-reply e))
       go x (reply.Feasible v) e = (v, e)
       go x (reply.Violates zero) e = absurd (over-not-fits _ _ (of-reply e .over) (x .plain .fits))
       go x (reply.Violates (suc k)) e = absurd (no-breach (of-reply e) (x .plain .keeps) (x .kept))
 
-  pub weight-iff : (pointCheck m c ≡ reply.Violates 0) ↔ ToldWeight m c
-  weight-iff = (λ e. of-reply e, λ w. go w (pointCheck m c) refl)
+  pub weight-iff : (pointCheck sense m c ≡ reply.Violates 0) ↔ ToldWeight sense m c
+  weight-iff = (λ e. of-reply e, λ w. go w (pointCheck sense m c) refl)
     where
-      go : ToldWeight m c → (r : PointReply) → pointCheck m c ≡ r → pointCheck m c ≡ reply.Violates 0
+      go : ToldWeight sense m c → (r : PointReply) → pointCheck sense m c ≡ r → pointCheck sense m c ≡ reply.Violates 0
       go w (reply.Refused f) e = absurd (no-refusal (w .proposed) (of-reply e))
       go w (reply.Feasible v) e = absurd (over-not-fits _ _ (w .over) (of-reply e .feasible .plain .fits))
       go w (reply.Violates zero) e = e
       go w (reply.Violates (suc k)) e = absurd (no-breach (of-reply e) (w .keeps) (w .kept))
 
-  pub item-iff : (k : ℕ) → (pointCheck m c ≡ reply.Violates (suc k)) ↔ (ToldItem m c k ⊎ ToldNeed m c k)
-  item-iff k = (λ e. of-reply e, λ t. go t (pointCheck m c) refl)
+  pub item-iff : (k : ℕ) → (pointCheck sense m c ≡ reply.Violates (suc k)) ↔ (ToldItem sense m c k ⊎ ToldNeed sense m c k)
+  item-iff k = (λ e. of-reply e, λ t. go t (pointCheck sense m c) refl)
     where
       -- of two first items neither comes before the other
-      same-item : (j : ℕ) → ToldItem m c k → ToldItem m c j → Dec (j < k) → Dec (k < j) → j ≡ k
+      same-item : (j : ℕ) → ToldItem sense m c k → ToldItem sense m c j → Dec (j < k) → Dec (k < j) → j ≡ k
       same-item j t u (yes l) m = absurd (u .broken (t .before j l))
       same-item j t u (no l) (yes m) = absurd (t .broken (u .before k m))
       same-item j t u (no l) (no m) = omega arith
 
       -- nor of two first lines
-      same-line : (j : ℕ) (t : ToldNeed m c k) (u : ToldNeed m c j) → Dec (u .line < t .line) → Dec (t .line < u .line) → u .line ≡ t .line
+      same-line : (j : ℕ) (t : ToldNeed sense m c k) (u : ToldNeed sense m c j) → Dec (u .line < t .line) → Dec (t .line < u .line) → u .line ≡ t .line
       same-line j t u (yes l) m = absurd (u .broken (t .before (u .line) l))
       same-line j t u (no l) (yes m) = absurd (t .broken (u .before (t .line) m))
       same-line j t u (no l) (no m) = omega arith
 
-      same : (j : ℕ) → ToldItem m c k ⊎ ToldNeed m c k → ToldItem m c j ⊎ ToldNeed m c j → j ≡ k
+      same : (j : ℕ) → ToldItem sense m c k ⊎ ToldNeed sense m c k → ToldItem sense m c j ⊎ ToldNeed sense m c j → j ≡ k
       same j (inl t) (inl u) = same-item j t u (decLt j k) (decLt k j)
       same j (inl t) (inr u) = absurd (t .broken (u .keeps k (t .item)))
       same j (inr t) (inl u) = absurd (u .broken (t .keeps j (u .item)))
@@ -265,7 +267,7 @@ module _ (m : Model) (c : Candidate) where
           let h : suc j ≡ suc k = sym (u .item) ∙ ap (λ i. needAt (m .needs) i .item) e ∙ t .item in
           omega (arith, h)
 
-      go : ToldItem m c k ⊎ ToldNeed m c k → (r : PointReply) → pointCheck m c ≡ r → pointCheck m c ≡ reply.Violates (suc k)
+      go : ToldItem sense m c k ⊎ ToldNeed sense m c k → (r : PointReply) → pointCheck sense m c ≡ r → pointCheck sense m c ≡ reply.Violates (suc k)
       go t (reply.Refused f) e = absurd (no-refusal (proposed-of t) (of-reply e))
       go t (reply.Feasible v) e = let f = of-reply e .feasible in absurd (no-breach t (f .plain .keeps) (f .kept))
       go t (reply.Violates zero) e = let w = of-reply e in absurd (no-breach t (w .keeps) (w .kept))

@@ -24,6 +24,7 @@ use Rattle.model.specs.Promises.{RepliesAs, Planned}
 use Rattle.model.specs.Records.{needAt, needsOf, verdict}
 use Rattle.model.specs.declared.Need.{Need}
 use Rattle.model.specs.declared.Model.{Model}
+use Rattle.model.specs.declared.Sense.{Sense}
 use Rattle.model.proofs.NeedLines.{needs-from}
 use Rattle.model.proofs.Records.{accepted}
 use Rattle.model.proofs.Showing.{default}
@@ -50,11 +51,11 @@ module _ (s : Instance) (x y : Point) (e : Each (s .count) (λ k. x k ≡ y k)) 
 
 -- ---- amounts that are shown are good
 
-module _ (m : Model) (a : Answer) (size : length (a .point) ≡ 16) (fair : verdict m ≡ Accepted) (shown : Shown (asked m) (amountAt a)) where
+module _ (sense : Sense) (m : Model) (a : Answer) (size : length (a .point) ≡ 16) (fair : verdict m ≡ Accepted) (shown : Shown (asked sense m) (amountAt a)) where
   same : (k : ℕ) → k < m .count → amountAt a k ≡ proposedAt (shownBy m a) k
-  same k l = default (a .point) k nought _ (omega (arith, accepted m fair .figures .few-items))
+  same k l = default (a .point) k nought _ (omega (arith, accepted m fair .figures sense .few-items))
 
-  proposed : Proposed m (shownBy m a)
+  proposed : Proposed sense m (shownBy m a)
   proposed = record {
     admissible = accepted m fair;
     counted = refl;
@@ -71,47 +72,47 @@ module _ (m : Model) (a : Answer) (size : length (a .point) ≡ 16) (fair : verd
   same-kept : KeepsNeeds (needsOf (m .needs)) (pointOf a) → KeepsNeeds (needsOf (m .needs)) (proposedPoint (shownBy m a))
   same-kept h n i =
       let f = needs-from (m .needs .count) (needAt (m .needs)) n i in
-      let x = accepted m fair .needs (f .0) (f .1 .0) .allowed in
-      let g : Named (asked m) (n .item) = subst (λ (z : Need). Named (asked m) (z .item)) (sym (f .1 .1)) (x .item) in
-      let k : Named (asked m) (n .cover) = subst (λ (z : Need). Named (asked m) (z .cover)) (sym (f .1 .1)) (x .cover) in
+      let x = accepted m fair .needs (f .0) (f .1 .0) .allowed sense in
+      let g : Named (asked sense m) (n .item) = subst (λ (z : Need). Named (asked sense m) (z .item)) (sym (f .1 .1)) (x .item) in
+      let k : Named (asked sense m) (n .cover) = subst (λ (z : Need). Named (asked sense m) (z .cover)) (sym (f .1 .1)) (x .cover) in
       subst₂ (λ y z. int (pos 0) <ᶠ y → int (pos 1) ≤ᶠ z) (agree (n .item) (g .inside)) (agree (n .cover) (k .inside)) (h n i)
 
-  passes : FeasibleNeeds (asked m) (needsOf (m .needs)) (pointOf a) → (v : Fraction) × (pointCheck m (shownBy m a) ≡ reply.Feasible v)
-  passes f = feasible-iff m (shownBy m a) proposed .1
-      (record { plain = same-feasible (asked m) (pointOf a) (proposedPoint (shownBy m a)) agree (f .plain); kept = same-kept (f .kept) })
+  passes : FeasibleNeeds (asked sense m) (needsOf (m .needs)) (pointOf a) → (v : Fraction) × (pointCheck sense m (shownBy m a) ≡ reply.Feasible v)
+  passes f = feasible-iff sense m (shownBy m a) proposed .1
+      (record { plain = same-feasible (asked sense m) (pointOf a) (proposedPoint (shownBy m a)) agree (f .plain); kept = same-kept (f .kept) })
 
   -- the value told is the value shown
-  value-told : ShownOptimalNeeds (asked m) (needsOf (m .needs)) a → (v : Fraction) → Told m (shownBy m a) (reply.Feasible v) → v ≡ a .value
+  value-told : ShownOptimalNeeds (asked sense m) (needsOf (m .needs)) a → (v : Fraction) → Told sense m (shownBy m a) (reply.Feasible v) → v ≡ a .value
   value-told o v t =
       let x = frac (v .p) (v .q) in
       let y = frac (a .value .p) (a .value .q) in
-      let w = value (asked m) (pointOf a) in
+      let w = value (asked sense m) (pointOf a) in
       let e : x ≈ᶠ w = subst (λ z. x ≈ᶠ z)
-      (sym (same-total (asked m) (pointOf a) (proposedPoint (shownBy m a)) agree (λ k. asked m .item k .price))) (t .exact) in
+      (sym (same-total (asked sense m) (pointOf a) (proposedPoint (shownBy m a)) agree (λ k. asked sense m .item k .price))) (t .exact) in
       same-fraction v (a .value) (t .divisor) (o .divisor) (t .lowest) (o .lowest)
       (≤ᶠ-antisym x y (≤ᶠ-trans x w y (≈ᶠ-≤ x w e) (≈ᶠ-≥ y w (o .exact))) (≤ᶠ-trans y w x (≈ᶠ-≤ y w (o .exact)) (≈ᶠ-≥ x w e)))
 
 -- ---- every answer that is Planned
 
 -- an answer that is no refusal answers an accepted record
-answers : (m : Model) (a : Answer) (k : Kind) → Planned m a → a .kind ≡ k → ((f : Refusal) → k ≡ kind.Refused f → ⊥) →
-    (verdict m ≡ Accepted) × AnswersAsNeeds (asked m) (needsOf (m .needs)) a k
-answers m a k p e n = go (verdict m) refl (p .replies)
+answers : (sense : Sense) (m : Model) (a : Answer) (k : Kind) → Planned sense m a → a .kind ≡ k → ((f : Refusal) → k ≡ kind.Refused f → ⊥) →
+    (verdict m ≡ Accepted) × AnswersAsNeeds (asked sense m) (needsOf (m .needs)) a k
+answers sense m a k p e n = go (verdict m) refl (p .replies)
   where
-    go : (v : Verdict) → verdict m ≡ v → RepliesAs (asked m) (needsOf (m .needs)) a v →
-        (verdict m ≡ Accepted) × AnswersAsNeeds (asked m) (needsOf (m .needs)) a k
-    go Accepted h r = (h, subst (AnswersAsNeeds (asked m) (needsOf (m .needs)) a) e r)
+    go : (v : Verdict) → verdict m ≡ v → RepliesAs (asked sense m) (needsOf (m .needs)) a v →
+        (verdict m ≡ Accepted) × AnswersAsNeeds (asked sense m) (needsOf (m .needs)) a k
+    go Accepted h r = (h, subst (AnswersAsNeeds (asked sense m) (needsOf (m .needs)) a) e r)
     go (Refused f) h r = absurd (n f (sym e ∙ ap (λ (z : Answer). z .kind) r))
 
-module _ (m : Model) (a : Answer) (size : length (a .point) ≡ 16) (p : Planned m a) where
-  pub best-passes : a .kind ≡ kind.Optimal → pointCheck m (shownBy m a) ≡ reply.Feasible (a .value)
+module _ (sense : Sense) (m : Model) (a : Answer) (size : length (a .point) ≡ 16) (p : Planned sense m a) where
+  pub best-passes : a .kind ≡ kind.Optimal → pointCheck sense m (shownBy m a) ≡ reply.Feasible (a .value)
   best-passes e =
-      let h = answers m a kind.Optimal p e (λ f g. absurd (let z : _≡_ {A = ℕ} 0 1 = cc in omega arith)) in
-      let r = passes m a size (h .0) (h .1 .shown) (h .1 .optimal .feasible) in
-      let t : Told m (shownBy m a) (reply.Feasible (r .0)) = subst (Told m (shownBy m a)) (r .1) (told m (shownBy m a)) in
-      r .1 ∙ ap reply.Feasible (value-told m a size (h .0) (h .1 .shown) (h .1) (r .0) t)
+      let h = answers sense m a kind.Optimal p e (λ f g. absurd (let z : _≡_ {A = ℕ} 0 1 = cc in omega arith)) in
+      let r = passes sense m a size (h .0) (h .1 .shown) (h .1 .optimal .feasible) in
+      let t : Told sense m (shownBy m a) (reply.Feasible (r .0)) = subst (Told sense m (shownBy m a)) (r .1) (told sense m (shownBy m a)) in
+      r .1 ∙ ap reply.Feasible (value-told sense m a size (h .0) (h .1 .shown) (h .1) (r .0) t)
 
-  pub start-passes : a .kind ≡ kind.Unbounded → (v : Fraction) × (pointCheck m (shownBy m a) ≡ reply.Feasible v)
+  pub start-passes : a .kind ≡ kind.Unbounded → (v : Fraction) × (pointCheck sense m (shownBy m a) ≡ reply.Feasible v)
   start-passes e =
-      let h = answers m a kind.Unbounded p e (λ f g. absurd (let z : _≡_ {A = ℕ} 0 1 = cc in omega arith)) in
-      passes m a size (h .0) (h .1 .shown) (h .1 .unbounded .from)
+      let h = answers sense m a kind.Unbounded p e (λ f g. absurd (let z : _≡_ {A = ℕ} 0 1 = cc in omega arith)) in
+      passes sense m a size (h .0) (h .1 .shown) (h .1 .unbounded .from)

@@ -15,13 +15,13 @@
 --   refusePoint n         refusal n
 --   amountCheck p ns c    refusals 7 and 8, then yes or no
 --   afterRecord v r       the record's refusal, or r
---   pointCheck m c        the reply: the record's refusals, then 7, then 8, line 0; then yes or no
+--   pointCheck sense m c  the reply in a sense (02, request 11): the record's refusals, then 7, then 8, line 0; then yes or no
 --   Checkable p c         what the code needs for yes or no;  Lined n ns: of the lines of needs over n items;  Coverable ns c: to try them
---   asked m               the instance that a point is proposed for;  proposedPoint c: the point
---   Proposed m c          nothing is refused
+--   asked sense m         the instance that a point is proposed for;  proposedPoint c: the point
+--   Proposed sense m c          nothing is refused
 --   RefusedAs, ToldValue, ToldWeight   what a refusal, a yes and a no with item 0 say
 --   ToldItem, ToldNeed    what a no with an item says: the item breaks its mark or a bound, or its need is broken
---   Told m c r            what the reply r says of the point, by its case: the entry's promise beside pointCheck m c
+--   Told sense m c r      what the reply r says of the point, by its case: the entry's promise beside pointCheck sense m c
 use mathlib.Core.Path.{_≡_}
 use mathlib.Core.Bool.{Bool, true, false, cond, not}
 use mathlib.Core.Logic.{_⊎_, _≢_}
@@ -47,6 +47,7 @@ use Rattle.model.specs.Records.{plainOf, needAt, placed, needsOf, refusalOf, ve
 use Rattle.model.specs.Refusals as refusal
 use Rattle.model.specs.declared.Model.{Model}
 use Rattle.model.specs.declared.Needs.{Needs}
+use Rattle.model.specs.declared.Sense.{Sense}
 use Rattle.feasibility.specs.declared.Candidate.{Candidate}
 use Rattle.feasibility.specs.declared.Figure.{Figure}
 use Rattle.feasibility.specs.declared.Figure.the-variants.{Weight, Price}
@@ -133,8 +134,8 @@ abbrev pub afterRecord : Verdict → PointReply → PointReply
 afterRecord verdicts.Accepted r = r
 afterRecord (verdicts.Refused f) r = reply.Refused f
 
-unfoldable pub pointCheck : Model → Candidate → PointReply
-pointCheck m c = afterRecord (verdict m) (amountCheck (plainOf m) (m .needs) c)
+unfoldable pub pointCheck : Sense → Model → Candidate → PointReply
+pointCheck sense m c = afterRecord (verdict m) (amountCheck (plainOf sense m) (m .needs) c)
 
 -- what the code needs for yes or no
 pub record Checkable (p : Problem) (c : Candidate) : Type 0 where
@@ -153,58 +154,58 @@ pub record Coverable (ns : Needs) (c : Candidate) : Type 0 where
 -- ---- what a reply means
 
 -- what the point is proposed for
-abbrev pub asked : Model → Instance
-asked m = instanceOf (plainOf m)
+abbrev pub asked : Sense → Model → Instance
+asked sense m = instanceOf (plainOf sense m)
 
 abbrev pub proposedPoint : Candidate → Point
 proposedPoint c k = frac (proposedAt c k .p) (proposedAt c k .q)
 
 -- a proposed point of which nothing is refused
-pub record Proposed (m : Model) (c : Candidate) : Type 0 where
+pub record Proposed (sense : Sense) (m : Model) (c : Candidate) : Type 0 where
   pub admissible : Admissible m
   pub counted : c .count ≡ m .count
-  pub amounts : GoodPoint (m .count) (asked m .item) (proposedAt c)
+  pub amounts : GoodPoint (m .count) (asked sense m .item) (proposedAt c)
 
 -- 01's numbers of the refusals, in their order, with line 0
-pub data RefusedAs (m : Model) (c : Candidate) : Refusal → Type 0 where
-  by-record : (f : Refusal) → verdict m ≡ verdicts.Refused f → RefusedAs m c f
-  by-count : Admissible m → c .count ≢ m .count → RefusedAs m c (refusalOf refusal.amounts)
-  by-amounts : Admissible m → c .count ≡ m .count → ¬ GoodPoint (m .count) (asked m .item) (proposedAt c) → RefusedAs m c (refusalOf refusal.amount)
+pub data RefusedAs (sense : Sense) (m : Model) (c : Candidate) : Refusal → Type 0 where
+  by-record : (f : Refusal) → verdict m ≡ verdicts.Refused f → RefusedAs sense m c f
+  by-count : Admissible m → c .count ≢ m .count → RefusedAs sense m c (refusalOf refusal.amounts)
+  by-amounts : Admissible m → c .count ≡ m .count → ¬ GoodPoint (m .count) (asked sense m .item) (proposedAt c) → RefusedAs sense m c (refusalOf refusal.amount)
 
 -- 01's yes: feasible, and v is the value in lowest terms
-pub record ToldValue (m : Model) (c : Candidate) (v : Fraction) : Type 0 where
-  pub proposed : Proposed m c
-  pub feasible : FeasibleNeeds (asked m) (needsOf (m .needs)) (proposedPoint c)
-  pub exact : frac (v .p) (v .q) ≈ᶠ value (asked m) (proposedPoint c)
+pub record ToldValue (sense : Sense) (m : Model) (c : Candidate) (v : Fraction) : Type 0 where
+  pub proposed : Proposed sense m c
+  pub feasible : FeasibleNeeds (asked sense m) (needsOf (m .needs)) (proposedPoint c)
+  pub exact : frac (v .p) (v .q) ≈ᶠ value (asked sense m) (proposedPoint c)
   pub divisor : 1 ≤ v .q
   pub lowest : gcdOf (natAbs (v .p)) (v .q) ≡ 1
 
 -- 01's no with item 0: every item keeps its mark and bounds, the needs are kept, and only the weight is over
-pub record ToldWeight (m : Model) (c : Candidate) : Type 0 where
-  pub proposed : Proposed m c
-  pub keeps : (k : ℕ) → k < asked m .count → Keeps (asked m .item k) (proposedPoint c k)
+pub record ToldWeight (sense : Sense) (m : Model) (c : Candidate) : Type 0 where
+  pub proposed : Proposed sense m c
+  pub keeps : (k : ℕ) → k < asked sense m .count → Keeps (asked sense m .item k) (proposedPoint c k)
   pub kept : KeepsNeeds (needsOf (m .needs)) (proposedPoint c)
-  pub over : int (asked m .capacity) <ᶠ weighs (asked m) (proposedPoint c)
+  pub over : int (asked sense m .capacity) <ᶠ weighs (asked sense m) (proposedPoint c)
 
 -- 01's no with item k + 1: the first that does not keep its mark and bounds
-pub record ToldItem (m : Model) (c : Candidate) (k : ℕ) : Type 0 where
-  pub proposed : Proposed m c
-  pub item : k < asked m .count
-  pub broken : ¬ Keeps (asked m .item k) (proposedPoint c k)
-  pub before : (j : ℕ) → j < k → Keeps (asked m .item j) (proposedPoint c j)
+pub record ToldItem (sense : Sense) (m : Model) (c : Candidate) (k : ℕ) : Type 0 where
+  pub proposed : Proposed sense m c
+  pub item : k < asked sense m .count
+  pub broken : ¬ Keeps (asked sense m .item k) (proposedPoint c k)
+  pub before : (j : ℕ) → j < k → Keeps (asked sense m .item j) (proposedPoint c j)
 
 -- 02's no with item k + 1: every item keeps its mark and bounds, and k + 1 is the item of the first broken line
-pub record ToldNeed (m : Model) (c : Candidate) (k : ℕ) : Type 0 where
-  pub proposed : Proposed m c
-  pub keeps : (i : ℕ) → i < asked m .count → Keeps (asked m .item i) (proposedPoint c i)
+pub record ToldNeed (sense : Sense) (m : Model) (c : Candidate) (k : ℕ) : Type 0 where
+  pub proposed : Proposed sense m c
+  pub keeps : (i : ℕ) → i < asked sense m .count → Keeps (asked sense m .item i) (proposedPoint c i)
   pub line : ℕ
   pub counted : line < m .needs .count
   pub item : needAt (m .needs) line .item ≡ suc k
   pub broken : ¬ KeepsNeed (placed (needAt (m .needs) line)) (proposedPoint c)
   pub before : (j : ℕ) → j < line → KeepsNeed (placed (needAt (m .needs) j)) (proposedPoint c)
 
-abbrev pub Told : Model → Candidate → PointReply → Type 0
-Told m c (reply.Refused f) = RefusedAs m c f
-Told m c (reply.Feasible v) = ToldValue m c v
-Told m c (reply.Violates zero) = ToldWeight m c
-Told m c (reply.Violates (suc k)) = ToldItem m c k ⊎ ToldNeed m c k
+abbrev pub Told : Sense → Model → Candidate → PointReply → Type 0
+Told sense m c (reply.Refused f) = RefusedAs sense m c f
+Told sense m c (reply.Feasible v) = ToldValue sense m c v
+Told sense m c (reply.Violates zero) = ToldWeight sense m c
+Told sense m c (reply.Violates (suc k)) = ToldItem sense m c k ⊎ ToldNeed sense m c k

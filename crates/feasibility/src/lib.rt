@@ -14,6 +14,7 @@ use knapsack::Verdict;
 use knapsack::own_divisor;
 use model::Model;
 use model::Needs;
+use model::Sense;
 use model::Side;
 use model::beyond;
 use model::check_model;
@@ -348,16 +349,16 @@ fn check_amounts(p: Problem, needs: Needs, c: Candidate) -> PointReply
     judge(d, p, needs, c)
 }
 
-// 01's point check: the one reply by definition, and what it says, by its case.
-pub fn check_point(m: Model, c: Candidate) -> PointReply
-    ensures { λ r. ⌜ r ≡ pointCheck m c ⌝ }
-    ensures { λ r. ⌜ Told m c r ⌝ }
+// 01's point check, in a sense: the one reply by definition, and what it says, by its case.
+pub fn check_point(m: Model, sense: Sense, c: Candidate) -> PointReply
+    ensures { λ r. ⌜ r ≡ pointCheck sense m c ⌝ }
+    ensures { λ r. ⌜ Told sense m c r ⌝ }
 {
     let v = check_model(m);
     match v {
         Verdict::Accepted => {
             let needs = m.needs;
-            check_amounts(plain_of(m), needs, c)
+            check_amounts(plain_of(m, sense), needs, c)
         }
         Verdict::Refused(f) => PointReply::Refused(f),
     }

@@ -7,6 +7,7 @@ use feasibility::Candidate;
 use feasibility::PointReply;
 use feasibility::check_point;
 use libc::STDIN_FILENO;
+use model::Sense;
 use model::setters::with_needs;
 use trials::make::record_of;
 use trials::print::print;
@@ -113,7 +114,7 @@ fn one_case(s: &[u8], from: usize) -> usize {
         amounts: point,
         count: amount_count.size as usize,
     };
-    print_reply(check_point(p, c));
+    print_reply(check_point(p, Sense::Sure, c));
     skip(s, n.at)
 }
 

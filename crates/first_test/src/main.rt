@@ -4,8 +4,9 @@
 use arith::Fraction;
 use knapsack::Answer;
 use knapsack::Bound;
-use knapsack::Item;
 use model::Model;
+use model::ModelItem;
+use model::Sense;
 use planner::plan_within;
 use solver::STEPS;
 use trials::count::one_more;
@@ -47,7 +48,7 @@ fn print_three(a: Answer) {
 
 fn show(p: Model) {
     print_problem(p);
-    let a = plan_within(p, STEPS);
+    let a = plan_within(p, Sense::Sure, STEPS);
     print(b": ");
     print_kind(a);
     print(b":");
@@ -76,7 +77,7 @@ struct Counts {
     wrong: u64,
 }
 
-fn with_lower(x: Item) -> Item {
+fn with_lower(x: ModelItem) -> ModelItem {
     let m = x.mark;
     let l = x.lower;
     let u = x.upper;
@@ -84,9 +85,10 @@ fn with_lower(x: Item) -> Item {
         Bound::Absent => Bound::At(-1),
         Bound::At(v) => Bound::At(v),
     };
-    Item {
+    ModelItem {
         mark: m,
-        weight: x.weight,
+        low: x.low,
+        high: x.high,
         price: x.price,
         lower: lower,
         upper: u,
@@ -129,7 +131,7 @@ fn print_wrong(p: Model, a: Answer) {
 fn tried(c: Counts, p: Model, n: usize, open: bool, most: u64) -> Counts
     requires { ⌜ n ≤ 15 ⌝ }
 {
-    let a = plan_within(p, most);
+    let a = plan_within(p, Sense::Sure, most);
     let k = a.kind;
     if number_of(k) != 1 {
         return c;

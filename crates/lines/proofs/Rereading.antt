@@ -17,9 +17,9 @@ use Rattle.knapsack.specs.declared.Bound.{Bound}
 use Rattle.knapsack.specs.declared.Bound.the-variants.{Absent, At as Present}
 use Rattle.knapsack.specs.declared.Mark.{Mark}
 use Rattle.knapsack.specs.declared.Mark.the-variants.{Integer, Continuous}
-use Rattle.knapsack.specs.declared.Item.{Item}
+use Rattle.model.specs.declared.ModelItem.{ModelItem}
 use Rattle.model.specs.declared.Need.{Need}
-use Rattle.model.specs.Records.{outside, badBound, badLine, Numbers}
+use Rattle.model.specs.Records.{outside, badBound, isReversed, badLine, Numbers}
 use Rattle.model.proofs.NeedLines.{line-numbers}
 use Rattle.text.specs.Decimal.{decimal, integer, Plain}
 use Rattle.text.proofs.Decimals.{decimal-plain, decimal-read, decimal-lead, decimal-zero}
@@ -36,7 +36,7 @@ use Rattle.lines.specs.declared.BoundRead.the-variants.{Read as BoundIs}
 use Rattle.lines.specs.declared.NeedRead.the-variants.{Read as NeedIs}
 use Rattle.lines.specs.Places.{byteAt, afterByte, afterWord}
 use Rattle.lines.specs.Numbers.{isDigit, digitRun, numeral, signedOf, unsignedAt, numberAt, fromTo, only, ranged, fieldAt}
-use Rattle.lines.specs.Lines.{headingLine, numbersLine, markAt, weights, prices, itemLine, countAt, itemRead, boundField, boundRead, needRead}
+use Rattle.lines.specs.Lines.{headingLine, numbersLine, figuresLine, markAt, weights, prices, itemLine, countAt, itemRead, boundField, boundRead, needRead}
 use Rattle.lines.specs.Layout.{headingText, numbersText, markByte, itemText, absentWord, boundWord, Bounding, boundText, needText}
 use Rattle.lines.proofs.Numerals.{leading-yes, run-append}
 
@@ -130,8 +130,8 @@ count-reads w a b s at m l f g h =
     let q = field-reads 10 (fromTo a b) s (suc (p .0)) (pos m) l refl (rw (le-ltb m a f, le-ltb b m g)) (standing s (p .0) 32 c (p .2) .1) in
     (q .0, rw (p .1, byte-reads s (p .0) 32 c (p .2), q .1), q .2)
 
-abbrev pub bareOf : Item → Item
-bareOf i = record { mark = i .mark; weight = i .weight; price = i .price; lower = Absent; upper = Absent }
+abbrev pub bareOf : ModelItem → ModelItem
+bareOf i = record { mark = i .mark; low = i .low; high = i .high; price = i .price; lower = Absent; upper = Absent }
 
 mark-reads : (s : List ℕ) (at : ℕ) (m : Mark) (l : List ℕ) → drop at s ≡ markByte m ∷ 32 ∷ l →
     (markAt s at ≡ MarkOf m (suc (suc at))) × (drop (suc (suc at)) s ≡ l)
@@ -144,15 +144,18 @@ mark-reads s at Continuous l h =
     let ne : _≡_ {A = ℕ} 76 87 → ⊥ = λ q. omega arith in
     (rw (byte-other s at 87 76 (32 ∷ l) h ne, byte-reads s at 76 (32 ∷ l) h, byte-reads s (suc at) 32 l e), standing s (suc at) 32 l e .1)
 
-pub item-reads : (s : List ℕ) (at : ℕ) (i : Item) (l : List ℕ) → outside 1000 (i .weight) ≡ false → outside 10000 (i .price) ≡ false →
+pub item-reads : (s : List ℕ) (at : ℕ) (i : ModelItem) (l : List ℕ) →
+    outside 1000 (i .low) ≡ false → outside 1000 (i .high) ≡ false → outside 10000 (i .price) ≡ false → isReversed i ≡ false →
     drop at s ≡ itemText i ++ l → (n : ℕ) × (itemRead s at ≡ ItemIs (bareOf i) n) × (drop n s ≡ l)
-unfolding itemRead itemLine
-item-reads s at i l f g h =
-    let m = mark-reads s at (i .mark) (numbersText (i .weight) (i .price) ++ l) h in
-    let w = ranged-within 999 (i .weight) f in
+unfolding itemRead itemLine figuresLine
+item-reads s at i l e f g r h =
+    let t = numbersText (i .high) (i .price) ++ l in
+    let m = mark-reads s at (i .mark) (integer (i .low) ++ (32 ∷ t)) (h ∙ simp append-assoc) in
+    let a = field-reads 32 weights s (suc (suc at)) (i .low) t refl (ranged-within 999 (i .low) e) (m .1) in
+    let b = ranged-within 999 (i .high) f in
     let c = ranged-within 9999 (i .price) g in
-    let p = numbers-reads weights prices s (suc (suc at)) (i .weight) (i .price) l w c (m .1) in
-    (p .0, rw (m .0, p .1), p .2)
+    let p = numbers-reads weights prices s (a .0) (i .high) (i .price) l b c (a .2) in
+    (p .0, rw (m .0, a .1, p .1, r), p .2)
 
 -- no number begins as `none` does
 number-starts : (z : ℤ) → (b : ℕ) × (l : List ℕ) × (integer z ≡ b ∷ l) × (b ≤ 57)

@@ -25,7 +25,8 @@ use Rattle.lines.specs.declared.Count.the-variants.{Fault as CountFault,
 use Rattle.knapsack.specs.declared.Bound.{Bound}
 use Rattle.knapsack.specs.declared.Bound.the-variants.{Absent, At as Present}
 use Rattle.knapsack.specs.declared.Mark.{Mark}
-use Rattle.knapsack.specs.declared.Item.{Item}
+use Rattle.lines.specs.declared.ThreeNumbers.{ThreeNumbers}
+use Rattle.lines.specs.declared.ThreeNumbers.the-variants.{Fault as FiguresFault, All}
 use Rattle.lines.specs.declared.Marked.{Marked}
 use Rattle.lines.specs.declared.Marked.the-variants.{Nothing as NoMark, Mark as MarkOf}
 use Rattle.lines.specs.declared.ItemRead.the-variants.{Fault as ItemFault, Read as ItemIs}
@@ -33,13 +34,15 @@ use Rattle.lines.specs.declared.BoundField.{BoundField}
 use Rattle.lines.specs.declared.BoundField.the-variants.{Fault as NoBound, Out as OutBound, In as Bounded}
 use Rattle.lines.specs.declared.BoundRead.the-variants.{Fault as BoundFault, Read as BoundIs}
 use Rattle.lines.specs.declared.NeedRead.the-variants.{Fault as NeedFault, Read as NeedIs}
+use Rattle.model.specs.declared.ModelItem.{ModelItem}
 use Rattle.model.specs.declared.Need.{Need}
-use Rattle.model.specs.Records.{badLine}
+use Rattle.model.specs.Records.{isReversed, badLine}
 use Rattle.model.specs.Refusals as refusal
 use Rattle.lines.specs.Places.{afterByte, afterWord, onPlace}
 use Rattle.lines.specs.Faults.{faultAt}
 use Rattle.lines.specs.Numbers.{Numeral, none, numeral, numberAt, fromTo, only, ranged, inRange, closedBy, fieldAt}
-use Rattle.lines.specs.Lines.{onField, headingLine, numbersLine, markAt, weights, withNumbers, marked, itemLine, itemOf, itemRead, countOf}
+use Rattle.lines.specs.Lines.{onField, headingLine, numbersLine, behind, figuresLine, markAt, weights, withFigures, marked, itemLine, ordered, itemOf}
+use Rattle.lines.specs.Lines.{itemRead, countOf}
 use Rattle.lines.specs.Lines.{countAt, figured, boundField, boundOf, boundRead, prices, inOrder, needOf, needRead}
 use Rattle.lines.specs.Layout.{absentWord}
 use Rattle.lines.proofs.Numerals.{ranged-in}
@@ -128,40 +131,75 @@ pub heading-range : (w : List ℕ) (r : Range) (s : List ℕ) (at : ℕ) (z : �
     (r .lo ≤ℤ z) × (z ≤ℤ r .hi)
 heading-range w r s at z end h = let p = heading-parts w r s at (In z) end h in field-range 10 r s (p .next) z end (p .count)
 
-pub record ItemParts (s : List ℕ) (at : ℕ) (i : Item) (end : ℕ) : Type 0 where
+pub record FiguresParts (s : List ℕ) (at : ℕ) (x y z : Ranged) (end : ℕ) : Type 0 where
+  pub next : ℕ
+  pub first : fieldAt 32 weights s at ≡ Number x next
+  pub others : numbersLine weights prices s next ≡ Both y z end
+
+figures-parts : (s : List ℕ) (at : ℕ) (x y z : Ranged) (end : ℕ) → figuresLine s at ≡ All x y z end → FiguresParts s at x y z end
+unfolding figuresLine
+figures-parts s at x y z end h =
+    let w : ℕ → ThreeNumbers = λ k. FiguresFault k in
+    let a = field-some (fieldAt 32 weights s at) w (λ x n. behind x (numbersLine weights prices s n)) (All x y z end) no-figures h in
+    go (a .0) (a .1) (a .2) (numbersLine weights prices s (a .1)) refl (a .3)
+  where
+    no-figures : (k : ℕ) → FiguresFault k ≡ All x y z end → ⊥
+    no-figures k h = let z : _≡_ {A = ℕ} 0 1 = cc in omega arith
+
+    go : (g : Ranged) (n : ℕ) → fieldAt 32 weights s at ≡ Number g n → (p : TwoNumbers) → numbersLine weights prices s n ≡ p → behind g p ≡ All x y z end →
+        FiguresParts s at x y z end
+    go g n e (NumbersFault k) f h = absurd (no-figures k h)
+    go g n e (Both u v m) f h =
+        let a : g ≡ x = cc in
+        let b : u ≡ y = cc in
+        let c : v ≡ z = cc in
+        let d : m ≡ end = cc in
+        record { next = n; first = rw a at e; others = rw (b, c, d) at f }
+
+pub record ItemParts (s : List ℕ) (at : ℕ) (i : ModelItem) (end : ℕ) : Type 0 where
   pub next : ℕ
   pub mark : markAt s at ≡ MarkOf (i .mark) next
-  pub numbers : numbersLine weights prices s next ≡ Both (In (i .weight)) (In (i .price)) end
+  pub figures : FiguresParts s next (In (i .low)) (In (i .high)) (In (i .price)) end
+  pub fair : isReversed i ≡ false
   pub lower : i .lower ≡ Absent
   pub upper : i .upper ≡ Absent
 
-pub item-parts : (s : List ℕ) (at : ℕ) (i : Item) (end : ℕ) → itemRead s at ≡ ItemIs i end → ItemParts s at i end
+pub item-parts : (s : List ℕ) (at : ℕ) (i : ModelItem) (end : ℕ) → itemRead s at ≡ ItemIs i end → ItemParts s at i end
 unfolding itemRead itemLine
 item-parts s at i end h = go (markAt s at) refl h
   where
     fault : {n : ℕ} → ItemFault n ≡ ItemIs i end → ItemParts s at i end
     fault h = absurd (let z : _≡_ {A = ℕ} 0 1 = cc in omega arith)
 
-    parts : (m : Mark) (n : ℕ) → markAt s at ≡ MarkOf m n → (x : TwoNumbers) → numbersLine weights prices s n ≡ x → itemOf (withNumbers m x) ≡ ItemIs i end →
+    tried : (j : ModelItem) (n k : ℕ) → markAt s at ≡ MarkOf (j .mark) n → figuresLine s n ≡ All (In (j .low)) (In (j .high)) (In (j .price)) k →
+        j .lower ≡ Absent → j .upper ≡ Absent → (t : Bool) → isReversed j ≡ t → cond t (ItemFault refusal.weight-range) (ItemIs j k) ≡ ItemIs i end →
         ItemParts s at i end
-    parts m n e (NumbersFault k) f h = fault h
-    parts m n e (Both Out c k) f h = fault h
-    parts m n e (Both (In a) Out k) f h = fault h
-    parts m n e (Both (In a) (In c) k) f h =
-        let j : record { mark = m; weight = a; price = c; lower = Absent; upper = Absent } ≡ i = cc in
-        let u : k ≡ end = cc in
-        let v = ap (λ (x : Item). Both (In (x .weight)) (In (x .price)) k) j ∙ ap (Both (In (i .weight)) (In (i .price))) u in
+    tried j n k e f lower upper true r h = fault h
+    tried j n k e f lower upper false r h =
+        let u : j ≡ i = cc in
+        let v : k ≡ end = cc in
         record {
           next = n;
-          mark = e ∙ ap (λ (x : Item). MarkOf (x .mark) n) j;
-          numbers = f ∙ v;
-          lower = sym (ap (λ (x : Item). x .lower) j);
-          upper = sym (ap (λ (x : Item). x .upper) j);
+          mark = rw u at e;
+          figures = figures-parts s n _ _ _ end (rw (u, v) at f);
+          fair = rw u at r;
+          lower = rw u at lower;
+          upper = rw u at upper;
         }
+
+    parts : (m : Mark) (n : ℕ) → markAt s at ≡ MarkOf m n → (x : ThreeNumbers) → figuresLine s n ≡ x → itemOf (withFigures m x) ≡ ItemIs i end →
+        ItemParts s at i end
+    parts m n e (FiguresFault k) f h = fault h
+    parts m n e (All Out b c k) f h = fault h
+    parts m n e (All (In a) Out c k) f h = fault h
+    parts m n e (All (In a) (In b) Out k) f h = fault h
+    parts m n e (All (In a) (In b) (In c) k) f h =
+        let j : ModelItem = record { mark = m; low = a; high = b; price = c; lower = Absent; upper = Absent } in
+        tried j n k e f refl refl (isReversed j) refl h
 
     go : (x : Marked) → markAt s at ≡ x → itemOf (marked s x) ≡ ItemIs i end → ItemParts s at i end
     go NoMark e h = fault h
-    go (MarkOf m n) e h = parts m n e (numbersLine weights prices s n) refl h
+    go (MarkOf m n) e h = parts m n e (figuresLine s n) refl h
 
 -- ---- counts and item numbers
 

@@ -19,7 +19,6 @@ use Rattle.knapsack.specs.declared.Bound.{Bound}
 use Rattle.knapsack.specs.declared.Bound.the-variants.{Absent, At as Present}
 use Rattle.knapsack.specs.declared.Mark.{Mark}
 use Rattle.knapsack.specs.declared.Mark.the-variants.{Integer, Continuous}
-use Rattle.knapsack.specs.declared.Item.{Item}
 use Rattle.text.specs.Decimal.{decimal, integer, readAfter}
 use Rattle.text.specs.Layout.{field}
 use Rattle.text.proofs.Decimals.{decimal-only, decimal-zero}
@@ -35,6 +34,7 @@ use Rattle.lines.specs.declared.ItemRead.the-variants.{Read as ItemIs}
 use Rattle.lines.specs.declared.BoundField.the-variants.{In as Bounded}
 use Rattle.lines.specs.declared.BoundRead.the-variants.{Read as BoundIs}
 use Rattle.lines.specs.declared.NeedRead.the-variants.{Read as NeedIs}
+use Rattle.model.specs.declared.ModelItem.{ModelItem}
 use Rattle.model.specs.declared.Need.{Need}
 use Rattle.lines.specs.Places.{byteAt, afterByte, onPlace, afterWord}
 use Rattle.lines.specs.Numbers.{isLeading, digitRun, none, numeral, signedOf, unsignedAt, numberAt, fromTo, only, fieldAt}
@@ -165,10 +165,12 @@ mark-has s at m n h = first (afterWord s at (87 ∷ 32 ∷ [])) refl h
     first (At k) e h =
         let u : Integer ≡ m = cc in let v : k ≡ n = cc in rw (← u) (word-has s at (87 ∷ 32 ∷ []) n (lit< tt, (lit< tt, tt)) (e ∙ ap At v))
 
-pub item-has : (s : List ℕ) (at : ℕ) (i : Item) (n : ℕ) → itemRead s at ≡ ItemIs i n → Has s at (itemText i) n
+pub item-has : (s : List ℕ) (at : ℕ) (i : ModelItem) (n : ℕ) → itemRead s at ≡ ItemIs i n → Has s at (itemText i) n
 item-has s at i n h =
     let p = item-parts s at i n h in
-    has-join (mark-has s at (i .mark) (p .next) (p .mark)) (numbers-has weights prices s (p .next) (i .weight) (i .price) n (p .numbers))
+    let f = p .figures in
+    has-join (mark-has s at (i .mark) (p .next) (p .mark)) (has-join (field-has 32 weights s (p .next) (i .low) (f .next) (lit< tt) (f .first))
+    (numbers-has weights prices s (f .next) (i .high) (i .price) n (f .others)))
 
 bound-field-has : (s : List ℕ) (at : ℕ) (b : Bound) (n : ℕ) → boundField s at ≡ Bounded b n → Has s at (field (boundWord b) 10) n
 bound-field-has s at Absent n h =

@@ -1,4 +1,4 @@
--- The text of a sheet's lines. Paper 01, "The sheet", and paper 02, requests 6 and 7; fields and line ends are those of every text (crate text, specs/Layout).
+-- The text of a sheet's lines. Paper 01, "The sheet", and paper 02, requests 6, 7 and 11; fields and line ends are those of every text (crate text, specs/Layout).
 --   headingText w n    a section's first line
 --   numbersText x y    two numbers
 --   markByte m         `W` or `L`
@@ -14,7 +14,7 @@ use Rattle.knapsack.specs.declared.Bound.{Bound}
 use Rattle.knapsack.specs.declared.Bound.the-variants.{Absent, At}
 use Rattle.knapsack.specs.declared.Mark.{Mark}
 use Rattle.knapsack.specs.declared.Mark.the-variants.{Integer, Continuous}
-use Rattle.knapsack.specs.declared.Item.{Item}
+use Rattle.model.specs.declared.ModelItem.{ModelItem}
 use Rattle.model.specs.declared.Need.{Need}
 use Rattle.text.specs.Decimal.{decimal, integer}
 use Rattle.text.specs.Layout.{line}
@@ -29,8 +29,8 @@ abbrev pub markByte : Mark → ℕ
 markByte Integer = 87
 markByte Continuous = 76
 
-abbrev pub itemText : Item → List ℕ
-itemText i = line (markByte (i .mark) ∷ []) (integer (i .weight) ∷ integer (i .price) ∷ [])
+abbrev pub itemText : ModelItem → List ℕ
+itemText i = line (markByte (i .mark) ∷ []) (integer (i .low) ∷ integer (i .high) ∷ integer (i .price) ∷ [])
 
 abbrev pub absentWord : List ℕ
 absentWord = 110 ∷ 111 ∷ 110 ∷ 101 ∷ []

@@ -1,15 +1,17 @@
--- The lines of a sheet. Paper 01, "The sheet" and "Refused, by place", and paper 02, requests 3, 6 and 7.
+-- The lines of a sheet. Paper 01, "The sheet" and "Refused, by place", and paper 02, requests 3, 6, 7 and 11.
 -- The form of a line, which gives the fault of its leftmost wrong field (specs/Faults), or its numbers by the ranges asked for:
 --   onField x a f           f of the number and the place behind it, or a of the field's fault
 --   headingLine w r s at    word and count
 --   numbersLine r q s at    two numbers
 --   markAt s at             `W ` or `L `
 --   weights, prices         the ranges of weights, and of prices and bounds
---   itemLine s at           mark, weight, price, by marked and withNumbers
+--   figuresLine s at        low weight, high weight, price, by behind: one number, and two behind it
+--   itemLine s at           mark and figures, by marked and withFigures
 --   boundField s at         the field in a bound's place: `none`, or a number by figured
--- What its values must be: within a line its form (2, 12, 13) comes first, then 3 (a count), 5 (an item number), 4 (a figure), left to right.
+-- What its values must be: within a line its form (2, 12, 13) comes first, then 3 (a count), 5 (an item number), 4 (a figure), left to right,
+-- then 19 (the order of the weights).
 --   countAt w r s at        the count of a heading, by countOf
---   itemRead s at           an item, with no bounds as yet, by itemOf
+--   itemRead s at           an item, with no bounds as yet, by itemOf and ordered
 --   boundRead k s at        the item number k, the one that is due, and its bound, by boundOf and inTurn
 --   needRead n a s at       two item numbers of 1 to n, and the line rises above the line a, by needOf and inOrder
 use mathlib.Core.Bool.{cond}
@@ -19,8 +21,9 @@ use lib.IntN.{pos, negsuc, natAbs}
 use Rattle.knapsack.specs.declared.Bound.the-variants.{Absent, At}
 use Rattle.knapsack.specs.declared.Mark.{Mark}
 use Rattle.knapsack.specs.declared.Mark.the-variants.{Integer, Continuous}
+use Rattle.model.specs.declared.ModelItem.{ModelItem}
 use Rattle.model.specs.declared.Need.{Need}
-use Rattle.model.specs.Records.{badLine}
+use Rattle.model.specs.Records.{isReversed, badLine}
 use Rattle.model.specs.Refusals as refusal
 use Rattle.lines.specs.declared.number.Range.{Range}
 use Rattle.lines.specs.declared.number.Ranged.{Ranged}
@@ -29,6 +32,8 @@ use Rattle.lines.specs.declared.number.Field.{Field}
 use Rattle.lines.specs.declared.number.Field.the-variants.{Fault, Number}
 use Rattle.lines.specs.declared.TwoNumbers.{TwoNumbers}
 use Rattle.lines.specs.declared.TwoNumbers.the-variants.{Fault as NumbersFault, Both}
+use Rattle.lines.specs.declared.ThreeNumbers.{ThreeNumbers}
+use Rattle.lines.specs.declared.ThreeNumbers.the-variants.{Fault as FiguresFault, All}
 use Rattle.lines.specs.declared.Marked.{Marked}
 use Rattle.lines.specs.declared.Marked.the-variants.{Nothing as NoMark, Mark as MarkOf}
 use Rattle.lines.specs.declared.ItemLine.{ItemLine}
@@ -75,13 +80,20 @@ weights = record { lo = negsuc 999; hi = pos 1000 }
 abbrev pub prices : Range
 prices = record { lo = negsuc 9999; hi = pos 10000 }
 
-abbrev pub withNumbers : Mark → TwoNumbers → ItemLine
-withNumbers m (NumbersFault k) = LineFault k
-withNumbers m (Both a c n) = ItemOf m a c n
+abbrev pub behind : Ranged → TwoNumbers → ThreeNumbers
+behind x (NumbersFault k) = FiguresFault k
+behind x (Both y z n) = All x y z n
+
+unfoldable pub figuresLine : List ℕ → ℕ → ThreeNumbers
+figuresLine s at = onField (fieldAt 32 weights s at) (λ k. FiguresFault k) (λ x n. behind x (numbersLine weights prices s n))
+
+abbrev pub withFigures : Mark → ThreeNumbers → ItemLine
+withFigures m (FiguresFault k) = LineFault k
+withFigures m (All a b c n) = ItemOf m a b c n
 
 abbrev pub marked : List ℕ → Marked → ItemLine
 marked s NoMark = LineFault refusal.form
-marked s (MarkOf m n) = withNumbers m (numbersLine weights prices s n)
+marked s (MarkOf m n) = withFigures m (figuresLine s n)
 
 unfoldable pub itemLine : List ℕ → ℕ → ItemLine
 itemLine s at = marked s (markAt s at)
@@ -106,11 +118,15 @@ countOf (Number (In z) n) = Lines (natAbs z) n
 unfoldable pub countAt : List ℕ → Range → List ℕ → ℕ → Count
 countAt w r s at = countOf (headingLine w r s at)
 
+abbrev pub ordered : ModelItem → ℕ → ItemRead
+ordered i n = cond (isReversed i) (ItemFault refusal.weight-range) (ItemIs i n)
+
 abbrev pub itemOf : ItemLine → ItemRead
 itemOf (LineFault k) = ItemFault k
-itemOf (ItemOf m Out c n) = ItemFault refusal.figure
-itemOf (ItemOf m (In a) Out n) = ItemFault refusal.figure
-itemOf (ItemOf m (In a) (In c) n) = ItemIs (record { mark = m; weight = a; price = c; lower = Absent; upper = Absent }) n
+itemOf (ItemOf m Out b c n) = ItemFault refusal.figure
+itemOf (ItemOf m (In a) Out c n) = ItemFault refusal.figure
+itemOf (ItemOf m (In a) (In b) Out n) = ItemFault refusal.figure
+itemOf (ItemOf m (In a) (In b) (In c) n) = ordered (record { mark = m; low = a; high = b; price = c; lower = Absent; upper = Absent }) n
 
 unfoldable pub itemRead : List ℕ → ℕ → ItemRead
 itemRead s at = itemOf (itemLine s at)

@@ -11,15 +11,15 @@ use crate::number::Range;
 use crate::number::Ranged;
 use crate::scan::Place;
 use knapsack::Bound;
-use knapsack::Item;
 use knapsack::Mark;
+use model::ModelItem;
 use model::Need;
 ghost use mathlib.Core.Path.{_≡_};
 ghost use Prim.Native.Nat.{_≤_};
 ghost use lib.IntN.{pos};
 ghost use lib.Signed.{_≤ℤ_};
 ghost use Rattle.lines.specs.Numbers.{Narrow, fieldAt};
-ghost use Rattle.lines.specs.Lines.{headingLine, numbersLine, markAt, itemLine, prices, countAt, itemOf, itemRead};
+ghost use Rattle.lines.specs.Lines.{headingLine, numbersLine, behind, figuresLine, markAt, itemLine, prices, countAt, ordered, itemOf, itemRead};
 ghost use Rattle.lines.specs.Lines.{figured, boundField, inTurn, boundOf, boundRead, inOrder, needRead};
 ghost use Rattle.lines.specs.declared.ItemLine.{ItemLine};
 
@@ -29,6 +29,11 @@ pub enum TwoNumbers {
     Both(Ranged, Ranged, usize),
 }
 
+pub enum ThreeNumbers {
+    Fault(u64),
+    All(Ranged, Ranged, Ranged, usize),
+}
+
 pub enum Marked {
     Nothing,
     Mark(Mark, usize),
@@ -36,7 +41,7 @@ pub enum Marked {
 
 pub enum ItemLine {
     Fault(u64),
-    Item(Mark, Ranged, Ranged, usize),
+    Item(Mark, Ranged, Ranged, Ranged, usize),
 }
 
 // What stands in a bound's place, closed: its fault, a number out of range, or the bound and the place behind.
@@ -54,7 +59,7 @@ pub enum Count {
 
 pub enum ItemRead {
     Fault(u64),
-    Read(Item, usize),
+    Read(ModelItem, usize),
 }
 
 pub enum BoundRead {
@@ -120,7 +125,36 @@ fn mark_field(s: &[u8], at: usize) -> Marked
     }
 }
 
-// Mark, weight, price. A wrong mark is 2.
+// Two numbers behind one more.
+fn behind(first: Ranged, p: TwoNumbers) -> ThreeNumbers
+    ensures { λ r. ⌜ r ≡ behind first p ⌝ }
+{
+    match p {
+        TwoNumbers::Fault(n) => ThreeNumbers::Fault(n),
+        TwoNumbers::Both(b, c, end) => ThreeNumbers::All(first, b, c, end),
+    }
+}
+
+// Low weight, high weight, price.
+fn figures_line(s: &[u8], at: usize) -> ThreeNumbers
+    ensures { λ r. ⌜ r ≡ figuresLine (now (s .entry)) at ⌝ }
+{
+    let weights = Range {
+        lo: -1000,
+        hi: 1000,
+    };
+    let prices = Range {
+        lo: -10_000,
+        hi: 10_000,
+    };
+    let f = crate::number::closed_number(s, at, weights, b' ');
+    match f {
+        Field::Fault(n) => ThreeNumbers::Fault(n),
+        Field::Number(a, next) => behind(a, numbers_line(s, next, weights, prices)),
+    }
+}
+
+// Mark, low weight, high weight, price. A wrong mark is 2.
 fn item_form(s: &[u8], at: usize) -> ItemLine
     ensures { λ r. ⌜ r ≡ itemLine (now (s .entry)) at ⌝ }
 {
@@ -128,18 +162,10 @@ fn item_form(s: &[u8], at: usize) -> ItemLine
     match m {
         Marked::Nothing => ItemLine::Fault(model::refusals::FORM),
         Marked::Mark(mark, next) => {
-            let weights = Range {
-                lo: -1000,
-                hi: 1000,
-            };
-            let prices = Range {
-                lo: -10_000,
-                hi: 10_000,
-            };
-            let p = numbers_line(s, next, weights, prices);
+            let p = figures_line(s, next);
             match p {
-                TwoNumbers::Fault(n) => ItemLine::Fault(n),
-                TwoNumbers::Both(a, c, end) => ItemLine::Item(mark, a, c, end),
+                ThreeNumbers::Fault(n) => ItemLine::Fault(n),
+                ThreeNumbers::All(a, b, c, end) => ItemLine::Item(mark, a, b, c, end),
             }
         }
     }
@@ -160,36 +186,48 @@ pub fn heading(s: &[u8], at: usize, word: &[u8], range: Range) -> Count
     }
 }
 
-// The weight is tried before the price.
-fn item_of(mark: Mark, weight: Ranged, price: Ranged, next: usize) -> ItemRead
-    ensures { λ r. ⌜ r ≡ itemOf (ItemLine.Item mark weight price next) ⌝ }
+// The low weight must not be above the high one.
+fn ordered(item: ModelItem, next: usize) -> ItemRead
+    ensures { λ r. ⌜ r ≡ ordered item next ⌝ }
 {
-    match weight {
-        Ranged::Out => ItemRead::Fault(model::refusals::FIGURE),
-        Ranged::In(a) => match price {
-            Ranged::Out => ItemRead::Fault(model::refusals::FIGURE),
-            Ranged::In(c) => {
-                let item = Item {
-                    mark,
-                    weight: a,
-                    price: c,
-                    lower: Bound::Absent,
-                    upper: Bound::Absent,
-                };
-                ItemRead::Read(item, next)
-            }
-        },
+    if model::is_reversed(item) {
+        return ItemRead::Fault(model::refusals::WEIGHT_RANGE);
     }
+    ItemRead::Read(item, next)
 }
 
-// An item: the fault of the line's form, 4 for its weight and then its price.
+// The weights are tried before the price.
+fn item_of(mark: Mark, low: Ranged, high: Ranged, price: Ranged, next: usize) -> ItemRead
+    ensures { λ r. ⌜ r ≡ itemOf (ItemLine.Item mark low high price next) ⌝ }
+{
+    let Ranged::In(a) = low else {
+        return ItemRead::Fault(model::refusals::FIGURE);
+    };
+    let Ranged::In(b) = high else {
+        return ItemRead::Fault(model::refusals::FIGURE);
+    };
+    let Ranged::In(c) = price else {
+        return ItemRead::Fault(model::refusals::FIGURE);
+    };
+    let item = ModelItem {
+        mark,
+        low: a,
+        high: b,
+        price: c,
+        lower: Bound::Absent,
+        upper: Bound::Absent,
+    };
+    ordered(item, next)
+}
+
+// An item: the fault of the line's form, 4 for its weights and then its price, 19 for their order.
 pub fn item_at(s: &[u8], at: usize) -> ItemRead
     ensures { λ r. ⌜ r ≡ itemRead (now (s .entry)) at ⌝ }
 {
     let l = item_form(s, at);
     match l {
         ItemLine::Fault(n) => ItemRead::Fault(n),
-        ItemLine::Item(mark, a, c, next) => item_of(mark, a, c, next),
+        ItemLine::Item(mark, a, b, c, next) => item_of(mark, a, b, c, next),
     }
 }
 

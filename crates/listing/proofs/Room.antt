@@ -1,10 +1,10 @@
 -- Every reply fits the room.
 --   Common           a divisor over which all amounts of an answer are whole numbers of parts, at most 1,000
--- room-enough (end theorem): the text of a true answer to an accepted record is no longer than `room`.
+-- reply-short: the text of a true answer to an accepted record, in either sense. room-enough (end theorem): both are no longer than `room`.
 -- value-small: numerator and divisor of a value that is shown. item-short, lines-short, best-short: the lengths of lines.
 use mathlib.Core.Path.{_≡_, refl, sym, ap, _∙_, subst}
-use mathlib.Core.Bool.{Bool, true, false}
-use mathlib.Core.List.{List}
+use mathlib.Core.Bool.{Bool, true, false, cond}
+use mathlib.Core.List.{List, [], _++_}
 use mathlib.Core.Logic.{_⊎_, _≢_, inl, inr, ⊎-elim}
 use Prim.Native.Nat.{ℕ, zero, suc, _+_, _*_, _%_, _≤_, _<_, min}
 use native.Mathlib.Decide.{ℕ-discrete, decLt}
@@ -33,10 +33,13 @@ use Rattle.model.specs.Needs.{ShownOptimalNeeds, AnswersAsNeeds}
 use Rattle.model.specs.Records.{plainOf, needsOf, verdict, FiguresInRange}
 use Rattle.model.specs.declared.Model.{Model}
 use Rattle.model.specs.declared.Need.{Need}
+use Rattle.model.specs.declared.Sense.{Sense}
+use Rattle.model.specs.declared.Sense.the-variants.{Sure, Possible}
 use Rattle.model.proofs.Records.{accepted}
 use Rattle.model.proofs.Showing.{default, own-some, shown-few, whole-iff, partsOf, Parted, parted}
 use Rattle.text.proofs.Decimals.{decimal-length, integer-length}
-use Rattle.listing.specs.Printing.{bestLine, itemLine, amountAt as printedAmount, stepAt, itemLines, printedAs, printed, room}
+use Rattle.listing.specs.Printing.{bestLine, itemLine, amountAt as printedAmount, stepAt, itemLines, printedAs, printed, isRefused, printedBoth, room}
+use Rattle.model.specs.declared.Answers.{Answers}
 
 -- ---- the value that is shown
 
@@ -207,26 +210,34 @@ printable p a steps range shown h k l = go (decLt k (length (a .point)))
     go (no n) = rw (List·getD-eq-default (a .point) (record { p = pos 0; q = 0 }) {n = k} (omega arith))
         (record { numerator = omega arith; divisor = omega arith; step = h k l })
 
-pub room-enough : (m : Model) (a : Answer) → verdict m ≡ Accepted → Planned m a → length (printed (m .count) a) ≤ room
+reply-short : (sense : Sense) (m : Model) (a : Answer) → verdict m ≡ Accepted → Planned sense m a → length (printed (m .count) a) ≤ 1440
 unfolding printed
-room-enough m a fair planned = go (a .kind) (rw fair at (planned .replies))
+reply-short sense m a fair planned = go (a .kind) (rw fair at (planned .replies))
   where
-    range : FiguresInRange (plainOf m)
-    range = accepted m fair .figures
+    range : FiguresInRange (plainOf sense m)
+    range = accepted m fair .figures sense
 
     within : (k : ℕ) → k < min (m .count) 16 → k < m .count
     within k l = omega arith
 
-    go : (k : Kind) → AnswersAsNeeds (instanceOf (plainOf m)) (needsOf (m .needs)) a k → length (printedAs k (m .count) a) ≤ room
+    go : (k : Kind) → AnswersAsNeeds (instanceOf (plainOf sense m)) (needsOf (m .needs)) a k → length (printedAs k (m .count) a) ≤ 1440
     go kind.Optimal o =
-        let v = value-small (plainOf m) a (needsOf (m .needs)) range o in
+        let v = value-small (plainOf sense m) a (needsOf (m .needs)) range o in
         let h = best-short (a .value) (v .0) (v .1) in
-        let each = printable (plainOf m) a false range (o .shown) (λ k l e. absurd (let z : _≡_ {A = ℕ} 0 1 = cc in omega arith)) in
+        let each = printable (plainOf sense m) a false range (o .shown) (λ k l e. absurd (let z : _≡_ {A = ℕ} 0 1 = cc in omega arith)) in
         let i = lines-short false a (min (m .count) 16) (omega arith) (λ k l. each k (within k l)) in
         omega (arith, length-append (bestLine (a .value)) (itemLines false a (min (m .count) 16)), h, i)
     go kind.Infeasible o = omega arith
     go kind.Unbounded o =
-        let each = printable (plainOf m) a true range (o .shown) (λ k l e. o .steps k l) in
+        let each = printable (plainOf sense m) a true range (o .shown) (λ k l e. o .steps k l) in
         let i = lines-short true a (min (m .count) 16) (omega arith) (λ k l. each k (within k l)) in
         simp length-append (omega (arith, i))
     go (kind.Refused f) o = absurd o
+
+pub room-enough : (m : Model) (s : Answers) → verdict m ≡ Accepted → Planned Sure m (s .sure) → Planned Possible m (s .possible) →
+    length (printedBoth (m .count) s) ≤ room
+room-enough m s fair x y = go (isRefused (s .sure .kind))
+  where
+    go : (b : Bool) → length (printed (m .count) (s .sure) ++ cond b [] (printed (m .count) (s .possible))) ≤ room
+    go true = simp length-append (omega (arith, reply-short Sure m (s .sure) fair x))
+    go false = simp length-append (omega (arith, reply-short Sure m (s .sure) fair x, reply-short Possible m (s .possible) fair y))

@@ -1,4 +1,4 @@
--- The text of an answer. Paper 01, "What `charge` prints".
+-- The text of the answers to a problem. Paper 01, "What `charge` prints", and paper 02, request 11.
 --   refused, infeasible, best, unbounded    the words that begin it
 --   refusedLine f        `refused N L`
 --   bestLine v           `best P Q`
@@ -9,8 +9,9 @@
 --   listed n             how many items of n are listed: an answer has 16 places
 --   printedAs k n a      the text of an answer of kind k about n items
 --   printed n a          the text of an answer about n items
---   unlessRefused k f x  f of the refusal where k is one, else x
---   room                 how many bytes hold every reply to an accepted record (proofs/Room, room-enough)
+--   unlessRefused k f x  f of the refusal where k is one, else x;  isRefused k: whether it is one
+--   printedBoth n s      the text of the sure answer and then of the possible one, a refusal once
+--   room                 how many bytes hold both replies to an accepted record (proofs/Room, room-enough)
 use mathlib.Core.Bool.{Bool, true, false, cond}
 use mathlib.Core.List.{List, [], _∷_, _++_}
 use Prim.Native.Nat.{ℕ, zero, suc, min}
@@ -23,6 +24,7 @@ use Rattle.knapsack.specs.declared.Kind.{Kind}
 use Rattle.knapsack.specs.declared.Kind.the-variants.{Optimal, Infeasible, Unbounded, Refused}
 use Rattle.text.specs.Decimal.{decimal, integer}
 use Rattle.text.specs.Layout.{line}
+use Rattle.model.specs.declared.Answers.{Answers}
 
 -- ---- the words
 abbrev pub refused : List ℕ
@@ -75,5 +77,11 @@ unlessRefused Infeasible f x = x
 unlessRefused Unbounded f x = x
 unlessRefused (Refused r) f x = f r
 
+abbrev pub isRefused : Kind → Bool
+isRefused k = unlessRefused k (λ f. true) false
+
+abbrev pub printedBoth : ℕ → Answers → List ℕ
+printedBoth n s = printed n (s .sure) ++ cond (isRefused (s .sure .kind)) [] (printed n (s .possible))
+
 abbrev pub room : ℕ
-room = 1440
+room = 2880

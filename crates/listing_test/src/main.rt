@@ -4,6 +4,7 @@ use knapsack::Answer;
 use knapsack::Kind;
 use knapsack::Refusal;
 use listing::list_reply;
+use model::Answers;
 use text::Listed;
 use trials::print::print;
 use trials::print::print_field;
@@ -69,7 +70,19 @@ fn sixteen(kind: Kind) -> Answer {
     a
 }
 
+// The same answer in both senses.
+fn both(a: Answer) -> Answers {
+    Answers {
+        sure: a,
+        possible: a,
+    }
+}
+
 fn show(a: Answer, n: usize) {
+    show_both(both(a), n);
+}
+
+fn show_both(a: Answers, n: usize) {
     let t = listing::text_of(a, n);
     let bytes = t.bytes;
     let len = t.len;
@@ -91,13 +104,13 @@ fn show_reply(l: Listed) {
     print(b"\n");
 }
 
-fn hashes() -> [u8; 40]
-    ensures { λ r. ⌜ length r ≡ 40 ⌝ }
+fn hashes() -> [u8; 80]
+    ensures { λ r. ⌜ length r ≡ 80 ⌝ }
 {
-    [b'#'; 40]
+    [b'#'; 80]
 }
 
-fn listed_in_part(a: Answer, n: usize, out: &mut [u8], size: usize) -> Listed
+fn listed_in_part(a: Answers, n: usize, out: &mut [u8], size: usize) -> Listed
     requires { ⌜ size ≤ length (now out) ⌝ }
 {
     list_reply(a, n, &mut out[..size])
@@ -105,10 +118,10 @@ fn listed_in_part(a: Answer, n: usize, out: &mut [u8], size: usize) -> Listed
 
 // What is told, and the whole buffer afterwards, of which the first bytes were lent.
 fn list(a: Answer, n: usize, size: usize)
-    requires { ⌜ size ≤ 40 ⌝ }
+    requires { ⌜ size ≤ 80 ⌝ }
 {
     let mut buffer = hashes();
-    let l = listed_in_part(a, n, &mut buffer, size);
+    let l = listed_in_part(both(a), n, &mut buffer, size);
     show_reply(l);
     print(&buffer);
     print(b"\n");
@@ -148,21 +161,56 @@ fn show_all() {
     show(sixteen(Kind::Infeasible), 16);
 }
 
+// The sure answer first, then the possible one; one refusal is printed once.
+fn show_senses() {
+    let none = answer(Kind::Infeasible, 0, 1);
+    show_both(
+        Answers {
+            sure: none,
+            possible: worked(),
+        },
+        2,
+    );
+    show_both(
+        Answers {
+            sure: none,
+            possible: ray(),
+        },
+        2,
+    );
+    show_both(
+        Answers {
+            sure: worked(),
+            possible: ray(),
+        },
+        2,
+    );
+    show_both(
+        Answers {
+            sure: answer(Kind::Optimal, 10, 1),
+            possible: worked(),
+        },
+        2,
+    );
+    show(refused(20, 5), 2);
+}
+
 fn list_all() {
-    list(worked(), 2, 21);
-    list(worked(), 2, 22);
-    list(worked(), 2, 40);
-    list(ray(), 2, 25);
-    list(ray(), 2, 26);
+    list(worked(), 2, 43);
+    list(worked(), 2, 44);
+    list(worked(), 2, 80);
+    list(ray(), 2, 51);
+    list(ray(), 2, 52);
     list(answer(Kind::Infeasible, 0, 1), 5, 0);
-    list(answer(Kind::Infeasible, 0, 1), 5, 10);
-    list(answer(Kind::Infeasible, 0, 1), 5, 11);
+    list(answer(Kind::Infeasible, 0, 1), 5, 21);
+    list(answer(Kind::Infeasible, 0, 1), 5, 22);
     list(refused(5, 12), 3, 0);
-    list(refused(5, 12), 3, 40);
-    list(sixteen(Kind::Optimal), 16, 40);
+    list(refused(5, 12), 3, 80);
+    list(sixteen(Kind::Optimal), 16, 80);
 }
 
 fn main() {
     show_all();
+    show_senses();
     list_all();
 }

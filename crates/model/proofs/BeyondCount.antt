@@ -11,25 +11,27 @@ use Rattle.arith.specs.Sum.{Each}
 use Rattle.knapsack.proofs.Same.{Same}
 use Rattle.knapsack.specs.Meaning.{Instance, instanceOf}
 use Rattle.knapsack.specs.declared.Answer.{Answer}
-use Rattle.knapsack.specs.declared.Item.{Item}
 use Rattle.knapsack.specs.declared.Verdict.{Verdict}
 use Rattle.knapsack.specs.declared.Verdict.the-variants.{Accepted, Refused}
 use Rattle.model.specs.declared.Blanks.{Blanks}
 use Rattle.model.specs.declared.Blanks.the-variants as blanks
 use Rattle.model.specs.declared.Model.{Model}
+use Rattle.model.specs.declared.ModelItem.{ModelItem}
 use Rattle.model.specs.declared.Need.{Need}
+use Rattle.model.specs.declared.Sense.{Sense}
 use Rattle.model.specs.Needs.{relaxedBut}
 use Rattle.model.specs.Promises.{RepliesAs, Planned, Relaxed}
-use Rattle.model.specs.Records.{itemAt, needAt, plainOf, needsUpTo, needsOf, Agree, badFigure, barred, someItem, held, badLine, unfitLine, lineBefore}
+use Rattle.model.specs.Records.{itemAt, needAt, itemIn, plainOf, needsUpTo, needsOf, Agree, badFigure, isReversed, isRangedBelow, barred, someItem, held, badLine, unfitLine, lineBefore}
 use Rattle.model.specs.Records.{refusedIf, orElse, needVerdict, needsVerdict, verdictBy, verdict}
 use Rattle.model.specs.Refusals.{item-number, named-item}
 use Rattle.model.proofs.SameNeeds.{same-relaxed-but, same-answers-needs, same-first-needs}
+use Rattle.model.proofs.Plain.{plain-item}
 use Rattle.model.proofs.NeedLines.{before-next, line-numbers, needs-cong}
 
-some-same : (n : ℕ) (f g : ℕ → Item) (test : Item → Bool) → Each n (λ k. f k ≡ g k) → someItem n f test ≡ someItem n g test
+some-same : {A : Type 0} (n : ℕ) (f g : ℕ → A) (test : A → Bool) → Each n (λ k. f k ≡ g k) → someItem n f test ≡ someItem n g test
 unfolding someItem
-some-same zero f g test h = refl
-some-same (suc n) f g test h = ap₂ (λ (b : Bool) (i : Item). cond b true (test i)) (some-same n f g test (λ k l. h k (omega arith))) (h n (omega arith))
+some-same {A} zero f g test h = refl
+some-same {A} (suc n) f g test h = ap₂ (λ (b : Bool) (i : A). cond b true (test i)) (some-same n f g test (λ k l. h k (omega arith))) (h n (omega arith))
 
 -- no more are tried than there are
 held-few : (n : ℕ) → held n ≤ n
@@ -40,12 +42,12 @@ held-few n = go (ltb 16 n) refl
     go false e = omega arith
 
 -- the record as the solver's instance
-abbrev asked : Model → Instance
-asked m = instanceOf (plainOf m)
+abbrev asked : Sense → Model → Instance
+asked s m = instanceOf (plainOf s m)
 
 module _ (m o : Model) (e : Agree m o) where
-  abbrev same : Same (asked m) (asked o)
-  same = record { capacity = e .capacity; count = e .count; items = e .items }
+  same : (s : Sense) → Same (asked s m) (asked s o)
+  same s = record { capacity = e .capacity; count = e .count; items = λ k l. plain-item s m k ∙ ap (itemIn s) (e .items k l) ∙ sym (plain-item s o k) }
 
   before-same : (j : ℕ) → j < m .needs .count → lineBefore (m .needs) j ≡ lineBefore (o .needs) j
   before-same zero l = refl
@@ -79,11 +81,11 @@ module _ (m o : Model) (e : Agree m o) where
       let c : m .count ≡ o .count = e .count in
       let b : m .capacity ≡ o .capacity = e .capacity in
       let t : m .needs .count ≡ o .needs .count = e .need-count in
-      let i : (test : Item → Bool) → someItem (held (m .count)) (itemAt m) test ≡ someItem (held (m .count)) (itemAt o) test =
+      let i : (test : ModelItem → Bool) → someItem (held (m .count)) (itemAt m) test ≡ someItem (held (m .count)) (itemAt o) test =
       λ test. some-same (held (m .count)) (itemAt m) (itemAt o) test (λ k l. e .items k (omega (arith, held-few (m .count)))) in
       let n : needsVerdict (held (m .needs .count)) m ≡ needsVerdict (held (m .needs .count)) o =
       lines-same (held (m .needs .count)) (held-few (m .needs .count)) in
-      rw (n, i badFigure, i (barred kind), c, b, t)
+      rw (n, i badFigure, i isReversed, i (barred kind), i isRangedBelow, c, b, t)
 
   pub beyond-needs : needsOf (m .needs) ≡ needsOf (o .needs)
   beyond-needs = needs-cong (m .needs .count) (needAt (m .needs)) (needAt (o .needs)) (e .needs) ∙ ap (λ n. needsUpTo n (needAt (o .needs))) (e .need-count)
@@ -95,16 +97,18 @@ module _ (m o : Model) (e : Agree m o) where
       go Accepted r = same-answers-needs s t h ns a r
       go (Refused f) r = r
 
-  pub beyond-planned : (a : Answer) → Planned m a → Planned o a
-  beyond-planned a p = record {
-    replies =
-        rw (← beyond-needs)
-        (replies-same (asked m) (asked o) (needsOf (m .needs)) a (verdict m) (verdict o) same (beyond-verdict blanks.Refused) (p .replies));
-    first = rw (← beyond-needs) (same-first-needs (asked m) (asked o) same (needsOf (m .needs)) a (p .first));
-  }
+  module _ (s : Sense) where
+    pub beyond-planned : (a : Answer) → Planned s m a → Planned s o a
+    beyond-planned a p = record {
+      replies =
+          rw (← beyond-needs)
+          (replies-same (asked s m) (asked s o) (needsOf (m .needs)) a (verdict m) (verdict o) (same s) (beyond-verdict blanks.Refused) (p .replies));
+      first = rw (← beyond-needs) (same-first-needs (asked s m) (asked s o) (same s) (needsOf (m .needs)) a (p .first));
+    }
 
-  pub beyond-relaxed : (a : Answer) → Relaxed m a → Relaxed o a
-  beyond-relaxed a r =
-      let ns = needsOf (m .needs) in
-      let e = same-relaxed-but ns (asked m) (asked o) same in
-      rw (← beyond-needs) (replies-same (relaxedBut ns (asked m)) (relaxedBut ns (asked o)) ns a (verdict m) (verdict o) e (beyond-verdict blanks.Refused) r)
+    pub beyond-relaxed : (a : Answer) → Relaxed s m a → Relaxed s o a
+    beyond-relaxed a r =
+        let ns = needsOf (m .needs) in
+        let e = same-relaxed-but ns (asked s m) (asked s o) (same s) in
+        rw (← beyond-needs)
+        (replies-same (relaxedBut ns (asked s m)) (relaxedBut ns (asked s o)) ns a (verdict m) (verdict o) e (beyond-verdict blanks.Refused) r)

@@ -1,4 +1,4 @@
--- Blank items, of weight 0 and price 0.
+-- Blank items, of weight 0, low and high, and price 0.
 -- is-zero: a number of size 0. blank-nothing: a blank item weighs nothing and brings nothing.
 use mathlib.Core.Bool.{Bool, true, false, cond}
 use mathlib.Core.Path.{_≡_, refl}
@@ -9,20 +9,27 @@ use lib.Dec.{eqb}
 use lib.IntN.{ℤ, pos, natAbs}
 use Rattle.arith.proofs.Integers.{split, zed}
 use Rattle.arith.proofs.Parts.{impossible}
-use Rattle.knapsack.specs.declared.Item.{Item}
-use Rattle.model.specs.Records.{isBlank}
+use Rattle.model.specs.declared.ModelItem.{ModelItem}
+use Rattle.model.specs.declared.Sense.{Sense}
+use Rattle.model.specs.declared.Sense.the-variants.{Sure, Possible}
+use Rattle.model.specs.Records.{weightIn, isWeightless, isBlank}
 
 pub is-zero : (a : ℤ) → natAbs a ≡ 0 → a ≡ pos 0
 is-zero = split _ (λ a b. simp zed (omega arith))
 
-both-zero : (a c : ℕ) → cond (eqb a 0) (eqb c 0) false ≡ true → (a ≡ 0) × (c ≡ 0)
-both-zero a c h = go (eqb a 0) refl h
-  where
-    go : (b : Bool) → eqb a 0 ≡ b → cond b (eqb c 0) false ≡ true → (a ≡ 0) × (c ≡ 0)
-    go true e h = (eqb-true a 0 e, eqb-true c 0 h)
-    go false e h = absurd (impossible h)
+both-hold : (a b : Bool) → cond a b false ≡ true → (a ≡ true) × (b ≡ true)
+both-hold true b h = (refl, h)
+both-hold false b h = absurd (impossible h)
 
-pub blank-nothing : (i : Item) → isBlank i ≡ true → (i .weight ≡ pos 0) × (i .price ≡ pos 0)
+pub blank-nothing : (i : ModelItem) → isBlank i ≡ true → ((s : Sense) → weightIn s i ≡ pos 0) × (i .price ≡ pos 0)
 blank-nothing i h =
-    let z = both-zero (natAbs (i .weight)) (natAbs (i .price)) h in
-    (is-zero (i .weight) (z .0), is-zero (i .price) (z .1))
+    let z = both-hold (isWeightless i) (eqb (natAbs (i .price)) 0) h in
+    let w = both-hold (eqb (natAbs (i .low)) 0) (eqb (natAbs (i .high)) 0) (z .0) in
+    (weight (w .0) (w .1), zero-is (i .price) (z .1))
+  where
+    zero-is : (a : ℤ) → eqb (natAbs a) 0 ≡ true → a ≡ pos 0
+    zero-is a h = is-zero a (eqb-true (natAbs a) 0 h)
+
+    weight : eqb (natAbs (i .low)) 0 ≡ true → eqb (natAbs (i .high)) 0 ≡ true → (s : Sense) → weightIn s i ≡ pos 0
+    weight a b Sure = zero-is (i .high) b
+    weight a b Possible = zero-is (i .low) a

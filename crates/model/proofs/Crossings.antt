@@ -13,7 +13,6 @@ use Rattle.arith.proofs.Parts.{impossible}
 use Rattle.arith.proofs.Words.{yes-lt, no-lt}
 use Rattle.knapsack.specs.declared.Bound.{Bound}
 use Rattle.knapsack.specs.declared.Bound.the-variants.{Absent, At}
-use Rattle.knapsack.specs.declared.Item.{Item}
 use Rattle.knapsack.specs.declared.Problem.{Problem}
 use Rattle.knapsack.specs.Meaning.{instanceOf, KeepsLower, KeepsUpper, Infeasible}
 use Rattle.knapsack.specs.Ranges.{itemAt, BoundsInOrder}
@@ -29,7 +28,7 @@ pub uncrossed : (p : Problem) → someCrosses p ≡ false → Uncrossed p
 uncrossed p h k l = order-in (itemAt p k .lower) (itemAt p k .upper) (none-fails (p .count) (itemAt p) crosses h k l)
 
 -- the item that the test found
-one-found : (n : ℕ) (f : ℕ → Item) (test : Item → Bool) → someItem n f test ≡ true → (k : ℕ) × ((k < n) × (test (f k) ≡ true))
+one-found : {A : Type 0} (n : ℕ) (f : ℕ → A) (test : A → Bool) → someItem n f test ≡ true → (k : ℕ) × ((k < n) × (test (f k) ≡ true))
 unfolding someItem
 one-found zero f test h = absurd (impossible h)
 one-found (suc n) f test h = go (someItem n f test) refl h (λ e. one-found n f test e)

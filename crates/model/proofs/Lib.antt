@@ -1,4 +1,5 @@
 pub mod Tests
+pub mod Plain
 pub mod NeedLines
 pub mod Records
 pub mod BlankItems
@@ -6,3 +7,5 @@ pub mod Crossings
 pub mod SameNeeds
 pub mod BeyondCount
 pub mod Showing
+pub mod Weighing
+pub mod Senses

@@ -21,16 +21,19 @@ use Rattle.knapsack.specs.Items.{isAbsent}
 use Rattle.knapsack.specs.Meaning.{instanceOf}
 use Rattle.knapsack.specs.declared.Bound.{Bound}
 use Rattle.knapsack.specs.declared.Bound.the-variants.{Absent, At}
-use Rattle.knapsack.specs.declared.Item.{Item}
 use Rattle.knapsack.specs.declared.Mark.{Mark}
 use Rattle.knapsack.specs.declared.Mark.the-variants.{Integer, Continuous}
 use Rattle.model.specs.declared.Model.{Model}
+use Rattle.model.specs.declared.ModelItem.{ModelItem}
 use Rattle.model.specs.declared.Need.{Need}
 use Rattle.model.specs.declared.Needs.{Needs}
+use Rattle.model.specs.declared.Sense.{Sense}
+use Rattle.model.specs.declared.Sense.the-variants.{Sure}
 use Rattle.model.specs.Needs.{In, here, there, NotNegative, Present, Named}
 use Rattle.model.specs.Records.{
   itemAt,
   needAt,
+  itemIn,
   plainOf,
   placed,
   needsUpTo,
@@ -48,6 +51,7 @@ use Rattle.model.specs.Records.{
   GoodLine,
 }
 use Rattle.model.proofs.Tests.{neither}
+use Rattle.model.proofs.Plain.{plain-item}
 
 -- ---- item numbers
 
@@ -93,7 +97,7 @@ rises-iff a b = (go (ltb (a .item) (b .item)) (ltb (b .item) (a .item)) (ltb (a 
 
 -- ---- items that a need may name
 
-pub record Fit (i : Item) : Type 0 where
+pub record Fit (i : ModelItem) : Type 0 where
   pub whole : i .mark ≡ Integer
   pub above : NotNegative (i .lower)
   pub below : Present (i .upper)
@@ -102,11 +106,11 @@ is-whole : (m : Mark) → isContinuous m ≡ false → m ≡ Integer
 is-whole Integer e = refl
 is-whole Continuous e = absurd (impossible (sym e))
 
-is-above : (b : Bound) → belowZero b ≡ false → NotNegative b
+pub is-above : (b : Bound) → belowZero b ≡ false → NotNegative b
 is-above Absent e = absurd (impossible (sym e))
 is-above (At l) e = no-lt e
 
-above-is : (b : Bound) → NotNegative b → belowZero b ≡ false
+pub above-is : (b : Bound) → NotNegative b → belowZero b ≡ false
 above-is Absent h = absurd h
 above-is (At l) h = le-no h
 
@@ -118,7 +122,7 @@ present-is : (b : Bound) → Present b → isAbsent b ≡ false
 present-is Absent h = absurd h
 present-is (At u) h = refl
 
-pub fit-iff : (i : Item) → (unfit i ≡ false) ↔ Fit i
+pub fit-iff : (i : ModelItem) → (unfit i ≡ false) ↔ Fit i
 unfolding unfit
 fit-iff i = (there-is, λ h. rw (h .whole, above-is (i .lower) (h .above)) (present-is (i .upper) (h .below)))
   where
@@ -145,13 +149,17 @@ module _ (m : Model) (j : ℕ) where
   abbrev line : Need
   line = needAt (m .needs) j
 
-  named : (k : ℕ) → 1 ≤ k → k ≤ m .count → unfit (itemAt m (k - 1)) ≡ false → Named (instanceOf (plainOf m)) (k - 1)
-  named k s l e =
+  named : (s : Sense) (k : ℕ) → 1 ≤ k → k ≤ m .count → unfit (itemAt m (k - 1)) ≡ false → Named (instanceOf (plainOf s m)) (k - 1)
+  named s k least most e =
       let f = fit-iff (itemAt m (k - 1)) .0 e in
-      record { inside = omega arith; whole = f .whole; above = f .above; below = f .below }
+      let i = plain-item s m (k - 1) in
+      record { inside = omega arith; whole = rw i (f .whole); above = rw i (f .above); below = rw i (f .below) }
 
-  unnamed : (k : ℕ) → Named (instanceOf (plainOf m)) k → unfit (itemAt m k) ≡ false
-  unnamed k h = fit-iff (itemAt m k) .1 (record { whole = h .whole; above = h .above; below = h .below })
+  -- one sense is enough: an item may be named whatever it weighs
+  unnamed : (k : ℕ) → Named (instanceOf (plainOf Sure m)) k → unfit (itemAt m k) ≡ false
+  unnamed k h =
+      let i = plain-item Sure m k in
+      fit-iff (itemAt m k) .1 (record { whole = rw i at (h .whole); above = rw i at (h .above); below = rw i at (h .below) })
 
   pub good-line : badLine (m .count) (lineBefore (m .needs) j) line ≡ false → unfitLine (itemAt m) line ≡ false → GoodLine m j
   unfolding badLine
@@ -162,9 +170,9 @@ module _ (m : Model) (j : ℕ) where
       record {
         numbers = n;
         rises = rises-iff (lineBefore (m .needs) j) line .0 (b .1);
-        allowed = record {
-          item = named (line .item) (n .first-least) (n .first-most) (u .0);
-          cover = named (line .cover) (n .second-least) (n .second-most) (u .1);
+        allowed = λ s. record {
+          item = named s (line .item) (n .first-least) (n .first-most) (u .0);
+          cover = named s (line .cover) (n .second-least) (n .second-most) (u .1);
         };
       }
 
@@ -172,7 +180,7 @@ module _ (m : Model) (j : ℕ) where
   unfolding badLine
   line-good g = (
     rw (numbers-iff (m .count) (line .item) (line .cover) .1 (g .numbers)) (rises-iff (lineBefore (m .needs) j) line .1 (g .rises)),
-    rw (unnamed (line .item - 1) (g .allowed .item)) (unnamed (line .cover - 1) (g .allowed .cover)),
+    rw (unnamed (line .item - 1) (g .allowed Sure .item)) (unnamed (line .cover - 1) (g .allowed Sure .cover)),
   )
 
 -- ---- the needs of a record

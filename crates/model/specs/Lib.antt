@@ -3,3 +3,4 @@ pub mod Needs
 pub mod Records
 pub mod Setters
 pub mod Promises
+pub mod Senses

@@ -5,6 +5,7 @@
 --   named-item                                                  14: a record's and a sheet's, of a line of needs (paper 02, request 7)
 --   blank-item                                                  15: a record's and a sheet's, of an item; the converter's (paper 02, request 9)
 --   full-record, missing-item, only-item                        16 to 18: a standing plan's, of a change (paper 02, request 10)
+--   weight-range, ranged-item                                   19, 20: a record's and a sheet's, of an item's weights (paper 02, request 11)
 use Prim.Native.Nat.{ℕ}
 
 abbrev pub overlong : ℕ
@@ -57,3 +58,9 @@ missing-item = 17
 
 abbrev pub only-item : ℕ
 only-item = 18
+
+abbrev pub weight-range : ℕ
+weight-range = 19
+
+abbrev pub ranged-item : ℕ
+ranged-item = 20

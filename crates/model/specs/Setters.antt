@@ -15,8 +15,8 @@ use Prim.Native.Nat.{ℕ, suc}
 use lib.IntN.{ℤ}
 use lib.ListN.{set}
 use Rattle.knapsack.specs.declared.Bound.{Bound}
-use Rattle.knapsack.specs.declared.Item.{Item}
 use Rattle.model.specs.declared.Model.{Model}
+use Rattle.model.specs.declared.ModelItem.{ModelItem}
 use Rattle.model.specs.declared.Need.{Need}
 use Rattle.model.specs.declared.Needs.{Needs}
 use Rattle.model.specs.declared.Side.{Side}
@@ -29,18 +29,18 @@ withCapacity m b = record { items = m .items; count = m .count; capacity = b; ne
 abbrev pub withCount : Model → ℕ → Model
 withCount m n = record { items = m .items; count = n; capacity = m .capacity; needs = m .needs }
 
-abbrev pub withItems : Model → List Item → Model
+abbrev pub withItems : Model → List ModelItem → Model
 withItems m l = record { items = l; count = m .count; capacity = m .capacity; needs = m .needs }
 
-abbrev pub withItem : Model → ℕ → Item → Model
+abbrev pub withItem : Model → ℕ → ModelItem → Model
 withItem m j x = record { items = set (m .items) j x; count = m .count; capacity = m .capacity; needs = m .needs }
 
-abbrev pub appended : Model → Item → Model
+abbrev pub appended : Model → ModelItem → Model
 appended m x = withCount (withItem m (m .count) x) (suc (m .count))
 
-abbrev pub bounded : Side → Bound → Item → Item
-bounded Lower b i = record { mark = i .mark; weight = i .weight; price = i .price; lower = b; upper = i .upper }
-bounded Upper b i = record { mark = i .mark; weight = i .weight; price = i .price; lower = i .lower; upper = b }
+abbrev pub bounded : Side → Bound → ModelItem → ModelItem
+bounded Lower b i = record { mark = i .mark; low = i .low; high = i .high; price = i .price; lower = b; upper = i .upper }
+bounded Upper b i = record { mark = i .mark; low = i .low; high = i .high; price = i .price; lower = i .lower; upper = b }
 
 abbrev pub withBound : Model → Side → ℕ → Bound → Model
 withBound m side j b = withItem m j (bounded side b (itemAt m j))

@@ -1,9 +1,9 @@
 // Lines of needs (paper 02, request 7), and what they are refused for: a record's are tried by check_model, a sheet's by the reader.
 use crate::Model;
+use crate::ModelItem;
 use crate::Need;
 use crate::Needs;
 use knapsack::Bound;
-use knapsack::Item;
 use knapsack::Mark;
 ghost use mathlib.Core.Path.{_≡_};
 ghost use Prim.Native.Nat.{_≤_, _<_};
@@ -114,7 +114,7 @@ fn is_continuous(mark: Mark) -> bool
 }
 
 // Whether a lower bound allows amounts below 0.
-fn is_below_zero(b: Bound) -> bool
+pub fn is_below_zero(b: Bound) -> bool
     ensures { λ r. ⌜ r ≡ belowZero b ⌝ }
 {
     match b {
@@ -124,7 +124,7 @@ fn is_below_zero(b: Bound) -> bool
 }
 
 // Whether no need may name an item.
-pub fn is_unfit(i: Item) -> bool
+pub fn is_unfit(i: ModelItem) -> bool
     ensures { λ r. ⌜ r ≡ unfit i ⌝ }
 {
     let mark = i.mark;

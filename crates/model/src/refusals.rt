@@ -32,3 +32,7 @@ pub const FULL_RECORD: u64 = 16;
 pub const MISSING_ITEM: u64 = 17;
 
 pub const ONLY_ITEM: u64 = 18;
+
+pub const WEIGHT_RANGE: u64 = 19;
+
+pub const RANGED_ITEM: u64 = 20;

@@ -1,11 +1,11 @@
 // A record is filled by these alone: whoever reads, draws or lends one need not know its fields.
 use crate::Model;
+use crate::ModelItem;
 use crate::Need;
 use crate::Needs;
 use crate::Side;
 use crate::naming;
 use knapsack::Bound;
-use knapsack::Item;
 ghost use mathlib.Core.Path.{_≡_};
 ghost use Prim.Native.Nat.{_<_};
 ghost use Rattle.model.specs.Records.{emptyModel};
@@ -27,7 +27,7 @@ ghost use Rattle.model.specs.Setters.{
 pub fn empty_model() -> Model
     ensures { λ r. ⌜ r ≡ emptyModel ⌝ }
 {
-    let item = knapsack::blank_item();
+    let item = crate::no_item();
     let needs = naming::no_needs();
     Model {
         items: [item; 16],
@@ -54,7 +54,7 @@ pub fn with_count(m: Model, count: usize) -> Model
 }
 
 // All places at once.
-pub fn with_items(m: Model, items: [Item; 16]) -> Model
+pub fn with_items(m: Model, items: [ModelItem; 16]) -> Model
     ensures { λ r. ⌜ r ≡ withItems m items ⌝ }
 {
     let mut n = m;
@@ -62,7 +62,7 @@ pub fn with_items(m: Model, items: [Item; 16]) -> Model
     n
 }
 
-pub fn with_item(m: Model, j: usize, x: Item) -> Model
+pub fn with_item(m: Model, j: usize, x: ModelItem) -> Model
     requires { ⌜ j < 16 ⌝ }
     ensures { λ r. ⌜ r ≡ withItem m j x ⌝ }
 {
@@ -72,7 +72,7 @@ pub fn with_item(m: Model, j: usize, x: Item) -> Model
 }
 
 // With an item more, in the first unused place.
-pub fn append(m: Model, x: Item) -> Model
+pub fn append(m: Model, x: ModelItem) -> Model
     requires { ⌜ m .count < 16 ⌝ }
     ensures { λ r. ⌜ r ≡ appended m x ⌝ }
 {
@@ -82,25 +82,28 @@ pub fn append(m: Model, x: Item) -> Model
 }
 
 // An item with another bound on one side.
-pub fn with_side(item: Item, side: Side, b: Bound) -> Item
+pub fn with_side(item: ModelItem, side: Side, b: Bound) -> ModelItem
     ensures { λ r. ⌜ r ≡ bounded side b item ⌝ }
 {
     let mark = item.mark;
-    let weight = item.weight;
+    let low = item.low;
+    let high = item.high;
     let price = item.price;
     let lower = item.lower;
     let upper = item.upper;
     match side {
-        Side::Lower => Item {
+        Side::Lower => ModelItem {
             mark,
-            weight,
+            low,
+            high,
             price,
             lower: b,
             upper,
         },
-        Side::Upper => Item {
+        Side::Upper => ModelItem {
             mark,
-            weight,
+            low,
+            high,
             price,
             lower,
             upper: b,

@@ -7,6 +7,7 @@ use feasibility::check_point;
 use knapsack::Answer;
 use model::Model;
 use model::Need;
+use model::Sense;
 use model::setters;
 use planner::plan_within;
 use trials::tally::number_of;
@@ -59,7 +60,7 @@ fn is_named(r: PointReply, item: usize) -> bool {
 // Whether the check says of the plain best point what it has to.
 pub fn check_holds(m: Model, most: u64) -> bool {
     let plain = setters::with_need_count(m, 0);
-    let a = plan_within(plain, most);
+    let a = plan_within(plain, Sense::Sure, most);
     let k = a.kind;
     if number_of(k) != 1 {
         return true;
@@ -68,6 +69,7 @@ pub fn check_holds(m: Model, most: u64) -> bool {
     let amounts = a.point;
     let r = check_point(
         m,
+        Sense::Sure,
         Candidate {
             amounts: amounts,
             count: m.count,

@@ -7,9 +7,10 @@ use crate::check::check_holds;
 use arith::Fraction;
 use knapsack::Answer;
 use knapsack::Bound;
-use knapsack::Item;
 use model::Model;
+use model::ModelItem;
 use model::Need;
+use model::Sense;
 use model::setters;
 use planner::plan_within;
 use solver::STEPS;
@@ -88,7 +89,7 @@ fn print_needs(p: Model) {
 fn show(p: Model) {
     print_problem(p);
     print_needs(p);
-    let a = plan_within(p, STEPS);
+    let a = plan_within(p, Sense::Sure, STEPS);
     print(b": ");
     print_kind(a);
     print(b":");
@@ -151,7 +152,7 @@ fn is_best(a: Answer) -> bool {
     number_of(k) == 1
 }
 
-fn has_lower(x: Item) -> bool {
+fn has_lower(x: ModelItem) -> bool {
     let l = x.lower;
     match l {
         Bound::Absent => false,
@@ -199,7 +200,7 @@ fn print_wrong(p: Model, a: Answer) {
 fn tried(t: Tally, p: Model, n: usize, open: bool, most: u64) -> Tally
     requires { ⌜ n ≤ 15 ⌝ }
 {
-    let a = plan_within(p, most);
+    let a = plan_within(p, Sense::Sure, most);
     let o = outcome_of(p, a, n, REACH, !open);
     let agrees = o.agrees && is_first(p, a, n) && check_holds(p, most);
     if !agrees {

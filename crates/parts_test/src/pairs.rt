@@ -3,20 +3,24 @@ use domination::Pair;
 use domination::PairReply;
 use domination::least_pair;
 use knapsack::Bound;
-use knapsack::Item;
 use knapsack::Mark;
-use knapsack::blank_item;
 use model::Model;
+use model::ModelItem;
+use model::Sense;
+use model::no_item;
 use trials::count::one_more;
 use trials::count::print_count;
 use trials::draw::Spans;
 use trials::draw::drawn_problem;
+use trials::draw::next;
 use trials::exact::as_signed;
 use trials::exact::plus;
 use trials::exact::times;
 use trials::print::print;
 use trials::print::print_problem;
 use trials::print::size_of;
+use trials::ranges::at_ends;
+use trials::ranges::with_drawn_ranges;
 ghost use Prim.Native.Nat.{_≤_};
 
 const REACH: i64 = 40;
@@ -36,7 +40,7 @@ fn is_within(l: i64, u: i64, step: i64) -> bool {
     step <= room && times(step, -1) <= room
 }
 
-fn has_room(x: Item, step: i64) -> bool {
+fn has_room(x: ModelItem, step: i64) -> bool {
     let lower = x.lower;
     let upper = x.upper;
     match lower {
@@ -49,11 +53,11 @@ fn has_room(x: Item, step: i64) -> bool {
 }
 
 // Paper 01's conditions on the steps r of x and s of y.
-fn is_pair(x: Item, y: Item, r: i64, s: i64) -> bool {
+fn is_pair(x: ModelItem, y: ModelItem, r: i64, s: i64) -> bool {
     if r == 0 || s == 0 {
         return false;
     }
-    if plus(times(x.weight, r), times(y.weight, s)) < 0 {
+    if plus(times(x.high, r), times(y.high, s)) < 0 {
         return false;
     }
     if plus(times(x.price, r), times(y.price, s)) >= 0 {
@@ -88,7 +92,7 @@ fn step_at(k: u64) -> i64 {
 }
 
 // All second steps beside one first step.
-fn with_row(start: Least, x: Item, y: Item, r: i64) -> Least {
+fn with_row(start: Least, x: ModelItem, y: ModelItem, r: i64) -> Least {
     let mut m = start;
     let mut k: u64 = 0;
     while k < 81 {
@@ -101,7 +105,7 @@ fn with_row(start: Least, x: Item, y: Item, r: i64) -> Least {
     m
 }
 
-fn least_of(x: Item, y: Item) -> Least {
+fn least_of(x: ModelItem, y: ModelItem) -> Least {
     let mut m = Least {
         found: false,
         first: 0,
@@ -125,26 +129,26 @@ fn is_integer(m: Mark) -> bool {
 }
 
 // Integer, with weight and price of one sign.
-fn may_pair(x: Item) -> bool {
+fn may_pair(x: ModelItem) -> bool {
     let m = x.mark;
-    is_integer(m) && times(x.weight, x.price) > 0
+    is_integer(m) && times(x.high, x.price) > 0
 }
 
 fn is_item(i: usize, n: usize) -> bool {
     0 < i && i <= n
 }
 
-fn item_numbered(p: Model, i: usize) -> Item {
+fn item_numbered(p: Model, i: usize) -> ModelItem {
     if i == 0 {
-        return blank_item();
+        return no_item();
     }
     if i > 16 {
-        return blank_item();
+        return no_item();
     }
     p.items[i - 1]
 }
 
-fn is_least(q: Pair, x: Item, y: Item) -> bool {
+fn is_least(q: Pair, x: ModelItem, y: ModelItem) -> bool {
     let m = least_of(x, y);
     match q {
         Pair::Missing => !m.found,
@@ -155,7 +159,7 @@ fn is_least(q: Pair, x: Item, y: Item) -> bool {
 }
 
 // 9, 10, or 0 where nothing is refused.
-fn refusal_of(x: Item, y: Item, n: usize, i: usize, j: usize) -> u64 {
+fn refusal_of(x: ModelItem, y: ModelItem, n: usize, i: usize, j: usize) -> u64 {
     if !is_item(i, n) || !is_item(j, n) || i == j {
         return 9;
     }
@@ -210,15 +214,32 @@ fn print_wrong(p: Model, i: usize, j: usize) {
     print(b"\n");
 }
 
+// The reply in a sense, held to the record whose weights are known, each at that end.
+fn agrees_at(m: Model, sense: Sense, ends: u64, n: usize, i: usize, j: usize) -> bool
+    requires { ⌜ n ≤ 15 ⌝ }
+{
+    agrees(least_pair(m, sense, i, j), at_ends(m, ends), n, i, j)
+}
+
+// Both senses of the record with ranges drawn for it (paper 02, request 11).
+fn senses_agree(p: Model, n: usize, i: usize, j: usize) -> bool
+    requires { ⌜ n ≤ 15 ⌝ }
+{
+    let d = with_drawn_ranges(p, next(size_of(p.capacity)), 1, 4);
+    let m = d.problem;
+    agrees_at(m, Sense::Sure, 65535, n, i, j) && agrees_at(m, Sense::Possible, 0, n, i, j)
+}
+
 fn tried(t: Tally, p: Model, n: usize, i: usize, j: usize) -> Tally
     requires { ⌜ n ≤ 15 ⌝ }
 {
-    let r = least_pair(p, i, j);
-    let right = agrees(r, p, n, i, j);
+    let r = least_pair(p, Sense::Sure, i, j);
+    let kind = kind_of(r);
+    let right = agrees(r, p, n, i, j) && (kind == 9 || senses_agree(p, n, i, j));
     if !right {
         print_wrong(p, i, j);
     }
-    tallied(t, kind_of(r), right)
+    tallied(t, kind, right)
 }
 
 // Item numbers 0 to n + 1, as the second and as the first.

@@ -5,9 +5,10 @@ use feasibility::Candidate;
 use feasibility::PointReply;
 use feasibility::check_point;
 use knapsack::Bound;
-use knapsack::Item;
 use knapsack::Mark;
 use model::Model;
+use model::ModelItem;
+use model::Sense;
 use model::beyond;
 use trials::count::one_more;
 use trials::count::print_count;
@@ -23,6 +24,8 @@ use trials::print::print_number;
 use trials::print::print_problem;
 use trials::print::print_signed;
 use trials::print::size_of;
+use trials::ranges::at_ends;
+use trials::ranges::with_drawn_ranges;
 ghost use Prim.Native.Nat.{_≤_};
 
 // ---- what is drawn
@@ -248,7 +251,7 @@ fn is_above(x: Fraction, b: Bound) -> bool {
     }
 }
 
-fn breaks(i: Item, x: Fraction) -> bool {
+fn breaks(i: ModelItem, x: Fraction) -> bool {
     let l = i.lower;
     let u = i.upper;
     is_below(x, l) || is_above(x, u)
@@ -283,11 +286,11 @@ fn numerator(x: Fraction, divisor: u64) -> i64 {
     }
 }
 
-fn with_item(s: Sums, k: usize, i: Item, x: Fraction, divisor: u64) -> Sums {
+fn with_item(s: Sums, k: usize, i: ModelItem, x: Fraction, divisor: u64) -> Sums {
     let n = numerator(x, divisor);
     Sums {
         broken: first_of(s.broken, k, breaks(i, x)),
-        weight: total(s.weight, product(i.weight, n)),
+        weight: total(s.weight, product(i.high, n)),
         value: total(s.value, product(i.price, n)),
     }
 }
@@ -432,11 +435,27 @@ fn print_wrong(p: Model, c: Candidate, n: usize)
     print(b"\n");
 }
 
+// The reply in a sense, held to the record whose weights are known, each at that end.
+fn agrees_at(m: Model, sense: Sense, ends: u64, c: Candidate, n: usize) -> bool
+    requires { ⌜ n ≤ 15 ⌝ }
+{
+    agrees(check_point(m, sense, c), at_ends(m, ends), c, n)
+}
+
+// Both senses of the record with ranges drawn for it (paper 02, request 11).
+fn senses_agree(p: Model, c: Candidate, n: usize) -> bool
+    requires { ⌜ n ≤ 15 ⌝ }
+{
+    let d = with_drawn_ranges(p, next(size_of(p.capacity)), 1, 4);
+    let m = d.problem;
+    agrees_at(m, Sense::Sure, 65535, c, n) && agrees_at(m, Sense::Possible, 0, c, n)
+}
+
 fn tried(t: Tally, p: Model, c: Candidate, n: usize) -> Tally
     requires { ⌜ n ≤ 15 ⌝ }
 {
-    let r = check_point(p, c);
-    let right = agrees(r, p, c, n);
+    let r = check_point(p, Sense::Sure, c);
+    let right = agrees(r, p, c, n) && senses_agree(p, c, n);
     if !right {
         print_wrong(p, c, n);
     }

@@ -24,6 +24,7 @@ use Rattle.model.specs.Records.{plainOf, needAt, placed, needsOf, Admissible}
 use Rattle.model.specs.declared.Model.{Model}
 use Rattle.model.specs.declared.Needs.{Needs}
 use Rattle.model.specs.declared.Need.{Need}
+use Rattle.model.specs.declared.Sense.{Sense}
 use Rattle.model.specs.Needs.{In, Every, KeepsNeed, KeepsNeeds, Allowed}
 use Rattle.planner.specs.Branching.{Placed, breaks, Needed}
 
@@ -107,11 +108,11 @@ module _ (ns : Needs) where
 
 -- ---- a record
 
-pub needed : (m : Model) → Admissible m → Needed (plainOf m) (m .needs)
-needed m a = record {
-  figures = a .figures;
+pub needed : (sense : Sense) (m : Model) → Admissible m → Needed (plainOf sense m) (m .needs)
+needed sense m a = record {
+  figures = a .figures sense;
   few = a .few-needs;
   allowed = λ n i.
       let j = needs-from (m .needs .count) (needAt (m .needs)) n i in
-      subst (Allowed (instanceOf (plainOf m))) (sym (j .1 .1)) (a .needs (j .0) (j .1 .0) .allowed);
+      subst (Allowed (instanceOf (plainOf sense m))) (sym (j .1 .1)) (a .needs (j .0) (j .1 .0) .allowed sense);
 }

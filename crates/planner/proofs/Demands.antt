@@ -9,12 +9,14 @@ use Rattle.model.proofs.Records.{accepted}
 use Rattle.model.specs.Promises.{RepliesAs, Planned}
 use Rattle.model.specs.Records.{plainOf, needsOf, verdict}
 use Rattle.model.specs.declared.Model.{Model}
+use Rattle.model.specs.declared.Sense.{Sense}
 use Rattle.cases.proofs.Demands.{demands-needs}
 use Rattle.cases.specs.Demands.{DemandsNeeds}
 use Rattle.planner.proofs.Breaking.{needed}
 
-pub planned-demands : (m : Model) → verdict m ≡ Accepted → (a : Answer) → Planned m a → DemandsNeeds (instanceOf (plainOf m)) (needsOf (m .needs)) a
-planned-demands m e a h =
-    let s = instanceOf (plainOf m) in
+pub planned-demands : (sense : Sense) (m : Model) → verdict m ≡ Accepted → (a : Answer) → Planned sense m a →
+    DemandsNeeds (instanceOf (plainOf sense m)) (needsOf (m .needs)) a
+planned-demands sense m e a h =
+    let s = instanceOf (plainOf sense m) in
     let ns = needsOf (m .needs) in
-    demands-needs s ns (needed m (accepted m e) .allowed) a (subst (RepliesAs s ns a) e (h .replies))
+    demands-needs s ns (needed sense m (accepted m e) .allowed) a (subst (RepliesAs s ns a) e (h .replies))

@@ -1,6 +1,7 @@
 -- How many cases there can be: the problem itself, and those of two with fewer needs undecided.
 -- twigs-some: there is one at least.  twigs-two: so many are enough for all.  twigs-most: with 16 needs there are at most 131,071;
--- few-twigs: so there are for those of a record.  cases-plain, cases-ray, cases-some: no more than mostCases, which is some.
+-- few-twigs: so there are for those of a record.  cases-plain, cases-ray, cases-some: no more than mostCases, which is some;
+-- cases-most: and at most 131,072 for the needs of a record.
 use mathlib.Core.Path.{_≡_, refl, ap}
 use mathlib.Core.List.{List, [], _∷_}
 use Prim.Native.Nat.{ℕ, zero, suc, _+_, _≤_, _<_}
@@ -59,3 +60,10 @@ cases-ray s ns h = go (needsOf ns) (omega (arith, h, needs-long (ns .count) (nee
 pub cases-some : (ns : List Need) → 1 ≤ mostCases ns
 cases-some [] = omega arith
 cases-some (n ∷ ns) = omega arith
+
+pub cases-most : (ns : Needs) → ns .count ≤ 16 → mostCases (needsOf ns) ≤ 131072
+cases-most ns h = go (needsOf ns) (omega (arith, h, needs-long (ns .count) (needAt ns)))
+  where
+    go : (l : List Need) → length l ≤ 16 → mostCases l ≤ 131072
+    go [] k = omega arith
+    go (n ∷ l) k = omega (arith, twigs-most (suc (length l)) k)

@@ -14,6 +14,7 @@ use knapsack::with_item;
 use model::Model;
 use model::Need;
 use model::Needs;
+use model::Sense;
 use model::check_model;
 use model::plain_of;
 use solver::STEPS;
@@ -467,23 +468,23 @@ pub fn solve_needs(p: Problem, ns: Needs, most: u64) -> Solved
 // ---- records
 
 // The reply to any record, by searches of at most so many steps.
-pub fn plan_within(m: Model, most: u64) -> Answer
-    ensures { λ r. ⌜ Planned m r ⌝ }
+pub fn plan_within(m: Model, sense: Sense, most: u64) -> Answer
+    ensures { λ r. ⌜ Planned sense m r ⌝ }
 {
     let v = check_model(m);
     match v {
         Verdict::Accepted => {
             let ns = m.needs;
-            let r = solve_needs(plain_of(m), ns, most);
+            let r = solve_needs(plain_of(m, sense), ns, most);
             r.answer
         }
         Verdict::Refused(f) => no_point(Kind::Refused(f)),
     }
 }
 
-// The planner's reply to any record.
-pub fn plan(m: Model) -> Answer
-    ensures { λ r. ⌜ Planned m r ⌝ }
+// The planner's reply to any record, in a sense.
+pub fn plan(m: Model, sense: Sense) -> Answer
+    ensures { λ r. ⌜ Planned sense m r ⌝ }
 {
-    plan_within(m, STEPS)
+    plan_within(m, sense, STEPS)
 }

@@ -2,10 +2,12 @@
 // plans thousands of drawn small problems, each of which is also tried by plain enumeration (trials::outcome says when the two agree).
 // A problem on which they disagree is printed. Some are planned with no step of the search or one, so that the scales answer.
 mod rows; // paper 01's rows
+mod senses; // weights known within ranges
 mod texts; // the text entry
 
 use knapsack::Answer;
 use model::Model;
+use model::Sense;
 use planner::plan_within;
 use solver::STEPS;
 use trials::draw::Spans;
@@ -35,7 +37,7 @@ fn print_wrong(p: Model, a: Answer) {
 fn tried(t: Tally, p: Model, n: usize, open: bool, most: u64) -> Tally
     requires { ⌜ n ≤ 15 ⌝ }
 {
-    let a = plan_within(p, most);
+    let a = plan_within(p, Sense::Sure, most);
     let o = outcome_of(p, a, n, REACH, !open);
     if !o.agrees {
         print_wrong(p, a);
@@ -128,4 +130,5 @@ fn main() {
     open_problems();
     without_steps();
     with_one_step();
+    senses::show_senses();
 }

@@ -5,8 +5,9 @@ use domination::PairReply;
 use domination::least_pair;
 use listing::text_of;
 use model::Model;
-use planner::plan;
+use model::Sense;
 use replies::reply_to;
+use senses::plan_both;
 use trials::make::first_of;
 use trials::make::free;
 use trials::make::from_zero;
@@ -26,7 +27,7 @@ fn print_name(name: u8) {
 // The reply to a record, as `charge` prints it.
 fn show(name: u8, p: Model) {
     print_name(name);
-    let a = plan(p);
+    let a = plan_both(p);
     let t = text_of(a, p.count);
     let bytes = t.bytes;
     let len = t.len;
@@ -54,7 +55,7 @@ fn print_pair(q: Pair) {
 
 fn show_pair(name: u8, p: Model) {
     print_name(name);
-    let q = least_pair(p, 1, 2);
+    let q = least_pair(p, Sense::Sure, 1, 2);
     match q {
         PairReply::Refused(f) => {
             print(b"refused ");
@@ -108,7 +109,7 @@ fn pair_rows() {
 fn sheet_rows() {
     show_sheet(
         b'A',
-        b"limit 1\n20\nitems 2\nW 9 13\nL 3 2\nlower 2\n1 0\n2 0\nupper 2\n1 2\n2 5\nneeds 0\n",
+        b"limit 1\n20\nitems 2\nW 9 9 13\nL 3 3 2\nlower 2\n1 0\n2 0\nupper 2\n1 2\n2 5\nneeds 0\n",
     );
     show_sheet(b'N', b"");
     show_sheet(b'O', b"limit 1\n0\nitems 17\n");
@@ -124,11 +125,11 @@ fn crossing_rows() {
     show_pair(b'+', two(10, loose(held(3, 5, 0, 10)), x));
     show_sheet(
         b'+',
-        b"limit 1\n20\nitems 1\nW 9 13\nlower 1\n1 3\nupper 1\n1 2\nneeds 0\n",
+        b"limit 1\n20\nitems 1\nW 9 9 13\nlower 1\n1 3\nupper 1\n1 2\nneeds 0\n",
     );
     show_sheet(
         b'+',
-        b"limit 1\n20\nitems 1\nW 9 13\nlower 1\n1 3\nupper 1\n1 2\nneeds 0\n1",
+        b"limit 1\n20\nitems 1\nW 9 9 13\nlower 1\n1 3\nupper 1\n1 2\nneeds 0\n1",
     );
 }
 

@@ -13,10 +13,10 @@ ghost use mathlib.Core.Path.{_≡_};
 ghost use Prim.Native.Nat.{_≤_};
 ghost use lib.ListN.{length};
 
-fn hashes() -> [u8; 40]
-    ensures { λ r. ⌜ length r ≡ 40 ⌝ }
+fn hashes() -> [u8; 80]
+    ensures { λ r. ⌜ length r ≡ 80 ⌝ }
 {
-    [b'#'; 40]
+    [b'#'; 80]
 }
 
 fn print_told(l: Listed) {
@@ -43,7 +43,7 @@ fn listed(p: Model, out: &mut [u8], size: usize) -> Listed
 
 // The first bytes of the buffer are lent.
 fn show_text(p: Model, size: usize)
-    requires { ⌜ size ≤ 40 ⌝ }
+    requires { ⌜ size ≤ 80 ⌝ }
 {
     let mut buffer = hashes();
     let l = listed(p, &mut buffer, size);
@@ -53,16 +53,16 @@ fn show_text(p: Model, size: usize)
 }
 
 pub fn show_texts() {
-    show_text(sheet_a(), 21);
-    show_text(sheet_a(), 22);
-    show_text(sheet_a(), 40);
-    show_text(sheet_e(), 10);
-    show_text(sheet_e(), 11);
-    show_text(sheet_e(), 40);
-    show_text(sheet_g(), 33);
-    show_text(sheet_g(), 34);
-    show_text(sheet_g(), 40);
+    show_text(sheet_a(), 43);
+    show_text(sheet_a(), 44);
+    show_text(sheet_a(), 80);
+    show_text(sheet_e(), 21);
+    show_text(sheet_e(), 22);
+    show_text(sheet_e(), 80);
+    show_text(sheet_g(), 67);
+    show_text(sheet_g(), 68);
+    show_text(sheet_g(), 80);
     let p = one(0, held(1001, 1, 0, 1));
     show_text(p, 0);
-    show_text(p, 40);
+    show_text(p, 80);
 }

@@ -1,10 +1,11 @@
 // Prints, for the sheets of paper 01 with an absent bound, some made for the purpose and many drawn ones, the steps of the ray
 // that the scan finds, or `none`. An item is (weight, price, lower, upper); marks play no part.
 use knapsack::Bound;
-use knapsack::Item;
 use knapsack::Problem;
 use knapsack::Verdict;
 use model::Model;
+use model::ModelItem;
+use model::Sense;
 use rays::RayReply;
 use trials::draw::below;
 use trials::draw::figure;
@@ -61,7 +62,7 @@ fn scanned(p: Problem)
 fn print_ray(p: Model) {
     let v = model::check_model(p);
     match v {
-        Verdict::Accepted => scanned(model::plain_of(p)),
+        Verdict::Accepted => scanned(model::plain_of(p, Sense::Sure)),
         Verdict::Refused(_) => print(b" refused"),
     }
 }
@@ -135,7 +136,7 @@ fn other_pairs() {
 // ---- drawn sheets: the origin is feasible, so unbounded is what has a ray
 
 struct Draw {
-    item: Item,
+    item: ModelItem,
     state: u64,
 }
 

@@ -19,6 +19,7 @@ use Rattle.knapsack.specs.Ranges.{blank, itemAt}
 use Rattle.knapsack.specs.Items.{withItem}
 use Rattle.knapsack.proofs.Same.{Same}
 use Rattle.model.specs.declared.Model.{Model}
+use Rattle.model.specs.declared.Sense.{Sense}
 use Rattle.model.specs.declared.Need.{Need}
 use Rattle.model.specs.Needs.{NotNegative, Present, Named, Allowed, names, relaxedBut}
 use Rattle.model.specs.Records.{plainOf, needsOf, ItemFigures, FiguresInRange, Admissible}
@@ -44,29 +45,29 @@ loosened-more p q named k size e = record { count = e .count; capacity = e .capa
 
 -- ---- when all are
 
-module _ (m : Model) (a : Admissible m) (named : List Bool) (by : NamedBy (needsOf (m .needs)) named) (q : Problem)
-    (e : Loosened (plainOf m) named (m .count) q) where
+module _ (sense : Sense) (m : Model) (a : Admissible m) (named : List Bool) (by : NamedBy (needsOf (m .needs)) named) (q : Problem)
+    (e : Loosened (plainOf sense m) named (m .count) q) where
   abbrev p : Problem
-  p = plainOf m
+  p = plainOf sense m
 
   abbrev ns : List Need
   ns = needsOf (m .needs)
 
   -- the items that are named are those that a need names
   item-is : (k : ℕ) → k < m .count → itemAt q k ≡ loose (names ns k) (itemAt p k)
-  item-is k h = e .items k h ∙ ap (λ b. loose b (itemAt p k)) (by .each k (omega (arith, a .figures .few-items)))
+  item-is k h = e .items k h ∙ ap (λ b. loose b (itemAt p k)) (by .each k (omega (arith, a .figures sense .few-items)))
 
   pub loosened-same : Same (instanceOf q) (relaxedBut ns (instanceOf p))
   loosened-same = record { capacity = e .capacity; count = e .count; items = λ k h. item-is k (omega (arith, e .count)) }
 
   figures : FiguresInRange q
   figures = record {
-    some-items = omega (arith, e .count, a .figures .some-items);
-    few-items = omega (arith, e .count, a .figures .few-items);
-    capacity-in = subst (λ b. natAbs b ≤ 100000000) (sym (e .capacity)) (a .figures .capacity-in);
+    some-items = omega (arith, e .count, a .figures sense .some-items);
+    few-items = omega (arith, e .count, a .figures sense .few-items);
+    capacity-in = subst (λ b. natAbs b ≤ 100000000) (sym (e .capacity)) (a .figures sense .capacity-in);
     items-in = λ k g.
         let h : k < m .count = omega (arith, e .count) in
-        subst ItemFigures (sym (item-is k h)) (in-range (names ns k) (itemAt p k) (a .figures .items-in k h));
+        subst ItemFigures (sym (item-is k h)) (in-range (names ns k) (itemAt p k) (a .figures sense .items-in k h));
   }
     where
       in-range : (b : Bool) (x : Item) → ItemFigures x → ItemFigures (loose b x)
@@ -81,7 +82,7 @@ module _ (m : Model) (a : Admissible m) (named : List Bool) (by : NamedBy (needs
   }
 
   pub loosened-needed : Needed q (m .needs)
-  loosened-needed = record { figures = figures; few = a .few-needs; allowed = λ n i. allowed (allowed-relaxed (instanceOf p) ns (needed m a .allowed) n i) }
+  loosened-needed = record { figures = figures; few = a .few-needs; allowed = λ n i. allowed (allowed-relaxed (instanceOf p) ns (needed sense m a .allowed) n i) }
     where
       allowed : {n : Need} → Allowed (relaxedBut ns (instanceOf p)) n → Allowed (instanceOf q) n
       allowed {n} h = record { item = still-named (n .item) (h .item); cover = still-named (n .cover) (h .cover) }

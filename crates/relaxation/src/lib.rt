@@ -1,5 +1,5 @@
-// The relaxation's public entry (paper 01, "Relaxation"): a capacity, a lent list of items, which is left in order, and needs: the items that they name
-// keep their marks (paper 02, request 7).
+// The relaxation's public entry (paper 01, "Relaxation"): a capacity, a lent list of items, which is left in order, and terms: the needs, whose items
+// keep their marks (paper 02, request 7), and the sense, whose weight decides and orders (request 11).
 // One thin function, proved by hand, over a core that is covered: the list is copied into a record, the core answers it and puts its
 // items in order, and the items are stored back.
 use knapsack::Answer;
@@ -10,11 +10,13 @@ use knapsack::Problem;
 use knapsack::Verdict;
 use knapsack::with_item;
 use model::Model;
+use model::ModelItem;
 use model::Needs;
+use model::Sense;
 use model::check_model;
 use model::plain_of;
 use model::setters;
-use ordering::arrange;
+use ordering::rank;
 use planner::named_of;
 use planner::solve_needs;
 use solver::STEPS;
@@ -22,15 +24,26 @@ use solver::no_point;
 ghost use mathlib.Core.Path.{_≡_};
 ghost use Prim.Native.Nat.{_≤_, _<_};
 ghost use mathlib.Core.List.{[]};
-ghost use Rattle.knapsack.specs.Ranges.{itemAt};
 ghost use Rattle.model.specs.Needs.{loosened};
-ghost use Rattle.model.specs.Records.{Admissible};
-ghost use Rattle.relaxation.specs.Lent.{usable, loaded, loose, Loosened, AnswersRelaxed, Settles, Relaxes};
+ghost use Rattle.model.specs.Records.{itemAt, plainOf, Admissible, FiguresInRange};
+ghost use Rattle.relaxation.specs.Lent.{usable, loaded, withNext, arrangedIn, loose, Loosened, AnswersRelaxed, Settles, Relaxes};
 
-// What the core gives: the answer, and the problem whose items are stored back.
+// What is asked besides a capacity and a list.
+pub struct Terms {
+    pub needs: Needs,
+    pub sense: Sense,
+}
+
+// What the core is asked: a record, and the sense in which it is relaxed.
+pub struct Query {
+    pub model: Model,
+    pub sense: Sense,
+}
+
+// What the core gives: the answer, and the record whose items are stored back.
 pub struct Outcome {
     pub answer: Answer,
-    pub problem: Problem,
+    pub model: Model,
 }
 
 // How many items of a list of n are looked at.
@@ -41,21 +54,35 @@ fn usable_of(n: usize) -> usize
 }
 
 // A record with no items loaded yet.
-fn opened(capacity: i64, count: usize, ns: Needs) -> Model
-    ensures { λ r. ⌜ r ≡ loaded capacity count ns [] ⌝ }
+fn opened(capacity: i64, count: usize, terms: Terms) -> Query
+    ensures { λ r. ⌜ r ≡ loaded capacity count terms [] ⌝ }
 {
+    let ns = terms.needs;
+    let sense = terms.sense;
     let m = setters::with_capacity(setters::empty_model(), capacity);
     let n = setters::with_count(m, count);
-    setters::with_needs(n, ns)
+    let model = setters::with_needs(n, ns);
+    Query { model, sense }
+}
+
+// One item more is loaded.
+fn with_next(q: Query, i: usize, x: ModelItem) -> Query
+    requires { ⌜ i < 16 ⌝ }
+    ensures { λ r. ⌜ r ≡ withNext q i x ⌝ }
+{
+    let m = q.model;
+    let sense = q.sense;
+    let model = setters::with_item(m, i, x);
+    Query { model, sense }
 }
 
 // The item that is stored back at a place.
-fn nth(o: Outcome, i: usize) -> Item
+fn nth(o: Outcome, i: usize) -> ModelItem
     requires { ⌜ i < 16 ⌝ }
-    ensures { λ r. ⌜ r ≡ itemAt (o .problem) i ⌝ }
+    ensures { λ r. ⌜ r ≡ itemAt (o .model) i ⌝ }
 {
-    let p = o.problem;
-    p.items[i]
+    let m = o.model;
+    m.items[i]
 }
 
 fn answer_of(o: Outcome) -> Answer
@@ -105,54 +132,74 @@ fn loosen(p: Problem, named: [bool; 16]) -> Problem
 }
 
 // The answer of the relaxation of a record that is accepted. Its named items are whole, so that it is solved by cases as the record is.
-fn relaxed_answer(m: Model) -> Answer
+fn relaxed_answer(m: Model, sense: Sense) -> Answer
     requires { ⌜ Admissible m ⌝ }
-    ensures { λ r. ⌜ AnswersRelaxed m r ⌝ }
+    ensures { λ r. ⌜ AnswersRelaxed sense m r ⌝ }
 {
     let ns = m.needs;
-    let q = loosen(plain_of(m), named_of(ns));
+    let q = loosen(plain_of(m, sense), named_of(ns));
     let r = solve_needs(q, ns, STEPS);
     r.answer
 }
 
-// The core: the record check, then the relaxation, and the items in order.
-fn core(m: Model) -> Outcome
-    ensures { λ r. ⌜ Settles m r ⌝ }
+// The record with its items in order.
+fn arranged(m: Model, sense: Sense) -> Model
+    requires { ⌜ FiguresInRange (plainOf sense m) ⌝ }
+    ensures { λ r. ⌜ r ≡ arrangedIn sense m ⌝ }
 {
-    let p = plain_of(m);
+    let n = m.count;
+    let ranking = rank(plain_of(m, sense));
+    let at = ranking.at;
+    let mut q = m;
+    let mut u: usize = 0;
+    while u < n {
+        let k = at[u];
+        let x = m.items[k];
+        q = setters::with_item(q, u, x);
+        u += 1;
+    }
+    q
+}
+
+// The core: the record check, then the relaxation, and the items in order.
+fn core(q: Query) -> Outcome
+    ensures { λ r. ⌜ Settles q r ⌝ }
+{
+    let m = q.model;
+    let sense = q.sense;
     let v = check_model(m);
     match v {
         Verdict::Accepted => {
-            let a = relaxed_answer(m);
-            let q = arrange(p);
+            let a = relaxed_answer(m, sense);
+            let n = arranged(m, sense);
             Outcome {
                 answer: a,
-                problem: q,
+                model: n,
             }
         }
         Verdict::Refused(f) => {
             let a = no_point(Kind::Refused(f));
             Outcome {
                 answer: a,
-                problem: p,
+                model: m,
             }
         }
     }
 }
 
-// The relaxation of the problem that a capacity, a list of items and needs make; the list is left in order where the problem is accepted.
-pub fn relax_with(capacity: i64, items: &mut [Item], ns: Needs) -> Answer
-    ensures { λ r. ⌜ Relaxes capacity ns (now (items .entry)) (now (items .exit)) r ⌝ }
+// The relaxation of the problem that a capacity, a list of items and terms make; the list is left in order where the problem is accepted.
+pub fn relax_with(capacity: i64, items: &mut [ModelItem], terms: Terms) -> Answer
+    ensures { λ r. ⌜ Relaxes capacity terms (now (items .entry)) (now (items .exit)) r ⌝ }
 {
     let len = items.len();
     let n = usable_of(len);
-    let mut m = opened(capacity, len, ns);
+    let mut q = opened(capacity, len, terms);
     let mut i: usize = 0;
     while i < n {
-        m = setters::with_item(m, i, items[i]);
+        q = with_next(q, i, items[i]);
         i += 1;
     }
-    let o = core(m);
+    let o = core(q);
     i = 0;
     while i < n {
         items[i] = nth(o, i);

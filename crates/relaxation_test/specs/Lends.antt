@@ -7,5 +7,5 @@ use Rattle.relaxation_test.specs.declared.lending.Sheet.{Sheet}
 use Rattle.relaxation_test.specs.declared.lending.Lent.{Lent}
 
 pub record Lends (s : Sheet) (r : Lent) : Type 0 where
-  pub lent : Relaxes (s .capacity) (s .needs) (take (s .count) (s .items)) (take (s .count) (r .items)) (r .answer)
+  pub lent : Relaxes (s .capacity) (s .terms) (take (s .count) (s .items)) (take (s .count) (r .items)) (r .answer)
   pub others : drop (s .count) (r .items) ≡ drop (s .count) (s .items)

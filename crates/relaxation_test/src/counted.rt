@@ -1,20 +1,24 @@
 // Drawn sheets, counted. The answer is held to plain enumeration of the record with its items continuous (trials::outcome says when
 // the two agree); the list afterwards to the order of paper 01; and the answer to the planner's for the marked record, which is of the
-// same kind and, where best, worth no more. A sheet on which one of the three fails is printed.
+// same kind and, where best, worth no more. So is the sheet with ranges drawn for its weights, in both senses. A sheet on which one of these fails is printed.
 use crate::lending::Lent;
 use crate::lending::Sheet;
 use crate::lending::relaxed;
 use crate::line::print_line;
 use crate::order::is_ordered;
+use crate::order::turned;
 use crate::sheets::DrawnSheet;
 use crate::sheets::drawn_sheet;
 use crate::sheets::large;
 use crate::sheets::loosened;
+use crate::sheets::ranged;
 use crate::sheets::record_of;
 use crate::sheets::with_drawn_lines;
 use knapsack::Answer;
+use model::Sense;
 use planner::plan;
 use trials::draw::Spans;
+use trials::draw::next;
 use trials::draw::small;
 use trials::enumerate::below;
 use trials::exact::as_signed;
@@ -22,6 +26,8 @@ use trials::outcome::Outcome;
 use trials::outcome::outcome_of;
 use trials::print::print;
 use trials::print::print_kind;
+use trials::print::size_of;
+use trials::ranges::at_ends;
 use trials::tally::Tally;
 use trials::tally::no_answers;
 use trials::tally::number_of;
@@ -69,17 +75,49 @@ fn print_wrong(s: Sheet, r: Lent, planned: Answer)
     print_line(s, r);
 }
 
+// ---- ranges
+
+fn orders(s: Sheet, r: Lent, n: usize, low: bool) -> bool
+    requires { ⌜ n ≤ 15 ⌝ }
+{
+    let list = s.items;
+    let now = r.items;
+    if low {
+        return is_ordered(turned(list), turned(now), n);
+    }
+    is_ordered(list, now, n)
+}
+
+// The sheet with ranges, relaxed in a sense, held to the record whose weights are known, each at that end, and the list to their order.
+fn holds_at(s: Sheet, n: usize, ends: u64) -> bool
+    requires { ⌜ (n ≤ 15) × (s .count ≤ 18) ⌝ }
+{
+    let r = relaxed(s);
+    let a = r.answer;
+    let o = outcome_of(loosened(at_ends(record_of(s), ends)), a, n, REACH, true);
+    o.agrees && orders(s, r, n, ends == 0)
+}
+
+fn senses_hold(s: Sheet, n: usize) -> bool
+    requires { ⌜ (n ≤ 15) × (s .count ≤ 18) ⌝ }
+{
+    let state = next(size_of(s.capacity));
+    let sure = ranged(s, state, Sense::Sure);
+    let possible = ranged(s, state, Sense::Possible);
+    holds_at(sure, n, 65535) && holds_at(possible, n, 0)
+}
+
 fn tried(t: Tally, s: Sheet, n: usize) -> Tally
     requires { ⌜ (n ≤ 15) × (s .count ≤ 18) ⌝ }
 {
     let p = record_of(s);
-    let planned = plan(p);
+    let planned = plan(p, Sense::Sure);
     let r = relaxed(s);
     let a = r.answer;
     let list = s.items;
     let now = r.items;
     let o = outcome_of(loosened(p), a, n, REACH, true);
-    let agrees = o.agrees && is_ordered(list, now, n) && is_above(a, planned);
+    let agrees = o.agrees && is_ordered(list, now, n) && is_above(a, planned) && senses_hold(s, n);
     if !agrees {
         print_wrong(s, r, planned);
     }

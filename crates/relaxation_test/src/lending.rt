@@ -1,24 +1,24 @@
 // The public entry over a lent list, called with the first items of a local array. This one function makes a reference to structs, and
 // is proved by hand; all others take a sheet by value.
 use knapsack::Answer;
-use knapsack::Item;
-use model::Needs;
+use model::ModelItem;
+use relaxation::Terms;
 use relaxation::relax_with;
 ghost use Prim.Native.Nat.{_≤_};
 ghost use Rattle.relaxation_test.specs.Lends.{Lends};
 
-// A capacity, a list, of which the first count items are lent, and needs.
+// A capacity, a list, of which the first count items are lent, and terms: the needs and the sense.
 pub struct Sheet {
-    pub items: [Item; 18],
+    pub items: [ModelItem; 18],
     pub count: usize,
     pub capacity: i64,
-    pub needs: Needs,
+    pub terms: Terms,
 }
 
 // What a call leaves: its answer, and the list as it stands afterwards.
 pub struct Lent {
     pub answer: Answer,
-    pub items: [Item; 18],
+    pub items: [ModelItem; 18],
 }
 
 pub fn relaxed(s: Sheet) -> Lent
@@ -27,7 +27,7 @@ pub fn relaxed(s: Sheet) -> Lent
 {
     let mut items = s.items;
     let n = s.count;
-    let answer = relax_with(s.capacity, &mut items[..n], s.needs);
+    let answer = relax_with(s.capacity, &mut items[..n], s.terms);
     Lent {
         answer: answer,
         items: items,

@@ -42,7 +42,8 @@ fn print_need(need: Need) {
 }
 
 fn print_needs(s: Sheet) {
-    let ns = s.needs;
+    let t = s.terms;
+    let ns = t.needs;
     let mut j: usize = 0;
     while j < 16 {
         let need = ns.lines[j];

@@ -1,7 +1,7 @@
 // The list afterwards: whether its items stand in the order of paper 01, and the number that each of them had.
 use knapsack::Bound;
-use knapsack::Item;
 use knapsack::Mark;
+use model::ModelItem;
 use trials::count::one_more;
 use trials::enumerate::below;
 use trials::exact::times;
@@ -46,7 +46,7 @@ fn same_mark(m: Mark, n: Mark) -> bool {
     !is_integer(n)
 }
 
-fn same_bounds(x: Item, y: Item) -> bool {
+fn same_bounds(x: ModelItem, y: ModelItem) -> bool {
     let l = x.lower;
     let m = y.lower;
     if !same_bound(l, m) {
@@ -57,13 +57,16 @@ fn same_bounds(x: Item, y: Item) -> bool {
     same_bound(u, v)
 }
 
-fn same_item(x: Item, y: Item) -> bool {
+fn same_item(x: ModelItem, y: ModelItem) -> bool {
     let m = x.mark;
     let n = y.mark;
     if !same_mark(m, n) {
         return false;
     }
-    if x.weight != y.weight {
+    if x.low != y.low {
+        return false;
+    }
+    if x.high != y.high {
         return false;
     }
     if x.price != y.price {
@@ -73,7 +76,7 @@ fn same_item(x: Item, y: Item) -> bool {
 }
 
 // Whether two lists are the same from a place on.
-fn same_from(a: [Item; 18], b: [Item; 18], from: usize) -> bool {
+fn same_from(a: [ModelItem; 18], b: [ModelItem; 18], from: usize) -> bool {
     let mut k = from;
     while k < 18 {
         let x = a[k];
@@ -94,26 +97,26 @@ struct Ratio {
     q: i64,
 }
 
-fn ratio_of(x: Item) -> Ratio {
-    if x.weight < 0 {
+fn ratio_of(x: ModelItem) -> Ratio {
+    if x.high < 0 {
         return Ratio {
             p: times(x.price, -1),
-            q: times(x.weight, -1),
+            q: times(x.high, -1),
         };
     }
     Ratio {
         p: x.price,
-        q: x.weight,
+        q: x.high,
     }
 }
 
 // Whether x, at place i, comes before y, at place j: falling ratios, equals by number, weight 0 last by number.
-fn comes_first(x: Item, i: usize, y: Item, j: usize) -> bool {
-    if x.weight == 0 && y.weight == 0 {
+fn comes_first(x: ModelItem, i: usize, y: ModelItem, j: usize) -> bool {
+    if x.high == 0 && y.high == 0 {
         return i < j;
     }
-    if x.weight == 0 || y.weight == 0 {
-        return y.weight == 0;
+    if x.high == 0 || y.high == 0 {
+        return y.high == 0;
     }
     let r = ratio_of(x);
     let s = ratio_of(y);
@@ -124,7 +127,7 @@ fn comes_first(x: Item, i: usize, y: Item, j: usize) -> bool {
 }
 
 // How many of the first n items come before x, which is at place i.
-fn rank_of(list: [Item; 18], n: usize, x: Item, i: usize) -> u64
+fn rank_of(list: [ModelItem; 18], n: usize, x: ModelItem, i: usize) -> u64
     requires { ⌜ n ≤ 18 ⌝ }
 {
     let mut rank: u64 = 0;
@@ -137,7 +140,7 @@ fn rank_of(list: [Item; 18], n: usize, x: Item, i: usize) -> u64
     rank
 }
 
-fn stands_at(list: [Item; 18], place: u64, x: Item) -> bool {
+fn stands_at(list: [ModelItem; 18], place: u64, x: ModelItem) -> bool {
     if place > 17 {
         return false;
     }
@@ -145,8 +148,34 @@ fn stands_at(list: [Item; 18], place: u64, x: Item) -> bool {
     same_item(x, y)
 }
 
+fn turned_item(x: ModelItem) -> ModelItem {
+    let m = x.mark;
+    let l = x.lower;
+    let u = x.upper;
+    ModelItem {
+        mark: m,
+        low: x.high,
+        high: x.low,
+        price: x.price,
+        lower: l,
+        upper: u,
+    }
+}
+
+// The list with low and high weights exchanged: the order is told by the high ones.
+pub fn turned(list: [ModelItem; 18]) -> [ModelItem; 18] {
+    let mut now = list;
+    let mut k: usize = 0;
+    while k < 18 {
+        let x = list[k];
+        now[k] = turned_item(x);
+        k += 1;
+    }
+    now
+}
+
 // Whether each of the first n items stands now where its rank puts it, and the others where they stood.
-pub fn is_ordered(list: [Item; 18], now: [Item; 18], n: usize) -> bool
+pub fn is_ordered(list: [ModelItem; 18], now: [ModelItem; 18], n: usize) -> bool
     requires { ⌜ n ≤ 18 ⌝ }
 {
     let mut k: usize = 0;
@@ -174,7 +203,7 @@ fn none_found() -> Found {
 }
 
 // The first item of the list that is the given one and has not been found before; 18 where there is none.
-fn place_of(list: [Item; 18], f: Found, x: Item) -> usize {
+fn place_of(list: [ModelItem; 18], f: Found, x: ModelItem) -> usize {
     let found = f.places;
     let mut k: usize = 0;
     while k < 18 {
@@ -208,7 +237,7 @@ fn print_place(k: usize) {
 }
 
 // The number that each item had, in the order in which the list stands.
-pub fn print_order(list: [Item; 18], now: [Item; 18], n: usize)
+pub fn print_order(list: [ModelItem; 18], now: [ModelItem; 18], n: usize)
     requires { ⌜ n ≤ 18 ⌝ }
 {
     print(b"; order");
@@ -226,7 +255,7 @@ pub fn print_order(list: [Item; 18], now: [Item; 18], n: usize)
     }
 }
 
-pub fn print_untouched(list: [Item; 18], now: [Item; 18]) {
+pub fn print_untouched(list: [ModelItem; 18], now: [ModelItem; 18]) {
     if same_from(list, now, 0) {
         print(b"; list untouched");
     } else {

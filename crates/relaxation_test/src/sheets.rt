@@ -1,11 +1,14 @@
 // Sheets made by hand or drawn, their records, and the relaxations of these.
 use crate::lending::Sheet;
-use knapsack::Item;
-use knapsack::blank_item;
 use model::Model;
+use model::ModelItem;
 use model::Need;
+use model::Needs;
+use model::Sense;
 use model::naming::no_needs;
+use model::no_item;
 use model::setters;
+use relaxation::Terms;
 use trials::draw::Spans;
 use trials::draw::drawn_capacity;
 use trials::draw::drawn_item;
@@ -13,12 +16,22 @@ use trials::draw::next;
 use trials::make::held;
 use trials::make::loose;
 use trials::needs::with_drawn_needs;
+use trials::ranges::with_drawn_ranges;
 ghost use Prim.Native.Nat.{_≤_};
 
 // ---- sheets made by hand
 
+// No needs, and the sure sense.
+fn plain_terms() -> Terms {
+    let needs = no_needs();
+    Terms {
+        needs: needs,
+        sense: Sense::Sure,
+    }
+}
+
 // Behind the items that are lent stand others.
-pub fn with_items(capacity: i64, count: usize, x: Item, y: Item, z: Item) -> Sheet
+pub fn with_items(capacity: i64, count: usize, x: ModelItem, y: ModelItem, z: ModelItem) -> Sheet
     requires { ⌜ count ≤ 18 ⌝ }
     ensures { λ r. ⌜ r .count ≤ 18 ⌝ }
 {
@@ -27,12 +40,20 @@ pub fn with_items(capacity: i64, count: usize, x: Item, y: Item, z: Item) -> She
     items[0] = x;
     items[1] = y;
     items[2] = z;
-    let needs = no_needs();
+    let terms = plain_terms();
     Sheet {
         items: items,
         count: count,
         capacity: capacity,
+        terms: terms,
+    }
+}
+
+fn with_terms(t: Terms, needs: Needs) -> Terms {
+    let sense = t.sense;
+    Terms {
         needs: needs,
+        sense: sense,
     }
 }
 
@@ -43,31 +64,32 @@ pub fn with_need(s: Sheet, count: usize, k: usize, m: usize) -> Sheet
 {
     let need = Need { item: k, cover: m };
     let mut r = s;
-    let mut ns = r.needs;
+    let t = r.terms;
+    let mut ns = t.needs;
     let j = ns.count;
     if j < 16 {
         ns.lines[j] = need;
     }
     ns.count = count;
-    r.needs = ns;
+    r.terms = with_terms(t, ns);
     r
 }
 
-pub fn one(capacity: i64, x: Item) -> Sheet
+pub fn one(capacity: i64, x: ModelItem) -> Sheet
     ensures { λ r. ⌜ r .count ≤ 18 ⌝ }
 {
-    let blank = blank_item();
+    let blank = no_item();
     with_items(capacity, 1, x, blank, blank)
 }
 
-pub fn two(capacity: i64, x: Item, y: Item) -> Sheet
+pub fn two(capacity: i64, x: ModelItem, y: ModelItem) -> Sheet
     ensures { λ r. ⌜ r .count ≤ 18 ⌝ }
 {
-    let blank = blank_item();
+    let blank = no_item();
     with_items(capacity, 2, x, y, blank)
 }
 
-pub fn three(capacity: i64, x: Item, y: Item, z: Item) -> Sheet
+pub fn three(capacity: i64, x: ModelItem, y: ModelItem, z: ModelItem) -> Sheet
     ensures { λ r. ⌜ r .count ≤ 18 ⌝ }
 {
     with_items(capacity, 3, x, y, z)
@@ -99,7 +121,7 @@ pub fn drawn_sheet(state: u64, count: usize, z: Spans) -> DrawnSheet
     requires { ⌜ count ≤ 18 ⌝ }
     ensures { λ r. ⌜ r .sheet .count ≤ 18 ⌝ }
 {
-    let blank = blank_item();
+    let blank = no_item();
     let mut items = [blank; 18];
     let mut now = next(state);
     let capacity = drawn_capacity(now, z);
@@ -111,12 +133,12 @@ pub fn drawn_sheet(state: u64, count: usize, z: Spans) -> DrawnSheet
         now = d.state;
         k += 1;
     }
-    let needs = no_needs();
+    let terms = plain_terms();
     let s = Sheet {
         items: items,
         count: count,
         capacity: capacity,
-        needs: needs,
+        terms: terms,
     };
     DrawnSheet {
         sheet: s,
@@ -129,7 +151,7 @@ pub fn drawn_sheet(state: u64, count: usize, z: Spans) -> DrawnSheet
 // The sheet as a record; it has the first 16 items.
 pub fn record_of(s: Sheet) -> Model {
     let list = s.items;
-    let blank = blank_item();
+    let blank = no_item();
     let mut items = [blank; 16];
     let mut k: usize = 0;
     while k < 16 {
@@ -147,6 +169,8 @@ fn with_record(s: Sheet, m: Model) -> Sheet
 {
     let list = m.items;
     let needs = m.needs;
+    let t = s.terms;
+    let terms = with_terms(t, needs);
     let mut items = s.items;
     let mut k: usize = 0;
     while k < 16 {
@@ -158,7 +182,7 @@ fn with_record(s: Sheet, m: Model) -> Sheet
         items: items,
         count: s.count,
         capacity: s.capacity,
-        needs: needs,
+        terms: terms,
     }
 }
 
@@ -177,8 +201,34 @@ pub fn with_drawn_lines(d: DrawnSheet, among: u64) -> DrawnSheet
     }
 }
 
+fn with_sense(s: Sheet, sense: Sense) -> Sheet
+    requires { ⌜ s .count ≤ 18 ⌝ }
+    ensures { λ r. ⌜ r .count ≤ 18 ⌝ }
+{
+    let t = s.terms;
+    let needs = t.needs;
+    let mut r = s;
+    let terms = Terms {
+        needs: needs,
+        sense: sense,
+    };
+    r.terms = terms;
+    r
+}
+
+// The sheet with ranges drawn for its weights, and a sense (paper 02, request 11).
+pub fn ranged(s: Sheet, state: u64, sense: Sense) -> Sheet
+    requires { ⌜ s .count ≤ 18 ⌝ }
+    ensures { λ r. ⌜ r .count ≤ 18 ⌝ }
+{
+    let d = with_drawn_ranges(record_of(s), state, 1, 4);
+    let m = d.problem;
+    with_sense(with_record(s, m), sense)
+}
+
 fn with_needs_of(p: Model, s: Sheet) -> Model {
-    let needs = s.needs;
+    let t = s.terms;
+    let needs = t.needs;
     setters::with_needs(p, needs)
 }
 
@@ -207,7 +257,7 @@ fn is_named(p: Model, k: usize) -> bool {
 }
 
 // The item at a place, continuous unless a need names it.
-fn relaxed_item(p: Model, k: usize) -> Item
+fn relaxed_item(p: Model, k: usize) -> ModelItem
     requires { ⌜ k ≤ 15 ⌝ }
 {
     let x = p.items[k];

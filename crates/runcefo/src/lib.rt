@@ -3,12 +3,16 @@
 // pointer has as many bytes behind it as the length beside it says.
 use converter::convert;
 use knapsack::Verdict;
+use model::Model;
+use model::Sense;
 use model::plain_of;
+use model::some_range;
 use planner::solve_needs;
 use replies::list_sheet;
 use sheet::Reading;
 use sheet::read;
 use solver::STEPS;
+use solver::Solved;
 use text::Listed;
 use text::ROOM;
 use writer::rewrite_sheet;
@@ -16,10 +20,10 @@ ghost use mathlib.Core.Path.{_≡_};
 ghost use Rattle.converter.specs.Converting.{conversion, cleared};
 ghost use Rattle.knapsack.specs.declared.Verdict.the-variants.{Accepted};
 ghost use Rattle.listing.specs.Printing.{room};
-ghost use Rattle.model.specs.Records.{plainOf};
-ghost use Rattle.planner.specs.Branching.{Needed};
+ghost use Rattle.model.specs.Records.{Admissible};
 ghost use Rattle.sheet.specs.Reading.{readSheet};
-ghost use Rattle.runcefo.specs.Entries.{toldNumber, toldLine, lengthOf, listedVerdict, Plans, Steps, Cells, saved, left};
+ghost use Rattle.model.specs.Records.{someRange};
+ghost use Rattle.runcefo.specs.Entries.{toldNumber, toldLine, lengthOf, listedVerdict, Plans, Solves, Besides, Steps, Cells, saved, left};
 
 // 01's number of a refusal, 0 where there is none.
 fn told_number(v: Verdict) -> u64
@@ -67,20 +71,44 @@ pub struct Work {
     pub cells: u64,
 }
 
-// The work for what was read.
+// The answer in a sense, with its work.
+fn solved_in(m: Model, sense: Sense) -> Solved
+    requires { ⌜ Admissible m ⌝ }
+    ensures { λ r. ⌜ Solves sense m r ⌝ }
+{
+    let ns = m.needs;
+    solve_needs(plain_of(m, sense), ns, STEPS)
+}
+
+// The work for the possible reply: where every weight is one figure it is the sure one, and none is done.
+fn work_besides(m: Model) -> Work
+    requires { ⌜ Admissible m ⌝ }
+    ensures { λ w. ⌜ Besides (λ s. s .steps) m (someRange m) (w .steps) × Besides (λ s. s .cells) m (someRange m) (w .cells) ⌝ }
+{
+    if some_range(m) {
+        let b = solved_in(m, Sense::Possible);
+        return Work {
+            steps: b.steps,
+            cells: b.cells,
+        };
+    }
+    Work { steps: 0, cells: 0 }
+}
+
+// The work for what was read, for both replies.
 fn work_of(r: Reading) -> Work
-    requires { ⌜ (r .verdict ≡ Accepted → Needed (plainOf (r .model)) (r .model .needs)) ⌝ }
+    requires { ⌜ (r .verdict ≡ Accepted → Admissible (r .model)) ⌝ }
     ensures { λ w. ⌜ Steps r (w .steps) × Cells r (w .cells) ⌝ }
 {
     let v = r.verdict;
     let m = r.model;
     match v {
         Verdict::Accepted => {
-            let ns = m.needs;
-            let q = solve_needs(plain_of(m), ns, STEPS);
+            let a = solved_in(m, Sense::Sure);
+            let b = work_besides(m);
             Work {
-                steps: q.steps,
-                cells: q.cells,
+                steps: a.steps + b.steps,
+                cells: a.cells + b.cells,
             }
         }
         Verdict::Refused(_) => Work { steps: 0, cells: 0 },

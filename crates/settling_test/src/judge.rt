@@ -1,8 +1,8 @@
 // A place against plain enumeration, which has nothing of the planner: the problem with its whole amounts fixed there is worth as much as the
 // problem.
 use knapsack::Bound;
-use knapsack::Item;
 use model::Model;
+use model::ModelItem;
 use trials::enumerate::Best;
 use trials::enumerate::below;
 use trials::enumerate::best_value;
@@ -28,17 +28,18 @@ fn is_below(b: Bound, v: i64) -> bool {
     }
 }
 
-fn keeps(x: Item, v: i64) -> bool {
+fn keeps(x: ModelItem, v: i64) -> bool {
     let l = x.lower;
     let u = x.upper;
     is_above(l, v) && is_below(u, v)
 }
 
-fn fixed_item(x: Item, v: i64) -> Item {
+fn fixed_item(x: ModelItem, v: i64) -> ModelItem {
     let m = x.mark;
-    Item {
+    ModelItem {
         mark: m,
-        weight: x.weight,
+        low: x.low,
+        high: x.high,
         price: x.price,
         lower: Bound::At(v),
         upper: Bound::At(v),

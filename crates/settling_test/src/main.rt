@@ -10,6 +10,7 @@ use judge::agrees;
 use knapsack::Problem;
 use knapsack::Verdict;
 use model::Model;
+use model::Sense;
 use prepare::prepare;
 use setting::Setting;
 use setting::fixed;
@@ -219,7 +220,7 @@ fn tried(t: Tally, m: Model, n: usize, cells: &mut [u64]) -> Tally
 {
     let v = model::check_model(m);
     match v {
-        Verdict::Accepted => answered(t, model::plain_of(m), m, n, cells),
+        Verdict::Accepted => answered(t, model::plain_of(m, Sense::Sure), m, n, cells),
         Verdict::Refused(_) => passed_over(t, false),
     }
 }

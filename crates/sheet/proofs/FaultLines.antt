@@ -24,7 +24,7 @@ use Rattle.model.specs.declared.Model.{Model}
 use Rattle.model.specs.declared.Side.{Side}
 use Rattle.model.specs.declared.Side.the-variants.{Lower, Upper}
 use Rattle.model.specs.Refusals as refusal
-use Rattle.model.specs.Records.{emptyModel}
+use Rattle.model.specs.Records.{emptyModel, itemAt}
 use Rattle.model.specs.Setters.{withCount, withNeedCount}
 use Rattle.text.specs.Decimal.{decimal, integer}
 use Rattle.text.specs.Layout.{field, line}
@@ -41,10 +41,14 @@ use Rattle.lines.proofs.Places.{endsFrom, ends-past, ends-before, ends-none, cl
 use Rattle.lines.proofs.Standing.{Has, Bytes, count-has}
 use Rattle.sheet.specs.declared.Progress.{Progress}
 use Rattle.sheet.specs.declared.Reading.{Reading}
-use Rattle.sheet.specs.Sections.{goesOn, refusedAt, onward, onCount, Gives, fault, gives, LineForm, taken, stepOf, linesOf, sectionOf}
+use Rattle.sheet.specs.Sections.{goesOn, stoppedBy, refusedAt, onward, onCount, Gives, fault, gives, LineForm, taken, stepOf, linesOf, sectionOf}
 use Rattle.sheet.specs.Reading.{limit, items, wordOf, needs, limitForm, itemFormBy, boundForm, needForm, limitSection, itemsSection, boundsSection}
+use Rattle.sheet.specs.Reading.{firstRanged, rangedAt, rangesOf}
 use Rattle.sheet.specs.Reading.{needsSection, endOfSheet, headOf, lowerOf, upperOf, lastOf, wholeOf, readSheetBy}
 use Rattle.sheet.proofs.Sections.{Laws, no-refusal}
+use Rattle.sheet.proofs.Ranged.{ranged-most}
+use Rattle.sheet.proofs.LineEnds.{line-start}
+use Rattle.sheet.proofs.Sheets.{ended, sheet-ends}
 use Rattle.sheet.proofs.Forms.{limit-laws, item-laws, bound-laws, need-laws}
 
 -- ---- places where a line begins
@@ -190,7 +194,7 @@ limit-reached s = section-reached limitForm _ limit-laws (λ b. line-closes (int
 head-reached : (kind : Blanks) (s : List ℕ) → Reached s (headOf kind s)
 unfolding headOf itemsSection
 head-reached kind s = section-reached (itemFormBy kind) _ (item-laws kind)
-    (λ i. line-closes (markByte (i .mark) ∷ []) (integer (i .weight) ∷ integer (i .price) ∷ [])) s
+    (λ i. line-closes (markByte (i .mark) ∷ []) (integer (i .low) ∷ integer (i .high) ∷ integer (i .price) ∷ [])) s
     items 1 16 (λ n. withCount (limitSection s .model) n) (limitSection s)
     (lit< tt, (lit< tt, (lit< tt, (lit< tt, (lit< tt, tt))))) (limit-reached s)
 
@@ -204,14 +208,36 @@ last-reached kind s = section-reached needForm _ need-laws (λ b. line-closes (i
     needs 0 16 (λ n. withNeedCount (upperOf kind s .model) n) (upperOf kind s)
     (lit< tt, (lit< tt, (lit< tt, (lit< tt, (lit< tt, tt))))) (upper-reached kind s)
 
-whole-reached : (kind : Blanks) (s : List ℕ) → Reached s (wholeOf kind s)
-unfolding wholeOf endOfSheet
-whole-reached kind s = onward-reached s (lastOf kind s) _ (last-reached kind s) (λ v h. go (ltb (lastOf kind s .at) (length s)) v h)
+end-reached : (kind : Blanks) (s : List ℕ) → Reached s (endOfSheet s (lastOf kind s))
+unfolding endOfSheet
+end-reached kind s = onward-reached s (lastOf kind s) _ (last-reached kind s) (λ v h. go (ltb (lastOf kind s .at) (length s)) v h)
   where
     go : (b : Bool) → lastOf kind s .verdict ≡ Accepted → Starts s (met s (lastOf kind s .at)) →
         Reached s (cond b (refusedAt s refusal.form (lastOf kind s .at)) (lastOf kind s))
     go true v h = off refusal.form (lastOf kind s .at) h
     go false v h = on (lastOf kind s) v h
+
+-- the line of an item begins where so many lines have ended
+line-reached : (s : List ℕ) (n k : ℕ) → 3 + k ≤ ends s → Reached s (stoppedBy (refusalOn n (3 + suc k)))
+line-reached s n k h =
+    let b = line-start s (3 + k) h in
+    let e : met s (b .at) ≡ b .at = omega (arith, b .within) in
+    let starts : Starts s (met s (b .at)) = rw e (record { within = b .within; behind = b .closed }) in
+    let l : lineAt s (b .at) ≡ 3 + suc k = omega (arith, b .counted) in
+    subst (λ i. Reached s (stoppedBy (refusalOn n i))) l (off n (b .at) starts)
+
+whole-reached : (kind : Blanks) (s : List ℕ) → Reached s (wholeOf kind s)
+unfolding wholeOf rangesOf
+whole-reached kind s = onward-reached s (endOfSheet s (lastOf kind s)) _ (end-reached kind s) (λ v h.
+    let t = ended s (lastOf kind s) v in
+    let p = endOfSheet s (lastOf kind s) in
+    let few : 3 + p .model .count ≤ ends s = rw (t .is) (sheet-ends kind s (t .before)) in
+    go p (firstRanged (p .model .count) (itemAt (p .model))) v h few (ranged-most (itemAt (p .model)) (p .model .count)))
+  where
+    go : (p : Progress) (k : ℕ) → p .verdict ≡ Accepted → Starts s (met s (p .at)) → 3 + p .model .count ≤ ends s → k ≤ p .model .count →
+        Reached s (rangedAt k p)
+    go p zero v h few l = on p v h
+    go p (suc k) v h few l = line-reached s refusal.ranged-item k (omega arith)
 
 -- ---- the line that is told
 

@@ -1,7 +1,7 @@
 -- The sheet's four forms of line keep the laws of a form: limit-laws, item-laws, bound-laws, need-laws.
 --   LimitFits, Bare, BoundFits, NeedFits    what a line's value must be where it is read; of an item also by what becomes of blank ones
 -- barred-bare: whether an item is barred is told by its line. bare-same: a bare item is what its line gives.
--- bare-of, fair-side: an item in range is bare without its bounds, which are in range.
+-- fair-of, bare-of, fair-side: an item in range is bare without its bounds, which are in range.
 use mathlib.Core.Path.{_≡_, refl, sym, ap, _∙_}
 use mathlib.Core.Bool.{Bool, true, false, cond}
 use mathlib.Core.List.{List, [], _∷_, append-assoc}
@@ -13,13 +13,13 @@ use lib.IntN.{ℤ, pos, negsuc}
 use lib.Signed.{_≤ℤ_}
 use Rattle.knapsack.specs.declared.Bound.{Bound}
 use Rattle.knapsack.specs.declared.Bound.the-variants.{Absent, At}
-use Rattle.knapsack.specs.declared.Item.{Item}
 use Rattle.model.specs.declared.Blanks.{Blanks}
 use Rattle.model.specs.declared.Blanks.the-variants as blanks
+use Rattle.model.specs.declared.ModelItem.{ModelItem}
 use Rattle.model.specs.declared.Need.{Need}
 use Rattle.model.specs.declared.Side.{Side}
 use Rattle.model.specs.declared.Side.the-variants.{Lower, Upper}
-use Rattle.model.specs.Records.{itemAt, outside, badBound, badFigure, barred, badLine, unfitLine, lineBefore}
+use Rattle.model.specs.Records.{itemAt, outside, badBound, badWeights, badFigure, isReversed, barred, badLine, unfitLine, lineBefore}
 use Rattle.model.specs.Refusals as refusal
 use Rattle.model.proofs.Tests.{neither}
 use Rattle.text.specs.Decimal.{integer}
@@ -78,45 +78,61 @@ limit-laws = record {
 
 -- ---- items
 
--- an item as it is read: figures in range, not barred, no bounds
-pub record Bare (blanks : Blanks) (i : Item) : Type 0 where
-  pub weight : outside 1000 (i .weight) ≡ false
+-- an item as it is read: figures in range, the weights in order, not barred, no bounds
+pub record Bare (blanks : Blanks) (i : ModelItem) : Type 0 where
+  pub low : outside 1000 (i .low) ≡ false
+  pub high : outside 1000 (i .high) ≡ false
   pub price : outside 10000 (i .price) ≡ false
+  pub ordered : isReversed i ≡ false
   pub unbarred : barred blanks i ≡ false
   pub lower : i .lower ≡ Absent
   pub upper : i .upper ≡ Absent
 
-pub barred-bare : (kind : Blanks) (i : Item) → barred kind (bareOf i) ≡ barred kind i
+pub barred-bare : (kind : Blanks) (i : ModelItem) → barred kind (bareOf i) ≡ barred kind i
 barred-bare blanks.Refused i = refl
 barred-bare blanks.Kept i = refl
 
-pub bare-same : {kind : Blanks} (i : Item) → Bare kind i → bareOf i ≡ i
-bare-same i b = sym (let e : i ≡ record { mark = i .mark; weight = i .weight; price = i .price; lower = i .lower; upper = i .upper } = refl in
+pub bare-same : {kind : Blanks} (i : ModelItem) → Bare kind i → bareOf i ≡ i
+bare-same i b =
+    sym (let e : i ≡ record { mark = i .mark; low = i .low; high = i .high; price = i .price; lower = i .lower; upper = i .upper } = refl in
     e ∙ rw (b .lower, b .upper))
 
-pub bare-of : (kind : Blanks) (i : Item) → badFigure i ≡ false → barred kind i ≡ false → Bare kind (bareOf i)
-bare-of kind i h u =
-    let w = neither (outside 1000 (i .weight)) _ h in
-    let c = neither (outside 10000 (i .price)) _ (w .1) in
-    record { weight = w .0; price = c .0; unbarred = barred-bare kind i ∙ u; lower = refl; upper = refl }
+-- an item's figures one by one
+pub record Fair (i : ModelItem) : Type 0 where
+  pub low : outside 1000 (i .low) ≡ false
+  pub high : outside 1000 (i .high) ≡ false
+  pub price : outside 10000 (i .price) ≡ false
+  pub lower : badBound (i .lower) ≡ false
+  pub upper : badBound (i .upper) ≡ false
 
-pub fair-side : (side : Side) (i : Item) → badFigure i ≡ false → badBound (sideOf side i) ≡ false
-fair-side side i h =
-    let w = neither (outside 1000 (i .weight)) _ h in
+pub fair-of : (i : ModelItem) → badFigure i ≡ false → Fair i
+fair-of i h =
+    let w = neither (badWeights i) _ h in
+    let a = neither (outside 1000 (i .low)) _ (w .0) in
     let c = neither (outside 10000 (i .price)) _ (w .1) in
-    go side (neither (badBound (i .lower)) _ (c .1))
-  where
-    go : (side : Side) → (badBound (i .lower) ≡ false) × (badBound (i .upper) ≡ false) → badBound (sideOf side i) ≡ false
-    go Lower b = b .0
-    go Upper b = b .1
+    let b = neither (badBound (i .lower)) _ (c .1) in
+    record { low = a .0; high = a .1; price = c .0; lower = b .0; upper = b .1 }
 
-item-bare : (kind : Blanks) (s : List ℕ) (at : ℕ) (i : Item) (n : ℕ) → itemRead s at ≡ ItemIs i n → barred kind i ≡ false → Bare kind i
+pub bare-of : (kind : Blanks) (i : ModelItem) → badFigure i ≡ false → isReversed i ≡ false → barred kind i ≡ false → Bare kind (bareOf i)
+bare-of kind i h o u =
+    let f = fair-of i h in
+    record { low = f .low; high = f .high; price = f .price; ordered = o; unbarred = barred-bare kind i ∙ u; lower = refl; upper = refl }
+
+pub fair-side : (side : Side) (i : ModelItem) → badFigure i ≡ false → badBound (sideOf side i) ≡ false
+fair-side Lower i h = fair-of i h .lower
+fair-side Upper i h = fair-of i h .upper
+
+item-bare : (kind : Blanks) (s : List ℕ) (at : ℕ) (i : ModelItem) (n : ℕ) → itemRead s at ≡ ItemIs i n → barred kind i ≡ false → Bare kind i
 item-bare kind s at i n h u =
     let p = item-parts s at i n h in
-    let r = numbers-range weights prices s (p .next) (i .weight) (i .price) n (p .numbers) in
+    let f = p .figures in
+    let a = field-range 32 weights s (p .next) (i .low) (f .next) (f .first) in
+    let r = numbers-range weights prices s (f .next) (i .high) (i .price) n (f .others) in
     record {
-      weight = within-range 999 (i .weight) (r .0 .0) (r .0 .1);
+      low = within-range 999 (i .low) (a .0) (a .1);
+      high = within-range 999 (i .high) (r .0 .0) (r .0 .1);
       price = within-range 9999 (i .price) (r .1 .0) (r .1 .1);
+      ordered = p .fair;
       unbarred = u;
       lower = p .lower;
       upper = p .upper;
@@ -126,11 +142,11 @@ pub item-laws : (kind : Blanks) → Laws (itemFormBy kind) (λ p i. Bare kind i)
 item-laws kind = record {
   has = λ s p i n h. has s p i n (itemRead s (p .at)) refl h;
   reads = λ s p i l f h.
-      let r = item-reads s (p .at) i l (f .weight) (f .price) h in
+      let r = item-reads s (p .at) i l (f .low) (f .high) (f .price) (f .ordered) h in
       (r .0, ap (itemGives kind) (r .1 ∙ ap (λ j. ItemIs j (r .0)) (bare-same i f)) ∙ rw (f .unbarred), r .2);
 }
   where
-    has : (s : List ℕ) (p : Progress) (i : Item) (n : ℕ) (x : ItemRead) → itemRead s (p .at) ≡ x → itemGives kind x ≡ gives i n →
+    has : (s : List ℕ) (p : Progress) (i : ModelItem) (n : ℕ) (x : ItemRead) → itemRead s (p .at) ≡ x → itemGives kind x ≡ gives i n →
         Bare kind i × Has s (p .at) (itemText i) n
     has s p i n (ItemFault k) e h = no-value h
     has s p i n (ItemIs j k) e h = go (barred kind j) refl h

@@ -1,4 +1,4 @@
--- The printing of a record in range is shorter than a sheet may be: printing-short, by 1,275 bytes at most.
+-- The printing of a record in range is shorter than a sheet may be: printing-short, by 1,451 bytes at most.
 use mathlib.Core.Path.{_≡_, refl}
 use mathlib.Core.Bool.{false}
 use mathlib.Core.List.{List, [], _∷_, _++_}
@@ -10,10 +10,9 @@ use lib.ListN.{length, length-append}
 use Rattle.arith.specs.Sum.{Each}
 use Rattle.knapsack.specs.declared.Bound.{Bound}
 use Rattle.knapsack.specs.declared.Bound.the-variants.{Absent, At}
-use Rattle.knapsack.specs.declared.Item.{Item}
 use Rattle.model.specs.declared.Blanks.{Blanks}
-use Rattle.model.specs.declared.Blanks.the-variants as blanks
 use Rattle.model.specs.declared.Model.{Model}
+use Rattle.model.specs.declared.ModelItem.{ModelItem}
 use Rattle.model.specs.declared.Side.{Side}
 use Rattle.model.specs.declared.Side.the-variants.{Lower, Upper}
 use Rattle.model.specs.declared.Need.{Need}
@@ -26,7 +25,7 @@ use Rattle.lines.specs.Layout.{headingText, itemText, boundWord, Bounding, boun
 use Rattle.sheet.specs.Sections.{LineForm, linesText, sectionText}
 use Rattle.sheet.specs.Reading.{limit, items, wordOf, needs, limitForm, itemForm, boundForm, needForm}
 use Rattle.sheet.specs.Printing.{upTo, boundAt, boundingAt, sideText, needsText, printing}
-use Rattle.sheet.proofs.Forms.{bare-of, fair-side}
+use Rattle.sheet.proofs.Forms.{fair-of, fair-side}
 use Rattle.sheet.proofs.Making.{upto-length}
 
 -- ---- lines
@@ -37,11 +36,12 @@ number-short n z h e = integer-length 8 z (omega (arith, ltb-false n (natAbs z) 
 heading-short : (w : List ℕ) (n : ℕ) → length w ≡ 5 → n ≤ 16 → length (headingText w n) ≤ 16
 heading-short w n e h = simp length-append (omega (arith, decimal-length 8 n (omega arith)))
 
-pub item-short : (i : Item) → badFigure i ≡ false → length (itemText i) ≤ 24
+pub item-short : (i : ModelItem) → badFigure i ≡ false → length (itemText i) ≤ 35
 item-short i h =
-    let b = bare-of blanks.Kept i h refl in
-    let w = number-short 1000 (i .weight) (omega arith) (b .weight) in
-    let c = number-short 10000 (i .price) (omega arith) (b .price) in
+    let f = fair-of i h in
+    let a = number-short 1000 (i .low) (omega arith) (f .low) in
+    let b = number-short 1000 (i .high) (omega arith) (f .high) in
+    let c = number-short 10000 (i .price) (omega arith) (f .price) in
     simp length-append (omega arith)
 
 bound-word-short : (b : Bound) → badBound b ≡ false → length (boundWord b) ≤ 10
@@ -77,7 +77,7 @@ section-short : {A : Type 0} (f : LineForm A) (w : List ℕ) (c : ℕ) (vs : Lis
 section-short f w c vs e n h =
     omega (arith, length-append (headingText w (length vs)) (linesText (f .text) vs), heading-short w (length vs) e n, lines-short (f .text) c vs h)
 
-items-short : (n : ℕ) (f : ℕ → Item) → Each n (λ k. badFigure (f k) ≡ false) → Short itemText 24 (upTo n f)
+items-short : (n : ℕ) (f : ℕ → ModelItem) → Each n (λ k. badFigure (f k) ≡ false) → Short itemText 35 (upTo n f)
 unfolding upTo
 items-short zero f h = tt
 items-short (suc n) f h = (item-short (f n) (h n (omega arith)), items-short n f (λ k l. h k (omega arith)))
@@ -119,7 +119,7 @@ need-section-short m r =
     let s = section-short needForm needs 6 (upTo (m .needs .count) (needAt (m .needs))) refl (omega (arith, r .few-needs)) short in
     omega (arith, r .few-needs)
 
-pub printing-short : {kind : Blanks} (m : Model) → Unfaulted kind m → length (printing m) ≤ 1275
+pub printing-short : {kind : Blanks} (m : Model) → Unfaulted kind m → length (printing m) ≤ 1451
 unfolding printing
 printing-short m r =
     let b = number-short 100000000 (m .capacity) (omega arith) (r .capacity) in
@@ -127,7 +127,7 @@ printing-short m r =
     let l = section-short limitForm limit 11 (m .capacity ∷ []) refl (omega arith) (one, tt) in
     let few = upto-length (m .count) (itemAt m) in
     let short = items-short (m .count) (itemAt m) (r .figures) in
-    let i = section-short itemForm items 24 (upTo (m .count) (itemAt m)) refl (omega (arith, r .most)) short in
+    let i = section-short itemForm items 35 (upTo (m .count) (itemAt m)) refl (omega (arith, r .most)) short in
     let x = simp length-append at (side-short Lower m r) in
     let y = simp length-append at (side-short Upper m r) in
     let z = simp length-append at (need-section-short m r) in

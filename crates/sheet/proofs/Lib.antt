@@ -1,7 +1,9 @@
 pub mod Sections
+pub mod Ranged
 pub mod Forms
 pub mod Making
 pub mod Steps
 pub mod Lengths
+pub mod LineEnds
 pub mod Sheets
 pub mod FaultLines

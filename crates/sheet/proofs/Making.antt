@@ -16,20 +16,19 @@ use lib.IntN.{ℤ, pos}
 use lib.ListN.{length, getD, set, replicate, length-set, length-replicate, getD-replicate, List·getD-eq-default}
 use lib.Seq.{getD-set-same, getD-set-other}
 use Rattle.arith.specs.Sum.{Each}
-use Rattle.knapsack.specs.Ranges.{blank}
 use Rattle.knapsack.specs.declared.Bound.{Bound}
 use Rattle.knapsack.specs.declared.Bound.the-variants.{Absent}
-use Rattle.knapsack.specs.declared.Item.{Item}
 use Rattle.knapsack.specs.declared.Verdict.{Verdict}
 use Rattle.knapsack.specs.declared.Verdict.the-variants.{Accepted}
 use Rattle.model.specs.declared.Blanks.{Blanks}
 use Rattle.model.specs.declared.Model.{Model}
+use Rattle.model.specs.declared.ModelItem.{ModelItem}
 use Rattle.model.specs.declared.Need.{Need}
 use Rattle.model.specs.declared.Needs.{Needs}
 use Rattle.model.specs.declared.Side.{Side}
 use Rattle.model.specs.declared.Side.the-variants.{Lower, Upper}
 use Rattle.model.specs.Needs.{noNeed, noNeeds}
-use Rattle.model.specs.Records.{emptyModel, itemAt, needAt, outside, badBound, badLine, unfitLine, lineBefore, refuse, refusedIf, orElse, needVerdict}
+use Rattle.model.specs.Records.{noItem, emptyModel, itemAt, needAt, outside, badBound, badLine, unfitLine, lineBefore, refuse, refusedIf, orElse, needVerdict}
 use Rattle.model.specs.Refusals as refusal
 use Rattle.model.specs.Setters.{withCapacity, withItem, bounded, withBound, withNeed}
 use Rattle.model.proofs.NeedLines.{before-next}
@@ -91,24 +90,24 @@ limit-next m vs p b n l i f = record { is = ap (λ q. withCapacity q b) (i .is);
 
 -- ---- items
 
-pub blanks : (k : ℕ) → getD (replicate 16 blank) k blank ≡ blank
+pub blanks : (k : ℕ) → getD (replicate 16 noItem) k noItem ≡ noItem
 blanks k = go (decLt k 16)
   where
-    go : Dec (k < 16) → getD (replicate 16 blank) k blank ≡ blank
-    go (yes l) = getD-replicate 16 k blank blank l
-    go (no l) = List·getD-eq-default (replicate 16 blank) blank {n = k} (omega (arith, length-replicate 16 blank))
+    go : Dec (k < 16) → getD (replicate 16 noItem) k noItem ≡ noItem
+    go (yes l) = getD-replicate 16 k noItem noItem l
+    go (no l) = List·getD-eq-default (replicate 16 noItem) noItem {n = k} (omega (arith, length-replicate 16 noItem))
 
-pub record ItemsIn (kind : Blanks) (b : ℤ) (m : ℕ) (vs : List Item) (p : Progress) : Type 0 where
+pub record ItemsIn (kind : Blanks) (b : ℤ) (m : ℕ) (vs : List ModelItem) (p : Progress) : Type 0 where
   pub listed : upTo (p .item) (itemAt (p .model)) ≡ vs
   pub bare : Each (p .item) (λ k. Bare kind (itemAt (p .model) k))
-  pub rest : (k : ℕ) → p .item ≤ k → itemAt (p .model) k ≡ blank
+  pub rest : (k : ℕ) → p .item ≤ k → itemAt (p .model) k ≡ noItem
   pub places : length (p .model .items) ≡ 16
   pub count : p .model .count ≡ m
   pub few : m ≤ 16
   pub capacity : p .model .capacity ≡ b
   pub needs : p .model .needs ≡ noNeeds
 
-pub items-next : (kind : Blanks) (b : ℤ) (m : ℕ) (vs : List Item) (p : Progress) (i : Item) (n : ℕ) → length vs < m → ItemsIn kind b m vs p → Bare kind i →
+pub items-next : (kind : Blanks) (b : ℤ) (m : ℕ) (vs : List ModelItem) (p : Progress) (i : ModelItem) (n : ℕ) → length vs < m → ItemsIn kind b m vs p → Bare kind i →
     ItemsIn kind b m (i ∷ vs) (goesOn (withItem (p .model) (p .item) i) n (suc (p .item)))
 unfolding upTo
 items-next kind b m vs p i n l g f = record {
@@ -125,23 +124,23 @@ items-next kind b m vs p i n l g f = record {
     j : ℕ
     j = p .item
 
-    new : ℕ → Item
-    new k = getD (set (p .model .items) j i) k blank
+    new : ℕ → ModelItem
+    new k = getD (set (p .model .items) j i) k noItem
 
     j<16 : j < 16
     j<16 = omega (arith, sym (upto-length j (itemAt (p .model))) ∙ ap length (g .listed), g .few)
 
     here : j < 16 → new j ≡ i
-    here h = getD-set-same (p .model .items) j i blank (omega (arith, g .places))
+    here h = getD-set-same (p .model .items) j i noItem (omega (arith, g .places))
 
     old : (k : ℕ) → (k ≡ j → ⊥) → new k ≡ itemAt (p .model) k
-    old k ne = getD-set-other (p .model .items) j k i blank ne
+    old k ne = getD-set-other (p .model .items) j k i noItem ne
 
     either : (k : ℕ) → k < suc j → Dec (k ≡ j) → Bare kind (new k)
     either k h (yes e) = rw (e, here j<16) f
     either k h (no e) = rw (old k e) (g .bare k (omega arith))
 
-pub items-fit : (kind : Blanks) (b : ℤ) (m n : ℕ) (f : ℕ → Item) → Each n (λ k. Bare kind (f k)) → Fitting (ItemsIn kind b m) (λ p i. Bare kind i) (upTo n f)
+pub items-fit : (kind : Blanks) (b : ℤ) (m n : ℕ) (f : ℕ → ModelItem) → Each n (λ k. Bare kind (f k)) → Fitting (ItemsIn kind b m) (λ p i. Bare kind i) (upTo n f)
 unfolding upTo
 items-fit kind b m zero f h = tt
 items-fit kind b m (suc n) f h = ((λ p i. h n (omega arith)), items-fit kind b m n f (λ k l. h k (omega arith)))
@@ -152,20 +151,21 @@ abbrev opposite : Side → Side
 opposite Lower = Upper
 opposite Upper = Lower
 
-pub record Kept (side : Side) (i j : Item) : Type 0 where
+pub record Kept (side : Side) (i j : ModelItem) : Type 0 where
   pub mark : j .mark ≡ i .mark
-  pub weight : j .weight ≡ i .weight
+  pub low : j .low ≡ i .low
+  pub high : j .high ≡ i .high
   pub price : j .price ≡ i .price
   pub other : sideOf (opposite side) j ≡ sideOf (opposite side) i
 
-pub kept-same : (side : Side) (i : Item) → Kept side i i
-kept-same side i = record { mark = refl; weight = refl; price = refl; other = refl }
+pub kept-same : (side : Side) (i : ModelItem) → Kept side i i
+kept-same side i = record { mark = refl; low = refl; high = refl; price = refl; other = refl }
 
-kept-bounded : (side : Side) (b : Bound) (i j : Item) → Kept side i j → Kept side i (bounded side b j)
-kept-bounded Lower b i j h = record { mark = h .mark; weight = h .weight; price = h .price; other = h .other }
-kept-bounded Upper b i j h = record { mark = h .mark; weight = h .weight; price = h .price; other = h .other }
+kept-bounded : (side : Side) (b : Bound) (i j : ModelItem) → Kept side i j → Kept side i (bounded side b j)
+kept-bounded Lower b i j h = record { mark = h .mark; low = h .low; high = h .high; price = h .price; other = h .other }
+kept-bounded Upper b i j h = record { mark = h .mark; low = h .low; high = h .high; price = h .price; other = h .other }
 
-bounded-side : (side : Side) (b : Bound) (i : Item) → sideOf side (bounded side b i) ≡ b
+bounded-side : (side : Side) (b : Bound) (i : ModelItem) → sideOf side (bounded side b i) ≡ b
 bounded-side Lower b i = refl
 bounded-side Upper b i = refl
 
@@ -196,11 +196,11 @@ module _ (side : Side) (o : Model) (m : ℕ) (vs : List Bounding) (p : Progress)
 
   here : itemAt after (p .item) ≡ bounded side (b .bound) (itemAt (p .model) (p .item))
   unfolding after
-  here = getD-set-same (p .model .items) (p .item) _ blank (omega (arith, place<16, g .places))
+  here = getD-set-same (p .model .items) (p .item) _ noItem (omega (arith, place<16, g .places))
 
   old : (k : ℕ) → (k ≡ p .item → ⊥) → itemAt after k ≡ itemAt (p .model) k
   unfolding after
-  old k ne = getD-set-other (p .model .items) (p .item) k _ blank ne
+  old k ne = getD-set-other (p .model .items) (p .item) k _ noItem ne
 
   there : boundAt side after (p .item) ≡ b .bound
   there = ap (sideOf side) here ∙ bounded-side side (b .bound) (itemAt (p .model) (p .item))

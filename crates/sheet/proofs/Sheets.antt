@@ -2,13 +2,14 @@
 --   Laid m b vi vl vu vn    the limit b, and the lines vi, vl, vu, vn of the sections items, lower, upper and needs, are those of the record m
 -- laid-text: so its sheet is their text. laid-once: no other record has them. laid: the record that was made from them has them.
 -- accepted-sheet: what is accepted is the printing of its record, which is in range, with its unused places blank and its unused lines of needs 0 0.
+-- sheet-ends: a sheet read to its end has a line for each item behind the third.
 -- sheet-accepted: the printing of a record in range is accepted, with that record.
 -- accepted-exactly: both. sheet-unique: two records in range have equal sheets only if they are equal.
-use mathlib.Core.Path.{_≡_, refl, sym, ap, ap₂, _∙_}
+use mathlib.Core.Path.{_≡_, refl, sym, ap, ap₂, _∙_, subst}
 use mathlib.Core.Bool.{Bool, true, false, cond}
 use mathlib.Core.Logic.{_↔_}
 use mathlib.Core.List.{List, [], _∷_, _++_, append-nil}
-use Prim.Native.Nat.{ℕ, suc, _≤_, _<_}
+use Prim.Native.Nat.{ℕ, suc, _+_, _≤_, _<_}
 use native.Mathlib.Omega.{arith}
 use native.Mathlib.Decide.{decLt}
 use borrow.Author.Tests.{le-ltb, ltb-false}
@@ -17,23 +18,23 @@ use lib.IntN.{ℤ}
 use lib.ListN.{length, drop, drop-of-length-le, length-drop, replicate, length-replicate, getD-replicate, List·getD-eq-default}
 use lib.Seq.{ext-getD}
 use Rattle.arith.specs.Sum.{Each}
-use Rattle.knapsack.specs.Ranges.{blank}
 use Rattle.knapsack.specs.declared.Bound.the-variants.{Absent}
-use Rattle.knapsack.specs.declared.Item.{Item}
 use Rattle.knapsack.specs.declared.Verdict.the-variants.{Accepted, Refused}
 use Rattle.model.specs.Refusals as refusal
 use Rattle.model.specs.declared.Blanks.{Blanks}
 use Rattle.model.specs.declared.Model.{Model}
+use Rattle.model.specs.declared.ModelItem.{ModelItem}
 use Rattle.model.specs.declared.Need.{Need}
 use Rattle.model.specs.declared.Needs.{Needs}
 use Rattle.model.specs.declared.Side.{Side}
 use Rattle.model.specs.declared.Side.the-variants.{Lower, Upper}
 use Rattle.model.specs.Needs.{noNeed, noNeeds}
-use Rattle.model.specs.Records.{emptyModel, itemAt, needAt, outside, badFigure, barred}
+use Rattle.model.specs.Records.{noItem, emptyModel, itemAt, needAt, outside, badFigure, isReversed, barred}
 use Rattle.model.specs.Setters.{withCapacity, withCount, withNeeds, withNeedCount}
 use Rattle.model.proofs.Records.{Unfaulted, unfaulted, unrefused}
-use Rattle.lines.specs.Places.{refusalOn}
-use Rattle.lines.specs.Layout.{headingText, itemText, Bounding, bounding}
+use Rattle.text.specs.Decimal.{integer}
+use Rattle.lines.specs.Places.{ends, refusalOn}
+use Rattle.lines.specs.Layout.{headingText, markByte, itemText, Bounding, bounding}
 use Rattle.lines.proofs.Standing.{Has, has-join, Bytes}
 use Rattle.lines.proofs.Rereading.{bareOf}
 use Rattle.sheet.specs.declared.Progress.{Progress}
@@ -41,9 +42,12 @@ use Rattle.sheet.specs.declared.Reading.{Reading}
 use Rattle.sheet.specs.Sections.{goesOn, refusedAt, sectionText}
 use Rattle.sheet.specs.Reading.{limit, items, wordOf, needs, limitForm, itemFormBy, itemForm, boundForm, needForm}
 use Rattle.sheet.specs.Reading.{limitSection, itemsSection, boundsSection}
+use Rattle.sheet.specs.Reading.{firstRanged, rangesOf}
 use Rattle.sheet.specs.Reading.{needsSection, endOfSheet, headOf, lowerOf, upperOf, lastOf, wholeOf, readSheetBy}
 use Rattle.sheet.specs.Printing.{upTo, boundAt, boundingAt, sideText, needsText, printing, Tidy, SheetOfBy}
 use Rattle.sheet.proofs.Sections.{no-refusal, went, section-before, SectionRead, section-read, Fitting, Back, section-back}
+use Rattle.sheet.proofs.Ranged.{ranged-none, none-ranged, unranged}
+use Rattle.sheet.proofs.LineEnds.{ends-append, line-end, section-ends}
 use Rattle.sheet.proofs.Forms.{LimitFits, limit-laws, Bare, barred-bare, bare-same, bare-of, item-laws}
 use Rattle.sheet.proofs.Forms.{BoundFits, bound-laws, fair-side, NeedFits, need-laws}
 use Rattle.sheet.proofs.Making.{upto-length, upto-cong, upto-inj, texts-cong}
@@ -55,8 +59,8 @@ use Rattle.sheet.proofs.Lengths.{printing-short}
 -- ---- the lines of a record
 
 -- an item by what its line has, and its bounds
-same-item : (i j : Item) → bareOf i ≡ bareOf j → i .lower ≡ j .lower → i .upper ≡ j .upper → i ≡ j
-same-item i j e l u = ap (λ (k : Item). record { mark = k .mark; weight = k .weight; price = k .price; lower = i .lower; upper = i .upper }) e ∙ rw (l, u)
+same-item : (i j : ModelItem) → bareOf i ≡ bareOf j → i .lower ≡ j .lower → i .upper ≡ j .upper → i ≡ j
+same-item i j e l u = ap (λ (k : ModelItem). record { mark = k .mark; low = k .low; high = k .high; price = k .price; lower = i .lower; upper = i .upper }) e ∙ rw (l, u)
 
 same-needs : (m o : Needs) → m .lines ≡ o .lines → m .count ≡ o .count → m ≡ o
 same-needs m o a b = let r : m ≡ record { lines = m .lines; count = m .count } = refl in r ∙ rw (a, b)
@@ -64,7 +68,7 @@ same-needs m o a b = let r : m ≡ record { lines = m .lines; count = m .count }
 same-model : (m o : Model) → m .items ≡ o .items → m .count ≡ o .count → m .capacity ≡ o .capacity → m .needs ≡ o .needs → m ≡ o
 same-model m o a b c d = let r : m ≡ record { items = m .items; count = m .count; capacity = m .capacity; needs = m .needs } = refl in r ∙ rw (a, b, c, d)
 
-record Laid (m : Model) (b : ℤ) (vi : List Item) (vl vu : List Bounding) (vn : List Need) : Type 0 where
+record Laid (m : Model) (b : ℤ) (vi : List ModelItem) (vl vu : List Bounding) (vn : List Need) : Type 0 where
   limit : m .capacity ≡ b
   items : upTo (m .count) (λ k. bareOf (itemAt m k)) ≡ vi
   lower : upTo (m .count) (boundingAt Lower m) ≡ vl
@@ -73,7 +77,7 @@ record Laid (m : Model) (b : ℤ) (vi : List Item) (vl vu : List Bounding) (vn :
   tidy : Tidy m
 
 -- the text of those lines
-abbrev textOf : ℤ → List Item → List Bounding → List Bounding → List Need → List ℕ
+abbrev textOf : ℤ → List ModelItem → List Bounding → List Bounding → List Need → List ℕ
 textOf b vi vl vu vn =
     sectionText limitForm limit (b ∷ [])
     ++ (sectionText itemForm items vi
@@ -81,24 +85,24 @@ textOf b vi vl vu vn =
     ++ (sectionText (boundForm Upper) (wordOf Upper) vu
     ++ sectionText needForm needs vn)))
 
-laid-text : (m : Model) (b : ℤ) (vi : List Item) (vl vu : List Bounding) (vn : List Need) → Laid m b vi vl vu vn → printing m ≡ textOf b vi vl vu vn
+laid-text : (m : Model) (b : ℤ) (vi : List ModelItem) (vl vu : List Bounding) (vn : List Need) → Laid m b vi vl vu vn → printing m ≡ textOf b vi vl vu vn
 unfolding printing
 laid-text m b vi vl vu vn l =
     rw (← l .limit, ← l .items, ← l .lower, ← l .upper, ← l .needs)
     (let n = m .count in
-    let bare : ℕ → Item = λ k. bareOf (itemAt m k) in
+    let bare : ℕ → ModelItem = λ k. bareOf (itemAt m k) in
     let h = ap (headingText items) (upto-length n (itemAt m) ∙ sym (upto-length n bare)) in
     let e = ap₂ _++_ h (texts-cong itemText n (itemAt m) bare (λ k l. refl)) in
     ap (λ t. sectionText limitForm limit (m .capacity ∷ []) ++ (t ++ (sideText Lower m ++ (sideText Upper m ++ needsText m)))) e)
 
-laid-once : (m o : Model) (b : ℤ) (vi : List Item) (vl vu : List Bounding) (vn : List Need) → Laid m b vi vl vu vn → Laid o b vi vl vu vn → m ≡ o
+laid-once : (m o : Model) (b : ℤ) (vi : List ModelItem) (vl vu : List Bounding) (vn : List Need) → Laid m b vi vl vu vn → Laid o b vi vl vu vn → m ≡ o
 laid-once m o b vi vl vu vn x y =
     let n = sym (upto-length (m .count) (λ k. bareOf (itemAt m k))) ∙ ap length (x .items) in
     let c : o .count ≡ m .count = sym (upto-length (o .count) (λ k. bareOf (itemAt o k))) ∙ ap length (y .items) ∙ sym n in
     let i = upto-inj (m .count) _ _ (x .items ∙ sym (rw c at (y .items))) in
     let l = upto-inj (m .count) _ _ (x .lower ∙ sym (rw c at (y .lower))) in
     let u = upto-inj (m .count) _ _ (x .upper ∙ sym (rw c at (y .upper))) in
-    let e = ext-getD blank (m .items) (o .items) (x .tidy .places ∙ sym (y .tidy .places)) (λ k h. go k c i l u (decLt k (m .count))) in
+    let e = ext-getD noItem (m .items) (o .items) (x .tidy .places ∙ sym (y .tidy .places)) (λ k h. go k c i l u (decLt k (m .count))) in
     let t : o .needs .count ≡ m .needs .count
     = sym (upto-length (o .needs .count) (needAt (o .needs))) ∙ ap length (y .needs ∙ sym (x .needs)) ∙ upto-length (m .needs .count) (needAt (m .needs)) in
     let v = upto-inj (m .needs .count) _ _ (x .needs ∙ sym (rw t at (y .needs))) in
@@ -177,22 +181,22 @@ needs-start o n at e few =
     }
 
 -- behind the last item
-items-end : {kind : Blanks} (b : ℤ) (vs : List Item) (p : Progress) → ItemsIn kind b (length vs) vs p → p .item ≡ p .model .count
+items-end : {kind : Blanks} (b : ℤ) (vs : List ModelItem) (p : Progress) → ItemsIn kind b (length vs) vs p → p .item ≡ p .model .count
 items-end b vs p i = sym (upto-length (p .item) (itemAt (p .model))) ∙ ap length (i .listed) ∙ sym (i .count)
 
 -- items that were just read have no bounds
-no-bounds : {kind : Blanks} (side : Side) (b : ℤ) (vs : List Item) (p : Progress) → ItemsIn kind b (length vs) vs p
+no-bounds : {kind : Blanks} (side : Side) (b : ℤ) (vs : List ModelItem) (p : Progress) → ItemsIn kind b (length vs) vs p
     → (k : ℕ) → boundAt side (p .model) k ≡ Absent
 no-bounds side b vs p i k = go side (decLt k (p .item))
   where
     go : (side : Side) → Dec (k < p .item) → boundAt side (p .model) k ≡ Absent
     go Lower (yes l) = i .bare k l .lower
     go Upper (yes l) = i .bare k l .upper
-    go Lower (no l) = ap (λ (i : Item). i .lower) (i .rest k (omega arith))
-    go Upper (no l) = ap (λ (i : Item). i .upper) (i .rest k (omega arith))
+    go Lower (no l) = ap (λ (i : ModelItem). i .lower) (i .rest k (omega arith))
+    go Upper (no l) = ap (λ (i : ModelItem). i .upper) (i .rest k (omega arith))
 
-kept-bare : (side : Side) (i j : Item) → Kept side i j → bareOf j ≡ bareOf i
-kept-bare side i j k = rw (k .mark, k .weight, k .price)
+kept-bare : (side : Side) (i j : ModelItem) → Kept side i j → bareOf j ≡ bareOf i
+kept-bare side i j k = rw (k .mark, k .low, k .high, k .price)
 
 -- behind the last bound
 bounds-end : (side : Side) (o : Model) (vs : List Bounding) (p : Progress) → BoundsIn side o (length vs) vs p → p .item ≡ o .count
@@ -206,7 +210,7 @@ bounds-all side o vs p g = ap (λ n. upTo n (boundingAt side (p .model))) (sym (
 needs-end : (o : Model) (vs : List Need) (p : Progress) → NeedsIn o (length vs) vs p → p .item ≡ p .model .needs .count
 needs-end o vs p g = needs-number o (length vs) vs p g ∙ sym (g .number)
 
-module _ {kind : Blanks} (b : ℤ) (vi : List Item) (vl vu : List Bounding) (vn : List Need) (h l u n : Progress) (i : ItemsIn kind b (length vi) vi h)
+module _ {kind : Blanks} (b : ℤ) (vi : List ModelItem) (vl vu : List Bounding) (vn : List Need) (h l u n : Progress) (i : ItemsIn kind b (length vi) vi h)
     (x : BoundsIn Lower (h .model) (length vl) vl l) (y : BoundsIn Upper (l .model) (length vu) vu u) (z : NeedsIn (u .model) (length vn) vn n) where
   -- the number of items
   counted : (u .model .count ≡ h .item) × (u .model .count ≡ l .model .count)
@@ -219,16 +223,16 @@ module _ {kind : Blanks} (b : ℤ) (vi : List Item) (vl vu : List Bounding) (vn 
   lower-kept : (k : ℕ) → boundAt Lower (u .model) k ≡ boundAt Lower (l .model) k
   lower-kept k = y .same k .other
 
-  unused-item : (k : ℕ) → u .model .count ≤ k → itemAt (u .model) k ≡ blank
+  unused-item : (k : ℕ) → u .model .count ≤ k → itemAt (u .model) k ≡ noItem
   unused-item k c =
-      same-item (itemAt (u .model) k) blank
+      same-item (itemAt (u .model) k) noItem
       (bare-kept k ∙ ap bareOf (i .rest k (omega (arith, counted .0))))
       (lower-kept k ∙ x .rest k (omega (arith, bounds-end Lower (h .model) vl l x, items-end b vi h i, counted .0)))
       (y .rest k (omega (arith, bounds-end Upper (l .model) vu u y, counted .1)))
 
   laid : Laid (n .model) b vi vl vu vn
   laid =
-      let bare : ℕ → Item = λ k. bareOf (itemAt (u .model) k) in
+      let bare : ℕ → ModelItem = λ k. bareOf (itemAt (u .model) k) in
       let many = counted .0 in
       let e = upto-cong (h .item) bare (itemAt (h .model)) (λ k c. bare-kept k ∙ bare-same (itemAt (h .model) k) (i .bare k c)) in
       let f = upto-cong (h .model .count) (boundingAt Lower (u .model)) (boundingAt Lower (l .model)) (λ k c. ap (bounding (suc k)) (lower-kept k)) in
@@ -251,7 +255,10 @@ module _ {kind : Blanks} (b : ℤ) (vi : List Item) (vl vu : List Bounding) (vn 
       let a = i .bare k (omega (arith, counted .0)) in
       let p = y .same k in
       let q = x .same k in
-      rw (p .weight ∙ q .weight, a .weight, p .price ∙ q .price, a .price, p .other, x .fair k, y .fair k)
+      rw (p .low ∙ q .low, a .low, p .high ∙ q .high, a .high, p .price ∙ q .price, a .price, p .other, x .fair k, y .fair k)
+
+  ordered : (k : ℕ) → k < u .model .count → isReversed (itemAt (u .model) k) ≡ false
+  ordered k c = ap isReversed (bare-kept k) ∙ i .bare k (omega (arith, counted .0)) .ordered
 
   unbarred : (k : ℕ) → k < u .model .count → barred kind (itemAt (u .model) k) ≡ false
   unbarred k c =
@@ -260,16 +267,16 @@ module _ {kind : Blanks} (b : ℤ) (vi : List Item) (vl vu : List Bounding) (vn 
 
 -- ---- what is accepted
 
-record Ended (s : List ℕ) (p : Progress) : Type 0 where
-  before : p .verdict ≡ Accepted
-  is : endOfSheet s p ≡ p
-  past : length s ≤ p .at
+pub record Ended (s : List ℕ) (p : Progress) : Type 0 where
+  pub before : p .verdict ≡ Accepted
+  pub is : endOfSheet s p ≡ p
+  pub past : length s ≤ p .at
 
 at-end : (s : List ℕ) (p : Progress) (t : Bool) → cond t (refusedAt s refusal.form (p .at)) p .verdict ≡ Accepted → t ≡ false
 at-end s p true h = no-refusal h
 at-end s p false h = refl
 
-ended : (s : List ℕ) (p : Progress) → endOfSheet s p .verdict ≡ Accepted → Ended s p
+pub ended : (s : List ℕ) (p : Progress) → endOfSheet s p .verdict ≡ Accepted → Ended s p
 unfolding endOfSheet
 ended s p h =
     let w = went p _ h in
@@ -297,7 +304,7 @@ only (b ∷ c ∷ vs) h l = absurd (omega arith)
 -- what was read of an accepted sheet
 record Sections (kind : Blanks) (s : List ℕ) : Type 0 where
   limit : ℤ
-  vi : List Item
+  vi : List ModelItem
   vl : List Bounding
   vu : List Bounding
   vn : List Need
@@ -361,8 +368,29 @@ sections kind s g =
       text = has-join (rw (o .1) at (a .text)) (has-join (i .text) (has-join (x .text) (has-join (y .text) (z .text))));
     }
 
-found-sheet : (kind : Blanks) (s : List ℕ) → Ended s (lastOf kind s) → SheetOfBy kind s (lastOf kind s .model)
-found-sheet kind s t =
+-- behind the limit's two lines and the heading of the items there is a line for each item
+pub sheet-ends : (kind : Blanks) (s : List ℕ) → lastOf kind s .verdict ≡ Accepted → 3 + lastOf kind s .model .count ≤ ends s
+sheet-ends kind s h =
+    let r = sections kind s h in
+    let first = sectionText limitForm limit (r .limit ∷ []) in
+    let second = sectionText itemForm items (r .vi) in
+    let others = sectionText (boundForm Lower) (wordOf Lower) (r .vl) ++ (sectionText (boundForm Upper) (wordOf Upper) (r .vu)
+    ++ sectionText needForm needs (r .vn)) in
+    let many : lastOf kind s .model .count ≡ length (r .vi) = r .needs-read .count ∙ r .upper .count ∙ r .lower .count ∙ r .items .count in
+    let all = ap ends (r .text .has) ∙ ends-append (first ++ (second ++ others)) (drop (lastOf kind s .at) s) in
+    omega (
+      arith,
+      all,
+      ends-append first (second ++ others),
+      ends-append second others,
+      section-ends limitForm (λ b. line-end (integer b) []) limit (r .limit ∷ []),
+      section-ends itemForm (λ i. line-end (markByte (i .mark) ∷ []) (integer (i .low) ∷ integer (i .high) ∷ integer (i .price) ∷ [])) items (r .vi),
+      many,
+    )
+
+found-sheet : (kind : Blanks) (s : List ℕ) → Ended s (lastOf kind s) →
+    firstRanged (lastOf kind s .model .count) (itemAt (lastOf kind s .model)) ≡ 0 → SheetOfBy kind s (lastOf kind s .model)
+found-sheet kind s t none =
     let r = sections kind s (t .before) in
     let m = lastOf kind s .model in
     let z = r .needs-read in
@@ -378,6 +406,9 @@ found-sheet kind s t =
     let b =
     unbarred (r .limit) (r .vi) (r .vl) (r .vu) (r .vn) (headOf kind s) (lowerOf kind s) (upperOf kind s) (lastOf kind s)
     (r .items) (r .lower) (r .upper) z in
+    let o =
+    ordered (r .limit) (r .vi) (r .vl) (r .vu) (r .vn) (headOf kind s) (lowerOf kind s) (upperOf kind s) (lastOf kind s)
+    (r .items) (r .lower) (r .upper) z in
     let n = items-end (r .limit) (r .vi) (headOf kind s) (r .items) in
     let e = needs-end (upperOf kind s .model) (r .vn) (lastOf kind s) z in
     record {
@@ -386,9 +417,11 @@ found-sheet kind s t =
         most = omega (arith, r .items .few, r .items .count, z .count);
         capacity = rw (l .limit) (r .fair);
         figures = λ k h. rw (z .items) (f k (omega (arith, z .count)));
+        ordered = λ k h. rw (z .items) (o k (omega (arith, z .count)));
         unbarred = λ k h. rw (z .items) (b k (omega (arith, z .count)));
         few-needs = omega (arith, z .number, z .few);
         needs = λ j h. rw (z .count, z .items) (z .fair j (omega (arith, e)));
+        ranged = ranged-none (itemAt m) (m .count) none;
       });
       tidy = l .tidy;
       text = r .text .has ∙ rw (drop-of-length-le s (t .past)) (append-nil _) ∙ sym (laid-text m (r .limit) (r .vi) (r .vl) (r .vu) (r .vn) l);
@@ -408,14 +441,16 @@ accepted-sheet {kind} s m h = go (ltb 4096 (length s)) h
         SheetOfBy kind s m
     go true h = no-refusal (ap (λ (r : Reading). r .verdict) h)
     go false h =
-        let t = ended s (lastOf kind s) (ap (λ (r : Reading). r .verdict) h) in
-        let e : lastOf kind s .model ≡ m = ap (λ (q : Progress). q .model) (sym (t .is)) ∙ ap (λ (r : Reading). r .model) h in
-        rw (← e) (found-sheet kind s t)
+        let u = unranged (endOfSheet s (lastOf kind s)) (ap (λ (r : Reading). r .verdict) h) in
+        let t = ended s (lastOf kind s) (u .before) in
+        let e : lastOf kind s .model ≡ m = ap (λ (q : Progress). q .model) (sym (u .is ∙ t .is)) ∙ ap (λ (r : Reading). r .model) h in
+        let none = subst (λ (q : Progress). firstRanged (q .model .count) (itemAt (q .model)) ≡ 0) (t .is) (u .none) in
+        rw (← e) (found-sheet kind s t none)
 
 -- ---- the printing of a record is read back
 
 module _ (kind : Blanks) (m : Model) (r : Unfaulted kind m) (tidy : Tidy m) where
-  vi : List Item
+  vi : List ModelItem
   vi = upTo (m .count) (λ k. bareOf (itemAt m k))
 
   vl : List Bounding
@@ -457,7 +492,8 @@ module _ (kind : Blanks) (m : Model) (r : Unfaulted kind m) (tidy : Tidy m) wher
   items-fits : Fitting (ItemsIn kind (m .capacity) (length vi)) (λ p i. Bare kind i) vi
   unfolding vi
   items-fits =
-      items-fit kind (m .capacity) (length vi) (m .count) (λ k. bareOf (itemAt m k)) (λ k l. bare-of kind (itemAt m k) (r .figures k l) (r .unbarred k l))
+      items-fit kind (m .capacity) (length vi) (m .count) (λ k. bareOf (itemAt m k))
+      (λ k l. bare-of kind (itemAt m k) (r .figures k l) (r .ordered k l) (r .unbarred k l))
 
   items-back : Back (ItemsIn kind (m .capacity) (length vi)) sheet lower-left vi (headOf kind sheet)
   unfolding headOf itemsSection
@@ -573,8 +609,11 @@ module _ (kind : Blanks) (m : Model) (r : Unfaulted kind m) (tidy : Tidy m) wher
       rw (u .accepted, le-ltb (lastOf kind sheet .at) (length sheet) l)
 
   whole-back : wholeOf kind sheet ≡ lastOf kind sheet
-  unfolding wholeOf
-  whole-back = end-back
+  unfolding wholeOf rangesOf
+  whole-back =
+      let none : firstRanged (lastOf kind sheet .model .count) (itemAt (lastOf kind sheet .model)) ≡ 0 =
+      rw model-back (none-ranged (itemAt m) (m .count) (r .ranged)) in
+      rw (end-back, last-back .accepted, none)
 
   text-is : printing m ≡ sheet
   unfolding sheet

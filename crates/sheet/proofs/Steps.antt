@@ -1,18 +1,24 @@
 -- What a step of the reader keeps (specs/Reading.antt), for what the code's functions require.
 --   Few p          the record has at most 16 items
 -- step-item: a line of an item, a bound or a need raises the item number by at most one.
--- head-few, side-few, need-few: no section or line makes a record of more than 16 items.
+-- head-few, side-few, need-few, last-few, end-few: no section or line makes a record of more than 16 items.
 use mathlib.Core.Path.{_≡_}
+use mathlib.Core.Bool.{Bool, true, false, cond}
 use mathlib.Core.List.{List}
 use Prim.Native.Nat.{ℕ, suc, _≤_}
 use native.Mathlib.Omega.{arith}
+use lib.Dec.{ltb}
+use lib.ListN.{length}
 use Rattle.knapsack.specs.declared.Refusal.{Refusal}
 use Rattle.model.specs.declared.Blanks.{Blanks}
 use Rattle.model.specs.declared.Side.{Side}
+use Rattle.model.specs.Refusals as refusal
+use Rattle.lines.specs.Places.{lineAt, refusalOn}
 use Rattle.sheet.specs.declared.Progress.{Progress}
-use Rattle.sheet.specs.Sections.{stoppedBy, LineForm, stepOf}
+use Rattle.sheet.specs.Sections.{stoppedBy, refusedAt, LineForm, stepOf}
 use Rattle.sheet.specs.Reading.{limit, items, wordOf, limitForm, itemFormBy, boundForm, needForm, limitSection, itemsSection, boundsSection, headOf}
-use Rattle.sheet.proofs.Sections.{step-keeps, section-keeps}
+use Rattle.sheet.specs.Reading.{needs, needsSection, endOfSheet}
+use Rattle.sheet.proofs.Sections.{onward-keeps, step-keeps, section-keeps}
 
 pub step-item : {A : Type 0} (f : LineForm A) (s : List ℕ) (p : Progress) → ((a : A) → f .item p a ≡ suc (p .item)) → stepOf f s p .item ≤ suc (p .item)
 step-item f s p e = step-keeps f (λ q. q .item ≤ suc (p .item)) s p (λ r. omega arith) (λ a n. omega (arith, e a)) (omega arith)
@@ -37,3 +43,15 @@ side-few s side p h = section-keeps (boundForm side) Few (wordOf side) _ (p .mod
 
 pub need-few : (s : List ℕ) (p : Progress) → Few p → Few (stepOf needForm s p)
 need-few s p h = step-keeps needForm Few s p none-few (λ b n. h) h
+
+pub last-few : (s : List ℕ) (p : Progress) → Few p → Few (needsSection s p)
+unfolding needsSection
+last-few s p h = section-keeps needForm Few needs 0 16 _ s p none-few (λ q b n k. k) (λ n at k. h) h
+
+pub end-few : (s : List ℕ) (p : Progress) → Few p → Few (endOfSheet s p)
+unfolding endOfSheet
+end-few s p h = onward-keeps Few p _ h (go (ltb (p .at) (length s)))
+  where
+    go : (b : Bool) → Few (cond b (refusedAt s refusal.form (p .at)) p)
+    go true = none-few (refusalOn refusal.form (lineAt s (p .at)))
+    go false = h

@@ -1,4 +1,4 @@
--- The sheet that the papers lay out for a record (01, "The sheet"; 02, requests 6 and 7): a sheet is accepted exactly if it is the printing of its record
+-- The sheet that the papers lay out for a record (01, "The sheet"; 02, requests 6, 7 and 11): a sheet is accepted exactly if it is the printing of its record
 -- (proofs/Sheets.antt).
 -- Its lines are the forms' (specs/Reading.antt), so a reader and a writer share it. Lists of lines have the last in front, as a loop leaves them.
 --   upTo n f            f of the places below n
@@ -14,17 +14,16 @@ use mathlib.Core.Path.{_≡_}
 use mathlib.Core.List.{List, [], _∷_, _++_}
 use Prim.Native.Nat.{ℕ, zero, suc, _≤_}
 use lib.ListN.{length}
-use Rattle.knapsack.specs.Ranges.{blank}
 use Rattle.knapsack.specs.declared.Bound.{Bound}
-use Rattle.knapsack.specs.declared.Item.{Item}
 use Rattle.knapsack.specs.declared.Verdict.the-variants.{Accepted}
 use Rattle.model.specs.declared.Blanks.{Blanks}
 use Rattle.model.specs.declared.Blanks.the-variants as blanks
 use Rattle.model.specs.declared.Model.{Model}
+use Rattle.model.specs.declared.ModelItem.{ModelItem}
 use Rattle.model.specs.declared.Side.{Side}
 use Rattle.model.specs.declared.Side.the-variants.{Lower, Upper}
 use Rattle.model.specs.Needs.{noNeed}
-use Rattle.model.specs.Records.{itemAt, needAt, verdictBy}
+use Rattle.model.specs.Records.{noItem, itemAt, needAt, verdictBy}
 use Rattle.lines.specs.Layout.{Bounding, bounding}
 use Rattle.sheet.specs.Sections.{sectionText}
 use Rattle.sheet.specs.Reading.{limit, items, wordOf, needs, limitForm, itemForm, boundForm, needForm}
@@ -33,7 +32,7 @@ unfoldable pub upTo : {A : Type 0} → ℕ → (ℕ → A) → List A
 upTo zero f = []
 upTo (suc n) f = f n ∷ upTo n f
 
-abbrev pub sideOf : Side → Item → Bound
+abbrev pub sideOf : Side → ModelItem → Bound
 sideOf Lower i = i .lower
 sideOf Upper i = i .upper
 
@@ -59,7 +58,7 @@ printing m =
 
 pub record Tidy (m : Model) : Type 0 where
   pub places : length (m .items) ≡ 16
-  pub unused : (k : ℕ) → m .count ≤ k → itemAt m k ≡ blank
+  pub unused : (k : ℕ) → m .count ≤ k → itemAt m k ≡ noItem
   pub lines : length (m .needs .lines) ≡ 16
   pub spare : (j : ℕ) → m .needs .count ≤ j → needAt (m .needs) j ≡ noNeed
 

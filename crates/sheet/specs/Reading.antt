@@ -1,28 +1,31 @@
--- The reader. Paper 01, "The sheet" and "Refused, by place", and paper 02, requests 3, 6, 7 and 9: the sheet's first fault in reading order, or its record.
+-- The reader. Paper 01, "The sheet" and "Refused, by place", and paper 02, requests 3, 6, 7, 9 and 11: the sheet's first fault in reading order, or its record.
 --   limit, items, wordOf side, needs    the heading words
 --   limits                       the range of the limit
 --   limitForm, itemFormBy b, boundForm side, needForm    the kinds of line, which give what limitGives, itemGives, boundGives, needGives say
 --   itemForm             of an item where blank ones are refused
 --   limitSection, itemsSection, boundsSection, needsSection    the sections, each from where the one before ended
 --   endOfSheet s p       nothing stands behind the last section
+--   orNumber k n         the number k, or n where k is 0
+--   firstRanged n f      the number of the first of the first n items whose weight is a range and whose amount may be below 0; 0 if there is none
+--   rangedAt k p         20 at the line of item k, or p where k is 0;  rangesOf p: of the items as they were read
 --   headOf, lowerOf, upperOf, lastOf b s  the sheet read so far: limit and items, then lower, then upper, then needs; b is what becomes of blank items
 --   wholeOf b s          the sheet read to its end
 --   readSheetBy b s      what a sheet gives;  readSheet s: where blank items are refused
 use mathlib.Core.Bool.{cond}
 use mathlib.Core.List.{List, [], _∷_}
-use Prim.Native.Nat.{ℕ, suc}
+use Prim.Native.Nat.{ℕ, zero, suc, _+_}
 use lib.Dec.{ltb}
 use lib.IntN.{ℤ, pos, negsuc}
 use lib.ListN.{length}
-use Rattle.knapsack.specs.declared.Item.{Item}
 use Rattle.knapsack.specs.declared.Verdict.the-variants.{Refused}
 use Rattle.model.specs.declared.Blanks.{Blanks}
 use Rattle.model.specs.declared.Blanks.the-variants as blanks
+use Rattle.model.specs.declared.ModelItem.{ModelItem}
 use Rattle.model.specs.declared.Need.{Need}
 use Rattle.model.specs.declared.Side.{Side}
 use Rattle.model.specs.declared.Side.the-variants.{Lower, Upper}
 use Rattle.model.specs.Refusals as refusal
-use Rattle.model.specs.Records.{emptyModel, itemAt, barred, unfitLine, lineBefore}
+use Rattle.model.specs.Records.{emptyModel, itemAt, barred, isRangedBelow, unfitLine, lineBefore}
 use Rattle.model.specs.Setters.{withCapacity, withCount, withItem, withBound, withNeedCount, withNeed}
 use Rattle.text.specs.Decimal.{integer}
 use Rattle.text.specs.Layout.{line}
@@ -42,7 +45,7 @@ use Rattle.lines.specs.Lines.{itemRead, boundRead, needRead}
 use Rattle.lines.specs.Layout.{itemText, Bounding, bounding, boundText, needText}
 use Rattle.sheet.specs.declared.Progress.{Progress}
 use Rattle.sheet.specs.declared.Reading.{Reading}
-use Rattle.sheet.specs.Sections.{goesOn, refusedAt, onward, Gives, fault, gives, LineForm, sectionOf}
+use Rattle.sheet.specs.Sections.{goesOn, stoppedBy, refusedAt, onward, Gives, fault, gives, LineForm, sectionOf}
 
 abbrev pub limit : List ℕ
 limit = 108 ∷ 105 ∷ 109 ∷ 105 ∷ 116 ∷ []
@@ -77,12 +80,12 @@ limitForm = record {
 unfoldable pub limitSection : List ℕ → Progress
 limitSection s = sectionOf limitForm limit (fromTo 1 1) (λ n. emptyModel) s (goesOn emptyModel 0 0)
 
--- ---- items n, and n lines: on a line 4 and then 15
-abbrev pub itemGives : Blanks → ItemRead → Gives Item
+-- ---- items n, and n lines: on a line 4 and 19, then 15
+abbrev pub itemGives : Blanks → ItemRead → Gives ModelItem
 itemGives b (ItemFault n) = fault n
 itemGives b (ItemIs i n) = cond (barred b i) (fault refusal.blank-item) (gives i n)
 
-abbrev pub itemFormBy : Blanks → LineForm Item
+abbrev pub itemFormBy : Blanks → LineForm ModelItem
 itemFormBy b = record {
   read = λ s p. itemGives b (itemRead s (p .at));
   text = itemText;
@@ -90,7 +93,7 @@ itemFormBy b = record {
   item = λ p i. suc (p .item);
 }
 
-abbrev pub itemForm : LineForm Item
+abbrev pub itemForm : LineForm ModelItem
 itemForm = itemFormBy blanks.Refused
 
 unfoldable pub itemsSection : Blanks → List ℕ → Progress → Progress
@@ -113,7 +116,7 @@ unfoldable pub boundsSection : List ℕ → Side → Progress → Progress
 boundsSection s side p = sectionOf (boundForm side) (wordOf side) (only (p .model .count)) (λ n. p .model) s p
 
 -- ---- needs t, and t lines: on a line 5 and then 14, of the items as they were read
-abbrev pub needGives : (ℕ → Item) → NeedRead → Gives Need
+abbrev pub needGives : (ℕ → ModelItem) → NeedRead → Gives Need
 needGives f (NeedFault n) = fault n
 needGives f (NeedIs b n) = cond (unfitLine f b) (fault refusal.named-item) (gives b n)
 
@@ -132,6 +135,22 @@ needsSection s p = sectionOf needForm needs (fromTo 0 16) (λ n. withNeedCount (
 unfoldable pub endOfSheet : List ℕ → Progress → Progress
 endOfSheet s p = onward p (cond (ltb (p .at) (length s)) (refusedAt s refusal.form (p .at)) p)
 
+-- ---- behind the sheet: the first line is the limit's heading, so that item k has line 3 + k
+abbrev pub orNumber : ℕ → ℕ → ℕ
+orNumber zero n = n
+orNumber (suc k) n = suc k
+
+unfoldable pub firstRanged : ℕ → (ℕ → ModelItem) → ℕ
+firstRanged zero f = 0
+firstRanged (suc n) f = orNumber (firstRanged n f) (cond (isRangedBelow (f n)) (suc n) 0)
+
+abbrev pub rangedAt : ℕ → Progress → Progress
+rangedAt zero p = p
+rangedAt (suc k) p = stoppedBy (refusalOn refusal.ranged-item (3 + suc k))
+
+unfoldable pub rangesOf : Progress → Progress
+rangesOf p = onward p (rangedAt (firstRanged (p .model .count) (itemAt (p .model))) p)
+
 -- ---- the sheet
 unfoldable pub headOf : Blanks → List ℕ → Progress
 headOf b s = itemsSection b s (limitSection s)
@@ -146,7 +165,7 @@ unfoldable pub lastOf : Blanks → List ℕ → Progress
 lastOf b s = needsSection s (upperOf b s)
 
 unfoldable pub wholeOf : Blanks → List ℕ → Progress
-wholeOf b s = endOfSheet s (lastOf b s)
+wholeOf b s = rangesOf (endOfSheet s (lastOf b s))
 
 unfoldable pub readSheetBy : Blanks → List ℕ → Reading
 readSheetBy b s =

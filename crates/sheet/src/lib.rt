@@ -3,7 +3,6 @@
 // check_line give a line for the display.
 // A line is read in two steps, its form and then its values (crate lines); a section is a heading and a loop over its lines (specs/Sections).
 use knapsack::Bound;
-use knapsack::Item;
 use knapsack::Refusal;
 use knapsack::Verdict;
 use lines::BoundRead;
@@ -18,6 +17,7 @@ pub use lines::scan::first_line_end;
 pub use lines::scan::line_part;
 use model::Blanks;
 use model::Model;
+use model::ModelItem;
 use model::Need;
 use model::Side;
 use model::naming;
@@ -33,7 +33,7 @@ ghost use Rattle.lines.specs.Lines.{countAt};
 ghost use Rattle.sheet.specs.Sections.{goesOn, stoppedBy, refusedAt, taken, stepOf, linesOf};
 ghost use Rattle.sheet.specs.Reading.{wordOf, limitForm, itemGives, itemFormBy, boundForm, limitSection, itemsSection, boundsSection, endOfSheet};
 ghost use Rattle.sheet.specs.Reading.{needGives, needForm, needsSection};
-ghost use Rattle.sheet.specs.Reading.{headOf, wholeOf, readSheetBy, readSheet};
+ghost use Rattle.sheet.specs.Reading.{firstRanged, rangesOf, headOf, wholeOf, readSheetBy, readSheet};
 
 // What a sheet gives: its record, or a refusal beside the empty record.
 pub struct Reading {
@@ -117,7 +117,7 @@ fn limit_section(s: &[u8]) -> Progress
 // ---- items n, and n lines
 
 // The next item.
-fn item_taken(p: Progress, item: Item, next: usize) -> Progress
+fn item_taken(p: Progress, item: ModelItem, next: usize) -> Progress
     requires { ⌜ p .item < 16 ⌝ }
     ensures { λ r. ⌜ r ≡ goesOn (withItem (p .model) (p .item) item) next (suc (p .item)) ⌝ }
 {
@@ -127,7 +127,7 @@ fn item_taken(p: Progress, item: Item, next: usize) -> Progress
 }
 
 // Whether an item is blank, where blank items are refused.
-fn is_barred(item: Item, blanks: Blanks) -> bool
+fn is_barred(item: ModelItem, blanks: Blanks) -> bool
     ensures { λ r. ⌜ r ≡ barred blanks item ⌝ }
 {
     match blanks {
@@ -137,7 +137,7 @@ fn is_barred(item: Item, blanks: Blanks) -> bool
 }
 
 // An item whose figures are good: 15, or it is taken in.
-fn item_judged(s: &[u8], blanks: Blanks, p: Progress, item: Item, next: usize) -> Progress
+fn item_judged(s: &[u8], blanks: Blanks, p: Progress, item: ModelItem, next: usize) -> Progress
     requires { ⌜ p .item < 16 ⌝ }
     ensures { λ r. ⌜ r ≡ taken (itemFormBy blanks) (now (s .entry)) p (itemGives blanks (ItemRead.Read item next)) ⌝ }
 {
@@ -375,6 +375,48 @@ fn end_of_sheet(s: &[u8], p: Progress) -> Progress
     }
 }
 
+// ---- behind the sheet: weights that are a range
+
+// The number of the first item whose weight is a range and whose amount may be below 0, or 0.
+fn first_ranged(m: Model) -> usize
+    requires { ⌜ m .count ≤ 16 ⌝ }
+    ensures { λ r. ⌜ r ≡ firstRanged (m .count) (itemAt m) ⌝ }
+{
+    let n = m.count;
+    let mut k: usize = 0;
+    while k < n {
+        let x = m.items[k];
+        if model::is_ranged_below(x) {
+            return k + 1;
+        }
+        k += 1;
+    }
+    0
+}
+
+// 20 at the item's line: those of the limit and the heading of the items stand before the items' lines.
+fn ranges_of_sheet(p: Progress) -> Progress
+    requires { ⌜ p .model .count ≤ 16 ⌝ }
+    ensures { λ r. ⌜ r ≡ rangesOf p ⌝ }
+{
+    let verdict = p.verdict;
+    match verdict {
+        Verdict::Refused(_) => p,
+        Verdict::Accepted => {
+            let m = p.model;
+            let k = first_ranged(m);
+            if k == 0 {
+                p
+            } else {
+                stopped(Refusal {
+                    number: refusals::RANGED_ITEM,
+                    line: (k + 3) as u64,
+                })
+            }
+        }
+    }
+}
+
 // ---- the sheet
 
 // Limit and items.
@@ -391,7 +433,8 @@ fn whole(s: &[u8], blanks: Blanks) -> Progress
     let lower = bounds_section(s, Side::Lower, h);
     let upper = bounds_section(s, Side::Upper, lower);
     let needs = needs_section(s, upper);
-    end_of_sheet(s, needs)
+    let end = end_of_sheet(s, needs);
+    ranges_of_sheet(end)
 }
 
 // Every sheet gets its record or its refusal. Blank items are refused or kept.

@@ -12,17 +12,16 @@ use lib.Dec.{ltb, eqb}
 use lib.ListN.{length, getD}
 use lib.Seq.{getD-set-same, getD-set-other}
 use Rattle.arith.specs.Sum.{Each}
-use Rattle.knapsack.specs.Ranges.{blank}
 use Rattle.knapsack.specs.declared.Bound.{Bound}
-use Rattle.knapsack.specs.declared.Item.{Item}
 use Rattle.knapsack.specs.declared.Verdict.{Verdict}
 use Rattle.knapsack.specs.declared.Verdict.the-variants.{Accepted, Refused}
 use Rattle.model.specs.declared.Blanks.the-variants as blanks
 use Rattle.model.specs.declared.Model.{Model}
+use Rattle.model.specs.declared.ModelItem.{ModelItem}
 use Rattle.model.specs.declared.Need.{Need}
 use Rattle.model.specs.declared.Side.the-variants.{Upper}
 use Rattle.model.specs.Needs.{noNeed}
-use Rattle.model.specs.Records.{itemAt, needAt, wrongNumber, namesItem, refusedIf, orElse, verdict, Agree}
+use Rattle.model.specs.Records.{noItem, itemAt, needAt, wrongNumber, namesItem, refusedIf, orElse, verdict, Agree}
 use Rattle.model.specs.Refusals.{full-record, missing-item, only-item}
 use Rattle.model.specs.Setters.{appended, bounded, withBound}
 use Rattle.model.proofs.BeyondCount.{beyond-verdict}
@@ -35,13 +34,13 @@ use Rattle.standing.specs.Effects.{Adds, Removes, Bounds, Alone}
 use Rattle.standing.proofs.Removed.{removed-count, removed-before, removed-after, removed-line}
 use Rattle.standing.proofs.Rows.{in-a-row, room, There, there-is, there-more}
 
-adds : (m : Model) (x : Item) → length (m .items) ≡ 16 → m .count < 16 → Adds m x (appended m x)
+adds : (m : Model) (x : ModelItem) → length (m .items) ≡ 16 → m .count < 16 → Adds m x (appended m x)
 adds m x full l = record {
   count = refl;
   capacity = refl;
   needs = refl;
-  rest = λ j h. getD-set-other (m .items) (m .count) j x blank (λ e. omega arith);
-  last = getD-set-same (m .items) (m .count) x blank (omega arith);
+  rest = λ j h. getD-set-other (m .items) (m .count) j x noItem (λ e. omega arith);
+  last = getD-set-same (m .items) (m .count) x noItem (omega arith);
 }
 
 bounds : (m : Model) (k : ℕ) (u : Bound) → length (m .items) ≡ 16 → There m k → Bounds m k u (withBound m Upper (k - 1) u)
@@ -49,8 +48,8 @@ bounds m k u full t = record {
   count = refl;
   capacity = refl;
   needs = refl;
-  rest = λ j h. getD-set-other (m .items) (k - 1) j (bounded Upper u (itemAt m (k - 1))) blank (λ e. h (omega (arith, t .least)));
-  own = getD-set-same (m .items) (k - 1) (bounded Upper u (itemAt m (k - 1))) blank (omega (arith, t .least, t .most, t .few));
+  rest = λ j h. getD-set-other (m .items) (k - 1) j (bounded Upper u (itemAt m (k - 1))) noItem (λ e. h (omega (arith, t .least)));
+  own = getD-set-same (m .items) (k - 1) (bounded Upper u (itemAt m (k - 1))) noItem (omega (arith, t .least, t .most, t .few));
 }
 
 removes : (m : Model) (k : ℕ) → There m k → Removes m k (removed m k)
@@ -85,7 +84,7 @@ change-alone (Bounding k u) m full h = bounds m k u full (there-is m k h)
 -- ---- places beyond the counts
 
 module _ (m o : Model) (e : Agree m o) where
-  agree-added : (x : Item) → Adds m x (appended m x) → Adds o x (appended o x) → Agree (appended m x) (appended o x)
+  agree-added : (x : ModelItem) → Adds m x (appended m x) → Adds o x (appended o x) → Agree (appended m x) (appended o x)
   agree-added x a b = record {
     count = ap suc (e .count);
     capacity = e .capacity;
@@ -123,7 +122,7 @@ module _ (m o : Model) (e : Agree m o) where
   agree-removed k = record {
     count = ap (rank (others k)) (e .count);
     capacity = e .capacity;
-    items = λ j l. ap (λ (is : List Item). getD is j blank) items;
+    items = λ j l. ap (λ (is : List ModelItem). getD is j noItem) items;
     need-count = rank-cong keep held n same ∙ ap (rank held) (e .need-count);
     needs = λ j l. ap (λ (ls : List Need). getD ls j noNeed) lines;
   }
@@ -141,8 +140,8 @@ module _ (m o : Model) (e : Agree m o) where
       same j l = ap (λ (x : Need). not (namesItem x k)) (e .needs j l)
 
       items : removed m k .items ≡ removed o k .items
-      items = packed-cong blank (others k) (others k) (itemAt m) (itemAt o) (m .count) (λ j l. refl) (e .items)
-          ∙ ap (packed blank (others k) (itemAt o)) (e .count)
+      items = packed-cong noItem (others k) (others k) (itemAt m) (itemAt o) (m .count) (λ j l. refl) (e .items)
+          ∙ ap (packed noItem (others k) (itemAt o)) (e .count)
 
       new : Model → ℕ → Need
       new p j = loweredNeed k (needAt (p .needs) j)

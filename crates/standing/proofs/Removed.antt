@@ -13,14 +13,14 @@ use native.Mathlib.Decide.{ℕ-discrete, decLt}
 use borrow.Author.Tests.{eqb-false, eq-eqb, ne-eqb, lt-ltb, le-ltb}
 use lib.Dec.{eqb}
 use lib.ListN.{set}
-use Rattle.knapsack.specs.Ranges.{blank}
 use Rattle.knapsack.specs.declared.Verdict.the-variants.{Accepted}
 use Rattle.model.specs.declared.Blanks.the-variants as blanks
 use Rattle.model.specs.declared.Model.{Model}
 use Rattle.model.specs.declared.Need.{Need}
+use Rattle.model.specs.declared.Sense.the-variants.{Sure}
 use Rattle.model.specs.declared.Needs.{Needs}
 use Rattle.model.specs.Needs.{noNeed}
-use Rattle.model.specs.Records.{emptyModel, itemAt, needAt, placed, namesItem, verdict, Numbers, Admissible}
+use Rattle.model.specs.Records.{noItem, emptyModel, itemAt, needAt, placed, namesItem, verdict, Numbers, Admissible}
 use Rattle.model.specs.Setters.{withCapacity, appended, withNeeds, appendedNeed}
 use Rattle.model.proofs.Records.{accepted, admitted}
 use Rattle.model.proofs.Tests.{neither}
@@ -76,7 +76,7 @@ unfolding rank packed
 removed-next m k n = go (eqb (suc n) k)
   where
     go : (b : Bool) → cond b (removedTo m k n 0) (appended (removedTo m k n 0) (itemAt m n)) ≡ record {
-      items = cond (not b) (set (packed blank (others k) (itemAt m) n) (rank (others k) n) (itemAt m n)) (packed blank (others k) (itemAt m) n);
+      items = cond (not b) (set (packed noItem (others k) (itemAt m) n) (rank (others k) n) (itemAt m n)) (packed noItem (others k) (itemAt m) n);
       count = cond (not b) (suc (rank (others k) n)) (rank (others k) n);
       capacity = m .capacity;
       needs = removedTo m k n 0 .needs;
@@ -123,7 +123,7 @@ module _ (m : Model) (k : ℕ) (few : m .count ≤ 16) (least : 1 ≤ k) (most :
   removed-count = rank-after k (m .count) least most
 
   moved : (j : ℕ) → j < m .count → others k j ≡ true → itemAt (removed m k) (rank (others k) j) ≡ itemAt m j
-  moved j l e = packed-at (others k) blank (itemAt m) (m .count) j few l e
+  moved j l e = packed-at (others k) noItem (itemAt m) (m .count) j few l e
 
   -- an item before it stays, by places
   pub removed-before : (j : ℕ) → suc j < k → itemAt (removed m k) j ≡ itemAt m j
@@ -175,14 +175,14 @@ module _ (m : Model) (k : ℕ) (a : Admissible m) (least : 1 ≤ k) (most : k �
   thins = record {
     capacity = refl;
     count = refl;
-    moved = moved m k (a .figures .few-items) least most;
+    moved = moved m k (a .figures Sure .few-items) least most;
     few-lines = omega (arith, rank-most keep t, a .few-needs);
     source = place keep t;
     source-in = place-in keep t;
     rising = λ j l. place-rises keep t j (suc j) (omega arith) l;
     stays = λ j l. let s = spare j l in stays-put (old j) (numbers j l) (s .0) (s .1);
     line = λ j l. let s = spare j l in
-        removed-line m k (a .figures .few-items) least most (a .few-needs) j l ∙ lowered-need (old j) (numbers j l) (s .0) (s .1);
+        removed-line m k (a .figures Sure .few-items) least most (a .few-needs) j l ∙ lowered-need (old j) (numbers j l) (s .0) (s .1);
   }
     where
       keep : ℕ → Bool
@@ -202,7 +202,7 @@ module _ (m : Model) (k : ℕ) (a : Admissible m) (least : 1 ≤ k) (most : k �
 
   pub removed-admissible : (m .count ≡ 1 → ⊥) → Admissible (removed m k)
   removed-admissible d =
-      let n = removed-count m k (a .figures .few-items) least most in
+      let n = removed-count m k (a .figures Sure .few-items) least most in
       thinned-admissible (others k) m (removed m k) thins blanks.Refused a (omega (arith, n)) (λ j l e. a .unbarred j l)
 
 -- End theorem: removing an item never makes a record refused.

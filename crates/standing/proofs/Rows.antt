@@ -12,6 +12,7 @@ use Rattle.knapsack.specs.declared.Refusal.{Refusal}
 use Rattle.knapsack.specs.declared.Verdict.{Verdict}
 use Rattle.knapsack.specs.declared.Verdict.the-variants.{Accepted, Refused}
 use Rattle.model.specs.declared.Model.{Model}
+use Rattle.model.specs.declared.Sense.the-variants.{Sure}
 use Rattle.model.specs.Records.{wrongNumber, refusedIf, orElse, verdict}
 use Rattle.model.specs.Refusals.{full-record, missing-item, only-item}
 use Rattle.model.proofs.Records.{both-accept, accepted}
@@ -56,7 +57,7 @@ there-is m k h =
       taken = r .0;
       least = omega (arith, eqb-false k 0 (n .0));
       most = ltb-false (m .count) k (n .1);
-      few = a .figures .few-items;
+      few = a .figures Sure .few-items;
       short = a .few-needs;
     }
 

@@ -12,22 +12,21 @@
 use mathlib.Core.Bool.{Bool, cond, not}
 use Prim.Native.Nat.{ℕ, suc, _-_}
 use lib.Dec.{ltb, eqb}
-use Rattle.knapsack.specs.Ranges.{blank}
 use Rattle.knapsack.specs.declared.Bound.{Bound}
-use Rattle.knapsack.specs.declared.Item.{Item}
 use Rattle.knapsack.specs.declared.Verdict.{Verdict}
 use Rattle.model.specs.declared.Model.{Model}
+use Rattle.model.specs.declared.ModelItem.{ModelItem}
 use Rattle.model.specs.declared.Need.{Need}
 use Rattle.model.specs.declared.Needs.{Needs}
 use Rattle.model.specs.declared.Side.the-variants.{Upper}
 use Rattle.model.specs.Needs.{noNeed}
-use Rattle.model.specs.Records.{itemAt, needAt, wrongNumber, namesItem, refusedIf, orElse, verdict}
+use Rattle.model.specs.Records.{noItem, itemAt, needAt, wrongNumber, namesItem, refusedIf, orElse, verdict}
 use Rattle.model.specs.Refusals.{full-record, missing-item, only-item}
 use Rattle.model.specs.Setters.{appended, withBound}
 use Rattle.dropping.specs.Kept.{rank, packed}
 
 pub data Change : Type 0 where
-  Adding : Item → Change
+  Adding : ModelItem → Change
   Removing : ℕ → Change
   Bounding : ℕ → Bound → Change
 
@@ -50,7 +49,7 @@ sparedTo k ns t = record { lines = packed noNeed (spared k ns) (λ j. loweredNee
 
 abbrev pub removedTo : Model → ℕ → ℕ → ℕ → Model
 removedTo m k n t = record {
-  items = packed blank (others k) (itemAt m) n;
+  items = packed noItem (others k) (itemAt m) n;
   count = rank (others k) n;
   capacity = m .capacity;
   needs = sparedTo k (m .needs) t;

@@ -8,14 +8,14 @@ use mathlib.Core.Path.{_≡_}
 use Prim.Native.Nat.{ℕ, suc, _-_, _≤_, _<_}
 use Rattle.arith.specs.Sum.{Each}
 use Rattle.knapsack.specs.declared.Bound.{Bound}
-use Rattle.knapsack.specs.declared.Item.{Item}
 use Rattle.model.specs.declared.Model.{Model}
+use Rattle.model.specs.declared.ModelItem.{ModelItem}
 use Rattle.model.specs.declared.Side.the-variants.{Upper}
 use Rattle.model.specs.Records.{itemAt, needAt, namesItem}
 use Rattle.model.specs.Setters.{bounded}
 use Rattle.standing.specs.Changes.{Change, Adding, Removing, Bounding, loweredNeed}
 
-pub record Adds (m : Model) (x : Item) (o : Model) : Type 0 where
+pub record Adds (m : Model) (x : ModelItem) (o : Model) : Type 0 where
   pub count : o .count ≡ suc (m .count)
   pub capacity : o .capacity ≡ m .capacity
   pub needs : o .needs ≡ m .needs

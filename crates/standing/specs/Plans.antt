@@ -1,5 +1,5 @@
--- What is owed of standing plans: paper 02, request 10. A reader has to believe this file, Changes, and what Planned stands on.
---   Holds m p        the plan holds the problem m, and the planner's reply to it
+-- What is owed of standing plans: paper 02, request 10. A reader has to believe this file, Changes, and what PlannedBoth stands on.
+--   Holds m p        the plan holds the problem m, and the planner's replies to it, in both senses
 --   Opens m r        the first plan of a problem
 --   Left p m q v     what a change to the problem m leaves of the plan p: if accepted a plan of m, if refused the plan as it came
 --   Tries p m r      the changed problem m was tried as a record
@@ -9,15 +9,15 @@ use mathlib.Core.Path.{_≡_}
 use Rattle.knapsack.specs.declared.Verdict.{Verdict}
 use Rattle.knapsack.specs.declared.Verdict.the-variants.{Accepted, Refused}
 use Rattle.model.specs.declared.Model.{Model}
-use Rattle.model.specs.Promises.{Planned}
 use Rattle.model.specs.Records.{verdict}
+use Rattle.senses.specs.Both.{PlannedBoth}
 use Rattle.standing.specs.declared.Changed.{Changed}
 use Rattle.standing.specs.declared.Plan.{Plan}
 use Rattle.standing.specs.Changes.{Change, changed, changeVerdict}
 
 pub record Holds (m : Model) (p : Plan) : Type 0 where
   pub model : p .model ≡ m
-  pub answer : Planned m (p .answer)
+  pub answers : PlannedBoth m (p .answers)
 
 pub record Opens (m : Model) (r : Changed) : Type 0 where
   pub told : r .verdict ≡ verdict m

@@ -1,10 +1,10 @@
-// A standing plan (paper 02, request 10): a problem and its reply, kept while pieces come and go. An item can be added at the end, be removed, or get
+// A standing plan (paper 02, request 10): a problem and its replies, kept while pieces come and go. An item can be added at the end, be removed, or get
 // another upper bound. A change is tried, then the changed problem is solved afresh; a refused change hands the plan back as it came.
-use knapsack::Answer;
 use knapsack::Bound;
-use knapsack::Item;
 use knapsack::Verdict;
+use model::Answers;
 use model::Model;
+use model::ModelItem;
 use model::Need;
 use model::Side;
 use model::check_model;
@@ -13,7 +13,7 @@ use model::naming;
 use model::refusals;
 use model::refused_if;
 use model::setters;
-use planner::plan;
+use senses::plan_both;
 ghost use mathlib.Core.Path.{_≡_};
 ghost use mathlib.Core.Bool.{cond};
 ghost use Prim.Native.Nat.{_≤_, _<_};
@@ -33,10 +33,10 @@ ghost use Rattle.standing.specs.Changes.{
 };
 ghost use Rattle.standing.specs.Plans.{Holds, Opens, Tries, Changes};
 
-// A problem and the reply to it.
+// A problem and the replies to it, in both senses.
 pub struct Plan {
     pub model: Model,
-    pub answer: Answer,
+    pub answers: Answers,
 }
 
 // What a change is told, and the plan after it.
@@ -76,7 +76,7 @@ fn none_of(m: Model, k: usize) -> Model
     setters::with_capacity(empty, b)
 }
 
-fn append_unless(q: Model, x: Item, left: bool) -> Model
+fn append_unless(q: Model, x: ModelItem, left: bool) -> Model
     requires { ⌜ q .count < 16 ⌝ }
     ensures { λ r. ⌜ r ≡ cond left q (appended q x) ⌝ }
 {
@@ -165,8 +165,8 @@ fn check_removal(m: Model, k: usize) -> Verdict
 fn fresh(m: Model) -> Plan
     ensures { λ r. ⌜ Holds m r ⌝ }
 {
-    let answer = plan(m);
-    Plan { model: m, answer }
+    let answers = plan_both(m);
+    Plan { model: m, answers }
 }
 
 // The plan of the changed problem; or, if that is refused as a record, the plan as it came.
@@ -197,7 +197,7 @@ pub fn open(m: Model) -> Changed
 }
 
 // With the item x at the end; 16.
-pub fn add_item(p: Plan, x: Item) -> Changed
+pub fn add_item(p: Plan, x: ModelItem) -> Changed
     ensures { λ r. ⌜ Changes (Adding x) p r ⌝ }
 {
     let m = p.model;

@@ -1,7 +1,8 @@
 // Changes drawn from a seed: one in four adds an item, one removes one, two set an upper bound, from 0 to twice its span. One item number in sixteen is 0,
-// and some are one too high; one item in sixteen is blank and one has a weight out of range, as has one bound in sixteen.
+// and some are one too high; of sixteen items one is blank, one has a weight out of range, one a low weight above its high one, four have a range, which
+// is refused if the amount may be below 0; and one bound in sixteen is out of range.
 use knapsack::Bound;
-use knapsack::Item;
+use model::ModelItem;
 use trials::draw::Spans;
 use trials::draw::below;
 use trials::draw::drawn_item;
@@ -15,20 +16,27 @@ ghost use Prim.Native.Nat.{_≤_};
 pub struct Change {
     pub kind: u64,
     pub item_number: usize,
-    pub item: Item,
+    pub item: ModelItem,
     pub upper: Bound,
     pub state: u64,
 }
 
-fn spoiled(x: Item, state: u64) -> Item {
+fn spoiled(x: ModelItem, state: u64) -> ModelItem {
     let mut y = x;
     let d = below(state, 15);
     if d == 0 {
-        y.weight = 0;
+        y.low = 0;
+        y.high = 0;
         y.price = 0;
     }
     if d == 1 {
-        y.weight = 1001;
+        y.high = 1001;
+    }
+    if d == 2 {
+        y.low = plus(y.high, 1);
+    }
+    if d == 3 || d == 4 || d == 5 || d == 6 {
+        y.high = plus(y.high, 2);
     }
     y
 }

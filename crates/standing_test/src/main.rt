@@ -17,8 +17,11 @@ use crate::twin::twin_of;
 use knapsack::Answer;
 use knapsack::Bound;
 use knapsack::Kind;
+use model::Answers;
 use model::Model;
+use model::ModelItem;
 use model::Need;
+use model::Sense;
 use model::setters;
 use planner::plan;
 use standing::Changed;
@@ -45,6 +48,7 @@ use trials::print::print;
 use trials::print::print_field;
 use trials::print::print_kind;
 use trials::print::print_problem;
+use trials::ranges::at_ends;
 use trials::tally::Tally;
 use trials::tally::no_answers;
 use trials::tally::tallied;
@@ -56,12 +60,16 @@ const REACH: i64 = 20;
 
 fn print_plan(p: Plan) {
     let m = p.model;
-    let a = p.answer;
+    let both = p.answers;
+    let a = both.sure;
+    let b = both.possible;
     let ns = m.needs;
     print_problem(m);
     print_count(b", needs ", ns.count as u64);
     print(b": ");
     print_kind(a);
+    print(b" and ");
+    print_kind(b);
     print(b"\n");
 }
 
@@ -124,11 +132,27 @@ fn chosen_needs() {
     show(b"remove 1", remove_item(p, 1));
 }
 
+fn ranged(low: i64, high: i64, lower: i64) -> ModelItem {
+    let mut x = held(low, 5, lower, 10);
+    x.high = high;
+    x
+}
+
+// Weights within a range: the two answers differ, and refusals 19 and 20 are the changed record's.
+fn chosen_ranges() {
+    let p = show(b"open", open(one(10, held(4, 6, 0, 10))));
+    let q = show(b"add 3:5", add_item(p, ranged(3, 5, 0)));
+    show(b"add 5:3", add_item(q, ranged(5, 3, 0)));
+    show(b"add 3:5, lower -1", add_item(q, ranged(3, 5, -1)));
+    show(b"upper 2, 1", set_upper(q, 2, Bound::At(1)));
+    show(b"remove 1", remove_item(q, 1));
+}
+
 // Plans that did not come from the planner: their records are tried first, their answers play no part.
 fn chosen_strange() {
     let p = open(one(4, held(3, 5, 0, 10)));
     let q = p.plan;
-    let a = q.answer;
+    let a = q.answers;
     let m = q.model;
     let none = setters::with_count(m, 0);
     let many = setters::with_count(m, 17);
@@ -138,7 +162,7 @@ fn chosen_strange() {
         remove_item(
             Plan {
                 model: none,
-                answer: a,
+                answers: a,
             },
             1,
         ),
@@ -148,7 +172,7 @@ fn chosen_strange() {
         add_item(
             Plan {
                 model: many,
-                answer: a,
+                answers: a,
             },
             held(1, 1, 0, 1),
         ),
@@ -158,7 +182,7 @@ fn chosen_strange() {
         set_upper(
             Plan {
                 model: other,
-                answer: a,
+                answers: a,
             },
             1,
             Bound::At(9),
@@ -211,6 +235,7 @@ struct Manner {
     closed: bool,
 }
 
+// The weights of m are known.
 fn judged(m: Model, a: Answer, w: Manner) -> Outcome {
     let n = m.count;
     if 15 < n || !w.few {
@@ -219,14 +244,32 @@ fn judged(m: Model, a: Answer, w: Manner) -> Outcome {
     outcome_of(m, a, n, REACH, w.closed)
 }
 
+// The sure answer with every weight at its high end, the possible one with every weight at its low one.
+fn judged_both(m: Model, a: Answers, w: Manner) -> Outcome {
+    let sure = a.sure;
+    let possible = a.possible;
+    let high = judged(at_ends(m, 65535), sure, w);
+    let low = judged(at_ends(m, 0), possible, w);
+    Outcome {
+        agrees: high.agrees && low.agrees,
+        met: high.met,
+    }
+}
+
 // The answer is that of the record solved afresh.
-fn is_fresh(m: Model, a: Answer, w: Manner) -> bool {
-    let b = plan(m);
+fn is_fresh_in(m: Model, sense: Sense, a: Answer, w: Manner) -> bool {
+    let b = plan(m, sense);
     if w.closed {
         same_answer(a, b)
     } else {
         alike(a, b)
     }
+}
+
+fn is_fresh(m: Model, a: Answers, w: Manner) -> bool {
+    let sure = a.sure;
+    let possible = a.possible;
+    is_fresh_in(m, Sense::Sure, sure, w) && is_fresh_in(m, Sense::Possible, possible, w)
 }
 
 // What the changes of a family come to.
@@ -238,6 +281,8 @@ struct Seen {
     full: u64,
     missing: u64,
     only: u64,
+    reversed: u64,
+    ranged: u64,
     other: u64,
     wrong: u64,
 }
@@ -252,13 +297,15 @@ fn seen_none() -> Seen {
         full: 0,
         missing: 0,
         only: 0,
+        reversed: 0,
+        ranged: 0,
         other: 0,
         wrong: 0,
     }
 }
 
 fn is_listed(n: u64) -> bool {
-    n == 4 || n == 14 || n == 15 || n == 16 || n == 17 || n == 18
+    n == 4 || (13 < n && n < 21)
 }
 
 fn with_refusal(s: Seen, n: u64, wrong: bool) -> Seen {
@@ -271,6 +318,8 @@ fn with_refusal(s: Seen, n: u64, wrong: bool) -> Seen {
         full: one_more(s.full, n == 16),
         missing: one_more(s.missing, n == 17),
         only: one_more(s.only, n == 18),
+        reversed: one_more(s.reversed, n == 19),
+        ranged: one_more(s.ranged, n == 20),
         other: one_more(s.other, !is_listed(n)),
         wrong: one_more(s.wrong, wrong),
     }
@@ -299,9 +348,10 @@ fn judged_change(s: Seen, p: Plan, r: Changed, t: Twin, w: Manner) -> Seen {
     let q = r.plan;
     let m = t.model;
     let o = q.model;
-    let a = q.answer;
-    let j = judged(m, a, w);
-    let agrees = t.number == 0 && same_problem(m, o) && is_fresh(m, a, w) && j.agrees;
+    let both = q.answers;
+    let a = both.sure;
+    let j = judged_both(m, both, w);
+    let agrees = t.number == 0 && same_problem(m, o) && is_fresh(m, both, w) && j.agrees;
     with_answer(
         s,
         a,
@@ -388,13 +438,15 @@ fn print_seen(s: Seen) {
     print_count(b" (met ", t.met);
     print_count(b"), infeasible ", t.infeasible);
     print_count(b", unbounded ", t.unbounded);
-    print(b"; refused 4, 14, 15, 16, 17, 18, others:");
+    print(b"; refused 4, 14 to 20, others:");
     print_field(s.figure);
     print_field(s.named);
     print_field(s.blank);
     print_field(s.full);
     print_field(s.missing);
     print_field(s.only);
+    print_field(s.reversed);
+    print_field(s.ranged);
     print_field(s.other);
     print_count(b"; disagreements ", t.wrong);
     print_count(b" and ", s.wrong);
@@ -443,6 +495,7 @@ fn manner_of(most: usize, few: bool, closed: bool) -> Manner {
 fn main() {
     chosen();
     chosen_needs();
+    chosen_ranges();
     chosen_strange();
     drawn(
         b"integer",

@@ -2,9 +2,10 @@
 use arith::Fraction;
 use knapsack::Answer;
 use knapsack::Bound;
-use knapsack::Item;
 use knapsack::Mark;
+use model::Answers;
 use model::Model;
+use model::ModelItem;
 use model::Need;
 use model::Needs;
 use standing::Plan;
@@ -27,19 +28,19 @@ fn same_bound(a: Bound, b: Bound) -> bool {
     x == y
 }
 
-fn same_item(x: Item, y: Item) -> bool {
+fn same_item(x: ModelItem, y: ModelItem) -> bool {
     let m = x.mark;
     let o = y.mark;
     let xl = x.lower;
     let yl = y.lower;
     let xu = x.upper;
     let yu = y.upper;
-    let figures = x.weight == y.weight && x.price == y.price;
+    let figures = x.low == y.low && x.high == y.high && x.price == y.price;
     is_whole(m) == is_whole(o) && figures && same_bound(xl, yl) && same_bound(xu, yu)
 }
 
 // The first n places.
-fn same_items(a: [Item; 16], b: [Item; 16], n: usize) -> bool {
+fn same_items(a: [ModelItem; 16], b: [ModelItem; 16], n: usize) -> bool {
     let mut k: usize = 0;
     while k < 16 {
         let x = a[k];
@@ -137,11 +138,19 @@ pub fn same_answer(a: Answer, b: Answer) -> bool {
     alike(a, b) && same_points(x, y) && same_steps(s, t)
 }
 
+fn same_answers(a: Answers, b: Answers) -> bool {
+    let x = a.sure;
+    let y = b.sure;
+    let s = a.possible;
+    let t = b.possible;
+    same_answer(x, y) && same_answer(s, t)
+}
+
 // All places and lines, also unused ones.
 pub fn same_plan(p: Plan, q: Plan) -> bool {
     let m = p.model;
     let o = q.model;
-    let a = p.answer;
-    let b = q.answer;
-    same_up_to(m, o, 16, 16) && same_answer(a, b)
+    let a = p.answers;
+    let b = q.answers;
+    same_up_to(m, o, 16, 16) && same_answers(a, b)
 }

@@ -2,9 +2,9 @@
 // numbers whether the old ones stand in a line of needs.
 use crate::draw::Change;
 use knapsack::Bound;
-use knapsack::Item;
 use knapsack::Verdict;
 use model::Model;
+use model::ModelItem;
 use model::Need;
 use model::Needs;
 use model::check_model;
@@ -131,9 +131,10 @@ fn with_upper(m: Model, k: usize, u: Bound) -> Model {
     let x = m.items[k - 1];
     let mark = x.mark;
     let lower = x.lower;
-    let y = Item {
+    let y = ModelItem {
         mark: mark,
-        weight: x.weight,
+        low: x.low,
+        high: x.high,
         price: x.price,
         lower: lower,
         upper: u,
@@ -141,7 +142,7 @@ fn with_upper(m: Model, k: usize, u: Bound) -> Model {
     setters::with_item(m, k - 1, y)
 }
 
-fn with_last(m: Model, x: Item) -> Model {
+fn with_last(m: Model, x: ModelItem) -> Model {
     let n = m.count;
     if 15 < n {
         return m;

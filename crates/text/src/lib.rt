@@ -9,8 +9,8 @@ ghost use lib.ListN.{length};
 ghost use Rattle.text.specs.Decimal.{decimal, integer};
 ghost use Rattle.text.specs.Buffer.{Put, Spelled, told, filled};
 
-// Room for the longest text that is written: a reply, with a heading of at most 50 bytes and 16 lines of at most 86.
-pub const ROOM: usize = 1440;
+// Room for the longest text that is written: two replies, each with a heading of at most 50 bytes and 16 lines of at most 86.
+pub const ROOM: usize = 2880;
 
 // A text by value: the first len bytes.
 pub struct Text {
@@ -107,7 +107,7 @@ pub fn put_integer(out: &mut [u8], at: usize, z: i64, end: u8) -> usize
 
 // The bytes before there is a text.
 pub fn space() -> [u8; ROOM]
-    ensures { λ r. ⌜ length r ≡ 1440 ⌝ }
+    ensures { λ r. ⌜ length r ≡ 2880 ⌝ }
 {
     [0; ROOM]
 }

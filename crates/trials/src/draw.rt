@@ -2,10 +2,10 @@
 use crate::exact::times;
 use crate::make::record_of;
 use knapsack::Bound;
-use knapsack::Item;
 use knapsack::Mark;
-use knapsack::blank_item;
 use model::Model;
+use model::ModelItem;
+use model::no_item;
 ghost use Prim.Native.Nat.{_≤_};
 
 // No figure is farther from zero than its span, and the capacity is a multiple of the unit. Of four bounds so many are absent, of four
@@ -41,7 +41,7 @@ struct Ends {
 }
 
 pub struct DrawnItem {
-    pub item: Item,
+    pub item: ModelItem,
     pub state: u64,
 }
 
@@ -115,11 +115,11 @@ fn drawn_bound(state: u64, at: i64, s: Spans) -> Bound {
     }
 }
 
-fn lesser(a: i64, b: i64) -> i64 {
+pub fn lesser(a: i64, b: i64) -> i64 {
     if a < b { a } else { b }
 }
 
-fn greater(a: i64, b: i64) -> i64 {
+pub fn greater(a: i64, b: i64) -> i64 {
     if a < b { b } else { a }
 }
 
@@ -151,9 +151,10 @@ pub fn drawn_item(state: u64, s: Spans) -> DrawnItem {
     let ends = drawn_ends(c, figure(l, s.bound), figure(u, s.bound), s);
     let lower = drawn_bound(i, ends.lower, s);
     let upper = drawn_bound(j, ends.upper, s);
-    let x = Item {
+    let x = ModelItem {
         mark: mark,
-        weight: weight,
+        low: weight,
+        high: weight,
         price: mended_price(weight, drawn_price(c, weight, s)),
         lower: lower,
         upper: upper,
@@ -167,7 +168,7 @@ pub fn drawn_capacity(state: u64, s: Spans) -> i64 {
 
 // A problem of so many items; the places beyond them are drawn too.
 pub fn drawn_problem(state: u64, count: usize, s: Spans) -> DrawnProblem {
-    let blank = blank_item();
+    let blank = no_item();
     let mut items = [blank; 16];
     let mut now = next(state);
     let capacity = drawn_capacity(now, s);

@@ -8,9 +8,9 @@ use crate::kept::chosen;
 use crate::kept::keeps;
 use crate::print::size_of;
 use knapsack::Bound;
-use knapsack::Item;
 use knapsack::Mark;
 use model::Model;
+use model::ModelItem;
 ghost use Prim.Native.Nat.{_≤_};
 
 // The best value p / q so far, of the feasible points that were tried.
@@ -46,17 +46,17 @@ fn at(b: Bound) -> i64 {
     }
 }
 
-pub fn low(x: Item) -> i64 {
+pub fn low(x: ModelItem) -> i64 {
     let l = x.lower;
     at(l)
 }
 
-pub fn high(x: Item) -> i64 {
+pub fn high(x: ModelItem) -> i64 {
     let u = x.upper;
     at(u)
 }
 
-fn is_continuous(x: Item) -> bool {
+fn is_continuous(x: ModelItem) -> bool {
     let m = x.mark;
     match m {
         Mark::Integer => false,
@@ -74,7 +74,7 @@ fn no_choice() -> Choices {
 }
 
 // The filler is left out: it takes 0 for the time being.
-pub fn choices_of(x: Item, filler: bool) -> Choices {
+pub fn choices_of(x: ModelItem, filler: bool) -> Choices {
     if filler {
         return Choices {
             first: 0,
@@ -128,7 +128,7 @@ pub fn points(p: Model, filler: usize, n: usize) -> u64
 }
 
 // One item more: its amount is the next digit of the point's number.
-fn with_item(s: Sums, x: Item, filler: bool) -> Sums {
+fn with_item(s: Sums, x: ModelItem, filler: bool) -> Sums {
     let c = choices_of(x, filler);
     if c.number == 0 {
         return s;
@@ -137,7 +137,7 @@ fn with_item(s: Sums, x: Item, filler: bool) -> Sums {
     let amount = chosen(c, digit);
     Sums {
         rest: s.rest / c.number,
-        weight: plus(s.weight, times(x.weight, amount)),
+        weight: plus(s.weight, times(x.high, amount)),
         value: plus(s.value, times(x.price, amount)),
     }
 }
@@ -198,8 +198,8 @@ pub fn between(a: i64, x: i64, b: i64) -> bool {
 }
 
 // A point whose filler x, of weight above 0, takes room / weight.
-fn with_filled(best: Best, x: Item, room: i64, value: i64) -> Best {
-    let a = x.weight;
+fn with_filled(best: Best, x: ModelItem, room: i64, value: i64) -> Best {
+    let a = x.high;
     if between(times(low(x), a), room, times(high(x), a)) {
         return offered(best, plus(times(value, a), times(x.price, room)), a);
     }
@@ -207,8 +207,8 @@ fn with_filled(best: Best, x: Item, room: i64, value: i64) -> Best {
 }
 
 // The same of weight below 0: room and weight both change their sign.
-fn with_lightened(best: Best, x: Item, room: i64, value: i64) -> Best {
-    let a = times(x.weight, -1);
+fn with_lightened(best: Best, x: ModelItem, room: i64, value: i64) -> Best {
+    let a = times(x.high, -1);
     let over = times(room, -1);
     if between(times(low(x), a), over, times(high(x), a)) {
         return offered(best, plus(times(value, a), times(x.price, over)), a);
@@ -216,12 +216,12 @@ fn with_lightened(best: Best, x: Item, room: i64, value: i64) -> Best {
     best
 }
 
-fn with_filler(best: Best, p: Model, x: Item, s: Sums) -> Best {
+fn with_filler(best: Best, p: Model, x: ModelItem, s: Sums) -> Best {
     let room = minus(p.capacity, s.weight);
-    if x.weight > 0 {
+    if x.high > 0 {
         return with_filled(best, x, room, s.value);
     }
-    if x.weight < 0 {
+    if x.high < 0 {
         return with_lightened(best, x, room, s.value);
     }
     best
@@ -257,12 +257,8 @@ fn with_points(start: Best, p: Model, filler: usize, n: usize) -> Best
     best
 }
 
-pub fn can_fill(x: Item) -> bool {
-    if is_continuous(x) {
-        x.weight != 0
-    } else {
-        false
-    }
+pub fn can_fill(x: ModelItem) -> bool {
+    if is_continuous(x) { x.high != 0 } else { false }
 }
 
 // The best value of a problem of at most 15 items with every bound present.

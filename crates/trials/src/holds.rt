@@ -1,5 +1,6 @@
 // Whether an answer's point is one, by the point check and its divisors, and whether its steps are a ray (paper 01, "Unbounded"), by
 // plain sums.
+use crate::exact::as_signed;
 use crate::exact::is_far;
 use crate::exact::plus;
 use crate::exact::times;
@@ -10,9 +11,10 @@ use feasibility::PointReply;
 use feasibility::check_point;
 use knapsack::Answer;
 use knapsack::Bound;
-use knapsack::Item;
 use knapsack::Mark;
 use model::Model;
+use model::ModelItem;
+use model::Sense;
 use model::beyond;
 ghost use Prim.Native.Nat.{_≤_};
 
@@ -20,6 +22,7 @@ fn checked(p: Model, a: Answer) -> PointReply {
     let amounts = a.point;
     check_point(
         p,
+        Sense::Sure,
         Candidate {
             amounts: amounts,
             count: p.count,
@@ -44,9 +47,9 @@ fn is_feasible(r: PointReply) -> bool {
 }
 
 // The divisor of an item's amounts: a continuous one's is its weight without sign, 1 where it is 0 (paper 02, request 12).
-fn own_divisor(x: Item) -> u64 {
+fn own_divisor(x: ModelItem) -> u64 {
     let m = x.mark;
-    let size = size_of(x.weight);
+    let size = size_of(x.high);
     match m {
         Mark::Integer => 1,
         Mark::Continuous => { if size == 0 { 1 } else { size } }
@@ -76,6 +79,51 @@ pub fn point_holds(p: Model, a: Answer) -> bool {
     divisors_hold(p, a) && is_worth(checked(p, a), v)
 }
 
+// ---- its weight by plain sums, whatever its divisors
+
+// What the items so far weigh: p / q.
+struct Load {
+    p: i64,
+    q: i64,
+}
+
+fn with_amount(s: Load, x: ModelItem, v: Fraction) -> Load {
+    let d = as_signed(v.q);
+    let w = times(x.high, v.p);
+    Load {
+        p: plus(times(s.p, d), times(w, s.q)),
+        q: times(s.q, d),
+    }
+}
+
+fn load_of(p: Model, amounts: [Fraction; 16], n: usize) -> Load
+    requires { ⌜ n ≤ 16 ⌝ }
+{
+    let items = p.items;
+    let mut s = Load { p: 0, q: 1 };
+    let mut k: usize = 0;
+    while k < n {
+        let x = items[k];
+        let v = amounts[k];
+        s = with_amount(s, x, v);
+        k += 1;
+    }
+    s
+}
+
+// Whether the point fits.
+pub fn fits(p: Model, a: Answer) -> bool {
+    if p.count > 16 {
+        return false;
+    }
+    let amounts = a.point;
+    let s = load_of(p, amounts, p.count);
+    let limit = times(p.capacity, s.q);
+    !is_far(s.p) && s.p <= limit
+}
+
+// ---- rays
+
 // What is known of the steps so far: none meets a bound, how many move, and their weight and gain.
 struct Ray {
     open: bool,
@@ -92,7 +140,7 @@ fn is_absent(b: Bound) -> bool {
 }
 
 // Whether an item may take its step, which is within ±1,000, for ever.
-fn may_move(x: Item, s: i64) -> bool {
+fn may_move(x: ModelItem, s: i64) -> bool {
     if beyond(s, 1000) {
         return false;
     }
@@ -115,12 +163,12 @@ fn one_more(n: usize, s: i64) -> usize {
     if n < 3 { n + 1 } else { n }
 }
 
-fn with_step(r: Ray, x: Item, s: i64) -> Ray {
+fn with_step(r: Ray, x: ModelItem, s: i64) -> Ray {
     let open = if may_move(x, s) { r.open } else { false };
     Ray {
         open: open,
         moved: one_more(r.moved, s),
-        weight: plus(r.weight, times(x.weight, s)),
+        weight: plus(r.weight, times(x.high, s)),
         gain: plus(r.gain, times(x.price, s)),
     }
 }
@@ -163,12 +211,16 @@ fn is_ray(r: Ray) -> bool {
     r.gain > 0
 }
 
-// The start is feasible and within the limits, and the steps are a ray.
-pub fn ray_holds(p: Model, a: Answer) -> bool {
+// The steps are a ray.
+pub fn leads_on(p: Model, a: Answer) -> bool {
     if p.count > 16 {
         return false;
     }
     let steps = a.steps;
-    let ray = is_ray(ray_of(p, steps, p.count));
-    ray && divisors_hold(p, a) && is_feasible(checked(p, a))
+    is_ray(ray_of(p, steps, p.count))
+}
+
+// The start is feasible and within the limits, and the steps are a ray.
+pub fn ray_holds(p: Model, a: Answer) -> bool {
+    leads_on(p, a) && divisors_hold(p, a) && is_feasible(checked(p, a))
 }

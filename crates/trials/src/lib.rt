@@ -12,5 +12,6 @@ pub mod needs; // needs from a seed
 pub mod outcome; // an answer beside plain enumeration
 pub mod points; // the points of a problem beside the one that an answer shows
 pub mod print; // numbers, items, problems and kinds in paper 01's words
+pub mod ranges; // weights known within ranges, from a seed
 pub mod read; // numbers, items and needs from a program's input
 pub mod tally; // what answers come to, counted

@@ -1,15 +1,16 @@
 // Items and problems made by hand.
 use knapsack::Bound;
-use knapsack::Item;
 use knapsack::Mark;
-use knapsack::blank_item;
 use model::Model;
+use model::ModelItem;
+use model::no_item;
 use model::setters;
 
-pub fn item(weight: i64, price: i64, lower: Bound, upper: Bound) -> Item {
-    Item {
+pub fn item(weight: i64, price: i64, lower: Bound, upper: Bound) -> ModelItem {
+    ModelItem {
         mark: Mark::Integer,
-        weight: weight,
+        low: weight,
+        high: weight,
         price: price,
         lower: lower,
         upper: upper,
@@ -17,32 +18,33 @@ pub fn item(weight: i64, price: i64, lower: Bound, upper: Bound) -> Item {
 }
 
 // With both bounds.
-pub fn held(weight: i64, price: i64, lower: i64, upper: i64) -> Item {
+pub fn held(weight: i64, price: i64, lower: i64, upper: i64) -> ModelItem {
     item(weight, price, Bound::At(lower), Bound::At(upper))
 }
 
 // From 0 on, with no upper bound.
-pub fn from_zero(weight: i64, price: i64) -> Item {
+pub fn from_zero(weight: i64, price: i64) -> ModelItem {
     item(weight, price, Bound::At(0), Bound::Absent)
 }
 
 // Up to 0, with no lower bound.
-pub fn to_zero(weight: i64, price: i64) -> Item {
+pub fn to_zero(weight: i64, price: i64) -> ModelItem {
     item(weight, price, Bound::Absent, Bound::At(0))
 }
 
 // With no bound at all.
-pub fn free(weight: i64, price: i64) -> Item {
+pub fn free(weight: i64, price: i64) -> ModelItem {
     item(weight, price, Bound::Absent, Bound::Absent)
 }
 
 // The same item, continuous.
-pub fn loose(x: Item) -> Item {
+pub fn loose(x: ModelItem) -> ModelItem {
     let l = x.lower;
     let u = x.upper;
-    Item {
+    ModelItem {
         mark: Mark::Continuous,
-        weight: x.weight,
+        low: x.low,
+        high: x.high,
         price: x.price,
         lower: l,
         upper: u,
@@ -50,14 +52,14 @@ pub fn loose(x: Item) -> Item {
 }
 
 // The record of a capacity, a count and all 16 places.
-pub fn record_of(capacity: i64, count: usize, items: [Item; 16]) -> Model {
+pub fn record_of(capacity: i64, count: usize, items: [ModelItem; 16]) -> Model {
     let m = setters::with_capacity(setters::empty_model(), capacity);
     setters::with_items(setters::with_count(m, count), items)
 }
 
 // The first count of x, y and z are the problem's items.
-pub fn first_of(capacity: i64, count: usize, x: Item, y: Item, z: Item) -> Model {
-    let blank = blank_item();
+pub fn first_of(capacity: i64, count: usize, x: ModelItem, y: ModelItem, z: ModelItem) -> Model {
+    let blank = no_item();
     let mut items = [blank; 16];
     items[0] = x;
     items[1] = y;
@@ -65,12 +67,12 @@ pub fn first_of(capacity: i64, count: usize, x: Item, y: Item, z: Item) -> Model
     record_of(capacity, count, items)
 }
 
-pub fn one(capacity: i64, x: Item) -> Model {
-    let blank = blank_item();
+pub fn one(capacity: i64, x: ModelItem) -> Model {
+    let blank = no_item();
     first_of(capacity, 1, x, blank, blank)
 }
 
-pub fn two(capacity: i64, x: Item, y: Item) -> Model {
-    let blank = blank_item();
+pub fn two(capacity: i64, x: ModelItem, y: ModelItem) -> Model {
+    let blank = no_item();
     first_of(capacity, 2, x, y, blank)
 }

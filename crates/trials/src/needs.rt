@@ -5,15 +5,15 @@ use crate::draw::below;
 use crate::draw::next;
 use crate::exact::times;
 use knapsack::Bound;
-use knapsack::Item;
 use knapsack::Mark;
 use model::Model;
+use model::ModelItem;
 use model::Need;
 use model::naming::is_unfit;
 use model::setters;
 ghost use Prim.Native.Nat.{_≤_};
 
-fn lifted_lower(b: Bound) -> Bound {
+pub fn lifted_lower(b: Bound) -> Bound {
     match b {
         Bound::Absent => Bound::At(0),
         Bound::At(v) => Bound::At(if v < 0 { 0 } else { v }),
@@ -27,14 +27,15 @@ fn lifted_upper(b: Bound) -> Bound {
     }
 }
 
-fn fit_item(x: Item) -> Item {
+fn fit_item(x: ModelItem) -> ModelItem {
     let l = x.lower;
     let u = x.upper;
     let lower = lifted_lower(l);
     let upper = lifted_upper(u);
-    Item {
+    ModelItem {
         mark: Mark::Integer,
-        weight: x.weight,
+        low: x.low,
+        high: x.high,
         price: x.price,
         lower: lower,
         upper: upper,

@@ -12,9 +12,9 @@ use crate::holds::point_holds;
 use crate::holds::ray_holds;
 use knapsack::Answer;
 use knapsack::Bound;
-use knapsack::Item;
 use knapsack::Kind;
 use model::Model;
+use model::ModelItem;
 ghost use Prim.Native.Nat.{_≤_};
 
 // ---- the problem with its absent bounds closed
@@ -26,15 +26,16 @@ fn shut_at(b: Bound, v: i64) -> Bound {
     }
 }
 
-fn shut_item(x: Item, reach: i64) -> Item {
+fn shut_item(x: ModelItem, reach: i64) -> ModelItem {
     let m = x.mark;
     let l = x.lower;
     let u = x.upper;
     let lower = shut_at(l, times(reach, -1));
     let upper = shut_at(u, reach);
-    Item {
+    ModelItem {
         mark: m,
-        weight: x.weight,
+        low: x.low,
+        high: x.high,
         price: x.price,
         lower: lower,
         upper: upper,

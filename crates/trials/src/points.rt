@@ -17,8 +17,8 @@ use crate::kept::chosen;
 use crate::kept::keeps;
 use arith::Fraction;
 use knapsack::Answer;
-use knapsack::Item;
 use model::Model;
+use model::ModelItem;
 ghost use Prim.Native.Nat.{_≤_};
 
 // The item that takes what the others leave of the capacity, and its amount p / q.
@@ -67,7 +67,7 @@ fn compared(o: Order, p: i64, q: i64, v: Fraction) -> Order {
 }
 
 // One item more: its amount is the next digit of the point's number, or that of the filler.
-fn walked(w: Walk, x: Item, v: Fraction, k: usize, f: Filler) -> Walk {
+fn walked(w: Walk, x: ModelItem, v: Fraction, k: usize, f: Filler) -> Walk {
     let o = w.order;
     if k == f.at {
         let order = compared(o, f.p, f.q, v);
@@ -162,13 +162,13 @@ fn with_filler(
     n: usize,
     number: u64,
     s: Sums,
-    x: Item,
+    x: ModelItem,
     k: usize,
 ) -> Judged
     requires { ⌜ n ≤ 15 ⌝ }
 {
-    let sign = if x.weight < 0 { -1 } else { 1 };
-    let w = times(x.weight, sign);
+    let sign = if x.high < 0 { -1 } else { 1 };
+    let w = times(x.high, sign);
     let room = times(minus(m.capacity, s.weight), sign);
     if !between(times(low(x), w), room, times(high(x), w)) {
         return j;

@@ -1,11 +1,11 @@
-// Printing: numbers, items as (mark,weight,price,lower,upper) with `..` for an absent bound, and an answer's kind in paper 01's words.
+// Printing: numbers, items as (mark,weight,price,lower,upper) with low:high for a range of weights and `..` for an absent bound, and an answer's kind in paper 01's words.
 use knapsack::Answer;
 use knapsack::Bound;
-use knapsack::Item;
 use knapsack::Kind;
 use knapsack::Mark;
 use libc::STDOUT_FILENO;
 use model::Model;
+use model::ModelItem;
 
 pub fn print(text: &[u8]) {
     io::write_all(STDOUT_FILENO, text);
@@ -65,12 +65,21 @@ fn print_bound(b: Bound) {
     }
 }
 
-pub fn print_item(x: Item) {
+// One weight, or the two ends of its range.
+fn print_weight(low: i64, high: i64) {
+    if low != high {
+        print_signed(low);
+        print(b":");
+    }
+    print_signed(high);
+}
+
+pub fn print_item(x: ModelItem) {
     print(b" (");
     let m = x.mark;
     print_mark(m);
     print(b",");
-    print_signed(x.weight);
+    print_weight(x.low, x.high);
     print(b",");
     print_signed(x.price);
     let l = x.lower;

@@ -1,12 +1,12 @@
 // Numbers, items and needs that a program of the gate reads from its input. An item is `W a c lower upper`, with `L` for a continuous one and
 // `..` for an absent bound. Needs are their count, the number of lines given, and each line as `k m`.
 use knapsack::Bound;
-use knapsack::Item;
 use knapsack::Mark;
-use knapsack::blank_item;
+use model::ModelItem;
 use model::Need;
 use model::Needs;
 use model::naming::no_needs;
+use model::no_item;
 ghost use Prim.Native.Nat.{_≤_};
 
 // A number read: with its sign, without, and the place behind it.
@@ -22,12 +22,12 @@ pub struct OneBound {
 }
 
 pub struct OneItem {
-    pub item: Item,
+    pub item: ModelItem,
     pub at: usize,
 }
 
 pub struct Items {
-    pub list: [Item; 16],
+    pub list: [ModelItem; 16],
     pub at: usize,
 }
 
@@ -156,9 +156,10 @@ fn read_item(s: &[u8], from: usize) -> OneItem {
     let l = lower.bound;
     let u = upper.bound;
     OneItem {
-        item: Item {
+        item: ModelItem {
             mark: mark_of(byte_at(s, at)),
-            weight: weight.value,
+            low: weight.value,
+            high: weight.value,
             price: price.value,
             lower: l,
             upper: u,
@@ -167,8 +168,8 @@ fn read_item(s: &[u8], from: usize) -> OneItem {
     }
 }
 
-fn blank_items() -> [Item; 16] {
-    let i = blank_item();
+fn blank_items() -> [ModelItem; 16] {
+    let i = no_item();
     [i; 16]
 }
 

@@ -13,7 +13,6 @@ use native.Mathlib.Omega.{arith}
 use native.Mathlib.Decide.{decLt}
 use lib.ListN.{length, take, getD, replicate, length-append, length-replicate, getD-replicate, List·getD-append, List·getD-eq-default}
 use lib.Seq.{length-take-le, getD-take, getD-append-add}
-use Rattle.knapsack.specs.Ranges.{blank}
 use Rattle.knapsack.specs.declared.Verdict.the-variants.{Accepted}
 use Rattle.model.specs.declared.Blanks.the-variants as blanks
 use Rattle.model.specs.declared.Model.{Model}
@@ -21,7 +20,7 @@ use Rattle.model.specs.declared.Side.{Side}
 use Rattle.model.specs.declared.Side.the-variants.{Lower, Upper}
 use Rattle.model.specs.declared.Need.{Need}
 use Rattle.model.specs.Needs.{noNeed}
-use Rattle.model.specs.Records.{itemAt, needAt, verdict, Agree}
+use Rattle.model.specs.Records.{noItem, itemAt, needAt, verdict, Agree}
 use Rattle.model.proofs.BeyondCount.{beyond-verdict}
 use Rattle.model.proofs.Records.{unfaulted}
 use Rattle.lines.specs.Layout.{bounding}
@@ -92,15 +91,15 @@ module _ (m : Model) (size : Sized m) (h : verdict m ≡ Accepted) where
   tidied-agrees = record {
     count = refl;
     capacity = refl;
-    items = kept-same (m .items) blank (m .count) (size .places) (unfaulted m h .most);
+    items = kept-same (m .items) noItem (m .count) (size .places) (unfaulted m h .most);
     need-count = refl;
     needs = kept-same (m .needs .lines) noNeed (m .needs .count) (size .lines) (unfaulted m h .few-needs);
   }
 
   pub tidied-tidy : Tidy (tidied m)
   tidied-tidy = record {
-    places = kept-length (m .items) blank (m .count) (size .places) (unfaulted m h .most);
-    unused = kept-rest (m .items) blank (m .count) (size .places) (unfaulted m h .most);
+    places = kept-length (m .items) noItem (m .count) (size .places) (unfaulted m h .most);
+    unused = kept-rest (m .items) noItem (m .count) (size .places) (unfaulted m h .most);
     lines = kept-length (m .needs .lines) noNeed (m .needs .count) (size .lines) (unfaulted m h .few-needs);
     spare = kept-rest (m .needs .lines) noNeed (m .needs .count) (size .lines) (unfaulted m h .few-needs);
   }

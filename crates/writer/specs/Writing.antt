@@ -5,12 +5,12 @@
 use mathlib.Core.List.{_++_}
 use Prim.Native.Nat.{_-_}
 use lib.ListN.{take, replicate}
-use Rattle.knapsack.specs.Ranges.{blank}
 use Rattle.knapsack.specs.declared.Refusal.{Refusal}
 use Rattle.knapsack.specs.declared.Verdict.{Verdict}
 use Rattle.knapsack.specs.declared.Verdict.the-variants.{Accepted, Refused}
 use Rattle.model.specs.declared.Model.{Model}
 use Rattle.model.specs.Needs.{noNeed}
+use Rattle.model.specs.Records.{noItem}
 use Rattle.model.specs.Setters.{withItems, withNeeds}
 
 abbrev pub onAccepted : {A : Type 0} → Verdict → (Refusal → A) → A → A
@@ -19,5 +19,5 @@ onAccepted (Refused r) f x = f r
 
 abbrev pub tidied : Model → Model
 tidied m =
-    withNeeds (withItems m (take (m .count) (m .items) ++ replicate (16 - m .count) blank))
+    withNeeds (withItems m (take (m .count) (m .items) ++ replicate (16 - m .count) noItem))
     (record { lines = take (m .needs .count) (m .needs .lines) ++ replicate (16 - m .needs .count) noNeed; count = m .needs .count })

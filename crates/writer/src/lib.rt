@@ -2,10 +2,10 @@
 // Reading what was written gives the record again, and writing what was read the very bytes: proofs/Roundtrip.
 // A section is a function; each writes at a place and replies with the place behind what it wrote, as crate text does.
 use knapsack::Bound;
-use knapsack::Item;
 use knapsack::Mark;
 use knapsack::Verdict;
 use model::Model;
+use model::ModelItem;
 use model::Need;
 use model::Side;
 use model::check_model;
@@ -52,16 +52,18 @@ fn mark_byte(m: Mark) -> u8
     }
 }
 
-fn put_item(out: &mut [u8], at: usize, i: Item) -> usize
-    requires { ⌜ (at + 46 ≤ length (now out)) × (badFigure i ≡ false) ⌝ }
-    ensures { λ r. ⌜ Put 24 at (itemText i) (now (out .entry)) (now (out .exit)) r ⌝ }
+fn put_item(out: &mut [u8], at: usize, i: ModelItem) -> usize
+    requires { ⌜ (at + 68 ≤ length (now out)) × (badFigure i ≡ false) ⌝ }
+    ensures { λ r. ⌜ Put 35 at (itemText i) (now (out .entry)) (now (out .exit)) r ⌝ }
 {
     let mark = i.mark;
-    let a = i.weight;
+    let a = i.low;
+    let b = i.high;
     let c = i.price;
     let blank = put_byte(out, at, mark_byte(mark));
-    let weight = put_byte(out, blank, b' ');
-    let price = put_integer(out, weight, a, b' ');
+    let low = put_byte(out, blank, b' ');
+    let high = put_integer(out, low, a, b' ');
+    let price = put_integer(out, high, b, b' ');
     put_integer(out, price, c, b'\n')
 }
 
@@ -108,8 +110,8 @@ fn put_limit(out: &mut [u8], b: i64) -> usize
 }
 
 fn put_item_lines(out: &mut [u8], at: usize, m: Model) -> usize
-    requires { ⌜ (at + 406 ≤ length (now out)) × (verdict m ≡ Accepted) ⌝ }
-    ensures { λ r. ⌜ Put 384 at (linesText itemText (upTo (m .count) (itemAt m))) (now (out .entry)) (now (out .exit)) r ⌝ }
+    requires { ⌜ (at + 593 ≤ length (now out)) × (verdict m ≡ Accepted) ⌝ }
+    ensures { λ r. ⌜ Put 560 at (linesText itemText (upTo (m .count) (itemAt m))) (now (out .entry)) (now (out .exit)) r ⌝ }
 {
     let n = m.count;
     let mut next = at;
@@ -123,15 +125,15 @@ fn put_item_lines(out: &mut [u8], at: usize, m: Model) -> usize
 }
 
 fn put_items(out: &mut [u8], at: usize, m: Model) -> usize
-    requires { ⌜ (at + 433 ≤ length (now out)) × (verdict m ≡ Accepted) ⌝ }
-    ensures { λ r. ⌜ Put 411 at (sectionText itemForm items (upTo (m .count) (itemAt m))) (now (out .entry)) (now (out .exit)) r ⌝ }
+    requires { ⌜ (at + 620 ≤ length (now out)) × (verdict m ≡ Accepted) ⌝ }
+    ensures { λ r. ⌜ Put 587 at (sectionText itemForm items (upTo (m .count) (itemAt m))) (now (out .entry)) (now (out .exit)) r ⌝ }
 {
     let n = m.count;
     let next = put_heading(out, at, b"items", n);
     put_item_lines(out, next, m)
 }
 
-fn bound_of(i: Item, side: Side) -> Bound
+fn bound_of(i: ModelItem, side: Side) -> Bound
     ensures { λ r. ⌜ r ≡ sideOf side i ⌝ }
 {
     match side {
@@ -202,8 +204,8 @@ fn put_needs(out: &mut [u8], at: usize, m: Model) -> usize
 // ---- the sheet
 
 fn put_sheet(out: &mut [u8], m: Model) -> usize
-    requires { ⌜ (1440 ≤ length (now out)) × (verdict m ≡ Accepted) ⌝ }
-    ensures { λ r. ⌜ Put 1341 0 (printing m) (now (out .entry)) (now (out .exit)) r ⌝ }
+    requires { ⌜ (1600 ≤ length (now out)) × (verdict m ≡ Accepted) ⌝ }
+    ensures { λ r. ⌜ Put 1517 0 (printing m) (now (out .entry)) (now (out .exit)) r ⌝ }
 {
     let b = m.capacity;
     let items = put_limit(out, b);

@@ -1,14 +1,14 @@
 // Tries the writer: write, read, write. What was written is read again as the same problem, and what was read is written as the same bytes;
 // a buffer of just the sheet's length is enough, a byte less is refusal 11 and changes nothing, and behind a sheet the bytes stay.
-//   drawn      records from the seeds that are printed, with the needs drawn for them, and rubbish beyond both counts
+//   drawn      records from the seeds that are printed, with the needs and the ranges of weights drawn for them, and rubbish beyond both counts
 //   longest    the longest sheet there is
 //   refused    records out of range, also where the buffer is short
 // `disagreements` counts the records for which one of these fails.
 use knapsack::Bound;
-use knapsack::Item;
 use knapsack::Mark;
 use knapsack::Verdict;
 use model::Model;
+use model::ModelItem;
 use model::Need;
 use model::naming::no_need;
 use model::setters;
@@ -26,6 +26,7 @@ use trials::needs::with_all_needs;
 use trials::needs::with_drawn_needs;
 use trials::print::print;
 use trials::print::print_field;
+use trials::ranges::with_drawn_ranges;
 ghost use mathlib.Core.Path.{_≡_};
 ghost use lib.ListN.{length};
 
@@ -113,13 +114,13 @@ fn same_bound(a: Bound, b: Bound) -> bool {
     }
 }
 
-fn same_item(x: Item, y: Item) -> bool {
+fn same_item(x: ModelItem, y: ModelItem) -> bool {
     let m = x.mark;
     let n = y.mark;
     if is_continuous(m) != is_continuous(n) {
         return false;
     }
-    if x.weight != y.weight || x.price != y.price {
+    if x.low != y.low || x.high != y.high || x.price != y.price {
         return false;
     }
     let l = x.lower;
@@ -130,11 +131,11 @@ fn same_item(x: Item, y: Item) -> bool {
 }
 
 // The item that the reader leaves at a place: the record's, or a blank one beyond the count.
-fn item_read(m: Model, k: usize) -> Item {
+fn item_read(m: Model, k: usize) -> ModelItem {
     if k < m.count && k < 16 {
         return m.items[k];
     }
-    knapsack::blank_item()
+    model::no_item()
 }
 
 // The line of needs that the reader leaves: the record's, or an unused one beyond the count.
@@ -233,7 +234,7 @@ fn more_needs(n: u64, m: Model) -> u64 {
 }
 
 // Out of range, with bounds that cross: no entry looks at it beyond the count.
-fn rubbish() -> Item {
+fn rubbish() -> ModelItem {
     make::held(5000, -70000, 1, -1)
 }
 
@@ -251,10 +252,18 @@ fn with_rubbish(m: Model) -> Model {
     n
 }
 
+// With ranges for about half of the items.
 fn drawn(state: u64, n: usize, among: u64, s: Spans) -> DrawnProblem {
     let d = drawn_problem(state, n, s);
     let m = d.problem;
-    with_drawn_needs(m, d.state, among)
+    let e = with_drawn_needs(m, d.state, among);
+    let p = e.problem;
+    let r = with_drawn_ranges(p, e.state, 1, s.weight);
+    let q = r.problem;
+    DrawnProblem {
+        problem: q,
+        state: e.state,
+    }
 }
 
 fn print_drawn(seed: u64, problems: u64, n: usize, among: u64, s: Spans) {
@@ -322,12 +331,12 @@ fn show(name: &[u8], m: Model) {
     print(b"\n");
 }
 
-fn all_places(x: Item) -> [Item; 16] {
+fn all_places(x: ModelItem) -> [ModelItem; 16] {
     [x; 16]
 }
 
 // The longest lines of items; five of them may be named, and 16 lines of needs take five.
-fn longest_items() -> [Item; 16] {
+fn longest_items() -> [ModelItem; 16] {
     let x = make::held(-1000, -10000, -10000, -10000);
     let named = make::held(-1000, -10000, 10000, -10000);
     let mut items = all_places(x);
@@ -340,7 +349,7 @@ fn longest_items() -> [Item; 16] {
 }
 
 // Two items of which the first may be named, and a need.
-fn needy(y: Item, item: usize, cover: usize) -> Model {
+fn needy(y: ModelItem, item: usize, cover: usize) -> Model {
     let m = make::two(0, make::held(1, 1, 0, 1), y);
     let need = Need {
         item: item,
@@ -364,6 +373,67 @@ fn show_chosen() {
     show(b"refused, figures", make::one(0, rubbish()));
     show(b"refused, blank", make::one(0, make::free(0, 0)));
     show(b"bounds that cross", make::one(0, make::held(1, 1, 1, 0)));
+}
+
+fn ranged(low: i64, high: i64, price: i64, lower: Bound) -> ModelItem {
+    ModelItem {
+        mark: Mark::Integer,
+        low: low,
+        high: high,
+        price: price,
+        lower: lower,
+        upper: Bound::At(3),
+    }
+}
+
+fn show_range(name: &[u8], low: i64, high: i64, price: i64, lower: Bound) {
+    show(name, make::one(0, ranged(low, high, price, lower)));
+}
+
+fn show_ranges() {
+    show_range(b"a range", -1000, 1000, 1, Bound::At(0));
+    show_range(b"a range from 0, price 0", 0, 1, 0, Bound::At(0));
+    show_range(b"refused, low above high", 1, -1, 1, Bound::At(0));
+    show_range(
+        b"refused, low above high and price 0",
+        1,
+        0,
+        0,
+        Bound::At(0),
+    );
+    show_range(b"refused, low out of range", -1001, 0, 1, Bound::At(0));
+    show_range(b"refused, high out of range", 0, 1001, 1, Bound::At(0));
+    show_range(b"refused, a range from below 0", 0, 1, 1, Bound::At(-1));
+    show_range(
+        b"refused, a range with no lower bound",
+        0,
+        1,
+        1,
+        Bound::Absent,
+    );
+    let blank = make::free(0, 0);
+    let odd = ranged(1, 0, 1, Bound::At(0));
+    show(
+        b"refused, low above high behind a blank item",
+        make::two(0, blank, odd),
+    );
+    show(
+        b"refused, a blank item behind a range from below 0",
+        make::two(0, ranged(0, 1, 1, Bound::At(-1)), blank),
+    );
+    show(
+        b"refused, needs before a range from below 0",
+        needy(ranged(0, 1, 1, Bound::Absent), 1, 2),
+    );
+    show(
+        b"refused, a range from below 0 behind needs",
+        with_last(needy(make::held(2, 2, 0, 3), 2, 1)),
+    );
+}
+
+// A third item, with a range and no lower bound.
+fn with_last(m: Model) -> Model {
+    setters::with_item(setters::with_count(m, 3), 2, ranged(0, 1, 1, Bound::Absent))
 }
 
 fn show_needs() {
@@ -394,4 +464,5 @@ fn main() {
     print_drawn(6, 100, 16, 5, wide(0));
     show_chosen();
     show_needs();
+    show_ranges();
 }

@@ -5,6 +5,7 @@ use Rattle.knapsack.specs.declared.Verdict.the-variants.{Accepted}
 use Rattle.model.specs.Records.{verdict}
 use Rattle.model.proofs.Records.{accepted}
 use Rattle.model.specs.declared.Model.{Model}
+use Rattle.model.specs.declared.Sense.{Sense}
 use Rattle.domination.specs.declared.PairReply.{PairReply}
 use Rattle.domination.specs.Pairs.{leastPair}
 use Rattle.domination.specs.Told.{Told}
@@ -27,27 +28,27 @@ taken : (e : tie.After-enum-told) → verdict (e .before .before .before .args .
 taken e = sym (e .before .before .check-model .ensures) ∙ e .enum-told .given .1
 
 pair-numbered-requires : tie.Need-pair-numbered-requires
-pair-numbered-requires c κs = rw (c .plain-of .ensures) (accepted _ (taken (c .before)) .figures)
+pair-numbered-requires c κs = rw (c .plain-of .ensures) (accepted _ (taken (c .before)) .figures _)
 
 enum-known-v : tie.Need-enum-known-v
 enum-known-v c = search needs
 
-met : (m : Model) (i j : ℕ) (r : PairReply) → r ≡ leastPair m i j → (r ≡ leastPair m i j) × Told m i j r
-met m i j r e = (e, subst (Told m i j) (sym e) (told m i j))
+met : (sense : Sense) (m : Model) (i j : ℕ) (r : PairReply) → r ≡ leastPair sense m i j → (r ≡ leastPair sense m i j) × Told sense m i j r
+met sense m i j r e = (e, subst (Told sense m i j) (sym e) (told sense m i j))
 
 returns : tie.Need-returns
 unfolding leastPair
 returns c =
     let t = c .before .before in
     let a = t .before .before .before .args in
-    met (a .m) (a .i) (a .j) _ (rw (taken t, ← c .before .plain-of .ensures) (c .pair-numbered .ensures))
+    met (a .sense) (a .m) (a .i) (a .j) _ (rw (taken t, ← c .before .plain-of .ensures) (c .pair-numbered .ensures))
 
 returns-2 : tie.Need-returns-2
 unfolding leastPair
 returns-2 c =
     let v = c .before .before .before in
     let a = v .before .args in
-    met (a .m) (a .i) (a .j) _ (rw (sym (v .check-model .ensures) ∙ c .before .v .given .1))
+    met (a .sense) (a .m) (a .i) (a .j) _ (rw (sym (v .check-model .ensures) ∙ c .before .v .given .1))
 
 pub least-pair-spec : {M : Type 1} → statement M
 least-pair-spec =

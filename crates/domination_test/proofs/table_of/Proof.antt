@@ -1,6 +1,7 @@
 -- `domination_test::table_of`: the plain problem of an accepted record is in range, which is all that the table asks.
 use mathlib.Core.Path.{sym, _∙_}
 use Rattle.model.proofs.Records.{accepted}
+use Rattle.model.specs.declared.Sense.the-variants.{Sure}
 use borrow.Author.Needs.{needs}
 use Rattle.domination_test.proofs.table_of.Statement.{statement}
 use Rattle.domination_test.proofs.table_of.Tie as tie
@@ -21,7 +22,7 @@ pair-table-requires : tie.Need-pair-table-requires
 pair-table-requires c κs =
     let n = c .before in
     let e = n .before in
-    rw (n .plain-of .ensures) (accepted _ (sym (e .before .before .check-model .ensures) ∙ e .enum-told .given .1) .figures)
+    rw (n .plain-of .ensures) (accepted _ (sym (e .before .before .check-model .ensures) ∙ e .enum-told .given .1) .figures Sure)
 
 enum-told-2 : tie.Need-enum-told-2
 enum-told-2 c = search needs

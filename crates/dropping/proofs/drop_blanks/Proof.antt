@@ -4,6 +4,7 @@ use Prim.Native.Nat.{_-_, _≤_}
 use native.Mathlib.Numerals.{add-one}
 use native.Mathlib.Omega.{arith}
 use borrow.Author.Needs.{needs}
+use Rattle.model.specs.declared.Sense.the-variants.{Sure}
 use Rattle.dropping.specs.Dropping.{droppedTo}
 use Rattle.dropping.proofs.Dropped.{lines-next, line-numbers}
 use Rattle.dropping.proofs.drop_blanks.Statement.{statement}
@@ -20,7 +21,7 @@ abbrev start : tie.At-loop Inv-loop μ-loop → tie.Start Inv-loop μ-loop
 start c = c .before .before .before
 
 kept-items-requires : tie.Need-kept-items-requires Inv-loop μ-loop
-kept-items-requires c κs = search needs
+kept-items-requires c κs = c .before .pre .figures Sure .few-items
 
 loop-holds : tie.Need-loop-holds Inv-loop μ-loop
 loop-holds c = (omega arith, c .kept-items .ensures)

@@ -20,20 +20,20 @@ add-is-named c = search needs
 is-named-requires : tie.Need-is-named-requires
 is-named-requires c κs = search needs
 
-does-cross-requires : tie.Need-does-cross-requires
-does-cross-requires c κs = search needs
+do-bounds-cross-requires : tie.Need-do-bounds-cross-requires
+do-bounds-cross-requires c κs = search needs
 
 returns : tie.Need-returns
 returns c =
     let n = c .before .before in
     let b = n .before .before in
-    rw (sym (b .before .is-blank .ensures) ∙ b .if1 .taken, sym (c .before .does-cross .ensures) ∙ c .if2 .taken)
+    rw (sym (b .before .is-blank .ensures) ∙ b .if1 .taken, sym (c .before .do-bounds-cross .ensures) ∙ c .if2 .taken)
 
 returns-2 : tie.Need-returns-2
 returns-2 c =
     let n = c .before .before in
     let b = n .before .before in
-    rw (sym (b .before .is-blank .ensures) ∙ b .if1 .taken, sym (c .before .does-cross .ensures) ∙ c .if2 .left) (rw add-one at (n .is-named .ensures))
+    rw (sym (b .before .is-blank .ensures) ∙ b .if1 .taken, sym (c .before .do-bounds-cross .ensures) ∙ c .if2 .left) (rw add-one at (n .is-named .ensures))
 
 returns-3 : tie.Need-returns-3
 returns-3 c = rw (sym (c .before .is-blank .ensures) ∙ c .if1 .left)
@@ -47,7 +47,7 @@ is-hindered-spec =
     is-blank-requires
     add-is-named
     is-named-requires
-    does-cross-requires
+    do-bounds-cross-requires
     returns
     returns-2
     returns-3)

@@ -13,8 +13,8 @@ enum-told c = search needs
 enum-known-m : tie.Need-enum-known-m
 enum-known-m c = search needs
 
-numbers-line-requires : tie.Need-numbers-line-requires
-numbers-line-requires c κs = search needs
+figures-line-requires : tie.Need-figures-line-requires
+figures-line-requires c κs = search needs
 
 enum-known-p : tie.Need-enum-known-p
 enum-known-p c = search needs
@@ -33,7 +33,7 @@ returns-2 c =
     let k = p .before .before .before in
     rw (
       sym (k .before .before .before .mark-field .ensures) ∙ k .before .m .given .1,
-      sym (p .before .before .numbers-line .ensures) ∙ p .p .given .1,
+      sym (p .before .before .figures-line .ensures) ∙ p .p .given .1,
     )
 
 returns-3 : tie.Need-returns-3
@@ -43,7 +43,7 @@ returns-3 c =
     let k = p .before .before .before in
     rw (
       sym (k .before .before .before .mark-field .ensures) ∙ k .before .m .given .1,
-      sym (p .before .before .numbers-line .ensures) ∙ p .p2 .given .1,
+      sym (p .before .before .figures-line .ensures) ∙ p .p2 .given .1,
     )
 
 pub item-form-spec : {M : Type 1} → statement M
@@ -53,7 +53,7 @@ item-form-spec =
     mark-field-requires
     enum-told
     enum-known-m
-    numbers-line-requires
+    figures-line-requires
     enum-known-p
     enum-known-p-2
     returns

@@ -27,8 +27,8 @@ enum-known-kind c = search needs
 returns : tie.Need-returns
 returns c = let e = c .before .kind .given .1 in (rw e, rw e)
 
-list-answer-requires : tie.Need-list-answer-requires
-list-answer-requires c κs = search needs
+list-answers-requires : tie.Need-list-answers-requires
+list-answers-requires c κs = search needs
 
 same-length : tie.Need-same-length
 same-length c = search needs
@@ -38,9 +38,9 @@ returns-2 c =
     let l = c .before .before in
     let k = l .before .before in
     let h = k .match .keys2 in
-    let a = k .before .before .args in
-    (l .list-answer .ensures .0 ∙ sym (not-refused (a .a .kind) _ _ h), l .list-answer .ensures .1 ∙ sym (not-refused (a .a .kind) _ _ h))
+    let a = k .before .before .before .args in
+    (l .list-answers .ensures .0 ∙ sym (not-refused (a .s .sure .kind) _ _ h), l .list-answers .ensures .1 ∙ sym (not-refused (a .s .sure .kind) _ _ h))
 
 pub list-reply-spec : {M : Type 1} → statement M
 list-reply-spec =
-    tie.close (tie.spec enum-known-kind returns list-answer-requires same-length returns-2)
+    tie.close (tie.spec enum-known-kind returns list-answers-requires same-length returns-2)

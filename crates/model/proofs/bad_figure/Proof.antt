@@ -5,48 +5,39 @@ use mir.Syntax.{w64}
 use mir.Val.{SFits}
 use mir.Facts.{toZ-ofZ}
 use borrow.Author.Needs.{needs}
-use Rattle.model.specs.Records.{outside}
+use Rattle.model.specs.Records.{outside, badWeights}
 use Rattle.model.proofs.bad_figure.Statement.{statement}
 use Rattle.model.proofs.bad_figure.Tie as tie
 
-weight-test : (c : tie.After-beyond) → outside 1000 (c .before .before .args .i .weight) ≡ c .beyond .result
-weight-test c =
-    let h : SFits w64 (c .before .before .args .i .weight) = search needs in
+price-test : (c : tie.After-beyond) → outside 10000 (c .before .before .before .before .args .i .price) ≡ c .beyond .result
+price-test c =
+    let h : SFits w64 (c .before .before .before .before .args .i .price) = search needs in
     sym (rw (toZ-ofZ h) at (c .beyond .ensures))
 
--- the moments that are spoken of below
-abbrev start : tie.Else1 → tie.Start
-start c = c .before .before .before
+bad-weights-requires : tie.Need-bad-weights-requires
+bad-weights-requires c κs = search needs
 
-price-test : (c : tie.After-beyond2) →
-    let s = start (c .before .before) in
-    outside 10000 (s .args .i .price) ≡ c .beyond2 .result
-price-test c =
-    let s = start (c .before .before) in
-    let h : SFits w64 (s .args .i .price) = search needs in
-    sym (rw (toZ-ofZ h) at (c .beyond2 .ensures))
+returns : tie.Need-returns
+returns c = rw (sym (c .before .bad-weights .ensures) ∙ c .if1 .taken)
 
 beyond-requires : tie.Need-beyond-requires
 beyond-requires c κs = search needs
 
-returns : tie.Need-returns
-returns c = rw (weight-test (c .before) ∙ c .if1 .taken)
-
-beyond-requires-2 : tie.Need-beyond-requires-2
-beyond-requires-2 c κs = search needs
-
 returns-2 : tie.Need-returns-2
-returns-2 c = let e = c .before .before .before in rw (weight-test (e .before) ∙ e .if1 .left, price-test (c .before) ∙ c .if2 .taken)
+returns-2 c =
+    let e = c .before .before .before in
+    rw (sym (e .before .bad-weights .ensures) ∙ e .if1 .left, price-test (c .before) ∙ c .if2 .taken)
 
 bad-bound-requires : tie.Need-bad-bound-requires
 bad-bound-requires c κs = search needs
 
--- both figures are in range
+-- weights and price are in range
 figures : (c : tie.Else2) →
-    let s = start (c .before .before .before) in
-    (outside 1000 (s .args .i .weight) ≡ false) ×
-    (outside 10000 (s .args .i .price) ≡ false)
-figures c = let e = c .before .before .before in (weight-test (e .before) ∙ e .if1 .left, price-test (c .before) ∙ c .if2 .left)
+    let i = c .before .before .before .before .before .args .i in
+    (badWeights i ≡ false) × (outside 10000 (i .price) ≡ false)
+figures c =
+    let e = c .before .before .before in
+    (sym (e .before .bad-weights .ensures) ∙ e .if1 .left, price-test (c .before) ∙ c .if2 .left)
 
 returns-3 : tie.Need-returns-3
 returns-3 c =
@@ -66,9 +57,9 @@ pub bad-figure-spec : {M : Type 1} → statement M
 bad-figure-spec =
     tie.close
     (tie.spec
-    beyond-requires
+    bad-weights-requires
     returns
-    beyond-requires-2
+    beyond-requires
     returns-2
     bad-bound-requires
     returns-3

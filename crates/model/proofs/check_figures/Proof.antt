@@ -12,11 +12,8 @@ beyond-requires c κs = search needs
 refused-if-requires : tie.Need-refused-if-requires
 refused-if-requires c κs = search needs
 
-some-faulty-requires : tie.Need-some-faulty-requires
-some-faulty-requires c κs = search needs
-
-refused-if-requires-2 : tie.Need-refused-if-requires-2
-refused-if-requires-2 c κs = search needs
+check-items-requires : tie.Need-check-items-requires
+check-items-requires c κs = search needs
 
 first-of-requires : tie.Need-first-of-requires
 first-of-requires c κs = search needs
@@ -24,18 +21,10 @@ first-of-requires c κs = search needs
 returns : tie.Need-returns
 returns c =
     let i = c .before in
-    let k = i .before .before in
+    let k = i .before in
     let s = k .before .before .before in
     let h : SFits w64 (s .args .m .capacity) = search needs in
-    rw (c .first-of .ensures, i .refused-if2 .ensures, i .before .some-faulty .ensures, k .refused-if .ensures, k .before .beyond .ensures, toZ-ofZ h)
+    rw (c .first-of .ensures, i .check-items .ensures, k .refused-if .ensures, k .before .beyond .ensures, toZ-ofZ h)
 
 pub check-figures-spec : {M : Type 1} → statement M
-check-figures-spec =
-    tie.close
-    (tie.spec
-    beyond-requires
-    refused-if-requires
-    some-faulty-requires
-    refused-if-requires-2
-    first-of-requires
-    returns)
+check-figures-spec = tie.close (tie.spec beyond-requires refused-if-requires check-items-requires first-of-requires returns)

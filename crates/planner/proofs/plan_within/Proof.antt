@@ -27,7 +27,7 @@ taken : (e : tie.After-enum-told) → verdict (e .before .before .before .args .
 taken e = sym (e .before .before .check-model .ensures) ∙ e .enum-told .given .1
 
 solve-needs-requires : tie.Need-solve-needs-requires
-solve-needs-requires c κs = rw (c .plain-of .ensures) (needed _ (accepted _ (taken (c .before .before))))
+solve-needs-requires c κs = rw (c .plain-of .ensures) (needed _ _ (accepted _ (taken (c .before .before))))
 
 enum-known-v : tie.Need-enum-known-v
 enum-known-v c = search needs
@@ -40,8 +40,9 @@ returns c =
     let r = c .before in
     let p = r .before in
     let e = p .before .before in
-    let m = e .before .before .before .args .m in
-    let s = instanceOf (plainOf m) in
+    let given = e .before .before .before .args in
+    let m = given .m in
+    let s = instanceOf (plainOf (given .sense) m) in
     let ns = needsOf (m .needs) in
     let a = r .solve-needs .result .answer in
     let answers : AnswersNeeds s ns a = rw (p .plain-of .ensures) at (r .solve-needs .ensures .0 .answers) in
@@ -54,10 +55,11 @@ returns-2 : tie.Need-returns-2
 returns-2 c =
     let v = c .before .before in
     let k = v .before .before in
-    let m = k .before .args .m in
+    let given = k .before .args in
+    let m = given .m in
     let is = sym (k .check-model .ensures) ∙ v .v .given .1 in
     record {
-      replies = subst (RepliesAs (instanceOf (plainOf m)) (needsOf (m .needs)) (c .no-point .result)) (sym is) (c .no-point .ensures);
+      replies = subst (RepliesAs (instanceOf (plainOf (given .sense) m)) (needsOf (m .needs)) (c .no-point .result)) (sym is) (c .no-point .ensures);
       first = λ low e. absurd (not-refused (c .no-point .result .kind) _ (ap (λ (a : Answer). a .kind) (c .no-point .ensures)) e);
     }
 

@@ -1,6 +1,7 @@
 -- `rays_test::print_ray` meets its contract: an accepted record has its figures in range.
 use mathlib.Core.Path.{sym, _∙_}
 use Rattle.model.proofs.Records.{accepted}
+use Rattle.model.specs.declared.Sense.the-variants.{Sure}
 use borrow.Author.Needs.{needs}
 use Rattle.rays_test.proofs.print_ray.Statement.{statement}
 use Rattle.rays_test.proofs.print_ray.Tie as tie
@@ -17,7 +18,7 @@ plain-of-requires c κs = search needs
 scanned-requires : tie.Need-scanned-requires
 scanned-requires c κs =
     let e = c .before in
-    rw (c .plain-of .ensures) (accepted _ (sym (e .before .before .check-model .ensures) ∙ e .enum-told .given .1) .figures)
+    rw (c .plain-of .ensures) (accepted _ (sym (e .before .before .check-model .ensures) ∙ e .enum-told .given .1) .figures Sure)
 
 enum-told-2 : tie.Need-enum-told-2
 enum-told-2 c = search needs

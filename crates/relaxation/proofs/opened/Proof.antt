@@ -21,9 +21,9 @@ returns : tie.Need-returns
 returns c =
     let n = c .before in
     let m = n .before in
-    let s = m .before .before in
-    rw (c .with-needs .ensures, n .with-count .ensures, m .with-capacity .ensures, m .before .empty-model .ensures, toZ-ofZ (s .fits .capacity), load-none)
+    let e = m .before in
+    let s = e .before .before in
+    rw (c .with-needs .ensures, n .with-count .ensures, m .with-capacity .ensures, e .empty-model .ensures, toZ-ofZ (s .fits .capacity), load-none)
 
 pub opened-spec : {M : Type 1} → statement M
-opened-spec =
-    tie.close (tie.spec empty-model-requires with-capacity-requires with-count-requires with-needs-requires returns)
+opened-spec = tie.close (tie.spec empty-model-requires with-capacity-requires with-count-requires with-needs-requires returns)

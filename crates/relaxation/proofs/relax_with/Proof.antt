@@ -115,22 +115,21 @@ use denote.Triple.Table.{entered, cited}
 use denote.Triple.Walked.{says, Stays, stay-none, stay-slice, walkOf, goes-none, goes-slice, Walks, ends-at, walked, walk-meets}
 use denote.Signature.{plain}
 use Rattle.knapsack.specs.declared.Answer.{Answer}
-use Rattle.knapsack.specs.declared.Item.{Item}
-use Rattle.model.specs.declared.Model.{Model}
-use Rattle.model.specs.declared.Needs.{Needs}
-use Rattle.knapsack.specs.Ranges.{blank, itemAt}
+use Rattle.model.specs.declared.ModelItem.{ModelItem}
+use Rattle.model.specs.Records.{noItem, itemAt}
 use Rattle.knapsack.proofs.Answer as Q
 use Rattle.knapsack.proofs.Answer.Laws as Q′
-use Rattle.knapsack.proofs.Item as T
-use Rattle.knapsack.proofs.Item.Laws as T′
-use Rattle.model.proofs.Model as P
-use Rattle.model.proofs.Model.Laws as P′
-use Rattle.model.proofs.Needs as N
-use Rattle.model.proofs.Needs.Laws as N′
+use Rattle.model.proofs.ModelItem as T
+use Rattle.model.proofs.ModelItem.Laws as T′
+use Rattle.relaxation.proofs.Query as P
+use Rattle.relaxation.proofs.Query.Laws as P′
+use Rattle.relaxation.proofs.Terms as N
+use Rattle.relaxation.proofs.Terms.Laws as N′
 use Rattle.ordering.proofs.Lists.{store-more, store-length}
 use Rattle.relaxation.specs.declared.Outcome.{Outcome}
-use Rattle.model.specs.Setters.{withItem}
-use Rattle.relaxation.specs.Lent.{usable, loaded, modelOf, after, settled, Settles, Relaxes}
+use Rattle.relaxation.specs.declared.Query.{Query}
+use Rattle.relaxation.specs.declared.Terms.{Terms}
+use Rattle.relaxation.specs.Lent.{usable, loaded, withNext, after, settled, Settles, Relaxes}
 use Rattle.relaxation.proofs.Lent.{load-more, load-all, settled-length, stored, after-length}
 use Rattle.relaxation.proofs.Calls.{asks}
 use Rattle.relaxation.proofs.Outcome as O
@@ -143,10 +142,10 @@ use Rattle.relaxation.proofs.opened as opened′
 use Rattle.relaxation.proofs.opened.Symbol as opened-def
 use Rattle.relaxation.proofs.opened.Symbol.{name as #opened}
 use Rattle.relaxation.proofs.opened.Met as opened-thm
-use Rattle.model.proofs.setters.with_item as with′
-use Rattle.model.proofs.setters.with_item.Symbol as with-def
-use Rattle.model.proofs.setters.with_item.Symbol.{name as #with}
-use Rattle.model.proofs.setters.with_item.Met as with-thm
+use Rattle.relaxation.proofs.with_next as with′
+use Rattle.relaxation.proofs.with_next.Symbol as with-def
+use Rattle.relaxation.proofs.with_next.Symbol.{name as #with}
+use Rattle.relaxation.proofs.with_next.Met as with-thm
 use Rattle.relaxation.proofs.core as core′
 use Rattle.relaxation.proofs.core.Symbol as core-def
 use Rattle.relaxation.proofs.core.Symbol.{name as #core}
@@ -169,7 +168,7 @@ abbrev stayed : Stays (relax′.ended .signature .params) (relax′.ended .kept)
 stayed = (stay-none (λ _. i64) kept-as-is, (stay-slice (0 ∷ []) tt (plain (λ _. T.the-row)), (stay-none (λ _. N.the-row) kept-as-is, tt)))
 
 -- the machine value of an item
-abbrev val : Item → Val
+abbrev val : ModelItem → Val
 val = LL.val T.the-type T′.the-laws
 
 head : List Val → Val → Val
@@ -204,36 +203,36 @@ module _ {M : Type 1} (𝓤 : URA M) (H : Heap 𝓤) (A : Atoms 𝓤) (mem : Mem
   usable-of : (m r : ℕ) → ent 𝓤 (ensured 𝓤 H A usable′.ended (usable′.clauses 𝓤 H A mem run) tt (m, tt) tt r) (fact 𝓤 (r ≡ usable m))
   usable-of m r = exE 𝓤 _ (λ ws. snd∗ 𝓤 (sem 𝓤 H A (lasts usable′.ended tt (m, tt) ws)) (fact 𝓤 (r ≡ usable m)))
 
-  opened-of : (c : ℤ) (m : ℕ) (ns : Needs) (r : Model) →
-      ent 𝓤 (ensured 𝓤 H A opened′.ended (opened′.clauses 𝓤 H A mem run) tt (c, (m, (ns, tt))) tt r) (fact 𝓤 (r ≡ loaded c m ns []))
-  opened-of c m ns r = exE 𝓤 _ (λ ws. snd∗ 𝓤 (sem 𝓤 H A (lasts opened′.ended tt (c, (m, (ns, tt))) ws)) (fact 𝓤 (r ≡ loaded c m ns [])))
+  opened-of : (c : ℤ) (m : ℕ) (ts : Terms) (r : Query) →
+      ent 𝓤 (ensured 𝓤 H A opened′.ended (opened′.clauses 𝓤 H A mem run) tt (c, (m, (ts, tt))) tt r) (fact 𝓤 (r ≡ loaded c m ts []))
+  opened-of c m ts r = exE 𝓤 _ (λ ws. snd∗ 𝓤 (sem 𝓤 H A (lasts opened′.ended tt (c, (m, (ts, tt))) ws)) (fact 𝓤 (r ≡ loaded c m ts [])))
 
-  with-of : (p : Model) (i : ℕ) (x : Item) (r : Model) →
-      ent 𝓤 (ensured 𝓤 H A with′.ended (with′.clauses 𝓤 H A mem run) tt (p, (i, (x, tt))) tt r) (fact 𝓤 (r ≡ withItem p i x))
-  with-of p i x r = exE 𝓤 _ (λ ws. snd∗ 𝓤 (sem 𝓤 H A (lasts with′.ended tt (p, (i, (x, tt))) ws)) (fact 𝓤 (r ≡ withItem p i x)))
+  with-of : (p : Query) (i : ℕ) (x : ModelItem) (r : Query) →
+      ent 𝓤 (ensured 𝓤 H A with′.ended (with′.clauses 𝓤 H A mem run) tt (p, (i, (x, tt))) tt r) (fact 𝓤 (r ≡ withNext p i x))
+  with-of p i x r = exE 𝓤 _ (λ ws. snd∗ 𝓤 (sem 𝓤 H A (lasts with′.ended tt (p, (i, (x, tt))) ws)) (fact 𝓤 (r ≡ withNext p i x)))
 
-  core-of : (p : Model) (r : Outcome) → ent 𝓤 (ensured 𝓤 H A core′.ended (core′.clauses 𝓤 H A mem run) tt (p, tt) tt r) (fact 𝓤 (Settles p r))
+  core-of : (p : Query) (r : Outcome) → ent 𝓤 (ensured 𝓤 H A core′.ended (core′.clauses 𝓤 H A mem run) tt (p, tt) tt r) (fact 𝓤 (Settles p r))
   core-of p r = exE 𝓤 _ (λ ws. snd∗ 𝓤 (sem 𝓤 H A (lasts core′.ended tt (p, tt) ws)) (fact 𝓤 (Settles p r)))
 
-  nth-of : (o : Outcome) (i : ℕ) (r : Item) →
-      ent 𝓤 (ensured 𝓤 H A nth′.ended (nth′.clauses 𝓤 H A mem run) tt (o, (i, tt)) tt r) (fact 𝓤 (r ≡ itemAt (o .problem) i))
-  nth-of o i r = exE 𝓤 _ (λ ws. snd∗ 𝓤 (sem 𝓤 H A (lasts nth′.ended tt (o, (i, tt)) ws)) (fact 𝓤 (r ≡ itemAt (o .problem) i)))
+  nth-of : (o : Outcome) (i : ℕ) (r : ModelItem) →
+      ent 𝓤 (ensured 𝓤 H A nth′.ended (nth′.clauses 𝓤 H A mem run) tt (o, (i, tt)) tt r) (fact 𝓤 (r ≡ itemAt (o .model) i))
+  nth-of o i r = exE 𝓤 _ (λ ws. snd∗ 𝓤 (sem 𝓤 H A (lasts nth′.ended tt (o, (i, tt)) ws)) (fact 𝓤 (r ≡ itemAt (o .model) i)))
 
   answer-of : (o : Outcome) (r : Answer) → ent 𝓤 (ensured 𝓤 H A answer′.ended (answer′.clauses 𝓤 H A mem run) tt (o, tt) tt r) (fact 𝓤 (r ≡ o .answer))
   answer-of o r = exE 𝓤 _ (λ ws. snd∗ 𝓤 (sem 𝓤 H A (lasts answer′.ended tt (o, tt) ws)) (fact 𝓤 (r ≡ o .answer)))
 
 -- ---- where the first loop stands
-record Loading (c : ℤ) (ns : Needs) (ys : List Item) : Type 0 where
+record Loading (c : ℤ) (ts : Terms) (ys : List ModelItem) : Type 0 where
   i : ℕ
-  p : Model
+  p : Query
   v : Val
   is : Is P.the-row p (v ∷ [])
   le : i ≤ usable (length ys)
-  got : p ≡ loaded c (length ys) ns (take i ys)
+  got : p ≡ loaded c (length ys) ts (take i ys)
 
 module _ {M : Type 1} (𝓤 : URA M) (H : Heap 𝓤) (A : Atoms 𝓤) (W : Given 𝓤 H A) (mem : Memory → SProp 𝓤) (run : Routine → Fun 𝓤) (κ : Lft) (q : Share) (c : ℤ)
-    (c-fits : mag c < 2 ^ 63) (ns : Needs) (ns-is : Is N.the-row ns (LL.vals N.the-type N′.the-laws ns))
-    (b o : ℕ) (γ : GName) (ys : List Item) (room : Room T.the-row (length ys)) where
+    (c-fits : mag c < 2 ^ 63) (ts : Terms) (ts-is : Is N.the-row ts (LL.vals N.the-type N′.the-laws ts))
+    (b o : ℕ) (γ : GName) (ys : List ModelItem) (room : Room T.the-row (length ys)) where
   abbrev R : RattleType
   R = T.the-row
 
@@ -243,36 +242,36 @@ module _ {M : Type 1} (𝓤 : URA M) (H : Heap 𝓤) (A : Atoms 𝓤) (W : Given
   abbrev n : ℕ
   n = usable (length ys)
 
-  abbrev zs : List Item
-  zs = after c ns ys
+  abbrev zs : List ModelItem
+  zs = after c ts ys
 
-  abbrev os : List Item
-  os = settled (modelOf c ns ys) .items
+  abbrev os : List ModelItem
+  os = settled (loaded c (length ys) ts ys) .items
 
-  abbrev x : List Item → RefT (List Item)
+  abbrev x : List ModelItem → RefT (List ModelItem)
   x l = record { ptr = (b, o); name = γ; now = l }
 
-  -- the machine value of the needs
+  -- the machine value of the terms
   abbrev nv : Val
-  nv = LL.val N.the-type N′.the-laws ns
+  nv = LL.val N.the-type N′.the-laws ts
 
   abbrev at : List Val × (List Val × (List Val × Unit {0}))
   at = (vint w64 (ofZ w64 c) ∷ [], (sliceVal (b, o) len ∷ [], (nv ∷ [], tt)))
 
   abbrev Post : Val → SProp 𝓤
-  Post = walkOf 𝓤 H A relax′.ended stayed (relax′.clauses 𝓤 H A mem run) .post (((κ, tt), (q, tt), tt, (c, (x ys, (ns, tt))), at), tt)
+  Post = walkOf 𝓤 H A relax′.ended stayed (relax′.clauses 𝓤 H A mem run) .post (((κ, tt), (q, tt), tt, (c, (x ys, (ts, tt))), at), tt)
 
-  exits : (r : Answer) (v : Val) → Relaxes c ns ys zs r →
+  exits : (r : Answer) (v : Val) → Relaxes c ts ys zs r →
       ent 𝓤 (⋆ 𝓤 H A (‵ (fobs γ (codedHoleys R .code (heres R zs))) ∷ ‵ (fbor κ (Held R (length zs) b o γ)) ∷ ‵ (flft κ q) ∷ ‵ (Q.the-row .own r (v ∷ [])) ∷
       [])) (Post v)
   exits r v e =
       qed W (‵ (fobs γ (codedHoleys R .code (heres R zs))) ∷ ‵ (fbor κ (Held R (length zs) b o γ)) ∷ ‵ (flft κ q) ∷ ‵ (Q.the-row .own r (v ∷ [])) ∷ []) ∵
-      suffices ! _ (ends-at 𝓤 H A relax′.ended stayed (relax′.clauses 𝓤 H A mem run) W (((κ, tt), (q, tt), tt, (c, (x ys, (ns, tt))), at), tt) v r
-      (tt, (zs, (tt, tt))) (tt, (after-length c ns ys, (tt, tt)))) $ says ! e $
+      suffices ! _ (ends-at 𝓤 H A relax′.ended stayed (relax′.clauses 𝓤 H A mem run) W (((κ, tt), (q, tt), tt, (c, (x ys, (ts, tt))), at), tt) v r
+      (tt, (zs, (tt, tt))) (tt, (after-length c ts ys, (tt, tt)))) $ says ! e $
       nothing ! $ move ! (3 ∷ 0 ∷ []) $ join ! $
       frame ! $ fjoin ! $ pureI ! (at-slice R (x zs) (at .1 .0)) (tt, (tt, tt))
-      (ap (λ (k : ℕ). sliceVal (b, o) k ∷ []) (sym (after-length c ns ys)), subst (Room R) (sym (after-length c ns ys)) room) $ fjoin ! $
-      nothing ! $ owned ! N.the-row (Is N.the-row) (LL.makes N.the-type N′.the-plain 𝓤 H A) ns _ ns-is $ fjoin ! $
+      (ap (λ (k : ℕ). sliceVal (b, o) k ∷ []) (sym (after-length c ts ys)), subst (Room R) (sym (after-length c ts ys)) room) $ fjoin ! $
+      nothing ! $ owned ! N.the-row (Is N.the-row) (LL.makes N.the-type N′.the-plain 𝓤 H A) ts _ ts-is $ fjoin ! $
       move ! (1 ∷ 0 ∷ []) $ fjoin ! $ owned ! i64 (Is i64) (sint-makes 𝓤 H A W w64) c _ (refl, c-fits) $ fjoin ! $ done !
 
   -- what each call is handed
@@ -282,21 +281,21 @@ module _ {M : Type 1} (𝓤 : URA M) (H : Heap 𝓤) (A : Atoms 𝓤) (W : Given
       frame ! $ done !
 
   goes-opened : ent 𝓤 (sem 𝓤 H A ftrue)
-      (Opened 𝓤 H A mem run .pre ((tt, tt, tt, (c, (len, (ns, tt))), (vint w64 (ofZ w64 c) ∷ [], (vint w64 len ∷ [], (nv ∷ [], tt)))), tt))
+      (Opened 𝓤 H A mem run .pre ((tt, tt, tt, (c, (len, (ts, tt))), (vint w64 (ofZ w64 c) ∷ [], (vint w64 len ∷ [], (nv ∷ [], tt)))), tt))
   goes-opened =
-      qed W (‵ ftrue ∷ []) ∵ nothing ! $ owned ! N.the-row (Is N.the-row) (LL.makes N.the-type N′.the-plain 𝓤 H A) ns _ ns-is $ fjoin ! $
+      qed W (‵ ftrue ∷ []) ∵ nothing ! $ owned ! N.the-row (Is N.the-row) (LL.makes N.the-type N′.the-plain 𝓤 H A) ts _ ts-is $ fjoin ! $
       owned ! usize (Is usize) (uint-makes 𝓤 H A W w64) len _ (refl, room .0) $ fjoin ! $
       owned ! i64 (Is i64) (sint-makes 𝓤 H A W w64) c _ (refl, c-fits) $ fjoin ! $
       move ! (1 ∷ 0 ∷ []) $ join ! $ frame ! $ done !
 
-  goes-with : (p : Model) (v : Val) (i : ℕ) (y : Item) → Is P.the-row p (v ∷ []) → Is R y (val y ∷ []) → i < n →
+  goes-with : (p : Query) (v : Val) (i : ℕ) (y : ModelItem) → Is P.the-row p (v ∷ []) → Is R y (val y ∷ []) → i < n →
       ent 𝓤 (sem 𝓤 H A ftrue) (With 𝓤 H A mem run .pre ((tt, tt, tt, (p, (i, (y, tt))), (v ∷ [], (vint w64 i ∷ [], (val y ∷ [], tt)))), tt))
   goes-with p v i y gp gy h =
       qed W (‵ ftrue ∷ []) ∵ says ! (omega arith) $ frame ! $ nothing ! $ owned ! R (Is R) (LL.makes T.the-type T′.the-plain 𝓤 H A) y _ gy $ fjoin ! $
       owned ! usize (Is usize) (uint-makes 𝓤 H A W w64) i _ (refl, omega arith) $ fjoin ! $
       owned ! P.the-row (Is P.the-row) (LL.makes P.the-type P′.the-plain 𝓤 H A) p _ gp $ fjoin ! $ done !
 
-  goes-core : (p : Model) (v : Val) → Is P.the-row p (v ∷ []) → ent 𝓤 (sem 𝓤 H A ftrue) (Core 𝓤 H A mem run .pre ((tt, tt, tt, (p, tt), (v ∷ [], tt)), tt))
+  goes-core : (p : Query) (v : Val) → Is P.the-row p (v ∷ []) → ent 𝓤 (sem 𝓤 H A ftrue) (Core 𝓤 H A mem run .pre ((tt, tt, tt, (p, tt), (v ∷ [], tt)), tt))
   goes-core p v gp =
       qed W (‵ ftrue ∷ []) ∵ nothing ! $ owned ! P.the-row (Is P.the-row) (LL.makes P.the-type P′.the-plain 𝓤 H A) p _ gp $ fjoin ! $ move ! (1 ∷ 0 ∷ []) $
       join ! $ frame ! $ done !
@@ -350,7 +349,7 @@ module _ {M : Type 1} (𝓤 : URA M) (H : Heap 𝓤) (A : Atoms 𝓤) (W : Given
       Open = ‵ (fobor κ q (Held R (length ys) b o γ)) ∷ ‵ (fobs γ (codedHoleys R .code (heres R ys))) ∷ ‵ (fauth γ (codedHoleys R .code (heres R ys))) ∷ Dies
 
       -- the second loop's context: j items are stored
-      abbrev At2 : ℕ → Val → List Item → List (Entry 𝓤)
+      abbrev At2 : ℕ → Val → List ModelItem → List (Entry 𝓤)
       At2 j v l = ‵ (row R fullShare l b o) ∷ ‵ (fat fullShare word l₆ 0 (vint w64 j)) ∷ ‵ (fat fullShare O′.mir l₇ 0 v) ∷
           ‵ (fat fullShare slice l₂ 0 (sliceVal (b, o) len)) ∷ ‵ (fat fullShare word l₄ 0 (vint w64 n))
           ∷ ‵ (froom tyBool l₁₂ 0) ∷ ‵ (froom word l₁₄ 0) ∷ ‵ (froom tyPtr l₁₅ 0) ∷ ‵ (froom T′.mir l₁₃ 0) ∷ ‵ (froom Q′.mir l₀ 0)
@@ -371,23 +370,23 @@ module _ {M : Type 1} (𝓤 : URA M) (H : Heap 𝓤) (A : Atoms 𝓤) (W : Given
       abbrev Left2 : Out → SProp 𝓤
       Left2 = afterBlock 𝓤 H (afterSeq 𝓤 H (Wp 𝓤 H C Λ En mir′.t-9 (atReturn 𝓤 H En Post)) (atReturn 𝓤 H En Post))
 
-      scaled : (i : ℕ) → i < n → i * 56 < 2 ^ 64
+      scaled : (i : ℕ) → i < n → i * 64 < 2 ^ 64
       scaled i h = omega arith
 
       next-fits : (i : ℕ) → i < n → i + 1 < 2 ^ 64
       next-fits i h = omega arith
 
       -- ---- the second loop
-      module _ (a : Outcome) (w : Val) (ga : Is O.the-row a (w ∷ [])) (does : Settles (modelOf c ns ys) a) where
-        abbrev part : ℕ → List Item
+      module _ (a : Outcome) (w : Val) (ga : Is O.the-row a (w ∷ [])) (does : Settles (loaded c (length ys) ts ys) a) where
+        abbrev part : ℕ → List ModelItem
         part j = take j os ++ dropList j ys
 
         inside : (j : ℕ) → j < n → j < length (part j)
-        inside j h = omega (arith, store-length os ys j (omega (arith, settled-length c ns ys)) (omega arith))
+        inside j h = omega (arith, store-length os ys j (omega (arith, settled-length c ts ys)) (omega arith))
 
-        put-back : (j : ℕ) → j < n → (r : Item) → r ≡ itemAt (a .problem) j → set (part j) j r ≡ part (j + 1)
-        put-back j h r e = ap (λ t. set (part j) j t) (e ∙ ap (λ p. itemAt p j) (does .problem)) ∙
-            rw add-one (store-more blank os ys j (omega (arith, settled-length c ns ys)) (omega arith))
+        put-back : (j : ℕ) → j < n → (r : ModelItem) → r ≡ itemAt (a .model) j → set (part j) j r ≡ part (j + 1)
+        put-back j h r e = ap (λ t. set (part j) j t) (e ∙ ap (λ p. itemAt p j) (does .model)) ∙
+            rw add-one (store-more noItem os ys j (omega (arith, settled-length c ts ys)) (omega arith))
 
         more2 : (j : ℕ) → j < n → (X : SProp 𝓤) → ent 𝓤 (⋆ 𝓤 H A (At2 (j + 1) w (part (j + 1)))) X →
             ent 𝓤 (⋆ 𝓤 H A (At2 j w (part j))) (Wp 𝓤 H C Λ En mir′.turn-2 (afterTurn 𝓤 H X Left2))
@@ -400,22 +399,22 @@ module _ {M : Type 1} (𝓤 : URA M) (H : Heap 𝓤) (A : Atoms 𝓤) (W : Given
             stays ! (load ! (from ! (stop !)) (look ! 5 refl)) $
             asks ! fm (Nth 𝓤 H A mem run) known-nth ((tt, tt, tt, (a, (j, tt)), (w ∷ [], (vint w64 j ∷ [], tt))), tt) (goes-nth a w j ga h)
             (and-then ! (load ! (from ! (stop !)) (look ! 3 refl)) (and-then ! (load ! (from ! (stop !)) (look ! 2 refl)) (no-more !)))
-            R (ensured 𝓤 H A nth′.ended (nth′.clauses 𝓤 H A mem run) tt (a, (j, tt)) tt) (λ r. r ≡ itemAt (a .problem) j) (λ _. id⊢ 𝓤 _)
+            R (ensured 𝓤 H A nth′.ended (nth′.clauses 𝓤 H A mem run) tt (a, (j, tt)) tt) (λ r. r ≡ itemAt (a .model) j) (λ _. id⊢ 𝓤 _)
             (nth-of 𝓤 H A mem run a j) (λ v r e is.
             land ! (from ! (stop !)) (init ! 9 refl (LL.lawful T.the-type T′.the-laws 𝓤 H A W .typed r _ is .0)) $ drop ! $
             assigns ! (bin ! (load ! (from ! (stop !)) (look ! 1 refl)) (lit ! tt) (record { fits = scaled j h })) (from ! (stop !))
             (init ! 6 refl (tt, record { fits = scaled j h })) $
             assigns ! (bin ! (load ! (from ! (fld ! refl (stop !))) (look-in ! 3 (sub ! 0 refl (whole !)))) (load ! (from ! (stop !)) (look ! 6 refl)) tt)
             (from ! (stop !)) (init ! 7 refl (tt, tt)) $
-            rewrite ! 7 (λ (p : ℕ). ‵ (fat fullShare tyPtr l₁₅ 0 (vptr b p))) (sym (place-is 56 o j)) refl $
-            elem-out ! R (Is R) (shows 𝓤 H A R) (LL.vals T.the-type T′.the-laws) (LL.tells T.the-type T′.the-laws) fullShare (part j) j blank b o (inside j h)
+            rewrite ! 7 (λ (p : ℕ). ‵ (fat fullShare tyPtr l₁₅ 0 (vptr b p))) (sym (place-is 64 o j)) refl $
+            elem-out ! R (Is R) (shows 𝓤 H A R) (LL.vals T.the-type T′.the-laws) (LL.tells T.the-type T′.the-laws) fullShare (part j) j noItem b o (inside j h)
             (λ _.
             -- [items[i]; what it owns; the others; …]
             assigns ! (of-opd ! (load ! (from ! (stop !)) (look ! 10 refl))) (from ! (hop ! (look ! 9 refl) (stop !)))
             (store-raw ! 0 refl (LL.lawful T.the-type T′.the-laws 𝓤 H A W .typed r _ is .0)) $
             move ! (1 ∷ []) $ drop ! $ owned ! R (Is R) (LL.makes T.the-type T′.the-plain 𝓤 H A) r (v ∷ []) is $ move ! (1 ∷ 0 ∷ []) $
             elem-put ! R fullShare (part j) j r (v ∷ []) b o (inside j h) $
-            rewrite ! 0 (λ (l : List Item). ‵ (row R fullShare l b o)) (put-back j h r e) refl $
+            rewrite ! 0 (λ (l : List ModelItem). ‵ (row R fullShare l b o)) (put-back j h r e) refl $
             assigns-last ! (bin ! (load ! (from ! (stop !)) (look ! 1 refl)) (lit ! tt) (record { fits = next-fits j h })) (from ! (stop !))
             (store ! 1 refl (tt, record { fits = next-fits j h })) $
             forget ! 5 refl $ forget ! 6 refl $ forget ! 7 refl $ forget ! 8 refl $ by ! k))
@@ -433,8 +432,8 @@ module _ {M : Type 1} (𝓤 : URA M) (H : Heap 𝓤) (A : Atoms 𝓤) (W : Given
             Q.the-row (ensured 𝓤 H A answer′.ended (answer′.clauses 𝓤 H A mem run) tt (a, tt) tt) (λ r. r ≡ a .answer) (λ _. id⊢ 𝓤 _)
             (answer-of 𝓤 H A mem run a) (λ v r e is.
             land ! (from ! (stop !)) (init ! 10 refl (LL.lawful Q.the-type Q′.the-laws 𝓤 H A W .typed r _ is .0)) $
-            rewrite ! 1 (λ (l : List Item). ‵ (row R fullShare l b o)) (stored c ns ys) refl $
-            move ! (1 ∷ 19 ∷ 20 ∷ 21 ∷ []) $ closes-slice ! tt R ys zs (after-length c ns ys) b o $
+            rewrite ! 1 (λ (l : List ModelItem). ‵ (row R fullShare l b o)) (stored c ts ys) refl $
+            move ! (1 ∷ 19 ∷ 20 ∷ 21 ∷ []) $ closes-slice ! tt R ys zs (after-length c ts ys) b o $
             returns ! (look ! 12 refl) $ forget ! 4 refl $ forget ! 5 refl $ forget ! 6 refl $ forget ! 7 refl $ forget ! 8 refl $ forget ! 12 refl $
             move ! (12 ∷ 21 ∷ 18 ∷ 22 ∷ 6 ∷ 23 ∷ 20 ∷ 24 ∷ 19 ∷ 25 ∷ 7 ∷ 26 ∷ 13 ∷ 27 ∷ 4 ∷ 28 ∷ 5 ∷ 29 ∷ 14 ∷ 30 ∷ 15 ∷ 31 ∷ 16 ∷ 32 ∷ 17 ∷ 33 ∷ 8 ∷ 34 ∷ 11 ∷
             35 ∷ 9 ∷ 36 ∷ 10 ∷ 37 ∷ []) $
@@ -472,8 +471,8 @@ module _ {M : Type 1} (𝓤 : URA M) (H : Heap 𝓤) (A : Atoms 𝓤) (W : Given
             (loop-rule 𝓤 H (W .laws) 𝓣 _<_ (Nat·lt-wfRel .wf) En mir′.turn-2 Left2 I2 turn2 n)
 
       -- ---- the first loop
-      more1 : (u : Loading c ns ys) → u .i < n → (X : SProp 𝓤) →
-          ((r : Model) (w : Val) → Is P.the-row r (w ∷ []) → r ≡ withItem (u .p) (u .i) (getD ys (u .i) blank) → ent 𝓤 (⋆ 𝓤 H A (At1 (u .i + 1) w)) X)
+      more1 : (u : Loading c ts ys) → u .i < n → (X : SProp 𝓤) →
+          ((r : Query) (w : Val) → Is P.the-row r (w ∷ []) → r ≡ withNext (u .p) (u .i) (getD ys (u .i) noItem) → ent 𝓤 (⋆ 𝓤 H A (At1 (u .i + 1) w)) X)
           → ent 𝓤 (⋆ 𝓤 H A (At1 (u .i) (u .v))) (Wp 𝓤 H C Λ En mir′.turn-1 (afterTurn 𝓤 H X Left1))
       unfolding afterTurn
       more1 u h X k =
@@ -486,34 +485,34 @@ module _ {M : Type 1} (𝓤 : URA M) (H : Heap 𝓤) (A : Atoms 𝓤) (W : Given
           (init ! 6 refl (tt, record { fits = scaled (u .i) h })) $
           assigns ! (bin ! (load ! (from ! (fld ! refl (stop !))) (look-in ! 3 (sub ! 0 refl (whole !)))) (load ! (from ! (stop !)) (look ! 6 refl)) tt)
           (from ! (stop !)) (init ! 7 refl (tt, tt)) $
-          rewrite ! 7 (λ (p : ℕ). ‵ (fat fullShare tyPtr l₁₀ 0 (vptr b p))) (sym (place-is 56 o (u .i))) refl $
-          elem-out ! R (Is R) (shows 𝓤 H A R) (LL.vals T.the-type T′.the-laws) (LL.tells T.the-type T′.the-laws) fullShare ys (u .i) blank b o (omega arith)
+          rewrite ! 7 (λ (p : ℕ). ‵ (fat fullShare tyPtr l₁₀ 0 (vptr b p))) (sym (place-is 64 o (u .i))) refl $
+          elem-out ! R (Is R) (shows 𝓤 H A R) (LL.vals T.the-type T′.the-laws) (LL.tells T.the-type T′.the-laws) fullShare ys (u .i) noItem b o (omega arith)
           (λ g.
           -- [items[i]; what it owns; the others; …]
           assigns ! (of-opd ! (load ! (from ! (hop ! (look ! 9 refl) (stop !))) (look-raw ! 0 refl))) (from ! (stop !))
-          (init ! 10 refl (LL.lawful T.the-type T′.the-laws 𝓤 H A W .typed (getD ys (u .i) blank) _ g .0)) $
-          elem-back ! R fullShare ys (u .i) blank (val (getD ys (u .i) blank) ∷ []) b o (omega arith) $
+          (init ! 10 refl (LL.lawful T.the-type T′.the-laws 𝓤 H A W .typed (getD ys (u .i) noItem) _ g .0)) $
+          elem-back ! R fullShare ys (u .i) noItem (val (getD ys (u .i) noItem) ∷ []) b o (omega arith) $
           asks ! fm (With 𝓤 H A mem run) known-with (
             (
               tt,
               tt,
               tt,
-              (u .p, (u .i, (getD ys (u .i) blank, tt))),
-              (u .v ∷ [], (vint w64 (u .i) ∷ [], (val (getD ys (u .i) blank) ∷ [], tt))),
+              (u .p, (u .i, (getD ys (u .i) noItem, tt))),
+              (u .v ∷ [], (vint w64 (u .i) ∷ [], (val (getD ys (u .i) noItem) ∷ [], tt))),
             ),
             tt,
           ) (goes-with (u .p) (u .v) (u .i) (getD ys (u .i)
-          blank) (u .is) g h)
+          noItem) (u .is) g h)
           (and-then ! (load ! (from ! (stop !)) (look ! 3 refl))
           (and-then ! (load ! (from ! (stop !)) (look ! 2 refl)) (and-then ! (load ! (from ! (stop !)) (look ! 9 refl)) (no-more !))))
-          P.the-row (ensured 𝓤 H A with′.ended (with′.clauses 𝓤 H A mem run) tt (u .p, (u .i, (getD ys (u .i) blank, tt))) tt)
-          (λ r. r ≡ withItem (u .p) (u .i) (getD ys (u .i) blank)) (λ _. id⊢ 𝓤 _) (with-of 𝓤 H A mem run (u .p) (u .i) (getD ys (u .i) blank)) (λ w r e is.
+          P.the-row (ensured 𝓤 H A with′.ended (with′.clauses 𝓤 H A mem run) tt (u .p, (u .i, (getD ys (u .i) noItem, tt))) tt)
+          (λ r. r ≡ withNext (u .p) (u .i) (getD ys (u .i) noItem)) (λ _. id⊢ 𝓤 _) (with-of 𝓤 H A mem run (u .p) (u .i) (getD ys (u .i) noItem)) (λ w r e is.
           land ! (from ! (stop !)) (store ! 3 refl (LL.lawful P.the-type P′.the-laws 𝓤 H A W .typed r _ is .0)) $ drop ! $
           assigns-last ! (bin ! (load ! (from ! (stop !)) (look ! 1 refl)) (lit ! tt) (record { fits = next-fits (u .i) h })) (from ! (stop !))
           (store ! 1 refl (tt, record { fits = next-fits (u .i) h })) $
           forget ! 5 refl $ forget ! 6 refl $ forget ! 7 refl $ forget ! 8 refl $ by ! (k r w is e)))
 
-      ends1 : (u : Loading c ns ys) → u .i ≡ n → (X : SProp 𝓤) → ent 𝓤 (⋆ 𝓤 H A (At1 (u .i) (u .v))) (Wp 𝓤 H C Λ En mir′.turn-1 (afterTurn 𝓤 H X Left1))
+      ends1 : (u : Loading c ts ys) → u .i ≡ n → (X : SProp 𝓤) → ent 𝓤 (⋆ 𝓤 H A (At1 (u .i) (u .v))) (Wp 𝓤 H C Λ En mir′.turn-1 (afterTurn 𝓤 H X Left1))
       unfolding afterTurn
       ends1 u e X =
           qed W (At1 (u .i) (u .v)) ∵ exec ! C Λ En mir′.turn-1 (anyQ (afterTurn 𝓤 H X Left1)) $
@@ -530,36 +529,36 @@ module _ {M : Type 1} (𝓤 : URA M) (H : Heap 𝓤) (A : Atoms 𝓤) (W : Given
           forget ! 2 refl $ forget ! 5 refl $
           keep ! (0 ∷ 1 ∷ 10 ∷ 3 ∷ 4 ∷ 11 ∷ 13 ∷ 14 ∷ 12 ∷ 9 ∷ 2 ∷ 5 ∷ 6 ∷ 7 ∷ 8 ∷ 15 ∷ 16 ∷ 17 ∷ 18 ∷ 19 ∷ 20 ∷ 21 ∷ 22 ∷ 23 ∷ 24 ∷ 25 ∷ 26 ∷ 27 ∷ 28 ∷ 29 ∷
           30 ∷ 31 ∷ 32 ∷ 33 ∷ 34 ∷ 35 ∷ 36 ∷ 37 ∷ []) $
-          by ! (loop2 r w is (subst (λ p. Settles p r) (u .got ∙ rw e (load-all c ns ys)) f)))
+          by ! (loop2 r w is (subst (λ p. Settles p r) (u .got ∙ rw e (load-all c ts ys)) f)))
 
       -- a turn from u leaves the loop, or ends with one item more
-      abbrev ≺ : Loading c ns ys → Loading c ns ys → Type 0
+      abbrev ≺ : Loading c ts ys → Loading c ts ys → Type 0
       ≺ t u = n - t .i < n - u .i
 
       ≺-wf : WellFounded ≺
-      ≺-wf = InvImage·wf (λ (u : Loading c ns ys). n - u .i) (Nat·lt-wfRel .wf)
+      ≺-wf = InvImage·wf (λ (u : Loading c ts ys). n - u .i) (Nat·lt-wfRel .wf)
 
-      abbrev I1 : Loading c ns ys → SProp 𝓤
+      abbrev I1 : Loading c ts ys → SProp 𝓤
       I1 u = ⋆ 𝓤 H A (At1 (u .i) (u .v))
 
-      turn1 : (u : Loading c ns ys) → ent 𝓤 (I1 u) (Wp 𝓤 H C Λ En mir′.turn-1 (afterTurn 𝓤 H (ex 𝓤 (λ (t : Loading c ns ys). guard 𝓤 (≺ t u) (I1 t))) Left1))
+      turn1 : (u : Loading c ts ys) → ent 𝓤 (I1 u) (Wp 𝓤 H C Λ En mir′.turn-1 (afterTurn 𝓤 H (ex 𝓤 (λ (t : Loading c ts ys). guard 𝓤 (≺ t u) (I1 t))) Left1))
       turn1 u = go (decLt (u .i) n)
         where
-          go : Dec (u .i < n) → ent 𝓤 (I1 u) (Wp 𝓤 H C Λ En mir′.turn-1 (afterTurn 𝓤 H (ex 𝓤 (λ (t : Loading c ns ys). guard 𝓤 (≺ t u) (I1 t))) Left1))
+          go : Dec (u .i < n) → ent 𝓤 (I1 u) (Wp 𝓤 H C Λ En mir′.turn-1 (afterTurn 𝓤 H (ex 𝓤 (λ (t : Loading c ts ys). guard 𝓤 (≺ t u) (I1 t))) Left1))
           go (yes h) =
-              more1 u h (ex 𝓤 (λ (t : Loading c ns ys). guard 𝓤 (≺ t u) (I1 t))) (λ r w is e.
-              let t : Loading c ns ys = record {
+              more1 u h (ex 𝓤 (λ (t : Loading c ts ys). guard 𝓤 (≺ t u) (I1 t))) (λ r w is e.
+              let t : Loading c ts ys = record {
                 i = u .i + 1;
                 p = r;
                 v = w;
                 is = is;
                 le = omega arith;
-                got = e ∙ ap (λ p. withItem p (u .i) (getD ys (u .i) blank)) (u .got) ∙ rw add-one (load-more c ns ys (u .i) h);
+                got = e ∙ ap (λ p. withNext p (u .i) (getD ys (u .i) noItem)) (u .got) ∙ rw add-one (load-more c ts ys (u .i) h);
               } in
-              via 𝓤 (guard 𝓤 (≺ t u) (I1 t)) (guardI 𝓤 (≺ t u) (I1 t) (omega arith)) (exI 𝓤 (λ (t : Loading c ns ys). guard 𝓤 (≺ t u) (I1 t)) t))
-          go (no h) = ends1 u (omega (arith, u .le)) (ex 𝓤 (λ (t : Loading c ns ys). guard 𝓤 (≺ t u) (I1 t)))
+              via 𝓤 (guard 𝓤 (≺ t u) (I1 t)) (guardI 𝓤 (≺ t u) (I1 t) (omega arith)) (exI 𝓤 (λ (t : Loading c ts ys). guard 𝓤 (≺ t u) (I1 t)) t))
+          go (no h) = ends1 u (omega (arith, u .le)) (ex 𝓤 (λ (t : Loading c ts ys). guard 𝓤 (≺ t u) (I1 t)))
 
-      loop1 : (u : Loading c ns ys) → ent 𝓤 (⋆ 𝓤 H A (At1 (u .i) (u .v))) (Wp 𝓤 H C Λ En (loop mir′.turn-1) Left1)
+      loop1 : (u : Loading c ts ys) → ent 𝓤 (⋆ 𝓤 H A (At1 (u .i) (u .v))) (Wp 𝓤 H C Λ En (loop mir′.turn-1) Left1)
       loop1 u = loop-rule 𝓤 H (W .laws) 𝓣 ≺ ≺-wf En mir′.turn-1 Left1 I1 turn1 u
 
       -- ---- the body, from where the parameters are passed
@@ -568,7 +567,7 @@ module _ {M : Type 1} (𝓤 : URA M) (H : Heap 𝓤) (A : Atoms 𝓤) (W : Given
           ‵ (froom word l₉ 0) ∷ ‵ (froom tyPtr l₁₀ 0) ∷ ‵ (froom T′.mir l₁₁ 0) ∷ ‵ (froom Q′.mir l₀ 0) ∷ ‵ (froom O′.mir l₇ 0) ∷ ‵ (froom tyBool l₁₂ 0) ∷
           ‵ (froom T′.mir l₁₃ 0) ∷ ‵ (froom word l₁₄ 0) ∷ ‵ (froom tyPtr l₁₅ 0) ∷ ‵ (fat fullShare word l₁ 0 (vint w64 (ofZ w64 c))) ∷ ‵ (froom word l₃ 0)
           ∷ ‵ (fat fullShare N′.mir lₙ 0 nv)
-          ∷ (‵ (flft κ q) ⊛ ‵ ftrue) ∷ ‵ (owns (i64 ∷ MutSlice (named 0) κ R ∷ N.the-row ∷ []) (c, (x ys, (ns, tt))) at) ∷ Dies
+          ∷ (‵ (flft κ q) ⊛ ‵ ftrue) ∷ ‵ (owns (i64 ∷ MutSlice (named 0) κ R ∷ N.the-row ∷ []) (c, (x ys, (ts, tt))) at) ∷ Dies
 
       begins : ent 𝓤 (⋆ 𝓤 H A At0) (Wp 𝓤 H C Λ En mir′.t-1 (atReturn 𝓤 H En Post))
       begins =
@@ -582,11 +581,11 @@ module _ {M : Type 1} (𝓤 : URA M) (H : Heap 𝓤) (A : Atoms 𝓤) (W : Given
           land ! (from ! (stop !)) (init ! 4 refl (uint-lawful 𝓤 H A W w64 .typed m _ is .0)) $ drop ! $
           rewrite ! 3 (λ (v : Val). ‵ (fat fullShare word l₄ 0 v)) (first w (vint w64 n) (is .0 ∙ ap (λ (k : ℕ). vint w64 k ∷ []) e)) refl $
           asks ! fm (Opened 𝓤 H A mem run) known-opened
-          ((tt, tt, tt, (c, (len, (ns, tt))), (vint w64 (ofZ w64 c) ∷ [], (vint w64 len ∷ [], (nv ∷ [], tt)))), tt) goes-opened
+          ((tt, tt, tt, (c, (len, (ts, tt))), (vint w64 (ofZ w64 c) ∷ [], (vint w64 len ∷ [], (nv ∷ [], tt)))), tt) goes-opened
           (and-then ! (load ! (from ! (stop !)) (look ! 15 refl))
           (and-then ! (load ! (from ! (stop !)) (look ! 16 refl)) (and-then ! (load ! (from ! (stop !)) (look ! 17 refl)) (no-more !))))
-          P.the-row (ensured 𝓤 H A opened′.ended (opened′.clauses 𝓤 H A mem run) tt (c, (len, (ns, tt))) tt) (λ r. r ≡ loaded c len ns []) (λ _. id⊢ 𝓤 _)
-          (opened-of 𝓤 H A mem run c len ns) (λ v r f ir.
+          P.the-row (ensured 𝓤 H A opened′.ended (opened′.clauses 𝓤 H A mem run) tt (c, (len, (ts, tt))) tt) (λ r. r ≡ loaded c len ts []) (λ _. id⊢ 𝓤 _)
+          (opened-of 𝓤 H A mem run c len ts) (λ v r f ir.
           land ! (from ! (stop !)) (init ! 2 refl (LL.lawful P.the-type P′.the-laws 𝓤 H A W .typed r _ ir .0)) $ drop ! $
           forget ! 14 refl $ forget ! 15 refl $ forget ! 16 refl $
           assigns ! (of-opd ! (lit ! tt)) (from ! (stop !)) (init ! 0 refl (tt, record { fits = lit< tt })) $
@@ -615,7 +614,7 @@ module _ {M : Type 1} (𝓤 : URA M) (H : Heap 𝓤) (A : Atoms 𝓤) (W : Given
           ∷ ‵ (fat fullShare slice l₂ 0 (sliceVal (b, o) len)) ∷ ‵ (fdies slice l₂)
           ∷ ‵ (fat fullShare word l₁ 0 (vint w64 (ofZ w64 c))) ∷ ‵ (fdies word l₁)
           ∷ ‵ (froom Q′.mir l₀ 0) ∷ ‵ (fdies Q′.mir l₀)
-          ∷ (‵ (flft κ q) ⊛ ‵ ftrue) ∷ ‵ (owns (i64 ∷ MutSlice (named 0) κ R ∷ N.the-row ∷ []) (c, (x ys, (ns, tt))) at) ∷ []
+          ∷ (‵ (flft κ q) ⊛ ‵ ftrue) ∷ ‵ (owns (i64 ∷ MutSlice (named 0) κ R ∷ N.the-row ∷ []) (c, (x ys, (ts, tt))) at) ∷ []
 
       starts : ent 𝓤 (⋆ 𝓤 H A Fresh) (Wp 𝓤 H C Λ En (code.function .body) (atReturn 𝓤 H En Post))
       starts =
@@ -631,11 +630,11 @@ module _ {M : Type 1} (𝓤 : URA M) (H : Heap 𝓤) (A : Atoms 𝓤) (W : Given
           ‵ (fdies word l₄) ∷ ‵ (froom word l₃ 0) ∷ ‵ (fdies word l₃) ∷ ‵ (froom N′.mir lₙ 0) ∷ ‵ (fdies N′.mir lₙ) ∷
           ‵ (froom slice l₂ 0) ∷ ‵ (fdies slice l₂) ∷ ‵ (froom word l₁ 0) ∷ ‵ (fdies word l₁) ∷ ‵ (froom Q′.mir l₀ 0) ∷
           ‵ (fdies Q′.mir l₀) ∷ (‵ (flft κ q) ⊛ ‵ ftrue) ∷
-          ‵ (owns (i64 ∷ MutSlice (named 0) κ R ∷ N.the-row ∷ []) (c, (x ys, (ns, tt))) at) ∷ []) (params′ En
+          ‵ (owns (i64 ∷ MutSlice (named 0) κ R ∷ N.the-row ∷ []) (c, (x ys, (ts, tt))) at) ∷ []) (params′ En
           (vint w64 (ofZ w64 c) ∷ sliceVal (b, o) len ∷ nv ∷ []) (runs C Λ En (code.function .body) (atRet En Post)))
       passed = params1 ! $ pass1 ! (init ! 30 refl (tt, ofZ-fits w64 c (record { sfits = c-fits }))) $
           pass1 ! (init ! 28 refl (tt, (tt, (record { fits = room .0 }, tt)))) $
-          pass1 ! (init ! 26 refl (LL.lawful N.the-type N′.the-laws 𝓤 H A W .typed ns _ ns-is .0)) $ pass0 ! $ by ! starts
+          pass1 ! (init ! 26 refl (LL.lawful N.the-type N′.the-laws 𝓤 H A W .typed ts _ ts-is .0)) $ pass0 ! $ by ! starts
 
     -- the later locals are allocated
     allocated : (l₀ l₁ l₂ lₙ l₃ l₄ l₅ l₆ l₇ : ℕ) →
@@ -643,7 +642,7 @@ module _ {M : Type 1} (𝓤 : URA M) (H : Heap 𝓤) (A : Atoms 𝓤) (W : Given
         ‵ (froom word l₄ 0) ∷ ‵ (fdies word l₄) ∷ ‵ (froom word l₃ 0) ∷ ‵ (fdies word l₃) ∷ ‵ (froom N′.mir lₙ 0) ∷ ‵ (fdies N′.mir lₙ) ∷
         ‵ (froom slice l₂ 0) ∷ ‵ (fdies slice l₂) ∷ ‵ (froom word l₁ 0) ∷ ‵ (fdies word l₁) ∷ ‵ (froom Q′.mir l₀ 0) ∷
         ‵ (fdies Q′.mir l₀) ∷ (‵ (flft κ q) ⊛ ‵ ftrue) ∷
-        ‵ (owns (i64 ∷ MutSlice (named 0) κ R ∷ N.the-row ∷ []) (c, (x ys, (ns, tt))) at) ∷ [])
+        ‵ (owns (i64 ∷ MutSlice (named 0) κ R ∷ N.the-row ∷ []) (c, (x ys, (ts, tt))) at) ∷ [])
         (allocs (local tyBool valueLocal ∷ local word valueLocal ∷ local tyPtr valueLocal ∷ local T′.mir valueLocal ∷ local tyBool valueLocal ∷
         local T′.mir valueLocal ∷ local word valueLocal ∷ local tyPtr valueLocal ∷ []) (λ E.
         params′ ((Q′.mir, l₀) ∷ (word, l₁) ∷ (slice, l₂) ∷ (N′.mir, lₙ) ∷ (word, l₃) ∷ (word, l₄) ∷ (P′.mir, l₅) ∷ (word, l₆) ∷ (O′.mir, l₇) ∷ E)
@@ -654,10 +653,10 @@ module _ {M : Type 1} (𝓤 : URA M) (H : Heap 𝓤) (A : Atoms 𝓤) (W : Given
         (λ l₉. alloc1 ! (λ l₁₀. alloc1 ! (λ l₁₁. alloc1 ! (λ l₁₂. alloc1 !
         (λ l₁₃. alloc1 ! (λ l₁₄. alloc1 ! (λ l₁₅. alloc0 ! $ passed l₀ l₁ l₂ lₙ l₃ l₄ l₅ l₆ l₇ l₈ l₉ l₁₀ l₁₁ l₁₂ l₁₃ l₁₄ l₁₅))))))))
 
-    walk : ent 𝓤 (onEntry 𝓤 H A relax′.signature (κ, tt) (q, tt) (c, (x ys, (ns, tt))) at)
+    walk : ent 𝓤 (onEntry 𝓤 H A relax′.signature (κ, tt) (q, tt) (c, (x ys, (ts, tt))) at)
         (WpFn 𝓤 H C Λ code.function (vint w64 (ofZ w64 c) ∷ sliceVal (b, o) len ∷ nv ∷ []) Post)
     walk =
-        qed W ((‵ (flft κ q) ⊛ ‵ ftrue) ∷ ‵ (owns (i64 ∷ MutSlice (named 0) κ R ∷ N.the-row ∷ []) (c, (x ys, (ns, tt))) at) ∷ []) ∵ enter ! C Λ code.function
+        qed W ((‵ (flft κ q) ⊛ ‵ ftrue) ∷ ‵ (owns (i64 ∷ MutSlice (named 0) κ R ∷ N.the-row ∷ []) (c, (x ys, (ts, tt))) at) ∷ []) ∵ enter ! C Λ code.function
         (vint w64 (ofZ w64 c) ∷ sliceVal (b, o) len ∷ nv ∷ []) _ $
         alloc1 ! (λ l₀. alloc1 ! (λ l₁. alloc1 ! (λ l₂. alloc1 ! (λ lₙ. alloc1 !
         (λ l₃. alloc1 ! (λ l₄. alloc1 ! (λ l₅. alloc1 ! (λ l₆. alloc1 ! (λ l₇. allocated l₀ l₁ l₂ lₙ l₃ l₄ l₅ l₆ l₇)))))))))
@@ -691,7 +690,7 @@ relax-with-spec 𝓤 H 𝓜 𝓖 𝓡 =
     (relax-meets 𝓤 H (𝓖 .A) (givenOf 𝓤 H 𝓜 𝓖) (𝓜 .mem) (𝓡 .run) (tablesOf 𝓤 H 𝓜 (tables 𝓤 H 𝓜 𝓡 code.env))
     (cited 𝓤 H (Usable 𝓤 H (𝓖 .A) (𝓜 .mem) (𝓡 .run)) 𝓜 𝓡 code.env #usable-of usable-def.routine code.calls-relaxation·usable-of (usable-thm.met 𝓤 H 𝓜 𝓖 𝓡))
     (cited 𝓤 H (Opened 𝓤 H (𝓖 .A) (𝓜 .mem) (𝓡 .run)) 𝓜 𝓡 code.env #opened opened-def.routine code.calls-relaxation·opened (opened-thm.met 𝓤 H 𝓜 𝓖 𝓡))
-    (cited 𝓤 H (With 𝓤 H (𝓖 .A) (𝓜 .mem) (𝓡 .run)) 𝓜 𝓡 code.env #with with-def.routine code.calls-model·setters·with-item (with-thm.met 𝓤 H 𝓜 𝓖 𝓡))
+    (cited 𝓤 H (With 𝓤 H (𝓖 .A) (𝓜 .mem) (𝓡 .run)) 𝓜 𝓡 code.env #with with-def.routine code.calls-relaxation·with-next (with-thm.met 𝓤 H 𝓜 𝓖 𝓡))
     (cited 𝓤 H (Core 𝓤 H (𝓖 .A) (𝓜 .mem) (𝓡 .run)) 𝓜 𝓡 code.env #core core-def.routine code.calls-relaxation·core (core-thm.met 𝓤 H 𝓜 𝓖 𝓡))
     (cited 𝓤 H (Nth 𝓤 H (𝓖 .A) (𝓜 .mem) (𝓡 .run)) 𝓜 𝓡 code.env #nth nth-def.routine code.calls-relaxation·nth (nth-thm.met 𝓤 H 𝓜 𝓖 𝓡))
     (cited 𝓤 H (AnswerOf 𝓤 H (𝓖 .A) (𝓜 .mem) (𝓡 .run)) 𝓜 𝓡 code.env #answer-of answer-def.routine code.calls-relaxation·answer-of (answer-thm.met 𝓤 H 𝓜 𝓖 𝓡)))

@@ -21,13 +21,13 @@ plain-of-requires : tie.Need-plain-of-requires
 plain-of-requires c κs = search needs
 
 named-of-requires : tie.Need-named-of-requires
-named-of-requires c κs = let s = c .before .before in needed-placed (s .args .m .needs) (plainOf (s .args .m)) (needed (s .args .m) (s .pre))
+named-of-requires c κs = let s = c .before .before in needed-placed (s .args .m .needs) (plainOf (s .args .sense) (s .args .m)) (needed (s .args .sense) (s .args .m) (s .pre))
 
 loosen-requires : tie.Need-loosen-requires
-loosen-requires c κs = let a = c .before in rw (a .plain-of .ensures) (a .before .before .pre .figures .few-items)
+loosen-requires c κs = let a = c .before in let s = a .before .before in rw (a .plain-of .ensures) (s .pre .figures (s .args .sense) .few-items)
 
 -- the record's own items are made continuous
-loosened : (c : tie.After-loosen) → Loosened (plainOf (start c .args .m)) (c .before .named-of .result) (start c .args .m .count) (c .loosen .result)
+loosened : (c : tie.After-loosen) → Loosened (plainOf (start c .args .sense) (start c .args .m)) (c .before .named-of .result) (start c .args .m .count) (c .loosen .result)
 loosened c = subst (λ (p : Problem). Loosened p (c .before .named-of .result) (p .count) (c .loosen .result)) (c .before .before .plain-of .ensures)
     (c .loosen .ensures)
 
@@ -35,7 +35,7 @@ solve-needs-requires : tie.Need-solve-needs-requires
 solve-needs-requires c κs =
     let s = start c in
     let n = c .before .named-of in
-    loosened-needed (s .args .m) (s .pre) (n .result) (n .ensures) (c .loosen .result) (loosened c)
+    loosened-needed (s .args .sense) (s .args .m) (s .pre) (n .result) (n .ensures) (c .loosen .result) (loosened c)
 
 returns : tie.Need-returns
 returns c =
@@ -44,8 +44,8 @@ returns c =
     let s = start l in
     let m = s .args .m in
     let n = l .before .named-of in
-    same-answers-needs (instanceOf (l .loosen .result)) (relaxedBut (needsOf (m .needs)) (instanceOf (plainOf m)))
-    (loosened-same m (s .pre) (n .result) (n .ensures) (l .loosen .result) (loosened l)) (needsOf (m .needs)) (r .solve-needs .result .answer)
+    same-answers-needs (instanceOf (l .loosen .result)) (relaxedBut (needsOf (m .needs)) (instanceOf (plainOf (s .args .sense) m)))
+    (loosened-same (s .args .sense) m (s .pre) (n .result) (n .ensures) (l .loosen .result) (loosened l)) (needsOf (m .needs)) (r .solve-needs .result .answer)
     (r .solve-needs .ensures .0 .answers)
 
 pub relaxed-answer-spec : {M : Type 1} → statement M

@@ -25,7 +25,7 @@ returns c =
     let a = t .answered .result in
     let is = t .before .read .ensures in
     record {
-      answer = a;
+      answers = a;
       is-true = subst (λ (r : Reading). Answered r a) is (t .answered .ensures);
       told-is = rw is at (h .list-reply .ensures .0);
       left-is = rw is at (h .list-reply .ensures .1);

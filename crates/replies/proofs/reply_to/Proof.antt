@@ -2,7 +2,7 @@
 use mathlib.Core.Path.{subst}
 use borrow.Author.Needs.{needs}
 use Rattle.text.specs.Buffer.{Shows}
-use Rattle.listing.specs.Printing.{printed}
+use Rattle.listing.specs.Printing.{printedBoth}
 use Rattle.sheet.specs.declared.Reading.{Reading}
 use Rattle.replies.specs.Replies.{Answered}
 use Rattle.replies.proofs.reply_to.Statement.{statement}
@@ -23,9 +23,9 @@ returns c =
     let a = t .answered .result in
     let is = t .before .read .ensures in
     record {
-      answer = a;
+      answers = a;
       is-true = subst (λ (r : Reading). Answered r a) is (t .answered .ensures);
-      shown = subst (λ (r : Reading). Shows (printed (r .model .count) a) (c .text-of .result)) is (c .text-of .ensures);
+      shown = subst (λ (r : Reading). Shows (printedBoth (r .model .count) a) (c .text-of .result)) is (c .text-of .ensures);
     }
 
 pub reply-to-spec : {M : Type 1} → statement M

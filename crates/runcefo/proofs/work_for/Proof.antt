@@ -1,14 +1,12 @@
--- `runcefo::work_for` meets its contract: an accepted sheet's figures are in range, and its needs allowed.
+-- `runcefo::work_for` meets its contract: an accepted sheet's record is admissible.
 use mathlib.Core.Path.{_≡_, ap, subst}
 use mathlib.Core.List.{List}
 use Prim.Native.Nat.{ℕ}
 use borrow.Author.Needs.{needs}
 use Rattle.knapsack.specs.declared.Verdict.{Verdict}
 use Rattle.knapsack.specs.declared.Verdict.the-variants.{Accepted}
-use Rattle.model.specs.Records.{plainOf}
+use Rattle.model.specs.Records.{Admissible}
 use Rattle.model.proofs.Records.{accepted}
-use Rattle.planner.specs.Branching.{Needed}
-use Rattle.planner.proofs.Breaking.{needed}
 use Rattle.sheet.specs.declared.Reading.{Reading}
 use Rattle.sheet.specs.Reading.{readSheet}
 use Rattle.sheet.proofs.Sheets.{accepted-sheet}
@@ -16,8 +14,8 @@ use Rattle.runcefo.specs.Entries.{Steps, Cells}
 use Rattle.runcefo.proofs.work_for.Statement.{statement}
 use Rattle.runcefo.proofs.work_for.Tie as tie
 
-fit : (s : List ℕ) → readSheet s .verdict ≡ Accepted → Needed (plainOf (readSheet s .model)) (readSheet s .model .needs)
-fit s h = let m = readSheet s .model in needed m (accepted m (accepted-sheet s m (ap (λ (v : Verdict). record { verdict = v; model = m }) h) .fair))
+fit : (s : List ℕ) → readSheet s .verdict ≡ Accepted → Admissible (readSheet s .model)
+fit s h = let m = readSheet s .model in accepted m (accepted-sheet s m (ap (λ (v : Verdict). record { verdict = v; model = m }) h) .fair)
 
 read-requires : tie.Need-read-requires
 read-requires c κs = search needs

@@ -2,6 +2,7 @@
 use mathlib.Core.Path.{sym, _∙_}
 use borrow.Author.Needs.{needs}
 use Rattle.model.proofs.Records.{accepted}
+use Rattle.model.specs.declared.Sense.the-variants.{Sure}
 use Rattle.settling_test.proofs.tried.Statement.{statement}
 use Rattle.settling_test.proofs.tried.Tie as tie
 
@@ -20,7 +21,7 @@ answered-requires c κs =
     let e = q .before in
     let v = e .before .before in
     let s = v .before .before in
-    ((s .pre .0, rw (q .plain-of .ensures) (accepted _ (sym (v .check-model .ensures) ∙ e .enum-told .given .1) .figures)), s .pre .1)
+    ((s .pre .0, rw (q .plain-of .ensures) (accepted _ (sym (v .check-model .ensures) ∙ e .enum-told .given .1) .figures Sure)), s .pre .1)
 
 enum-told-2 : tie.Need-enum-told-2
 enum-told-2 c = search needs

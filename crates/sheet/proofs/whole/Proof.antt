@@ -5,8 +5,8 @@ use Prim.Native.Nat.{ℕ}
 use borrow.Author.Needs.{needs}
 use Rattle.model.specs.declared.Blanks.{Blanks}
 use Rattle.model.specs.declared.Side.the-variants.{Lower, Upper}
-use Rattle.sheet.specs.Reading.{boundsSection, needsSection, headOf, lowerOf, upperOf, lastOf, wholeOf}
-use Rattle.sheet.proofs.Steps.{Few, head-few, side-few}
+use Rattle.sheet.specs.Reading.{boundsSection, needsSection, endOfSheet, headOf, lowerOf, upperOf, lastOf, wholeOf}
+use Rattle.sheet.proofs.Steps.{Few, head-few, side-few, last-few, end-few}
 use Rattle.sheet.proofs.whole.Statement.{statement}
 use Rattle.sheet.proofs.whole.Tie as tie
 
@@ -31,6 +31,11 @@ last-is : (c : tie.After-needs-section) → c .needs-section .result ≡ lastOf 
 unfolding lastOf
 last-is c = c .needs-section .ensures ∙ ap (needsSection (sheet (c .before .before .before))) (upper-is (c .before))
 
+end-is : (c : tie.After-end-of-sheet) →
+    let h = c .before .before .before .before in
+    c .end-of-sheet .result ≡ endOfSheet (sheet h) (lastOf (kind h) (sheet h))
+end-is c = c .end-of-sheet .ensures ∙ ap (endOfSheet (sheet (c .before .before .before .before))) (last-is (c .before))
+
 -- no section gives a record of more than 16 items
 lower-few : (b : Blanks) (s : List ℕ) → Few (lowerOf b s)
 unfolding lowerOf
@@ -39,6 +44,10 @@ lower-few b s = side-few s Lower (headOf b s) (head-few b s)
 upper-few : (b : Blanks) (s : List ℕ) → Few (upperOf b s)
 unfolding upperOf
 upper-few b s = side-few s Upper (lowerOf b s) (lower-few b s)
+
+whole-few : (b : Blanks) (s : List ℕ) → Few (endOfSheet s (lastOf b s))
+unfolding lastOf
+whole-few b s = end-few s (needsSection s (upperOf b s)) (last-few s (upperOf b s) (upper-few b s))
 
 head-requires : tie.Need-head-requires
 head-requires c κs = search needs
@@ -55,9 +64,12 @@ needs-section-requires c κs = rw (upper-is c) (upper-few (kind (c .before .befo
 end-of-sheet-requires : tie.Need-end-of-sheet-requires
 end-of-sheet-requires c κs = search needs
 
+ranges-of-sheet-requires : tie.Need-ranges-of-sheet-requires
+ranges-of-sheet-requires c κs = let h = c .before .before .before .before in rw (end-is c) (whole-few (kind h) (sheet h))
+
 returns : tie.Need-returns
 unfolding wholeOf
-returns c = rw (← last-is (c .before)) (c .end-of-sheet .ensures)
+returns c = rw (← end-is (c .before)) (c .ranges-of-sheet .ensures)
 
 pub whole-spec : {M : Type 1} → statement M
 whole-spec =
@@ -68,4 +80,5 @@ whole-spec =
     bounds-section-requires-2
     needs-section-requires
     end-of-sheet-requires
+    ranges-of-sheet-requires
     returns)

@@ -16,7 +16,7 @@ use Rattle.writer.proofs.put_item_lines.Tie as tie
 
 abbrev Inv-loop : tie.InvT-loop
 Inv-loop out₀ at m n next₀ k₀ out next k =
-    (k ≤ n) × ((length out ≡ length out₀) × Put (24 * k) at (linesText itemText (upTo k (itemAt m))) out₀ out next)
+    (k ≤ n) × ((length out ≡ length out₀) × Put (35 * k) at (linesText itemText (upTo k (itemAt m))) out₀ out next)
 
 abbrev μ-loop : tie.MeasureT-loop
 μ-loop out₀ at m n next₀ k₀ out next k = n - k

@@ -14,26 +14,28 @@ enum-told-2 c = search needs
 
 -- the moments that are spoken of below
 abbrev start-of-at-match-keys1 : tie.At-match-keys1 → tie.Start
-start-of-at-match-keys1 c = c .before .before .before
+start-of-at-match-keys1 c = c .before .before .before .before
 
 abbrev start-of-at-match-keys2 : tie.At-match-keys2 → tie.Start
-start-of-at-match-keys2 c = c .before .before .before
+start-of-at-match-keys2 c = c .before .before .before .before
 
 returns : tie.Need-returns
 returns c =
     let s = start-of-at-match-keys1 (c .before) in
     let i = s .args .item in
-    let f : SFits w64 (i .weight) = search needs in
+    let a : SFits w64 (i .low) = search needs in
+    let b : SFits w64 (i .high) = search needs in
     let g : SFits w64 (i .price) = search needs in
-    rw (toZ-ofZ f, toZ-ofZ g, c .enum-told .given .1)
+    rw (toZ-ofZ a, toZ-ofZ b, toZ-ofZ g, c .enum-told .given .1)
 
 returns-2 : tie.Need-returns-2
 returns-2 c =
     let s = start-of-at-match-keys2 (c .before) in
     let i = s .args .item in
-    let f : SFits w64 (i .weight) = search needs in
+    let a : SFits w64 (i .low) = search needs in
+    let b : SFits w64 (i .high) = search needs in
     let g : SFits w64 (i .price) = search needs in
-    rw (toZ-ofZ f, toZ-ofZ g, c .enum-told2 .given .1)
+    rw (toZ-ofZ a, toZ-ofZ b, toZ-ofZ g, c .enum-told2 .given .1)
 
 pub with-side-spec : {M : Type 1} → statement M
 with-side-spec = tie.close (tie.spec enum-told enum-told-2 returns returns-2)

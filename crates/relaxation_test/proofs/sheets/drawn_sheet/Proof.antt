@@ -10,8 +10,8 @@ Inv-loop state count z items₀ now₀ capacity k₀ items now k = Unit {0}
 abbrev μ-loop : tie.MeasureT-loop
 μ-loop state count z items₀ now₀ capacity k₀ items now k = 18 - k
 
-blank-item-requires : tie.Need-blank-item-requires Inv-loop μ-loop
-blank-item-requires c κs = search needs
+no-item-requires : tie.Need-no-item-requires Inv-loop μ-loop
+no-item-requires c κs = search needs
 
 next-requires : tie.Need-next-requires Inv-loop μ-loop
 next-requires c κs = search needs
@@ -40,8 +40,8 @@ loop-less c = search needs
 loop-again : tie.Need-loop-again Inv-loop μ-loop
 loop-again c = search needs
 
-no-needs-requires : tie.Need-no-needs-requires Inv-loop μ-loop
-no-needs-requires c κs = search needs
+plain-terms-requires : tie.Need-plain-terms-requires Inv-loop μ-loop
+plain-terms-requires c κs = search needs
 
 returns : tie.Need-returns Inv-loop μ-loop
 returns c = search needs
@@ -52,7 +52,7 @@ drawn-sheet-spec =
     (tie.spec
     Inv-loop
     μ-loop
-    blank-item-requires
+    no-item-requires
     next-requires
     drawn-capacity-requires
     loop-holds
@@ -62,5 +62,5 @@ drawn-sheet-spec =
     add-k
     loop-less
     loop-again
-    no-needs-requires
+    plain-terms-requires
     returns)

@@ -10,8 +10,8 @@ Inv-loop s list items₀ k₀ items k = Unit {0}
 abbrev μ-loop : tie.MeasureT-loop
 μ-loop s list items₀ k₀ items k = 16 - k
 
-blank-item-requires : tie.Need-blank-item-requires Inv-loop μ-loop
-blank-item-requires c κs = search needs
+no-item-requires : tie.Need-no-item-requires Inv-loop μ-loop
+no-item-requires c κs = search needs
 
 loop-holds : tie.Need-loop-holds Inv-loop μ-loop
 loop-holds c = search needs
@@ -52,7 +52,7 @@ record-of-spec =
     (tie.spec
     Inv-loop
     μ-loop
-    blank-item-requires
+    no-item-requires
     loop-holds
     mul-x
     array-copy-out-x

@@ -10,6 +10,9 @@ Inv-loop s list needs items₀ k₀ items k = Unit {0}
 abbrev μ-loop : tie.MeasureT-loop
 μ-loop s list needs items₀ k₀ items k = 16 - k
 
+with-terms-requires : tie.Need-with-terms-requires Inv-loop μ-loop
+with-terms-requires c κs = search needs
+
 loop-holds : tie.Need-loop-holds Inv-loop μ-loop
 loop-holds c = search needs
 
@@ -43,6 +46,7 @@ with-record-spec =
     (tie.spec
     Inv-loop
     μ-loop
+    with-terms-requires
     loop-holds
     mul-x
     array-copy-out-x

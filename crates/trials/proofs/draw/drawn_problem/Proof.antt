@@ -10,8 +10,8 @@ Inv-loop state count s items₀ now₀ capacity k₀ items now k = Unit {0}
 abbrev μ-loop : tie.MeasureT-loop
 μ-loop state count s items₀ now₀ capacity k₀ items now k = 16 - k
 
-blank-item-requires : tie.Need-blank-item-requires Inv-loop μ-loop
-blank-item-requires c κs = search needs
+no-item-requires : tie.Need-no-item-requires Inv-loop μ-loop
+no-item-requires c κs = search needs
 
 next-requires : tie.Need-next-requires Inv-loop μ-loop
 next-requires c κs = search needs
@@ -52,7 +52,7 @@ drawn-problem-spec =
     (tie.spec
     Inv-loop
     μ-loop
-    blank-item-requires
+    no-item-requires
     next-requires
     drawn-capacity-requires
     loop-holds

@@ -1,7 +1,7 @@
--- `listing::list_answer` meets its contract: the text by value is handed over.
+-- `listing::list_answers` meets its contract: the text by value is handed over.
 use borrow.Author.Needs.{needs}
-use Rattle.listing.proofs.list_answer.Statement.{statement}
-use Rattle.listing.proofs.list_answer.Tie as tie
+use Rattle.listing.proofs.list_answers.Statement.{statement}
+use Rattle.listing.proofs.list_answers.Tie as tie
 
 text-of-requires : tie.Need-text-of-requires
 text-of-requires c κs = search needs
@@ -25,8 +25,8 @@ returns c =
     let told = at-bytes .before in
     rw (told .text-of .ensures .shown) at (h .hand-over .ensures)
 
-pub list-answer-spec : {M : Type 1} → statement M
-list-answer-spec =
+pub list-answers-spec : {M : Type 1} → statement M
+list-answers-spec =
     tie.close
     (tie.spec
     text-of-requires
