@@ -16,16 +16,19 @@ case $prefix in /*) ;; *) prefix=$(pwd)/$prefix ;; esac
 cd "$(dirname "$0")"
 rt check charge
 rt check convert
+rt check watch
 rt staticlib runcefo
 version=$(sed -n 's/^#define RUNCEFO_VERSION "\(.*\)"/\1/p' include/runcefo.h)
 to=${DESTDIR-}$prefix
 mkdir -p "$to/bin" "$to/include" "$to/lib/pkgconfig" "$to/share/man/man1"
 install -m 755 target/bin/charge "$to/bin/charge"
 install -m 755 target/bin/convert "$to/bin/convert"
+install -m 755 target/bin/watch "$to/bin/watch"
 install -m 644 include/runcefo.h "$to/include/runcefo.h"
 install -m 644 target/staticlib/libruncefo.a "$to/lib/libruncefo.a"
 install -m 644 docs/charge.1 "$to/share/man/man1/charge.1"
 install -m 644 docs/convert.1 "$to/share/man/man1/convert.1"
+install -m 644 docs/watch.1 "$to/share/man/man1/watch.1"
 cat >"$to/lib/pkgconfig/runcefo.pc" <<PC
 prefix=$prefix
 libdir=\${prefix}/lib

@@ -2,6 +2,7 @@
 --   Found n p c m    what the number m found says of the first n items;  found: it is true of firstBroken
 --   Lacking n ns c m    what it says of the first n lines of needs;  lacking: it is true of firstLacking
 -- none-yet, stays: a number that is not 0 stays. kept-iff: a need whose item does not lack its cover is kept in the meaning's sense.
+-- keeps-upper: an amount that is not past an upper bound keeps it.
 -- keeps-iff: an amount that breaks nothing keeps its item's mark and bounds in the meaning's sense.
 use mathlib.Core.Path.{_≡_, refl, sym, _∙_}
 use mathlib.Core.Bool.{Bool, true, false, cond}
@@ -101,7 +102,7 @@ keeps-lower : (b : Bound) (x : Fraction) → GoodAmount x → (breaksBound Lower
 keeps-lower Absent x g = (λ h. tt, λ h. refl)
 keeps-lower (At l) x g = let o = over-≤ (g .some) (over-int (x .q) l) (over-frac (x .p) (x .q) (g .some)) in (λ h. o .1 (no-lt h), λ h. le-no (o .0 h))
 
-keeps-upper : (b : Bound) (x : Fraction) → GoodAmount x → (breaksBound Upper b (x .p) (x .q) ≡ false) ↔ KeepsUpper b (frac (x .p) (x .q))
+pub keeps-upper : (b : Bound) (x : Fraction) → GoodAmount x → (breaksBound Upper b (x .p) (x .q) ≡ false) ↔ KeepsUpper b (frac (x .p) (x .q))
 keeps-upper Absent x g = (λ h. tt, λ h. refl)
 keeps-upper (At u) x g = let o = over-≤ (g .some) (over-frac (x .p) (x .q) (g .some)) (over-int (x .q) u) in (λ h. o .1 (no-lt h), λ h. le-no (o .0 h))
 

@@ -1,5 +1,6 @@
 -- The point check tells the truth.
 -- told: what the reply says of the point holds.
+-- worth-is: what a point is worth, for every problem.
 -- refused-iff, feasible-iff, weight-iff, item-iff: each kind of reply is given exactly where it should be.
 use mathlib.Core.Path.{_≡_, refl, sym, ap, _∙_, subst}
 use mathlib.Core.Bool.{Bool, true, false, cond, not}
@@ -15,7 +16,7 @@ use Rattle.arith.specs.Fractions.{Frac, _·ᶠ_, _≤ᶠ_, _<ᶠ_, total}
 use Rattle.arith.specs.Gcd.{lowest}
 use Rattle.arith.specs.declared.Fraction.{Fraction}
 use Rattle.arith.proofs.Divisors.{lowest-den, lowest-coprime}
-use Rattle.arith.proofs.Fractions.{Over, over-int, over-total, over-≤, over-<, over-≈}
+use Rattle.arith.proofs.Fractions.{Over, over-int, over-frac, over-total, over-≤, over-<, over-≈}
 use Rattle.arith.proofs.Parts.{impossible}
 use Rattle.arith.proofs.Words.{yes-lt, no-lt}
 use Rattle.knapsack.specs.declared.Refusal.{Refusal}
@@ -23,8 +24,9 @@ use Rattle.knapsack.specs.declared.Verdict.{Verdict}
 use Rattle.knapsack.specs.declared.Verdict.the-variants as verdicts
 use Rattle.knapsack.specs.Meaning.{Keeps}
 use Rattle.knapsack.specs.Ranges.{itemAt}
+use Rattle.knapsack.specs.declared.Problem.{Problem}
 use Rattle.model.specs.Needs.{KeepsNeed, KeepsNeeds, FeasibleNeeds}
-use Rattle.model.specs.Records.{needAt, plainOf, placed, needsOf, verdict, Admissible}
+use Rattle.model.specs.Records.{needAt, plainOf, placed, needsOf, verdict, Admissible, FiguresInRange}
 use Rattle.model.specs.Refusals.{amounts, amount}
 use Rattle.model.specs.declared.Model.{Model}
 use Rattle.model.specs.declared.Need.{Need}
@@ -62,19 +64,33 @@ use Rattle.feasibility.specs.Check.{
   ToldItem,
   ToldNeed,
   Told,
+  Worth,
 }
 use Rattle.feasibility.proofs.Breaking.{Found, none, first, found, keeps-iff, none-yet, stays, lackAt, Lacking, all, broken, lacking, kept-iff}
 use Rattle.feasibility.proofs.Divisor.{good-amount, Divided, divided, divisor-iff}
+
+-- the sums are those of the meaning, for every problem
+module _ (p : Problem) (c : Candidate) (d : ℕ) (figures : FiguresInRange p) (s : Divided (p .count) (itemAt p) (proposedAt c) d) where
+  pub good-at : (k : ℕ) → k < p .count → GoodAmount (proposedAt c k)
+  good-at k l = good-amount (itemAt p k) (proposedAt c k) (figures .items-in k l) (s .fine k l)
+
+  pub total-over : (f : Figure) → Over d (total (p .count) (λ k. figureOf f (itemAt p k) ·ᶠ proposedPoint c k)) (totalOf f d (p .count) p c)
+  total-over f = over-total d (p .count) (proposedPoint c) (λ k. numerator d (proposedAt c k))
+      (λ k l. parted d (proposedAt c k) (good-at k l .some) (s .parts k l) .over) (λ k. figureOf f (itemAt p k))
+
+  -- what a point is worth that row 8 does not refuse
+  pub worth-is : (v : ℤ) → v ≡ totalOf Price d (p .count) p c → Worth p c (record { p = v; q = d })
+  worth-is v e = record { divisor = s .some; exact = over-≈ (over-frac v d (s .some)) (total-over Price) (s .some) e }
 
 -- ---- yes or no
 
 module _ (sense : Sense) (m : Model) (c : Candidate) (d : ℕ) (asked : Proposed sense m c) (s : Divided (m .count) (itemAt (plainOf sense m)) (proposedAt c) d) where
   fine : (k : ℕ) → k < m .count → GoodAmount (proposedAt c k)
-  fine k l = good-amount (itemAt (plainOf sense m) k) (proposedAt c k) (asked .admissible .figures sense .items-in k l) (s .fine k l)
+  fine = good-at (plainOf sense m) c d (asked .admissible .figures sense) s
 
-  total-over : (f : Figure) → Over d (total (m .count) (λ k. figureOf f (itemAt (plainOf sense m) k) ·ᶠ proposedPoint c k)) (totalOf f d (m .count) (plainOf sense m) c)
-  total-over f = over-total d (m .count) (proposedPoint c) (λ k. numerator d (proposedAt c k))
-      (λ k l. parted d (proposedAt c k) (fine k l .some) (s .parts k l) .over) (λ k. figureOf f (itemAt (plainOf sense m) k))
+  of-total : (f : Figure) → Over d (total (m .count) (λ k. figureOf f (itemAt (plainOf sense m) k) ·ᶠ proposedPoint c k))
+      (totalOf f d (m .count) (plainOf sense m) c)
+  of-total = total-over (plainOf sense m) c d (asked .admissible .figures sense) s
 
   kept : (k : ℕ) → k < m .count → (breaks (itemAt (plainOf sense m) k) (proposedAt c k) ≡ false) ↔ Keeps (itemAt (plainOf sense m) k) (proposedPoint c k)
   kept k l = keeps-iff (itemAt (plainOf sense m) k) (proposedAt c k) (s .fine k l) (fine k l)
@@ -98,16 +114,16 @@ module _ (sense : Sense) (m : Model) (c : Candidate) (d : ℕ) (asked : Proposed
       ltZ (m .capacity *ℤ pos d) (totalOf Weight d (m .count) (plainOf sense m) c) ≡ b →
       Told sense m c (cond b (reply.Violates 0) (reply.Feasible (lowest (totalOf Price d (m .count) (plainOf sense m) c) d)))
   by-weight k n true e =
-      record { proposed = asked; keeps = k; kept = n; over = over-< (s .some) (over-int d (m .capacity)) (total-over Weight) (yes-lt e) }
+      record { proposed = asked; keeps = k; kept = n; over = over-< (s .some) (over-int d (m .capacity)) (of-total Weight) (yes-lt e) }
   by-weight k n false e =
       let v = totalOf Price d (m .count) (plainOf sense m) c in
       record {
         proposed = asked;
         feasible = record {
-          plain = record { keeps = k; fits = over-≤ (s .some) (total-over Weight) (over-int d (m .capacity)) .1 (no-lt e) };
+          plain = record { keeps = k; fits = over-≤ (s .some) (of-total Weight) (over-int d (m .capacity)) .1 (no-lt e) };
           kept = n;
         };
-        exact = over-≈ (over-lowest v d (s .some)) (total-over Price) (s .some) refl;
+        exact = over-≈ (over-lowest v d (s .some)) (of-total Price) (s .some) refl;
         divisor = lowest-den v d (s .some);
         lowest = lowest-coprime v d (s .some);
       }

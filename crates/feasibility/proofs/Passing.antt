@@ -1,5 +1,6 @@
 -- What an answer shows passes the point check.
 --   shownBy m a     the point that an answer to the record m shows, as a proposed one
+-- answers: an answer that is no refusal is true of its record.
 -- End theorems, of every answer that is Planned: best-passes: the check says yes to a best point, with the answer's value. start-passes: and to the
 -- start of an unbounded answer.
 use mathlib.Core.Path.{_≡_, refl, sym, ap, _∙_, subst, subst₂}
@@ -95,7 +96,7 @@ module _ (sense : Sense) (m : Model) (a : Answer) (size : length (a .point) ≡ 
 -- ---- every answer that is Planned
 
 -- an answer that is no refusal answers an accepted record
-answers : (sense : Sense) (m : Model) (a : Answer) (k : Kind) → Planned sense m a → a .kind ≡ k → ((f : Refusal) → k ≡ kind.Refused f → ⊥) →
+pub answers : (sense : Sense) (m : Model) (a : Answer) (k : Kind) → Planned sense m a → a .kind ≡ k → ((f : Refusal) → k ≡ kind.Refused f → ⊥) →
     (verdict m ≡ Accepted) × AnswersAsNeeds (asked sense m) (needsOf (m .needs)) a k
 answers sense m a k p e n = go (verdict m) refl (p .replies)
   where

@@ -21,6 +21,7 @@
 --   Proposed sense m c          nothing is refused
 --   RefusedAs, ToldValue, ToldWeight   what a refusal, a yes and a no with item 0 say
 --   ToldItem, ToldNeed    what a no with an item says: the item breaks its mark or a bound, or its need is broken
+--   Sizeable p c          what the code needs to sum up a point;  Worth p c r: r is what it is worth
 --   Told sense m c r      what the reply r says of the point, by its case: the entry's promise beside pointCheck sense m c
 use mathlib.Core.Path.{_≡_}
 use mathlib.Core.Bool.{Bool, true, false, cond, not}
@@ -179,6 +180,16 @@ pub record ToldValue (sense : Sense) (m : Model) (c : Candidate) (v : Fraction) 
   pub exact : frac (v .p) (v .q) ≈ᶠ value (asked sense m) (proposedPoint c)
   pub divisor : 1 ≤ v .q
   pub lowest : gcdOf (natAbs (v .p)) (v .q) ≡ 1
+
+-- the figures are in range and row 8 does not refuse the amounts
+pub record Sizeable (p : Problem) (c : Candidate) : Type 0 where
+  pub problem : FiguresInRange p
+  pub counted : c .count ≡ p .count
+  pub amounts : GoodPoint (p .count) (itemAt p) (proposedAt c)
+
+pub record Worth (p : Problem) (c : Candidate) (r : Fraction) : Type 0 where
+  pub divisor : 1 ≤ r .q
+  pub exact : frac (r .p) (r .q) ≈ᶠ value (instanceOf p) (proposedPoint c)
 
 -- 01's no with item 0: every item keeps its mark and bounds, the needs are kept, and only the weight is over
 pub record ToldWeight (sense : Sense) (m : Model) (c : Candidate) : Type 0 where

@@ -48,6 +48,8 @@ ghost use Rattle.feasibility.specs.Check.{
   Lined,
   Coverable,
   Told,
+  Sizeable,
+  Worth,
 };
 
 // 01's proposed point: an amount for each item, at the first count places.
@@ -146,7 +148,7 @@ fn common_divisor(p: Problem, c: Candidate) -> u64
 }
 
 // Whether p / q is past a bound on its side.
-fn breaks_bound(s: Side, b: Bound, p: i64, q: u64) -> bool
+pub fn breaks_bound(s: Side, b: Bound, p: i64, q: u64) -> bool
     requires { ⌜ BoundInRange b × (q ≤ 1000) ⌝ }
     ensures { λ r. ⌜ r ≡ breaksBound s b p q ⌝ }
 {
@@ -308,6 +310,16 @@ fn total(f: Figure, d: u64, p: Problem, c: Candidate) -> i64
         k += 1;
     }
     sum
+}
+
+// What a point is worth that row 8 does not refuse, over its common divisor: not in lowest terms.
+pub fn worth(p: Problem, c: Candidate) -> Fraction
+    requires { ⌜ Sizeable p c ⌝ }
+    ensures { λ r. ⌜ Worth p c r ⌝ }
+{
+    let d = common_divisor(p, c);
+    let v = total(Figure::Price, d, p, c);
+    Fraction { p: v, q: d }
 }
 
 // The reply where nothing is refused, d being the common divisor.

@@ -1,2 +1,3 @@
 pub mod Worked
 pub mod Room
+pub mod Refusing

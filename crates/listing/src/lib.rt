@@ -1,6 +1,7 @@
 // The text of the two answers to a problem, as the program `charge` prints it: the sure one, then the possible one, a refusal once. Paper 01: "Text",
 // "What `charge` prints", and refusal 11; paper 02, request 11.
 // It comes by value (text_of), or at the start of a lent buffer (list_reply), of which no byte changes where it is too short or the answer a refusal.
+// text_one is the text of one answer alone.
 use arith::Fraction;
 use knapsack::Answer;
 use knapsack::Kind;
@@ -145,6 +146,18 @@ pub fn text_of(s: Answers, n: usize) -> Text
 {
     let mut bytes = text::space();
     let len = put_answers(&mut bytes, s, n);
+    Text {
+        bytes: bytes,
+        len: len,
+    }
+}
+
+// The text of one answer alone.
+pub fn text_one(a: Answer, n: usize) -> Text
+    ensures { λ r. ⌜ Shows (printed n a) r ⌝ }
+{
+    let mut bytes = text::space();
+    let len = put_answer(&mut bytes, 0, a, n);
     Text {
         bytes: bytes,
         len: len,

@@ -255,7 +255,7 @@ fn with_best(b: Best, a: Answer) -> Best
     }
 }
 
-fn is_optimal(a: Answer) -> bool
+pub fn is_optimal(a: Answer) -> bool
     ensures { λ r. ⌜ r ≡ isOptimal (a .kind) ⌝ }
 {
     let k = a.kind;
