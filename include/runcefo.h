@@ -31,9 +31,9 @@ enum charge_refusal {
     CHARGE_ACCEPTED = 0,      /* it is not */
     CHARGE_TOO_LONG = 1,      /* longer than CHARGE_SHEET bytes; told with line 0 */
     CHARGE_BAD_FORM = 2,      /* a line missing or not in its form, but for 12 and 13; or something after the last section */
-    CHARGE_BAD_COUNT = 3,     /* capacities not 1, items not 1 to 16, bounds of a side not as many as items, or more than 16 needs */
+    CHARGE_BAD_COUNT = 3,     /* capacities not 1, items not 1 to 16, bounds of a side not as many as items, or needs not 0 to 16 */
     CHARGE_OUT_OF_RANGE = 4,  /* a figure */
-    CHARGE_BAD_NUMBER = 5,    /* an item number out of turn; in a need one that does not exist, that is named twice, or that does not rise */
+    CHARGE_BAD_NUMBER = 5,    /* an item number out of turn; in a need one that does not exist, that needs itself, or that does not rise */
     CHARGE_SHORT_BUFFER = 11, /* out is shorter than what would be written; told with line 0 */
     CHARGE_BAD_WORD = 12,     /* a heading word other than the expected one */
     CHARGE_NO_NUMBER = 13,    /* a field in a number's place that is not a number, or in a bound's place neither that nor `none` */

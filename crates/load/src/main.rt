@@ -1,6 +1,7 @@
 // The test load (paper 02, request 8): prints the thousand sheets for seed 1, nothing between them. Each is the writer's sheet of the problem
 // drawn after the state that the one before it left.
-use libc::STDOUT_FILENO;
+use streams::SPACE;
+use streams::write_reply;
 use text::Text;
 ghost use mathlib.Core.Path.{_≡_};
 ghost use Prim.Native.Nat.{_≤_};
@@ -35,7 +36,8 @@ fn print_sheet(t: Text) -> bool
 {
     let bytes = t.bytes;
     let len = t.len;
-    io::write_all(STDOUT_FILENO, &bytes[..len])
+    let p = write_reply(&bytes[..len], SPACE);
+    p.at == len
 }
 
 // The first sheets for a seed. A failed write ends them, and is told by one line on standard error.

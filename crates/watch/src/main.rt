@@ -1,4 +1,4 @@
-// The program of paper 02, request 13.
+// Reads a sheet from standard input and prints the falls of its items' prices after which its best point is no longer best: paper 02, request 13.
 fn main() {
-    watch_console::run();
+    console::run(console::Program::Watch);
 }
