@@ -9,7 +9,7 @@
    Threads     There is no state between calls: any number of threads may call at the same time, on buffers of their own.
    Heap        None is used, and nothing is read or written but what is handed over. Of the C library only memcpy, memmove and memset are needed.
    Stack       638,968 bytes were measured (`bench/run stack`), of which 524,280 are the scales' cells; CHARGE_STACK is a safe figure.
-   Time        Every call ends in bounded time: a search takes at most 1,000 steps (charge_steps), then scales answer (charge_cells). Needs come to
+   Time        Every call ends in bounded time: a search takes at most 500 steps (charge_steps), then scales answer (charge_cells). Needs come to
                cases, each with a search of its own: one without needs, at most 2^(t + 1) with t of them. */
 #ifndef RUNCEFO_H
 #define RUNCEFO_H
@@ -71,7 +71,7 @@ uint64_t charge_write(const uint8_t *sheet, size_t length, uint8_t *out, size_t 
    item would remain, else on that of the first blank item whose bounds cross or that a need names; then CHARGE_SHORT_BUFFER; *line gets its line, or 0. */
 uint64_t charge_convert(const uint8_t *sheet, size_t length, uint8_t *out, size_t room, size_t *written, uint64_t *line);
 
-/* How many steps the searches take for a sheet: for each reply at most 1,000 without needs, and 1,000 in each of at most 2^(t + 1) cases with t of them
+/* How many steps the searches take for a sheet: for each reply at most 500 without needs, and 500 in each of at most 2^(t + 1) cases with t of them
    (proved); where every weight is one figure the sure reply is the possible one, and is searched for once. 0 if it is refused or
    needs no search. */
 uint64_t charge_steps(const uint8_t *sheet, size_t length);

@@ -81,7 +81,7 @@ fn compare_sheet(sheet: &[u8], counts: &mut Counts) -> Result<(), String> {
     check(problem.as_ref().ok(), expected, &text)
         .and_then(|_| in_order.map_or(Ok(()), |p| check_first(p, &text)))
         .and_then(|_| check_verdict(sheet, expected))
-        .and_then(|_| if twin.is_none_or(|t| t.steps < 1000) { check_buffers(sheet, expected, &text) } else { Ok(()) })
+        .and_then(|_| if twin.is_none_or(|t| t.steps < ours::RULES.steps) { check_buffers(sheet, expected, &text) } else { Ok(()) })
         .map_err(|what| format!("{what}; expected {expected:?}, ours is\n{text}"))
 }
 

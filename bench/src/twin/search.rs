@@ -1,6 +1,7 @@
 //! Branch and bound over the places of a box, step for step as the planner does it.
 
-use super::relaxation::{less, Mixed};
+use super::amount;
+use super::relaxation::{less, Fill, Mixed};
 use super::setting::{Ends, Setting};
 
 /// A place, and the starts of its levels along it.
@@ -10,10 +11,12 @@ pub struct Path {
     starts: [i64; 16],
 }
 
+/// The best point so far: its place, its value, and its amounts over the value's divisor.
 #[derive(Clone, Copy)]
 pub struct Incumbent {
     pub place: [i64; 16],
     pub value: Mixed,
+    pub point: [i64; 16],
 }
 
 /// What a look settled: the rest of the segment of a level, or every place with the first amounts.
@@ -22,9 +25,10 @@ enum Settled {
     Prefix(usize),
 }
 
-/// The levels above `from` settle nothing.
+/// The levels above `from` settle nothing. With `ties`, of points that are worth as much the one that comes first is looked for.
 pub struct Search<'a> {
     s: &'a Setting,
+    ties: bool,
     path: Path,
     best: Option<Incumbent>,
     pub steps: u64,
@@ -32,8 +36,8 @@ pub struct Search<'a> {
 }
 
 impl<'a> Search<'a> {
-    pub fn new(s: &'a Setting) -> Search<'a> {
-        let mut search = Search { s, path: Path::default(), best: None, steps: 0, from: 0 };
+    pub fn new(s: &'a Setting, ties: bool) -> Search<'a> {
+        let mut search = Search { s, ties, path: Path::default(), best: None, steps: 0, from: 0 };
         search.dive(0);
         search
     }
@@ -54,7 +58,22 @@ impl<'a> Search<'a> {
         self.s.fixed(&self.path.place, levels)
     }
 
-    /// Whether the box e of a run at level d holds nothing better than the incumbent.
+    /// Whether the filling f of the box e, worth v, is ahead of the incumbent: worth more, or as much and coming before.
+    fn is_ahead(&self, e: &Ends, f: Fill, v: Mixed, best: &Incumbent) -> bool {
+        if less(best.value, v) || less(v, best.value) || !self.ties {
+            return less(best.value, v);
+        }
+        let first = |k: usize| amount(self.s, e, f, v.parts, k) * best.value.parts;
+        (0..self.s.count).map(first).lt((0..self.s.count).map(|k| best.point[k] * v.parts))
+    }
+
+    /// The value that the box e has to exceed: one less than the incumbent's where the lower corner of the box comes before it.
+    fn threshold(&self, e: &Ends, best: &Incumbent) -> i64 {
+        let corner = (0..self.s.count).map(|k| e.lo[k] * best.value.parts);
+        best.value.whole - (self.ties && corner.lt(best.point.iter().copied().take(self.s.count))) as i64
+    }
+
+    /// Whether the box e of a run at level d holds nothing ahead of the incumbent.
     fn is_cut(&self, e: &Ends, d: usize) -> bool {
         let f = self.s.fill(e);
         if f.room < 0 {
@@ -63,7 +82,8 @@ impl<'a> Search<'a> {
         let Some(best) = self.best else {
             return false;
         };
-        !less(best.value, self.s.bound(f)) || (!self.s.free && self.s.off_lattice(f, d, best.value.whole))
+        let v = self.s.bound(f);
+        !self.is_ahead(e, f, v, &best) || (!self.s.free && self.s.off_lattice(f, d, self.threshold(e, &best)))
     }
 
     /// Whether a pair of level d and one above can be taken away from the place within the box.
@@ -107,9 +127,13 @@ impl<'a> Search<'a> {
             return false;
         }
         let value = self.s.bound(f);
-        let better = self.best.is_none_or(|b| less(b.value, value));
+        let better = self.best.is_none_or(|b| self.is_ahead(e, f, value, &b));
         if better {
-            self.best = Some(Incumbent { place: self.path.place, value });
+            let mut point = [0; 16];
+            for k in 0..self.s.count {
+                point[k] = amount(self.s, e, f, value.parts, k);
+            }
+            self.best = Some(Incumbent { place: self.path.place, value, point });
         }
         better
     }

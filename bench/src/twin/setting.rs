@@ -14,7 +14,7 @@ pub struct Ends {
 
 /// By item: weight, price, rank. By rank, in the order of filling: item, size and rate (weight and price without the weight's sign).
 /// By level, in the order of branching: item and lattice.
-#[derive(Default)]
+#[derive(Clone, Default)]
 pub struct Setting {
     pub count: usize,
     pub limit: i64,
@@ -76,12 +76,12 @@ fn has_light_end(i: &Item) -> bool {
     }
 }
 
-/// The integer items by falling reduced price at the critical item's price per weight, of equals the heavier first.
+/// The integer items by falling reduced price at the critical item's price per weight, equals by number.
 fn branching_order(p: &Problem, s: &Setting) -> Vec<usize> {
     let f = s.fill(&s.ends);
     let (c, a) = if f.room >= 0 && f.at < s.live { (s.rate[f.at], s.size[f.at]) } else { (0, 1) };
     let mut order: Vec<usize> = (0..s.count).filter(|&k| p.items[k].integer).collect();
-    order.sort_by_key(|&k| if s.weight[k] == 0 { (1, 0) } else { (-(a * s.price[k] - c * s.weight[k]).abs(), -s.weight[k].abs()) });
+    order.sort_by_key(|&k| if s.weight[k] == 0 { 1 } else { -(a * s.price[k] - c * s.weight[k]).abs() });
     order
 }
 
@@ -125,6 +125,29 @@ pub fn spans(p: &Problem) -> Vec<i64> {
 }
 
 impl Setting {
+    /// In the order of filling that gives the first of the relaxed optima: of equal prices per weight what falls comes first, by number, then what rises,
+    /// the last number first.
+    pub fn tied(&self) -> Setting {
+        let mut s = self.clone();
+        let early = |k: usize| if s.weight[k] < 0 { k } else { 2 * s.count - k };
+        let turned = |k: usize| (s.weight[k].abs(), s.price[k] * s.weight[k].signum());
+        let mut order: Vec<usize> = (0..s.count).collect();
+        order.sort_by(|&j, &k| {
+            let ((a, c), (b, d)) = (turned(j), turned(k));
+            if a == 0 || b == 0 {
+                return (a == 0).cmp(&(b == 0)).then(early(j).cmp(&early(k)));
+            }
+            (d * a).cmp(&(c * b)).then(early(j).cmp(&early(k)))
+        });
+        let live = |k: usize| s.weight[k] != 0 && (turned(k).1 > 0 || (turned(k).1 == 0 && s.weight[k] < 0));
+        s.live = order.iter().filter(|&&k| live(k)).count();
+        for (r, &k) in order.iter().enumerate() {
+            (s.order[r], s.rank[k]) = (k, r);
+            (s.size[r], s.rate[r]) = (self.weight[k].abs(), self.price[k] * self.weight[k].signum());
+        }
+        s
+    }
+
     /// No end of an item lies beyond its span.
     pub fn narrow(&mut self, spans: &[i64]) {
         for (k, &r) in spans.iter().enumerate() {

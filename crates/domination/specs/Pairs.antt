@@ -10,7 +10,8 @@
 --   isInteger, oneSign, eligible   the tests of row 10
 --   Fit x, Traded x y    what the code asks of items
 --   refusePair n         refusal n
---   paired x y, numbered p i j   rows 10 and 9, then a pair
+--   paired x y           row 10, then a pair;  placed n x y i j: row 9 for items numbered i and j of n, then these
+--   numbered p i j       of the items that have these numbers
 --   after v q            the record's refusal, or q
 --   leastPair sense m i j   the reply for items i and j, from 1, by their weights in that sense: a refusal of the record, 9, 10, or a pair
 --   orMissing q          the pair of a reply
@@ -115,8 +116,11 @@ unfoldable pub paired : Item → Item → PairReply
 paired x y = cond (eligible x) (cond (eligible y) (Found (pairOf x y)) (refusePair refusal.pair-items)) (refusePair refusal.pair-items)
 
 -- rows 9 and 10, on an accepted problem
+abbrev pub placed : ℕ → Item → Item → ℕ → ℕ → PairReply
+placed n x y i j = cond (wrongNumbers n i j) (refusePair refusal.pair-numbers) (paired x y)
+
 unfoldable pub numbered : Problem → ℕ → ℕ → PairReply
-numbered p i j = cond (wrongNumbers (p .count) i j) (refusePair refusal.pair-numbers) (paired (itemAt p (i - 1)) (itemAt p (j - 1)))
+numbered p i j = placed (p .count) (itemAt p (i - 1)) (itemAt p (j - 1)) i j
 
 abbrev pub after : Verdict → PairReply → PairReply
 after Accepted q = q

@@ -15,10 +15,11 @@ use model::refusals;
 use pairing::is_eligible;
 use pairing::pair_of;
 ghost use mathlib.Core.Path.{_≡_};
+ghost use mathlib.Core.Bool.{cond};
 ghost use Prim.Native.Nat.{ℕ, _+_, _*_, _<_};
 ghost use lib.ListN.{getD, replicate};
-ghost use Rattle.model.specs.Records.{ItemFigures, FiguresInRange};
-ghost use Rattle.domination.specs.Pairs.{refusePair, paired, numbered, leastPair, orMissing, barred, tabled};
+ghost use Rattle.model.specs.Records.{ItemFigures, FiguresInRange, Numbers};
+ghost use Rattle.domination.specs.Pairs.{refusePair, paired, numbered, leastPair, orMissing, barred, placed, tabled};
 ghost use Rattle.domination.specs.Told.{Told};
 
 mod pairing; // pairing.rt: the least pair of two items
@@ -112,28 +113,37 @@ fn is_barred(named: [bool; 16], i: usize, j: usize) -> bool
     second
 }
 
-// The table's entry for places i and j: none if a need names one of the two, for then a point may need what the steps take away.
-fn entry_at(p: Problem, named: [bool; 16], i: usize, j: usize) -> Pair
-    requires { ⌜ FiguresInRange p × ((i < 16) × (j < 16)) ⌝ }
-    ensures { λ r. ⌜ r ≡ tabled p named i j ⌝ }
+// The table's entry for the items x and y of n, numbered i and j: none if a need names one of the two, for then a point may need what the steps take
+// away.
+fn entry_of(x: Item, y: Item, n: usize, i: usize, j: usize, named: bool) -> Pair
+    requires { ⌜ (Numbers n i j → ItemFigures x × ItemFigures y) ⌝ }
+    ensures { λ r. ⌜ r ≡ cond named Pair.Missing (orMissing (placed n x y i j)) ⌝ }
 {
-    if is_barred(named, i, j) {
+    if named {
         return Pair::Missing;
     }
-    let q = pair_numbered(p, i + 1, j + 1);
+    if are_wrong(n, i, j) {
+        return Pair::Missing;
+    }
+    let q = pair_items(x, y);
     or_missing(q)
 }
 
 // The pairs of all places i and j, from 0, that may discard points where needs name the items `named`: entry 16 i + j. Filled once, before a search: it
-// serves the solver and is no public entry, so it takes the plain problem and asks for its ranges.
+// serves the solver and is no public entry, so it takes the plain problem and asks for its ranges. A struct is copied at a call: so the items are read here.
 pub fn pair_table(p: Problem, named: [bool; 16]) -> [Pair; 256]
     requires { ⌜ FiguresInRange p ⌝ }
     ensures { λ r. ⌜ ((i j : ℕ) → i < 16 → j < 16 → getD r (16 * i + j) Pair.Missing ≡ tabled p named i j) ⌝ }
 {
+    let n = p.count;
     let mut t = no_pairs();
     let mut k: usize = 0;
     while k < 256 {
-        t[k] = entry_at(p, named, k / 16, k % 16);
+        let i = k / 16;
+        let j = k % 16;
+        let x = p.items[i];
+        let y = p.items[j];
+        t[k] = entry_of(x, y, n, i + 1, j + 1, is_barred(named, i, j));
         k += 1;
     }
     t

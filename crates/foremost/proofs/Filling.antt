@@ -56,7 +56,7 @@ pub record SameFill (f g : Fill) : Type 0 where
   pub room : f .room ≡ g .room
 
 module _ (M : ℕ) (c : Columns) (e : Ends) (h : 2 ≤ M) where
-  ghost-light : (k : ℕ) → k < c .count → lightOf (ghosted M c) e k ≡ lightOf c e k
+  pub ghost-light : (k : ℕ) → k < c .count → lightOf (ghosted M c) e k ≡ lightOf c e k
   ghost-light k l = ap
       (λ b. cond (ltZ (pos 0) (weightOf c k)) (at (e .lo) k) (cond (ltZ (weightOf c k) (pos 0)) (at (e .hi) k) (cond b (at (e .hi) k) (at (e .lo) k))))
       (ap (ltZ (pos 0)) (ghost-price M c k l) ∙ ghost-sign M (c .count) k (priceOf c) h l)
@@ -98,7 +98,7 @@ module _ (M : ℕ) (c : Columns) (e : Ends) (h : 2 ≤ M) (f g : Fill) (s : Same
   same-parts : bound (ghosted M c) f .parts ≡ bound c g .parts
   same-parts = parts-by (ghosted M c) f ∙ ap (λ t. cond (ltb t (c .live)) (natAbs (at (c .size) t)) 1) (s .rank) ∙ sym (parts-by c g)
 
-  same-stand : (k : ℕ) → k < c .count → stand (ghosted M c) e (f .at) k ≡ stand c e (g .at) k
+  pub same-stand : (k : ℕ) → k < c .count → stand (ghosted M c) e (f .at) k ≡ stand c e (g .at) k
   same-stand k l = ap₂ (λ t x. cond (ltb (rankOf c k) t) (heavyOf c e k) x) (s .rank) (ghost-light M c e h k l)
 
   same-taken : (k : ℕ) → taken (ghosted M c) f k ≡ taken c g k

@@ -6,6 +6,7 @@ pub mod Shut
 pub mod Ties
 pub mod Filling
 pub mod Worth
+pub mod Slope
 pub mod Covering
 pub mod Choices
 pub mod Frames

@@ -3,6 +3,7 @@
 --   at, place               an entry of a list of amounts, and of places; 0 beyond its end
 --   weightOf, priceOf c k   the figures of item k
 --   itemOf c u, rankOf c k  the item of rank u, and the rank of item k
+--   byItem, byRank, unranked, columnsOf   columns by their lists; those not asked for are empty
 --   lightest, heaviest      the end where an item of that weight and price weighs least, and most;  lightOf, heavyOf: of item k in a box
 --   width c e u             how far the item of rank u can be raised
 --   cornerWeight, cornerWorth  what the first n items weigh and are worth at their light ends
@@ -17,13 +18,14 @@
 --   bound c f               the value of the relaxation, where the room is not below 0
 --   fitted a l u r          the amount that just fits the room r, from the light end on
 --   roundedBy, start        an item's amount in the relaxation, rounded towards its light end, by its figures and by its number
+--   startOf c e k           the same in the filling of a box
 --   stand c e t k           item k's whole amount while the first t ranks are raised
 --   unit a                  1 or -1, by the sign of a
 --   takenBy, taken          what an item takes of the room: all if the filling stops at it, else nothing
 --   numerator c e f q k     item k's amount, times q
 --   solution c e f          the relaxation's point, over the divisor of its bound
 use mathlib.Core.Bool.{true, false, cond}
-use mathlib.Core.List.{List}
+use mathlib.Core.List.{List, []}
 use Prim.Native.Nat.{ℕ, zero, suc, _+_, _*_, _/_, _%_}
 use lib.Dec.{ltb, eqb}
 use lib.IntN.{ℤ, pos, negsuc, natAbs, _+ℤ_, _-ℤ_, _*ℤ_}
@@ -57,6 +59,23 @@ itemOf c u = place (c .order) u
 
 abbrev pub rankOf : Columns → ℕ → ℕ
 rankOf c k = place (c .rank) k
+
+-- columns of which only some are asked for: by item, where nothing is live; by rank; all but the ranks; and all
+abbrev pub byItem : List ℤ → List ℤ → ℕ → ℤ → Columns
+byItem weight price n b =
+    record { weight = weight; price = price; order = []; rank = []; size = []; rate = []; live = 0; count = n; capacity = b }
+
+abbrev pub byRank : List ℤ → List ℤ → ℕ → Columns
+byRank size rate live =
+    record { weight = []; price = []; order = []; rank = []; size = size; rate = rate; live = live; count = 0; capacity = pos 0 }
+
+abbrev pub unranked : List ℤ → List ℤ → List ℕ → List ℤ → List ℤ → ℕ → ℕ → ℤ → Columns
+unranked weight price order size rate live n b =
+    record { weight = weight; price = price; order = order; rank = []; size = size; rate = rate; live = live; count = n; capacity = b }
+
+abbrev pub columnsOf : List ℤ → List ℤ → List ℕ → List ℕ → List ℤ → List ℤ → ℕ → ℕ → ℤ → Columns
+columnsOf weight price order rank size rate live n b =
+    record { weight = weight; price = price; order = order; rank = rank; size = size; rate = rate; live = live; count = n; capacity = b }
 
 -- ---- ends
 
@@ -138,6 +157,9 @@ roundedBy f a c l u v n =
 
 unfoldable pub start : Columns → Ends → Fill → ℕ → ℤ
 start c e f k = roundedBy f (weightOf c k) (priceOf c k) (at (e .lo) k) (at (e .hi) k) (rankOf c k) (c .live)
+
+abbrev pub startOf : Columns → Ends → ℕ → ℤ
+startOf c e k = start c e (fill c e) k
 
 -- item k's whole amount while the first t ranks are raised
 abbrev pub stand : Columns → Ends → ℕ → ℕ → ℤ

@@ -7,9 +7,11 @@ use arith::floor_div;
 use arith::magnitude;
 pub use point::Amounted;
 pub use point::amounts;
+pub use point::standing;
+pub use point::taking;
 ghost use mathlib.Core.Path.{_≡_};
 ghost use Prim.Native.Nat.{_<_};
-ghost use Rattle.greedy.specs.Fill.{lightest, heaviest, fitted, begun, withAmount, raiseBy, fill, bound, sharedBy, start, roundedBy};
+ghost use Rattle.greedy.specs.Fill.{byItem, byRank, unranked, columnsOf, lightest, heaviest, fitted, begun, withAmount, raiseBy, fill, bound, sharedBy, startOf, roundedBy};
 ghost use Rattle.arith.specs.Limits.{farthest};
 ghost use Rattle.arith.specs.Within.{Within};
 ghost use Rattle.greedy.specs.Sized.{Sized, SizedFill, Raisable, Shareable, Fittable};
@@ -62,17 +64,33 @@ pub fn begin(cols: Columns, ends: Ends) -> Fill
     ensures { λ r. ⌜ r ≡ begun cols ends ⌝ }
 {
     let n = cols.count;
+    let b = cols.capacity;
+    begin_in(&cols.weight, &cols.price, &ends.lo, &ends.hi, n, b)
+}
+
+// The same by the columns that it needs: a struct is copied at a call, an array that is lent is not.
+pub fn begin_in<'a>(
+    weight: &'a [i64; 16],
+    price: &'a [i64; 16],
+    lo: &'a [i64; 16],
+    hi: &'a [i64; 16],
+    n: usize,
+    capacity: i64,
+) -> Fill
+    requires { ⌜ Sized (byItem (now weight) (now price) n capacity) (record { lo = now lo; hi = now hi }) ⌝ }
+    ensures { λ r. ⌜ r ≡ begun (byItem (now (weight .entry)) (now (price .entry)) n capacity) (record { lo = now (lo .entry); hi = now (hi .entry) }) ⌝ }
+{
     let mut f = Fill {
         at: 0,
-        room: cols.capacity,
+        room: capacity,
         worth: 0,
     };
     let mut k: usize = 0;
     while k < n {
-        let a = cols.weight[k];
-        let p = cols.price[k];
-        let l = ends.lo[k];
-        let u = ends.hi[k];
+        let a = weight[k];
+        let p = price[k];
+        let l = lo[k];
+        let u = hi[k];
         let x = light_end(a, p, l, u);
         f = with_amount(f, a, p, x);
         k += 1;
@@ -126,18 +144,50 @@ pub fn fill_up(cols: Columns, ends: Ends) -> Fill
     requires { ⌜ Sized cols ends ⌝ }
     ensures { λ r. ⌜ r ≡ fill cols ends ⌝ }
 {
-    let mut f = begin(cols, ends);
+    let n = cols.count;
+    let live = cols.live;
+    let b = cols.capacity;
+    fill_in(
+        &cols.weight,
+        &cols.price,
+        &cols.order,
+        &cols.size,
+        &cols.rate,
+        &ends.lo,
+        &ends.hi,
+        live,
+        n,
+        b,
+    )
+}
+
+// The same by the columns that it needs.
+pub fn fill_in<'a>(
+    weight: &'a [i64; 16],
+    price: &'a [i64; 16],
+    order: &'a [usize; 16],
+    size: &'a [i64; 16],
+    rate: &'a [i64; 16],
+    lo: &'a [i64; 16],
+    hi: &'a [i64; 16],
+    live: usize,
+    n: usize,
+    capacity: i64,
+) -> Fill
+    requires { ⌜ Sized (unranked (now weight) (now price) (now order) (now size) (now rate) live n capacity) (record { lo = now lo; hi = now hi }) ⌝ }
+    ensures { λ r. ⌜ r ≡ fill (unranked (now (weight .entry)) (now (price .entry)) (now (order .entry)) (now (size .entry)) (now (rate .entry)) live n capacity) (record { lo = now (lo .entry); hi = now (hi .entry) }) ⌝ }
+{
+    let mut f = begin_in(weight, price, lo, hi, n, capacity);
     if f.room < 0 {
         return f;
     }
-    let n = cols.live;
-    while f.at < n {
+    while f.at < live {
         let u = f.at;
-        let k = cols.order[u];
-        let l = ends.lo[k];
-        let h = ends.hi[k];
-        let s = cols.size[u];
-        let p = cols.rate[u];
+        let k = order[u];
+        let l = lo[k];
+        let h = hi[k];
+        let s = size[u];
+        let p = rate[u];
         let t = raise(f, s, p, h - l);
         if t.fits {
             f = t.fill;
@@ -153,11 +203,19 @@ pub fn bound_of(cols: Columns, f: Fill) -> Mixed
     requires { ⌜ SizedFill cols f ⌝ }
     ensures { λ r. ⌜ r ≡ bound cols f ⌝ }
 {
-    let n = cols.live;
+    let live = cols.live;
+    bound_in(&cols.size, &cols.rate, live, f)
+}
+
+// The same by the columns that it needs.
+pub fn bound_in<'a>(size: &'a [i64; 16], rate: &'a [i64; 16], live: usize, f: Fill) -> Mixed
+    requires { ⌜ SizedFill (byRank (now size) (now rate) live) f ⌝ }
+    ensures { λ r. ⌜ r ≡ bound (byRank (now (size .entry)) (now (rate .entry)) live) f ⌝ }
+{
     let u = f.at;
-    if u < n {
-        let s = cols.size[u];
-        let p = cols.rate[u];
+    if u < live {
+        let s = size[u];
+        let p = rate[u];
         return share(f, magnitude(s), magnitude(p));
     }
     Mixed {
@@ -182,18 +240,30 @@ pub fn share(f: Fill, s: u64, p: u64) -> Mixed
 }
 
 // Item k's amount in the relaxation, rounded towards its light end.
-pub fn start_of(cols: Columns, ends: Ends, k: usize) -> i64
-    requires { ⌜ Sized cols ends × (k < 16) ⌝ }
-    ensures { λ r. ⌜ r ≡ start cols ends (fill cols ends) k ⌝ }
+pub fn start_of<'a>(
+    weight: &'a [i64; 16],
+    price: &'a [i64; 16],
+    order: &'a [usize; 16],
+    rank: &'a [usize; 16],
+    size: &'a [i64; 16],
+    rate: &'a [i64; 16],
+    lo: &'a [i64; 16],
+    hi: &'a [i64; 16],
+    live: usize,
+    n: usize,
+    capacity: i64,
+    k: usize,
+) -> i64
+    requires { ⌜ Sized (columnsOf (now weight) (now price) (now order) (now rank) (now size) (now rate) live n capacity) (record { lo = now lo; hi = now hi }) × (k < 16) ⌝ }
+    ensures { λ r. ⌜ r ≡ startOf (columnsOf (now (weight .entry)) (now (price .entry)) (now (order .entry)) (now (rank .entry)) (now (size .entry)) (now (rate .entry)) live n capacity) (record { lo = now (lo .entry); hi = now (hi .entry) }) k ⌝ }
 {
-    let f = fill_up(cols, ends);
-    let a = cols.weight[k];
-    let c = cols.price[k];
-    let l = ends.lo[k];
-    let u = ends.hi[k];
-    let v = cols.rank[k];
-    let n = cols.live;
-    rounded(f, a, c, l, u, v, n)
+    let f = fill_in(weight, price, order, size, rate, lo, hi, live, n, capacity);
+    let a = weight[k];
+    let c = price[k];
+    let l = lo[k];
+    let u = hi[k];
+    let v = rank[k];
+    rounded(f, a, c, l, u, v, live)
 }
 
 // The amount of the item of rank v in a filling of n live ranks, rounded towards its light end.

@@ -21,7 +21,7 @@ pub struct Amounted {
 }
 
 // The whole amount of an item, raised or not.
-fn standing(a: i64, p: i64, l: i64, h: i64, raised: bool) -> i64
+pub fn standing(a: i64, p: i64, l: i64, h: i64, raised: bool) -> i64
     ensures { λ r. ⌜ r ≡ cond raised (heaviest a l h) (lightest a p l h) ⌝ }
 {
     if raised {
@@ -32,7 +32,7 @@ fn standing(a: i64, p: i64, l: i64, h: i64, raised: bool) -> i64
 }
 
 // What the item of rank v takes of the room, if the filling ended there.
-fn taking(a: i64, room: i64, v: usize, u: usize, n: usize) -> i64
+pub fn taking(a: i64, room: i64, v: usize, u: usize, n: usize) -> i64
     requires { ⌜ Within mostRoom room ⌝ }
     ensures { λ r. ⌜ r ≡ takenBy a room v u n ⌝ }
 {

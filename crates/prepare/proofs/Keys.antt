@@ -12,19 +12,19 @@ use Rattle.knapsack.specs.declared.Item.{Item}
 use Rattle.knapsack.specs.declared.Problem.{Problem}
 use Rattle.ordering.proofs.Order.{order-cong}
 use Rattle.ordering.specs.Ranking.{Small, Ranged, Sorted}
-use Rattle.prepare.specs.Figures.{isInteger, keyItem, weightedPrice, keyOf, SmallKey}
+use Rattle.prepare.specs.Figures.{isInteger, keyItem, reducedPrice, keyOf, SmallKey}
 use Rattle.prepare.specs.Tables.{Keyed}
 use Rattle.prepare.specs.declared.tables.Key.the-variants.{Filling, Branching}
 use Rattle.prepare.specs.declared.tables.Key.{Key}
-use Rattle.prepare.proofs.Ranges.{zero-within, size-within, weight-within, key-within, weighted-within}
+use Rattle.prepare.proofs.Ranges.{zero-within, size-within, weight-within, key-within, branching-within}
 
 key-small : (by : Key) (i : Item) → ItemInRange i → SmallKey by → Small (keyOf by i)
 key-small Filling i r s = record { weight = size-within (i .weight) (weight-within i r); price = within-more (omega arith) (key-within i r) }
 key-small (Branching p q) i r s = go (isInteger (i .mark)) (eqb (natAbs (i .weight)) 0)
   where
-    go : (b t : Bool) → Small (cond b (keyItem (pos 1) (cond t (negsuc 0) (weightedPrice p q i))) (keyItem (pos 0) (pos 0)))
+    go : (b t : Bool) → Small (cond b (keyItem (pos 1) (cond t (negsuc 0) (pos (natAbs (reducedPrice p q i))))) (keyItem (pos 0) (pos 0)))
     go true true = record { weight = record { above = omega arith; below = omega arith }; price = record { above = omega arith; below = omega arith } }
-    go true false = record { weight = record { above = omega arith; below = omega arith }; price = within-more (omega arith) (weighted-within i r p q s) }
+    go true false = record { weight = record { above = omega arith; below = omega arith }; price = within-more (omega arith) (branching-within i r p q s) }
     go false t = record { weight = zero-within; price = zero-within }
 
 module _ (p r : Problem) (by : Key) (k : Keyed by p r) where

@@ -12,7 +12,7 @@ use Rattle.knapsack.specs.Ranges.{BoundInRange, ItemInRange}
 use Rattle.knapsack.specs.declared.Bound.the-variants.{Absent, At}
 use Rattle.knapsack.specs.declared.Bound.{Bound}
 use Rattle.knapsack.specs.declared.Item.{Item}
-use Rattle.prepare.specs.Figures.{endOr, lowEnd, highEnd, lightBound, headStart, reducedPrice, weightedPrice, SmallRatio}
+use Rattle.prepare.specs.Figures.{endOr, lowEnd, highEnd, lightBound, headStart, reducedPrice, SmallRatio}
 
 pub zero-within : {n : ℕ} → Within n (pos 0)
 zero-within = record { above = omega arith; below = omega arith }
@@ -59,9 +59,5 @@ module _ (i : Item) (r : ItemInRange i) where
     pub reduced-within : Within 20000000 (reducedPrice p q i)
     reduced-within = within-sub gain-within cost-within
 
-    pub counted-within : Within 40000000000 (pos 2000 *ℤ pos (natAbs (reducedPrice p q i)))
-    counted-within = within-mul {m = 2000} {x = pos 2000} (record { above = omega arith; below = omega arith })
-        (size-within (reducedPrice p q i) reduced-within)
-
-    pub weighted-within : Within 40000001000 (weightedPrice p q i)
-    weighted-within = within-add counted-within (size-within (i .weight) weight-within)
+    pub branching-within : Within 20000000 (pos (natAbs (reducedPrice p q i)))
+    branching-within = size-within (reducedPrice p q i) reduced-within

@@ -1,5 +1,5 @@
 -- Tables of pairs, spread.
--- spread-first, spread-step: the turns of the loop that spreads them.
+-- fits-few; spread-first, spread-step: the turns of the loop that spreads them.
 -- all-short: no step is long. ready: what is spread from the table of a problem's least pairs is true of its columns.
 use mathlib.Core.Path.{_≡_, refl, sym, _∙_, subst}
 use mathlib.Core.Bool.{Bool}
@@ -8,10 +8,13 @@ use mathlib.Core.Logic.{_≢_}
 use Prim.Native.Nat.{ℕ, zero, suc, _+_, _*_, _/_, _%_, _≤_, _<_}
 use native.Mathlib.Decide.{decLt}
 use native.Mathlib.Omega.{arith}
-use lib.IntN.{pos, natAbs}
+use lib.Dec.{lit<}
+use lib.IntN.{ℤ, pos, natAbs}
 use lib.ListN.{length, getD, replicate, length-set, length-replicate}
 use lib.Seq.{getD-set-same, getD-set-other}
-use Rattle.arith.proofs.Parts.{within-abs}
+use mir.Syntax.{w16}
+use mir.Val.{SFits}
+use Rattle.arith.proofs.Parts.{within-abs, abs-within, within-width}
 use Rattle.knapsack.specs.declared.Problem.{Problem}
 use Rattle.model.specs.Records.{FiguresInRange}
 use Rattle.domination.specs.declared.Pair.{Pair}
@@ -22,9 +25,13 @@ use Rattle.greedy.specs.declared.Columns.{Columns}
 use Rattle.greedy.specs.Fill.{at}
 use Rattle.setting.specs.declared.Pairs.{Pairs}
 use Rattle.setting.specs.Ready.{pairIndex, TruePair, ReadyPairs}
-use Rattle.prepare.specs.Pairs.{Short, noSteps, withPair, Holds, Spread, Agrees}
+use Rattle.prepare.specs.Pairs.{firstStep, secondStep, Short, noSteps, withPair, Holds, Spread, Agrees}
 
 -- ---- the loop
+
+-- a short step fits the few bits of its table
+pub fits-few : (z : ℤ) → natAbs z ≤ 1000 → SFits w16 z
+fits-few z h = within-width w16 (lit< tt) (abs-within z h)
 
 zero-at : (n k : ℕ) → at (replicate n (pos 0)) k ≡ pos 0
 zero-at zero k = refl
@@ -40,27 +47,23 @@ spread-first t = record {
 }
 
 -- a pair stands where it was put
-stands : (r : Pairs) (n : ℕ) (q : Pair) → n < length (r .first) → n < length (r .second) → Holds r n Missing → Holds (withPair r n q) n q
-stands r n Missing l m h = h
-stands r n (Steps a b) l m h = record { first-step = getD-set-same (r .first) n a (pos 0) l; second-step = getD-set-same (r .second) n b (pos 0) m }
+stands : (r : Pairs) (n : ℕ) (q : Pair) → n < length (r .first) → n < length (r .second) → Holds (withPair r n q) n q
+stands r n q l m = record {
+  first-step = getD-set-same (r .first) n (firstStep q) (pos 0) l;
+  second-step = getD-set-same (r .second) n (secondStep q) (pos 0) m;
+}
 
 -- and the other places keep theirs
 stays : (r : Pairs) (n : ℕ) (q : Pair) (k : ℕ) (o : Pair) → k ≢ n → Holds r k o → Holds (withPair r n q) k o
-stays r n Missing k o ne h = h
-stays r n (Steps a b) k o ne h =
-    record {
-      first-step = getD-set-other (r .first) n k a (pos 0) ne ∙ h .first-step;
-      second-step = getD-set-other (r .second) n k b (pos 0) ne ∙ h .second-step;
-    }
-
-lengths : (r : Pairs) (n : ℕ) (q : Pair) → (length (withPair r n q .first) ≡ length (r .first)) × (length (withPair r n q .second) ≡ length (r .second))
-lengths r n Missing = (refl, refl)
-lengths r n (Steps a b) = (length-set (r .first) n a, length-set (r .second) n b)
+stays r n q k o ne h = record {
+  first-step = getD-set-other (r .first) n k (firstStep q) (pos 0) ne ∙ h .first-step;
+  second-step = getD-set-other (r .second) n k (secondStep q) (pos 0) ne ∙ h .second-step;
+}
 
 pub spread-step : (t : List Pair) (n : ℕ) (r : Pairs) → n < 256 → Spread t n r → Spread t (n + 1) (withPair r n (getD t n Missing))
 spread-step t n r l s = record {
-  first-length = lengths r n q .0 ∙ s .first-length;
-  second-length = lengths r n q .1 ∙ s .second-length;
+  first-length = length-set (r .first) n (firstStep q) ∙ s .first-length;
+  second-length = length-set (r .second) n (secondStep q) ∙ s .second-length;
   held = λ k h. at-place k h (decLt k n);
   rest = λ k h. stays r n q k Missing (omega arith) (s .rest k (omega arith));
 }
@@ -69,7 +72,7 @@ spread-step t n r l s = record {
     q = getD t n Missing
 
     here : Holds (withPair r n q) n q
-    here = stands r n q (omega (arith, s .first-length)) (omega (arith, s .second-length)) (s .rest n (omega arith))
+    here = stands r n q (omega (arith, s .first-length)) (omega (arith, s .second-length))
 
     at-place : (k : ℕ) → k < n + 1 → Dec (k < n) → Holds (withPair r n q) k (getD t k Missing)
     at-place k h (yes m) = stays r n q k (getD t k Missing) (omega arith) (s .held k m)

@@ -10,10 +10,8 @@
 --   keyItem a c         an item of weight a and price c that stands for a key
 --   fillingKey i        the key for filling: falling price per weight; of equals, those that lack the light end first
 --   reducedPrice p q i  what a unit of the item is worth beyond its weight at the price p for a weight of q, times q
---   weightedPrice, branchingPrice
---                       the reduced price without sign, the heavier of equals first; the same, what weighs nothing last
---   branchingKey p q i  the key for branching: falling reduced price, of equals the heavier first, then what weighs nothing, the continuous
---                       items last
+--   branchingPrice      the reduced price without sign, what weighs nothing last
+--   branchingKey p q i  the key for branching: falling reduced price, equals by number, then what weighs nothing, the continuous items last
 --   keyOf b i           one of these
 --   SmallRatio, SmallKey  the key's numbers are a price and a weight
 use mathlib.Core.Bool.{Bool, true, false, cond, not}
@@ -103,13 +101,9 @@ fillingKey i = keyItem (pos (natAbs (i .weight))) (pos 2000000 *ℤ timesSign (i
 abbrev pub reducedPrice : ℤ → ℤ → Item → ℤ
 reducedPrice p q i = q *ℤ i .price -ℤ p *ℤ i .weight
 
--- the weight parts equals, for no weight is above 1,000
-abbrev pub weightedPrice : ℤ → ℤ → Item → ℤ
-weightedPrice p q i = pos 2000 *ℤ pos (natAbs (reducedPrice p q i)) +ℤ pos (natAbs (i .weight))
-
 -- what weighs nothing comes after what does
 abbrev pub branchingPrice : ℤ → ℤ → Item → ℤ
-branchingPrice p q i = cond (eqb (natAbs (i .weight)) 0) (negsuc 0) (weightedPrice p q i)
+branchingPrice p q i = cond (eqb (natAbs (i .weight)) 0) (negsuc 0) (pos (natAbs (reducedPrice p q i)))
 
 abbrev pub branchingKey : ℤ → ℤ → Item → Item
 branchingKey p q i = cond (isInteger (i .mark)) (keyItem (pos 1) (branchingPrice p q i)) (keyItem (pos 0) (pos 0))

@@ -39,8 +39,7 @@ abbrev pub noSteps : Pairs
 noSteps = record { first = replicate 256 (pos 0); second = replicate 256 (pos 0) }
 
 abbrev pub withPair : Pairs → ℕ → Pair → Pairs
-withPair r k Missing = r
-withPair r k (Steps a b) = record { first = set (r .first) k a; second = set (r .second) k b }
+withPair r k q = record { first = set (r .first) k (firstStep q); second = set (r .second) k (secondStep q) }
 
 pub record Holds (r : Pairs) (k : ℕ) (q : Pair) : Type 0 where
   pub first-step : at (r .first) k ≡ firstStep q

@@ -9,7 +9,7 @@ ghost use Prim.Native.Nat.{ℕ, _<_};
 ghost use lib.ListN.{getD};
 ghost use Rattle.domination.specs.declared.Pair.the-variants.{Missing};
 ghost use Rattle.knapsack.specs.Ranges.{InRange};
-ghost use Rattle.prepare.specs.Pairs.{Short, noSteps, withPair, Spread, PairsOf};
+ghost use Rattle.prepare.specs.Pairs.{firstStep, secondStep, Short, noSteps, Spread, PairsOf};
 
 // The tables before they are filled.
 fn no_steps() -> Pairs
@@ -21,19 +21,23 @@ fn no_steps() -> Pairs
     }
 }
 
-// The tables with the steps of q at k; where q has none they stay.
-fn with_pair(r: Pairs, k: usize, q: Pair) -> Pairs
-    requires { ⌜ (k < 256) × Short q ⌝ }
-    ensures { λ s. ⌜ s ≡ withPair r k q ⌝ }
+fn first_step(q: Pair) -> i16
+    requires { ⌜ Short q ⌝ }
+    ensures { λ r. ⌜ r ≡ firstStep q ⌝ }
 {
-    let mut s = r;
     match q {
-        Pair::Missing => s,
-        Pair::Steps(a, b) => {
-            s.first[k] = a as i16;
-            s.second[k] = b as i16;
-            s
-        }
+        Pair::Missing => 0,
+        Pair::Steps(a, _) => a as i16,
+    }
+}
+
+fn second_step(q: Pair) -> i16
+    requires { ⌜ Short q ⌝ }
+    ensures { λ r. ⌜ r ≡ secondStep q ⌝ }
+{
+    match q {
+        Pair::Missing => 0,
+        Pair::Steps(_, b) => b as i16,
     }
 }
 
@@ -45,7 +49,8 @@ fn spread(t: [Pair; 256]) -> Pairs
     let mut k: usize = 0;
     while k < 256 {
         let q = t[k];
-        r = with_pair(r, k, q);
+        r.first[k] = first_step(q);
+        r.second[k] = second_step(q);
         k += 1;
     }
     r

@@ -9,7 +9,7 @@
 --   Besides f m t n    the work for the possible reply is n, as f counts it: 0 unless t, that some weight is a range
 --   WorkAs f v m n     the work for the record m with that verdict is n, for both replies; 0 where it is refused
 --   Steps r n, Cells r n
---                      n steps are those of the searches for what was read, of at most 1,000 each; n cells are those that the scales write for it
+--                      n steps are those of the searches for what was read, of at most 500 each; n cells are those that the scales write for it
 --   Plans s b c l k n  the buffer b becomes c, and length l, line k and number n say so, for a true answer to the sheet s
 use mathlib.Core.Path.{_≡_}
 use mathlib.Core.Bool.{Bool, true, false}
@@ -55,8 +55,8 @@ abbrev pub left : List ℕ → List ℕ → List ℕ
 left s b = onAccepted (readSheet s .verdict) (λ f. b) (filled s b)
 
 pub record Solves (sense : Sense) (m : Model) (r : Solved) : Type 0 where
-  pub answers : SolvesNeeds 1000 (plainOf sense m) (needsOf (m .needs)) r
-  pub work : NeedsTake 1000 (plainOf sense m) (m .needs) r
+  pub answers : SolvesNeeds 500 (plainOf sense m) (needsOf (m .needs)) r
+  pub work : NeedsTake 500 (plainOf sense m) (m .needs) r
 
 abbrev pub Besides : (Solved → ℕ) → Model → Bool → ℕ → Type 0
 Besides f m true n = (b : Solved) × (Solves Possible m b × (n ≡ f b))

@@ -1,17 +1,15 @@
 -- Why a look may set places aside.
 --   InBox e D N       N / D keeps the ends of e
 --   AtPlace D N y     the levels' items have the amounts y
---   AtMostBest b D N  N / D is worth no more than the incumbent
+--   NotAhead b D N    N / D is not ahead of the incumbent
 --   Bettered D N      some feasible point is worth at least 1 more
 --   Settled b y       every feasible point at y is the one or the other
--- no-better: a value that is not above the incumbent's settles what is worth no more.
--- in-fixed, in-run: a point is in the box of each prefix and run that it shares. bounded: it is worth no more than the run's relaxation.
+-- in-fixed, in-run: a point is in the box of each prefix and run that it shares. run-leads: the run's filling leads it.
 -- point-lies, sparse-most: what it changes is on the lattice; so where that has nothing better, nor has the run.
 use mathlib.Core.Path.{_≡_, refl, sym, ap, _∙_, subst, subst₂}
 use mathlib.Core.Bool.{Bool, true, false, cond}
 use mathlib.Core.Logic.{_≢_, _⊎_, inl, inr}
 use Prim.Native.Nat.{ℕ, zero, suc, _+_, _*_, _-_, _≤_, _<_}
-use native.Mathlib.Nat.{mul-le-mul-left, le-of-mul-le-mul-right}
 use native.Mathlib.Omega.{arith}
 use native.Mathlib.Decide.{decLt, ℕ-discrete}
 use lib.Dec.{ltb}
@@ -19,13 +17,10 @@ use lib.IntN.{ℤ, pos, _+ℤ_, _-ℤ_, _*ℤ_}
 use lib.Signed.{_≤ℤ_, _<ℤ_, ltZ, clashℤ}
 use borrow.Author.Tests.{ltb-true}
 use Rattle.arith.specs.Sum.{sum}
-use Rattle.arith.specs.Mixed.{Proper, lessMixed}
-use Rattle.arith.specs.declared.Mixed.{Mixed}
 use Rattle.arith.proofs.Integers.{split2, split3, split4, zed, ≤ℤ-reflexive, ≤ℤ-antisym, times-≤, times-≤-back}
 use Rattle.arith.proofs.Sums.{sum-times, sum-diff}
 use Rattle.arith.proofs.Parts.{impossible}
 use Rattle.arith.proofs.Words.{yes-lt, no-lt}
-use Rattle.arith.proofs.Mixes.{over, less-false}
 use Rattle.knapsack.specs.declared.Mark.{Mark}
 use Rattle.knapsack.specs.declared.Mark.the-variants.{Integer, Continuous}
 use Rattle.knapsack.specs.Meaning.{Instance}
@@ -33,8 +28,12 @@ use Rattle.knapsack.proofs.Common.{weighsᴰ, valueᴰ, Feasibleᴰ}
 use Rattle.greedy.specs.declared.Columns.{Columns}
 use Rattle.greedy.specs.declared.Ends.{Ends}
 use Rattle.greedy.specs.declared.Fill.{Fill}
-use Rattle.greedy.specs.Fill.{at, weightOf, priceOf, rankOf, fill, width, bound, stand}
-use Rattle.greedy.proofs.Relaxed.{boxOf, InOrder, Stopped, fill-bound, fill-slope}
+use Rattle.greedy.specs.Fill.{at, weightOf, priceOf, rankOf, fill, stand}
+use Rattle.greedy.proofs.Relaxed.{boxOf, InOrder}
+use Rattle.foremost.proofs.Filling.{parts, filling, fill-first}
+use Rattle.foremost.proofs.Leads.{Leads}
+use Rattle.foremost.proofs.Slope.{stand-level, tied-slope}
+use Rattle.foremost.proofs.Worth.{fill-worth}
 use Rattle.greedy.specs.Sized.{SizedFill}
 use Rattle.lattice.specs.declared.Lattice.{Lattice}
 use Rattle.lattice.specs.Lattice.{On, latticeAt, barrenBy}
@@ -45,8 +44,10 @@ use Rattle.setting.specs.declared.Setting.{Setting}
 use Rattle.search.specs.declared.Incumbent.{Incumbent}
 use Rattle.setting.specs.Box.{levelAt, spanned, fixedIn, fixedBy, Long}
 use Rattle.search.specs.Search.{startBy, runEnds, slopeOf, sparseBy}
-use Rattle.setting.specs.Ready.{ReadySetting, Marked}
-use Rattle.setting.proofs.Boxes.{at-same, at-other, item<16, fixed-long, fixed-level, fixed-other}
+use Rattle.setting.specs.Ready.{Marked}
+use Rattle.search.specs.Tying.{ReadyTied}
+use Rattle.setting.proofs.Boxes.{at-same, at-other}
+use Rattle.search.proofs.Boxes.{own-tied, own-rated, own-in, own-changes, item<16, fixed-long, fixed-level, fixed-other}
 use Rattle.search.proofs.Starts.{orderOf}
 use Rattle.search.proofs.Slopes.{steep}
 
@@ -70,13 +71,6 @@ in-span c e i l u D N g n h a b k m = go (ℕ-discrete k i)
     go : Dec (k ≡ i) → ((at (spanned e i l u .lo) k *ℤ pos D) ≤ℤ N k) × (N k ≤ℤ (at (spanned e i l u .hi) k *ℤ pos D))
     go (yes q) = rw (q, at-same (e .lo) i l (omega (arith, g .lo-long)), at-same (e .hi) i u (omega (arith, g .hi-long))) (a, b)
     go (no q) = rw (at-other (e .lo) i l k q, at-other (e .hi) i u k q) (h k m)
-
--- x/d ≤ y/e ≤ z/f
-mid : (d e f : ℕ) → 1 ≤ e → (x y z : ℤ) → (x *ℤ pos e) ≤ℤ (y *ℤ pos d) → (y *ℤ pos f) ≤ℤ (z *ℤ pos e) → (x *ℤ pos f) ≤ℤ (z *ℤ pos d)
-mid d e f e≥1 = split3 _ (λ a b c g h i. simp zed (λ k l. le-of-mul-le-mul-right {k = e} (omega (arith, mul-le-mul-left f k, mul-le-mul-left d l)) e≥1))
-
-weak : (x y : ℤ) → x <ℤ y → x ≤ℤ y
-weak = split2 _ (λ a b c e. simp zed (omega arith))
 
 -- ---- fixed items
 
@@ -104,22 +98,16 @@ module _ (s : Setting) (marks : ℕ → Mark) where
   abbrev pub AtPlace : ℕ → (ℕ → ℤ) → (ℕ → ℤ) → Type 0
   AtPlace D N y = (d : ℕ) → d < s .levels → N (levelAt s d) ≡ y d *ℤ pos D
 
-  abbrev pub AtMostBest : Incumbent → ℕ → (ℕ → ℤ) → Type 0
-  AtMostBest b D N = (b .found ≡ true) × ((valueᴰ box N *ℤ pos (b .value .parts)) ≤ℤ (over (b .value) *ℤ pos D))
+  abbrev pub NotAhead : Incumbent → ℕ → (ℕ → ℤ) → Type 0
+  NotAhead b D N = (b .found ≡ true) × Leads (valueᴰ box) (s .cols .count) (b .value .parts) (at (b .point)) D N
 
   abbrev pub Bettered : ℕ → (ℕ → ℤ) → Type 0
   Bettered D N = (N′ : ℕ → ℤ) × Feasibleᴰ box D N′ × ((valueᴰ box N +ℤ pos D) ≤ℤ valueᴰ box N′)
 
   abbrev pub Settled : Incumbent → (ℕ → ℤ) → Type 0
-  Settled b y = (D : ℕ) (N : ℕ → ℤ) → 1 ≤ D → Feasibleᴰ box D N → AtPlace D N y → AtMostBest b D N ⊎ Bettered D N
+  Settled b y = (D : ℕ) (N : ℕ → ℤ) → 1 ≤ D → Feasibleᴰ box D N → AtPlace D N y → NotAhead b D N ⊎ Bettered D N
 
-  -- what is no better than a value that is not above the incumbent's
-  pub no-better : (b : Incumbent) (v : Mixed) (D : ℕ) (N : ℕ → ℤ) → b .found ≡ true → Proper (b .value) → Proper v → lessMixed (b .value) v ≡ false
-      → (valueᴰ box N *ℤ pos (v .parts)) ≤ℤ (over v *ℤ pos D) → AtMostBest b D N
-  no-better b v D N f p q h a =
-      (f, mid D (v .parts) (b .value .parts) (omega (arith, q .low)) (valueᴰ box N) (over v) (over (b .value)) a (less-false (b .value) v p q h))
-
-module _ (s : Setting) (r : ReadySetting s) (long : Long (s .ends)) (marks : ℕ → Mark) (m : Marked s marks) where
+module _ (s : Setting) (r : ReadyTied s) (long : Long (s .ends)) (marks : ℕ → Mark) (m : Marked s marks) where
   module _ (D : ℕ) (N : ℕ → ℤ) (d≥1 : 1 ≤ D) (p : Feasibleᴰ (box s marks) D N) (y : ℕ → ℤ) (a : AtPlace s marks D N y) where
     -- the point is in the box of each prefix that it shares
     pub in-fixed : (P : ℕ → ℤ) (d : ℕ) → d ≤ s .levels → Agree d P y → InBox (s .cols) (fixedBy s P d) D N
@@ -131,10 +119,10 @@ module _ (s : Setting) (r : ReadySetting s) (long : Long (s .ends)) (marks : ℕ
         (in-fixed P d (omega arith) (λ k n. h k (omega arith))) (≤ℤ-reflexive (sym e)) (≤ℤ-reflexive e)
 
     own-low : (d : ℕ) → d < s .levels → (at (s .low) d *ℤ pos D) ≤ℤ N (levelAt s d)
-    own-low d l = subst (λ z. (z *ℤ pos D) ≤ℤ N (levelAt s d)) (sym (r .low-is d l)) (p .keeps (levelAt s d) (r .level-in d l) .above)
+    own-low d l = subst (λ z. (z *ℤ pos D) ≤ℤ N (levelAt s d)) (sym (r .ready .low-is d l)) (p .keeps (levelAt s d) (own-in s r d l) .above)
 
     own-high : (d : ℕ) → d < s .levels → N (levelAt s d) ≤ℤ (at (s .high) d *ℤ pos D)
-    own-high d l = subst (λ z. N (levelAt s d) ≤ℤ (z *ℤ pos D)) (sym (r .high-is d l)) (p .keeps (levelAt s d) (r .level-in d l) .below)
+    own-high d l = subst (λ z. N (levelAt s d) ≤ℤ (z *ℤ pos D)) (sym (r .ready .high-is d l)) (p .keeps (levelAt s d) (own-in s r d l) .below)
 
     -- and in the box of each run that it is in
     pub in-run : (P : ℕ → ℤ) (d : ℕ) → d < s .levels → Run (orderOf s) d P y → InBox (s .cols) (runEnds s P (startBy s P d) d) D N
@@ -171,9 +159,8 @@ module _ (s : Setting) (r : ReadySetting s) (long : Long (s .ends)) (marks : ℕ
       pub in-e : Feasibleᴰ (boxOf (s .cols) e marks) D N
       in-e = rebox (s .cols) (s .ends) e marks D N (in-run P d l run) p
 
-      pub bounded : Stopped (s .cols) e marks (r .ordered) ordered f → (valueᴰ (box s marks) N *ℤ pos (bound (s .cols) f .parts)) ≤ℤ
-          (over (bound (s .cols) f) *ℤ pos D)
-      bounded t = fill-bound (s .cols) e marks (r .ordered) ordered f t D N d≥1 in-e
+      pub run-leads : pos 0 ≤ℤ f .room → Leads (valueᴰ (box s marks)) (s .cols .count) (parts (s .cols) e) (filling (s .cols) e) D N
+      run-leads room = fill-first (s .cols) e marks (own-tied s r) ordered room D N d≥1 in-e
 
       -- the ends of an item that is not level d's: as in the prefix's box
       pub other-ends : (k : ℕ) → k ≢ levelAt s d → (at (e .lo) k ≡ at (fixedBy s P d .lo) k) × (at (e .hi) k ≡ at (fixedBy s P d .hi) k)
@@ -225,10 +212,10 @@ module _ (s : Setting) (r : ReadySetting s) (long : Long (s .ends)) (marks : ℕ
         -- a level's item
         level-term : (j : ℕ) → j < s .levels → Dec (j < d) → Term (levelAt s j)
         level-term j n (yes o) =
-            let ne : levelAt s j ≢ levelAt s d = λ q. apart (r .distinct j d n l q) in
+            let ne : levelAt s j ≢ levelAt s d = λ q. apart (r .ready .distinct j d n l q) in
             let h = other-ends (levelAt s j) ne in
             let b = fixed-level s r long P d j (omega arith) o in
-            still-term (levelAt s j) (fixed-stands (f .at) (levelAt s j) (r .level-in j n) (h .0 ∙ b .0 ∙ sym (b .1) ∙ sym (h .1)))
+            still-term (levelAt s j) (fixed-stands (f .at) (levelAt s j) (own-in s r j n) (h .0 ∙ b .0 ∙ sym (b .1) ∙ sym (h .1)))
           where
             apart : j ≡ d → ⊥
             apart q = omega arith
@@ -257,13 +244,14 @@ module _ (s : Setting) (r : ReadySetting s) (long : Long (s .ends)) (marks : ℕ
             go Continuous q = still-term k (still k n q)
 
         -- what the point changes is on the lattice
-        pub point-lies : Stopped (s .cols) e marks (r .ordered) ordered f
+        pub point-lies : pos 0 ≤ℤ f .room
             → Lies L D (weighsᴰ (box s marks) N -ℤ (s .cols .capacity -ℤ f .room) *ℤ pos D) (valueᴰ (box s marks) N -ℤ f .worth *ℤ pos D)
-        point-lies t =
+        point-lies room =
             let q = sum-lies L (s .cols .count) D (λ k. weightOf (s .cols) k *ℤ (N k -ℤ stand (s .cols) e (f .at) k *ℤ pos D))
             (λ k. priceOf (s .cols) k *ℤ (N k -ℤ stand (s .cols) e (f .at) k *ℤ pos D)) (λ k n. term k n) in
-            subst₂ (Lies L D) (differ (weightOf (s .cols)) (s .cols .capacity -ℤ f .room) (left _ (f .room) (s .cols .capacity) (t .good .inv .level)))
-            (differ (priceOf (s .cols)) (f .worth) (t .good .worth-is)) q
+            subst₂ (Lies L D) (differ (weightOf (s .cols)) (s .cols .capacity -ℤ f .room)
+            (left _ (f .room) (s .cols .capacity) (stand-level (s .cols) e marks (own-tied s r) ordered room)))
+            (differ (priceOf (s .cols)) (f .worth) (fill-worth (s .cols) e marks (own-tied s r) (own-rated s r) .1)) q
           where
             left : (w r b : ℤ) → w +ℤ r ≡ b → w ≡ b -ℤ r
             left = split3 _ (λ a b c e f g. simp zed (omega arith))
@@ -277,23 +265,21 @@ module _ (s : Setting) (r : ReadySetting s) (long : Long (s .ends)) (marks : ℕ
       L = latticeAt (s .lattice) d
 
       -- nothing in a sparse run is worth more than b
-      pub sparse-most : Stopped (s .cols) e marks (r .ordered) ordered f → SizedFill (s .cols) f → (b : ℤ) → sparseBy (s .cols) L f b ≡ true
-          → valueᴰ (box s marks) N ≤ℤ (b *ℤ pos D)
+      pub sparse-most : pos 0 ≤ℤ f .room → SizedFill (s .cols) f → (b : ℤ) → sparseBy (s .cols) L f b ≡ true → valueᴰ (box s marks) N ≤ℤ (b *ℤ pos D)
       unfolding sparseBy
-      sparse-most t z b h = go (ltb (f .at) (s .cols .live)) refl h (t .why)
+      sparse-most room z b h = go (ltb (f .at) (s .cols .live)) refl h
         where
-          ended : f .at < s .cols .live → f .room <ℤ (at (s .cols .size) (f .at) *ℤ width (s .cols) e (f .at))
-              → barrenBy L (slopeOf (s .cols) f) (f .room) b ≡ true → valueᴰ (box s marks) N ≤ℤ (b *ℤ pos D)
-          ended k short h =
-              let g = r .changes d l (known L (slopeOf (s .cols) f) (f .room) b h) in
-              let q = point-lies L (g .on) (λ k n z. box-stands (f .at) k n z (g .fixed k n)) t in
-              let rise = fill-slope (s .cols) e marks (r .ordered) ordered f (t .good) k short D N (in-e .keeps) in
+          ended : f .at < s .cols .live → barrenBy L (slopeOf (s .cols) f) (f .room) b ≡ true → valueᴰ (box s marks) N ≤ℤ (b *ℤ pos D)
+          ended k h =
+              let g = own-changes s r d l (known L (slopeOf (s .cols) f) (f .room) b h) in
+              let q = point-lies L (g .on) (λ k n z. box-stands (f .at) k n z (g .fixed k n)) room in
+              let rise = tied-slope (s .cols) e marks (own-tied s r) ordered (own-rated s r) room k D N (in-e .keeps) in
               let slope = cancel D d≥1 (at (s .cols .size) (f .at)) (at (s .cols .rate) (f .at)) (q .worth) (q .weight)
               (subst₂ (λ v w. (at (s .cols .size) (f .at) *ℤ v) ≤ℤ (at (s .cols .rate) (f .at) *ℤ w)) (q .worth-is) (q .weight-is) rise) in
-              let room = fits D d≥1 (q .weight) (weighsᴰ (box s marks) N) (s .cols .capacity) (f .room) (q .weight-is) (p .fits) in
+              let within = fits D d≥1 (q .weight) (weighsᴰ (box s marks) N) (s .cols .capacity) (f .room) (q .weight-is) (p .fits) in
               up (valueᴰ (box s marks) N) (f .worth) (q .worth) b (q .worth-is)
-              (barren-true L (f .room) (r .tame d (omega (arith, r .few))) (slopeOf (s .cols) f) (steep (s .cols) f (r .ordered) z k) b h (q .weight)
-              (q .worth) (q .on) room slope)
+              (barren-true L (f .room) (r .ready .tame d (omega (arith, r .ready .few))) (slopeOf (s .cols) f)
+              (steep (s .cols) f (own-tied s r) (own-rated s r) z k) b h (q .weight) (q .worth) (q .on) within slope)
             where
               cancel : (D : ℕ) → 1 ≤ D → (x y v w : ℤ) → (x *ℤ (v *ℤ pos D)) ≤ℤ (y *ℤ (w *ℤ pos D)) → (x *ℤ v) ≤ℤ (y *ℤ w)
               cancel D d≥1 x y v w h = times-≤-back D (x *ℤ v) (y *ℤ w) d≥1 (subst₂ _≤ℤ_ (out x v) (out y w) h)
@@ -313,8 +299,7 @@ module _ (s : Setting) (r : ReadySetting s) (long : Long (s .ends)) (marks : ℕ
                   total : (v w c : ℤ) → v -ℤ w *ℤ pos D ≡ c *ℤ pos D → v ≡ (w +ℤ c) *ℤ pos D
                   total = split3 _ (λ a b c e f g. simp zed (omega arith))
 
-          go : (v : Bool) → ltb (f .at) (s .cols .live) ≡ v → cond v (barrenBy L (slopeOf (s .cols) f) (f .room) b) false ≡ true → (f .at ≡ s .cols .live)
-              ⊎ ((f .at < s .cols .live) × (f .room <ℤ (at (s .cols .size) (f .at) *ℤ width (s .cols) e (f .at)))) → valueᴰ (box s marks) N ≤ℤ (b *ℤ pos D)
-          go false q h w = absurd (impossible h)
-          go true q h (inl w) = absurd (omega (arith, ltb-true (f .at) (s .cols .live) q))
-          go true q h (inr (k, short)) = ended k short h
+          go : (v : Bool) → ltb (f .at) (s .cols .live) ≡ v → cond v (barrenBy L (slopeOf (s .cols) f) (f .room) b) false ≡ true
+              → valueᴰ (box s marks) N ≤ℤ (b *ℤ pos D)
+          go false q h = absurd (impossible h)
+          go true q h = ended (ltb-true (f .at) (s .cols .live) q) h

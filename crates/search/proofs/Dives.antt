@@ -17,9 +17,10 @@ use Rattle.setting.specs.declared.Setting.{Setting}
 use Rattle.search.specs.declared.Path.{Path}
 use Rattle.setting.specs.Box.{levelAt, spanned, fixedIn, fixedBy, InsideTo, Long}
 use Rattle.search.specs.Search.{startBy}
-use Rattle.setting.specs.Ready.{ReadySetting}
+use Rattle.search.specs.Tying.{ReadyTied}
 use Rattle.search.specs.Steps.{LongPath, Dived, MoveInRange, MovedTo}
-use Rattle.setting.proofs.Boxes.{at-same, at-other, fixed-cong, fixed-sized}
+use Rattle.setting.proofs.Boxes.{at-same, at-other, fixed-cong}
+use Rattle.search.proofs.Boxes.{fixed-sized}
 use Rattle.search.proofs.Starts.{start-cong, start-in}
 
 pub record Diving (s : Setting) (j : ℕ) (p q : Path) (e : Ends) (k : ℕ) : Type 0 where
@@ -54,9 +55,9 @@ startIn s e k = start (s .cols) e (fill (s .cols) e) (levelAt s k)
 abbrev pub begunAt : Path → ℕ → ℤ → Path
 begunAt q k v = record { place = set (q .place) k v; starts = set (q .starts) k v }
 
-module _ (s : Setting) (r : ReadySetting s) (long : Long (s .ends)) (j : ℕ) (p : Path) where
+module _ (s : Setting) (r : ReadyTied s) (long : Long (s .ends)) (j : ℕ) (p : Path) where
   pub diving-sized : (q : Path) (e : Ends) (k : ℕ) → Diving s j p q e k → Sized (s .cols) e
-  diving-sized q e k d = record { columns = r .sized .columns; ends = rw (d .ends-are) (fixed-sized s r long (at (q .place)) k (d .top) (d .inside)) }
+  diving-sized q e k d = record { columns = r .order .sized; ends = rw (d .ends-are) (fixed-sized s r long (at (q .place)) k (d .top) (d .inside)) }
 
   pub diving-step : (q : Path) (e : Ends) (k : ℕ) → k < s .levels → Diving s j p q e k
       → Diving s j p (begunAt q k (startIn s e k)) (spanned e (levelAt s k) (startIn s e k) (startIn s e k)) (k + 1)
@@ -85,7 +86,7 @@ module _ (s : Setting) (r : ReadySetting s) (long : Long (s .ends)) (j : ℕ) (p
       v-is = ap (λ (e : Ends). startIn s e k) (d .ends-are)
 
       k-in : k < length x
-      k-in = omega (arith, d .long .place-long, r .few)
+      k-in = omega (arith, d .long .place-long, r .ready .few)
 
       other-place : (i : ℕ) → i ≢ k → at y i ≡ at x i
       other-place i ne = at-other x k v i ne
@@ -97,7 +98,7 @@ module _ (s : Setting) (r : ReadySetting s) (long : Long (s .ends)) (j : ℕ) (p
       own = at-same x k v k-in
 
       own-start : at (set (q .starts) k v) k ≡ v
-      own-start = at-same (q .starts) k v (omega (arith, d .long .starts-long, r .few))
+      own-start = at-same (q .starts) k v (omega (arith, d .long .starts-long, r .ready .few))
 
       above : (n : ℕ) → n ≤ k → (i : ℕ) → i < n → at x i ≡ at y i
       above n m i o = sym (other-place i (omega arith))
@@ -127,7 +128,7 @@ dived-none s k p l g = record { kept = λ i m. (refl, refl); filled = λ i m n. 
 
 module _ (s : Setting) (t : Path) (j : ℕ) (v : ℤ) (h : MoveInRange s t j v) (long : LongPath t) where
   j-in : j < length (t .place)
-  j-in = omega (arith, long .place-long, h .ready .few, h .level-in)
+  j-in = omega (arith, long .place-long, h .ready .ready .few, h .level-in)
 
   pub moved-inside : InsideTo s (j + 1) (at (set (t .place) j v))
   moved-inside d l = go (ℕ-discrete d j)

@@ -1,36 +1,46 @@
--- At the end every place is settled: the incumbent is optimal, or nothing is feasible.
+-- At the end every place is settled: the incumbent is the first best point, or nothing is feasible.
 --   Covered s b q    every place is settled or still to come; at the end, all are settled
 --   Fresh s p q      the levels above the one to look from settle nothing
--- tried-good, looked-good: a look keeps the incumbent good; settles-verdict, keeps-settled: what it settles, and that this stays.
+-- filling-good: the filling at a place is a good incumbent.  tried-good, looked-good: a look keeps the incumbent good; tried-filled, looked-filled: and the
+-- filling at its place.  settles-verdict, keeps-settled: what a look settles, and that this stays.
 -- underway-on, covered-on: a search can go on after a step, and every place is settled or still to come.
 -- going-less (end theorem): a step leaves fewer places, so that a search which goes on comes to its end.
 -- underway-first, covered-first: so it is at the first place; underway-ran, covered-ran: and after so many steps; ran-steps: which are counted.
--- settled-point, none-feasible, found-feasible, found-value, found-optimal: what the end says; searched: all of it.
+-- settled-point, none-feasible, found-leads, found-foremost: what the end says; searched: all of it.
 use mathlib.Core.Path.{_≡_, refl, sym, ap, _∙_, subst, subst₂}
 use mathlib.Core.Bool.{Bool, true, false, cond}
 use mathlib.Core.List.{List}
 use mathlib.Core.Logic.{_⊎_, inl, inr}
 use mathlib.Core.Option.{Option, none, some}
 use Prim.Native.Nat.{ℕ, zero, suc, _+_, _*_, _≤_, _<_}
+use native.Mathlib.Nat.{mul-le-mul-left, mul-le-mul-right}
 use native.Mathlib.Omega.{arith}
 use native.Mathlib.Decide.{decLt}
-use lib.IntN.{ℤ, pos, _-ℤ_, _*ℤ_}
+use lib.IntN.{ℤ, pos, _+ℤ_, _-ℤ_, _*ℤ_}
 use lib.Signed.{_≤ℤ_, _<ℤ_, ltZ}
 use borrow.Author.Tests.{lt-ltb}
 use Rattle.arith.specs.Sum.{Each}
-use Rattle.arith.specs.declared.Mixed.{Mixed}
-use Rattle.arith.proofs.Integers.{split, zed, ≤ℤ-trans, ≤ℤ-or-<, times-≤, times-≤-back}
+use Rattle.arith.specs.Within.{Within}
+use Rattle.arith.proofs.Integers.{split, split3, zed, ≤ℤ-trans, ≤ℤ-antisym, times-≤, times-≤-back}
 use Rattle.arith.proofs.Parts.{impossible}
 use Rattle.arith.proofs.Words.{no-lt}
-use Rattle.arith.proofs.Mixes.{over}
 use Rattle.knapsack.specs.declared.Mark.{Mark}
 use Rattle.knapsack.specs.declared.Mark.the-variants.{Integer, Continuous}
-use Rattle.knapsack.proofs.Common.{KeepsMarkᴰ, valueᴰ, Feasibleᴰ, Optimalᴰ}
+use Rattle.knapsack.proofs.Common.{KeepsMarkᴰ, valueᴰ, Feasibleᴰ}
 use Rattle.knapsack.proofs.Branch.{AtMost, at-most-climb}
 use Rattle.greedy.specs.declared.Ends.{Ends}
 use Rattle.greedy.specs.declared.Fill.{Fill}
-use Rattle.greedy.specs.Fill.{at, fill, bound}
-use Rattle.greedy.proofs.Relaxed.{boxOf, InOrder, Stopped, fill-stopped, fill-empty, fill-bound, fill-value, fill-point, parts≥1}
+use Rattle.greedy.specs.Amounts.{Countable}
+use Rattle.greedy.specs.Fill.{at, priceOf, fill}
+use Rattle.greedy.specs.Sized.{Sized}
+use Rattle.greedy.proofs.Relaxed.{boxOf, InOrder}
+use Rattle.greedy.proofs.Numerators.{numerator-within}
+use Rattle.foremost.proofs.Covering.{fill-some, marks-differ}
+use Rattle.foremost.proofs.Earlier.{Agree as AgreeTo}
+use Rattle.foremost.proofs.Filling.{parts, filling, fill-first, fill-foremost, parts-some}
+use Rattle.foremost.proofs.Foremost.{Foremostᴰ, total-cong, feasible-cong}
+use Rattle.foremost.proofs.Leads.{Leads, LeadsAll, leads-above, leads-foremost}
+use Rattle.foremost.proofs.Worth.{filling-worth}
 use Rattle.greedy.proofs.Sizes.{fill-sized}
 use Rattle.lattice.specs.Lattice.{latticeAt}
 use Rattle.places.specs.declared.Settled.{Settled}
@@ -45,53 +55,136 @@ use Rattle.search.specs.declared.Path.{Path}
 use Rattle.search.specs.declared.State.{State}
 use Rattle.search.specs.declared.Comparison.{Comparison}
 use Rattle.setting.specs.Box.{levelAt, fixedBy, Inside, Long}
+use Rattle.search.specs.Ahead.{pointOf, filledBy}
 use Rattle.search.specs.Search.{startBy, runEnds, cutBy, betters, triedBy}
-use Rattle.setting.specs.Ready.{ReadySetting, ReadyPairs, Ready, Marked}
-use Rattle.search.specs.Searched.{chosen, Searched}
-use Rattle.search.specs.Steps.{Started, BoxInRange, Passed, kept, LookedAs, nobody, MovedTo, freshBy, WentOn, countedBy, Stepped}
-use Rattle.search.specs.Steps.{Begun, GoodBest, Underway, Ran}
+use Rattle.setting.specs.Ready.{ReadyPairs, Marked}
+use Rattle.search.specs.Tying.{ReadyTied, ReadySearch}
+use Rattle.search.specs.Searched.{Searched}
+use Rattle.search.specs.Steps.{Started, Passed, kept, LookedAs, nobody, MovedTo, freshBy, WentOn, countedBy, Stepped}
+use Rattle.search.specs.Steps.{Begun, GoodBest, FilledBest, Underway, Ran}
 use Rattle.search.proofs.Starts.{orderOf, order-laws}
-use Rattle.setting.proofs.Boxes.{fixed-order, fixed-level, fixed-other}
-use Rattle.greedy.proofs.Bounds.{bound-proper}
-use Rattle.search.proofs.Runs.{fixed-in-range}
+use Rattle.search.proofs.Boxes.{own-tied, own-rated, own-in, own-order, fixed-sized, fixed-order, fixed-level, fixed-other}
+use Rattle.search.proofs.Orders.{point-at, point-beyond}
+use Rattle.greedy.proofs.Bounds.{bound-proper, bound-within}
 use Rattle.search.proofs.Moving.{looked-in, looked-passed, looked-kept, past-started, move-in, passed-on}
-use Rattle.search.proofs.Cuts.{box, AtPlace, AtMostBest, Bettered, InBox, rebox, Settled as SettledAt}
+use Rattle.search.proofs.Cuts.{box, AtPlace, NotAhead, Bettered, InBox, rebox, Settled as SettledAt}
 use Rattle.search.proofs.Settle.{cut-settles, pair-settles, tried-settles, tried-keeps}
 
 -- the box of a place, all levels fixed, and its filling
 abbrev pub placeEnds : Setting → List ℤ → Ends
 placeEnds s x = fixedBy s (at x) (s .levels)
 
-module _ (s : Setting) (r : ReadySetting s) (long : Long (s .ends)) where
-  pub tried-good : (x : List ℤ) (b : Incumbent) → Inside s (at x) → GoodBest s b → GoodBest s (triedBy (s .cols) (placeEnds s x) x b)
+-- the integer items of a place stand at its amounts
+module _ (s : Setting) (r : ReadyTied s) (long : Long (s .ends)) (x : List ℤ) (inside : Inside s (at x)) where
+  abbrev e : Ends
+  e = placeEnds s x
+
+  abbrev f : Fill
+  f = fill (s .cols) e
+
+  abbrev q : ℕ
+  q = parts (s .cols) e
+
+  sized : Sized (s .cols) e
+  sized = record { columns = r .order .sized; ends = fixed-sized s r long (at x) (s .levels) (omega arith) inside }
+
+  ordered : InOrder (s .cols) e
+  ordered = fixed-order s r long (at x) (s .levels) (omega arith)
+
+  module _ (marks : ℕ → Mark) (m : Marked s marks) where
+    -- every integer item is at some level, and so fixed
+    fixed : (k : ℕ) → k < s .cols .count → marks k ≡ Integer → at (e .lo) k ≡ at (e .hi) k
+    fixed k l i =
+        let v = m .level k l i in
+        let h = fixed-level s r long (at x) (s .levels) (v .0) (omega arith) (v .1) in
+        subst (λ i. at (e .lo) i ≡ at (e .hi) i) (v .2) (h .0 ∙ sym (h .1))
+
+    -- the fixed box lies in the search's
+    wider-box : (D : ℕ) (N : ℕ → ℤ) → Feasibleᴰ (boxOf (s .cols) e marks) D N → InBox (s .cols) (s .ends) D N
+    wider-box D N p k l = go (marks k) refl
+      where
+        go : (mk : Mark) → marks k ≡ mk → ((at (s .ends .lo) k *ℤ pos D) ≤ℤ N k) × (N k ≤ℤ (at (s .ends .hi) k *ℤ pos D))
+        go Integer i =
+            let v = m .level k l i in
+            let h = fixed-level s r long (at x) (s .levels) (v .0) (omega arith) (v .1) in
+            let i = inside (v .0) (v .1) in
+            let lo : at (s .ends .lo) k ≤ℤ at (e .lo) k =
+            subst (λ j. at (s .ends .lo) j ≤ℤ at (e .lo) j) (v .2) (subst₂ _≤ℤ_ (r .ready .low-is (v .0) (v .1)) (sym (h .0)) (i .0)) in
+            let hi : at (e .hi) k ≤ℤ at (s .ends .hi) k =
+            subst (λ j. at (e .hi) j ≤ℤ at (s .ends .hi) j) (v .2) (subst₂ _≤ℤ_ (sym (h .1)) (r .ready .high-is (v .0) (v .1)) (i .1)) in
+            (≤ℤ-trans (times-≤ D _ _ lo) (p .keeps k l .above), ≤ℤ-trans (p .keeps k l .below) (times-≤ D _ _ hi))
+        go Continuous i =
+            let h = fixed-other s r long (at x) (s .levels) k (λ j n y. marks-differ (m .integer j n) (ap marks y ∙ i)) in
+            (subst (λ x. (x *ℤ pos D) ≤ℤ N k) (h .0) (p .keeps k l .above), subst (λ x. N k ≤ℤ (x *ℤ pos D)) (h .1) (p .keeps k l .below))
+
+  module _ (room : pos 0 ≤ℤ f .room) where
+    same : AgreeTo (s .cols .count) (filling (s .cols) e) (at (pointOf (s .cols) e f q))
+    same k l = sym (point-at (s .cols) e f q (r .order .sized .few) k l)
+
+    countable : (k : ℕ) → k < 16 → Countable (s .cols) e f q k
+    countable k l =
+        let z = fill-sized (s .cols) e sized in
+        let p = bound-proper (s .cols) f z in
+        record { sized = sized; filled = z; few = p .few; item-in = l }
+
+    amounts-in : (k : ℕ) → Within 20300000000000 (at (pointOf (s .cols) e f q) k)
+    amounts-in k = go (decLt k (s .cols .count))
+      where
+        go : Dec (k < s .cols .count) → Within 20300000000000 (at (pointOf (s .cols) e f q) k)
+        go (yes l) = subst (Within 20300000000000) (same k l) (numerator-within (s .cols) e f q k (countable k (omega (arith, r .order .sized .few))))
+        go (no l) = rw (point-beyond (s .cols) e f q (r .order .sized .few) k (omega arith)) (record { above = omega arith; below = omega arith })
+
+    -- whatever the marks, the filling keeps the ends of its box
+    loose : Feasibleᴰ (boxOf (s .cols) e (λ k. Continuous)) q (filling (s .cols) e)
+    loose = fill-foremost (s .cols) e (λ k. Continuous) (own-tied s r) ordered room (λ k l i. absurd (marks-differ i refl)) .optimal .feasible
+
+    level-amount : (d : ℕ) → d < s .levels → at (pointOf (s .cols) e f q) (levelAt s d) ≡ at x d *ℤ pos q
+    level-amount d l =
+        let k = levelAt s d in
+        let h = fixed-level s r long (at x) (s .levels) d (omega arith) l in
+        let i = own-in s r d l in
+        sym (same k i) ∙ ≤ℤ-antisym (subst (λ z. filling (s .cols) e k ≤ℤ (z *ℤ pos q)) (h .1) (loose .keeps k i .below))
+        (subst (λ z. (z *ℤ pos q) ≤ℤ filling (s .cols) e k) (h .0) (loose .keeps k i .above))
+
+    filling-feasible : (marks : ℕ → Mark) → Marked s marks → Feasibleᴰ (box s marks) q (at (pointOf (s .cols) e f q))
+    filling-feasible marks m =
+        let p = fill-foremost (s .cols) e marks (own-tied s r) ordered room (fixed marks m) .optimal .feasible in
+        feasible-cong (box s marks) q (filling (s .cols) e) (at (pointOf (s .cols) e f q)) same
+        (rebox (s .cols) e (s .ends) marks q (filling (s .cols) e) (wider-box marks m q (filling (s .cols) e) p) p)
+
+    pub filling-good : GoodBest s (filledBy (s .cols) e x)
+    filling-good = let z = fill-sized (s .cols) e sized in record {
+      proper = λ h. record { proper = bound-proper (s .cols) f z; whole-in = bound-within (s .cols) f z; amounts-in = amounts-in };
+      inside = λ h. inside;
+      at-place = λ h. level-amount;
+      feasible = λ h. filling-feasible;
+      value-is = λ h marks. sym (total-cong (s .cols .count) (priceOf (s .cols)) (filling (s .cols) e) (at (pointOf (s .cols) e f q)) same)
+          ∙ filling-worth (s .cols) e marks (own-tied s r) (own-rated s r) room;
+    }
+
+module _ (s : Setting) (r : ReadyTied s) (long : Long (s .ends)) where
+  -- what holds of the filling at a place and of the incumbent holds of the one that is ahead
+  tried-has : (Q : Incumbent → Type 0) (x : List ℤ) (b : Incumbent)
+      → (pos 0 ≤ℤ fill (s .cols) (placeEnds s x) .room → Q (filledBy (s .cols) (placeEnds s x) x)) → Q b → Q (triedBy (s .cols) (placeEnds s x) x b)
   unfolding triedBy
-  tried-good x b inside g = empty? (ltZ (f .room) (pos 0)) refl
+  tried-has Q x b new old = empty? (ltZ (fill (s .cols) e .room) (pos 0)) refl
     where
       e : Ends
       e = placeEnds s x
 
-      f : Fill
-      f = fill (s .cols) e
+      better? : ltZ (fill (s .cols) e .room) (pos 0) ≡ false → (t : Bool) → Q (cond t (filledBy (s .cols) e x) b)
+      better? q true = new (no-lt q)
+      better? q false = old
 
-      j : BoxInRange (s .cols) e b
-      j = fixed-in-range s r long (at x) inside (s .levels) b (omega arith) (g .proper)
+      empty? : (t : Bool) → ltZ (fill (s .cols) e .room) (pos 0) ≡ t → Q (cond t b (cond (betters (s .cols) e b) (filledBy (s .cols) e x) b))
+      empty? true q = old
+      empty? false q = better? q (betters (s .cols) e b)
 
-      new : ltZ (f .room) (pos 0) ≡ false → GoodBest s (record { found = true; place = x; value = bound (s .cols) f })
-      new q = record {
-        proper = λ z. bound-proper (s .cols) f (fill-sized (s .cols) e (j .sized));
-        inside = λ z. inside;
-        roomy = λ z. no-lt q;
-        value-is = λ z. refl;
-      }
+  pub tried-good : (x : List ℤ) (b : Incumbent) → Inside s (at x) → GoodBest s b → GoodBest s (triedBy (s .cols) (placeEnds s x) x b)
+  tried-good x b inside g = tried-has (GoodBest s) x b (λ room. filling-good s r long x inside room) g
 
-      better? : ltZ (f .room) (pos 0) ≡ false → (t : Bool) → GoodBest s (cond t (record { found = true; place = x; value = bound (s .cols) f }) b)
-      better? q true = new q
-      better? q false = g
-
-      empty? : (t : Bool) → ltZ (f .room) (pos 0) ≡ t → GoodBest s (cond t b
-          (cond (betters (bound (s .cols) f) b) (record { found = true; place = x; value = bound (s .cols) f }) b))
-      empty? true q = g
-      empty? false q = better? q (betters (bound (s .cols) f) b)
+  pub tried-filled : (x : List ℤ) (b : Incumbent) → Inside s (at x) → FilledBest s b → FilledBest s (triedBy (s .cols) (placeEnds s x) x b)
+  tried-filled x b inside g = tried-has (FilledBest s) x b (λ room. record { inside = λ h. inside; roomy = λ h. room; filling-is = λ h. refl }) g
 
   -- ---- a verdict settles what it covers
 
@@ -107,20 +200,25 @@ module _ (s : Setting) (r : ReadySetting s) (long : Long (s .ends)) where
     looked-good (Prefix n) (inl h) = rw (h .tries .best-is) (tried-good (t .place) b (started .inside) g)
     looked-good (Prefix n) (inr (e, c)) = rw (kept-best e) g
 
+    pub looked-filled : (w : Settled) → LookedAs s ps t b r′ w → FilledBest s b → FilledBest s b′
+    looked-filled (Run d) (e, c) h = rw (kept-best e) h
+    looked-filled (Prefix n) (inl k) h = rw (k .tries .best-is) (tried-filled (t .place) b (started .inside) h)
+    looked-filled (Prefix n) (inr (e, c)) h = rw (kept-best e) h
+
     module _ (marks : ℕ → Mark) (m : Marked s marks) where
       pub keeps-settled : (w : Settled) → LookedAs s ps t b r′ w → (y : Place) → SettledAt s marks b y → SettledAt s marks b′ y
       keeps-settled (Run d) (e, c) y h = rw (kept-best e) h
       keeps-settled (Prefix n) (inl k) y h =
-          rw (k .tries .best-is) (tried-keeps s r long marks m (at (t .place)) (started .inside) (t .place) b (g .proper) y h)
+          rw (k .tries .best-is) (tried-keeps s r long marks m (at (t .place)) (started .inside) (t .place) b g y h)
       keeps-settled (Prefix n) (inr (e, c)) y h = rw (kept-best e) h
 
       pub settles-verdict : (w : Settled) → LookedAs s ps t b r′ w → Settles (orderOf s) w (at (t .place)) (SettledAt s marks b′)
       settles-verdict (Run d) (e, c) =
-          λ y bx run. rw (kept-best e) (cut-settles s r long marks m (at (t .place)) (started .inside) d b (c .level-in) (g .proper)
+          λ y bx run. rw (kept-best e) (cut-settles s r long marks m (at (t .place)) (started .inside) d b (c .level-in) g
           (subst (λ v. cutBy (s .cols) (latticeAt (s .lattice) d) (runEnds s (at (t .place)) v d) b ≡ true) (started .starts d (c .level-in))
           (c .cut)) y run)
       settles-verdict (Prefix n) (inl h) = λ y bx a. rw (h .tries .best-is)
-          (tried-settles s r long marks m (at (t .place)) (started .inside) (t .place) b (g .proper) y (subst (λ k. Agree k (at (t .place)) y) (h .all) a))
+          (tried-settles s r long marks m (at (t .place)) (started .inside) (t .place) b g y (subst (λ k. Agree k (at (t .place)) y) (h .all) a))
       settles-verdict (Prefix n) (inr (e, c)) = λ y bx a. rw (kept-best e)
           (pair-settles s r long marks m (at (t .place)) (started .inside) ps rp (c .level) b (c .level-in) (c .paired) y
           (subst (λ k. Agree k (at (t .place)) y) (c .last) a))
@@ -150,7 +248,7 @@ unfoldable pub left : Setting → State → ℕ
 left s q = cond (q .done) 0 (suc (μ (orderOf s) (at (q .path .place))))
 
 module _ (s : Setting) (ps : Pairs) (q r : State) (g : Underway s ps q) (on : q .done ≡ false) (st : Stepped s ps q r) where
-  abbrev ready : Ready s ps
+  abbrev ready : ReadySearch s ps
   ready = g .ready
 
   abbrev t : Path
@@ -237,6 +335,9 @@ module _ (s : Setting) (ps : Pairs) (q r : State) (g : Underway s ps q) (on : q 
       go none (d, (same, top)) e = fresh-top s ps r top
       go (some (j, v)) (d, (turned, from)) e = kept-above j v turned e (st .better) refl from
 
+  pub filled-on : FilledBest s (q .best) → FilledBest s (r .best)
+  filled-on h = looked-filled s (ready .setting) long ps (ready .true-pairs) t (g .started) (q .best) after (g .good) (st .verdict) (st .looked) h
+
   pub underway-on : Underway s ps r
   underway-on = record { ready = ready; started = started-on; good = good′; from-in = fresh-on .from-in; passed = fresh-on .passed }
 
@@ -247,6 +348,11 @@ module _ (s : Setting) (ps : Pairs) (q : State) (u : Underway s ps q) where
   unfolding Ran
   underway-ran zero r h = rw h u
   underway-ran (suc n) r (o, h) = underway-on s ps o r (underway-ran n o (h .0)) (h .1 .0) (h .1 .1)
+
+  pub filled-ran : FilledBest s (q .best) → (n : ℕ) (r : State) → Ran s ps q n r → FilledBest s (r .best)
+  unfolding Ran
+  filled-ran f zero r h = rw h f
+  filled-ran f (suc n) r (o, h) = filled-on s ps o r (underway-ran n o (h .0)) (h .1 .0) (h .1 .1) (filled-ran f n o (h .0))
 
   pub covered-ran : (marks : ℕ → Mark) → Marked s marks → Covered s marks q → (n : ℕ) (r : State) → Ran s ps q n r → Covered s marks r
   unfolding Ran
@@ -268,14 +374,14 @@ ran-steps s ps q (suc n) r l (o, h) =
 
 -- ---- what the search comes to
 
-module _ (s : Setting) (r : ReadySetting s) (long : Long (s .ends)) (marks : ℕ → Mark) (m : Marked s marks) where
+module _ (s : Setting) (r : ReadyTied s) (long : Long (s .ends)) (marks : ℕ → Mark) (m : Marked s marks) where
   whole-of : (D : ℕ) (mk : Mark) (n : ℤ) → mk ≡ Integer → KeepsMarkᴰ D mk n → (z : ℤ) × (n ≡ z *ℤ pos D)
   whole-of D mk n e k = subst (λ (x : Mark). KeepsMarkᴰ D x n) e k
 
   -- a feasible point's place
   module _ (D : ℕ) (N : ℕ → ℤ) (d≥1 : 1 ≤ D) (p : Feasibleᴰ (box s marks) D N) where
     amount : (d : ℕ) → Dec (d < s .levels) → ℤ
-    amount d (yes l) = whole-of D (marks (levelAt s d)) (N (levelAt s d)) (m .integer d l) (p .keeps (levelAt s d) (r .level-in d l) .marked) .0
+    amount d (yes l) = whole-of D (marks (levelAt s d)) (N (levelAt s d)) (m .integer d l) (p .keeps (levelAt s d) (own-in s r d l) .marked) .0
     amount d (no l) = pos 0
 
     y : Place
@@ -283,7 +389,7 @@ module _ (s : Setting) (r : ReadySetting s) (long : Long (s .ends)) (marks : ℕ
 
     at-amount : (d : ℕ) (k : Dec (d < s .levels)) → d < s .levels → N (levelAt s d) ≡ amount d k *ℤ pos D
     unfolding amount
-    at-amount d (yes l) n = whole-of D (marks (levelAt s d)) (N (levelAt s d)) (m .integer d l) (p .keeps (levelAt s d) (r .level-in d l) .marked) .1
+    at-amount d (yes l) n = whole-of D (marks (levelAt s d)) (N (levelAt s d)) (m .integer d l) (p .keeps (levelAt s d) (own-in s r d l) .marked) .1
     at-amount d (no l) n = absurd (l n)
 
     at-place : AtPlace s marks D N y
@@ -292,30 +398,27 @@ module _ (s : Setting) (r : ReadySetting s) (long : Long (s .ends)) (marks : ℕ
 
     in-place : Box (orderOf s) (s .levels) y
     in-place d l = (
-      times-≤-back D (at (s .low) d) (y d) d≥1 (subst₂ (λ u x. (u *ℤ pos D) ≤ℤ x) (sym (r .low-is d l)) (at-place d l)
-          (p .keeps (levelAt s d) (r .level-in d l) .above)),
-      times-≤-back D (y d) (at (s .high) d) d≥1 (subst₂ (λ u x. x ≤ℤ (u *ℤ pos D)) (sym (r .high-is d l)) (at-place d l)
-          (p .keeps (levelAt s d) (r .level-in d l) .below)),
+      times-≤-back D (at (s .low) d) (y d) d≥1 (subst₂ (λ u x. (u *ℤ pos D) ≤ℤ x) (sym (r .ready .low-is d l)) (at-place d l)
+          (p .keeps (levelAt s d) (own-in s r d l) .above)),
+      times-≤-back D (y d) (at (s .high) d) d≥1 (subst₂ (λ u x. x ≤ℤ (u *ℤ pos D)) (sym (r .ready .high-is d l)) (at-place d l)
+          (p .keeps (levelAt s d) (own-in s r d l) .below)),
     )
 
-    pub settled-point : (b : Incumbent) → All (orderOf s) (SettledAt s marks b) → AtMostBest s marks b D N ⊎ Bettered s marks D N
+    pub settled-point : (b : Incumbent) → All (orderOf s) (SettledAt s marks b) → NotAhead s marks b D N ⊎ Bettered s marks D N
     settled-point b h = h y in-place D N d≥1 p at-place
 
   -- values are bounded: by the relaxation of the whole box
   bounded : (D : ℕ) (N : ℕ → ℤ) → 1 ≤ D → Feasibleᴰ (box s marks) D N → (U : ℤ) × ((G : ℕ) × (1 ≤ G) × AtMost (box s marks) U G)
-  bounded D N d≥1 p = go (≤ℤ-or-< (pos 0) (fill (s .cols) (s .ends) .room))
-    where
-      go : (pos 0 ≤ℤ fill (s .cols) (s .ends) .room) ⊎ (fill (s .cols) (s .ends) .room <ℤ pos 0) → (U : ℤ) × ((G : ℕ) × (1 ≤ G) × AtMost (box s marks) U G)
-      go (inl h) =
-          let st = fill-stopped (s .cols) (s .ends) marks (r .ordered) (r .in-order) h in (
-            over (bound (s .cols) (fill (s .cols) (s .ends))),
-            (
-              bound (s .cols) (fill (s .cols) (s .ends)) .parts,
-              parts≥1 (s .cols) (s .ends) marks (r .ordered) (r .in-order) (fill (s .cols) (s .ends)) st,
-              fill-bound (s .cols) (s .ends) marks (r .ordered) (r .in-order) (fill (s .cols) (s .ends)) st,
-            ),
-          )
-      go (inr h) = absurd (fill-empty (s .cols) (s .ends) marks (r .ordered) (r .in-order) h D N d≥1 p)
+  bounded D N d≥1 p =
+      let o = own-order s r (s .ends) (r .ready .in-order) in
+      let room = fill-some (s .cols) (s .ends) marks (own-tied s r) o D N d≥1 p in (
+        valueᴰ (box s marks) (filling (s .cols) (s .ends)),
+        (
+          parts (s .cols) (s .ends),
+          parts-some (s .cols) (s .ends) marks (own-tied s r) o room,
+          λ D′ N′ d′ p′. fill-first (s .cols) (s .ends) marks (own-tied s r) o room D′ N′ d′ p′ .worth,
+        ),
+      )
 
   module _ (b : Incumbent) (g : GoodBest s b) (all : All (orderOf s) (SettledAt s marks b)) where
     pub none-feasible : b .found ≡ false → (D : ℕ) (N : ℕ → ℤ) → 1 ≤ D → ¬ Feasibleᴰ (box s marks) D N
@@ -324,7 +427,7 @@ module _ (s : Setting) (r : ReadySetting s) (long : Long (s .ends)) (marks : ℕ
         under (valueᴰ (box s marks) N) (at-most-climb (box s marks) (valueᴰ (box s marks) N -ℤ pos 1) (u .0) D (u .1 .0) d≥1 (u .1 .1) (u .1 .2)
         (λ D′ N′ d′ p′. inr (step D′ N′ (settled-point D′ N′ d′ p′ b all))) D N d≥1 p)
       where
-        step : (D′ : ℕ) (N′ : ℕ → ℤ) → AtMostBest s marks b D′ N′ ⊎ Bettered s marks D′ N′ → Bettered s marks D′ N′
+        step : (D′ : ℕ) (N′ : ℕ → ℤ) → NotAhead s marks b D′ N′ ⊎ Bettered s marks D′ N′ → Bettered s marks D′ N′
         step D′ N′ (inl (q, h)) = absurd (impossible (sym f ∙ q))
         step D′ N′ (inr h) = h
 
@@ -332,70 +435,36 @@ module _ (s : Setting) (r : ReadySetting s) (long : Long (s .ends)) (marks : ℕ
         under = split _ (λ a c. simp zed (λ h. omega (arith, d≥1)))
 
     module _ (f : b .found ≡ true) where
-      abbrev e : Ends
-      e = placeEnds s (b .place)
+      E≥1 : 1 ≤ b .value .parts
+      E≥1 = omega (arith, g .proper f .proper .low)
 
-      abbrev fl : Fill
-      fl = fill (s .cols) e
-
-      ordered : InOrder (s .cols) e
-      ordered = fixed-order s r long (at (b .place)) (s .levels) (omega arith)
-
-      stopped : Stopped (s .cols) e marks (r .ordered) ordered fl
-      stopped = fill-stopped (s .cols) e marks (r .ordered) ordered (g .roomy f)
-
-      -- every integer item is at some level, and so fixed
-      fixed : (k : ℕ) → k < s .cols .count → marks k ≡ Integer → at (e .lo) k ≡ at (e .hi) k
-      fixed k l q =
-          let v = m .level k l q in
-          let h = fixed-level s r long (at (b .place)) (s .levels) (v .0) (omega arith) (v .1) in
-          subst (λ i. at (e .lo) i ≡ at (e .hi) i) (v .2) (h .0 ∙ sym (h .1))
-
-      -- the fixed box lies in the search's
-      wider-box : (D : ℕ) (N : ℕ → ℤ) → Feasibleᴰ (boxOf (s .cols) e marks) D N → InBox (s .cols) (s .ends) D N
-      wider-box D N p k l = go (marks k) refl
+      -- nothing is worth more
+      found-most : AtMost (box s marks) (valueᴰ (box s marks) (at (b .point))) (b .value .parts)
+      found-most D N d≥1 p =
+          let u = bounded D N d≥1 p in
+          at-most-climb (box s marks) (valueᴰ (box s marks) (at (b .point))) (u .0) (b .value .parts) (u .1 .0) E≥1 (u .1 .1) (u .1 .2)
+          (λ D′ N′ d′ p′. step D′ N′ (settled-point D′ N′ d′ p′ b all)) D N d≥1 p
         where
-          go : (mk : Mark) → marks k ≡ mk → ((at (s .ends .lo) k *ℤ pos D) ≤ℤ N k) × (N k ≤ℤ (at (s .ends .hi) k *ℤ pos D))
-          go Integer q =
-              let v = m .level k l q in
-              let h = fixed-level s r long (at (b .place)) (s .levels) (v .0) (omega arith) (v .1) in
-              let i = g .inside f (v .0) (v .1) in
-              let lo : at (s .ends .lo) k ≤ℤ at (e .lo) k =
-              subst (λ j. at (s .ends .lo) j ≤ℤ at (e .lo) j) (v .2) (subst₂ _≤ℤ_ (r .low-is (v .0) (v .1)) (sym (h .0)) (i .0)) in
-              let hi : at (e .hi) k ≤ℤ at (s .ends .hi) k =
-              subst (λ j. at (e .hi) j ≤ℤ at (s .ends .hi) j) (v .2) (subst₂ _≤ℤ_ (sym (h .1)) (r .high-is (v .0) (v .1)) (i .1)) in
-              (≤ℤ-trans (times-≤ D _ _ lo) (p .keeps k l .above), ≤ℤ-trans (p .keeps k l .below) (times-≤ D _ _ hi))
-          go Continuous q =
-              let h = fixed-other s r long (at (b .place)) (s .levels) k (λ j n x. unlike (sym (m .integer j n) ∙ ap marks x ∙ q)) in
-              (subst (λ x. (x *ℤ pos D) ≤ℤ N k) (h .0) (p .keeps k l .above), subst (λ x. N k ≤ℤ (x *ℤ pos D)) (h .1) (p .keeps k l .below))
-            where
-              unlike : Integer ≡ Continuous → ⊥
-              unlike x = let z : _≡_ {A = ℕ} 0 1 = cc in omega arith
-
-      value-parts : b .value .parts ≡ bound (s .cols) fl .parts
-      value-parts = ap (λ (v : Mixed). v .parts) (g .value-is f)
-
-      pub found-feasible : Feasibleᴰ (box s marks) (b .value .parts) (chosen s b)
-      found-feasible =
-          let p = fill-point (s .cols) e marks (r .ordered) ordered fixed fl stopped in
-          subst (λ n. Feasibleᴰ (box s marks) n (chosen s b)) (sym value-parts)
-          (rebox (s .cols) e (s .ends) marks (bound (s .cols) fl .parts) (chosen s b) (wider-box (bound (s .cols) fl .parts) (chosen s b) p) p)
-
-      pub found-value : valueᴰ (box s marks) (chosen s b) ≡ over (b .value)
-      found-value = fill-value (s .cols) e marks (r .ordered) ordered fl stopped ∙ ap over (sym (g .value-is f))
-
-      pub found-optimal : Optimalᴰ (box s marks) (b .value .parts) (chosen s b)
-      found-optimal = record {
-        feasible = found-feasible;
-        highest = λ D N d≥1 p. let u = bounded D N d≥1 p in subst (λ w. (valueᴰ (box s marks) N *ℤ pos (b .value .parts)) ≤ℤ (w *ℤ pos D)) (sym found-value)
-            (at-most-climb (box s marks) (over (b .value)) (u .0) (b .value .parts) (u .1 .0) (omega (arith, g .proper f .low)) (u .1 .1) (u .1 .2)
-            (λ D′ N′ d′ p′. step D′ N′ (settled-point D′ N′ d′ p′ b all)) D N d≥1 p);
-      }
-        where
-          step : (D′ : ℕ) (N′ : ℕ → ℤ) → AtMostBest s marks b D′ N′ ⊎ Bettered s marks D′ N′
-              → ((valueᴰ (box s marks) N′ *ℤ pos (b .value .parts)) ≤ℤ (over (b .value) *ℤ pos D′)) ⊎ Bettered s marks D′ N′
-          step D′ N′ (inl (q, h)) = inl h
+          step : (D′ : ℕ) (N′ : ℕ → ℤ) → NotAhead s marks b D′ N′ ⊎ Bettered s marks D′ N′
+              → ((valueᴰ (box s marks) N′ *ℤ pos (b .value .parts)) ≤ℤ (valueᴰ (box s marks) (at (b .point)) *ℤ pos D′)) ⊎ Bettered s marks D′ N′
+          step D′ N′ (inl (q, h)) = inl (h .worth)
           step D′ N′ (inr h) = inr h
+
+      -- what is bettered is worth less
+      pub found-leads : LeadsAll (box s marks) (b .value .parts) (at (b .point))
+      found-leads D N d≥1 p = go (settled-point D N d≥1 p b all)
+        where
+          below : (D E : ℕ) → 1 ≤ D → 1 ≤ E → (v w m : ℤ) → (v +ℤ pos D) ≤ℤ w → (w *ℤ pos E) ≤ℤ (m *ℤ pos D) → (v *ℤ pos E) <ℤ (m *ℤ pos D)
+          below D E d e = split3 _ (λ a b c f g h. simp zed (λ i k. omega (arith, mul-le-mul-right E i, k, mul-le-mul-left D e, d)))
+
+          go : NotAhead s marks b D N ⊎ Bettered s marks D N → Leads (valueᴰ (box s marks)) (s .cols .count) (b .value .parts) (at (b .point)) D N
+          go (inl (q, h)) = h
+          go (inr (N′, p′, h)) = leads-above (valueᴰ (box s marks)) (s .cols .count) (b .value .parts) D (at (b .point)) N
+              (below D (b .value .parts) d≥1 E≥1 (valueᴰ (box s marks) N) (valueᴰ (box s marks) N′) (valueᴰ (box s marks) (at (b .point))) h
+              (found-most D N′ d≥1 p′))
+
+      pub found-foremost : Foremostᴰ (box s marks) (b .value .parts) (at (b .point))
+      found-foremost = leads-foremost (box s marks) (b .value .parts) (at (b .point)) (g .feasible f marks m) found-leads
 
 pub searched : (s : Setting) (ps : Pairs) (q : State) → Underway s ps q → ((marks : ℕ → Mark) → Marked s marks → Covered s marks q) → q .done ≡ true
     → Searched s (q .best)
@@ -403,12 +472,8 @@ searched s ps q g covered d =
     let r = g .ready .setting in
     let long = g .started .long in
     record {
-      inside = g .good .inside;
-      optimal = λ f marks m. found-optimal s r long marks m (q .best) (g .good) (covered marks m .1 d) f;
-      value-is = λ f marks m. found-value s r long marks m (q .best) (g .good) (covered marks m .1 d) f;
-      proper = g .good .proper;
-      roomy = λ f marks m. g .good .roomy f;
-      parts-are = g .good .value-is;
+      good = g .good;
+      foremost = λ f marks m. found-foremost s r long marks m (q .best) (g .good) (covered marks m .1 d) f;
       empty = λ f marks m. none-feasible s r long marks m (q .best) (g .good) (covered marks m .1 d) f;
     }
 
@@ -419,11 +484,15 @@ good-nobody : (s : Setting) → GoodBest s nobody
 good-nobody s = record {
   proper = λ h. absurd (impossible h);
   inside = λ h. absurd (impossible h);
-  roomy = λ h. absurd (impossible h);
+  at-place = λ h. absurd (impossible h);
+  feasible = λ h. absurd (impossible h);
   value-is = λ h. absurd (impossible h);
 }
 
-module _ (s : Setting) (ps : Pairs) (ready : Ready s ps) (long : Long (s .ends)) (q : State) (b : Begun s q) where
+filled-nobody : (s : Setting) → FilledBest s nobody
+filled-nobody s = record { inside = λ h. absurd (impossible h); roomy = λ h. absurd (impossible h); filling-is = λ h. absurd (impossible h) }
+
+module _ (s : Setting) (ps : Pairs) (ready : ReadySearch s ps) (long : Long (s .ends)) (q : State) (b : Begun s q) where
   first-starts : Each (s .levels) (λ k. at (q .path .place) k ≡ startBy s (at (q .path .place)) k)
   first-starts k l = b .first .filled k (omega arith) l .0
 
@@ -441,6 +510,9 @@ module _ (s : Setting) (ps : Pairs) (ready : Ready s ps) (long : Long (s .ends))
         from-in = f .from-in;
         passed = f .passed;
       }
+
+  pub filled-first : FilledBest s (q .best)
+  filled-first = subst (FilledBest s) (sym (b .nothing)) (filled-nobody s)
 
   pub covered-first : (marks : ℕ → Mark) → Marked s marks → Covered s marks q
   covered-first marks m = (

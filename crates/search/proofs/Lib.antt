@@ -1,3 +1,5 @@
+pub mod Boxes
+pub mod Orders
 pub mod Starts
 pub mod Dives
 pub mod Slopes
@@ -7,3 +9,4 @@ pub mod Settle
 pub mod Moving
 pub mod Finish
 pub mod Once
+pub mod Resume

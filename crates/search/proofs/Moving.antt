@@ -11,7 +11,7 @@ use lib.Signed.{ltZ, _≤ℤ_}
 use Rattle.arith.proofs.Parts.{impossible}
 use Rattle.greedy.specs.declared.Columns.{Columns}
 use Rattle.greedy.specs.declared.Ends.{Ends}
-use Rattle.greedy.specs.Fill.{at, fill, bound}
+use Rattle.greedy.specs.Fill.{at, fill}
 use Rattle.lattice.specs.Lattice.{latticeAt}
 use Rattle.places.specs.declared.Settled.{Settled}
 use Rattle.places.specs.declared.Settled.the-variants.{Run, Prefix}
@@ -24,8 +24,10 @@ use Rattle.search.specs.declared.Incumbent.{Incumbent}
 use Rattle.search.specs.declared.Path.{Path}
 use Rattle.search.specs.declared.Comparison.{Comparison}
 use Rattle.setting.specs.Box.{levelAt, fixedBy, Inside, Long}
+use Rattle.search.specs.Ahead.{filledBy}
 use Rattle.search.specs.Search.{startBy, runBox, cutBy, betters, betterBy, triedBy, Removable, Applies}
-use Rattle.setting.specs.Ready.{pairIndex, ReadySetting}
+use Rattle.setting.specs.Ready.{pairIndex}
+use Rattle.search.specs.Tying.{ReadyTied}
 use Rattle.search.specs.Steps.{Started, cutAt, Passed, LookedAs, MovedTo}
 use Rattle.search.proofs.Starts.{orderOf, start-cong, order-laws}
 use Rattle.setting.proofs.Boxes.{fixed-cong}
@@ -35,9 +37,9 @@ passed-less s p t b d j l h = record { uncut = λ i m. h .uncut i (omega arith);
 
 tried-kept : (c : Columns) (e : Ends) (x : List ℤ) (b : Incumbent) → betterBy c e b ≡ false → triedBy c e x b ≡ b
 unfolding betterBy triedBy
-tried-kept c e x b f = go (ltZ (fill c e .room) (pos 0)) (betters (bound c (fill c e)) b) f
+tried-kept c e x b f = go (ltZ (fill c e .room) (pos 0)) (betters c e b) f
   where
-    go : (u v : Bool) → cond u false v ≡ false → cond u b (cond v (record { found = true; place = x; value = bound c (fill c e) }) b) ≡ b
+    go : (u v : Bool) → cond u false v ≡ false → cond u b (cond v (filledBy c e x) b) ≡ b
     go true v h = refl
     go false true h = absurd (impossible (sym h))
     go false false h = refl
@@ -81,7 +83,7 @@ pub record MoveIn (s : Setting) (w : Settled) (j : ℕ) (v : ℤ) : Type 0 where
   pub low : at (s .low) j ≤ℤ v
   pub high : v ≤ℤ at (s .high) j
 
-pub move-in : (s : Setting) → ReadySetting s → Long (s .ends) → (P : ℕ → ℤ) → Inside s P → (w : Settled) → SettledIn (s .levels) w → (j : ℕ) (v : ℤ)
+pub move-in : (s : Setting) → ReadyTied s → Long (s .ends) → (P : ℕ → ℤ) → Inside s P → (w : Settled) → SettledIn (s .levels) w → (j : ℕ) (v : ℤ)
     → pastOf w (at (s .low)) (at (s .high)) (startBy s P) P ≡ some (j, v) → MoveIn s w j v
 move-in s r long P inside (Run d) l j v e = sound (suc d) l (subst (Sound (orderOf s) (suc d) P) e (run-sound (order-laws s r long) P inside d l)) refl
   where

@@ -1,16 +1,15 @@
 -- A search has one end: what a look settles, a step and the states that follow from the first are determined.
 -- looked-once, step-once, ran-once: there is one verdict, one next state, one state after so many steps.
 -- runs-once: and so one state in which a search of at most so many steps stops; stops-once: also from the first place on.
-use mathlib.Core.Path.{_≡_, refl, sym, ap, ap₂, _∙_, subst, subst₂}
+use mathlib.Core.Path.{_≡_, sym, ap, ap₂, _∙_, subst, subst₂}
 use mathlib.Core.Bool.{Bool, true, false}
-use mathlib.Core.List.{List, [], _∷_}
+use mathlib.Core.List.{List}
 use mathlib.Core.Logic.{_⊎_, inl, inr}
 use mathlib.Core.Option.{Option, none, some}
 use Prim.Native.Nat.{ℕ, zero, suc, _≤_, _<_}
 use native.Mathlib.Decide.{decLt, ℕ-discrete}
 use native.Mathlib.Omega.{arith}
 use lib.IntN.{ℤ}
-use lib.ListN.{length}
 use Rattle.arith.proofs.Parts.{impossible}
 use Rattle.greedy.specs.declared.Columns.{Columns}
 use Rattle.greedy.specs.declared.Ends.{Ends}
@@ -26,17 +25,12 @@ use Rattle.search.specs.declared.State.{State}
 use Rattle.search.specs.declared.Comparison.{Comparison}
 use Rattle.search.specs.Search.{startBy}
 use Rattle.search.specs.Steps.{LongPath, Dived, cutAt, Cut, Discarded, Tries, LookedAs, MovedTo, WentOn, Stepped, origin, Begun, Ran, RunsFor, Stops}
+use Rattle.search.proofs.Orders.{list-once}
 use Rattle.search.proofs.Starts.{start-cong}
 
 -- ---- lists with the same entries are equal
 
-list-once : (x y : List ℤ) → length x ≡ length y → ((i : ℕ) → at x i ≡ at y i) → x ≡ y
-list-once [] [] l h = refl
-list-once [] (b ∷ y) l h = absurd (omega (arith, l))
-list-once (a ∷ x) [] l h = absurd (omega (arith, l))
-list-once (a ∷ x) (b ∷ y) l h = ap₂ (λ (a : ℤ) (x : List ℤ). a ∷ x) (h 0) (list-once x y (omega (arith, l)) (λ i. h (suc i)))
-
-path-once : (p q : Path) → LongPath p → LongPath q → ((i : ℕ) → at (p .place) i ≡ at (q .place) i) → ((i : ℕ) → at (p .starts) i ≡ at (q .starts) i) → p ≡ q
+pub path-once : (p q : Path) → LongPath p → LongPath q → ((i : ℕ) → at (p .place) i ≡ at (q .place) i) → ((i : ℕ) → at (p .starts) i ≡ at (q .starts) i) → p ≡ q
 path-once p q l m h k = ap₂ (λ (x y : List ℤ). record { place = x; starts = y }) (list-once (p .place) (q .place) (l .place-long ∙ sym (m .place-long)) h)
     (list-once (p .starts) (q .starts) (l .starts-long ∙ sym (m .starts-long)) k)
 
@@ -195,7 +189,7 @@ module _ (s : Setting) (p : Pairs) where
       go (yes e) ih = (o, (subst (λ i. Ran s p q i o) (sym e) (h .0), h .1 .0))
       go (no e) ih = ih (omega (arith, e))
 
-  not-after : (q : State) (n m : ℕ) → n < m → (r r′ : State) → Ran s p q n r → r .done ≡ true → Ran s p q m r′ → ⊥
+  pub not-after : (q : State) (n m : ℕ) → n < m → (r r′ : State) → Ran s p q n r → r .done ≡ true → Ran s p q m r′ → ⊥
   not-after q n m l r r′ h e k =
       let o = earlier q m n l r′ k in
       impossible (sym (o .1 .1) ∙ ap (λ (x : State). x .done) (ran-once q n (o .0) r (o .1 .0) h) ∙ e)

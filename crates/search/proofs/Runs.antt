@@ -12,15 +12,18 @@ use Rattle.setting.specs.declared.Setting.{Setting}
 use Rattle.search.specs.declared.Incumbent.{Incumbent}
 use Rattle.setting.specs.Box.{levelAt, spanned, fixedBy, Inside, Long}
 use Rattle.search.specs.Search.{runEnds}
-use Rattle.setting.specs.Ready.{ReadySetting}
+use Rattle.search.specs.Tying.{ReadyTied}
 use Rattle.search.specs.Steps.{ProperBest, BoxInRange}
-use Rattle.setting.proofs.Boxes.{item<16, fixed-long, fixed-sized, fixed-order, span-sized, span-order, low-within, high-within, inside-within}
+use Rattle.setting.proofs.Boxes.{span-sized}
+use Rattle.search.proofs.Boxes.{own-tied, own-rated, own-order, item<16, fixed-long, fixed-sized, plain-order, fixed-order}
+use Rattle.search.proofs.Boxes.{span-order, low-within, high-within, inside-within}
 
-module _ (s : Setting) (r : ReadySetting s) (long : Long (s .ends)) (P : ℕ → ℤ) (inside : Inside s P) where
+module _ (s : Setting) (r : ReadyTied s) (long : Long (s .ends)) (P : ℕ → ℤ) (inside : Inside s P) where
   pub fixed-in-range : (d : ℕ) (b : Incumbent) → d ≤ s .levels → ProperBest b → BoxInRange (s .cols) (fixedBy s P d) b
   fixed-in-range d b l p = record {
-    sized = record { columns = r .sized .columns; ends = fixed-sized s r long P d l (λ j m. inside j (omega arith)) };
-    ordered = r .ordered;
+    sized = record { columns = r .order .sized; ends = fixed-sized s r long P d l (λ j m. inside j (omega arith)) };
+    tied = own-tied s r;
+    rated = own-rated s r;
     in-order = fixed-order s r long P d l;
     proper = p;
   }
@@ -37,12 +40,14 @@ module _ (s : Setting) (r : ReadySetting s) (long : Long (s .ends)) (P : ℕ →
       narrowed : (x y : ℤ) → Within farthest x → Within farthest y → x ≤ℤ y → BoxInRange (s .cols) (spanned e (levelAt s d) x y) b
       narrowed x y wx wy h = record {
         sized = record {
-          columns = r .sized .columns;
+          columns = r .order .sized;
           ends = span-sized e (levelAt s d) x y (fixed-long s r long P d) (item<16 s r long d l) wx wy
               (fixed-sized s r long P d (omega arith) (λ j m. inside j (omega arith)));
         };
-        ordered = r .ordered;
-        in-order = span-order s r long e (levelAt s d) x y (fixed-long s r long P d) (item<16 s r long d l) h (fixed-order s r long P d (omega arith));
+        tied = own-tied s r;
+        rated = own-rated s r;
+        in-order = own-order s r (spanned e (levelAt s d) x y)
+            (span-order s r long e (levelAt s d) x y (fixed-long s r long P d) (item<16 s r long d l) h (plain-order s r long P d (omega arith)));
         proper = p;
       }
 

@@ -1,3 +1,5 @@
+pub mod Tying
+pub mod Ahead
 pub mod Search
-pub mod Searched
 pub mod Steps
+pub mod Searched

@@ -4,11 +4,13 @@
 --   runBox, runEnds     the box of P's run at level d, which starts at v: what is left of its segment there, and all below
 --   slopeOf c f         the critical item's price for its weight, from the whole amounts' worth on
 --   sparseBy c l f b    no value above b is found on the lattice l, within the room and the slope of the filling f
---   hopelessBy l f …    a filling promises no value above b, or none is found on the lattice
---   cutBy c l e best    the box e holds nothing, or nothing better than the incumbent
---   betters v best      the value v is better than the incumbent's
---   betterBy c e best   the relaxation of e, a place with all levels fixed, is better than the incumbent
---   triedBy c e x best  the better of the two, where the levels are fixed at x
+--   lowered t w         one less than w, if t
+--   thresholdAt lo y n d w  the value that a box of n items with these lower ends has to exceed, of the point y over d whose whole value is w
+--   thresholdBy c e best    the same of the incumbent
+--   cutBy c l e best    the box e holds nothing, or nothing ahead of the incumbent
+--   betters c e best    the filling of e is ahead of the incumbent
+--   betterBy c e best   the relaxation of e, a place with all levels fixed, is feasible and ahead of the incumbent
+--   triedBy c e x best  the one of the two that is ahead, where the levels are fixed at x
 --   Stays x r l u       x less r lies within l and u
 --   Removable …         a pair's steps can be taken away from two amounts within their ends
 --   AppliesAt s p x d j the domination pair of the items of levels d and j can be taken away from x within the box
@@ -16,19 +18,17 @@
 --   Reflects P b        the test b says whether P holds
 --   FirstPaired s p x r r is the first level that a pair discards, or the number of levels
 use mathlib.Core.Path.{_≡_}
-use mathlib.Core.Bool.{Bool, true, false, not, cond}
+use mathlib.Core.Bool.{Bool, true, false, cond}
 use mathlib.Core.List.{List}
 use mathlib.Core.Logic.{_≢_}
-use Prim.Native.Nat.{ℕ, _+_, _*_, _≤_, _<_}
+use Prim.Native.Nat.{ℕ, _≤_, _<_}
 use lib.Dec.{ltb}
-use lib.IntN.{ℤ, pos, natAbs, _+ℤ_, _-ℤ_, _*ℤ_}
+use lib.IntN.{ℤ, pos, _-ℤ_}
 use lib.Signed.{ltZ, _≤ℤ_}
-use Rattle.arith.specs.Mixed.{lessMixed}
-use Rattle.arith.specs.declared.Mixed.{Mixed}
 use Rattle.greedy.specs.declared.Columns.{Columns}
 use Rattle.greedy.specs.declared.Ends.{Ends}
 use Rattle.greedy.specs.declared.Fill.{Fill}
-use Rattle.greedy.specs.Fill.{at, place, fill, sharedBy, bound, start}
+use Rattle.greedy.specs.Fill.{at, fill, start}
 use Rattle.lattice.specs.declared.Lattice.{Lattice}
 use Rattle.lattice.specs.declared.Slope.{Slope}
 use Rattle.lattice.specs.Lattice.{barrenBy}
@@ -37,6 +37,7 @@ use Rattle.setting.specs.declared.Pairs.{Pairs}
 use Rattle.setting.specs.Box.{levelAt, spanned, fixedBy}
 use Rattle.setting.specs.Ready.{pairIndex}
 use Rattle.search.specs.declared.Incumbent.{Incumbent}
+use Rattle.search.specs.Ahead.{cornerSooner, aheadBy, filledBy}
 
 unfoldable pub startBy : Setting → (ℕ → ℤ) → ℕ → ℤ
 startBy s P d = start (s .cols) (fixedBy s P d) (fill (s .cols) (fixedBy s P d)) (levelAt s d)
@@ -58,28 +59,32 @@ slopeOf c f = record { worth = f .worth; rate = at (c .rate) (f .at); size = at 
 unfoldable pub sparseBy : Columns → Lattice → Fill → ℤ → Bool
 sparseBy c l f b = cond (ltb (f .at) (c .live)) (barrenBy l (slopeOf c f) (f .room) b) false
 
--- no value above b is promised by a filling that ends at an item of that weight and price, or none is found on the lattice
-abbrev pub hopelessBy : Lattice → Fill → ℤ → ℤ → Mixed → Bool
-hopelessBy l f size rate b =
-    cond (lessMixed b (sharedBy f (natAbs size) (natAbs rate))) (barrenBy l (record { worth = f .worth; rate = rate; size = size }) (f .room) (b .whole)) true
+abbrev pub lowered : Bool → ℤ → ℤ
+lowered t w = cond t (w -ℤ pos 1) w
 
+-- what is worth as much can be ahead only where the lower corner of the box comes before the point
+unfoldable pub thresholdAt : List ℤ → List ℤ → ℕ → ℕ → ℤ → ℤ
+thresholdAt lo y n d w = lowered (cornerSooner lo y n d) w
+
+abbrev pub thresholdBy : Columns → Ends → Incumbent → ℤ
+thresholdBy c e best = thresholdAt (e .lo) (best .point) (c .count) (best .value .parts) (best .value .whole)
+
+-- where the filling is ahead of the incumbent, the lattice may still say that no value above the threshold is found
 unfoldable pub cutBy : Columns → Lattice → Ends → Incumbent → Bool
 cutBy c l e best =
     cond (ltZ (fill c e .room) (pos 0)) true
-    (cond (best .found) (cond (lessMixed (best .value) (bound c (fill c e))) (sparseBy c l (fill c e) (best .value .whole)) true) false)
+    (cond (best .found) (cond (aheadBy c e (fill c e) best) (sparseBy c l (fill c e) (thresholdBy c e best)) true) false)
 
--- whether a value is better than the incumbent's
-abbrev pub betters : Mixed → Incumbent → Bool
-betters v best = cond (best .found) (lessMixed (best .value) v) true
+-- whether the filling of e is ahead of the incumbent
+abbrev pub betters : Columns → Ends → Incumbent → Bool
+betters c e best = cond (best .found) (aheadBy c e (fill c e) best) true
 
--- the relaxation of e is feasible, and better than the incumbent
+-- the relaxation of e is feasible, and ahead of the incumbent
 unfoldable pub betterBy : Columns → Ends → Incumbent → Bool
-betterBy c e best = cond (ltZ (fill c e .room) (pos 0)) false (betters (bound c (fill c e)) best)
+betterBy c e best = cond (ltZ (fill c e .room) (pos 0)) false (betters c e best)
 
 unfoldable pub triedBy : Columns → Ends → List ℤ → Incumbent → Incumbent
-triedBy c e x best =
-    cond (ltZ (fill c e .room) (pos 0)) best
-    (cond (betters (bound c (fill c e)) best) (record { found = true; place = x; value = bound c (fill c e) }) best)
+triedBy c e x best = cond (ltZ (fill c e .room) (pos 0)) best (cond (betters c e best) (filledBy c e x) best)
 
 -- x less r lies within l and u
 pub record Stays (x r l u : ℤ) : Type 0 where

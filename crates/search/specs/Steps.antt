@@ -1,9 +1,9 @@
 -- What the parts of a step ask and give.
 --   LongPath p        the lists of a path have a place for each level
 --   Dived s j p r     r is p with the levels from j on at their starts
---   HopelessInRange   what the cuts of a filling ask
+--   SparseInRange     what the cut by a lattice asks
 --   Started s t       the path's place is in the box, and its starts are the place's
---   ProperBest b      an incumbent's value can be compared
+--   ProperBest b      an incumbent can be compared
 --   BoxInRange c e b  columns, box and incumbent are in their ranges, and the box in order
 --   cutAt s t b d     the run of level d is cut
 --   Passed s p t b d  the levels above d settle nothing
@@ -24,11 +24,15 @@
 --   countedBy n       one more, as long as it fits
 --   Stepped s p q r   a step from q to r
 --   origin            the path that a search begins from;  Begun s q: a search at its first place
---   GoodBest s b      the incumbent, if there is one, is a place of the box that was tried, with its value
+--   Along s x r       r is the path at the place x;  Resumed s x b r: a search at that place, with the incumbent b
+--   GoodBest s b      the incumbent, if there is one, is a feasible point of the box at its place, with its value
+--   FilledBest s b    it is the filling at its place
 --   Underway s p q    what a search relies on to go on from q
 --   Ran s p q n r     n steps lead from q to r
 --   RunsFor s p q n r r is where a search stops that goes on from q for at most n steps
---   Stops s p n r     the same from the first place on; the steps told are those taken
+--   Alike q r         two states with the same path and incumbent, and both at their end or not
+--   RunsOn s p q r    r is where a search from q on stops that is run and resumed
+--   Stops s p n r     as RunsFor, from the first place on; the steps told are those taken
 use mathlib.Core.Path.{_≡_}
 use mathlib.Core.Bool.{Bool, true, false, cond}
 use mathlib.Core.List.{List}
@@ -36,19 +40,20 @@ use mathlib.Core.Logic.{_⊎_}
 use mathlib.Core.Option.{Option, none, some}
 use Prim.Native.Nat.{ℕ, zero, suc, _+_, _≤_, _<_}
 use lib.Dec.{ltb}
-use lib.IntN.{ℤ, pos}
+use lib.IntN.{ℤ, pos, _*ℤ_}
 use lib.ListN.{length, set, replicate}
-use lib.Signed.{_≤ℤ_, _<ℤ_}
+use lib.Signed.{_≤ℤ_}
 use Rattle.arith.specs.Limits.{mostRoom}
 use Rattle.arith.specs.Within.{Within}
-use Rattle.arith.specs.Mixed.{Proper}
-use Rattle.arith.specs.declared.Mixed.{Mixed}
-use Rattle.greedy.specs.Fill.{at, fill, bound}
+use Rattle.arith.proofs.Mixes.{over}
+use Rattle.knapsack.specs.declared.Mark.{Mark}
+use Rattle.knapsack.proofs.Common.{valueᴰ, Feasibleᴰ}
+use Rattle.foremost.specs.Tied.{Tied, Rated}
+use Rattle.greedy.specs.Fill.{at, fill}
 use Rattle.greedy.specs.declared.Ends.{Ends}
 use Rattle.greedy.specs.declared.Fill.{Fill}
 use Rattle.greedy.specs.Sized.{Sized}
-use Rattle.greedy.specs.Ordered.{Ordered}
-use Rattle.greedy.proofs.Relaxed.{InOrder}
+use Rattle.greedy.proofs.Relaxed.{boxOf, InOrder}
 use Rattle.greedy.specs.declared.Columns.{Columns}
 use Rattle.lattice.specs.declared.Lattice.{Lattice}
 use Rattle.lattice.specs.Lattice.{Tame, Steep, latticeAt}
@@ -62,9 +67,11 @@ use Rattle.search.specs.declared.Path.{Path}
 use Rattle.search.specs.declared.Sighting.{Sighting}
 use Rattle.search.specs.declared.State.{State}
 use Rattle.search.specs.declared.Comparison.{Comparison}
-use Rattle.setting.specs.Box.{fixedBy, Long, Inside}
+use Rattle.setting.specs.Box.{levelAt, fixedBy, Long, Inside}
 use Rattle.search.specs.Search.{startBy, runEnds, cutBy, betterBy, triedBy, Applies}
-use Rattle.setting.specs.Ready.{ReadySetting, Ready}
+use Rattle.setting.specs.Ready.{Marked}
+use Rattle.search.specs.Tying.{ReadyTied, ReadySearch}
+use Rattle.search.specs.Ahead.{filledBy, Comparable}
 
 -- ---- going down
 
@@ -81,12 +88,12 @@ pub record Dived (s : Setting) (j : ℕ) (p r : Path) : Type 0 where
 
 -- ---- looking
 
--- what a filling that ends at an item of that weight and price promises can be compared
-pub record HopelessInRange (l : Lattice) (f : Fill) (size rate : ℤ) (b : Mixed) : Type 0 where
+-- the lattice is asked whether a value above w is found, by a filling that ends at an item of that weight and price
+pub record SparseInRange (l : Lattice) (f : Fill) (size rate w : ℤ) : Type 0 where
   pub steep : Steep (record { worth = f .worth; rate = rate; size = size })
   pub room-in : Within mostRoom (f .room)
-  pub proper : Proper b
   pub tame : Tame l
+  pub whole-in : Within 201000000000000001 w
 
 -- the path's place is in the box, and its starts are the place's
 pub record Started (s : Setting) (t : Path) : Type 0 where
@@ -94,13 +101,14 @@ pub record Started (s : Setting) (t : Path) : Type 0 where
   pub inside : Inside s (at (t .place))
   pub starts : (d : ℕ) → d < s .levels → at (t .starts) d ≡ startBy s (at (t .place)) d
 
--- an incumbent's value can be compared
+-- an incumbent can be compared
 abbrev pub ProperBest : Incumbent → Type 0
-ProperBest b = b .found ≡ true → Proper (b .value)
+ProperBest b = b .found ≡ true → Comparable b
 
 pub record BoxInRange (c : Columns) (e : Ends) (b : Incumbent) : Type 0 where
   pub sized : Sized c e
-  pub ordered : Ordered c
+  pub tied : Tied c
+  pub rated : Rated c
   pub in-order : InOrder c e
   pub proper : ProperBest b
 
@@ -153,7 +161,7 @@ Looked s p t b r = LookedAs s p t b (record { best = r .best; better = r .better
 
 -- what a look asks: the levels above n settle nothing
 pub record Looks (s : Setting) (p : Pairs) (t : Path) (b : Incumbent) (n : ℕ) : Type 0 where
-  pub ready : Ready s p
+  pub ready : ReadySearch s p
   pub started : Started s t
   pub proper : ProperBest b
   pub from-in : n ≤ s .levels
@@ -161,7 +169,7 @@ pub record Looks (s : Setting) (p : Pairs) (t : Path) (b : Incumbent) (n : ℕ) 
 
 -- no pair discards a level above n
 pub record Unpaired (s : Setting) (p : Pairs) (x : List ℤ) (n : ℕ) : Type 0 where
-  pub ready : Ready s p
+  pub ready : ReadySearch s p
   pub inside : Inside s (at x)
   pub from-in : n ≤ s .levels
   pub unpaired : (i : ℕ) → i < n → ¬ Applies s p (at x) i
@@ -169,14 +177,14 @@ pub record Unpaired (s : Setting) (p : Pairs) (x : List ℤ) (n : ℕ) : Type 0 
 -- ---- going on
 
 abbrev pub nobody : Incumbent
-nobody = record { found = false; place = replicate 16 (pos 0); value = record { whole = pos 0; part = 0; parts = 1 } }
+nobody = record { found = false; place = replicate 16 (pos 0); point = replicate 16 (pos 0); value = record { whole = pos 0; part = 0; parts = 1 } }
 
 -- the path with the amount v at level j
 abbrev pub movedAt : Path → ℕ → ℤ → Path
 movedAt t j v = record { place = set (t .place) j v; starts = t .starts }
 
 pub record MoveInRange (s : Setting) (t : Path) (j : ℕ) (v : ℤ) : Type 0 where
-  pub ready : ReadySetting s
+  pub ready : ReadyTied s
   pub started : Started s t
   pub level-in : j < s .levels
   pub low : at (s .low) j ≤ℤ v
@@ -223,20 +231,48 @@ pub record Begun (s : Setting) (q : State) : Type 0 where
   pub top : q .from ≡ 0
   pub going : q .done ≡ false
 
--- the incumbent's place is in the box and feasible, and its value is that place's
+-- r is the path at the place x
+pub record Along (s : Setting) (x : List ℤ) (r : Path) : Type 0 where
+  pub place-is : r .place ≡ x
+  pub starts : (d : ℕ) → d < s .levels → at (r .starts) d ≡ startBy s (at x) d
+  pub beyond : (i : ℕ) → s .levels ≤ i → at (r .starts) i ≡ pos 0
+  pub starts-long : length (r .starts) ≡ 16
+
+-- r is the search at the place x, with the incumbent b
+pub record Resumed (s : Setting) (x : List ℤ) (b : Incumbent) (r : State) : Type 0 where
+  pub path-is : Along s x (r .path)
+  pub best-is : r .best ≡ b
+  pub no-steps : r .steps ≡ 0
+  pub top : r .from ≡ 0
+  pub going : r .done ≡ false
+
+-- the incumbent's point is feasible at a place of the box, and its value is the point's; it need not be the filling there
 pub record GoodBest (s : Setting) (b : Incumbent) : Type 0 where
   pub proper : ProperBest b
   pub inside : b .found ≡ true → Inside s (at (b .place))
+  pub at-place : b .found ≡ true → (d : ℕ) → d < s .levels → at (b .point) (levelAt s d) ≡ at (b .place) d *ℤ pos (b .value .parts)
+  pub feasible : b .found ≡ true → (marks : ℕ → Mark) → Marked s marks → Feasibleᴰ (boxOf (s .cols) (s .ends) marks) (b .value .parts) (at (b .point))
+  pub value-is : b .found ≡ true → (marks : ℕ → Mark) → valueᴰ (boxOf (s .cols) (s .ends) marks) (at (b .point)) ≡ over (b .value)
+
+-- it is the filling at its place: so it is in a search from the first place on
+pub record FilledBest (s : Setting) (b : Incumbent) : Type 0 where
+  pub inside : b .found ≡ true → Inside s (at (b .place))
   pub roomy : b .found ≡ true → pos 0 ≤ℤ fill (s .cols) (fixedBy s (at (b .place)) (s .levels)) .room
-  pub value-is : b .found ≡ true → b .value ≡ bound (s .cols) (fill (s .cols) (fixedBy s (at (b .place)) (s .levels)))
+  pub filling-is : b .found ≡ true → b ≡ filledBy (s .cols) (fixedBy s (at (b .place)) (s .levels)) (b .place)
 
 -- what a search relies on to go on
 pub record Underway (s : Setting) (p : Pairs) (q : State) : Type 0 where
-  pub ready : Ready s p
+  pub ready : ReadySearch s p
   pub started : Started s (q .path)
   pub good : GoodBest s (q .best)
   pub from-in : q .from ≤ s .levels
   pub passed : Passed s p (q .path) (q .best) (q .from)
+
+-- two states that differ at most in what is known to settle nothing, and in how many steps are counted
+pub record Alike (q r : State) : Type 0 where
+  pub path-is : q .path ≡ r .path
+  pub best-is : q .best ≡ r .best
+  pub done-is : q .done ≡ r .done
 
 -- n steps from q to r
 unfoldable pub Ran : Setting → Pairs → State → ℕ → State → Type 0
@@ -249,6 +285,11 @@ pub record RunsFor (s : Setting) (p : Pairs) (q : State) (n : ℕ) (r : State) :
   pub ran : Ran s p q count r
   pub few : count ≤ n
   pub stops : (r .done ≡ true) ⊎ (count ≡ n)
+
+-- r is where a search from q on stops that is run and resumed, each time for some steps, from a state like the one where it stopped
+pub data RunsOn (s : Setting) (p : Pairs) (q : State) : State → Type 0 where
+  begun : RunsOn s p q q
+  onward : (o o′ r : State) (n : ℕ) → RunsOn s p q o → Alike o o′ → RunsFor s p o′ n r → RunsOn s p q r
 
 -- the same from the first place on, with the steps counted
 pub record Stops (s : Setting) (p : Pairs) (n : ℕ) (r : State) : Type 0 where

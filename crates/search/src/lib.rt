@@ -1,15 +1,17 @@
-// The search for the best place: a place is an amount for each level, a level is an integer item. A step looks at one place and
-// sets aside a run of places from it on, with the lemma that allows it: see proofs/Settle. What a step gives depends on the place and the
-// incumbent alone; the state also says which levels are known to settle nothing, so that they are not looked at again.
+// The search for the best point that comes first (paper 02, "Always the same charge"), over places: a place is an amount for each level, a level is an
+// integer item. A step looks at one place and sets aside a run of places from it on, with the lemma that allows it: see proofs/Settle. What a step gives
+// depends on the place and the incumbent alone, so a search can be resumed from these (proofs/Resume); the state also says which levels are known to
+// settle nothing, so that they are not looked at again.
+use ahead::amounts_over;
+use ahead::is_ahead;
+use ahead::is_better;
+use ahead::is_corner_sooner;
 use arith::Mixed;
-use arith::less;
-use arith::magnitude;
 use greedy::Columns;
 use greedy::Ends;
 use greedy::Fill;
 use greedy::bound_of;
 use greedy::fill_up;
-use greedy::share;
 use greedy::start_of;
 use lattice::Lattice;
 use lattice::Slope;
@@ -21,22 +23,28 @@ use setting::Pairs;
 use setting::Setting;
 use setting::fixed_in;
 ghost use mathlib.Core.Path.{_≡_};
-ghost use Prim.Native.Nat.{_≤_, _<_};
+ghost use Prim.Native.Nat.{ℕ, _≤_, _<_};
 ghost use Rattle.arith.specs.Limits.{farthest};
 ghost use Rattle.arith.specs.Within.{Within};
-ghost use Rattle.greedy.specs.Fill.{at, place};
+ghost use Rattle.greedy.specs.Fill.{at, place, fill};
+ghost use Rattle.greedy.specs.Sized.{Sized};
 ghost use Rattle.lattice.specs.Lattice.{Tame};
-ghost use Rattle.setting.specs.Box.{InsideTo};
-ghost use Rattle.search.specs.Search.{bySide, hopelessBy, cutBy, Stays, Removable, Reflects, FirstPaired};
-ghost use Rattle.setting.specs.Ready.{ReadySetting, Ready};
+ghost use Rattle.setting.specs.Box.{InsideTo, Inside};
+ghost use Rattle.lattice.specs.Lattice.{barrenBy};
+ghost use Rattle.search.specs.Tying.{ReadyTied, ReadySearch};
+ghost use Rattle.search.specs.Ahead.{filledBy};
+ghost use Rattle.search.specs.Search.{bySide, thresholdAt, cutBy, Stays, Removable, Reflects, FirstPaired};
 ghost use Rattle.search.specs.Searched.{Searches};
-ghost use Rattle.search.specs.Steps.{Dived, HopelessInRange, BoxInRange, Tries, Unpaired, Looks, Looked, nobody};
-ghost use Rattle.search.specs.Steps.{LongPath, movedAt, freshBy, countedBy, Stepped, Begun, Underway, RunsFor};
+ghost use Rattle.search.specs.Steps.{Dived, SparseInRange, BoxInRange, Tries, Unpaired, Looks, Looked, nobody};
+ghost use Rattle.search.specs.Steps.{LongPath, movedAt, freshBy, countedBy, Stepped, Begun, Along, Resumed, Underway, RunsFor};
 
-// The best place so far, and its value.
+mod ahead; // ahead.rt: the order of points
+
+// The best point so far: its place, its amounts by item over the divisor of its value, and the value.
 pub struct Incumbent {
     pub found: bool,
     pub place: [i64; 16],
+    pub point: [i64; 16],
     pub value: Mixed,
 }
 
@@ -70,7 +78,7 @@ pub struct State {
 
 // The path with the levels from j on at their starts: in the box with the levels above fixed, each takes its start.
 pub fn dive(s: Setting, p: Path, j: usize) -> Path
-    requires { ⌜ ReadySetting s × ((j ≤ s .levels) × InsideTo s j (at (p .place))) ⌝ }
+    requires { ⌜ ReadyTied s × ((j ≤ s .levels) × InsideTo s j (at (p .place))) ⌝ }
     ensures { λ r. ⌜ Dived s j p r ⌝ }
 {
     let n = s.levels;
@@ -82,7 +90,23 @@ pub fn dive(s: Setting, p: Path, j: usize) -> Path
     let mut k = j;
     while k < n {
         let i = s.level[k];
-        let v = start_of(s.cols, e, i);
+        let live = s.cols.live;
+        let m = s.cols.count;
+        let b = s.cols.capacity;
+        let v = start_of(
+            &s.cols.weight,
+            &s.cols.price,
+            &s.cols.order,
+            &s.cols.rank,
+            &s.cols.size,
+            &s.cols.rate,
+            &e.lo,
+            &e.hi,
+            live,
+            m,
+            b,
+            i,
+        );
         e.lo[i] = v;
         e.hi[i] = v;
         x[k] = v;
@@ -95,25 +119,34 @@ pub fn dive(s: Setting, p: Path, j: usize) -> Path
     }
 }
 
-// Whether a filling that stops at an item of that weight and price promises no value above b, or the items can make none whatever it
-// promises: cut by relaxation, and by lattice, see proofs/Cuts (sparse-most).
-pub fn hopeless(l: Lattice, f: Fill, size: i64, rate: i64, b: Mixed) -> bool
-    requires { ⌜ HopelessInRange l f size rate b ⌝ }
-    ensures { λ r. ⌜ r ≡ hopelessBy l f size rate b ⌝ }
+// The value that a box of n items has to exceed, of the point y over d whose whole value is w: one less where the box's lower corner comes before y,
+// and so a point worth as much may.
+pub fn threshold<'a>(lo: &'a [i64; 16], y: &'a [i64; 16], n: usize, d: u64, w: i64) -> i64
+    requires { ⌜ (n ≤ 16) × ((d ≤ 1000) × (((k : ℕ) → Within farthest (at (now lo) k)) × Within 201000000000000000 w)) ⌝ }
+    ensures { λ r. ⌜ r ≡ thresholdAt (now (lo .entry)) (now (y .entry)) n d w ⌝ }
 {
-    let v = share(f, magnitude(size), magnitude(rate));
-    if less(b, v) {
-        let p = Slope {
-            worth: f.worth,
-            rate: rate,
-            size: size,
-        };
-        return barren(l, p, f.room, b.whole);
+    if is_corner_sooner(lo, y, n, d) {
+        w - 1
+    } else {
+        w
     }
-    true
 }
 
-// Whether the box e holds nothing better than the incumbent: see proofs/Settle (cut-settles). The columns are large, and a struct is
+// Whether no value above w is found on the lattice, by a filling that stops at an item of that weight and price: cut by lattice, see
+// proofs/Cuts (sparse-most).
+pub fn sparse(l: Lattice, f: Fill, size: i64, rate: i64, w: i64) -> bool
+    requires { ⌜ SparseInRange l f size rate w ⌝ }
+    ensures { λ r. ⌜ r ≡ barrenBy l (record { worth = f .worth; rate = rate; size = size }) (f .room) w ⌝ }
+{
+    let p = Slope {
+        worth: f.worth,
+        rate: rate,
+        size: size,
+    };
+    barren(l, p, f.room, w)
+}
+
+// Whether the box e holds nothing ahead of the incumbent: see proofs/Settle (cut-settles). The columns are large, and a struct is
 // copied at a call: so the critical item is read here.
 pub fn cut(c: Columns, l: Lattice, e: Ends, best: Incumbent) -> bool
     requires { ⌜ BoxInRange c e best × Tame l ⌝ }
@@ -124,25 +157,39 @@ pub fn cut(c: Columns, l: Lattice, e: Ends, best: Incumbent) -> bool
         return true;
     }
     if best.found {
-        let b = best.value;
-        let u = f.at;
-        let n = c.live;
-        if u < n {
-            let s = c.size[u];
-            let p = c.rate[u];
-            return hopeless(l, f, s, p, b);
+        if is_ahead(c, e, f, best) {
+            let b = best.value;
+            let u = f.at;
+            let n = c.live;
+            if u < n {
+                let s = c.size[u];
+                let p = c.rate[u];
+                let w = threshold(&e.lo, &best.point, c.count, b.parts, b.whole);
+                return sparse(l, f, s, p, w);
+            }
+            return false;
         }
-        let v = Mixed {
-            whole: f.worth,
-            part: 0,
-            parts: 1,
-        };
-        return !less(b, v);
+        return true;
     }
     false
 }
 
-// The better of the incumbent and the place x, whose levels are all fixed in e: see proofs/Settle (tried-settles).
+// The filling of e, a place with all levels fixed at x, as an incumbent.
+fn filled(c: Columns, e: Ends, f: Fill, x: [i64; 16]) -> Incumbent
+    requires { ⌜ Sized c e × (f ≡ fill c e) ⌝ }
+    ensures { λ r. ⌜ r ≡ filledBy c e x ⌝ }
+{
+    let v = bound_of(c, f);
+    let y = amounts_over(c, e, f, v.parts);
+    Incumbent {
+        found: true,
+        place: x,
+        point: y,
+        value: v,
+    }
+}
+
+// The one that is ahead of the incumbent and the filling at the place x, whose levels are all fixed in e: see proofs/Settle (tried-settles).
 pub fn tried(c: Columns, e: Ends, x: [i64; 16], best: Incumbent) -> Comparison
     requires { ⌜ BoxInRange c e best ⌝ }
     ensures { λ r. ⌜ Tries c e x best r ⌝ }
@@ -154,24 +201,15 @@ pub fn tried(c: Columns, e: Ends, x: [i64; 16], best: Incumbent) -> Comparison
             better: false,
         };
     }
-    let v = bound_of(c, f);
-    if best.found {
-        let b = best.value;
-        if !less(b, v) {
-            return Comparison {
-                best: best,
-                better: false,
-            };
-        }
+    if is_better(c, e, f, best) {
+        return Comparison {
+            best: filled(c, e, f, x),
+            better: true,
+        };
     }
-    let y = Incumbent {
-        found: true,
-        place: x,
-        value: v,
-    };
     Comparison {
-        best: y,
-        better: true,
+        best: best,
+        better: false,
     }
 }
 
@@ -291,6 +329,7 @@ pub fn no_incumbent() -> Incumbent
     Incumbent {
         found: false,
         place: [0; 16],
+        point: [0; 16],
         value: Mixed {
             whole: 0,
             part: 0,
@@ -378,7 +417,7 @@ pub fn step(s: Setting, p: Pairs, q: State) -> State
 
 // The search at its first place: every level at its start.
 pub fn start(s: Setting) -> State
-    requires { ⌜ ReadySetting s ⌝ }
+    requires { ⌜ ReadyTied s ⌝ }
     ensures { λ r. ⌜ Begun s r ⌝ }
 {
     let zero = Path {
@@ -388,6 +427,60 @@ pub fn start(s: Setting) -> State
     State {
         path: dive(s, zero, 0),
         best: no_incumbent(),
+        steps: 0,
+        from: 0,
+        done: false,
+    }
+}
+
+// The path at the place x: each level's start along it.
+pub fn along(s: Setting, x: [i64; 16]) -> Path
+    requires { ⌜ ReadyTied s × Inside s (at x) ⌝ }
+    ensures { λ r. ⌜ Along s x r ⌝ }
+{
+    let n = s.levels;
+    let mut y: [i64; 16] = [0; 16];
+    let mut e = s.ends;
+    let mut k: usize = 0;
+    while k < n {
+        let i = s.level[k];
+        let live = s.cols.live;
+        let m = s.cols.count;
+        let b = s.cols.capacity;
+        let v = start_of(
+            &s.cols.weight,
+            &s.cols.price,
+            &s.cols.order,
+            &s.cols.rank,
+            &s.cols.size,
+            &s.cols.rate,
+            &e.lo,
+            &e.hi,
+            live,
+            m,
+            b,
+            i,
+        );
+        let a = x[k];
+        e.lo[i] = a;
+        e.hi[i] = a;
+        y[k] = v;
+        k += 1;
+    }
+    Path {
+        place: x,
+        starts: y,
+    }
+}
+
+// The search at a place x with the incumbent `held`: so it is resumed from these alone, see proofs/Resume (resumed-once).
+pub fn resumed(s: Setting, x: [i64; 16], held: Incumbent) -> State
+    requires { ⌜ ReadyTied s × Inside s (at x) ⌝ }
+    ensures { λ r. ⌜ Resumed s x held r ⌝ }
+{
+    State {
+        path: along(s, x),
+        best: held,
         steps: 0,
         from: 0,
         done: false,
@@ -411,10 +504,10 @@ pub fn run_for(s: Setting, p: Pairs, q: State, n: u64) -> State
     t
 }
 
-// The search from its first place on, for at most so many steps. At its end: the best place of the box, or that there is none. Before that the
-// incumbent is the best of the places tried.
+// The search from its first place on, for at most so many steps. At its end: the best point of the box that comes first, or that there is none. Before
+// that the incumbent is the one that is ahead of all tried.
 pub fn run(s: Setting, p: Pairs, most: u64) -> State
-    requires { ⌜ Ready s p ⌝ }
+    requires { ⌜ ReadySearch s p ⌝ }
     ensures { λ r. ⌜ Searches s p most r ⌝ }
 {
     let q = start(s);

@@ -27,7 +27,7 @@ ghost use mathlib.Core.Path.{_≡_};
 ghost use Prim.Native.Nat.{suc, _+_, _≤_, _<_};
 ghost use Rattle.model.specs.Records.{emptyModel};
 ghost use Rattle.model.specs.Records.{itemAt, barred, Numbers};
-ghost use Rattle.model.specs.Setters.{withItem, withBound, withNeed};
+ghost use Rattle.model.specs.Setters.{withItem, withNeed};
 ghost use Rattle.lines.specs.Numbers.{only};
 ghost use Rattle.lines.specs.Lines.{countAt};
 ghost use Rattle.sheet.specs.Sections.{goesOn, stoppedBy, refusedAt, taken, stepOf, linesOf};
@@ -201,47 +201,29 @@ fn items_section(s: &[u8], blanks: Blanks, p: Progress) -> Progress
 
 // ---- lower n and upper n, and n lines
 
-// The next item's bound.
-fn bound_taken(p: Progress, side: Side, b: Bound, next: usize) -> Progress
-    requires { ⌜ p .item < 16 ⌝ }
-    ensures { λ r. ⌜ r ≡ goesOn (withBound (p .model) side (p .item) b) next (suc (p .item)) ⌝ }
+// The lines, from the record m at the place `from`. A record is large, and copied at a call: so the items are set here.
+fn bound_lines(s: &[u8], side: Side, n: usize, m: Model, from: usize) -> Progress
+    requires { ⌜ n ≤ 16 ⌝ }
+    ensures { λ r. ⌜ r ≡ linesOf (boundForm side) n (now (s .entry)) (goesOn m from 0) ⌝ }
 {
-    let m = p.model;
-    let k = p.item;
-    goes_on(setters::with_bound(m, side, k, b), next, k + 1)
-}
-
-// One line of a bound.
-fn bound_step(s: &[u8], side: Side, p: Progress) -> Progress
-    requires { ⌜ p .item < 16 ⌝ }
-    ensures { λ r. ⌜ r ≡ stepOf (boundForm side) (now (s .entry)) p ⌝ }
-{
-    let verdict = p.verdict;
-    match verdict {
-        Verdict::Refused(_) => p,
-        Verdict::Accepted => {
-            let at = p.at;
-            let k = p.item;
-            let r = lines::bound_at(s, at, k + 1);
-            match r {
-                BoundRead::Fault(n) => refused(s, n, at),
-                BoundRead::Read(b, next) => bound_taken(p, side, b, next),
-            }
-        }
-    }
-}
-
-fn bound_lines(s: &[u8], side: Side, n: usize, p: Progress) -> Progress
-    requires { ⌜ p .item + n ≤ 16 ⌝ }
-    ensures { λ r. ⌜ r ≡ linesOf (boundForm side) n (now (s .entry)) p ⌝ }
-{
-    let mut r = p;
+    let mut to = m;
+    let mut at = from;
     let mut k: usize = 0;
     while k < n {
-        r = bound_step(s, side, r);
+        let r = lines::bound_at(s, at, k + 1);
+        match r {
+            BoundRead::Fault(f) => {
+                return refused(s, f, at);
+            }
+            BoundRead::Read(b, next) => {
+                let item = to.items[k];
+                to.items[k] = setters::with_side(item, side, b);
+                at = next;
+            }
+        }
         k += 1;
     }
-    r
+    goes_on(to, at, k)
 }
 
 // The heading of a section of bounds, over n items.
@@ -270,7 +252,7 @@ fn bounds_section(s: &[u8], side: Side, p: Progress) -> Progress
             let c = bounds_heading(s, side, at, q.count);
             match c {
                 Count::Fault(n) => refused(s, n, at),
-                Count::Lines(m, next) => bound_lines(s, side, m, goes_on(q, next, 0)),
+                Count::Lines(m, next) => bound_lines(s, side, m, q, next),
             }
         }
     }

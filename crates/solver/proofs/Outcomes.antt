@@ -1,39 +1,38 @@
 -- Why each answer of the solver is true: of a problem in range, and what its preparation, its rays and its search say.
 -- infeasible-corner: even the light ends do not fit.
 -- unbounded-corner: they fit, and there is a ray. corner-work: what that takes.
--- optimal-found: there is no ray, and the search found a place.
--- must-find: a search finds a place where there is a feasible point, as the light ends are if they fit (corner-feasible-at).
-use mathlib.Core.Path.{_≡_, refl, sym, ap, ap₂, _∙_, subst, subst₂}
+-- optimal-found: there is no ray, and a best place was found.
+-- must-find: one is found where there is a feasible point, as the light ends are if they fit (corner-feasible-at).
+use mathlib.Core.Path.{_≡_, refl, sym, ap, ap₂, _∙_, subst}
 use mathlib.Core.Bool.{Bool, true, false, cond}
 use mathlib.Core.List.{List}
-use mathlib.Core.Logic.{_≢_, _⊎_, inl, inr}
+use mathlib.Core.Logic.{_⊎_, inl, inr}
 use Prim.Native.Nat.{ℕ, _*_, _≤_, _<_, max}
 use native.Mathlib.Omega.{arith}
 use lib.Dec.{ltb, eqb}
 use lib.IntN.{ℤ, pos, natAbs, _+ℤ_, _-ℤ_, _*ℤ_}
 use lib.Signed.{_≤ℤ_, _<ℤ_, ltZ}
-use borrow.Author.Tests.{lt-ltb, le-ltb, ltb-true, eqb-true}
+use borrow.Author.Tests.{le-ltb}
 use Rattle.arith.specs.Limits.{farthest}
-use Rattle.arith.specs.Within.{Within}
 use Rattle.arith.specs.declared.Fraction.{Fraction}
-use Rattle.arith.specs.declared.Mixed.{Mixed}
 use Rattle.arith.proofs.Divisors.{lowest-den, lowest-coprime}
 use Rattle.arith.proofs.Fractions.{over-total, over-≈}
 use Rattle.arith.proofs.Integers.{split, split2, zed, diff-≤ℤ}
 use Rattle.arith.proofs.Mixes.{over}
-use Rattle.arith.proofs.Parts.{within-mul, within-abs, abs-within, lt-le}
+use Rattle.arith.proofs.Parts.{lt-le}
 use Rattle.arith.proofs.Sums.{sum-cong}
 use Rattle.arith.proofs.Words.{lt-yes, le-no}
 use Rattle.ceiling.specs.Frames.{Levelled}
 use Rattle.greedy.specs.Amounts.{divisorIn, amountOf}
+use Rattle.greedy.specs.Ordered.{weightAt}
 use Rattle.greedy.proofs.Owning.{fill-over}
-use Rattle.greedy.specs.Fill.{numerator, at, weightOf, priceOf, itemOf, rankOf, lightest, lightOf, cornerWeight, begun, bound, unit, stand, solution}
+use Rattle.greedy.specs.Fill.{numerator, at, weightOf, priceOf, rankOf, lightest, lightOf, cornerWeight, begun, unit, solution}
 use Rattle.greedy.specs.declared.Columns.{Columns}
 use Rattle.greedy.specs.declared.Ends.{Ends}
 use Rattle.greedy.specs.declared.Fill.{Fill}
-use Rattle.greedy.specs.Ordered.{Ordered}
+use Rattle.foremost.specs.Order.{TiedOf}
 use Rattle.knapsack.specs.Ranges.{itemAt, InRange}
-use Rattle.knapsack.specs.Meaning.{Instance, instanceOf, amountAt, pointOf, weights, prices, Infeasible, ownDivisor, Shown, bare, Answers}
+use Rattle.knapsack.specs.Meaning.{Instance, instanceOf, amountAt, pointOf, weights, prices, Infeasible, ownDivisor, Shown, ShownOptimal, bare, Answers}
 use Rattle.knapsack.specs.declared.Answer.{Answer}
 use Rattle.knapsack.specs.declared.Item.{Item}
 use Rattle.knapsack.specs.declared.Kind.{Kind}
@@ -41,6 +40,7 @@ use Rattle.knapsack.specs.declared.Refusal.{Refusal}
 use Rattle.knapsack.specs.declared.Kind.the-variants as kind
 use Rattle.knapsack.specs.declared.Problem.{Problem}
 use Rattle.knapsack.proofs.Bridge.{Reads, bridge-optimal}
+use Rattle.knapsack.proofs.Reach.{NoRay}
 use Rattle.knapsack.proofs.Common.{weighsᴰ, valueᴰ, Feasibleᴰ, Optimalᴰ}
 use Rattle.model.proofs.Showing.{own-some, over-lowest}
 use Rattle.prepare.specs.Narrowing.{spanOf}
@@ -50,10 +50,8 @@ use Rattle.prepare.proofs.Nearer.{near-optimal, near-empty}
 use Rattle.rays.specs.declared.RayReply.{RayReply}
 use Rattle.rays.specs.Rays.{RayFound}
 use Rattle.rays.proofs.Corner.{LightCorner, ranges-of, corner-feasible, corner-infeasible, corner-shown, corner-unbounded}
-use Rattle.search.specs.declared.Incumbent.{Incumbent}
 use Rattle.setting.specs.declared.Setting.{Setting}
-use Rattle.search.specs.Searched.{Searched}
-use Rattle.solver.specs.Outcomes.{unfilled, Cornered, boxAt, fillAt, valueAt, Best, CountsAs, Counts, CellsAs, Cells}
+use Rattle.solver.specs.Outcomes.{unfilled, Cornered, boxAt, fillAt, valueAt, Best, BestIn, CountsAs, Counts, CellsAs, Cells}
 use Rattle.firsts.proofs.Shown.{level-fixed}
 use Rattle.placed.proofs.Amounts.{ColumnsOf, near-zero, setting-marks, own-is, filling-shown}
 
@@ -81,6 +79,11 @@ light-flat a c l u h = rw h (go (ltZ (pos 0) c))
     go : (b : Bool) → (cond b u l ≡ l) ⊎ (cond b u l ≡ u)
     go true = inr refl
     go false = inl refl
+
+-- columns of an instance, whatever list tells the levels of s; each live rank has its item's size
+pub record OwnColumns (i : Instance) (s : Setting) (c : Columns) : Type 0 where
+  pub of : (w : List Bool) → Levelled (s .level) (s .levels) w → ColumnsOf i c w
+  pub sizes : (u : ℕ) → u < c .live → at (c .size) u ≡ pos (natAbs (weightAt c u))
 
 -- the columns of a prepared setting are those of its problem
 setting-columns : {R : ℕ → ℕ} (p : Problem) (s : Setting) → PreparedAt R p s → (w : List Bool) → Levelled (s .level) (s .levels) w
@@ -209,63 +212,86 @@ module _ (p : Problem) (range : InRange p) (s : Setting) (q : PreparedAt (spanOf
 
   -- ---- a search finds a place, if there is a feasible point
 
-  pub must-find : (N : ℕ → ℤ) → Feasibleᴰ J 1 N → (r : RayReply) (b : Incumbent) → RayFound p r → r .found ≡ false → Searched s b → b .found ≡ true
-  must-find N feasible r b ray n g = go (b .found) refl
+  pub must-find : NoRay J → (N : ℕ → ℤ) → Feasibleᴰ J 1 N → (c : Columns) (f : Bool) (x : List ℤ) → BestIn s c f x → f ≡ true
+  must-find none N feasible c f x g = go f refl
     where
-      go : (t : Bool) → b .found ≡ t → b .found ≡ true
+      go : (t : Bool) → f ≡ t → f ≡ true
       go true e = e
-      go false e = absurd (near-empty p range (ray .none n) (box-empty p s q (g .empty e (λ k. itemAt p k .mark) (q .marked))) 1 N (omega arith) feasible)
+      go false e = absurd (near-empty p range none (box-empty p s q (g .empty e (λ k. itemAt p k .mark) (q .marked))) 1 N (omega arith) feasible)
+
+  -- the setting's own columns
+  pub columns-of : OwnColumns J s d
+  columns-of = record { of = setting-columns p s q; sizes = q .ready .ordered .sizes }
+
+  -- and tied ones
+  pub tied-columns : (c : Columns) → TiedOf d c → OwnColumns J s c
+  tied-columns c t = record {
+    of = λ w lw. let o = setting-columns p s q w lw in record {
+      count = t .count ∙ q .count;
+      own-weight = λ k l. ap (λ z. at z k) (t .weight) ∙ q .weights k l;
+      item-rank = t .tied .item-rank;
+      whole = o .whole;
+      loose = o .loose;
+    };
+    sizes = t .tied .sizes;
+  }
 
   -- ---- a search that found a place
 
-  module _ (b : Incumbent) (g : Searched s b) (y : b .found ≡ true) where
+  module _ (c : Columns) (o : OwnColumns J s c) (b : Bool) (x : List ℤ) (g : BestIn s c b x) (y : b ≡ true) where
     abbrev e : Ends
-    e = boxAt s (b .place)
+    e = boxAt s x
 
     abbrev f : Fill
-    f = fillAt s (b .place)
+    f = fillAt s c x
 
     abbrev D : ℕ
-    D = valueAt s (b .place) .parts
+    D = valueAt s c x .parts
 
     abbrev N : ℕ → ℤ
-    N = solution (s .cols) e f
+    N = solution c e f
 
     D≥1 : 1 ≤ D
-    D≥1 = subst (λ (v : Mixed). 1 ≤ v .parts) (g .parts-are y) (omega (arith, g .proper y .low))
+    D≥1 = omega (arith, g .proper y .low)
 
     best-box : Optimalᴰ (box p s q) D N
-    best-box = subst (λ (v : Mixed). Optimalᴰ (box p s q) (v .parts) N) (g .parts-are y) (g .optimal y (λ k. itemAt p k .mark) (q .marked))
+    best-box = g .optimal y (λ k. itemAt p k .mark) (q .marked)
 
-    best-value : valueᴰ J N ≡ over (valueAt s (b .place))
-    best-value = sym (box-is-shut p s q D N .1) ∙ g .value-is y (λ k. itemAt p k .mark) (q .marked) ∙ ap over (g .parts-are y)
+    best-value : valueᴰ J N ≡ over (valueAt s c x)
+    best-value = sym (box-is-shut p s q D N .1) ∙ g .value-is y (λ k. itemAt p k .mark) (q .marked)
 
     amount-small : (k : ℕ) → k < p .count → natAbs (N k) ≤ farthest * D
     amount-small k l = near-zero (at (s .ends .lo) k) (at (s .ends .hi) k) (N k) D (q .ready .sized .ends .lo-in k) (q .ready .sized .ends .hi-in k)
         (best-box .feasible .keeps k (in-near k l) .above) (best-box .feasible .keeps k (in-near k l) .below)
 
-    module _ (a : Answer) (h : Best s (b .place) a) where
+    module _ (a : Answer) (h : Best s c x a) where
       abbrev w : List Bool
       w = h .point-is .whole
 
-      shows : (k : ℕ) → k < p .count → amountAt a k ≡ amountOf d e f (divisorIn d w k) k
-      shows k l = h .point-is .amounts .counted k (in-near k l)
+      own : ColumnsOf J c w
+      own = o .of w (h .point-is .levelled)
+
+      in-own : (k : ℕ) → k < p .count → k < c .count
+      in-own k l = omega (arith, own .count)
+
+      shows : (k : ℕ) → k < p .count → amountAt a k ≡ amountOf c e f (divisorIn c w k) k
+      shows k l = h .point-is .amounts .counted k (in-own k l)
 
       reads : Reads J D (pointOf a) N
-      reads k l = rw (shows k l) (fill-over d e w (q .ready .ordered .item-rank) (q .ready .ordered .sizes) D≥1
-          (λ j i. level-fixed s (q .ready) (h .long) (at (b .place)) w (h .point-is .levelled) j) (g .roomy y (λ j. itemAt p j .mark) (q .marked)) k (in-near k l))
+      reads k l = rw (shows k l) (fill-over c e w (own .item-rank) (o .sizes) D≥1
+          (λ j i. level-fixed s (q .ready) (h .long) (at x) w (h .point-is .levelled) j) (g .roomy y) k (in-own k l))
 
       shown : Shown J (amountAt a)
-      shown = filling-shown J d w (setting-columns p s q w (h .point-is .levelled)) e f D D≥1 N amount-small (amountAt a) shows
-          (λ k l. h .point-is .amounts .beyond k (omega (arith, q .count))) reads
+      shown = filling-shown J c w own e f D D≥1 N amount-small (amountAt a) shows
+          (λ k l. h .point-is .amounts .beyond k (omega (arith, own .count))) reads
 
-      pub optimal-found : (r : RayReply) → RayFound p r → r .found ≡ false → Answers J a
-      optimal-found r ray n = rw (h .kind-is) (record {
-        optimal = bridge-optimal J D (pointOf a) N D≥1 reads (near-optimal p range (ray .none n) D N (box-optimal p s q D N best-box));
+      pub optimal-found : NoRay J → ShownOptimal J a
+      optimal-found none = record {
+        optimal = bridge-optimal J D (pointOf a) N D≥1 reads (near-optimal p range none D N (box-optimal p s q D N best-box));
         shown = shown;
-        exact = rw (h .value-is) (over-≈ (over-lowest (over (valueAt s (b .place))) D D≥1) (over-total D (p .count) (pointOf a) N reads (prices J)) D≥1
+        exact = rw (h .value-is) (over-≈ (over-lowest (over (valueAt s c x)) D D≥1) (over-total D (p .count) (pointOf a) N reads (prices J)) D≥1
             (sym best-value));
-        divisor = rw (h .value-is) (lowest-den (over (valueAt s (b .place))) D D≥1);
-        lowest = rw (h .value-is) (lowest-coprime (over (valueAt s (b .place))) D D≥1);
+        divisor = rw (h .value-is) (lowest-den (over (valueAt s c x)) D D≥1);
+        lowest = rw (h .value-is) (lowest-coprime (over (valueAt s c x)) D D≥1);
         still = h .steps-are;
-      })
+      }

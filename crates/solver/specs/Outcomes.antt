@@ -2,40 +2,52 @@
 --   Joinable v        the value v fits one number of parts
 --   unfilled          no rank is raised
 --   Cornered s d a    a shows the light ends of the box and the steps d, and no value
---   boxAt, fillAt, valueAt s x
---                     the box of the place x, its filling, and its value
---   Best s x a        a shows the relaxation of the place x and its value in lowest terms, and no steps
---   standing s f x    the incumbent that the place x is
+--   boxAt s x         the box of the place x;  fillAt, valueAt s c x: its filling with the columns c, and its value
+--   Best s c x a      a shows the relaxation of the place x and its value in lowest terms, and no steps
+--   TiedTo s r        the setting r is s with its columns tied
+--   BestIn s c f x    if f, the filling at the place x is an optimal point of the box, and worth its bound; else nothing in the box is feasible
+--   worthOf s f x     what the place x is worth, if f
+--   Standing s x      the place x is in the box, and has room
 --   mostWork          the most cells that the scales write for a problem: those of 680 runs
---   PlaceWrites s end first k
---                     k cells are written for the best place of a box, where its search has come to `end`: none if that is done; first tells whether the
---                     scales know it to come first
---   BestPlace s p n r r is the best place of the box, with the steps of a search that may take n
+--   WorkOf p s end k  k cells are written where the search of the box of s has come to `end`: none if that is done; else those of its best place, and of the
+--                     first point
+--   Answerable p s    s is p prepared, which has a feasible point and no ray
 --   Walked most p named n
 --                     n steps were taken by the search of p that may take `most` and discards by no pair with an item that is named
 --   Started p a n     a starts where every item of p is lightest, and no step was taken for it
 --   CountsAs most k p named a n, Counts most p named a n
 --                     n steps were taken for an answer a of that kind, for the answer a
 --   Scaled most p named k
---                     k cells are written for an optimum: those of its place, after the search, and those of the first point
+--                     k cells are written for an optimum, after its search
 --   CellsAs most k p named n, Cells most p named a n
 --                     n cells are written for an answer of that kind, for the answer a
+--   Answered most p named r
+--                     r is an optimal answer of p, with its steps and cells
 --   SolvesWithin most p r
---                     r is the answer of p, after at most so many steps;  Solves p r: at most 1,000
+--                     r is the answer of p, after at most so many steps;  Solves p r: at most 500
 use mathlib.Core.Path.{_≡_}
-use mathlib.Core.Bool.{Bool, true, false}
+use mathlib.Core.Bool.{Bool, true, false, cond}
 use mathlib.Core.List.{List}
 use Prim.Native.Nat.{ℕ, _+_, _≤_}
 use lib.IntN.{ℤ, pos, _*ℤ_}
 use lib.ListN.{replicate}
+use lib.Signed.{_≤ℤ_}
 use Rattle.arith.specs.Within.{Within}
 use Rattle.arith.specs.Gcd.{lowest}
 use Rattle.arith.specs.declared.Mixed.{Mixed}
 use Rattle.arith.proofs.Mixes.{over}
-use Rattle.firsts.specs.Leading.{OptimalAt, OwnAmounts}
+use Rattle.arith.specs.Mixed.{Proper}
+use Rattle.firsts.specs.Leading.{OwnAmounts}
+use Rattle.foremost.specs.Order.{TiedOf}
+use Rattle.greedy.specs.declared.Columns.{Columns}
 use Rattle.greedy.specs.declared.Ends.{Ends}
 use Rattle.greedy.specs.declared.Fill.{Fill}
-use Rattle.greedy.specs.Fill.{at, fill, bound}
+use Rattle.greedy.specs.Fill.{at, fill, bound, solution}
+use Rattle.greedy.proofs.Relaxed.{boxOf}
+use Rattle.knapsack.proofs.Common.{valueᴰ, Feasibleᴰ, Optimalᴰ}
+use Rattle.knapsack.proofs.Reach.{NoRay}
+use Rattle.knapsack.specs.Ranges.{InRange}
+use Rattle.knapsack.specs.declared.Mark.{Mark}
 use Rattle.knapsack.specs.Meaning.{nought, instanceOf, Answers, ShownFirst}
 use Rattle.knapsack.specs.declared.Answer.{Answer}
 use Rattle.knapsack.specs.declared.Kind.{Kind}
@@ -47,13 +59,12 @@ use Rattle.prepare.specs.Narrowing.{spanOf}
 use Rattle.prepare.specs.Prepared.{PreparedAt, Prepared}
 use Rattle.setting.specs.declared.Pairs.{Pairs}
 use Rattle.setting.specs.declared.Setting.{Setting}
-use Rattle.search.specs.declared.Incumbent.{Incumbent}
 use Rattle.search.specs.declared.State.{State}
-use Rattle.setting.specs.Box.{fixedBy, Long}
-use Rattle.search.specs.Searched.{Searched}
+use Rattle.setting.specs.Box.{fixedBy, Inside, Long}
+use Rattle.setting.specs.Ready.{Marked}
 use Rattle.search.specs.Steps.{Stops}
-use Rattle.settling.specs.Settling.{FirstPlace, SettleWrites}
-use Rattle.solver.specs.declared.Found.{Found}
+use Rattle.search.specs.Tying.{withCols}
+use Rattle.settling.specs.Settling.{SettleWrites}
 use Rattle.solver.specs.declared.Solved.{Solved}
 
 pub record Joinable (v : Mixed) : Type 0 where
@@ -75,55 +86,73 @@ pub record Cornered (s : Setting) (d : List ℤ) (a : Answer) : Type 0 where
 abbrev pub boxAt : Setting → List ℤ → Ends
 boxAt s x = fixedBy s (at x) (s .levels)
 
-abbrev pub fillAt : Setting → List ℤ → Fill
-fillAt s x = fill (s .cols) (boxAt s x)
+abbrev pub fillAt : Setting → Columns → List ℤ → Fill
+fillAt s c x = fill c (boxAt s x)
 
-abbrev pub valueAt : Setting → List ℤ → Mixed
-valueAt s x = bound (s .cols) (fillAt s x)
+abbrev pub valueAt : Setting → Columns → List ℤ → Mixed
+valueAt s c x = bound c (fillAt s c x)
 
-pub record Best (s : Setting) (x : List ℤ) (a : Answer) : Type 0 where
+pub record Best (s : Setting) (c : Columns) (x : List ℤ) (a : Answer) : Type 0 where
   pub kind-is : a .kind ≡ kind.Optimal
   pub long : Long (s .ends)
-  pub point-is : OwnAmounts s (s .cols) (boxAt s x) (fillAt s x) (a .point)
+  pub point-is : OwnAmounts s c (boxAt s x) (fillAt s c x) (a .point)
   pub steps-are : a .steps ≡ replicate 16 (pos 0)
-  pub value-is : a .value ≡ lowest (over (valueAt s x)) (valueAt s x .parts)
+  pub value-is : a .value ≡ lowest (over (valueAt s c x)) (valueAt s c x .parts)
 
 -- ---- the best place of a box
 
--- an incumbent at x
-abbrev pub standing : Setting → Bool → List ℤ → Incumbent
-standing s f x = record { found = f; place = x; value = valueAt s x }
+pub record TiedTo (s r : Setting) : Type 0 where
+  pub long : Long (s .ends)
+  pub same : r ≡ withCols s (r .cols)
+  pub tied : TiedOf (s .cols) (r .cols)
+
+pub record BestIn (s : Setting) (c : Columns) (f : Bool) (x : List ℤ) : Type 0 where
+  pub inside : f ≡ true → Inside s (at x)
+  pub roomy : f ≡ true → pos 0 ≤ℤ fillAt s c x .room
+  pub optimal : f ≡ true → (marks : ℕ → Mark) → Marked s marks
+      → Optimalᴰ (boxOf (s .cols) (s .ends) marks) (valueAt s c x .parts) (solution c (boxAt s x) (fillAt s c x))
+  pub value-is : f ≡ true → (marks : ℕ → Mark) → Marked s marks
+      → valueᴰ (boxOf (s .cols) (s .ends) marks) (solution c (boxAt s x) (fillAt s c x)) ≡ over (valueAt s c x)
+  pub proper : f ≡ true → Proper (valueAt s c x)
+  pub empty : f ≡ false → (marks : ℕ → Mark) → Marked s marks → (D : ℕ) (N : ℕ → ℤ) → 1 ≤ D → ¬ Feasibleᴰ (boxOf (s .cols) (s .ends) marks) D N
+
+abbrev pub worthOf : Setting → Bool → List ℤ → Mixed
+worthOf s f x = cond f (valueAt s (s .cols) x) (record { whole = pos 0; part = 0; parts = 1 })
+
+pub record Standing (s : Setting) (x : List ℤ) : Type 0 where
+  pub inside : Inside s (at x)
+  pub roomy : pos 0 ≤ℤ fillAt s (s .cols) x .room
 
 -- the cells of a best place, and those of the first point: 289 runs and 391 (proofs/Cells)
 abbrev pub mostWork : ℕ
 mostWork = 67570093800
 
 -- the scales go on from the search's incumbent
-pub data PlaceWrites (s : Setting) (end : State) : Bool → ℕ → Type 0 where
-  ended : end .done ≡ true → PlaceWrites s end false 0
-  stopped : (first : Bool) (k : ℕ) → end .done ≡ false
-      → SettleWrites (s .cols) (s .ends) (s .level) (s .levels) (end .best .found) (end .best .value) first k → PlaceWrites s end first k
+pub data WorkOf (p : Problem) (s : Setting) (end : State) : ℕ → Type 0 where
+  ended : end .done ≡ true → WorkOf p s end 0
+  stopped : (first : Bool) (k n : ℕ) → end .done ≡ false
+      → SettleWrites (s .cols) (s .ends) (s .level) (s .levels) (end .best .found) (worthOf s (end .best .found) (end .best .place)) first k
+      → ShownWrites p first n → WorkOf p s end (k + n)
 
--- the place is best in the box, or there is none; the steps are those of a search that may take n
-pub record BestPlace (s : Setting) (p : Pairs) (n : ℕ) (r : Found) : Type 0 where
-  pub searched : Searched s (standing s (r .found) (r .place))
-  pub at-place : r .found ≡ true → OptimalAt s (at (r .place))
-  pub first : r .first ≡ true → FirstPlace (s .cols) (s .ends) (s .level) (s .levels) 1 (at (r .place))
-  pub end : State
-  pub stops : Stops s p n end
-  pub steps-are : r .steps ≡ end .steps
-  pub writes : PlaceWrites s end (r .first) (r .cells)
+pub record Answerable (p : Problem) (s : Setting) : Type 0 where
+  pub range : InRange p
+  pub prepared : PreparedAt (spanOf p) p s
+  pub no-ray : NoRay (instanceOf p)
+  pub point : ℕ → ℤ
+  pub feasible : Feasibleᴰ (instanceOf p) 1 point
 
 -- ---- the answer of a problem, and the steps of its search
 
--- n steps were taken by a search of p's own setting, narrowed to its items' spans, that may take `most`
+-- n steps were taken by a search of p's own setting, narrowed to its items' spans and with its columns tied, that may take `most`
 pub record Walked (most : ℕ) (p : Problem) (named : List Bool) (n : ℕ) : Type 0 where
   pub setting : Setting
   pub prepared : PreparedAt (spanOf p) p setting
   pub pairs : Pairs
   pub pairs-are : PairsOf p named pairs
+  pub cols : Columns
+  pub tied : TiedOf (setting .cols) cols
   pub end : State
-  pub stops : Stops setting pairs most end
+  pub stops : Stops (withCols setting cols) pairs most end
   pub steps-are : n ≡ end .steps
 
 -- the start of a ray is one point of the problem: what needs come to from there hangs on it
@@ -147,12 +176,7 @@ Counts most p named a n = CountsAs most (a .kind) p named a n
 pub record Scaled (most : ℕ) (p : Problem) (named : List Bool) (k : ℕ) : Type 0 where
   pub steps : ℕ
   pub walked : Walked most p named steps
-  pub first : Bool
-  pub placing : ℕ
-  pub place-writes : PlaceWrites (walked .setting) (walked .end) first placing
-  pub showing : ℕ
-  pub show-writes : ShownWrites p first showing
-  pub cells-are : k ≡ placing + showing
+  pub writes : WorkOf p (walked .setting) (walked .end) k
 
 abbrev pub CellsAs : ℕ → Kind → Problem → List Bool → ℕ → Type 0
 CellsAs most kind.Optimal p named n = Scaled most p named n
@@ -169,5 +193,11 @@ pub record SolvesWithin (most : ℕ) (p : Problem) (r : Solved) : Type 0 where
   pub few-steps : r .steps ≤ most
   pub few-cells : r .cells ≤ mostWork
 
+pub record Answered (most : ℕ) (p : Problem) (named : List Bool) (r : Solved) : Type 0 where
+  pub kind-is : r .answer .kind ≡ kind.Optimal
+  pub solves : SolvesWithin most p r
+  pub walked : Walked most p named (r .steps)
+  pub scaled : Scaled most p named (r .cells)
+
 abbrev pub Solves : Problem → Solved → Type 0
-Solves p r = SolvesWithin 1000 p r
+Solves p r = SolvesWithin 500 p r

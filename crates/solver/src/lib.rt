@@ -4,6 +4,8 @@ use arith::Fraction;
 use arith::Mixed;
 use arith::reduce;
 use firsts::amounts_of;
+use foremost::tied;
+use greedy::Columns;
 use greedy::Fill;
 use greedy::begin;
 use greedy::bound_of;
@@ -12,13 +14,13 @@ use knapsack::Answer;
 use knapsack::Kind;
 use knapsack::Problem;
 use model::some_crosses;
+use placed::Placed;
 use placed::shown_first;
 use prepare::narrowed;
 use prepare::pairs_of;
 use prepare::prepare;
 use prepare::reach_of;
 use rays::find_ray;
-use search::Incumbent;
 use search::run;
 use setting::Pairs;
 use setting::Setting;
@@ -26,20 +28,24 @@ use setting::fixed;
 use settling::Settled;
 use settling::settle;
 ghost use mathlib.Core.Path.{_≡_};
+ghost use mathlib.Core.Bool.{true};
 ghost use Rattle.arith.proofs.Mixes.{over};
 ghost use Rattle.greedy.specs.Fill.{at};
+ghost use Rattle.greedy.specs.Sized.{SizedColumns};
 ghost use Rattle.knapsack.specs.Ranges.{InRange};
 ghost use Rattle.knapsack.specs.Meaning.{bare};
 ghost use Rattle.model.specs.Records.{FiguresInRange};
 ghost use Rattle.ceiling.specs.Sizes.{Spanned};
-ghost use Rattle.search.specs.Steps.{GoodBest};
-ghost use Rattle.setting.specs.Ready.{ReadySetting, Ready};
-ghost use Rattle.setting.specs.Box.{Inside};
+ghost use Rattle.placed.specs.Placed.{FirstShown};
+ghost use Rattle.prepare.specs.Pairs.{PairsOf};
+ghost use Rattle.setting.specs.Ready.{ReadySetting};
+ghost use Rattle.setting.specs.Box.{Inside, Long};
 ghost use Rattle.settling.specs.Settling.{Settles, SettleWrites};
-ghost use Rattle.solver.specs.Outcomes.{Joinable, Cornered, Best, BestPlace, Counts, Cells, SolvesWithin, Solves};
+ghost use Rattle.solver.specs.Outcomes.{Joinable, Cornered, Best, TiedTo, worthOf, Standing, Answerable, Answered};
+ghost use Rattle.solver.specs.Outcomes.{Counts, Cells, SolvesWithin, Solves};
 
 // How many steps a search may take before the scales answer. Nearly all searches end before; one that has not may take for ever.
-pub const STEPS: u64 = 1000;
+pub const STEPS: u64 = 500;
 
 // A value as one number of parts.
 fn joined(v: Mixed) -> i64
@@ -82,15 +88,15 @@ fn unbounded(s: Setting, steps: [i64; 16]) -> Answer
     }
 }
 
-// The answer of the place x of a search.
-fn optimal(s: Setting, x: [i64; 16]) -> Answer
-    requires { ⌜ ReadySetting s × Inside s (at x) ⌝ }
-    ensures { λ r. ⌜ Best s x r ⌝ }
+// The answer of the place x, by its filling in the order of filling of c.
+fn optimal(s: Setting, c: Columns, x: [i64; 16]) -> Answer
+    requires { ⌜ ReadySetting s × (SizedColumns c × Inside s (at x)) ⌝ }
+    ensures { λ r. ⌜ Best s c x r ⌝ }
 {
     let e = fixed(s, x, s.levels);
-    let f = fill_up(s.cols, e);
-    let v = bound_of(s.cols, f);
-    let y = amounts_of(s, s.cols, e, f);
+    let f = fill_up(c, e);
+    let v = bound_of(c, f);
+    let y = amounts_of(s, c, e, f);
     let n = joined(v);
     let value = reduce(n, v.parts);
     let point = y.point;
@@ -103,57 +109,67 @@ fn optimal(s: Setting, x: [i64; 16]) -> Answer
     }
 }
 
-// A place that is best, if the box holds one; whether it is known to come first where no continuous item can change; the steps of its search, and the
-// cells that the scales wrote.
-pub struct Found {
-    pub found: bool,
-    pub place: [i64; 16],
-    pub first: bool,
-    pub steps: u64,
-    pub cells: u64,
+// The setting with its columns in the order of filling that gives the first of the relaxed optima.
+fn with_tied(s: Setting) -> Setting
+    requires { ⌜ SizedColumns (s .cols) ⌝ }
+    ensures { λ r. ⌜ TiedTo s r ⌝ }
+{
+    let cols = tied(s.cols);
+    let ends = s.ends;
+    let level = s.level;
+    let low = s.low;
+    let high = s.high;
+    let lattice = s.lattice;
+    Setting {
+        cols: cols,
+        ends: ends,
+        level: level,
+        low: low,
+        high: high,
+        lattice: lattice,
+        levels: s.levels,
+    }
 }
 
-// What is left of a search whose incumbent is b, by scales. Their cells are lent from here, so that only a search that has not ended pays for them.
-fn settled(s: Setting, b: Incumbent) -> Settled
-    requires { ⌜ ReadySetting s × (Spanned (s .cols) (s .ends) × GoodBest s b) ⌝ }
+// What the place x is worth, if there is one.
+fn value_at(s: Setting, found: bool, x: [i64; 16]) -> Mixed
+    requires { ⌜ ReadySetting s × (found ≡ true → Standing s x) ⌝ }
+    ensures { λ r. ⌜ r ≡ worthOf s found x ⌝ }
+{
+    if found {
+        let e = fixed(s, x, s.levels);
+        let f = fill_up(s.cols, e);
+        return bound_of(s.cols, f);
+    }
+    Mixed {
+        whole: 0,
+        part: 0,
+        parts: 1,
+    }
+}
+
+// What is left of a search whose incumbent is at x, by scales. Their cells are lent from here, so that only a search that has not ended pays for them.
+fn settled(s: Setting, found: bool, x: [i64; 16]) -> Settled
+    requires { ⌜ ReadySetting s × (Spanned (s .cols) (s .ends) × (found ≡ true → Standing s x)) ⌝ }
     ensures { λ r. ⌜ Settles (s .cols) (s .ends) (s .level) (s .levels) r ⌝ }
-    ensures { λ r. ⌜ SettleWrites (s .cols) (s .ends) (s .level) (s .levels) (b .found) (b .value) (r .first) (r .written) ⌝ }
+    ensures { λ r. ⌜ SettleWrites (s .cols) (s .ends) (s .level) (s .levels) found (worthOf s found x) (r .first) (r .written) ⌝ }
 {
     let cols = s.cols;
     let ends = s.ends;
     let level = s.level;
-    let x = b.place;
-    let v = b.value;
+    let v = value_at(s, found, x);
     let mut cells = [0u64; 65535];
-    settle(cols, ends, level, s.levels, b.found, x, v, &mut cells)
+    settle(cols, ends, level, s.levels, found, x, v, &mut cells)
 }
 
-// The best place of the box: the search's, or where that has not ended after so many steps, the one that the scales find.
-fn best_place(s: Setting, p: Pairs, most: u64) -> Found
-    requires { ⌜ Ready s p × Spanned (s .cols) (s .ends) ⌝ }
-    ensures { λ r. ⌜ BestPlace s p most r ⌝ }
+// The answer of the place that the scales have found, with the point that comes first.
+fn by_scales(s: Setting, p: Problem, t: Settled) -> Placed
+    requires { ⌜ Answerable p s × (Long (s .ends) × Settles (s .cols) (s .ends) (s .level) (s .levels) t) ⌝ }
+    ensures { λ r. ⌜ FirstShown p (t .first) r ⌝ }
 {
-    let q = run(s, p, most);
-    let best = q.best;
-    if q.done {
-        let place = best.place;
-        return Found {
-            found: best.found,
-            place: place,
-            first: false,
-            steps: q.steps,
-            cells: 0,
-        };
-    }
-    let t = settled(s, best);
-    let place = t.place;
-    Found {
-        found: t.found,
-        place: place,
-        first: t.first,
-        steps: q.steps,
-        cells: t.written,
-    }
+    let x = t.place;
+    let a = optimal(s, s.cols, x);
+    shown_first(p, s, x, t.first, a)
 }
 
 // An answer, how many steps its search took, and how many cells the scales wrote.
@@ -171,6 +187,28 @@ fn with_work(a: Answer, steps: u64, cells: u64) -> Solved
         steps: steps,
         cells: cells,
     }
+}
+
+// The answer of a problem that has a best point. A search that has ended has found the one that comes first; where it has not ended after so many
+// steps, the scales find it.
+fn answered(s: Setting, p: Problem, named: [bool; 16], pairs: Pairs, most: u64) -> Solved
+    requires { ⌜ Answerable p s × PairsOf p named pairs ⌝ }
+    ensures { λ r. ⌜ Answered most p named r ⌝ }
+{
+    let t = with_tied(s);
+    let q = run(t, pairs, most);
+    let best = q.best;
+    let x = best.place;
+    if q.done {
+        let c = t.cols;
+        let a = optimal(s, c, x);
+        return with_work(a, q.steps, 0);
+    }
+    let b = settled(s, best.found, x);
+    let f = by_scales(s, p, b);
+    let a = f.answer;
+    let cells = b.written + f.cells;
+    with_work(a, q.steps, cells)
 }
 
 // The answer of a problem in range as it stands, by a search of at most so many steps. No search is needed where its lightest point is too heavy, or
@@ -195,13 +233,7 @@ fn decide(p: Problem, named: [bool; 16], most: u64) -> Solved
     }
     let near = narrowed(s, reach_of(p));
     let pairs = pairs_of(p, named);
-    let b = best_place(near, pairs, most);
-    let place = b.place;
-    let a = optimal(near, place);
-    let f = shown_first(p, near, place, b.first, a);
-    let first = f.answer;
-    let cells = b.cells + f.cells;
-    with_work(first, b.steps, cells)
+    answered(near, p, named, pairs, most)
 }
 
 // The answer of a problem whose figures are in range, by a search of at most so many steps. Where bounds cross it is infeasible, even if there is a
@@ -222,8 +254,8 @@ pub fn solve_within(p: Problem, named: [bool; 16], most: u64) -> Solved
 pub fn solve(p: Problem, named: [bool; 16]) -> Solved
     requires { ⌜ FiguresInRange p ⌝ }
     ensures { λ r. ⌜ Solves p r ⌝ }
-    ensures { λ r. ⌜ Counts 1000 p named (r .answer) (r .steps) ⌝ }
-    ensures { λ r. ⌜ Cells 1000 p named (r .answer) (r .cells) ⌝ }
+    ensures { λ r. ⌜ Counts 500 p named (r .answer) (r .steps) ⌝ }
+    ensures { λ r. ⌜ Cells 500 p named (r .answer) (r .cells) ⌝ }
 {
     solve_within(p, named, STEPS)
 }

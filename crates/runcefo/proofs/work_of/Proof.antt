@@ -19,8 +19,8 @@ use Rattle.runcefo.proofs.work_of.Statement.{statement}
 use Rattle.runcefo.proofs.work_of.Tie as tie
 
 -- the work of one reply is far below what a word holds
-few-steps : (sense : Sense) (m : Model) (r : Solved) → Admissible m → Solves sense m r → r .steps ≤ 131072000
-few-steps sense m r a h = omega (arith, h .answers .few-steps, mul-le-mul-right 1000 (cases-most (m .needs) (a .few-needs)))
+few-steps : (sense : Sense) (m : Model) (r : Solved) → Admissible m → Solves sense m r → r .steps ≤ 65536000
+few-steps sense m r a h = omega (arith, h .answers .few-steps, mul-le-mul-right 500 (cases-most (m .needs) (a .few-needs)))
 
 -- so is that of the other
 few-besides : (f : Solved → ℕ) (n : ℕ) (m : Model) (t : Bool) (k : ℕ) → ((r : Solved) → Solves Possible m r → f r ≤ n) → Besides f m t k → k ≤ n
@@ -46,7 +46,7 @@ both-steps c =
     let m = start t .args .r .model in
     let a = c .before .solved-in in
     let b = c .work-besides in
-    omega (arith, few-steps Sure m (a .result) (fair t) (a .ensures), few-besides (λ r. r .steps) 131072000 m (someRange m) (b .result .steps) (λ r. few-steps Possible m r (fair t)) (b .ensures .0))
+    omega (arith, few-steps Sure m (a .result) (fair t) (a .ensures), few-besides (λ r. r .steps) 65536000 m (someRange m) (b .result .steps) (λ r. few-steps Possible m r (fair t)) (b .ensures .0))
 
 both-cells : (c : tie.After-work-besides) → c .before .solved-in .result .cells + c .work-besides .result .cells ≤ 17713094669107200
 both-cells c =

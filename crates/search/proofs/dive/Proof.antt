@@ -3,10 +3,12 @@ use mathlib.Core.Path.{_≡_}
 use Prim.Native.Nat.{_-_, _<_}
 use native.Mathlib.Omega.{arith}
 use borrow.Author.Needs.{needs}
+use Rattle.arith.proofs.Parts.{within-back}
 use Rattle.arith.proofs.Words.{back}
+use Rattle.greedy.specs.Sized.{Sized}
 use Rattle.setting.specs.Box.{levelAt, Long}
 use Rattle.search.specs.Steps.{LongPath}
-use Rattle.setting.proofs.Boxes.{item<16}
+use Rattle.search.proofs.Boxes.{item<16}
 use Rattle.search.proofs.Dives.{Diving, startIn, diving-first, diving-sized, diving-step, diving-done}
 use Rattle.search.proofs.dive.Statement.{statement}
 use Rattle.search.proofs.dive.Tie as tie
@@ -33,7 +35,7 @@ abbrev Of : tie.At-loop Inv-loop μ-loop → tie.Start Inv-loop μ-loop
 Of l = start-of-ends (l .before .before .before)
 
 k<16 : (c : tie.In-loop Inv-loop μ-loop) → c .before .loop .k < 16
-k<16 c = omega (arith, c .loop-test .taken, Of (c .before) .pre .0 .few)
+k<16 c = omega (arith, c .loop-test .taken, Of (c .before) .pre .0 .ready .few)
 
 -- the level's item has a place
 item : (c : tie.In-loop Inv-loop μ-loop) → levelAt (Of (c .before) .args .t1) (c .before .loop .k) < 16
@@ -43,7 +45,7 @@ fixed-in-requires : tie.Need-fixed-in-requires Inv-loop μ-loop
 fixed-in-requires c κs =
     let s = start-of-ends (c .before) in
     let r = s .pre .0 in
-    (omega (arith, s .pre .1 .0, r .few), λ k h. item<16 (s .args .t1) r (long s) k (omega (arith, s .pre .1 .0)))
+    (omega (arith, s .pre .1 .0, r .ready .few), λ k h. item<16 (s .args .t1) r (long s) k (omega (arith, s .pre .1 .0)))
 
 loop-holds : tie.Need-loop-holds Inv-loop μ-loop
 loop-holds c = let s = start-of-ends (c .before .before) in diving-first (s .args .t1) (s .args .j) (s .args .p) (c .fixed-in .result) (s .pre .1 .0)
@@ -55,49 +57,58 @@ mul-i c = record { fits = omega (arith, k<16 c) }
 element-copy-out-i : tie.Need-element-copy-out-i Inv-loop μ-loop
 element-copy-out-i c = k<16 c
 
+-- where a turn began
+abbrev Lending : tie.After-start-of-arg8 Inv-loop μ-loop → tie.In-loop Inv-loop μ-loop
+Lending c = c .before .before .before .before .before .before .before .before .before .before .before .before
+
+abbrev Round : tie.After-start-of Inv-loop μ-loop → tie.In-loop Inv-loop μ-loop
+Round c = Lending (c .before)
+
+sized : (l : tie.At-loop Inv-loop μ-loop) → Sized (Of l .args .t1 .cols) (l .loop .e)
+sized l = let s = Of l in diving-sized (s .args .t1) (s .pre .0) (long s) (s .args .j) (s .args .p) _ (l .loop .e) (l .loop .k) (l .loop .inv)
+
 start-of-requires : tie.Need-start-of-requires Inv-loop μ-loop
 start-of-requires c κs =
-    let i = c .before .before in
-    let l = i .before in
-    let s = Of l in
-    (diving-sized (s .args .t1) (s .pre .0) (long s) (s .args .j) (s .args .p) _ (l .loop .e) (l .loop .k) (l .loop .inv), item i)
+    let i = Lending c in
+    let z = sized (i .before) in
+    (rw (within-back tt (z .columns .capacity-in)) z, item i)
 
 mul-v : tie.Need-mul-v Inv-loop μ-loop
-mul-v c = record { fits = omega (arith, item (c .before .before .before)) }
+mul-v c = record { fits = omega (arith, item (Round c)) }
 
 element-set-from-v : tie.Need-element-set-from-v Inv-loop μ-loop
-element-set-from-v c = item (c .before .before .before)
+element-set-from-v c = item (Round c)
 
 mul-v-2 : tie.Need-mul-v-2 Inv-loop μ-loop
-mul-v-2 c = record { fits = omega (arith, item (c .before .before .before)) }
+mul-v-2 c = record { fits = omega (arith, item (Round c)) }
 
 element-set-from-v-2 : tie.Need-element-set-from-v-2 Inv-loop μ-loop
-element-set-from-v-2 c = item (c .before .before .before)
+element-set-from-v-2 c = item (Round c)
 
 mul-x : tie.Need-mul-x Inv-loop μ-loop
-mul-x c = record { fits = omega (arith, k<16 (c .before .before .before)) }
+mul-x c = record { fits = omega (arith, k<16 (Round c)) }
 
 array-set-from-x : tie.Need-array-set-from-x Inv-loop μ-loop
-array-set-from-x c = k<16 (c .before .before .before)
+array-set-from-x c = k<16 (Round c)
 
 mul-y : tie.Need-mul-y Inv-loop μ-loop
-mul-y c = record { fits = omega (arith, k<16 (c .before .before .before)) }
+mul-y c = record { fits = omega (arith, k<16 (Round c)) }
 
 array-set-from-y : tie.Need-array-set-from-y Inv-loop μ-loop
-array-set-from-y c = k<16 (c .before .before .before)
+array-set-from-y c = k<16 (Round c)
 
 add-k : tie.Need-add-k Inv-loop μ-loop
-add-k c = record { fits = omega (arith, k<16 (c .before .before .before)) }
+add-k c = record { fits = omega (arith, k<16 (Round c)) }
 
 loop-less : tie.Need-loop-less Inv-loop μ-loop
 loop-less c = omega arith
 
 loop-again : tie.Need-loop-again Inv-loop μ-loop
 loop-again c =
-    let i = c .before .before .before in
+    let i = Round c in
     let l = i .before in
     let s = Of l in
-    let v : c .start-of .result ≡ startIn (s .args .t1) (l .loop .e) (l .loop .k) = c .start-of .ensures in
+    let v : c .start-of .result ≡ startIn (s .args .t1) (l .loop .e) (l .loop .k) = rw (within-back tt (sized l .columns .capacity-in)) at (c .start-of .ensures) in
     rw (back (c .start-of .result) (c .start-of .ok), v) (diving-step (s .args .t1) (s .pre .0) (long s) (s .args .j) (s .args .p) _ (l .loop .e) (l .loop .k)
     (i .loop-test .taken) (l .loop .inv))
 

@@ -29,14 +29,15 @@ abbrev μ-loop : tie.MeasureT-loop
 -- what the function was given
 module _ (s : tie.Start Inv-loop μ-loop) where
   item<16 : (d : ℕ) → d < s .args .t1 .levels → levelAt (s .args .t1) d < 16
-  item<16 d l = omega (arith, s .pre .ready .setting .level-in d l, s .pre .ready .setting .sized .columns .few)
+  item<16 d l = omega (arith, s .pre .ready .setting .ready .level-in d l, s .pre .ready .setting .ready .sized .columns .few)
 
   amount-within : (d : ℕ) → d < s .args .t1 .levels → Within farthest (at (s .args .t3) d)
   amount-within d l =
       let r = s .pre .ready .setting in
       let i = s .pre .inside d l in
-      between (at (s .args .t1 .low) d) (at (s .args .t1 .high) d) (at (s .args .t3) d) (rw (r .low-is d l) (r .sized .ends .lo-in (levelAt (s .args .t1) d)))
-      (rw (r .high-is d l) (r .sized .ends .hi-in (levelAt (s .args .t1) d))) (i .0) (i .1)
+      between (at (s .args .t1 .low) d) (at (s .args .t1 .high) d) (at (s .args .t3) d)
+      (rw (r .ready .low-is d l) (r .ready .sized .ends .lo-in (levelAt (s .args .t1) d)))
+      (rw (r .ready .high-is d l) (r .ready .sized .ends .hi-in (levelAt (s .args .t1) d))) (i .0) (i .1)
 
   first-within : (k : ℕ) → Within 1000 (at (s .args .t2 .first) k)
   first-within k = abs-within _ (s .pre .ready .true-pairs .steps-in k .0)
@@ -63,10 +64,10 @@ module _ (c : tie.Then1 Inv-loop μ-loop) where
   j-in = omega (arith, c .before .loop-test .taken, c .if1 .taken)
 
   d<16 : c .before .before .loop .d < 16
-  d<16 = omega (arith, d-in, c .before .before .before .pre .ready .setting .few)
+  d<16 = omega (arith, d-in, c .before .before .before .pre .ready .setting .ready .few)
 
   j<16 : c .before .before .loop .j < 16
-  j<16 = omega (arith, j-in, c .before .before .before .pre .ready .setting .few)
+  j<16 = omega (arith, j-in, c .before .before .before .pre .ready .setting .ready .few)
 
   index<256 : pairIndex (levelAt (c .before .before .before .args .t1) (c .before .before .loop .d))
       (levelAt (c .before .before .before .args .t1) (c .before .before .loop .j)) < 256
@@ -248,12 +249,12 @@ loop-again c =
     more {P} j i h (no q) f g = f i (omega arith)
 
 add-d : tie.Need-add-d Inv-loop μ-loop
-add-d c = record { fits = omega (arith, c .before .loop-test .taken, c .before .before .before .pre .ready .setting .few) }
+add-d c = record { fits = omega (arith, c .before .loop-test .taken, c .before .before .before .pre .ready .setting .ready .few) }
 
 loop-less-2 : tie.Need-loop-less-2 Inv-loop μ-loop
 loop-less-2 c =
     let l = c .before .before in
-    omega (arith, l .loop .inv .1 .0, c .before .loop-test .taken, l .before .pre .ready .setting .few)
+    omega (arith, l .loop .inv .1 .0, c .before .loop-test .taken, l .before .pre .ready .setting .ready .few)
 
 -- a level whose pairs were all looked at
 loop-again-2 : tie.Need-loop-again-2 Inv-loop μ-loop

@@ -18,7 +18,7 @@ use Rattle.lattice.specs.Lattice.{latticeAt}
 use Rattle.search.specs.Steps.{cutAt, Passed}
 use Rattle.setting.specs.Box.{levelAt, spanned, fixedIn, fixedBy}
 use Rattle.search.specs.Search.{bySide, runBox, runEnds, cutBy, Applies}
-use Rattle.setting.proofs.Boxes.{item<16}
+use Rattle.search.proofs.Boxes.{item<16}
 use Rattle.search.proofs.Runs.{fixed-in-range, run-in-range}
 use Rattle.search.proofs.look.Statement.{statement}
 use Rattle.search.proofs.look.Tie as tie
@@ -64,7 +64,7 @@ abbrev in-loop-of-else2 : tie.Else2 Inv-loop μ-loop → tie.In-loop Inv-loop μ
 in-loop-of-else2 c = Round (after-by-side2 (c .before .before))
 
 d<16 : (c : tie.In-loop Inv-loop μ-loop) → c .before .loop .d < 16
-d<16 c = omega (arith, c .loop-test .taken, Of (c .before) .pre .ready .setting .few)
+d<16 c = omega (arith, c .loop-test .taken, Of (c .before) .pre .ready .setting .ready .few)
 
 first-paired-requires : tie.Need-first-paired-requires Inv-loop μ-loop
 first-paired-requires c κs =
@@ -93,7 +93,7 @@ fixed-in-requires : tie.Need-fixed-in-requires Inv-loop μ-loop
 fixed-in-requires c κs =
     let s = start (c .before .before) in
     let r = s .pre .ready .setting in
-    (omega (arith, s .pre .from-in, r .few), λ k h. item<16 (s .args .t1) r (s .pre .started .long) k (omega (arith, s .pre .from-in)))
+    (omega (arith, s .pre .from-in, r .ready .few), λ k h. item<16 (s .args .t1) r (s .pre .started .long) k (omega (arith, s .pre .from-in)))
 
 loop-holds : tie.Need-loop-holds Inv-loop μ-loop
 loop-holds c =
@@ -214,7 +214,7 @@ cut-requires c κs =
     rw (run-is b) (
       run-in-range (s .args .t1) (s .pre .ready .setting) (s .pre .started .long) (at (s .args .t .place)) (s .pre .started .inside)
           (at (s .args .t .starts) (l .loop .d)) (l .loop .d) (s .args .best) (i .loop-test .taken) (s .pre .proper),
-      s .pre .ready .setting .tame (l .loop .d) (d<16 i),
+      s .pre .ready .setting .ready .tame (l .loop .d) (d<16 i),
     )
 
 -- the levels above settle nothing

@@ -1,11 +1,11 @@
 -- `search::run` meets its contract: what holds at the first place holds where it stops.
-use mathlib.Core.Path.{_≡_, _∙_, ap}
+use mathlib.Core.Path.{_∙_}
 use Prim.Native.Nat.{_+_, _≤_}
 use native.Mathlib.Omega.{arith}
 use borrow.Author.Needs.{needs}
 use Rattle.setting.specs.Box.{Long}
 use Rattle.search.specs.Steps.{Underway}
-use Rattle.search.proofs.Finish.{underway-first, covered-first, underway-ran, covered-ran, ran-steps, searched}
+use Rattle.search.proofs.Finish.{underway-first, filled-first, covered-first, underway-ran, filled-ran, covered-ran, ran-steps, searched}
 use Rattle.search.proofs.run.Statement.{statement}
 use Rattle.search.proofs.run.Tie as tie
 
@@ -37,6 +37,8 @@ returns c =
         steps-are = ran-steps (s .args .s) (s .args .p) q (e .count) (c .run-for .result) fits (e .ran) ∙ omega (arith, b .start .ensures .no-steps);
       };
       good = u .good;
+      filled = filled-ran (s .args .s) (s .args .p) q (first b) (filled-first (s .args .s) (s .args .p) (s .pre) (long s) q (b .start .ensures)) (e .count)
+          (c .run-for .result) (e .ran);
       searched = searched (s .args .s) (s .args .p) (c .run-for .result) u (λ marks m. covered-ran (s .args .s) (s .args .p) q (first b) marks m
           (covered-first (s .args .s) (s .args .p) (s .pre) (long s) q (b .start .ensures) marks m) (e .count) (c .run-for .result) (e .ran));
     }

@@ -55,7 +55,7 @@ past-requires : tie.Need-past-requires
 past-requires c κs =
     let k = after-look-of-hi c in
     let s = k .before .before .before in
-    wider (k .look .result .settled) (s .args .s .levels) (s .pre .ready .setting .few) (settled-in k)
+    wider (k .look .result .settled) (s .args .s .levels) (s .pre .ready .setting .ready .few) (settled-in k)
 
 enum-known-o : tie.Need-enum-known-o
 enum-known-o c = search needs
@@ -96,7 +96,7 @@ move-to-requires c κs =
     omega (
       arith,
       moves c .level-in,
-      s .pre .ready .setting .few,
+      s .pre .ready .setting .ready .few,
     )
 
 -- the path that the dive goes on from
@@ -114,7 +114,7 @@ next-in : (f : tie.After-fresh) → Told f .before .o .given .0 .0 + 1 ≤ 16
 next-in f = let t = Told f in omega (
   arith,
   moves t .level-in,
-  start t .pre .ready .setting .few,
+  start t .pre .ready .setting .ready .few,
 )
 
 add-if1 : tie.Need-add-if1

@@ -25,14 +25,11 @@ refused-requires c κs = search needs
 enum-known-c-2 : tie.Need-enum-known-c-2
 enum-known-c-2 c = search needs
 
-goes-on-requires : tie.Need-goes-on-requires
-goes-on-requires c κs = search needs
-
 bound-lines-requires : tie.Need-bound-lines-requires
 bound-lines-requires c κs =
-    let k = c .before .before in
+    let k = c .before in
     let p = count-parts _ _ _ _ _ _ _ (sym (k .before .before .bounds-heading .ensures) ∙ k .c2 .given .1) in
-    rw (c .goes-on .ensures) (omega (arith, p .most))
+    omega (arith, p .most)
 
 returns : tie.Need-returns
 unfolding boundsSection sectionOf
@@ -48,10 +45,9 @@ returns-2 c =
 returns-3 : tie.Need-returns-3
 unfolding boundsSection sectionOf
 returns-3 c =
-    let g = c .before in
-    let k = g .before .before in
+    let k = c .before .before in
     let h = k .before .before in
-    rw (h .before .before .enum-told2 .given .1, sym (h .bounds-heading .ensures) ∙ k .c2 .given .1, ← g .goes-on .ensures) (c .bound-lines .ensures)
+    rw (h .before .before .enum-told2 .given .1, sym (h .bounds-heading .ensures) ∙ k .c2 .given .1) (c .bound-lines .ensures)
 
 pub bounds-section-spec : {M : Type 1} → statement M
 bounds-section-spec =
@@ -63,7 +59,6 @@ bounds-section-spec =
     enum-known-c
     refused-requires
     enum-known-c-2
-    goes-on-requires
     bound-lines-requires
     returns
     returns-2

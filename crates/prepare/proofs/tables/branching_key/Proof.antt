@@ -1,4 +1,4 @@
--- `prepare::tables::branching_key` meets its contract: the tests of the mark and of the weight, and the two numbers of the key.
+-- `prepare::tables::branching_key` meets its contract: the tests of the mark and of the weight, and the number of the key.
 use mathlib.Core.Path.{_≡_, sym, ap, _∙_}
 use mathlib.Core.Bool.{true, false}
 use native.Mathlib.Omega.{arith}
@@ -8,12 +8,12 @@ use lib.Dec.{eqb, lit<}
 use lib.IntN.{ℤ, pos, natAbs}
 use mir.Syntax.{w64}
 use mir.Val.{toZ, ofZ}
-use Rattle.arith.proofs.Parts.{within-more, within-back, within-sfits}
+use Rattle.arith.proofs.Parts.{within-back, within-sfits}
 use Rattle.arith.proofs.Integers.{split, zed}
 use Rattle.arith.proofs.Quotients.{bits-zero}
 use Rattle.arith.proofs.Words.{back}
 use Rattle.prepare.specs.Figures.{isInteger, reducedPrice}
-use Rattle.prepare.proofs.Ranges.{weight-within, counted-within, weighted-within}
+use Rattle.prepare.proofs.Ranges.{weight-within}
 use Rattle.prepare.proofs.tables.branching_key.Statement.{statement}
 use Rattle.prepare.proofs.tables.branching_key.Tie as tie
 
@@ -57,51 +57,20 @@ reduced-price-requires c κs =
     let s = start c in
     rw (within-back tt (s .pre .1 .price), within-back tt (s .pre .1 .weight)) (s .pre)
 
--- the two numbers of the key
+-- the number of the key
 price : (c : tie.After-reduced-price) → toZ w64 (ofZ w64 (c .reduced-price .result)) ≡ pos (natAbs (reducedPrice (S c .args .p) (S c .args .q) (S c .args .i)))
 price c =
     let s = S c in
     back (c .reduced-price .result) (c .reduced-price .ok)
     ∙ (rw (within-back tt (s .pre .1 .price), within-back tt (s .pre .1 .weight)) at (c .reduced-price .ensures))
 
-mul-key-item : tie.Need-mul-key-item
-mul-key-item c =
-    let s = S c in
-    rw (price c) (within-sfits (lit< tt) (counted-within (s .args .i) (s .pre .0) (s .args .p) (s .args .q) (s .pre .1)))
-
-absolute-requires : tie.Need-absolute-requires
-absolute-requires c κs =
-    let s = S c in
-    let w = weight-within (s .args .i) (s .pre .0) in
-    rw (within-back tt w) (within-more (omega arith) w)
-
-size : (c : tie.After-absolute) → toZ w64 (ofZ w64 (c .absolute .result)) ≡ pos (natAbs (S (c .before) .args .i .weight))
-size c =
-    let s = S (c .before) in
-    back (c .absolute .result) (c .absolute .ok) ∙ (rw (within-back tt (weight-within (s .args .i) (s .pre .0))) at (c .absolute .ensures))
-
-add-key-item : tie.Need-add-key-item
-add-key-item c =
-    let s = S (c .before) in
-    rw (price (c .before), within-back tt (counted-within (s .args .i) (s .pre .0) (s .args .p) (s .args .q) (s .pre .1)), size c)
-    (within-sfits (lit< tt) (weighted-within (s .args .i) (s .pre .0) (s .args .p) (s .args .q) (s .pre .1)))
-
 key-item-requires-2 : tie.Need-key-item-requires-2
 key-item-requires-2 c κs = search needs
 
 returns-2 : tie.Need-returns-2
 returns-2 c =
-    let b = c .before in
-    let e = b .before .before in
-    let s = S (b .before) in
-    let i = s .args .i in
-    rw (integer (e .before), weighs e)
-    (rw (
-      price (b .before),
-      within-back tt (counted-within i (s .pre .0) (s .args .p) (s .args .q) (s .pre .1)),
-      size b,
-      within-back tt (weighted-within i (s .pre .0) (s .args .p) (s .args .q) (s .pre .1)),
-    ) at (c .key-item2 .ensures))
+    let e = c .before .before in
+    rw (integer (e .before), weighs e) (rw (price (c .before)) at (c .key-item2 .ensures))
 
 key-item-requires-3 : tie.Need-key-item-requires-3
 key-item-requires-3 c κs = search needs
@@ -117,9 +86,6 @@ branching-key-spec =
     key-item-requires
     returns
     reduced-price-requires
-    mul-key-item
-    absolute-requires
-    add-key-item
     key-item-requires-2
     returns-2
     key-item-requires-3
