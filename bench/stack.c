@@ -79,7 +79,7 @@ static char *bounds(char *at) {
     return at;
 }
 
-/* Sixteen items with both bounds, prices near weights. If hard, all are integer and of like weight, so that the scales end the search; else every
+/* Sixteen items with both bounds, prices near weights, which are ranges: both replies are searched for. If hard, all are integer and of like weight, so that the scales end the search; else every
    third one is continuous. */
 static const char *crowd(char *text, int step, int hard) {
     char *at = text;
@@ -88,7 +88,7 @@ static const char *crowd(char *text, int step, int hard) {
     for (k = 0; k < 16; k++) {
         int like = 930 + (7 * k + step) % 21, weight = hard ? like : 97 + step * k;
         int price = hard ? 5 * like + 300 : 100 + step * k + k % 5;
-        at += sprintf(at, "%c %d %d\n", k % 3 == 2 && !hard ? 'L' : 'W', weight, price);
+        at += sprintf(at, "%c %d %d %d\n", k % 3 == 2 && !hard ? 'L' : 'W', weight - 1, weight, price);
     }
     at = bounds(at);
     sprintf(at, "needs 0\n");
@@ -103,7 +103,7 @@ static const char *needy(char *text, int step, int hard) {
     at += sprintf(at, "limit 1\n%d\nitems 16\n", hard ? 37601 : 9001);
     for (k = 0; k < 16; k++) {
         int like = 930 + (7 * k + step) % 21, weight = hard ? like : 97 + step * k;
-        at += sprintf(at, "W %d %d\n", weight, k < 8 ? 5 * weight + 300 : 0);
+        at += sprintf(at, "W %d %d %d\n", weight - 1, weight, k < 8 ? 5 * weight + 300 : 0);
     }
     at = bounds(at);
     at += sprintf(at, "needs 16\n");
@@ -115,10 +115,10 @@ static const char *needy(char *text, int step, int hard) {
 
 int main(void) {
     static const char *few[] = {
-        "limit 1\n20\nitems 2\nW 9 13\nL 3 2\nlower 2\n1 0\n2 0\nupper 2\n1 2\n2 5\nneeds 0\n",       /* optimal */
-        "limit 1\n-15\nitems 2\nW -9 -13\nL -1 -2\nlower 2\n1 0\n2 0\nupper 2\n1 1\n2 5\nneeds 0\n",  /* infeasible */
-        "limit 1\n0\nitems 2\nW 2 3\nW -3 -4\nlower 2\n1 0\n2 0\nupper 2\n1 none\n2 none\nneeds 0\n", /* unbounded */
-        "limit 1\n0\nitems 17\n",                                                                       /* refused */
+        "limit 1\n20\nitems 2\nW 9 9 13\nL 3 3 2\nlower 2\n1 0\n2 0\nupper 2\n1 2\n2 5\nneeds 0\n",        /* optimal */
+        "limit 1\n-15\nitems 2\nW -9 -9 -13\nL -1 -1 -2\nlower 2\n1 0\n2 0\nupper 2\n1 1\n2 5\nneeds 0\n", /* infeasible */
+        "limit 1\n0\nitems 2\nW 2 2 3\nW -3 -3 -4\nlower 2\n1 0\n2 0\nupper 2\n1 none\n2 none\nneeds 0\n", /* unbounded */
+        "limit 1\n0\nitems 17\n",                                                                          /* refused */
     };
     char text[4096];
     size_t most = 0, none = depth((struct call){'n', ""});

@@ -64,7 +64,7 @@ uint64_t charge_plan(const uint8_t *sheet, size_t length, uint8_t *out, size_t r
    CHARGE_ACCEPTED is told. Else no byte changes: the sheet's own refusal is told, then CHARGE_SHORT_BUFFER; *line gets its line, or 0. */
 uint64_t charge_write(const uint8_t *sheet, size_t length, uint8_t *out, size_t room, uint64_t *line);
 
-/* Reads a stored sheet and writes it without its blank items, of weight 0 and price 0, at the start of out: later items move down, and their numbers in
+/* Reads a stored sheet and writes it without its blank items, of weights and price 0, at the start of out: later items move down, and their numbers in
    all sections with them; *written gets the length, at most CHARGE_ROOM, and CHARGE_ACCEPTED is told. A sheet without blank items comes
    back as it is. Kind of reply and best value are those of the old sheet (`converted-gives` in crates/converter, proofs/Converted). Else no byte of out
    changes and *written gets 0: told is the sheet's own refusal, for which a blank item is no fault; then CHARGE_BLANK_ITEM, on the first item's line if no

@@ -1,21 +1,21 @@
 //! Our converter beside the independent one, on drawn sheets with blank items (paper 02, request 9).
 
 use crate::check::check;
-use crate::draw::{damaged_in_one, kind, long, needy, small, with_blanks, Kind, Rng};
+use crate::draw::{damaged_in_one, kind, long, needy, small, sheet_of, with_blanks, Kind, Rng};
 use crate::independent::{self, Blanks, Refusal};
 use crate::ours;
 use crate::problem::Problem;
 use crate::progress::Progress;
 
 const KINDS: [Kind; 8] = [
-    ("none blank", 100, |rng| whole(rng).sheet()),
-    ("some blank", 250, |rng| blanked(rng).sheet()),
-    ("harmless ones", 250, |rng| harmless(rng).sheet()),
-    ("one crosses", 100, |rng| crossing(rng).sheet()),
-    ("one is named", 100, |rng| named(rng).sheet()),
-    ("all blank", 50, |rng| all_blank(rng).sheet()),
+    ("none blank", 100, |rng| sheet_of(rng, whole)),
+    ("some blank", 250, |rng| sheet_of(rng, blanked)),
+    ("harmless ones", 250, |rng| sheet_of(rng, harmless)),
+    ("one crosses", 100, |rng| sheet_of(rng, crossing)),
+    ("one is named", 100, |rng| sheet_of(rng, named)),
+    ("all blank", 50, |rng| sheet_of(rng, all_blank)),
     ("damaged", 200, |rng| {
-        let sheet = blanked(rng).sheet();
+        let sheet = sheet_of(rng, blanked);
         damaged_in_one(rng, sheet)
     }),
     ("long", 20, long),
@@ -134,12 +134,12 @@ fn check_buffer(sheet: &[u8], expected: &Result<Vec<u8>, Refusal>, room: usize) 
     Ok(())
 }
 
-/// Our reply to the new sheet has the kind and the value of the old one, blank items included.
-fn check_reply(sheet: &[u8], text: &[u8]) -> Result<(), String> {
+/// Our replies to the new sheet have the kind and the value of the old one's, blank items included.
+fn check_replies(sheet: &[u8], text: &[u8]) -> Result<(), String> {
     let refused = |f: Refusal| format!("refused {} {}", f.number, f.line);
     let old = independent::read_by(sheet, Blanks::Kept).map_err(refused)?;
     let new = independent::read(text).map_err(refused)?;
-    check(Some(&new), independent::plan(&old), &ours::plan(text))
+    check(&new, independent::plan_both(&old), &ours::plan(text))
 }
 
 fn compare(sheet: &[u8], expected: &Result<Vec<u8>, Refusal>) -> Result<(), String> {
@@ -156,7 +156,7 @@ fn compare(sheet: &[u8], expected: &Result<Vec<u8>, Refusal>) -> Result<(), Stri
     if text.len() > sheet.len() {
         return Err("the new sheet is longer".into());
     }
-    check_reply(sheet, text)
+    check_replies(sheet, text)
 }
 
 /// Whether no sheet differs.

@@ -1,7 +1,7 @@
-//! Our reply held to the independent one: kind, refusal and value exactly; what is free, the point and the steps, held to the sheet.
+//! Our replies held to the independent ones: kind, refusal and value exactly; what is free, the point and the steps, held to the sheet.
 
-use crate::independent::Reply;
-use crate::problem::{Item, Problem};
+use crate::independent::{Refusal, Reply};
+use crate::problem::{Item, Problem, Ranged, SENSES};
 
 /// The figures of item k's line, behind its number; written as the paper writes numbers.
 fn figures(line: Option<&str>, k: usize, count: usize) -> Result<Vec<i128>, String> {
@@ -108,17 +108,41 @@ fn check_unbounded<'a>(p: &Problem, mut lines: impl Iterator<Item = &'a str>) ->
     lines.next().map_or(Ok(()), |_| Err("too many lines".into()))
 }
 
-/// Our text for the sheet of a problem, if it was accepted, held to the expected reply.
-pub fn check(problem: Option<&Problem>, expected: Reply, text: &str) -> Result<(), String> {
-    let same = |line: String| if text == line { Ok(()) } else { Err("reply".into()) };
+/// The text of one reply held to the expected one.
+fn check_reply(p: &Problem, expected: Reply, text: &str) -> Result<(), String> {
+    let lines = text.split('\n').take(text.matches('\n').count());
+    match expected {
+        Reply::Infeasible if text == "infeasible\n" => Ok(()),
+        Reply::Infeasible => Err("kind".into()),
+        Reply::Unbounded => check_unbounded(p, lines),
+        Reply::Best(n, d) => check_best(p, (n, d), lines),
+    }
+}
+
+/// The two replies of a text, the first as long as it should be.
+pub fn split(p: &Ranged, sure: Reply, text: &str) -> [String; 2] {
+    let count = if sure == Reply::Infeasible { 1 } else { p.items.len() + 1 };
+    let lines: Vec<&str> = text.split_inclusive('\n').collect();
+    let (first, second) = lines.split_at(count.min(lines.len()));
+    [first.concat(), second.concat()]
+}
+
+/// Our text for the sheet of a problem held to the expected replies.
+pub fn check(p: &Ranged, expected: [Reply; 2], text: &str) -> Result<(), String> {
     if !text.ends_with('\n') {
         return Err("the last line is not closed".into());
     }
-    match (expected, problem) {
-        (Reply::Refused(f), _) => same(format!("refused {} {}\n", f.number, f.line)),
-        (Reply::Infeasible, _) => same("infeasible\n".into()),
-        (Reply::Unbounded, Some(p)) => check_unbounded(p, text[..text.len() - 1].split('\n')),
-        (Reply::Best(n, d), Some(p)) => check_best(p, (n, d), text[..text.len() - 1].split('\n')),
-        _ => Err("no problem".into()),
+    for ((sense, reply), part) in SENSES.iter().zip(expected).zip(split(p, expected[0], text)) {
+        check_reply(&p.in_sense(*sense), reply, &part).map_err(|what| format!("{what}, {sense:?}"))?;
+    }
+    Ok(())
+}
+
+/// A refusal is told once.
+pub fn check_refused(f: Refusal, text: &str) -> Result<(), String> {
+    if text == format!("refused {} {}\n", f.number, f.line) {
+        Ok(())
+    } else {
+        Err("refusal".into())
     }
 }

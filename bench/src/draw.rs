@@ -1,7 +1,7 @@
 //! Drawn sheets of mixed kinds, for the comparison. Every draw comes from one seed, by splitmix64.
 
 use crate::families::FAMILIES;
-use crate::problem::{Item, Need, Problem};
+use crate::problem::{Item, Need, Problem, Range, Ranged};
 
 pub struct Rng(pub u64);
 
@@ -31,22 +31,30 @@ impl Rng {
 /// A kind of sheet, and how many of a thousand are of it.
 pub type Kind = (&'static str, i64, fn(&mut Rng) -> Vec<u8>);
 
-pub const KINDS: [Kind; 11] = [
-    ("small", 300, |rng| small(rng).sheet()),
-    ("equal ratios", 100, |rng| equal_ratios(rng).sheet()),
-    ("absent bounds", 150, |rng| open(rng).sheet()),
-    ("wide", 60, |rng| wide(rng, 100).sheet()),
-    ("widest", 5, |rng| wide(rng, 1000).sheet()),
-    ("ends of the ranges", 10, |rng| at_the_ends(rng).sheet()),
-    ("far out", 5, |rng| far_out(rng).sheet()),
-    ("families", 30, |rng| some_family(rng).sheet()),
-    ("needs", 150, |rng| needy(rng).sheet()),
+pub const KINDS: [Kind; 13] = [
+    ("small", 250, |rng| sheet_of(rng, small)),
+    ("never below 0", 100, |rng| sheet_of(rng, positive)),
+    ("equal ratios", 100, |rng| sheet_of(rng, equal_ratios)),
+    ("absent bounds", 150, |rng| sheet_of(rng, open)),
+    ("wide", 60, |rng| sheet_of(rng, |rng| wide(rng, 100))),
+    ("widest", 5, |rng| sheet_of(rng, |rng| wide(rng, 1000))),
+    ("ends of the ranges", 10, |rng| sheet_of(rng, at_the_ends)),
+    ("far out", 5, |rng| sheet_of(rng, far_out)),
+    ("families", 30, |rng| sheet_of(rng, some_family)),
+    ("needs", 150, |rng| sheet_of(rng, needy)),
+    ("wrong ranges", 100, |rng| wrong_ranges(rng).sheet()),
     ("damaged", 300, damaged),
     ("long", 40, long),
 ];
 
 /// How many of the kinds, from the first on, have nothing but good sheets.
-pub const GOOD: usize = KINDS.len() - 2;
+pub const GOOD: usize = KINDS.len() - 3;
+
+/// The sheet of a drawn problem, some of its weights made ranges.
+pub fn sheet_of(rng: &mut Rng, draw: fn(&mut Rng) -> Problem) -> Vec<u8> {
+    let p = draw(rng);
+    with_ranges(rng, &p).sheet()
+}
 
 /// Which of the kinds is drawn next.
 pub fn kind(rng: &mut Rng, kinds: &[Kind]) -> usize {
@@ -71,6 +79,46 @@ fn item(rng: &mut Rng, weight: i64, price: i64, lower: i64, upper: i64, absent: 
     }
 }
 
+/// A range with this weight at one of its ends.
+fn range(rng: &mut Rng, a: i64) -> Range {
+    let wide = rng.between(1, 9);
+    let b = rng.pick(&[a - 1, a + 1, a - wide, a + wide, 0, 2 * a, -a]).clamp(-1000, 1000);
+    Range::over(a, b)
+}
+
+/// Half of the problems have ranges, of items whose amounts are never below 0. Blank items stay so.
+fn ranged_by(rng: &mut Rng, p: &Problem, range: fn(&mut Rng, i64) -> Range) -> Ranged {
+    let share = rng.pick(&[0, 0, 30, 80]);
+    p.weighed(|i| match i.weight {
+        a if i.is_never_below_nought() && !i.is_blank() && rng.chance(share) => range(rng, a),
+        a => Range::exact(a),
+    })
+}
+
+pub fn with_ranges(rng: &mut Rng, p: &Problem) -> Ranged {
+    ranged_by(rng, p, range)
+}
+
+/// Ranges turned round, ranges of items that may go below 0, and blank items among them.
+fn wrong_ranges(rng: &mut Rng) -> Ranged {
+    let p = rng.pick::<fn(&mut Rng) -> Problem>(&[small, positive, needy])(rng);
+    let mut p = with_ranges(rng, &p);
+    for _ in 0..rng.between(1, 3) {
+        let k = rng.between(0, p.items.len() as i64 - 1) as usize;
+        let Range { low, high } = p.items[k].weight;
+        match rng.between(0, 4) {
+            0 => p.items[k].weight = Range { low: high, high: low },
+            1 => p.items[k].weight = Range { low, high: (low - 1).max(-1000) },
+            2 => (p.items[k].weight, p.items[k].price) = (Range::exact(0), 0),
+            _ => {
+                p.items[k].lower = rng.pick(&[None, Some(-1), Some(0)]);
+                p.items[k].weight = range(rng, low);
+            }
+        }
+    }
+    p
+}
+
 /// How many bounds of a hundred cross in a small problem.
 const CROSSING: i64 = 5;
 
@@ -88,15 +136,34 @@ pub fn small(rng: &mut Rng) -> Problem {
     Problem::plain(rng.between(-a * b, 3 * a * b), items)
 }
 
-/// A small problem with every lower bound, for plain enumeration: weights of continuous items divide 12, and ratios are often equal.
-pub fn tiny(rng: &mut Rng) -> Problem {
+/// A small problem whose amounts are never below 0.
+fn positive(rng: &mut Rng) -> Problem {
+    let mut p = small(rng);
+    for i in &mut p.items {
+        let lower = rng.pick(&[0, 0, 0, 1, 2]);
+        *i = Item { lower: Some(lower), upper: i.upper.map(|u| lower + u.abs()), ..*i };
+    }
+    p
+}
+
+/// Those of continuous items in tiny problems: they divide 12.
+const DIVIDING: [i64; 11] = [-6, -4, -3, -2, -1, 0, 1, 2, 3, 4, 6];
+
+/// For plain enumeration.
+pub fn tiny(rng: &mut Rng) -> Ranged {
+    let p = tiny_plain(rng);
+    ranged_by(rng, &p, |rng, a| Range::over(a, rng.pick(&DIVIDING)))
+}
+
+/// Small, with every lower bound; ratios are often equal.
+fn tiny_plain(rng: &mut Rng) -> Problem {
     let (style, soft, open) = (rng.between(0, 3), rng.pick(&[0, 20, 50]), rng.pick(&[0, 0, 20]));
     let mut continuous = 0;
     let items: Vec<Item> = (0..rng.between(1, 4))
         .map(|_| {
             let is_soft = continuous < 2 && rng.chance(soft);
             continuous += is_soft as i64;
-            let weight = rng.pick(&[-6, -4, -3, -2, -1, 0, 1, 2, 3, 4, 6]) + if is_soft { 0 } else { rng.pick(&[0, 0, 1]) };
+            let weight = rng.pick(&DIVIDING) + if is_soft { 0 } else { rng.pick(&[0, 0, 1]) };
             let price = match style {
                 0 => weight,
                 1 => rng.between(-7, 7),
@@ -285,7 +352,7 @@ fn damaged(rng: &mut Rng) -> Vec<u8> {
     if rng.chance(5) {
         p = with_blanks(rng, p);
     }
-    let sheet = p.sheet();
+    let sheet = with_ranges(rng, &p).sheet();
     damaged_in_one(rng, sheet)
 }
 

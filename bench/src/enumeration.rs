@@ -1,6 +1,6 @@
 //! Plain enumeration of small problems: every point on a grid, in order.
 
-use crate::problem::{Need, Problem};
+use crate::problem::{Need, Range, Ranged, Sense};
 
 /// Continuous amounts are tried in steps of 1 / GRID. A best point has one there if the weights of continuous items divide it.
 pub const GRID: i64 = 12;
@@ -12,18 +12,27 @@ pub struct Found {
     pub value: i64,
 }
 
-/// The first of the best points on the grid; an absent upper bound is taken `beyond` the lower one, which is there.
-pub fn first_best(p: &Problem, beyond: i64) -> Option<Found> {
-    let mut search = Enumeration { p, beyond, amounts: vec![], best: None };
+/// The first of the best points on the grid in a sense; an absent upper bound is taken `beyond` the lower one, which is there.
+pub fn first_best(p: &Ranged, sense: Sense, beyond: i64) -> Option<Found> {
+    let mut search = Enumeration { p, sense, beyond, amounts: vec![], best: None };
     search.descend(p.limit * GRID, 0);
     search.best
 }
 
 struct Enumeration<'a> {
-    p: &'a Problem,
+    p: &'a Ranged,
+    sense: Sense,
     beyond: i64,
     amounts: Vec<i64>,
     best: Option<Found>,
+}
+
+/// What an amount x comes to: for every weight of the range it is at most this, for some at least this.
+fn weight(r: Range, sense: Sense, x: i64) -> i64 {
+    match sense {
+        Sense::Sure => (r.low * x).max(r.high * x),
+        Sense::Possible => (r.low * x).min(r.high * x),
+    }
 }
 
 impl Enumeration<'_> {
@@ -42,7 +51,7 @@ impl Enumeration<'_> {
         let step = if i.integer { GRID } else { 1 };
         for x in (lower * GRID..=upper * GRID).step_by(step as usize) {
             self.amounts.push(x);
-            self.descend(room - i.weight * x, value + i.price * x);
+            self.descend(room - weight(i.weight, self.sense, x), value + i.price * x);
             self.amounts.pop();
         }
     }

@@ -49,6 +49,14 @@ pub const FAMILIES: [Family; 15] = [
     Family { needs: true, ..family("needs", |rng, _| items(rng, weakly)) },
 ];
 
+/// Families full of ties: one price for a unit of weight of all items, continuous ones too. The bench runs them inside one process.
+pub const TIED: [Family; 4] = [
+    family("one price per weight", |rng, _| tied(rng, |rng| rng.between(1, 1000))),
+    Family { odd_limit: true, ..family("even weights, one price", |rng, _| tied(rng, |rng| 2 * rng.between(1, 500))) },
+    family("near-equal weights", |rng, _| tied(rng, |rng| rng.between(990, 1000))),
+    family("multiples, one price", |rng, _| tied_multiples(rng)),
+];
+
 const SURCHARGE: i64 = 100;
 const CEILING: i64 = 3;
 const RADIUS: i64 = 1000;
@@ -125,6 +133,23 @@ fn multiples(rng: &mut Rng, continuous: usize) -> Vec<Figures> {
             }
         })
         .collect()
+}
+
+/// A price for a unit of weight, and weights.
+fn tied(rng: &mut Rng, weight: impl Fn(&mut Rng) -> i64) -> Vec<Figures> {
+    let price = rng.between(1, 9);
+    (0..ITEMS)
+        .map(|_| {
+            let a = weight(rng);
+            (a, price * a)
+        })
+        .collect()
+}
+
+/// Small multiples of two weights.
+fn tied_multiples(rng: &mut Rng) -> Vec<Figures> {
+    let bases = [rng.between(50, 100), rng.between(50, 100)];
+    tied(rng, |rng| rng.pick(&bases) * rng.between(1, 10))
 }
 
 impl Family {

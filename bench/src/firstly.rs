@@ -33,7 +33,7 @@ fn unowed(p: &Problem) -> Problem {
 fn measure(p: &Problem, row: &mut Row) {
     let (sheet, free) = (p.sheet(), unowed(p).sheet());
     for (k, rules) in [WITH_SCALES, FIRST].into_iter().enumerate() {
-        let (told, time) = timed(|| twin::plan(&independent::read(&sheet).expect("a good sheet"), rules));
+        let (told, time) = timed(|| twin::plan_both(&independent::read(&sheet).expect("a good sheet"), rules));
         row.twin[k].push(time * 1e6);
         row.cells[k].push(told.cells);
     }

@@ -6,7 +6,7 @@ mod first;
 mod needs;
 mod reader;
 
-use crate::problem::{gcd, Item, Problem};
+use crate::problem::{gcd, Item, Problem, Ranged, SENSES};
 pub use converter::{convert, without_blanks};
 pub use first::Point;
 pub use needs::{first, plan};
@@ -15,13 +15,17 @@ use std::ops::{Add, Mul, Sub};
 
 #[derive(Clone, Copy, Debug, PartialEq)]
 pub enum Reply {
-    Refused(Refusal),
     Infeasible,
     Unbounded,
     Best(i128, i128),
 }
 
-fn crosses(i: &Item) -> bool {
+/// The sure reply, then the possible one.
+pub fn plan_both(p: &Ranged) -> [Reply; 2] {
+    SENSES.map(|sense| plan(&p.in_sense(sense)))
+}
+
+fn crosses<W>(i: &Item<W>) -> bool {
     i.lower.zip(i.upper).is_some_and(|(l, u)| l > u)
 }
 

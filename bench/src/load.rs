@@ -1,4 +1,4 @@
-//! The test load (paper 02, requests 8 and 9), drawn here from the paper alone. The sheets that the proved program writes are held to it.
+//! The test load (paper 02, requests 8, 9 and 11), drawn here from the paper alone. The sheets that the proved program writes are held to it.
 
 use crate::problem::{Item, Problem};
 
@@ -50,5 +50,5 @@ pub fn problems() -> Vec<Problem> {
 
 /// Whether the stored sheets are those of these problems.
 pub fn is_stored(problems: &[Problem]) -> bool {
-    problems.iter().flat_map(Problem::sheet).eq(STORED.iter().copied())
+    problems.iter().flat_map(|p| p.sheet()).eq(STORED.iter().copied())
 }

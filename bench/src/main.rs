@@ -10,7 +10,10 @@ mod families;
 mod firstly;
 mod hunt;
 mod independent;
+mod inside;
+mod instructions;
 mod load;
+mod model;
 mod needy;
 mod ours;
 mod picture;
@@ -27,6 +30,9 @@ mod twin;
 use families::{CONTINUOUS, FEW_CONTINUOUS};
 
 const USAGE: &str = include_str!("../usage.txt");
+
+const COMMANDS: [&str; 13] =
+    ["compare", "damage", "speed", "reading", "self", "hunt", "needs", "convert", "first", "instructions", "inside", "replies", "reply"];
 
 struct Arguments {
     words: Vec<String>,
@@ -58,7 +64,7 @@ fn usage() -> ! {
 
 /// The commands that stand there; compare and speed if none does.
 fn commands(a: &mut Arguments) -> Vec<&'static str> {
-    let mut named = ["compare", "damage", "speed", "reading", "self", "hunt", "needs", "convert", "first", "reply"].to_vec();
+    let mut named = COMMANDS.to_vec();
     named.retain(|word| a.word(word));
     if named.is_empty() {
         named = vec!["compare", "speed"];
@@ -99,6 +105,9 @@ fn main() {
             "needs" => needy::needs(seed, speed.sheets, speed.raced),
             "first" => firstly::firstly(&speed),
             "convert" => blanks::convert(seed, sheets.unwrap_or(choose(5000, 100_000))),
+            "instructions" => instructions::instructions(&speed.of(sheets.unwrap_or(choose(3, 10)))),
+            "inside" => inside::inside(&speed),
+            "replies" => instructions::replies(),
             _ => rivals::reply(),
         };
     }

@@ -1,9 +1,7 @@
-//! The speed table as a picture in SVG: a family a row, times on a logarithmic scale, the median and the worst sheet of each solver.
+//! A speed table as a picture in SVG: a family a row, times on a logarithmic scale, the median and the worst sheet of each solver.
 
-use crate::families::FAMILIES;
 use crate::race::Race;
-use crate::rivals::{Solver, LIMIT};
-use crate::speed::{Options, Row};
+use crate::rivals::Solver;
 use crate::stats::{MEDIAN, WORST};
 
 const WIDTH: f64 = 960.0;
@@ -20,17 +18,29 @@ const TO: f64 = 0.5;
 const GRID: [(f64, &str); 6] = [(-5.0, "10 µs"), (-4.0, "0.1 ms"), (-3.0, "1 ms"), (-2.0, "10 ms"), (-1.0, "0.1 s"), (0.0, "1 s")];
 
 /// What is drawn of a solver.
-struct Series {
-    name: String,
+#[derive(Clone, Copy)]
+pub struct Series {
+    pub name: &'static str,
     colour: &'static str,
     mark: fn(f64, f64, &str) -> String,
 }
 
-/// A family's times of a solver, in seconds.
-struct Times {
-    median: f64,
-    worst: f64,
-    is_late: bool,
+pub const OURS: Series = Series { name: "ours", colour: "#1b6ca8", mark: circle };
+pub const GLPSOL: Series = Series { name: "glpsol", colour: "#c1440e", mark: diamond };
+pub const CBC: Series = Series { name: "cbc", colour: "#5a5a5a", mark: square };
+
+impl Series {
+    pub const fn called(self, name: &'static str) -> Series {
+        Series { name, ..self }
+    }
+}
+
+/// A strip for each family, with a race for each of the series.
+pub struct Picture {
+    pub title: &'static str,
+    pub series: Vec<Series>,
+    pub strips: Vec<(&'static str, Vec<Race>)>,
+    pub words: String,
 }
 
 fn across(seconds: f64) -> f64 {
@@ -64,38 +74,26 @@ fn diamond(x: f64, y: f64, colour: &str) -> String {
 }
 
 /// Ours as a call and as a process, then the others.
-fn series(solvers: &[Solver]) -> Vec<Series> {
-    let mut list = vec![Series { name: "ours, a call".into(), colour: "#1b6ca8", mark: ring }];
-    for s in solvers {
-        let (name, colour, mark): (_, _, fn(f64, f64, &str) -> String) = match s {
-            Solver::Ours => ("ours, a process".into(), "#1b6ca8", circle),
-            Solver::Glpsol => (s.name().into(), "#c1440e", diamond),
-            Solver::Cbc => (s.name().into(), "#5a5a5a", square),
-        };
-        list.push(Series { name, colour, mark });
-    }
-    list
+pub fn series(solvers: &[Solver]) -> Vec<Series> {
+    let of = |s: &Solver| match s {
+        Solver::Ours => OURS.called("ours, a process"),
+        Solver::Glpsol => GLPSOL,
+        Solver::Cbc => CBC,
+    };
+    std::iter::once(Series { name: "ours, a call", mark: ring, ..OURS }).chain(solvers.iter().map(of)).collect()
 }
 
 /// A line from the median's mark to the worst sheet's end; an arrow if that was not done in time.
-fn strip(s: &Series, t: &Times, y: f64) -> String {
-    let (from, to) = (across(t.median), across(t.worst));
+fn strip(s: &Series, r: &Race, y: f64) -> String {
+    let (from, to) = (across(r.at(MEDIAN)), across(r.at(WORST)));
     let colour = s.colour;
     let mut out = format!("<path d=\"M{from:.1} {y:.1}H{to:.1}\" stroke=\"{colour}\" stroke-width=\"1.6\"/>\n");
-    out += &if t.is_late {
+    out += &if r.late > 0 {
         polygon(&[(to, y - 4.5), (to + 8.0, y), (to, y + 4.5)], colour)
     } else {
         format!("<path d=\"M{to:.1} {:.1}V{:.1}\" stroke=\"{colour}\" stroke-width=\"1.6\"/>\n", y - 4.0, y + 4.0)
     };
     out + &(s.mark)(from, y, colour)
-}
-
-/// Of all rows of a family: ours as a call, then each solver as a process.
-fn times(rows: &[&Row], solvers: usize) -> Vec<Times> {
-    let calls = rows.iter().fold(Race::default(), |sum, r| sum.with(&r.calls()));
-    let processes = (0..solvers).map(|k| rows.iter().fold(Race::default(), |sum, r| sum.with(&r.races[k])));
-    let times = |r: Race| Times { median: r.at(MEDIAN), worst: r.at(WORST), is_late: r.late > 0 };
-    std::iter::once(calls).chain(processes).map(times).collect()
 }
 
 fn grid(bottom: f64) -> String {
@@ -110,33 +108,33 @@ fn grid(bottom: f64) -> String {
 
 fn legend(list: &[Series]) -> String {
     let place = |k: usize| LEFT + 8.0 + 150.0 * k as f64;
-    list.iter().enumerate().map(|(k, s)| (s.mark)(place(k), 50.0, s.colour) + &text(place(k) + 11.0, 54.0, "start", &s.name)).collect()
+    list.iter().enumerate().map(|(k, s)| (s.mark)(place(k), 50.0, s.colour) + &text(place(k) + 11.0, 54.0, "start", s.name)).collect()
 }
 
-pub fn draw(solvers: &[Solver], rows: &[(usize, Row)], o: &Options) -> String {
-    let list = series(solvers);
-    let is_there = |name: &&str| rows.iter().any(|(_, r)| r.name == *name);
-    let names: Vec<&str> = FAMILIES.iter().map(|f| f.name).filter(is_there).collect();
-    let height = LINE * list.len() as f64 + GAP;
-    let bottom = TOP + height * names.len() as f64;
-    let mut out = format!(
-        "<svg xmlns=\"http://www.w3.org/2000/svg\" viewBox=\"0 0 {WIDTH} {0}\" width=\"{WIDTH}\" height=\"{0}\" font-family=\"sans-serif\" font-size=\"12\">\n",
-        bottom + 32.0
-    );
-    out += &format!("<rect width=\"{WIDTH}\" height=\"{}\" fill=\"white\"/>\n", bottom + 32.0);
-    out += "<text x=\"14\" y=\"26\" font-size=\"16\">From a problem to its solution: the median sheet (mark) and the worst (end of the line)</text>\n";
-    out += &(legend(&list) + &grid(bottom));
-    for (k, name) in names.iter().enumerate() {
-        let top = TOP + height * k as f64;
-        out += &format!("<path d=\"M14 {top:.1}H{RIGHT:.1}\" stroke=\"#d8d8d8\"/>\n");
-        out += &text(LEFT - 12.0, top + height / 2.0 + 4.0, "end", name);
-        let of_family: Vec<&Row> = rows.iter().map(|(_, r)| r).filter(|r| r.name == *name).collect();
-        for (j, t) in times(&of_family, solvers.len()).iter().enumerate() {
-            out += &strip(&list[j], t, top + GAP / 2.0 + LINE * (j as f64 + 0.5));
+impl Picture {
+    fn strips(&self, height: f64) -> String {
+        let mut out = String::new();
+        for (k, (name, races)) in self.strips.iter().enumerate() {
+            let top = TOP + height * k as f64;
+            out += &format!("<path d=\"M14 {top:.1}H{RIGHT:.1}\" stroke=\"#d8d8d8\"/>\n");
+            out += &text(LEFT - 12.0, top + height / 2.0 + 4.0, "end", name);
+            for (j, (s, r)) in self.series.iter().zip(races).enumerate() {
+                out += &strip(s, r, top + GAP / 2.0 + LINE * (j as f64 + 0.5));
+            }
         }
+        out
     }
-    let raced: usize = rows.iter().map(|(_, r)| r.races.first().map_or(0, |r| r.seconds.len())).sum();
-    let words = format!("{} sheets by call, {raced} by process; seed {}; an arrow: not done in {LIMIT} s", o.sheets * rows.len(), o.seed);
-    out += &text(RIGHT, bottom + 20.0, "end", &words);
-    out + "</svg>\n"
+
+    pub fn draw(&self) -> String {
+        let height = LINE * self.series.len() as f64 + GAP;
+        let bottom = TOP + height * self.strips.len() as f64;
+        let mut out = format!(
+            "<svg xmlns=\"http://www.w3.org/2000/svg\" viewBox=\"0 0 {WIDTH} {0}\" width=\"{WIDTH}\" height=\"{0}\" font-family=\"sans-serif\" font-size=\"12\">\n",
+            bottom + 32.0
+        );
+        out += &format!("<rect width=\"{WIDTH}\" height=\"{}\" fill=\"white\"/>\n", bottom + 32.0);
+        out += &format!("<text x=\"14\" y=\"26\" font-size=\"16\">{}: the median sheet (mark) and the worst (end of the line)</text>\n", self.title);
+        out += &(legend(&self.series) + &grid(bottom) + &self.strips(height));
+        out + &text(RIGHT, bottom + 20.0, "end", &self.words) + "</svg>\n"
+    }
 }

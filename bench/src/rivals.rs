@@ -1,8 +1,9 @@
 //! Solvers as whole processes, from a file to a file: ours beside those that may be installed. They compute in floating point; theirs is the
 //! time beside ours, not the proof.
 
+use crate::model::Model;
 use crate::ours;
-use crate::problem::{Need, Problem};
+use crate::problem::Problem;
 use std::fs::File;
 use std::io::{Read, Write};
 use std::path::{Path, PathBuf};
@@ -72,7 +73,7 @@ impl Solver {
         let (model, solution) = (file("lp"), file("sol"));
         let text = match self {
             Solver::Ours => p.sheet(),
-            _ => model_text(p).into_bytes(),
+            _ => model_text(&Model::of(p)).into_bytes(),
         };
         std::fs::write(&model, text).expect("a temporary file");
         let ran = self.command(&model, &solution).status();
@@ -92,41 +93,24 @@ impl Solver {
     }
 }
 
-/// The problem in the format that both read.
-fn model_text(p: &Problem) -> String {
-    let sum = |figures: Vec<i64>| -> String {
-        figures.iter().enumerate().map(|(k, a)| format!(" {} {} x{k}\n", if *a < 0 { '-' } else { '+' }, a.abs())).collect()
+/// The format that both read.
+fn model_text(m: &Model) -> String {
+    let sum = |entries: &mut dyn Iterator<Item = (usize, i64)>| -> String {
+        entries.map(|(k, a)| format!(" {} {} x{k}\n", if a < 0 { '-' } else { '+' }, a.abs())).collect()
     };
-    let mut text = format!("Maximize\n value:\n{}", sum(p.items.iter().map(|i| i.price).collect()));
-    text += &format!("Subject To\n weight:\n{} <= {}\n", sum(p.items.iter().map(|i| i.weight).collect()), p.limit);
-    text += &needs_text(p);
+    let mut text = format!("Maximize\n value:\n{}Subject To\n", sum(&mut m.columns.iter().map(|c| c.price).enumerate()));
+    for (j, r) in m.rows.iter().enumerate() {
+        text += &format!(" row{j}:\n{} <= {}\n", sum(&mut r.entries.iter().copied()), r.most);
+    }
     text += "Bounds\n";
-    for (k, i) in p.items.iter().enumerate() {
-        let lower = i.lower.map_or("-inf".into(), |l| l.to_string());
-        let upper = i.upper.map_or("+inf".into(), |u| u.to_string());
+    for (k, c) in m.columns.iter().enumerate() {
+        let lower = c.lower.map_or("-inf".into(), |l| l.to_string());
+        let upper = c.upper.map_or("+inf".into(), |u| u.to_string());
         text += &format!(" {lower} <= x{k} <= {upper}\n");
     }
     text += "General\n";
-    for (k, _) in p.items.iter().enumerate().filter(|(_, i)| i.integer) {
+    for (k, _) in m.columns.iter().enumerate().filter(|(_, c)| c.integer) {
         text += &format!(" x{k}\n");
     }
-    text + &switches_text(p) + "End\n"
-}
-
-fn switches_text(p: &Problem) -> String {
-    let names: String = (0..p.needs.len()).map(|j| format!(" z{j}\n")).collect();
-    if names.is_empty() {
-        names
-    } else {
-        format!("Binary\n{names}")
-    }
-}
-
-/// A need is two rows with a switch z of its own: the item is at most its upper bound times z, the cover at least z.
-fn needs_text(p: &Problem) -> String {
-    let rows = |(j, n): (usize, &Need)| {
-        let upper = p.items[n.item].upper.expect("an item that may be named");
-        format!(" item{j}: x{} - {upper} z{j} <= 0\n cover{j}: x{} - z{j} >= 0\n", n.item, n.cover)
-    };
-    p.needs.iter().enumerate().map(rows).collect()
+    text + "End\n"
 }

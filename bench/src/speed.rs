@@ -5,14 +5,15 @@ use crate::families::{Family, FAMILIES, ITEMS};
 use crate::independent;
 use crate::load;
 use crate::ours;
-use crate::picture;
+use crate::picture::{self, Picture};
 use crate::problem::Problem;
 use crate::progress::Progress;
-use crate::race::{self, Race};
-use crate::rivals::Solver;
+use crate::race::{self, Race, Raced};
+use crate::rivals::{Solver, LIMIT};
 use crate::stats::{at, timed, MEDIAN, NINETY_NINTH, WORST};
 use crate::twin::{self, Rules};
 
+#[derive(Clone)]
 pub struct Options {
     pub seed: u64,
     pub sheets: usize,
@@ -25,18 +26,23 @@ pub struct Options {
     pub picture: Option<String>,
 }
 
+impl Options {
+    /// With so many sheets a row.
+    pub fn of(&self, sheets: u64) -> Options {
+        Options { sheets: sheets as usize, ..self.clone() }
+    }
+}
+
 /// The sheets of a family with a bound and some continuous items: the twin's work, and seconds of both; and the solvers as processes on the
 /// first sheets.
 #[derive(Default)]
-pub struct Row {
-    pub name: &'static str,
-    pub bound: i64,
+struct Row {
+    raced: Raced,
     steps: Vec<u64>,
     cells: Vec<u64>,
     ours: Vec<f64>,
     twin: Vec<f64>,
     both: Both,
-    pub races: Vec<Race>,
 }
 
 /// Ours beside the twin: how many sheets, on how many work and text agree, seconds; and cells and seconds of the deep ones.
@@ -87,7 +93,7 @@ impl Both {
 
 fn measure(p: &Problem, o: &Options, row: &mut Row) {
     let sheet = p.sheet();
-    let (twin, twin_time) = timed(|| twin::plan(&independent::read(&sheet).expect("a good sheet"), o.rules));
+    let (twin, twin_time) = timed(|| twin::plan_both(&independent::read(&sheet).expect("a good sheet"), o.rules));
     let (text, our_time) = timed(|| ours::plan(&sheet));
     let work = ours::work(&sheet);
     row.steps.push(twin.steps);
@@ -112,15 +118,16 @@ pub fn sheets(family: &Family, bound: i64, continuous: usize, o: &Options) -> Ve
 }
 
 /// A row of these problems; the races are on the first of them that have a best value.
-fn measured(name: &'static str, bound: i64, problems: &[Problem], solvers: &[Solver], o: &Options) -> Row {
-    let mut row = Row { name, bound, ..Default::default() };
+fn measured(raced: Raced, problems: &[Problem], solvers: &[Solver], o: &Options) -> Row {
+    let (name, bound) = (raced.name, raced.bound);
+    let mut row = Row { raced, ..Default::default() };
     let mut progress = Progress::new();
     for (k, p) in problems.iter().enumerate() {
         progress.show(|| format!("{name}, bound {bound}: {k} of {} sheets", problems.len()));
         measure(p, o, &mut row);
     }
     let raced: Vec<Problem> = problems.iter().filter(|p| race::has_best(p)).take(o.raced).cloned().collect();
-    row.races = race::races(solvers, &raced, &mut progress);
+    row.raced.races = race::races(solvers, &raced, &mut progress);
     row.steps.sort();
     row.cells.sort();
     row.ours.sort_by(f64::total_cmp);
@@ -143,7 +150,7 @@ fn ratio_text(ratio: f64) -> String {
 
 impl Row {
     /// Ours as a call on all sheets.
-    pub fn calls(&self) -> Race {
+    fn calls(&self) -> Race {
         Race::of(&self.ours)
     }
 
@@ -151,8 +158,8 @@ impl Row {
         let micro = |seconds: f64| format!("{:.1}", seconds * 1e6);
         println!(
             "{:24} {:>5} |{} |{} |{} |{} |{:>6}",
-            self.name,
-            self.bound,
+            self.raced.name,
+            self.raced.bound,
             three(&self.steps, 6, |n| n.to_string()),
             three(&self.cells, 6, |n| n.div_ceil(1000).to_string()),
             three(&self.ours, 9, micro),
@@ -177,10 +184,10 @@ fn introduce(o: &Options) {
 }
 
 /// What all rows come to. Whether work and text are the same on all sheets.
-fn sum_up(rows: &[(usize, Row)]) -> bool {
-    let both = rows.iter().fold(Both::default(), |sum, (_, r)| sum.plus(r.both));
-    let most = |list: fn(&Row) -> &[u64]| rows.iter().filter_map(|(_, r)| at(list(r), WORST)).max().unwrap_or(0);
-    let highest = rows.iter().map(|(_, r)| r.both.seconds.ratio()).fold(0.0, f64::max);
+fn sum_up(rows: &[Row]) -> bool {
+    let both = rows.iter().fold(Both::default(), |sum, r| sum.plus(r.both));
+    let most = |list: fn(&Row) -> &[u64]| rows.iter().filter_map(|r| at(list(r), WORST)).max().unwrap_or(0);
+    let highest = rows.iter().map(|r| r.both.seconds.ratio()).fold(0.0, f64::max);
     let Both { count, agree, same, deep_cells, deep, .. } = both;
     println!();
     println!("work agrees on {agree} of {count} sheets; texts agree on {same} of {count}");
@@ -197,6 +204,23 @@ fn sum_up(rows: &[(usize, Row)]) -> bool {
     agree == count && same == count
 }
 
+/// The picture: ours as a call, then each solver as a process.
+fn drawn(solvers: &[Solver], rows: &[Row], o: &Options) -> String {
+    let with_call = |r: &Row| {
+        let races = std::iter::once(r.calls()).chain(r.raced.races.iter().cloned()).collect();
+        Raced { name: r.raced.name, races, ..Default::default() }
+    };
+    let raced: usize = rows.iter().map(|r| r.raced.races.first().map_or(0, |r| r.seconds.len())).sum();
+    let rows: Vec<Raced> = rows.iter().map(with_call).collect();
+    Picture {
+        title: "From a problem to its solution",
+        series: picture::series(solvers),
+        strips: race::by_family(&rows.iter().collect::<Vec<&Raced>>()),
+        words: format!("{} sheets by call, {raced} by process; seed {}; an arrow: not done in {LIMIT} s", o.sheets * rows.len(), o.seed),
+    }
+    .draw()
+}
+
 /// Whether what was measured is the same work and the same text wherever ours and the twin go by the same rules.
 pub fn speed(o: &Options) -> bool {
     let solvers = race::solvers();
@@ -206,26 +230,29 @@ pub fn speed(o: &Options) -> bool {
         heading(continuous);
         for family in FAMILIES.iter().filter(|f| f.name.contains(&o.family)) {
             for bound in family.bounds {
-                let row = measured(family.name, bound, &sheets(family, bound, continuous, o), &solvers, o);
+                let raced = Raced { name: family.name, continuous, bound, ..Default::default() };
+                let row = measured(raced, &sheets(family, bound, continuous, o), &solvers, o);
                 row.show();
-                rows.push((continuous, row));
+                rows.push(row);
             }
         }
     }
     if let Some(file) = &o.picture {
-        std::fs::write(file, picture::draw(&solvers, &rows, o)).expect("a file for the picture");
+        std::fs::write(file, drawn(&solvers, &rows, o)).expect("a file for the picture");
     }
     let problems = load::problems();
     if LOAD.contains(&o.family) {
         println!();
         println!("The test load: all its sheets, of 1 to 16 items; any bounds, some absent, some crossing");
-        let row = measured(LOAD, 10_000, &problems, &solvers, o);
+        let row = measured(Raced { name: LOAD, bound: 10_000, ..Default::default() }, &problems, &solvers, o);
         row.show();
-        rows.push((0, row));
+        rows.push(row);
     }
     let is_same = sum_up(&rows);
     if o.raced > 0 {
-        race::show(&solvers, &rows, o.raced);
+        let raced: Vec<&Raced> = rows.iter().map(|r| &r.raced).collect();
+        let calls: Vec<Race> = rows.iter().map(Row::calls).collect();
+        race::show(&solvers, &raced, &calls, o.raced);
     }
     o.picture.iter().for_each(|file| println!("picture: {file}"));
     let is_stored = load::is_stored(&problems);

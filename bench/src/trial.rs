@@ -1,12 +1,12 @@
 //! The bench tried on itself: the twin and the independent planner held to plain enumeration of small problems, and to each other on large ones.
 
 use crate::check::{check_is, check_point, own};
-use crate::draw::{tiny, Rng};
+use crate::draw::{tiny, with_ranges, Rng};
 use crate::enumeration::{first_best, Found, GRID};
 use crate::families::{CONTINUOUS, FAMILIES};
 use crate::independent::{self, without_blanks, Point, Reply};
 use crate::ours;
-use crate::problem::Problem;
+use crate::problem::{Problem, Ranged, SENSES};
 use crate::progress::Progress;
 use crate::twin::{self, Rules, FIRST, WITH_SCALES};
 
@@ -30,7 +30,7 @@ fn check_twin(p: &Problem, expected: Reply) -> Result<(), String> {
     let line = match expected {
         Reply::Best(n, d) => format!("best {n} {d}\n"),
         Reply::Unbounded => "unbounded\n".into(),
-        _ => "infeasible\n".into(),
+        Reply::Infeasible => "infeasible\n".into(),
     };
     for steps in STEPS {
         for rules in [ours::RULES, WITH_SCALES] {
@@ -89,11 +89,28 @@ fn check_blanks(p: &Problem, expected: Reply) -> Result<(), String> {
     }
 }
 
-fn check_small(p: &Problem, counts: &mut Counts) -> Result<(), String> {
+fn check_small(p: &Ranged, counts: &mut Counts) -> Result<(), String> {
+    for sense in SENSES {
+        check_found(&p.in_sense(sense), first_best(p, sense, BEYOND), counts)?;
+    }
+    check_order(p)
+}
+
+/// Where both replies are best the sure value is no greater, and what is best or unbounded for sure is not infeasible otherwise.
+fn check_order(p: &Ranged) -> Result<(), String> {
+    let is_in_order = match independent::plan_both(p) {
+        [Reply::Best(n, d), Reply::Best(m, e)] => n * e <= m * d,
+        [sure, possible] => sure == possible || sure == Reply::Infeasible || possible == Reply::Unbounded,
+    };
+    if is_in_order { Ok(()) } else { Err("the sure reply is above the possible one".into()) }
+}
+
+/// A problem in a sense beside what was enumerated in it.
+fn check_found(p: &Problem, found: Option<Found>, counts: &mut Counts) -> Result<(), String> {
     let expected = independent::plan(p);
     check_twin(p, expected)?;
     check_blanks(p, expected)?;
-    match (expected, first_best(p, BEYOND)) {
+    match (expected, found) {
         (Reply::Best(n, d), Some(found)) => return check_first(p, (n, d), &found, counts),
         (Reply::Infeasible, None) => {}
         (Reply::Infeasible, Some(found)) => return Err(format!("{:?} / {GRID} is feasible", found.amounts)),
@@ -104,8 +121,8 @@ fn check_small(p: &Problem, counts: &mut Counts) -> Result<(), String> {
     Ok(())
 }
 
-/// A sheet of a family, one in three with some upper bounds absent, but of no item that a need names.
-fn large(rng: &mut Rng) -> Problem {
+/// A sheet of a family with ranges, one in three with some upper bounds absent, but of no item that a need names.
+fn large(rng: &mut Rng) -> Ranged {
     let family = &FAMILIES[rng.between(0, FAMILIES.len() as i64 - 1) as usize];
     let (bound, continuous) = (rng.pick(&family.bounds), rng.pick(&CONTINUOUS));
     let mut p = family.draw(rng, bound, continuous);
@@ -115,11 +132,18 @@ fn large(rng: &mut Rng) -> Problem {
             p.items[k].upper = None;
         }
     }
-    p
+    with_ranges(rng, &p)
 }
 
 /// Too large for enumeration: the twin and the independent planner are held to each other.
-fn check_large(p: &Problem, counts: &mut Counts) -> Result<(), String> {
+fn check_large(p: &Ranged, counts: &mut Counts) -> Result<(), String> {
+    for sense in SENSES {
+        check_each_other(&p.in_sense(sense), counts)?;
+    }
+    check_order(p)
+}
+
+fn check_each_other(p: &Problem, counts: &mut Counts) -> Result<(), String> {
     let expected = independent::plan(p);
     check_twin(p, expected)?;
     if let Reply::Best(..) = expected {
@@ -132,10 +156,10 @@ fn check_large(p: &Problem, counts: &mut Counts) -> Result<(), String> {
     Ok(())
 }
 
-type Check = fn(&Problem, &mut Counts) -> Result<(), String>;
+type Check = fn(&Ranged, &mut Counts) -> Result<(), String>;
 
 /// Whether nothing differs.
-fn try_all(what: &str, count: u64, rng: &mut Rng, draw: fn(&mut Rng) -> Problem, check: Check) -> bool {
+fn try_all(what: &str, count: u64, rng: &mut Rng, draw: fn(&mut Rng) -> Ranged, check: Check) -> bool {
     let mut counts = Counts::default();
     let mut progress = Progress::new();
     for done in 0..count {
@@ -148,7 +172,7 @@ fn try_all(what: &str, count: u64, rng: &mut Rng, draw: fn(&mut Rng) -> Problem,
     }
     let Counts { values, firsts, others, differ } = counts;
     println!(
-        "{count} {what} problems: {values} best values, {firsts} first best points and {others} other replies compared; {differ} differ"
+        "{count} {what} problems, in both senses: {values} best values, {firsts} first best points and {others} other replies compared; {differ} differ"
     );
     differ == 0
 }

@@ -1,15 +1,12 @@
 //! A second converter: sheets without blank items (paper 02, request 9).
 
 use super::crosses;
-use super::reader::{read_by, Blanks, Refusal};
+use super::reader::{at_item, read_by, Blanks, Refusal};
 use crate::problem::{Need, Problem};
-
-/// The line before the first item's.
-const BEFORE_ITEMS: u64 = 3;
 
 /// The problem without its blank items; else which item hinders: the first if nothing remains, or the first that goes though its bounds cross or
 /// a need names it.
-pub fn without_blanks(p: &Problem) -> Result<Problem, usize> {
+pub fn without_blanks<W: Copy + Default + PartialEq>(p: &Problem<W>) -> Result<Problem<W>, usize> {
     let hinders = |k: usize| p.items[k].is_blank() && (crosses(&p.items[k]) || p.is_named(k));
     let nothing_remains = p.items.iter().all(|i| i.is_blank());
     if let Some(k) = (0..p.items.len()).find(|&k| nothing_remains || hinders(k)) {
@@ -24,5 +21,5 @@ pub fn without_blanks(p: &Problem) -> Result<Problem, usize> {
 /// The sheet without its blank items, or the refusal.
 pub fn convert(sheet: &[u8]) -> Result<Vec<u8>, Refusal> {
     let p = read_by(sheet, Blanks::Kept)?;
-    without_blanks(&p).map(|q| q.sheet()).map_err(|k| Refusal { number: 15, line: BEFORE_ITEMS + 1 + k as u64 })
+    without_blanks(&p).map(|q| q.sheet()).map_err(|k| at_item(15, k))
 }

@@ -1,6 +1,9 @@
-//! A second reader, written from the papers alone (paper 01, "The sheet" and "Refused, by place"; paper 02, requests 3, 6, 7 and 9).
+//! A second reader, written from the papers alone (paper 01, "The sheet" and "Refused, by place"; paper 02, requests 3, 6, 7, 9 and 11).
 
-use crate::problem::{Item, Need, Problem};
+use crate::problem::{Item, Need, Problem, Range, Ranged};
+
+/// The line before the first item's.
+const BEFORE_ITEMS: u64 = 3;
 
 #[derive(Clone, Copy, Debug, PartialEq)]
 pub struct Refusal {
@@ -8,7 +11,12 @@ pub struct Refusal {
     pub line: u64,
 }
 
-/// What is done about items of weight 0 and price 0.
+/// A refusal at the line of item k.
+pub fn at_item(number: u64, k: usize) -> Refusal {
+    Refusal { number, line: BEFORE_ITEMS + 1 + k as u64 }
+}
+
+/// What is done about items of weight 0, low and high, and price 0.
 #[derive(Clone, Copy, PartialEq)]
 pub enum Blanks {
     Refused,
@@ -111,9 +119,13 @@ impl<'a> Lines<'a> {
         self.figure(limit, 100_000_000)
     }
 
-    fn item(&mut self, blanks: Blanks) -> Result<Item, Refusal> {
-        let [mark, weight, price] = self.fields([Place::Mark, Place::Number, Place::Number])?;
-        let (weight, price) = (self.figure(weight, 1000)?, self.figure(price, 10_000)?);
+    fn item(&mut self, blanks: Blanks) -> Result<Item<Range>, Refusal> {
+        let [mark, low, high, price] = self.fields([Place::Mark, Place::Number, Place::Number, Place::Number])?;
+        let weight = Range { low: self.figure(low, 1000)?, high: self.figure(high, 1000)? };
+        let price = self.figure(price, 10_000)?;
+        if weight.low > weight.high {
+            return self.refuse(19);
+        }
         let item = Item { integer: mark == b"W", weight, price, lower: None, upper: None };
         if item.is_blank() && blanks == Blanks::Refused {
             return self.refuse(15);
@@ -138,7 +150,7 @@ impl<'a> Lines<'a> {
     }
 
     /// A need that comes after `last`.
-    fn need(&mut self, items: &[Item], last: Option<Need>) -> Result<Need, Refusal> {
+    fn need(&mut self, items: &[Item<Range>], last: Option<Need>) -> Result<Need, Refusal> {
         let fields = self.fields([Place::Number, Place::Number])?;
         let n = items.len() as i64;
         let [item, cover] = fields.map(number);
@@ -155,7 +167,7 @@ impl<'a> Lines<'a> {
         Ok(need)
     }
 
-    fn needs(&mut self, items: &[Item]) -> Result<Vec<Need>, Refusal> {
+    fn needs(&mut self, items: &[Item<Range>]) -> Result<Vec<Need>, Refusal> {
         let mut needs = vec![];
         for _ in 0..self.heading(b"needs", 0, 16)? {
             needs.push(self.need(items, needs.last().copied())?);
@@ -164,11 +176,11 @@ impl<'a> Lines<'a> {
     }
 }
 
-pub fn read(sheet: &[u8]) -> Result<Problem, Refusal> {
+pub fn read(sheet: &[u8]) -> Result<Ranged, Refusal> {
     read_by(sheet, Blanks::Refused)
 }
 
-pub fn read_by(sheet: &[u8], blanks: Blanks) -> Result<Problem, Refusal> {
+pub fn read_by(sheet: &[u8], blanks: Blanks) -> Result<Ranged, Refusal> {
     if sheet.len() > 4096 {
         return Err(Refusal { number: 1, line: 0 });
     }
@@ -176,12 +188,15 @@ pub fn read_by(sheet: &[u8], blanks: Blanks) -> Result<Problem, Refusal> {
     lines.heading(b"limit", 1, 1)?;
     let limit = lines.limit()?;
     let n = lines.heading(b"items", 1, 16)?;
-    let mut items = (0..n).map(|_| lines.item(blanks)).collect::<Result<Vec<Item>, Refusal>>()?;
+    let mut items = (0..n).map(|_| lines.item(blanks)).collect::<Result<Vec<Item<Range>>, Refusal>>()?;
     items.iter_mut().zip(lines.bounds(b"lower", n)?).for_each(|(i, bound)| i.lower = bound);
     items.iter_mut().zip(lines.bounds(b"upper", n)?).for_each(|(i, bound)| i.upper = bound);
     let needs = lines.needs(&items)?;
     if !lines.rest.is_empty() {
         return Err(Refusal { number: 2, line: lines.line + 1 });
+    }
+    if let Some(k) = items.iter().position(|i| !i.weight.is_exact() && !i.is_never_below_nought()) {
+        return Err(at_item(20, k));
     }
     Ok(Problem { limit, items, needs })
 }

@@ -26,7 +26,7 @@ use Rattle.domination.specs.declared.Pair.{Pair}
 use Rattle.domination.specs.declared.Pair.the-variants.{Missing, Steps}
 use Rattle.domination.specs.Trades.{Trade}
 use Rattle.domination.specs.Eligible.{Eligible}
-use Rattle.domination.specs.Pairs.{roomFor, lessEfficient, give, take, oneWay, swapped, pairOf}
+use Rattle.domination.specs.Pairs.{roomFor, lessEfficient, giving, taking, oneWay, swapped, pairOf}
 use Rattle.domination.proofs.Tests.{not-both, test-le}
 use Rattle.domination.proofs.Trades.{Least, least-trade, trade-way, trade-gives}
 
@@ -218,61 +218,61 @@ module _ (x y : Item) (ex : Eligible x) (ey : Eligible y) where
   way r s h = ways _ _ _ _ _ _ (nonzero _ _ (signs x ex) .0) (turned r s h)
 
   module _ (l : lessEfficient x y ≡ true) where
-    found : Least (natAbs (x .weight)) (natAbs (y .weight)) (natAbs (x .price)) (natAbs (y .price)) (give x y) (take x y)
+    found : Least (natAbs (x .weight)) (natAbs (y .weight)) (natAbs (x .price)) (natAbs (y .price)) (giving x y) (taking x y)
     found = least-trade _ _ _ _ (nonzero _ _ (signs y ey) .0) (nonzero _ _ (signs y ey) .1) (ltb-true _ _ l)
 
-    gives : 1 ≤ give x y
-    gives = trade-something x y ey (give x y) (take x y) (found .trade)
+    gives : 1 ≤ giving x y
+    gives = trade-something x y ey (giving x y) (taking x y) (found .trade)
 
     -- no cost pair has lesser steps
-    bound : (r s : ℤ) → CostPair x y r s → (give x y ≤ natAbs r) × (take x y ≤ natAbs s)
+    bound : (r s : ℤ) → CostPair x y r s → (giving x y ≤ natAbs r) × (taking x y ≤ natAbs s)
     bound r s h = go _ _ (natAbs-turn (x .weight) r) (natAbs-turn (y .weight) s) (way r s h)
       where
-        go : (R S : ℤ) → natAbs R ≡ natAbs r → natAbs S ≡ natAbs s → WayOf x y R S → (give x y ≤ natAbs r) × (take x y ≤ natAbs s)
+        go : (R S : ℤ) → natAbs R ≡ natAbs r → natAbs S ≡ natAbs s → WayOf x y R S → (giving x y ≤ natAbs r) × (taking x y ≤ natAbs s)
         go R S p q (forth u t w) = (omega (arith, found .gives u (suc t) w), omega (arith, found .takes u (suc t) w))
         go R S p q (back u t w) = absurd (one-direction x y l (trade-direction y x ex t (suc u) w))
 
     abbrev first : ℤ
-    first = signed (x .weight) (give x y)
+    first = signed (x .weight) (giving x y)
 
     abbrev second : ℤ
-    second = negℤ (signed (y .weight) (take x y))
+    second = negℤ (signed (y .weight) (taking x y))
 
-    first-size : natAbs first ≡ give x y
-    first-size = ap natAbs (signed-turn (x .weight) (give x y)) ∙ natAbs-turn (x .weight) (pos (give x y))
+    first-size : natAbs first ≡ giving x y
+    first-size = ap natAbs (signed-turn (x .weight) (giving x y)) ∙ natAbs-turn (x .weight) (pos (giving x y))
 
-    second-size : natAbs second ≡ take x y
-    second-size = ap natAbs (opposite-turn (y .weight) (take x y)) ∙ natAbs-turn (y .weight) (negℤ (pos (take x y))) ∙ natAbs-neg (pos (take x y))
+    second-size : natAbs second ≡ taking x y
+    second-size = ap natAbs (opposite-turn (y .weight) (taking x y)) ∙ natAbs-turn (y .weight) (negℤ (pos (taking x y))) ∙ natAbs-neg (pos (taking x y))
 
-    meets : roomFor (x .lower) (x .upper) (give x y) ≡ true → roomFor (y .lower) (y .upper) (take x y) ≡ true → LeastPair x y first second
+    meets : roomFor (x .lower) (x .upper) (giving x y) ≡ true → roomFor (y .lower) (y .upper) (taking x y) ≡ true → LeastPair x y first second
     meets p q =
         let f = fill _ _ _ _ _ _ (found .trade) _ refl in
-        let b = unturned (pos (give x y)) (negℤ (pos (take x y))) f in
+        let b = unturned (pos (giving x y)) (negℤ (pos (taking x y))) f in
         record {
           pair = record {
             steps = record {
               r-moves = λ e. let z = sym first-size ∙ ap natAbs e in omega (arith, gives);
               t-moves = λ e. let z = sym second-size ∙ ap natAbs e in omega arith;
-              r-fits = room-for (x .lower) (x .upper) (give x y) _ first-size p;
-              t-fits = room-for (y .lower) (y .upper) (take x y) _ second-size q;
+              r-fits = room-for (x .lower) (x .upper) (giving x y) _ first-size p;
+              t-fits = room-for (y .lower) (y .upper) (taking x y) _ second-size q;
             };
-            heavy = rw (signed-turn (x .weight) (give x y), opposite-turn (y .weight) (take x y)) (b .0);
-            loss = rw (signed-turn (x .weight) (give x y), opposite-turn (y .weight) (take x y)) (b .1);
+            heavy = rw (signed-turn (x .weight) (giving x y), opposite-turn (y .weight) (taking x y)) (b .0);
+            loss = rw (signed-turn (x .weight) (giving x y), opposite-turn (y .weight) (taking x y)) (b .1);
           };
           least = λ r s h. rw (first-size, second-size) (bound r s h);
         }
 
-    no-first-room : roomFor (x .lower) (x .upper) (give x y) ≡ false → NoPair x y
-    no-first-room e r s h = not-both _ (room-less (x .lower) (x .upper) (give x y) r (bound r s h .0) (h .steps .r-fits)) e
+    no-first-room : roomFor (x .lower) (x .upper) (giving x y) ≡ false → NoPair x y
+    no-first-room e r s h = not-both _ (room-less (x .lower) (x .upper) (giving x y) r (bound r s h .0) (h .steps .r-fits)) e
 
-    no-second-room : roomFor (y .lower) (y .upper) (take x y) ≡ false → NoPair x y
-    no-second-room e r s h = not-both _ (room-less (y .lower) (y .upper) (take x y) s (bound r s h .1) (h .steps .t-fits)) e
+    no-second-room : roomFor (y .lower) (y .upper) (taking x y) ≡ false → NoPair x y
+    no-second-room e r s h = not-both _ (room-less (y .lower) (y .upper) (taking x y) s (bound r s h .1) (h .steps .t-fits)) e
 
     one-way-outcome : Outcome x y (oneWay x y)
     unfolding oneWay
-    one-way-outcome = go (roomFor (x .lower) (x .upper) (give x y)) (roomFor (y .lower) (y .upper) (take x y)) refl refl
+    one-way-outcome = go (roomFor (x .lower) (x .upper) (giving x y)) (roomFor (y .lower) (y .upper) (taking x y)) refl refl
       where
-        go : (p q : Bool) → roomFor (x .lower) (x .upper) (give x y) ≡ p → roomFor (y .lower) (y .upper) (take x y) ≡ q →
+        go : (p q : Bool) → roomFor (x .lower) (x .upper) (giving x y) ≡ p → roomFor (y .lower) (y .upper) (taking x y) ≡ q →
             Outcome x y (cond p (cond q (Steps first second) Missing) Missing)
         go true true e f = meets e f
         go true false e f = no-second-room f

@@ -16,7 +16,7 @@ use Rattle.model.specs.Records.{ItemFigures}
 use Rattle.domination.specs.Trades.{Sizes}
 use Rattle.domination.specs.declared.Pair.{Pair}
 use Rattle.domination.specs.declared.Pair.the-variants.{Missing, Steps}
-use Rattle.domination.specs.Pairs.{Fit, Traded, roomFor, lessEfficient, give, take, steps, oneWay, swapped, pairOf}
+use Rattle.domination.specs.Pairs.{Fit, Traded, roomFor, lessEfficient, giving, taking, steps, oneWay, swapped, pairOf}
 use Rattle.domination.proofs.Trades.{least-trade}
 use Rattle.domination.proofs.Minimal.{signs, nonzero}
 
@@ -36,7 +36,7 @@ sizes {x} {y} h = record {
   d-most = h .second-fit .in-range .price-in;
 }
 
-pub trade-small : {x y : Item} → Traded x y → (give x y ≤ 1000) × (take x y ≤ 1000)
+pub trade-small : {x y : Item} → Traded x y → (giving x y ≤ 1000) × (taking x y ≤ 1000)
 trade-small {x} {y} h =
     let z = sizes h in
     let l = least-trade _ _ _ _ (z .b-least) (z .d-least) (ltb-true _ _ (h .direction)) in
@@ -54,10 +54,10 @@ Small (Steps r s) = Within 1000 r × Within 1000 s
 
 one-way-small : (x y : Item) → Traded x y → Small (oneWay x y)
 unfolding oneWay
-one-way-small x y h = go (roomFor (x .lower) (x .upper) (give x y)) (roomFor (y .lower) (y .upper) (take x y))
+one-way-small x y h = go (roomFor (x .lower) (x .upper) (giving x y)) (roomFor (y .lower) (y .upper) (taking x y))
   where
-    go : (p q : Bool) → Small (cond p (cond q (steps x y (give x y) (take x y)) Missing) Missing)
-    go true true = let s = trade-small h in (signed-within (x .weight) (give x y) (s .0), within-neg _ (signed-within (y .weight) (take x y) (s .1)))
+    go : (p q : Bool) → Small (cond p (cond q (steps x y (giving x y) (taking x y)) Missing) Missing)
+    go true true = let s = trade-small h in (signed-within (x .weight) (giving x y) (s .0), within-neg _ (signed-within (y .weight) (taking x y) (s .1)))
     go true false = tt
     go false q = tt
 

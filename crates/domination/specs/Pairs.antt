@@ -2,7 +2,7 @@
 --   roomFor l u n        whether there is room for n steps between two bounds
 --   sizeOf x             weight and price without sign
 --   lessEfficient x y    x is worth less than y per unit of weight
---   give x y, take x y   the least steps of x and y without sign, x the less efficient;  tradeOf x y: both
+--   giving x y, taking x y   the least steps of x and y without sign, x the less efficient;  tradeOf x y: both
 --   steps x y r t        steps with their signs
 --   oneWay x y           those least steps with their signs, if both items have room for them
 --   swapped q            the pair of the items in the other order
@@ -62,14 +62,14 @@ abbrev pub lessEfficient : Item → Item → Bool
 lessEfficient x y = ltb (sizeOf x .price * sizeOf y .weight) (sizeOf x .weight * sizeOf y .price)
 
 -- the least steps of x and y without sign, x the less efficient
-abbrev pub give : Item → Item → ℕ
-give x y = leastGive (sizeOf x .weight) (sizeOf y .weight) (sizeOf x .price) (sizeOf y .price)
+abbrev pub giving : Item → Item → ℕ
+giving x y = leastGive (sizeOf x .weight) (sizeOf y .weight) (sizeOf x .price) (sizeOf y .price)
 
-abbrev pub take : Item → Item → ℕ
-take x y = partner (sizeOf x .price) (sizeOf y .price) (give x y)
+abbrev pub taking : Item → Item → ℕ
+taking x y = partner (sizeOf x .price) (sizeOf y .price) (giving x y)
 
 abbrev pub tradeOf : Item → Item → Trade
-tradeOf x y = record { give = give x y; take = take x y }
+tradeOf x y = record { give = giving x y; take = taking x y }
 
 -- the less efficient item's step has its weight's sign, the other's the opposite
 abbrev pub steps : Item → Item → ℕ → ℕ → Pair
@@ -77,8 +77,8 @@ steps x y r t = Steps (signed (x .weight) r) (negℤ (signed (y .weight) t))
 
 unfoldable pub oneWay : Item → Item → Pair
 oneWay x y =
-    cond (roomFor (x .lower) (x .upper) (give x y))
-    (cond (roomFor (y .lower) (y .upper) (take x y)) (steps x y (give x y) (take x y)) Missing)
+    cond (roomFor (x .lower) (x .upper) (giving x y))
+    (cond (roomFor (y .lower) (y .upper) (taking x y)) (steps x y (giving x y) (taking x y)) Missing)
     Missing
 
 abbrev pub swapped : Pair → Pair

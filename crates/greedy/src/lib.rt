@@ -19,7 +19,7 @@ ghost use Rattle.greedy.specs.Sized.{Sized, SizedFill, Raisable, Shareab
 mod point; // point.rt: the amounts of a filling
 
 // A problem by columns. By item: weight and price. By rank, in the order of falling price per weight: the item, its weight and
-// price without the sign of the weight. rank is order timesSign round; the first live ranks are worth their weight.
+// price without the sign of the weight. rank is order turned round; the first live ranks are worth their weight.
 pub struct Columns {
     pub weight: [i64; 16],
     pub price: [i64; 16],

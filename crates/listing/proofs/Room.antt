@@ -38,7 +38,7 @@ use Rattle.model.specs.declared.Sense.the-variants.{Sure, Possible}
 use Rattle.model.proofs.Records.{accepted}
 use Rattle.model.proofs.Showing.{default, own-some, shown-few, whole-iff, partsOf, Parted, parted}
 use Rattle.text.proofs.Decimals.{decimal-length, integer-length}
-use Rattle.listing.specs.Printing.{bestLine, itemLine, amountAt as printedAmount, stepAt, itemLines, printedAs, printed, isRefused, printedBoth, room}
+use Rattle.listing.specs.Printing.{bestLine, itemLine, printedAmount, stepAt, itemLines, printedAs, printed, isRefused, printedBoth, room}
 use Rattle.model.specs.declared.Answers.{Answers}
 
 -- ---- the value that is shown

@@ -3,7 +3,7 @@
 --   refusedLine f        `refused N L`
 --   bestLine v           `best P Q`
 --   itemLine s k x r     `k p q` of the item at place k, from 0; behind it the step r, where steps are shown
---   amountAt a k         the amount at a place
+--   printedAmount a k    the amount at a place of the answer's array
 --   stepAt a k           the step at a place
 --   itemLines s a n      the lines of the first n items, in order
 --   listed n             how many items of n are listed: an answer has 16 places
@@ -26,16 +26,20 @@ use Rattle.text.specs.Decimal.{decimal, integer}
 use Rattle.text.specs.Layout.{line}
 use Rattle.model.specs.declared.Answers.{Answers}
 
--- ---- the words
+-- ---- the words, in the bytes of ASCII
+-- refused
 abbrev pub refused : List ℕ
 refused = 114 ∷ 101 ∷ 102 ∷ 117 ∷ 115 ∷ 101 ∷ 100 ∷ []
 
+-- infeasible
 abbrev pub infeasible : List ℕ
 infeasible = 105 ∷ 110 ∷ 102 ∷ 101 ∷ 97 ∷ 115 ∷ 105 ∷ 98 ∷ 108 ∷ 101 ∷ []
 
+-- best
 abbrev pub best : List ℕ
 best = 98 ∷ 101 ∷ 115 ∷ 116 ∷ []
 
+-- unbounded
 abbrev pub unbounded : List ℕ
 unbounded = 117 ∷ 110 ∷ 98 ∷ 111 ∷ 117 ∷ 110 ∷ 100 ∷ 101 ∷ 100 ∷ []
 
@@ -49,15 +53,15 @@ bestLine v = line best (integer (v .p) ∷ decimal (v .q) ∷ [])
 abbrev pub itemLine : Bool → ℕ → Fraction → ℤ → List ℕ
 itemLine s k x r = line (decimal (suc k)) (integer (x .p) ∷ decimal (x .q) ∷ cond s (integer r ∷ []) [])
 
-abbrev pub amountAt : Answer → ℕ → Fraction
-amountAt a k = getD (a .point) k (record { p = pos 0; q = 0 })
+abbrev pub printedAmount : Answer → ℕ → Fraction
+printedAmount a k = getD (a .point) k (record { p = pos 0; q = 0 })
 
 abbrev pub stepAt : Answer → ℕ → ℤ
 stepAt a k = getD (a .steps) k (pos 0)
 
 unfoldable pub itemLines : Bool → Answer → ℕ → List ℕ
 itemLines s a zero = []
-itemLines s a (suc n) = itemLines s a n ++ itemLine s n (amountAt a n) (stepAt a n)
+itemLines s a (suc n) = itemLines s a n ++ itemLine s n (printedAmount a n) (stepAt a n)
 
 abbrev pub listed : ℕ → ℕ
 listed n = min n 16

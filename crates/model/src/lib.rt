@@ -250,9 +250,9 @@ fn is_zero(z: i64) -> bool
 pub fn is_reversed(i: ModelItem) -> bool
     ensures { λ r. ⌜ r ≡ isReversed i ⌝ }
 {
-    let a = i.low;
-    let b = i.high;
-    b < a
+    let low = i.low;
+    let high = i.high;
+    high < low
 }
 
 // Whether an item has weight 0, whatever its weight may be.
@@ -281,9 +281,9 @@ pub fn is_blank(i: ModelItem) -> bool
 fn is_range(i: ModelItem) -> bool
     ensures { λ r. ⌜ r ≡ isRange i ⌝ }
 {
-    let a = i.low;
-    let b = i.high;
-    if a < b {
+    let low = i.low;
+    let high = i.high;
+    if low < high {
         return true;
     }
     is_reversed(i)

@@ -59,7 +59,7 @@ fn limit_amount(n: u64, q: u64) -> Fraction
 }
 
 // One divisor in 32 is that of any weight.
-fn drawn_divisor(state: u64, i: Item) -> u64
+fn drawn_divisor(state: u64, i: ModelItem) -> u64
     ensures { λ r. ⌜ r ≤ 6 ⌝ }
 {
     if below(state, 31) == 0 {
@@ -70,7 +70,7 @@ fn drawn_divisor(state: u64, i: Item) -> u64
 }
 
 // The filler has any amount, the others whole ones.
-fn drawn_amount(state: u64, i: Item, filler: bool) -> Fraction {
+fn drawn_amount(state: u64, i: ModelItem, filler: bool) -> Fraction {
     let a = next(state);
     let q = drawn_divisor(state, i);
     if below(state, 39) == 0 {
@@ -149,13 +149,13 @@ fn shares(n: u64, q: u64) -> bool {
 }
 
 // A continuous item's amounts are over its weight without sign, 1 where it is 0 (paper 02, request 12).
-fn own_divisor(i: Item) -> u64 {
+fn own_divisor(i: ModelItem) -> u64 {
     let m = i.mark;
-    let size = size_of(i.weight);
+    let size = size_of(i.high);
     if is_integer(m) || size == 0 { 1 } else { size }
 }
 
-fn is_bad(i: Item, x: Fraction) -> bool {
+fn is_bad(i: ModelItem, x: Fraction) -> bool {
     let q = x.q;
     if q != own_divisor(i) {
         return true;
@@ -170,7 +170,7 @@ fn is_whole(x: Fraction) -> bool {
     divides(x.q, size_of(x.p))
 }
 
-fn with_amount(h: Shape, i: Item, x: Fraction) -> Shape {
+fn with_amount(h: Shape, i: ModelItem, x: Fraction) -> Shape {
     let split = !is_whole(x);
     Shape {
         bad: h.bad || is_bad(i, x),

@@ -2,7 +2,7 @@
 // plans thousands of drawn small problems, each of which is also tried by plain enumeration (trials::outcome says when the two agree).
 // A problem on which they disagree is printed. Some are planned with no step of the search or one, so that the scales answer.
 mod rows; // paper 01's rows
-mod senses; // weights known within ranges
+mod ranged; // weights known within ranges
 mod texts; // the text entry
 
 use knapsack::Answer;
@@ -130,5 +130,5 @@ fn main() {
     open_problems();
     without_steps();
     with_one_step();
-    senses::show_senses();
+    ranged::show_senses();
 }

@@ -10,7 +10,7 @@
 --   WorkAs f v m n     the work for the record m with that verdict is n, for both replies; 0 where it is refused
 --   Steps r n, Cells r n
 --                      n steps are those of the searches for what was read, of at most 500 each; n cells are those that the scales write for it
---   Plans s b c l k n  the buffer b becomes c, and length l, line k and number n say so, for a true answer to the sheet s
+--   Plans s b c l k n  the buffer b becomes c, and bytes written l, line k and number n say so, for a true answer to the sheet s
 use mathlib.Core.Path.{_≡_}
 use mathlib.Core.Bool.{Bool, true, false}
 use mathlib.Core.List.{List}
@@ -72,9 +72,9 @@ Steps r n = WorkAs (λ s. s .steps) (r .verdict) (r .model) n
 abbrev pub Cells : Reading → ℕ → Type 0
 Cells r n = WorkAs (λ s. s .cells) (r .verdict) (r .model) n
 
-pub record Plans (s b c : List ℕ) (length line number : ℕ) : Type 0 where
+pub record Plans (s b c : List ℕ) (written line number : ℕ) : Type 0 where
   pub reply : Listed
   pub lists : SheetLists s b c reply
-  pub length-is : length ≡ lengthOf reply
+  pub length-is : written ≡ lengthOf reply
   pub line-is : line ≡ toldLine (listedVerdict reply)
   pub number-is : number ≡ toldNumber (listedVerdict reply)

@@ -47,16 +47,21 @@ use Rattle.sheet.specs.declared.Progress.{Progress}
 use Rattle.sheet.specs.declared.Reading.{Reading}
 use Rattle.sheet.specs.Sections.{goesOn, stoppedBy, refusedAt, onward, Gives, fault, gives, LineForm, sectionOf}
 
+-- the heading words in the bytes of ASCII
+-- limit
 abbrev pub limit : List ℕ
 limit = 108 ∷ 105 ∷ 109 ∷ 105 ∷ 116 ∷ []
 
+-- items
 abbrev pub items : List ℕ
 items = 105 ∷ 116 ∷ 101 ∷ 109 ∷ 115 ∷ []
 
+-- lower, upper
 abbrev pub wordOf : Side → List ℕ
 wordOf Lower = 108 ∷ 111 ∷ 119 ∷ 101 ∷ 114 ∷ []
 wordOf Upper = 117 ∷ 112 ∷ 112 ∷ 101 ∷ 114 ∷ []
 
+-- needs
 abbrev pub needs : List ℕ
 needs = 110 ∷ 101 ∷ 101 ∷ 100 ∷ 115 ∷ []
 

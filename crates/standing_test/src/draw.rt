@@ -1,12 +1,13 @@
 // Changes drawn from a seed: one in four adds an item, one removes one, two set an upper bound, from 0 to twice its span. One item number in sixteen is 0,
-// and some are one too high; of sixteen items one is blank, one has a weight out of range, one a low weight above its high one, four have a range, which
-// is refused if the amount may be below 0; and one bound in sixteen is out of range.
+// and some are one too high; of sixteen items one is blank, one has a weight out of range, one a low weight above its high one, four have a range, at no
+// end of which they are blank, and which is refused if the amount may be below 0; and one bound in sixteen is out of range.
 use knapsack::Bound;
 use model::ModelItem;
 use trials::draw::Spans;
 use trials::draw::below;
 use trials::draw::drawn_item;
 use trials::draw::figure;
+use trials::draw::mended_price;
 use trials::draw::next;
 use trials::exact::as_signed;
 use trials::exact::plus;
@@ -37,6 +38,7 @@ fn spoiled(x: ModelItem, state: u64) -> ModelItem {
     }
     if d == 3 || d == 4 || d == 5 || d == 6 {
         y.high = plus(y.high, 2);
+        y.price = mended_price(0, y.price);
     }
     y
 }

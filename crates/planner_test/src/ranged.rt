@@ -1,6 +1,7 @@
 // Weights known within ranges (paper 02, request 11): drawn problems with ranges, planned in both senses and held to plain enumeration at every corner,
-// where each weight is known and stands at one end of its range. Amounts of such items are at least 0, so that the ends are enough.
-//   sure       its point fits at every corner, and at some corner nothing is better; or at some corner nothing fits
+// where each weight is known and stands at one end of its range, and at weights drawn inside the ranges. Amounts of such items are at least 0, so that the
+// corners decide.
+//   sure       its point fits at every corner and at all weights drawn, and at some corner nothing is better; or at some corner nothing fits
 //   possible   its point fits at some corner, and at every corner nothing is better; or at every corner nothing fits
 // Of an unbounded reply the steps are a ray where the point has to fit. The two kinds are one of six pairs, and where both are best the sure value is
 // no greater.
@@ -8,6 +9,7 @@ use knapsack::Answer;
 use knapsack::Kind;
 use model::Model;
 use model::Sense;
+use model::beyond;
 use planner::plan;
 use trials::count::one_more;
 use trials::count::print_count;
@@ -28,6 +30,7 @@ use trials::outcome::shut_problem;
 use trials::print::print;
 use trials::print::print_kind;
 use trials::print::print_problem;
+use trials::ranges::at_drawn;
 use trials::ranges::at_ends;
 use trials::ranges::with_drawn_ranges;
 use trials::tally::number_of;
@@ -37,7 +40,7 @@ const REACH: i64 = 20;
 
 // ---- one answer at the corners
 
-// What has been seen of an answer: it holds at every corner, at some; nothing better is there at every corner, at some.
+// What has been seen of an answer: it holds at every corner and inside, at some corner; nothing better is there at every corner, at some.
 struct Seen {
     held: bool,
     once_held: bool,
@@ -45,12 +48,21 @@ struct Seen {
     once_unbeaten: bool,
 }
 
+// A start that is farther off than plain sums go. The point check has allowed it at the ends of its sense. No problem here has more than three items.
+fn is_far_off(a: Answer) -> bool {
+    let p = a.point;
+    let x = p[0];
+    let y = p[1];
+    let z = p[2];
+    beyond(x.p, 1000000) || beyond(y.p, 1000000) || beyond(z.p, 1000000)
+}
+
 fn holds_at(m: Model, a: Answer) -> bool {
     let k = a.kind;
     match k {
         Kind::Optimal => fits(m, a),
         Kind::Infeasible => true,
-        Kind::Unbounded => fits(m, a) && leads_on(m, a),
+        Kind::Unbounded => leads_on(m, a) && (is_far_off(a) || fits(m, a)),
         Kind::Refused(_) => false,
     }
 }
@@ -70,13 +82,15 @@ fn is_unbeaten(a: Answer, b: Best) -> bool {
     }
 }
 
-fn with_corner(s: Seen, m: Model, n: usize, a: Answer) -> Seen
+// At a corner, and at weights inside the ranges, which a sure answer may not break either.
+fn with_corner(s: Seen, m: Model, inside: Model, n: usize, a: Answer) -> Seen
     requires { ⌜ n ≤ 15 ⌝ }
 {
     let holds = holds_at(m, a);
+    let between = holds_at(inside, a);
     let best = is_unbeaten(a, best_value(shut_problem(m, n, REACH), n));
     Seen {
-        held: s.held && holds,
+        held: s.held && holds && between,
         once_held: s.once_held || holds,
         unbeaten: s.unbeaten && best,
         once_unbeaten: s.once_unbeaten || best,
@@ -95,7 +109,7 @@ fn seen_of(m: Model, n: usize, a: Answer, corners: u64) -> Seen
     };
     let mut e: u64 = 0;
     while e < corners {
-        s = with_corner(s, at_ends(m, e), n, a);
+        s = with_corner(s, at_ends(m, e), at_drawn(m, e), n, a);
         e += 1;
     }
     s

@@ -1,8 +1,8 @@
 -- The measure is the corners left.
 use Prim.Native.Nat.{_-_, _≤_}
 use borrow.Author.Needs.{needs}
-use Rattle.planner_test.proofs.senses.seen_of.Statement.{statement}
-use Rattle.planner_test.proofs.senses.seen_of.Tie as tie
+use Rattle.planner_test.proofs.ranged.seen_of.Statement.{statement}
+use Rattle.planner_test.proofs.ranged.seen_of.Tie as tie
 
 abbrev Inv-loop : tie.InvT-loop
 Inv-loop m n a corners s₀ e₀ s e = e ≤ corners
@@ -15,6 +15,9 @@ loop-holds c = search needs
 
 at-ends-requires : tie.Need-at-ends-requires Inv-loop μ-loop
 at-ends-requires c κs = search needs
+
+at-drawn-requires : tie.Need-at-drawn-requires Inv-loop μ-loop
+at-drawn-requires c κs = search needs
 
 with-corner-requires : tie.Need-with-corner-requires Inv-loop μ-loop
 with-corner-requires c κs = search needs
@@ -39,6 +42,7 @@ seen-of-spec =
     μ-loop
     loop-holds
     at-ends-requires
+    at-drawn-requires
     with-corner-requires
     add-e
     loop-less

@@ -1,8 +1,8 @@
 -- The measure is the problems left.
 use Prim.Native.Nat.{_-_}
 use borrow.Author.Needs.{needs}
-use Rattle.planner_test.proofs.senses.pairs_of.Statement.{statement}
-use Rattle.planner_test.proofs.senses.pairs_of.Tie as tie
+use Rattle.planner_test.proofs.ranged.pairs_of.Statement.{statement}
+use Rattle.planner_test.proofs.ranged.pairs_of.Tie as tie
 
 abbrev Inv-loop : tie.InvT-loop
 Inv-loop seed problems n among z corners p₀ state₀ k₀ p state k = Unit {0}
