@@ -244,7 +244,7 @@ fn pieces_of(cols: Columns, ends: Ends, p: u64, q: u64, scale: u64, cut: usize, 
 }
 
 // The room that is left where every item weighs least, if any.
-#[derive(Drop)]
+#[derive(Clone, Copy)]
 pub struct Room {
     pub fits: bool,
     pub left: u64,
@@ -340,7 +340,7 @@ fn first_of(
 // ---- the top
 
 // A sum that is being made.
-#[derive(Drop)]
+#[derive(Clone, Copy)]
 pub struct Total {
     pub sum: i64,
 }
@@ -487,7 +487,7 @@ fn framed(cols: Columns, ends: Ends, whole: [bool; 16], cut: usize, t: usize) ->
 }
 
 // A frame: the item cut, into how many pieces a unit, the ends, and what the frame itself loses.
-#[derive(Drop)]
+#[derive(Clone, Copy)]
 pub struct Frame {
     pub cut: usize,
     pub scale: u64,
@@ -554,7 +554,7 @@ fn made(cols: Columns, ends: Ends, ys: [u64; 17]) -> [i64; 16]
 }
 
 // The least loss of a frame, and the amounts of a point that has it, but for the item cut; and how many cells were written.
-#[derive(Drop)]
+#[derive(Clone, Copy)]
 pub struct Lowest {
     pub least: u64,
     pub place: [i64; 16],
@@ -627,7 +627,7 @@ pub fn is_usable(cols: Columns, ends: Ends, whole: [bool; 16], t: usize) -> bool
 // ---- the least loss of a box
 
 // num / den.
-#[derive(Drop)]
+#[derive(Clone, Copy)]
 pub struct Lost {
     pub num: u64,
     pub den: u64,
@@ -635,7 +635,7 @@ pub struct Lost {
 
 // The least loss so far; if found, that of frame `at`, and of the point of the frame that the place shows. Whether any frame was looked at, and how
 // many cells were written.
-#[derive(Drop)]
+#[derive(Clone, Copy)]
 pub struct Least {
     pub lost: Lost,
     pub found: bool,
@@ -761,21 +761,21 @@ fn unlowered(known: Lost) -> Least
 // ---- the bound of a box
 
 // p for a weight of q.
-#[derive(Drop)]
+#[derive(Clone, Copy)]
 pub struct Price {
     pub p: u64,
     pub q: u64,
 }
 
 // The loss of a value, if exact; else one that no loss need be above.
-#[derive(Drop)]
+#[derive(Clone, Copy)]
 pub struct Known {
     pub lost: Lost,
     pub exact: bool,
 }
 
 // (top - lost) / q, by the price p / q: if found, the loss of frame `at` and of its point that the place shows, else that of the value that was known.
-#[derive(Drop)]
+#[derive(Clone, Copy)]
 pub struct Limit {
     pub top: i64,
     pub p: u64,
@@ -918,7 +918,7 @@ pub fn ceiling(
 // ---- the first point of a frame
 
 // The amounts of a point of a frame, but for the item cut, if there is one; and how many cells were written.
-#[derive(Drop)]
+#[derive(Clone, Copy)]
 pub struct Seen {
     pub found: bool,
     pub place: [i64; 16],

@@ -11,7 +11,7 @@ use streams::{Progress, SPACE, begun, is_whole, read_sheet, space, write_reply};
 use text::Text;
 use watching::watch_text;
 
-#[derive(Drop)]
+#[derive(Clone, Copy)]
 pub enum Program {
     Charge,
     Convert,
@@ -19,7 +19,7 @@ pub enum Program {
 }
 
 // What a run has read, and what it has printed of its reply.
-#[derive(Drop)]
+#[derive(Clone, Copy)]
 pub struct Passage {
     pub sheet: [u8; SPACE],
     pub read: Progress,

@@ -7,7 +7,7 @@ use model::{Model, ModelItem, Need, setters};
 use trials::draw::{DrawnProblem, below, next};
 
 // Of an item: not blank, or what keeps a blank one from being left out. Of a record: the same of its items together.
-#[derive(Drop)]
+#[derive(Clone, Copy)]
 pub enum Reason {
     NoBlank,
     Harmless,
@@ -17,7 +17,7 @@ pub enum Reason {
 }
 
 // The item is the number of the one that stands against it, 0 where none does.
-#[derive(Drop)]
+#[derive(Clone, Copy)]
 pub struct Fate {
     pub reason: Reason,
     pub item: usize,

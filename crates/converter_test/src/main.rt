@@ -29,7 +29,7 @@ use trials::print::{print, print_field, print_kind};
 use trials::tally::number_of;
 
 // Whether a sheet's reply is as it has to be, and the kind of the planner's answer to what was written, 0 for none.
-#[derive(Drop)]
+#[derive(Clone, Copy)]
 struct Trial {
     agrees: bool,
     met: bool,
@@ -259,7 +259,7 @@ fn show_refused() {
 
 // How many sheets came back the same, were converted, by the kind of the answer, or were refused, by the reason; `moved` counts those converted in which a
 // need's number moves, `behind` the hindering items with a blank item before them that does not hinder.
-#[derive(Drop)]
+#[derive(Clone, Copy)]
 struct Counts {
     same: u64,
     converted: u64,

@@ -14,14 +14,14 @@ use writer::write_sheet;
 pub const ROOM: usize = 512;
 
 // A sheet by value, and '#' behind it.
-#[derive(Drop)]
+#[derive(Clone, Copy)]
 pub struct Sheet {
     pub bytes: [u8; ROOM],
     pub len: usize,
 }
 
 // A buffer of '#', of which the first bytes were lent, and what was told.
-#[derive(Drop)]
+#[derive(Clone, Copy)]
 pub struct Kept {
     pub bytes: [u8; ROOM],
     pub told: Listed,

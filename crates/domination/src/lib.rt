@@ -15,14 +15,14 @@ mod pairing; // pairing.rt: the least pair of two items
 mod trade; // trade.rt: the least steps without sign
 
 // 01's least pair of two items: none, or the steps r of the first and s of the second.
-#[derive(Drop)]
+#[derive(Clone, Copy)]
 pub enum Pair {
     Missing,
     Steps(i64, i64),
 }
 
 // What the entry replies.
-#[derive(Drop)]
+#[derive(Clone, Copy)]
 pub enum PairReply {
     Refused(Refusal),
     Found(Pair),

@@ -8,14 +8,14 @@ use arith::magnitude;
 use knapsack::Item;
 
 // Weight and price without sign.
-#[derive(Drop)]
+#[derive(Clone, Copy)]
 pub struct Size {
     pub weight: u64,
     pub price: u64,
 }
 
 // The least steps without sign: of the less efficient item, and of the other.
-#[derive(Drop)]
+#[derive(Clone, Copy)]
 pub struct Trade {
     pub give: u64,
     pub take: u64,

@@ -13,7 +13,7 @@ use trials::make::record_of;
 use trials::print::{print, print_number, print_signed};
 use trials::read::{places, read_items, read_needs, read_number, skip};
 
-#[derive(Drop)]
+#[derive(Clone, Copy)]
 struct ProblemRead {
     problem: Model,
     lines: usize,

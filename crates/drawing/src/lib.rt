@@ -33,28 +33,28 @@ use knapsack::{Bound, Mark};
 use model::{Model, ModelItem, Side, setters};
 
 // A bound, and the state after its draws.
-#[derive(Drop)]
+#[derive(Clone, Copy)]
 struct DrawnBound {
     bound: Bound,
     state: u64,
 }
 
 // An item, and the state after its draws.
-#[derive(Drop)]
+#[derive(Clone, Copy)]
 struct DrawnItem {
     item: ModelItem,
     state: u64,
 }
 
 // A problem, and the state after its draws.
-#[derive(Drop)]
+#[derive(Clone, Copy)]
 pub struct DrawnProblem {
     pub problem: Model,
     pub state: u64,
 }
 
 // The sections of a sheet that have a line for each item.
-#[derive(Drop)]
+#[derive(Clone, Copy)]
 enum Section {
     Items,
     Lower,

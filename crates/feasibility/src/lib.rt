@@ -36,7 +36,7 @@ use knapsack::{Bound, Item, Problem, Refusal, Verdict, own_divisor};
 use model::{Model, Needs, Sense, Side, beyond, check_model, plain_of, refusal_of, refusals};
 
 // 01's proposed point: an amount for each item, at the first count places.
-#[derive(Drop)]
+#[derive(Clone, Copy)]
 pub struct Candidate {
     pub amounts: [Fraction; 16],
     pub count: usize,
@@ -44,7 +44,7 @@ pub struct Candidate {
 
 // 01's yes with the exact value, or its no: the first item, from 1, that breaks its mark or a bound, or else that of the first broken need, or 0 where
 // only the weight is over.
-#[derive(Drop)]
+#[derive(Clone, Copy)]
 pub enum PointReply {
     Refused(Refusal),
     Feasible(Fraction),
@@ -52,7 +52,7 @@ pub enum PointReply {
 }
 
 // Which figure of an item is summed.
-#[derive(Drop)]
+#[derive(Clone, Copy)]
 enum Figure {
     Weight,
     Price,

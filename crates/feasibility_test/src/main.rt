@@ -11,13 +11,13 @@ use trials::make::record_of;
 use trials::print::{print, print_field, print_signed_field};
 use trials::read::{is_gap, places, read_items, read_needs, read_number, skip};
 
-#[derive(Drop)]
+#[derive(Clone, Copy)]
 struct Amounts {
     list: [Fraction; 16],
     at: usize,
 }
 
-#[derive(Drop)]
+#[derive(Clone, Copy)]
 struct OneAmount {
     amount: Fraction,
     at: usize,

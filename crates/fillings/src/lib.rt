@@ -18,7 +18,7 @@ use residues::{free_part, least_beside};
 use scales::Cost;
 
 // The parts of a load, and for each whether its amount falls where more of it is taken.
-#[derive(Drop)]
+#[derive(Clone, Copy)]
 pub struct Parts {
     pub weight: [u64; 17],
     pub range: [u64; 17],
@@ -28,21 +28,21 @@ pub struct Parts {
 }
 
 // The amounts from low on, and wide more.
-#[derive(Drop)]
+#[derive(Clone, Copy)]
 pub struct Ranges {
     pub low: [u64; 17],
     pub wide: [u64; 17],
 }
 
 // The parts before `to`, from one on, and how many keys they have.
-#[derive(Drop)]
+#[derive(Clone, Copy)]
 pub struct Group {
     pub to: usize,
     pub base: u64,
 }
 
 // The least cost, the ranges that are left for it, with the parts before `to` fixed, and how many cells were written.
-#[derive(Drop)]
+#[derive(Clone, Copy)]
 pub struct Run {
     pub cost: u64,
     pub ranges: Ranges,
@@ -51,7 +51,7 @@ pub struct Run {
 }
 
 // Weights as costs, of what is taken and of what is left, each with a cap that every filling of the capacity is below.
-#[derive(Drop)]
+#[derive(Clone, Copy)]
 pub struct Weighing {
     pub capacity: u64,
     pub up: Parts,
@@ -61,7 +61,7 @@ pub struct Weighing {
 }
 
 // The amounts of the first filling, if there is one, and how many cells were written.
-#[derive(Drop)]
+#[derive(Clone, Copy)]
 pub struct First {
     pub found: bool,
     pub amounts: [u64; 17],
@@ -69,7 +69,7 @@ pub struct First {
 }
 
 // The least cost of a filling, the amounts of the first filling that has it, if it is below the cap, and how many cells were written.
-#[derive(Drop)]
+#[derive(Clone, Copy)]
 pub struct Filled {
     pub least: u64,
     pub amounts: [u64; 17],

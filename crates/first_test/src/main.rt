@@ -59,7 +59,7 @@ fn chosen() {
 
 // ---- drawn problems
 
-#[derive(Drop)]
+#[derive(Clone, Copy)]
 struct Counts {
     best: u64,
     met: u64,

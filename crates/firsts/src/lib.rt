@@ -25,14 +25,14 @@ use setting::{Setting, fixed};
 use settling::by_level;
 
 // The filling at a place: its point, and what it is worth.
-#[derive(Drop)]
+#[derive(Clone, Copy)]
 pub struct Filled {
     pub point: [Fraction; 16],
     pub value: Mixed,
 }
 
 // What optimal points lose at the price p / q: num / den, of top.
-#[derive(Drop)]
+#[derive(Clone, Copy)]
 pub struct Optimum {
     pub top: i64,
     pub p: u64,
@@ -42,7 +42,7 @@ pub struct Optimum {
 }
 
 // The point that leads so far, and how many cells were written.
-#[derive(Drop)]
+#[derive(Clone, Copy)]
 pub struct Lead {
     pub point: [Fraction; 16],
     pub written: u64,

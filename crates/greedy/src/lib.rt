@@ -14,7 +14,7 @@ mod point; // point.rt: the amounts of a filling
 
 // A problem by columns. By item: weight and price. By rank, in the order of falling price per weight: the item, its weight and
 // price without the sign of the weight. rank is order turned round; the first live ranks are worth their weight.
-#[derive(Drop)]
+#[derive(Clone, Copy)]
 pub struct Columns {
     pub weight: [i64; 16],
     pub price: [i64; 16],
@@ -28,14 +28,14 @@ pub struct Columns {
 }
 
 // The bounds of a box, by item.
-#[derive(Drop)]
+#[derive(Clone, Copy)]
 pub struct Ends {
     pub lo: [i64; 16],
     pub hi: [i64; 16],
 }
 
 // Where a filling stands: the ranks before `at` are raised, `room` of the capacity is left, the amounts are worth `worth`.
-#[derive(Drop)]
+#[derive(Clone, Copy)]
 pub struct Fill {
     pub at: usize,
     pub room: i64,
@@ -108,7 +108,7 @@ pub fn with_amount(f: Fill, a: i64, c: i64, x: i64) -> Fill
 }
 
 // A filling after the next rank, or that the rank does not fit.
-#[derive(Drop)]
+#[derive(Clone, Copy)]
 pub struct Raising {
     pub fits: bool,
     pub fill: Fill,

@@ -11,7 +11,7 @@ use arith::Fraction;
 use knapsack::weight_divisor;
 
 // A point, item by item.
-#[derive(Drop)]
+#[derive(Clone, Copy)]
 pub struct Amounted {
     pub point: [Fraction; 16],
 }

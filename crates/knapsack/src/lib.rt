@@ -9,20 +9,20 @@ ghost use Rattle.knapsack.specs.Ranges.{blank};
 use arith::{Fraction, magnitude};
 
 // A bound of an item (01: an item that is not listed has no such bound).
-#[derive(Drop)]
+#[derive(Clone, Copy)]
 pub enum Bound {
     Absent,
     At(i64),
 }
 
 // Integer is 01's W, whole; continuous is its L, loose.
-#[derive(Drop)]
+#[derive(Clone, Copy)]
 pub enum Mark {
     Integer,
     Continuous,
 }
 
-#[derive(Drop)]
+#[derive(Clone, Copy)]
 pub struct Item {
     pub mark: Mark,
     pub weight: i64,
@@ -32,7 +32,7 @@ pub struct Item {
 }
 
 // A plain problem: the items are the first count places, and the capacity is 01's limit b.
-#[derive(Drop)]
+#[derive(Clone, Copy)]
 pub struct Problem {
     pub items: [Item; 16],
     pub count: usize,
@@ -40,21 +40,21 @@ pub struct Problem {
 }
 
 // 01's number of the refusal, and the line of the sheet; 0 where no sheet was read.
-#[derive(Drop)]
+#[derive(Clone, Copy)]
 pub struct Refusal {
     pub number: u64,
     pub line: u64,
 }
 
 // What a record or a sheet is told.
-#[derive(Drop)]
+#[derive(Clone, Copy)]
 pub enum Verdict {
     Accepted,
     Refused(Refusal),
 }
 
 // The kind of an answer: 01's best, infeasible, unbounded, or a refusal.
-#[derive(Drop)]
+#[derive(Clone, Copy)]
 pub enum Kind {
     Optimal,
     Infeasible,
@@ -63,7 +63,7 @@ pub enum Kind {
 }
 
 // The reply of planner and relaxation: an amount for each item, its steps, and what the point is worth.
-#[derive(Drop)]
+#[derive(Clone, Copy)]
 pub struct Answer {
     pub kind: Kind,
     pub point: [Fraction; 16],

@@ -14,7 +14,7 @@ mod building; // building.rt: the lattices of the levels of a search
 const TRIES: usize = 100;
 
 // The changes of weight and worth that are whole multiples of (stride, slant) and (0, gap), added up. Stride 0: nothing is known.
-#[derive(Drop)]
+#[derive(Clone, Copy)]
 pub struct Lattice {
     pub stride: i64,
     pub slant: i64,
@@ -22,14 +22,14 @@ pub struct Lattice {
 }
 
 // A change of weight and of worth.
-#[derive(Drop)]
+#[derive(Clone, Copy)]
 pub struct Change {
     pub weight: i64,
     pub worth: i64,
 }
 
 // What a change of weight can be worth at most, above a worth: the critical item's price for its weight.
-#[derive(Drop)]
+#[derive(Clone, Copy)]
 pub struct Slope {
     pub worth: i64,
     pub rate: i64,
@@ -37,7 +37,7 @@ pub struct Slope {
 }
 
 // What a descent finds at a change of weight: no worth above the incumbent's, here nor below; a better one; none here.
-#[derive(Drop)]
+#[derive(Clone, Copy)]
 pub enum Find {
     Nothing,
     Better,

@@ -17,7 +17,7 @@ const LAST: usize = 18_446_744_073_709_551_615;
 const NOWHERE: u64 = 99;
 
 // Found, not found, and replied to otherwise than here.
-#[derive(Drop)]
+#[derive(Clone, Copy)]
 struct Tally {
     found: u64,
     none: u64,

@@ -18,32 +18,32 @@ use knapsack::{Bound, Mark};
 use model::{ModelItem, Need};
 
 // The form of a line: the fault of its leftmost wrong field, or its fields and the place behind it.
-#[derive(Drop)]
+#[derive(Clone, Copy)]
 pub enum TwoNumbers {
     Fault(u64),
     Both(Ranged, Ranged, usize),
 }
 
-#[derive(Drop)]
+#[derive(Clone, Copy)]
 pub enum ThreeNumbers {
     Fault(u64),
     All(Ranged, Ranged, Ranged, usize),
 }
 
-#[derive(Drop)]
+#[derive(Clone, Copy)]
 pub enum Marked {
     Nothing,
     Mark(Mark, usize),
 }
 
-#[derive(Drop)]
+#[derive(Clone, Copy)]
 pub enum ItemLine {
     Fault(u64),
     Item(Mark, Ranged, Ranged, Ranged, usize),
 }
 
 // What stands in a bound's place, closed: its fault, a number out of range, or the bound and the place behind.
-#[derive(Drop)]
+#[derive(Clone, Copy)]
 pub enum BoundField {
     Fault(u64),
     Out,
@@ -51,25 +51,25 @@ pub enum BoundField {
 }
 
 // What a line gives: the number of its refusal, or its values and the place behind it.
-#[derive(Drop)]
+#[derive(Clone, Copy)]
 pub enum Count {
     Fault(u64),
     Lines(usize, usize),
 }
 
-#[derive(Drop)]
+#[derive(Clone, Copy)]
 pub enum ItemRead {
     Fault(u64),
     Read(ModelItem, usize),
 }
 
-#[derive(Drop)]
+#[derive(Clone, Copy)]
 pub enum BoundRead {
     Fault(u64),
     Read(Bound, usize),
 }
 
-#[derive(Drop)]
+#[derive(Clone, Copy)]
 pub enum NeedRead {
     Fault(u64),
     Read(Need, usize),

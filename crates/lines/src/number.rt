@@ -10,35 +10,35 @@ use crate::scan::Place;
 const BEYOND: u64 = 1_000_000_000;
 
 // The numbers from lo to hi.
-#[derive(Drop)]
+#[derive(Clone, Copy)]
 pub struct Range {
     pub lo: i64,
     pub hi: i64,
 }
 
 // A number, if it lies in the range that was asked for.
-#[derive(Drop)]
+#[derive(Clone, Copy)]
 pub enum Ranged {
     In(i64),
     Out,
 }
 
 // What begins at a place: no number, or a number and the place behind it.
-#[derive(Drop)]
+#[derive(Clone, Copy)]
 pub enum Figure {
     Nothing,
     Number(Ranged, usize),
 }
 
 // What stands in a number's place, closed: its fault, or the number and the place behind.
-#[derive(Drop)]
+#[derive(Clone, Copy)]
 pub enum Field {
     Fault(u64),
     Number(Ranged, usize),
 }
 
 // A run of digits: what it writes, BEYOND where that is more, and the place behind it.
-#[derive(Drop)]
+#[derive(Clone, Copy)]
 pub struct Run {
     pub value: u64,
     pub next: usize,

@@ -9,21 +9,21 @@ use knapsack::{Refusal, Verdict};
 pub const LONGEST: usize = 4096;
 
 // A place of the text, where there is one.
-#[derive(Drop)]
+#[derive(Clone, Copy)]
 pub enum Place {
     Nothing,
     At(usize),
 }
 
 // A line that the text closes: its bytes stand from the first place up to the second, where its byte 10 is.
-#[derive(Drop)]
+#[derive(Clone, Copy)]
 pub enum Span {
     Nothing,
     Line(usize, usize),
 }
 
 // The line that was asked for, likewise, or the refusal that is told.
-#[derive(Drop)]
+#[derive(Clone, Copy)]
 pub enum Asked {
     Refused(Refusal),
     Line(usize, usize),

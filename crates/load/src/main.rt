@@ -9,7 +9,7 @@ use streams::{SPACE, write_reply};
 use text::Text;
 
 // A sheet, and the state after its draws.
-#[derive(Drop)]
+#[derive(Clone, Copy)]
 struct DrawnSheet {
     sheet: Text,
     state: u64,

@@ -45,21 +45,21 @@ ghost use Rattle.model.specs.Records.{
 use knapsack::{Answer, Bound, Item, Mark, Problem, Refusal, Verdict, with_item};
 
 // 02's line `k m`: where there is any of item k, there is at least 1 of item m, its cover. Both are item numbers, from 1.
-#[derive(Drop)]
+#[derive(Clone, Copy)]
 pub struct Need {
     pub item: usize,
     pub cover: usize,
 }
 
 // 02's section of needs: its first count lines.
-#[derive(Drop)]
+#[derive(Clone, Copy)]
 pub struct Needs {
     pub lines: [Need; 16],
     pub count: usize,
 }
 
 // An item as it is handed over: its weight is known to be from low to high (02, request 11).
-#[derive(Drop)]
+#[derive(Clone, Copy)]
 pub struct ModelItem {
     pub mark: Mark,
     pub low: i64,
@@ -70,7 +70,7 @@ pub struct ModelItem {
 }
 
 // A record: the items are the first count places, and the capacity is 01's limit b.
-#[derive(Drop)]
+#[derive(Clone, Copy)]
 pub struct Model {
     pub items: [ModelItem; 16],
     pub count: usize,
@@ -79,28 +79,28 @@ pub struct Model {
 }
 
 // What a point is held to (02, request 11): sure, that it fits for every weight in the ranges, or possible, that it fits for some.
-#[derive(Drop)]
+#[derive(Clone, Copy)]
 pub enum Sense {
     Sure,
     Possible,
 }
 
 // The planner's answers in both senses.
-#[derive(Drop)]
+#[derive(Clone, Copy)]
 pub struct Answers {
     pub sure: Answer,
     pub possible: Answer,
 }
 
 // What becomes of blank items, of weight 0 and price 0: a reader refuses them, the converter of stored sheets keeps them to drop them itself.
-#[derive(Drop)]
+#[derive(Clone, Copy)]
 pub enum Blanks {
     Refused,
     Kept,
 }
 
 // What each item is tried for by itself. A range is no fault.
-#[derive(Drop)]
+#[derive(Clone, Copy)]
 enum Fault {
     Figure,
     Reversed,
@@ -110,7 +110,7 @@ enum Fault {
 }
 
 // Which bound of an item.
-#[derive(Drop)]
+#[derive(Clone, Copy)]
 pub enum Side {
     Lower,
     Upper,

@@ -9,7 +9,7 @@ use trials::print::print;
 
 // ---- what is drawn
 
-#[derive(Drop)]
+#[derive(Clone, Copy)]
 struct DrawnText {
     bytes: [u8; 12],
     state: u64,
@@ -56,7 +56,7 @@ fn byte_at(s: &[u8], at: usize) -> u8 {
 }
 
 // The line of the next byte, how many bytes of the line asked for are behind, and whether the part has them.
-#[derive(Drop)]
+#[derive(Clone, Copy)]
 struct Walk {
     line: u64,
     met: u64,
@@ -121,7 +121,7 @@ fn agrees(s: &[u8], ends: u64, line: u64, v: Verdict, part: &[u8]) -> bool {
 // ---- counts
 
 // Refused, given, and replied to otherwise than here.
-#[derive(Drop)]
+#[derive(Clone, Copy)]
 struct Tally {
     none: u64,
     lines: u64,

@@ -15,7 +15,7 @@ const REACH: i64 = 40;
 // ---- all steps
 
 // Whether steps were found, and the least sizes of the first and of the second.
-#[derive(Drop)]
+#[derive(Clone, Copy)]
 struct Least {
     found: bool,
     first: u64,
@@ -166,7 +166,7 @@ fn agrees(r: PairReply, p: Model, n: usize, i: usize, j: usize) -> bool {
 
 // ---- counts
 
-#[derive(Drop)]
+#[derive(Clone, Copy)]
 struct Tally {
     nine: u64,
     ten: u64,

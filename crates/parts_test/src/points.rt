@@ -14,7 +14,7 @@ use trials::ranges::{at_ends, with_drawn_ranges};
 
 // ---- what is drawn
 
-#[derive(Drop)]
+#[derive(Clone, Copy)]
 struct DrawnPoint {
     point: Candidate,
     state: u64,
@@ -107,7 +107,7 @@ fn drawn_point(state: u64, m: Model, n: usize) -> DrawnPoint {
 // ---- the amounts, plainly
 
 // What is known of the amounts so far: one is refused, how many are not whole numbers, and the last of their divisors, or 1.
-#[derive(Drop)]
+#[derive(Clone, Copy)]
 struct Shape {
     bad: bool,
     fractions: u64,
@@ -188,7 +188,7 @@ fn shape_of(m: Model, c: Candidate, n: usize) -> Shape
 // ---- the sums over one divisor
 
 // The first item that breaks a rule, from 1, or 0; weight and value times the divisor.
-#[derive(Drop)]
+#[derive(Clone, Copy)]
 struct Sums {
     broken: usize,
     weight: i64,
@@ -368,7 +368,7 @@ fn agrees(r: PointReply, p: Model, c: Candidate, n: usize) -> bool
 
 // ---- counts
 
-#[derive(Drop)]
+#[derive(Clone, Copy)]
 struct Tally {
     seven: u64,
     eight: u64,

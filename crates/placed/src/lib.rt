@@ -43,7 +43,7 @@ fn first_lead(s: Setting, x: [i64; 16], first: bool) -> Lead
 }
 
 // An answer, and how many cells the scales wrote for it.
-#[derive(Drop)]
+#[derive(Clone, Copy)]
 pub struct Placed {
     pub answer: Answer,
     pub cells: u64,

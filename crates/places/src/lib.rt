@@ -3,14 +3,14 @@ ghost use Rattle.std.specs.Prelude.{◌≡◌, ◌≤◌, ◌<◌};
 ghost use Rattle.places.specs.Moves.{at, next_value, next_segment, next_of, carry, carry_segment, moved_of, SettledIn, past_of};
 
 // The amount that is visited next at one level.
-#[derive(Drop)]
+#[derive(Clone, Copy)]
 pub enum Next {
     Nothing,
     Amount(i64),
 }
 
 // Where a move goes: the level that moves and its new amount.
-#[derive(Drop)]
+#[derive(Clone, Copy)]
 pub enum Moved {
     Done,
     At(usize, i64),
@@ -78,7 +78,7 @@ pub fn past_run(x: [i64; 16], d: usize, lo: [i64; 16], hi: [i64; 16], s: [i64; 1
 }
 
 // What a look at a place found settled: what is left of the segment of a level, or every place with the first amounts (all of them: the place itself).
-#[derive(Drop)]
+#[derive(Clone, Copy)]
 pub enum Settled {
     Run(usize),
     Prefix(usize),

@@ -190,7 +190,7 @@ fn having(p: Problem, m: usize) -> Problem
 // ---- the best so far
 
 // The best answer that was found, and the work that it took: the cases solved, the steps of their searches, and the cells that their scales wrote.
-#[derive(Drop)]
+#[derive(Clone, Copy)]
 pub struct Best {
     pub found: bool,
     pub answer: Answer,

@@ -26,7 +26,7 @@ const REACH: i64 = 20;
 // ---- one answer at the corners
 
 // What has been seen of an answer: it holds at every corner and inside, at some corner; nothing better is there at every corner, at some.
-#[derive(Drop)]
+#[derive(Clone, Copy)]
 struct Seen {
     held: bool,
     once_held: bool,
@@ -113,7 +113,7 @@ fn is_possible(s: Seen) -> bool {
 
 // Best beside best, infeasible beside infeasible, unbounded beside unbounded, infeasible beside best and beside unbounded, best beside unbounded; and
 // problems on which something fails.
-#[derive(Drop)]
+#[derive(Clone, Copy)]
 struct Pairs {
     best: u64,
     infeasible: u64,

@@ -21,14 +21,14 @@ mod pairs; // pairs.rt: the table of domination pairs
 mod tables; // tables.rt: arrays by item, by rank and by level, and the two orders
 
 // Of some items, without sign: the greatest weight of one that lacks a bound, and the greatest bound.
-#[derive(Drop)]
+#[derive(Clone, Copy)]
 pub struct Most {
     pub weight: u64,
     pub bound: u64,
 }
 
 // How far a search has to go: what an item may weigh, and an amount that any item may have.
-#[derive(Drop)]
+#[derive(Clone, Copy)]
 pub struct Reach {
     pub weight: u64,
     pub amount: u64,

@@ -22,14 +22,14 @@ use planner::{is_optimal, plan, solve_needs};
 use solver::STEPS;
 
 // The planner's sure answer, and for a best point the falls at the first count places: 0 is 02's none.
-#[derive(Drop)]
+#[derive(Clone, Copy)]
 pub struct Falls {
     pub answer: Answer,
     pub of: [u64; 16],
 }
 
 // After the fall low the point is best, after the fall high it is not, or that is past the last. The next leaps tries are just below high.
-#[derive(Drop)]
+#[derive(Clone, Copy)]
 pub struct Span {
     pub low: u64,
     pub high: u64,

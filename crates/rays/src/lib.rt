@@ -12,7 +12,7 @@ ghost use Rattle.rays.specs.Rays.{RayFound};
 use knapsack::{Bound, Item, Problem, is_absent};
 
 // An item's amount going one way: whether no bound stops it, and what a unit weighs and is worth.
-#[derive(Drop)]
+#[derive(Clone, Copy)]
 struct Direction {
     free: bool,
     weight: i64,
@@ -20,7 +20,7 @@ struct Direction {
 }
 
 // A ray by its directions. Direction u is item u / 2, upwards if u is even: an item with no bound at all has both.
-#[derive(Drop)]
+#[derive(Clone, Copy)]
 enum Ray {
     None,
     Single(usize),
@@ -28,7 +28,7 @@ enum Ray {
 }
 
 // Whether there is a ray, and its step for each item; all are 0 where there is none.
-#[derive(Drop)]
+#[derive(Clone, Copy)]
 pub struct RayReply {
     pub found: bool,
     pub steps: [i64; 16],

@@ -120,7 +120,7 @@ fn other_pairs() {
 
 // ---- drawn sheets: the origin is feasible, so unbounded is what has a ray
 
-#[derive(Drop)]
+#[derive(Clone, Copy)]
 struct Draw {
     item: ModelItem,
     state: u64,

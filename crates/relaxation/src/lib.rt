@@ -14,21 +14,21 @@ use planner::{named_of, solve_needs};
 use solver::{STEPS, no_point};
 
 // What is asked besides a capacity and a list.
-#[derive(Drop)]
+#[derive(Clone, Copy)]
 pub struct Terms {
     pub needs: Needs,
     pub sense: Sense,
 }
 
 // What the core is asked: a record, and the sense in which it is relaxed.
-#[derive(Drop)]
+#[derive(Clone, Copy)]
 pub struct Query {
     pub model: Model,
     pub sense: Sense,
 }
 
 // What the core gives: the answer, and the record whose items are stored back.
-#[derive(Drop)]
+#[derive(Clone, Copy)]
 pub struct Outcome {
     pub answer: Answer,
     pub model: Model,

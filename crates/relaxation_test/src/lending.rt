@@ -8,7 +8,7 @@ use model::ModelItem;
 use relaxation::{Terms, relax_with};
 
 // A capacity, a list, of which the first count items are lent, and terms: the needs and the sense.
-#[derive(Drop)]
+#[derive(Clone, Copy)]
 pub struct Sheet {
     pub items: [ModelItem; 18],
     pub count: usize,
@@ -17,7 +17,7 @@ pub struct Sheet {
 }
 
 // What a call leaves: its answer, and the list as it stands afterwards.
-#[derive(Drop)]
+#[derive(Clone, Copy)]
 pub struct Lent {
     pub answer: Answer,
     pub items: [ModelItem; 18],

@@ -91,7 +91,7 @@ fn same_from(a: [ModelItem; 18], b: [ModelItem; 18], from: usize) -> bool {
 // ---- the order
 
 // Price per unit of weight, for a weight other than 0: p / q with q above 0.
-#[derive(Drop)]
+#[derive(Clone, Copy)]
 struct Ratio {
     p: i64,
     q: i64,
@@ -192,7 +192,7 @@ pub fn is_ordered(list: [ModelItem; 18], now: [ModelItem; 18], n: usize) -> bool
 // ---- the numbers, printed
 
 // Which items of a list have been found.
-#[derive(Drop)]
+#[derive(Clone, Copy)]
 struct Found {
     places: [bool; 18],
 }

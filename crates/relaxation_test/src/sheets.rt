@@ -102,7 +102,7 @@ pub fn large(bound: u64, unit: i64, absent: u64) -> Spans {
     }
 }
 
-#[derive(Drop)]
+#[derive(Clone, Copy)]
 pub struct DrawnSheet {
     pub sheet: Sheet,
     pub state: u64,

@@ -61,7 +61,7 @@ fn listed_verdict(w: Listed) -> Verdict
 }
 
 // The steps of the searches, and the cells that the scales write.
-#[derive(Drop)]
+#[derive(Clone, Copy)]
 pub struct Work {
     pub steps: u64,
     pub cells: u64,

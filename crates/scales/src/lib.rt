@@ -13,7 +13,7 @@ ghost use Rattle.scales.specs.Filled.{stage_items, SharedOf, ItemFilled, AllFill
 use arith::gcd;
 
 // How many cells are live, how many were written, and what the units to come weigh.
-#[derive(Drop)]
+#[derive(Clone, Copy)]
 pub struct Live {
     pub n: usize,
     pub written: u64,
@@ -21,7 +21,7 @@ pub struct Live {
 }
 
 // A scale: its number, the divisor of the weights, the cap on costs, and what is left of the capacity.
-#[derive(Drop)]
+#[derive(Clone, Copy)]
 pub struct Stage {
     pub i: usize,
     pub divisor: u64,
@@ -30,7 +30,7 @@ pub struct Stage {
 }
 
 // The least cost of a filling, and how many cells were written for it.
-#[derive(Drop)]
+#[derive(Clone, Copy)]
 pub struct Cost {
     pub least: u64,
     pub written: u64,

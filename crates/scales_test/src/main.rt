@@ -5,7 +5,7 @@ ghost use Rattle.scales_test.specs.Draws.{Drawn};
 
 use libc::STDOUT_FILENO;
 
-#[derive(Drop)]
+#[derive(Clone, Copy)]
 pub struct Three {
     pub list: [u64; 3],
     pub seed: u64,

@@ -27,7 +27,7 @@ use setting::{Pairs, Setting, fixed_in};
 mod ahead; // ahead.rt: the order of points
 
 // The best point so far: its place, its amounts by item over the divisor of its value, and the value.
-#[derive(Drop)]
+#[derive(Clone, Copy)]
 pub struct Incumbent {
     pub found: bool,
     pub place: [i64; 16],
@@ -36,21 +36,21 @@ pub struct Incumbent {
 }
 
 // A place, and the starts of its levels along it.
-#[derive(Drop)]
+#[derive(Clone, Copy)]
 pub struct Path {
     pub place: [i64; 16],
     pub starts: [i64; 16],
 }
 
 // The incumbent after a trial, and whether that is a better one.
-#[derive(Drop)]
+#[derive(Clone, Copy)]
 pub struct Comparison {
     pub best: Incumbent,
     pub better: bool,
 }
 
 // What a look at a place settled, the incumbent after it, and whether that is a better one.
-#[derive(Drop)]
+#[derive(Clone, Copy)]
 pub struct Sighting {
     pub settled: Settled,
     pub best: Incumbent,
@@ -58,7 +58,7 @@ pub struct Sighting {
 }
 
 // A search on its way: where it is, and how many steps it ended (as many as fit). The levels above `from` settle nothing.
-#[derive(Drop)]
+#[derive(Clone, Copy)]
 pub struct State {
     pub path: Path,
     pub best: Incumbent,

@@ -10,7 +10,7 @@ use lattice::Lattice;
 
 // What does not change during a search: the columns, the box by item, and by level the item, its ends, and the lattice of what the
 // items from that level on change, where no continuous item is free.
-#[derive(Drop)]
+#[derive(Clone, Copy)]
 pub struct Setting {
     pub cols: Columns,
     pub ends: Ends,
@@ -23,7 +23,7 @@ pub struct Setting {
 
 // The domination pairs (01: least pairs) of all pairs of items, at 16 i + j: the steps of i and of j; 0 where there is none. The numbers
 // are short because a struct is copied at a call.
-#[derive(Drop)]
+#[derive(Clone, Copy)]
 pub struct Pairs {
     pub first: [i16; 256],
     pub second: [i16; 256],

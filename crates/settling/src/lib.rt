@@ -12,7 +12,7 @@ use greedy::{Columns, Ends, fill_up};
 
 // An optimal place by level, if anything in the box is feasible; whether it is known to come first where no continuous item can change; and how many
 // cells were written.
-#[derive(Drop)]
+#[derive(Clone, Copy)]
 pub struct Settled {
     pub found: bool,
     pub place: [i64; 16],

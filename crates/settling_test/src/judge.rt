@@ -7,7 +7,7 @@ use model::{Model, ModelItem};
 use trials::enumerate::{Best, below, best_value};
 
 // A problem with some items fixed, and whether each was fixed within its bounds.
-#[derive(Drop)]
+#[derive(Clone, Copy)]
 struct Fixed {
     problem: Model,
     keeps: bool,

@@ -24,7 +24,7 @@ use trials::draw::{Spans, drawn_problem, small};
 use trials::print::{print, print_problem};
 
 // How many problems were settled, have no feasible point, have bounds that cross, and are answered wrongly; and the most cells written.
-#[derive(Drop)]
+#[derive(Clone, Copy)]
 struct Tally {
     best: u64,
     infeasible: u64,
@@ -112,7 +112,7 @@ fn is_narrow(s: Setting) -> bool
 // ---- incumbents: the place where every level stands at its lower end
 
 // What its filling is worth, if that is known.
-#[derive(Drop)]
+#[derive(Clone, Copy)]
 struct Incumbent {
     known: bool,
     value: Mixed,

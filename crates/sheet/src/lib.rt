@@ -20,14 +20,14 @@ use lines::{BoundRead, Count, ItemRead, NeedRead};
 use model::{Blanks, Model, ModelItem, Need, Side, naming, refusals, setters};
 
 // What a sheet gives: its record, or a refusal beside the empty record.
-#[derive(Drop)]
+#[derive(Clone, Copy)]
 pub struct Reading {
     pub verdict: Verdict,
     pub model: Model,
 }
 
 // A sheet read up to the place at. item is the number of the item that the section's last line was about, 0 at its start.
-#[derive(Drop)]
+#[derive(Clone, Copy)]
 pub struct Progress {
     pub verdict: Verdict,
     pub model: Model,

@@ -12,14 +12,14 @@ use lines::scan::{Place, after_word, line_at};
 use trials::read::{places, read_number, skip};
 
 // The bytes of the sheet that go: from a place up to another.
-#[derive(Drop)]
+#[derive(Clone, Copy)]
 struct Span {
     from: usize,
     to: usize,
 }
 
 // A byte so many times, and the place behind it in the row.
-#[derive(Drop)]
+#[derive(Clone, Copy)]
 struct Run {
     byte: u8,
     times: u64,
@@ -27,7 +27,7 @@ struct Run {
 }
 
 // The edited sheet up to len, the sheet as it was up to done, the row up to at; the line of the last edit.
-#[derive(Drop)]
+#[derive(Clone, Copy)]
 pub struct Progress {
     pub len: usize,
     pub done: usize,

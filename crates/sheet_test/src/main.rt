@@ -125,7 +125,7 @@ fn sheet_row(k: u64, s: &[u8], at: usize, record: usize) {
 }
 
 // The rows up to a place: the number of the next sheet, and the place of the last record.
-#[derive(Drop)]
+#[derive(Clone, Copy)]
 struct Rows {
     k: u64,
     at: usize,

@@ -158,7 +158,7 @@ fn by_scales(s: Setting, p: Problem, t: Settled) -> Placed
 }
 
 // An answer, how many steps its search took, and how many cells the scales wrote.
-#[derive(Drop)]
+#[derive(Clone, Copy)]
 pub struct Solved {
     pub answer: Answer,
     pub steps: u64,

@@ -25,14 +25,14 @@ use model::{
 use senses::plan_both;
 
 // A problem and the replies to it, in both senses.
-#[derive(Drop)]
+#[derive(Clone, Copy)]
 pub struct Plan {
     pub model: Model,
     pub answers: Answers,
 }
 
 // What a change is told, and the plan after it.
-#[derive(Drop)]
+#[derive(Clone, Copy)]
 pub struct Changed {
     pub verdict: Verdict,
     pub plan: Plan,

@@ -9,7 +9,7 @@ use trials::draw::{Spans, below, drawn_item, figure, mended_price, next};
 use trials::exact::{as_signed, plus};
 
 // Kind 0 adds the item, 1 removes the item with the number, 2 sets its upper bound.
-#[derive(Drop)]
+#[derive(Clone, Copy)]
 pub struct Change {
     pub kind: u64,
     pub item_number: usize,

@@ -199,7 +199,7 @@ fn shown_outcome(m: Model, a: Answer) -> Outcome {
 }
 
 // How runs are made: no more than so many items are added; points are enumerated; every bound is present.
-#[derive(Drop)]
+#[derive(Clone, Copy)]
 struct Manner {
     most: usize,
     few: bool,
@@ -244,7 +244,7 @@ fn is_fresh(m: Model, a: Answers, w: Manner) -> bool {
 }
 
 // What the changes of a family come to.
-#[derive(Drop)]
+#[derive(Clone, Copy)]
 struct Seen {
     answers: Tally,
     figure: u64,
@@ -336,7 +336,7 @@ fn judged_change(s: Seen, p: Plan, r: Changed, t: Twin, w: Manner) -> Seen {
 
 // ---- runs of changes
 
-#[derive(Drop)]
+#[derive(Clone, Copy)]
 struct Run {
     plan: Plan,
     seen: Seen,

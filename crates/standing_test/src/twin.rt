@@ -14,7 +14,7 @@ pub fn number_told(v: Verdict) -> u64 {
     }
 }
 
-#[derive(Drop)]
+#[derive(Clone, Copy)]
 pub struct Twin {
     pub number: u64,
     pub model: Model,

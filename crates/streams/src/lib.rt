@@ -10,7 +10,7 @@ use libc::{EINTR, STDIN_FILENO, STDOUT_FILENO};
 const PATIENCE: u64 = 1000000;
 
 // How far a buffer has been read or written, whether more may come, whether no call has failed, and how many interruptions may still come.
-#[derive(Drop)]
+#[derive(Clone, Copy)]
 pub struct Progress {
     pub at: usize,
     pub more: bool,

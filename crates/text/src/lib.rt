@@ -10,21 +10,21 @@ use knapsack::Refusal;
 pub const ROOM: usize = 2880;
 
 // A text by value: the first len bytes.
-#[derive(Drop)]
+#[derive(Clone, Copy)]
 pub struct Text {
     pub bytes: [u8; ROOM],
     pub len: usize,
 }
 
 // What a caller that lent a buffer is told: how long the text is that stands there, or why there is none.
-#[derive(Drop)]
+#[derive(Clone, Copy)]
 pub enum Listed {
     Written(usize),
     Refused(Refusal),
 }
 
 // The digits of a number: the places of bytes from first on.
-#[derive(Drop)]
+#[derive(Clone, Copy)]
 pub struct Digits {
     pub bytes: [u8; 20],
     pub first: usize,

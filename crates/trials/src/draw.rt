@@ -8,7 +8,7 @@ use model::{Model, ModelItem, no_item};
 
 // No figure is farther from zero than its span, and the capacity is a multiple of the unit. Of four bounds so many are absent, of four
 // items so many continuous, and of eight pairs of bounds so many cross, unless they are equal.
-#[derive(Drop)]
+#[derive(Clone, Copy)]
 pub struct Spans {
     pub weight: u64,
     pub price: u64,
@@ -34,19 +34,19 @@ pub fn small(absent: u64, loose: u64) -> Spans {
     }
 }
 
-#[derive(Drop)]
+#[derive(Clone, Copy)]
 struct Ends {
     lower: i64,
     upper: i64,
 }
 
-#[derive(Drop)]
+#[derive(Clone, Copy)]
 pub struct DrawnItem {
     pub item: ModelItem,
     pub state: u64,
 }
 
-#[derive(Drop)]
+#[derive(Clone, Copy)]
 pub struct DrawnProblem {
     pub problem: Model,
     pub state: u64,

@@ -11,7 +11,7 @@ use knapsack::{Bound, Mark};
 use model::{Model, ModelItem};
 
 // The best value p / q so far, of the feasible points that were tried.
-#[derive(Drop)]
+#[derive(Clone, Copy)]
 pub struct Best {
     pub found: bool,
     pub p: i64,
@@ -19,7 +19,7 @@ pub struct Best {
 }
 
 // The amounts that an item takes: first, first + step, … so many.
-#[derive(Drop)]
+#[derive(Clone, Copy)]
 pub struct Choices {
     pub first: i64,
     pub step: i64,
@@ -27,7 +27,7 @@ pub struct Choices {
 }
 
 // What is left of a point's number, and the weight and the value of its first items.
-#[derive(Drop)]
+#[derive(Clone, Copy)]
 pub struct Sums {
     pub rest: u64,
     pub weight: i64,

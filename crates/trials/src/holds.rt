@@ -73,7 +73,7 @@ pub fn point_holds(p: Model, a: Answer) -> bool {
 // ---- its weight by plain sums, whatever its divisors
 
 // What the items so far weigh: p / q.
-#[derive(Drop)]
+#[derive(Clone, Copy)]
 struct Load {
     p: i64,
     q: i64,
@@ -117,7 +117,7 @@ pub fn fits(p: Model, a: Answer) -> bool {
 // ---- rays
 
 // What is known of the steps so far: none meets a bound, how many move, and their weight and gain.
-#[derive(Drop)]
+#[derive(Clone, Copy)]
 struct Ray {
     open: bool,
     moved: usize,

@@ -61,7 +61,7 @@ pub fn shut_problem(p: Model, n: usize, reach: i64) -> Model
 // ---- the answer against the best value that was found
 
 // Whether the two agree, and whether a point tried is worth the best value told.
-#[derive(Drop)]
+#[derive(Clone, Copy)]
 pub struct Outcome {
     pub agrees: bool,
     pub met: bool,

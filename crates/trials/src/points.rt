@@ -12,7 +12,7 @@ use knapsack::Answer;
 use model::{Model, ModelItem};
 
 // The item that takes what the others leave of the capacity, and its amount p / q.
-#[derive(Drop)]
+#[derive(Clone, Copy)]
 struct Filler {
     at: usize,
     p: i64,
@@ -20,21 +20,21 @@ struct Filler {
 }
 
 // How a point stands to the one shown so far: the same, or before it by the first item that differs.
-#[derive(Drop)]
+#[derive(Clone, Copy)]
 struct Order {
     same: bool,
     before: bool,
 }
 
 // What is left of a point's number, and its order.
-#[derive(Drop)]
+#[derive(Clone, Copy)]
 struct Walk {
     rest: u64,
     order: Order,
 }
 
 // Whether some point beats the one shown, and whether the one shown was met.
-#[derive(Drop)]
+#[derive(Clone, Copy)]
 pub struct Judged {
     pub beaten: bool,
     pub met: bool,

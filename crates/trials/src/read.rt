@@ -7,44 +7,44 @@ use model::naming::no_needs;
 use model::{ModelItem, Need, Needs, no_item};
 
 // A number read: with its sign, without, and the place behind it.
-#[derive(Drop)]
+#[derive(Clone, Copy)]
 pub struct Number {
     pub value: i64,
     pub size: u64,
     pub at: usize,
 }
 
-#[derive(Drop)]
+#[derive(Clone, Copy)]
 pub struct OneBound {
     pub bound: Bound,
     pub at: usize,
 }
 
-#[derive(Drop)]
+#[derive(Clone, Copy)]
 pub struct OneItem {
     pub item: ModelItem,
     pub at: usize,
 }
 
-#[derive(Drop)]
+#[derive(Clone, Copy)]
 pub struct Items {
     pub list: [ModelItem; 16],
     pub at: usize,
 }
 
-#[derive(Drop)]
+#[derive(Clone, Copy)]
 pub struct OneNeed {
     pub need: Need,
     pub at: usize,
 }
 
-#[derive(Drop)]
+#[derive(Clone, Copy)]
 pub struct NeedLines {
     pub list: [Need; 16],
     pub at: usize,
 }
 
-#[derive(Drop)]
+#[derive(Clone, Copy)]
 pub struct AllNeeds {
     pub needs: Needs,
     pub at: usize,

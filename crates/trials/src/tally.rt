@@ -4,7 +4,7 @@ use crate::outcome::Outcome;
 use crate::print::print;
 use knapsack::Kind;
 
-#[derive(Drop)]
+#[derive(Clone, Copy)]
 pub struct Tally {
     pub best: u64,
     pub met: u64,

@@ -76,7 +76,7 @@ fn chosen() {
 // ---- drawn problems
 
 // What was found: replies with a best point, falls that are not none, falls tried, and how many of them were judged otherwise.
-#[derive(Drop)]
+#[derive(Clone, Copy)]
 struct Counts {
     best: u64,
     some: u64,
@@ -195,7 +195,7 @@ fn with_problem(start: Counts, m: Model, n: usize, reach: i64) -> Counts
 }
 
 // How problems are drawn: of so many items, and one more, about one needs another; and whether about half of the weights are within ranges.
-#[derive(Drop)]
+#[derive(Clone, Copy)]
 struct Drawing {
     spans: Spans,
     among: u64,

@@ -20,7 +20,7 @@ use trials::print::{print, print_field};
 use trials::ranges::with_drawn_ranges;
 
 // A buffer of '#', of which the first bytes were lent, and what was told.
-#[derive(Drop)]
+#[derive(Clone, Copy)]
 struct Kept {
     bytes: [u8; 1500],
     told: Listed,
