@@ -37,10 +37,10 @@ quot-back s = rw (to_z-of_z s.ranges.n, to_z-of_z s.ranges.d) (to_z-of_z (quot-i
 rem-same : (s : tie.Start) → rem_z (to_z w64 (of_z w64 (N s))) (to_z w64 (of_z w64 (D s))) ≡ rem_z (N s) (D s)
 rem-same s = ap₂ rem_z (to_z-of_z s.ranges.n) (to_z-of_z s.ranges.d)
 
-div-q : tie.Need-nonzero-div-q
+div-q : tie.Need-nonzero_div-q
 div-q c = (bits_pos _ c.ranges.d c.requires.1, rw (to_z-of_z c.ranges.n, to_z-of_z c.ranges.d) (quot-in c))
 
-rem-r : tie.Need-nonzero-rem-r
+rem-r : tie.Need-nonzero_rem-r
 rem-r c = div-q c
 
 small : (s : tie.Start) → up (rem_z (N s) (D s)) + dn (rem_z (N s) (D s)) < up (D s) + dn (D s)
@@ -67,49 +67,49 @@ moved_back s = rw (quot-back s) (to_z-of_z (moved s))
 exact : (s : tie.Start) (q : ℤ) → IsFloor (N s) (D s) q → q ≡ floor_div (N s) (D s)
 exact s q h = floor-unique (N s) (D s) q _ s.requires.1 h (floor-is (N s) (D s) s.requires.1)
 
-returns : tie.Need-returns
+returns : tie.Need-returns-then-r-eq0
 returns c =
     let s = c.before in
-    let e = rem-zero s c.if1.true in
+    let e = rem-zero s c.if-r-eq0.true in
     rw (quot-back s) (exact s _ (floor-same (N s) (D s) _ _ (quot-rem (N s) (D s)) (small s) (λ h. rw e (≤ℤ_refl (pos 0))) (λ h. rw e (≤ℤ_refl (pos 0)))))
 
-sub-result : tie.Need-overflow-sub-result
+sub-result : tie.Need-overflow_sub-result
 sub-result c = rw (quot-back c.before.before.before) (moved c.before.before.before)
 
-sub-result-2 : tie.Need-overflow-sub-result-2
+sub-result-2 : tie.Need-overflow_sub-result-else-d-gt0-2
 sub-result-2 c = rw (quot-back c.before.before.before) (moved c.before.before.before)
 
-returns-2 : tie.Need-returns-2
+returns-2 : tie.Need-returns-then-d-gt0
 returns-2 c =
     let s = c.before.before.before in
-    let r = rw (rem-back s) at c.before.if2.true in
-    let d = rw (to_z-of_z s.ranges.d) at c.if3.true in
+    let r = rw (rem-back s) at c.before.if-r-lt0.true in
+    let d = rw (to_z-of_z s.ranges.d) at c.if-d-gt0.true in
     let g : rem_z (N s) (D s) <ℤ pos 0 = omega (arith, zs) in
     rw (moved_back s) (exact s _ (floor-less (N s) (D s) _ _ (quot-rem (N s) (D s)) (small s) (λ h. g) (λ h. absurd (omega (arith, zs)))))
 
-returns-3 : tie.Need-returns-3
+returns-3 : tie.Need-returns-else-d-gt0
 returns-3 c =
     let s = c.before.before.before in
-    let r = rw (rem-back s) at c.before.if2.true in
-    let d = rw (to_z-of_z s.ranges.d) at c.if3.false in
+    let r = rw (rem-back s) at c.before.if-r-lt0.true in
+    let d = rw (to_z-of_z s.ranges.d) at c.if-d-gt0.false in
     let g : rem_z (N s) (D s) <ℤ pos 0 = omega (arith, zs) in
     rw (quot-back s) (exact s _ (floor-same (N s) (D s) _ _ (quot-rem (N s) (D s)) (small s) (λ h. absurd (omega (arith, zs))) (λ h. lt-le g)))
 
-returns-4 : tie.Need-returns-4
+returns-4 : tie.Need-returns-then-d-gt0-2
 returns-4 c =
     let s = c.before.before.before in
-    let r = rw (rem-back s) at c.before.if2.false in
-    let d = rw (to_z-of_z s.ranges.d) at c.if4.true in
-    let g : pos 0 ≤ℤ rem_z (N s) (D s) = omega (arith, zs) in let g' = rem-above s c.before.before.if1.false g in
+    let r = rw (rem-back s) at c.before.if-r-lt0.false in
+    let d = rw (to_z-of_z s.ranges.d) at c.if-d-gt0-2.true in
+    let g : pos 0 ≤ℤ rem_z (N s) (D s) = omega (arith, zs) in let g' = rem-above s c.before.before.if-r-eq0.false g in
     rw (quot-back s) (exact s _ (floor-same (N s) (D s) _ _ (quot-rem (N s) (D s)) (small s) (λ h. g) (λ h. absurd (omega (arith, zs)))))
 
-returns-5 : tie.Need-returns-5
+returns-5 : tie.Need-returns-else-d-gt0-2
 returns-5 c =
     let s = c.before.before.before in
-    let r = rw (rem-back s) at c.before.if2.false in
-    let d = rw (to_z-of_z s.ranges.d) at c.if4.false in
-    let g : pos 0 ≤ℤ rem_z (N s) (D s) = omega (arith, zs) in let g' = rem-above s c.before.before.if1.false g in
+    let r = rw (rem-back s) at c.before.if-r-lt0.false in
+    let d = rw (to_z-of_z s.ranges.d) at c.if-d-gt0-2.false in
+    let g : pos 0 ≤ℤ rem_z (N s) (D s) = omega (arith, zs) in let g' = rem-above s c.before.before.if-r-eq0.false g in
     rw (moved_back s) (exact s _ (floor-less (N s) (D s) _ _ (quot-rem (N s) (D s)) (small s) (λ h. absurd (omega (arith, zs))) (λ h. g')))
 
-pub floor-div-spec : {M : Type 1} → statement M
-floor-div-spec = tie.close (tie.spec div-q rem-r returns sub-result sub-result-2 returns-2 returns-3 returns-4 returns-5)
+pub floor_div_spec : {M : Type 1} → statement M
+floor_div_spec = tie.close (tie.spec div-q rem-r returns sub-result sub-result-2 returns-2 returns-3 returns-4 returns-5)

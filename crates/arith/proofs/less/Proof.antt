@@ -24,42 +24,42 @@ small a b p q =
     record { fits = omega arith }
 
 -- the moments that are spoken of below
-abbrev start-of-known2 : tie.After-struct-known2 → tie.Start
+abbrev start-of-known2 : tie.After-struct_known-2-1 → tie.Start
 start-of-known2 c = c.before.before.before
 
-abbrev else1 : tie.After-struct-known4 → tie.Else1
+abbrev else1 : tie.After-struct_known-4-1 → tie.Else-a-b
 else1 c = c.before.before.before
 
-abbrev start-of-known5 : tie.After-struct-known5 → tie.Start
+abbrev start-of-known5 : tie.After-struct_known-5-1 → tie.Start
 start-of-known5 c = start-of-known2 (else1 c.before.before.before).before.before
 
-abbrev else2 : tie.After-struct-known7 → tie.Else2
+abbrev else2 : tie.After-struct_known-7-1 → tie.Else-b-a
 else2 c = c.before.before.before
 
-returns : tie.Need-returns
+returns : tie.Need-returns-then-a-b
 unfolding less_mixed
-returns c = let s = start-of-known2 c.before.before in rw (plain-lt (a-fits s) (b-fits s) c.if1.true)
+returns c = let s = start-of-known2 c.before.before in rw (plain-lt (a-fits s) (b-fits s) c.if-a-b.true)
 
-returns-2 : tie.Need-returns-2
+returns-2 : tie.Need-returns-then-b-a
 unfolding less_mixed
 returns-2 c =
     let at-if1 = else1 c.before.before in
     let s = start-of-known2 at-if1.before.before in
-    rw (plain-lt (a-fits s) (b-fits s) at-if1.if1.left, plain-lt (b-fits s) (a-fits s) c.if2.true)
+    rw (plain-lt (a-fits s) (b-fits s) at-if1.if-a-b.false, plain-lt (b-fits s) (a-fits s) c.if-b-a.true)
 
-mul-result : tie.Need-overflow-mul-result
-mul-result c = let s = start-of-known5 c.before in small _ _ s.pre.0 s.pre.1
+mul-result : tie.Need-overflow_mul-result
+mul-result c = let s = start-of-known5 c.before in small _ _ s.requires.0 s.requires.1
 
-mul-result-2 : tie.Need-overflow-mul-result-2
-mul-result-2 c = let s = start-of-known5 c.before.before.before in small _ _ s.pre.1 s.pre.0
+mul-result-2 : tie.Need-overflow_mul-result-2
+mul-result-2 c = let s = start-of-known5 c.before.before.before in small _ _ s.requires.1 s.requires.0
 
-returns-3 : tie.Need-returns-3
+returns-3 : tie.Need-returns
 unfolding less_mixed
 returns-3 c =
     let d = else2 c.before in
     let at-if1 = else1 d.before.before in
     let s = start-of-known2 at-if1.before.before in
-    rw (plain-lt (a-fits s) (b-fits s) at-if1.if1.left, plain-lt (b-fits s) (a-fits s) d.if2.left)
+    rw (plain-lt (a-fits s) (b-fits s) at-if1.if-a-b.false, plain-lt (b-fits s) (a-fits s) d.if-b-a.false)
 
-pub less-spec : {M : Type 1} → statement M
-less-spec = tie.close (tie.spec returns returns-2 mul-result mul-result-2 returns-3)
+pub less_spec : {M : Type 1} → statement M
+less_spec = tie.close (tie.spec returns returns-2 mul-result mul-result-2 returns-3)

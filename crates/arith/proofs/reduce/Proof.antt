@@ -13,34 +13,34 @@ use Rattle.arith.proofs.Divisors.{gcd-is, divisor-pos}
 use Rattle.arith.proofs.reduce.Statement.{statement}
 use Rattle.arith.proofs.reduce.Tie as tie
 
-magnitude-requires : tie.Need-magnitude-requires
+magnitude-requires : tie.Need-magnitude-m-requires
 magnitude-requires c κs = rw (to_z-of_z c.ranges.p) c.requires.0
 
-gcd-requires : tie.Need-gcd-requires
+gcd-requires : tie.Need-gcd-g-requires
 gcd-requires c κs = search rules
 
-is-abs : (c : tie.After-magnitude) → c.magnitude.result ≡ nat_abs c.before.args.p
-is-abs c = rw (to_z-of_z c.before.ranges.p) at c.magnitude.ensures
+is-abs : (c : tie.After-magnitude-m) → c.magnitude-m.result ≡ nat_abs c.before.args.p
+is-abs c = rw (to_z-of_z c.before.ranges.p) at c.magnitude-m.ensures
 
-divisor : (c : tie.After-gcd) → c.gcd.result ≡ gcd_of (nat_abs c.before.before.args.p) c.before.before.args.q
-divisor c = c.gcd.ensures ∙ ap (λ n. gcd_of n c.before.before.args.q) (is-abs c.before)
+divisor : (c : tie.After-gcd-g) → c.gcd-g.result ≡ gcd_of (nat_abs c.before.before.args.p) c.before.before.args.q
+divisor c = c.gcd-g.ensures ∙ ap (λ n. gcd_of n c.before.before.args.q) (is-abs c.before)
 
-divisor≥1 : (c : tie.After-gcd) → 0 < c.gcd.result
+divisor≥1 : (c : tie.After-gcd-g) → 0 < c.gcd-g.result
 divisor≥1 c = rw (divisor c) (divisor-pos _ _ (gcd-is _ c.before.before.args.q).right c.before.before.requires.1)
 
-div-with-sign : tie.Need-nonzero-div-with-sign
+div-with-sign : tie.Need-nonzero_div-m
 div-with-sign c = divisor≥1 c
 
-with-sign-requires : tie.Need-with-sign-requires
+with-sign-requires : tie.Need-with_sign-requires
 with-sign-requires c κs =
     omega (
       arith,
-      div-le_self c.before.magnitude.result c.gcd.result,
+      div-le_self c.before.magnitude-m.result c.gcd-g.result,
       is-abs c.before,
       within-abs c.before.before.args.p c.before.before.requires.0,
     )
 
-div-t7 : tie.Need-nonzero-div-t7
+div-t7 : tie.Need-nonzero_div-result
 div-t7 c = divisor≥1 c.before
 
 returns : tie.Need-returns
@@ -48,11 +48,11 @@ unfolding lowest
 returns c =
     let d = c.before in
     let s = d.before.before in
-    let n : c.with-sign.result ≡ signed s.args.p (nat_abs s.args.p / gcd_of (nat_abs s.args.p) s.args.q) =
-    rw (to_z-of_z s.ranges.p, is-abs d.before, divisor d) at c.with-sign.ensures in
-    ap₂ (λ (x : ℤ) (y : ℕ). record { p = x; q = y }) (back c.with-sign.result c.with-sign.type-inv ∙ n) (ap (λ g. s.args.q / g) (divisor d))
+    let n : c.with_sign.result ≡ signed s.args.p (nat_abs s.args.p / gcd_of (nat_abs s.args.p) s.args.q) =
+    rw (to_z-of_z s.ranges.p, is-abs d.before, divisor d) at c.with_sign.ensures in
+    ap₂ (λ (x : ℤ) (y : ℕ). record { p = x; q = y }) (back c.with_sign.result c.with_sign.type_inv ∙ n) (ap (λ g. s.args.q / g) (divisor d))
 
-pub reduce-spec : {M : Type 1} → statement M
-reduce-spec =
+pub reduce_spec : {M : Type 1} → statement M
+reduce_spec =
     tie.close
     (tie.spec magnitude-requires gcd-requires div-with-sign with-sign-requires div-t7 returns)

@@ -29,19 +29,19 @@ fits c h = within-sfits (lit< tt) h
 less-fits : (c : ℤ) → Within 100000000000 c → SFits w64 (pos 0 -ℤ c)
 less-fits c h = rw (zero-less c) (within-sfits (lit< tt) (within-neg c h))
 
-sub-result : tie.Need-overflow-sub-result
+sub-result : tie.Need-overflow_sub-result
 sub-result c = let s = c.before in rw (to_z-of_z (fits s.args.c s.requires)) (less-fits s.args.c s.requires)
 
-returns : tie.Need-returns
+returns : tie.Need-returns-then-a-lt0
 returns c =
     let s = c.before in
     rw (to_z-of_z (fits s.args.c s.requires), to_z-of_z (less-fits s.args.c s.requires), zero-less s.args.c)
-    (times-sign-below s.args.a s.args.c (rw (to_z-of_z s.ranges.a) at c.if1.true))
+    (times-sign-below s.args.a s.args.c (rw (to_z-of_z s.ranges.a) at c.if-a-lt0.true))
 
-returns-2 : tie.Need-returns-2
+returns-2 : tie.Need-returns-else-a-lt0
 returns-2 c =
     let s = c.before in
-    rw (to_z-of_z (fits s.args.c s.requires)) (times-sign-above s.args.a s.args.c (rw (to_z-of_z s.ranges.a) at c.if1.false))
+    rw (to_z-of_z (fits s.args.c s.requires)) (times-sign-above s.args.a s.args.c (rw (to_z-of_z s.ranges.a) at c.if-a-lt0.false))
 
-pub times-sign-spec : {M : Type 1} → statement M
-times-sign-spec = tie.close (tie.spec sub-result returns returns-2)
+pub times_sign_spec : {M : Type 1} → statement M
+times_sign_spec = tie.close (tie.spec sub-result returns returns-2)

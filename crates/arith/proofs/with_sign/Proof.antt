@@ -31,23 +31,23 @@ is-n s = to_z_pos w64 (omega arith)
 fits : (s : tie.Start) → SFits w64 (neg_ℤ (pos s.args.m))
 fits s = within-sfits (lit< tt) (neg-within s.args.m s.requires)
 
-cast-n : tie.Need-overflow-cast-n
+cast-n : tie.Need-overflow_cast-n
 cast-n c = search rules
 
-sub-result : tie.Need-overflow-sub-result
+sub-result : tie.Need-overflow_sub-result
 sub-result c = rw (is-n c.before, zero-less (pos c.before.args.m)) (fits c.before)
 
-returns : tie.Need-returns
+returns : tie.Need-returns-then-p-lt0
 returns c =
     let s = c.before in
-    let d = rw (to_z-of_z s.ranges.p) at c.if1.true in
+    let d = rw (to_z-of_z s.ranges.p) at c.if-p-lt0.true in
     rw (is-n s, zero-less (pos s.args.m), to_z-of_z (fits s)) (below s.args.p s.args.m (omega (arith, zs)))
 
-returns-2 : tie.Need-returns-2
+returns-2 : tie.Need-returns-else-p-lt0
 returns-2 c =
     let s = c.before in
-    let d = rw (to_z-of_z s.ranges.p) at c.if1.false in
+    let d = rw (to_z-of_z s.ranges.p) at c.if-p-lt0.false in
     rw (is-n s) (above s.args.p s.args.m (omega (arith, zs)))
 
-pub with-sign-spec : {M : Type 1} → statement M
-with-sign-spec = tie.close (tie.spec cast-n sub-result returns returns-2)
+pub with_sign_spec : {M : Type 1} → statement M
+with_sign_spec = tie.close (tie.spec cast-n sub-result returns returns-2)

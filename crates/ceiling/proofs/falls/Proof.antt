@@ -6,39 +6,39 @@ use Rattle.ceiling.proofs.Lists.{flags-first, flags-step, flags-done}
 use Rattle.ceiling.proofs.falls.Statement.{statement}
 use Rattle.ceiling.proofs.falls.Tie as tie
 
-abbrev invariant-loop : tie.invariant-loop
+abbrev invariant-loop : tie.invariant-loop-k
 invariant-loop cols n to₀ k₀ to k = (k ≤ n) × Flags k (falls_of cols) to
 
-abbrev decreases-loop : tie.decreases-loop
+abbrev decreases-loop : tie.decreases-loop-k
 decreases-loop cols n to₀ k₀ to k = n - k
 
-loop-holds : tie.Need-loop-init invariant-loop decreases-loop
+loop-holds : tie.Need-loop-k-init invariant-loop decreases-loop
 loop-holds c = (omega arith, flags-first _)
 
-falls-at-requires : tie.Need-falls-at-requires invariant-loop decreases-loop
+falls-at-requires : tie.Need-falls_at-requires invariant-loop decreases-loop
 falls-at-requires c κs = (c.before.before.requires, omega (arith, c.before.before.requires.few))
 
-array-write-to : tie.Need-array-write-to invariant-loop decreases-loop
+array-write-to : tie.Need-bounds-to-k invariant-loop decreases-loop
 array-write-to c = omega (arith, c.before.before.before.requires.few)
 
-add-k : tie.Need-overflow-add-k invariant-loop decreases-loop
+add-k : tie.Need-overflow_add-k invariant-loop decreases-loop
 add-k c = omega (arith, c.before.before.before.requires.few)
 
-loop-less : tie.Need-loop-smaller invariant-loop decreases-loop
+loop-less : tie.Need-loop-k-smaller invariant-loop decreases-loop
 loop-less c = omega arith
 
-loop-again : tie.Need-loop-preserved invariant-loop decreases-loop
+loop-again : tie.Need-loop-k-preserved invariant-loop decreases-loop
 loop-again c = (
   omega arith,
-  flags-step _ c.before.before.loop.k c.falls_at.result (omega (arith, c.before.before.before.requires.few))
-      c.falls_at.ensures c.before.before.loop.invariant.1,
+  flags-step _ c.before.before.loop-k.k c.falls_at.result (omega (arith, c.before.before.before.requires.few))
+      c.falls_at.ensures c.before.before.loop-k.invariant.1,
 )
 
 returns : tie.Need-returns invariant-loop decreases-loop
-returns c = flags-done (omega arith) c.before.loop.invariant.1
+returns c = flags-done (omega arith) c.before.loop-k.invariant.1
 
-pub falls-spec : {M : Type 1} → statement M
-falls-spec =
+pub falls_spec : {M : Type 1} → statement M
+falls_spec =
     tie.close
     (tie.spec
     invariant-loop

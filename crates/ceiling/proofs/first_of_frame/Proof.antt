@@ -11,80 +11,80 @@ use Rattle.ceiling.proofs.Framing.{past, still}
 use Rattle.ceiling.proofs.first_of_frame.Statement.{statement}
 use Rattle.ceiling.proofs.first_of_frame.Tie as tie
 
-abbrev start : tie.After-frame-of → tie.Start
+abbrev start : tie.After-frame_of-f → tie.Start
 start m = m.before.before
 
 -- where the frame itself loses no more than is asked for
-abbrev tested : tie.After-first-of → tie.Else1
+abbrev tested : tie.After-first_of-s → tie.Else-r-scale
 tested f = f.before.before.before
 
-frame : (c : tie.After-frame-of) → let a = (start c).args in IsFrame a.p a.q a.cols a.ends a.whole a.t c.frame-of.result
-frame c = c.frame-of.ensures
+frame : (c : tie.After-frame_of-f) → let a = (start c).args in IsFrame a.p a.q a.cols a.ends a.whole a.t c.frame_of-f.result
+frame c = c.frame_of-f.ensures
 
-off-in : (c : tie.Else1) → c.before.frame-of.result.scale * c.before.frame-of.result.less ≤ (start c.before).args.r
+off-in : (c : tie.Else-r-scale) → c.before.frame_of-f.result.scale * c.before.frame_of-f.result.less ≤ (start c.before).args.r
 off-in c = let m = c.before in let s = start m in
-    still s.args.r m.frame-of.result.scale m.frame-of.result.less (frame-scale (frame m) s.pre.0.0).0 (λ h. omega (arith, c.if1.false))
+    still s.args.r m.frame_of-f.result.scale m.frame_of-f.result.less (frame-scale (frame m) s.requires.0.0).0 (λ h. omega (arith, c.if-r-scale.false))
 
-frame-of-requires : tie.Need-frame-of-requires
+frame-of-requires : tie.Need-frame_of-f-requires
 frame-of-requires c κs = search rules
 
-div-if1 : tie.Need-nonzero-div-if1
+div-if1 : tie.Need-nonzero_div-r
 div-if1 c = (frame-scale (frame c) (start c).requires.0.0).0
 
 unseen-requires : tie.Need-unseen-requires
 unseen-requires c κs = search rules
 
-returns : tie.Need-returns
+returns : tie.Need-returns-then-r-scale
 returns c =
     let m = c.before.before in
     let s = start m in
     let a = s.args in
-    let f = m.frame-of.result in
+    let f = m.frame_of-f.result in
     let u = c.unseen.ensures in
-    let over = past a.r f.scale f.less (frame-scale (frame m) s.pre.0.0).0 c.before.if1.true in
+    let over = past a.r f.scale f.less (frame-scale (frame m) s.requires.0.0).0 c.before.if-r-scale.true in
     record {
       few = omega (arith, u.1);
       writes = rw u.1 (beyond f (frame m) over);
       found = λ i. absurd (impossible (sym u.0 ∙ i));
-      none = λ i. own-none (frame m) s.pre.0.0 a.r over;
+      none = λ i. own-none (frame m) s.requires.0.0 a.r over;
     }
 
-mul-off : tie.Need-overflow-mul-off
+mul-off : tie.Need-overflow_mul-off
 mul-off c = omega (arith, off-in c, (start c.before).requires.1.0)
 
-sub-first-of : tie.Need-overflow-sub-first-of
+sub-first-of : tie.Need-overflow_sub-r
 sub-first-of c = off-in c.before
 
-first-of-requires : tie.Need-first-of-requires
+first-of-requires : tie.Need-first_of-s-requires
 first-of-requires c κs =
     let e = c.before.before in
     let m = e.before in
     let s = start m in
     let a = s.args in (
-      (frame-sized (frame m) s.pre.0.0, (frame-modest (frame m) s.pre.0.0, (frame-cut (frame m) s.pre.0.0, (frame m).ends-are.ordered))),
+      (frame-sized (frame m) s.requires.0.0, (frame-modest (frame m) s.requires.0.0, (frame-cut (frame m) s.requires.0.0, (frame m).ends-are.ordered))),
       (
         (
-          frame-narrow (frame m) s.pre.0.0 s.pre.0.1.1.1,
-          (omega (arith, s.pre.1.0), own-floor (frame m) s.pre.0.0 a.r (off-in e) s.pre.1.1.0),
+          frame-narrow (frame m) s.requires.0.0 s.requires.0.1.1.1,
+          (omega (arith, s.requires.1.0), own-floor (frame m) s.requires.0.0 a.r (off-in e) s.requires.1.1.0),
         ),
-        s.pre.1.1.1,
+        s.requires.1.1.1,
       ),
     )
 
-made-requires : tie.Need-made-requires
+made-requires : tie.Need-made-place-requires
 made-requires c κs =
     let h = c.before.before.before in
     let f = h.before in
     let e = tested f in
     let m = e.before in
     let s = start m in
-    let g = f.first_of in
-    (frame-sized (frame m) s.pre.0.0, g.ensures.small c.before.if2.true)
+    let g = f.first_of-s in
+    (frame-sized (frame m) s.requires.0.0, g.ensures.small c.before.if-s.true)
 
-same_length : tie.Need-same-length
+same_length : tie.Need-shape_of-cells-then-s
 same_length c = search rules
 
-returns-2 : tie.Need-returns-2
+returns-2 : tie.Need-returns-then-s
 returns-2 c =
     let h = c.before.before.before in
     let f = h.before.before in
@@ -92,22 +92,22 @@ returns-2 c =
     let m = e.before in
     let s = start m in
     let a = s.args in
-    let g = f.first_of in
+    let g = f.first_of-s in
     record {
       few = g.ensures.few;
-      writes = within m.frame-of.result g.result.written (frame m) (off-in e) g.ensures.writes;
-      found = λ i. own_first (frame m) s.pre.0.0 a.r _ (omega (arith, off-in e)) (num g.result.amounts) c.made.result
-          (g.ensures.found c.before.before.if2.true) c.made.ensures.each;
+      writes = within m.frame_of-f.result g.result.written (frame m) (off-in e) g.ensures.writes;
+      found = λ i. own_first (frame m) s.requires.0.0 a.r _ (omega (arith, off-in e)) (num g.result.amounts) c.made-place.result
+          (g.ensures.found c.before.before.if-s.true) c.made-place.ensures.each;
       none = λ i. absurd (impossible (sym i));
     }
 
 unseen-requires-2 : tie.Need-unseen-requires-2
 unseen-requires-2 c κs = search rules
 
-same-length-2 : tie.Need-same-length-2
+same-length-2 : tie.Need-shape_of-cells
 same-length-2 c = search rules
 
-returns-3 : tie.Need-returns-3
+returns-3 : tie.Need-returns
 returns-3 c =
     let h = c.before.before.before in
     let f = h.before in
@@ -115,17 +115,17 @@ returns-3 c =
     let m = e.before in
     let s = start m in
     let a = s.args in
-    let g = f.first_of in
-    let u = c.unseen2.ensures in
+    let g = f.first_of-s in
+    let u = c.unseen-2.ensures in
     record {
       few = omega (arith, u.1, g.ensures.few);
-      writes = rw u.1 (within m.frame-of.result g.result.written (frame m) (off-in e) g.ensures.writes);
+      writes = rw u.1 (within m.frame_of-f.result g.result.written (frame m) (off-in e) g.ensures.writes);
       found = λ i. absurd (impossible (sym u.0 ∙ i));
-      none = λ i. own-later (frame m) s.pre.0.0 a.r (off-in e) (g.ensures.none c.before.if2.false);
+      none = λ i. own-later (frame m) s.requires.0.0 a.r (off-in e) (g.ensures.none c.before.if-s.false);
     }
 
-pub first-of-frame-spec : {M : Type 1} → statement M
-first-of-frame-spec =
+pub first_of_frame_spec : {M : Type 1} → statement M
+first_of_frame_spec =
     tie.close
     (tie.spec
     frame-of-requires

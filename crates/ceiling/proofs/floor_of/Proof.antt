@@ -11,45 +11,45 @@ use Rattle.ceiling.proofs.floor_of.Tie as tie
 use Rattle.fillings.proofs.least_filling.Reads as least-filling-reads
 
 -- from the pieces, back to their room and to the start
-abbrev rooms : tie.After-pieces-of → tie.After-room-of
+abbrev rooms : tie.After-pieces_of-ps → tie.After-room_of-f
 rooms m = m.before.before
 
-abbrev start : tie.After-pieces-of → tie.Start
+abbrev start : tie.After-pieces_of-ps → tie.Start
 start m = m.before.before.before.before
 
-room-of-requires : tie.Need-room-of-requires
+room-of-requires : tie.Need-room_of-f-requires
 room-of-requires c κs = search rules
 
-pieces-of-requires : tie.Need-pieces-of-requires
+pieces-of-requires : tie.Need-pieces_of-ps-requires
 pieces-of-requires c κs = search rules
 
-least-filling-requires : tie.Need-least-filling-requires
+least-filling-requires : tie.Need-least_filling-requires
 least-filling-requires c κs =
     let s = start c.before in
-    let z = s.pre.0 in
-    let ps = c.before.pieces_of.ensures in
-    let cap = s.pre.1.0 in (
+    let z = s.requires.0 in
+    let ps = c.before.pieces_of-ps.ensures in
+    let cap = s.requires.1.0 in (
       (
-        pieces-fair ps z.0 z.1.0.scale_in (rooms c.before).room_of.ensures.small,
-        (omega (arith, cap.cap-in), pieces-keyable ps z.0.ends s.pre.1.1 s.args.cap cap.cap-in),
+        pieces-fair ps z.0 z.1.0.scale_in (rooms c.before).room_of-f.ensures.small,
+        (omega (arith, cap.cap-in), pieces-keyable ps z.0.ends s.requires.1.1 s.args.cap cap.cap-in),
       ),
       cap.long,
     )
 
-same_length : tie.Need-same-length
+same_length : tie.Need-shape_of-cells-then-f
 same_length c = search rules
 
-returns : tie.Need-returns
+returns : tie.Need-returns-then-f
 returns c =
     let l = c.before.before in
     let po = l.before.before in
     let s = start po in
     let a = s.args in
-    let z = s.pre.0 in
-    let m = (rooms po).room_of in
-    let fits = po.before.if1.true in
-    let ps = po.pieces_of in
-    let r = l.least-filling in
+    let z = s.requires.0 in
+    let m = (rooms po).room_of-f in
+    let fits = po.before.if-f.true in
+    let ps = po.pieces_of-ps in
+    let r = l.least_filling in
     record {
       few = r.ensures.few;
       writes = fit m.result.left r.result.written ps.result (m.ensures.left_is fits) ps.ensures r.ensures.writes;
@@ -60,19 +60,19 @@ returns c =
       };
       found = λ i. first-point a.p a.q a.cols a.ends a.scale a.cut z.0.columns.few z.1.0.scale≥1 z.1.1.0 z.1.1.1
           m.result.left (m.ensures.left_is fits) ps.result ps.ensures r.result.least r.result.amounts (r.ensures.found i);
-      small = λ i. pieces-few ps.ensures z.0.ends s.pre.1.1 (r.ensures.found i);
+      small = λ i. pieces-few ps.ensures z.0.ends s.requires.1.1 (r.ensures.found i);
     }
 
 unfilled-requires : tie.Need-unfilled-requires
 unfilled-requires c κs = search rules
 
-returns-2 : tie.Need-returns-2
+returns-2 : tie.Need-returns
 returns-2 c =
     let m = c.before.before in
     let s = m.before.before in
     let a = s.args in
     let u = c.unfilled.ensures in
-    let none = m.room_of.ensures.none c.before.if1.false in
+    let none = m.room_of-f.ensures.none c.before.if-f.false in
     record {
       few = omega (arith, u.1);
       writes = rw u.1 (unfit none);
@@ -82,8 +82,8 @@ returns-2 c =
       small = λ i. absurd (omega (arith, u.0));
     }
 
-pub floor-of-spec : {M : Type 1} → statement M
-floor-of-spec =
+pub floor_of_spec : {M : Type 1} → statement M
+floor_of_spec =
     tie.close
     (tie.spec
     room-of-requires

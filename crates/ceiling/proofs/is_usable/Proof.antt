@@ -11,31 +11,31 @@ use borrow.Author.Rules.{rules}
 use Rattle.ceiling.proofs.is_usable.Statement.{statement}
 use Rattle.ceiling.proofs.is_usable.Tie as tie
 
-mul-k : tie.Need-overflow-mul-k
+mul-k : tie.Need-offset_bounds-cols-t
 mul-k c = search rules
 
-element-copy-out-k : tie.Need-element-copy-out-k
+element-copy-out-k : tie.Need-bounds-cols-t
 element-copy-out-k c = search rules
 
-array-read-w : tie.Need-array-read-w
+array-read-w : tie.Need-bounds-whole-k
 array-read-w c = c.before.requires.0.columns.items-in c.before.args.t
 
-mul-l : tie.Need-overflow-mul-l
+mul-l : tie.Need-offset_bounds-ends-k
 mul-l c = record { fits = omega (arith, c.before.requires.0.columns.items-in c.before.args.t) }
 
-element-copy-out-l : tie.Need-element-copy-out-l
+element-copy-out-l : tie.Need-bounds-ends-k
 element-copy-out-l c = c.before.requires.0.columns.items-in c.before.args.t
 
-mul-u : tie.Need-overflow-mul-u
+mul-u : tie.Need-offset_bounds-ends-k-2
 mul-u c = record { fits = omega (arith, c.before.before.requires.0.columns.items-in c.before.before.args.t) }
 
-element-copy-out-u : tie.Need-element-copy-out-u
+element-copy-out-u : tie.Need-bounds-ends-k-2
 element-copy-out-u c = c.before.before.requires.0.columns.items-in c.before.before.args.t
 
-returns : tie.Need-returns
-returns c = (λ i u. impossible (sym u.loose ∙ c.if1.true), λ i. absurd (impossible i))
+returns : tie.Need-returns-then-w
+returns c = (λ i u. impossible (sym u.loose ∙ c.if-w.true), λ i. absurd (impossible i))
 
-returns-2 : tie.Need-returns-2
+returns-2 : tie.Need-returns-then-l-u
 returns-2 c =
     let h = c.before.before.before in
     let s = h.before.before in
@@ -43,27 +43,27 @@ returns-2 c =
     let z = s.requires.0.ends in (
       λ i u. impossible (sym i),
       λ i. record {
-        loose = c.before.if1.false;
+        loose = c.before.if-w.false;
         free = λ g. apart (at s.args.t2.lo k) (at s.args.t2.hi k)
-            (yes_lt (rw (within-back tt (z.lo-in k), within-back tt (z.hi-in k)) at c.if2.true)) g;
+            (yes_lt (rw (within-back tt (z.lo-in k), within-back tt (z.hi-in k)) at c.if-l-u.true)) g;
       },
     )
   where
     apart : (x y : ℤ) → x <ℤ y → x ≡ y → ⊥
     apart = split2 _ (λ a b c e. simp zed (omega arith))
 
-returns-3 : tie.Need-returns-3
+returns-3 : tie.Need-returns-else-l-u
 returns-3 c =
     let h = c.before.before.before in
     let s = h.before.before in (
       λ i u. let k = item_of s.args.t1 s.args.t in let z = s.requires.0.ends in
           u.free (≤ℤ-antisym (s.requires.1.1.0 k (s.requires.1.0.item_in s.args.t (omega (arith, s.requires.1.1.1, s.requires.1.0.live_in))))
-          (no_lt (rw (within-back tt (z.lo-in k), within-back tt (z.hi-in k)) at c.if2.false))),
+          (no_lt (rw (within-back tt (z.lo-in k), within-back tt (z.hi-in k)) at c.if-l-u.false))),
       λ i. absurd (impossible i),
     )
 
-pub is-usable-spec : {M : Type 1} → statement M
-is-usable-spec =
+pub is_usable_spec : {M : Type 1} → statement M
+is_usable_spec =
     tie.close
     (tie.spec
     mul-k

@@ -14,68 +14,68 @@ use Rattle.ceiling.proofs.lowered.Statement.{statement}
 use Rattle.ceiling.proofs.lowered.Tie as tie
 
 -- from the frame's floor, back to its scale and to the start
-abbrev scaled : tie.After-frame-floor → tie.After-scale-of
+abbrev scaled : tie.After-frame_floor-r → tie.After-scale_of-scale
 scaled f = f.before.before
 
-abbrev start : tie.After-frame-floor → tie.Start
+abbrev start : tie.After-frame_floor-r → tie.Start
 start f = f.before.before.before.before
 
-scale-is : (c : tie.After-scale-of) → c.scale_of.result ≡ scale_of c.before.before.args.cols c.before.before.args.t
-scale-is c = c.scale_of.ensures
+scale-is : (c : tie.After-scale_of-scale) → c.scale_of-scale.result ≡ scale_of c.before.before.args.cols c.before.before.args.t
+scale-is c = c.scale_of-scale.ensures
 
-scale_small : (c : tie.After-scale-of) → (1 ≤ c.scale_of.result) × (c.scale_of.result ≤ 1000)
+scale_small : (c : tie.After-scale_of-scale) → (1 ≤ c.scale_of-scale.result) × (c.scale_of-scale.result ≤ 1000)
 scale_small c = let s = c.before.before in rw (scale-is c) (scale_in s.args.cols s.args.t s.requires.0.0.sized.columns)
 
-small : (c : tie.After-scale-of) → let b = c.before.before.args.best.lost in c.scale_of.result * b.num + (b.den - 1) ≤ 10000000000999
-small c = let s = c.before.before in cap-small c.scale_of.result s.args.best.lost.num s.args.best.lost.den (scale_small c).1 s.requires.1.0
+small : (c : tie.After-scale_of-scale) → let b = c.before.before.args.best.lost in c.scale_of-scale.result * b.num + (b.den - 1) ≤ 10000000000999
+small c = let s = c.before.before in cap-small c.scale_of-scale.result s.args.best.lost.num s.args.best.lost.den (scale_small c).1 s.requires.1.0
 
-capped : (c : tie.After-scale-of) → let b = c.before.before.args.best.lost in (c.scale_of.result * b.num + (b.den - 1)) / b.den ≤ 10000000000
-capped c = let s = c.before.before in cap-least c.scale_of.result s.args.best.lost.num s.args.best.lost.den (scale_small c).1 s.requires.1.0
+capped : (c : tie.After-scale_of-scale) → let b = c.before.before.args.best.lost in (c.scale_of-scale.result * b.num + (b.den - 1)) / b.den ≤ 10000000000
+capped c = let s = c.before.before in cap-least c.scale_of-scale.result s.args.best.lost.num s.args.best.lost.den (scale_small c).1 s.requires.1.0
 
-scale-of-requires : tie.Need-scale-of-requires
+scale-of-requires : tie.Need-scale_of-scale-requires
 scale-of-requires c κs = c.before.requires.0.0.sized.columns
 
-mul-cap : tie.Need-overflow-mul-cap
+mul-cap : tie.Need-overflow_mul-cap
 mul-cap c = omega (arith, small c)
 
-sub-cap : tie.Need-overflow-sub-cap
+sub-cap : tie.Need-overflow_sub-cap
 sub-cap c = c.before.before.requires.1.0.some
 
-add-cap : tie.Need-overflow-add-cap
+add-cap : tie.Need-overflow_add-cap
 add-cap c = omega (arith, small c)
 
-div-cap : tie.Need-nonzero-div-cap
+div-cap : tie.Need-nonzero_div-cap
 div-cap c = c.before.before.requires.1.0.some
 
-frame-floor-requires : tie.Need-frame-floor-requires
+frame-floor-requires : tie.Need-frame_floor-r-requires
 frame-floor-requires c κs =
     let s = c.before.before.before in
     rw (within-back tt s.requires.0.1.1.0) (s.requires.0, record { cap-in = capped c.before; long = s.requires.1.1.1 })
 
-add-written : tie.Need-overflow-add-written
+add-written : tie.Need-overflow_add-written
 add-written c =
     let h = c.before.before.before in
     let f = h.before in
     let s = start f in
-    omega (arith, s.pre.1.1.0, f.frame-floor.ensures.few)
+    omega (arith, s.requires.1.1.0, f.frame_floor-r.ensures.few)
 
 -- what the frame adds
-more : (f : tie.After-frame-floor) → let a = (start f).args in (r : Least) → r.written ≡ a.best.written + f.frame-floor.result.written →
+more : (f : tie.After-frame_floor-r) → let a = (start f).args in (r : Least) → r.written ≡ a.best.written + f.frame_floor-r.result.written →
     LowerWrites a.p a.q a.cols a.ends a.whole a.t a.best r
 more f r e =
     let a = (start f).args in
-    let n = f.frame-floor.result.written in
+    let n = f.frame_floor-r.result.written in
     record {
       more = n;
       frame = subst (λ x. FrameWrites ByLeast a.p a.q a.cols a.ends a.whole a.t ((x * a.best.lost.num + (a.best.lost.den - 1))
-          / a.best.lost.den) n) (scale-is (scaled f)) f.frame-floor.ensures.writes;
+          / a.best.lost.den) n) (scale-is (scaled f)) f.frame_floor-r.ensures.writes;
       sum = e;
     }
 
-same_length : tie.Need-same-length
+same_length : tie.Need-shape_of-cells-then-r-cap
 same_length c = search rules
 
-returns : tie.Need-returns
+returns : tie.Need-returns-then-r-cap
 returns c =
     let h = c.before.before.before in
     let ff = h.before.before.before.before in
@@ -83,11 +83,11 @@ returns c =
     let a = s.args in
     let n = a.best.lost.num in
     let d = a.best.lost.den in
-    let f = ff.frame-floor in
+    let f = ff.frame_floor-r in
     let i = scale-is (scaled ff) in
-    let z = scale_in a.cols a.t s.pre.0.0.sized.columns in
-    let under = subst (λ x. f.result.least < (x * n + (d - 1)) / d) i c.before.if1.true in
-    let less = below-cap a.p a.q a.cols a.ends a.whole a.t n d f.result.least s.pre.1.0 f.ensures.floor under in
+    let z = scale_in a.cols a.t s.requires.0.0.sized.columns in
+    let under = subst (λ x. f.result.least < (x * n + (d - 1)) / d) i c.before.if-r-cap.true in
+    let less = below-cap a.p a.q a.cols a.ends a.whole a.t n d f.result.least s.requires.1.0 f.ensures.floor under in
     subst (λ x. Lowered a.p a.q a.cols a.ends a.whole a.t a.best
     (record {
       lost = record { num = f.result.least; den = x };
@@ -99,26 +99,26 @@ returns c =
     }))
     (sym i)
     (record {
-      counted = lowered-counted a.p a.q a.cols a.ends a.whole a.t n d f.result.least s.pre.1.0 f.ensures.floor z under;
+      counted = lowered-counted a.p a.q a.cols a.ends a.whole a.t n d f.result.least s.requires.1.0 f.ensures.floor z under;
       lower = omega (arith, less);
-      bound = lowered-new a.p a.q a.cols a.ends a.whole a.t n d f.result.least s.pre.1.0 f.ensures.floor;
+      bound = lowered-new a.p a.q a.cols a.ends a.whole a.t n d f.result.least s.requires.1.0 f.ensures.floor;
       exact = inr (record {
         found = refl;
         at-is = refl;
         den-is = refl;
-        deep = omega (arith, c.before.if1.true, capped (scaled ff));
+        deep = omega (arith, c.before.if-r-cap.true, capped (scaled ff));
         floor = f.ensures.floor;
-        first = f.ensures.first c.before.if1.true;
+        first = f.ensures.first c.before.if-r-cap.true;
       });
       any = refl;
       few = omega (arith, f.ensures.few);
       writes = more ff _ refl;
     })
 
-same-length-2 : tie.Need-same-length-2
+same-length-2 : tie.Need-shape_of-cells
 same-length-2 c = search rules
 
-returns-2 : tie.Need-returns-2
+returns-2 : tie.Need-returns
 returns-2 c =
     let h = c.before.before.before in
     let g = h.before.before.before in
@@ -127,21 +127,21 @@ returns-2 c =
     let a = s.args in
     let n = a.best.lost.num in
     let d = a.best.lost.den in
-    let f = ff.frame-floor in
+    let f = ff.frame_floor-r in
     let i = scale-is (scaled ff) in
     record {
-      counted = s.pre.1.0;
+      counted = s.requires.1.0;
       lower = omega arith;
-      bound = lowered-old a.p a.q a.cols a.ends a.whole a.t n d f.result.least s.pre.1.0 f.ensures.floor
-          (subst (λ x. (x * n + (d - 1)) / d ≤ f.result.least) i (omega (arith, c.before.before.if1.false)));
+      bound = lowered-old a.p a.q a.cols a.ends a.whole a.t n d f.result.least s.requires.1.0 f.ensures.floor
+          (subst (λ x. (x * n + (d - 1)) / d ≤ f.result.least) i (omega (arith, c.before.before.if-r-cap.false)));
       exact = inl (refl, (refl, (refl, refl)));
       any = refl;
       few = omega (arith, f.ensures.few);
       writes = more ff _ refl;
     }
 
-pub lowered-spec : {M : Type 1} → statement M
-lowered-spec =
+pub lowered_spec : {M : Type 1} → statement M
+lowered_spec =
     tie.close
     (tie.spec
     scale-of-requires

@@ -10,42 +10,42 @@ use Rattle.ceiling.proofs.Lists.{placed_first, placed-step, placed-done}
 use Rattle.ceiling.proofs.made.Statement.{statement}
 use Rattle.ceiling.proofs.made.Tie as tie
 
-abbrev invariant-loop : tie.invariant-loop
+abbrev invariant-loop : tie.invariant-loop-k
 invariant-loop cols ends ys to₀ k₀ to k = (k ≤ 16) × Placed k (whole_of cols ends (num ys)) to
 
-abbrev decreases-loop : tie.decreases-loop
+abbrev decreases-loop : tie.decreases-loop-k
 decreases-loop cols ends ys to₀ k₀ to k = 16 - k
 
-loop-holds : tie.Need-loop-init invariant-loop decreases-loop
+loop-holds : tie.Need-loop-k-init invariant-loop decreases-loop
 loop-holds c = (omega arith, placed_first _)
 
-made-at-requires : tie.Need-made-at-requires invariant-loop decreases-loop
-made-at-requires c κs = let s = c.before.before in (s.requires.0, (omega arith, s.requires.1 c.before.loop.k (omega arith)))
+made-at-requires : tie.Need-made_at-requires invariant-loop decreases-loop
+made-at-requires c κs = let s = c.before.before in (s.requires.0, (omega arith, s.requires.1 c.before.loop-k.k (omega arith)))
 
-mul-to : tie.Need-overflow-mul-to invariant-loop decreases-loop
+mul-to : tie.Need-offset_bounds-to-k invariant-loop decreases-loop
 mul-to c = omega arith
 
-array-set-from-to : tie.Need-array-set-from-to invariant-loop decreases-loop
+array-set-from-to : tie.Need-bounds-to-k invariant-loop decreases-loop
 array-set-from-to c = omega arith
 
-add-k : tie.Need-overflow-add-k invariant-loop decreases-loop
+add-k : tie.Need-overflow_add-k invariant-loop decreases-loop
 add-k c = omega arith
 
-loop-less : tie.Need-loop-smaller invariant-loop decreases-loop
+loop-less : tie.Need-loop-k-smaller invariant-loop decreases-loop
 loop-less c = omega arith
 
-loop-again : tie.Need-loop-preserved invariant-loop decreases-loop
+loop-again : tie.Need-loop-k-preserved invariant-loop decreases-loop
 loop-again c = (
   omega arith,
-  placed-step _ c.before.before.loop.k _ (omega arith) (back c.made_at.result c.made_at.type-inv ∙ c.made_at.ensures)
-      c.before.before.loop.invariant.1,
+  placed-step _ c.before.before.loop-k.k _ (omega arith) (back c.made_at.result c.made_at.type_inv ∙ c.made_at.ensures)
+      c.before.before.loop-k.invariant.1,
 )
 
 returns : tie.Need-returns invariant-loop decreases-loop
-returns c = placed-done (omega arith) c.before.loop.invariant.1
+returns c = placed-done (omega arith) c.before.loop-k.invariant.1
 
-pub made-spec : {M : Type 1} → statement M
-made-spec =
+pub made_spec : {M : Type 1} → statement M
+made_spec =
     tie.close
     (tie.spec
     invariant-loop

@@ -22,20 +22,20 @@ down s = within-sub s.requires.1.0 (pos-within s.args.y s.requires.1.1)
 up : (s : tie.Start) → Within 1200000000 (s.args.l +ℤ pos s.args.y)
 up s = within-add s.requires.0 (pos-within s.args.y s.requires.1.1)
 
-cast-n : tie.Need-overflow-cast-n
+cast-n : tie.Need-overflow_cast-n
 cast-n c = search rules
 
-sub-result : tie.Need-overflow-sub-result
+sub-result : tie.Need-overflow_sub-result
 sub-result c = let s = c.before in rw (within-back tt s.requires.1.0, is_pos s) (within-sfits (lit< tt) (down s))
 
-add-result : tie.Need-overflow-add-result
+add-result : tie.Need-overflow_add-result
 add-result c = let s = c.before in rw (within-back tt s.requires.0, is_pos s) (within-sfits (lit< tt) (up s))
 
-returns : tie.Need-returns
-returns c = let s = c.before in rw (within-back tt s.requires.1.0, is_pos s, within-back tt (down s), rw (to_z-of_z s.ranges.a) at c.if1.true)
+returns : tie.Need-returns-then-a-lt0
+returns c = let s = c.before in rw (within-back tt s.requires.1.0, is_pos s, within-back tt (down s), rw (to_z-of_z s.ranges.a) at c.if-a-lt0.true)
 
-returns-2 : tie.Need-returns-2
-returns-2 c = let s = c.before in rw (within-back tt s.requires.0, is_pos s, within-back tt (up s), rw (to_z-of_z s.ranges.a) at c.if1.false)
+returns-2 : tie.Need-returns-else-a-lt0
+returns-2 c = let s = c.before in rw (within-back tt s.requires.0, is_pos s, within-back tt (up s), rw (to_z-of_z s.ranges.a) at c.if-a-lt0.false)
 
-pub made-of-spec : {M : Type 1} → statement M
-made-of-spec = tie.close (tie.spec cast-n sub-result add-result returns returns-2)
+pub made_of_spec : {M : Type 1} → statement M
+made_of_spec = tie.close (tie.spec cast-n sub-result add-result returns returns-2)

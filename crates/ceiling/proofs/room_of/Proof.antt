@@ -19,38 +19,38 @@ use Rattle.ceiling.proofs.room_of.Statement.{statement}
 use Rattle.ceiling.proofs.room_of.Tie as tie
 use Rattle.greedy.proofs.begin.Reads as begin-reads
 
-room-is : (b : tie.After-begin) → b.begin.result.room ≡ room_by b.before.args.cols b.before.args.ends
-room-is b = ap (λ (f : Fill). f.room) b.begin.ensures ∙ room-begun b.before.args.cols b.before.args.ends
+room-is : (b : tie.After-begin-f) → b.begin-f.result.room ≡ room_by b.before.args.cols b.before.args.ends
+room-is b = ap (λ (f : Fill). f.room) b.begin-f.ensures ∙ room-begun b.before.args.cols b.before.args.ends
 
-small : (b : tie.After-begin) → Within 4800100000000 b.begin.result.room
-small b = subst (λ (f : Fill). Within 4800100000000 f.room) (sym b.begin.ensures)
+small : (b : tie.After-begin-f) → Within 4800100000000 b.begin-f.result.room
+small b = subst (λ (f : Fill). Within 4800100000000 f.room) (sym b.begin-f.ensures)
     (room_in b.before.args.cols b.before.args.ends b.before.requires)
 
-room_back : (b : tie.After-begin) → to_z w64 (of_z w64 b.begin.result.room) ≡ b.begin.result.room
+room_back : (b : tie.After-begin-f) → to_z w64 (of_z w64 b.begin-f.result.room) ≡ b.begin-f.result.room
 room_back b = within-back tt (small b)
 
-room≥0 : (c : tie.Else1) → pos 0 ≤ℤ c.before.before.begin.result.room
-room≥0 c = no_lt (rw (room_back c.before.before) at c.if1.false)
+room≥0 : (c : tie.Else-room-lt0) → pos 0 ≤ℤ c.before.before.begin-f.result.room
+room≥0 c = no_lt (rw (room_back c.before.before) at c.if-room-lt0.false)
 
-begin-requires : tie.Need-begin-requires
+begin-requires : tie.Need-begin-f-requires
 begin-requires c κs = search rules
 
-returns : tie.Need-returns
+returns : tie.Need-returns-then-room-lt0
 returns c = let b = c.before.before in record {
   left_is = λ e. absurd (impossible e);
   small = omega arith;
-  none = λ e. subst (λ z. z <ℤ pos 0) (room-is b) (yes_lt (rw (room_back b) at c.if1.true));
+  none = λ e. subst (λ z. z <ℤ pos 0) (room-is b) (yes_lt (rw (room_back b) at c.if-room-lt0.true));
 }
 
-cast-t6 : tie.Need-overflow-cast-t6
+cast-t6 : tie.Need-overflow_cast-result
 cast-t6 c = let b = c.before.before in rw (room_back b) (cast-in (room≥0 c) (within-sfits (lit< tt) (small b)))
 
-returns-2 : tie.Need-returns-2
+returns-2 : tie.Need-returns
 returns-2 c = let b = c.before.before in rw (room_back b) (record {
   left_is = λ e. sym (abs-pos _ (room≥0 c)) ∙ room-is b;
-  small = within-abs b.begin.result.room (small b);
+  small = within-abs b.begin-f.result.room (small b);
   none = λ e. absurd (impossible (sym e));
 })
 
-pub room-of-spec : {M : Type 1} → statement M
-room-of-spec = tie.close (tie.spec begin-requires returns cast-t6 returns-2)
+pub room_of_spec : {M : Type 1} → statement M
+room_of_spec = tie.close (tie.spec begin-requires returns cast-t6 returns-2)

@@ -8,22 +8,22 @@ use borrow.Author.Rules.{rules}
 use Rattle.ceiling.proofs.taken_cost.Statement.{statement}
 use Rattle.ceiling.proofs.taken_cost.Tie as tie
 
-heavy : (c : tie.After-is-heavy) → c.is-heavy.result ≡ heavy_by c.before.before.args.a c.before.before.args.r
-heavy c = let s = c.before.before in rw (to_z-of_z s.ranges.a, within-back tt s.requires.1) at c.is-heavy.ensures
+heavy : (c : tie.After-is_heavy) → c.is_heavy.result ≡ heavy_by c.before.before.args.a c.before.before.args.r
+heavy c = let s = c.before.before in rw (to_z-of_z s.ranges.a, within-back tt s.requires.1) at c.is_heavy.ensures
 
-cost-requires : tie.Need-cost-requires
+cost-requires : tie.Need-cost-n-requires
 cost-requires c κs = search rules
 
-is-heavy-requires : tie.Need-is-heavy-requires
+is-heavy-requires : tie.Need-is_heavy-requires
 is-heavy-requires c κs = search rules
 
-returns : tie.Need-returns
-returns c = let s = c.before.before.before in let h : heavy_by s.args.a s.args.r ≡ true = sym (heavy c.before) ∙ c.if1.true in rw h (refl)
+returns : tie.Need-returns-then-is_heavy
+returns c = let s = c.before.before.before in let h : heavy_by s.args.a s.args.r ≡ true = sym (heavy c.before) ∙ c.if-is_heavy.true in rw h (refl)
 
-returns-2 : tie.Need-returns-2
-returns-2 c = let s = c.before.before.before in let h : heavy_by s.args.a s.args.r ≡ false = sym (heavy c.before) ∙ c.if1.false in
-    rw h (rw (within-back tt s.requires.1) at c.before.before.cost.ensures)
+returns-2 : tie.Need-returns-else-is_heavy
+returns-2 c = let s = c.before.before.before in let h : heavy_by s.args.a s.args.r ≡ false = sym (heavy c.before) ∙ c.if-is_heavy.false in
+    rw h (rw (within-back tt s.requires.1) at c.before.before.cost-n.ensures)
 
-pub taken-cost-spec : {M : Type 1} → statement M
-taken-cost-spec =
+pub taken_cost_spec : {M : Type 1} → statement M
+taken_cost_spec =
     tie.close (tie.spec cost-requires is-heavy-requires returns returns-2)

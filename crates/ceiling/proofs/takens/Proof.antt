@@ -8,51 +8,51 @@ use Rattle.ceiling.proofs.Lists.{listing-first, listing_step, listing-done}
 use Rattle.ceiling.proofs.takens.Statement.{statement}
 use Rattle.ceiling.proofs.takens.Tie as tie
 
-abbrev invariant-loop : tie.invariant-loop
+abbrev invariant-loop : tie.invariant-loop-k
 invariant-loop cols p q scale cut n to₀ k₀ to k = (k ≤ n) × Listing k (taken_of p q cols scale cut) (scale * p) to
 
-abbrev decreases-loop : tie.decreases-loop
+abbrev decreases-loop : tie.decreases-loop-k
 decreases-loop cols p q scale cut n to₀ k₀ to k = n - k
 
-mul-blank : tie.Need-overflow-mul-blank invariant-loop decreases-loop
+mul-blank : tie.Need-overflow_mul-scale invariant-loop decreases-loop
 mul-blank c = record { fits = omega (arith, mul-le-mul c.requires.1.scale_in c.requires.1.p-in) }
 
-k<16 : (c : tie.In-loop invariant-loop decreases-loop) → c.before.loop.k < 16
-k<16 c = omega (arith, c.loop-test.true, c.before.before.before.requires.0.few)
+k<16 : (c : tie.In-loop-k invariant-loop decreases-loop) → c.before.loop-k.k < 16
+k<16 c = omega (arith, c.loop-k-test.true, c.before.before.before.requires.0.few)
 
-blank-requires : tie.Need-blank-requires invariant-loop decreases-loop
+blank-requires : tie.Need-blank-to-requires invariant-loop decreases-loop
 blank-requires c κs = search rules
 
-loop-holds : tie.Need-loop-init invariant-loop decreases-loop
-loop-holds c = (omega arith, listing-first _ c.blank.ensures)
+loop-holds : tie.Need-loop-k-init invariant-loop decreases-loop
+loop-holds c = (omega arith, listing-first _ c.blank-to.ensures)
 
-taken-at-requires : tie.Need-taken-at-requires invariant-loop decreases-loop
+taken-at-requires : tie.Need-taken_at-requires invariant-loop decreases-loop
 taken-at-requires c κs = let s = c.before.before.before in (s.requires.0, (s.requires.1, k<16 c))
 
-mul-to : tie.Need-overflow-mul-to invariant-loop decreases-loop
+mul-to : tie.Need-offset_bounds-to-k invariant-loop decreases-loop
 mul-to c = record { fits = omega (arith, k<16 c.before) }
 
-array-write-to : tie.Need-array-write-to invariant-loop decreases-loop
+array-write-to : tie.Need-bounds-to-k invariant-loop decreases-loop
 array-write-to c = omega (arith, k<16 c.before)
 
-add-k : tie.Need-overflow-add-k invariant-loop decreases-loop
+add-k : tie.Need-overflow_add-k invariant-loop decreases-loop
 add-k c = record { fits = omega (arith, k<16 c.before) }
 
-loop-less : tie.Need-loop-smaller invariant-loop decreases-loop
-loop-less c = omega (arith, c.before.loop-test.true)
+loop-less : tie.Need-loop-k-smaller invariant-loop decreases-loop
+loop-less c = omega (arith, c.before.loop-k-test.true)
 
-loop-again : tie.Need-loop-preserved invariant-loop decreases-loop
+loop-again : tie.Need-loop-k-preserved invariant-loop decreases-loop
 loop-again c = (
-  omega (arith, c.before.loop-test.true),
-  listing_step _ c.before.before.loop.k c.taken_at.result (k<16 c.before)
-      c.taken_at.ensures c.before.before.loop.invariant.1,
+  omega (arith, c.before.loop-k-test.true),
+  listing_step _ c.before.before.loop-k.k c.taken_at.result (k<16 c.before)
+      c.taken_at.ensures c.before.before.loop-k.invariant.1,
 )
 
 returns : tie.Need-returns invariant-loop decreases-loop
-returns c = let l = c.before.loop in listing-done (omega (arith, c.loop-test.false, l.invariant.0)) l.invariant.1
+returns c = let l = c.before.loop-k in listing-done (omega (arith, c.loop-k-test.false, l.invariant.0)) l.invariant.1
 
-pub takens-spec : {M : Type 1} → statement M
-takens-spec =
+pub takens_spec : {M : Type 1} → statement M
+takens_spec =
     tie.close
     (tie.spec
     invariant-loop

@@ -6,45 +6,45 @@ use Rattle.ceiling.proofs.Limits.{levelled-first, levelled-step, levelled-done}
 use Rattle.ceiling.proofs.wholes.Statement.{statement}
 use Rattle.ceiling.proofs.wholes.Tie as tie
 
-abbrev invariant-loop : tie.invariant-loop
+abbrev invariant-loop : tie.invariant-loop-d
 invariant-loop n level to₀ d₀ to d = (d ≤ n) × Levelled level d to
 
-abbrev decreases-loop : tie.decreases-loop
+abbrev decreases-loop : tie.decreases-loop-d
 decreases-loop n level to₀ d₀ to d = n - d
 
-d<16 : (c : tie.In-loop invariant-loop decreases-loop) → c.before.loop.d < 16
-d<16 c = omega (arith, c.loop-test.true, c.before.before.requires.0)
+d<16 : (c : tie.In-loop-d invariant-loop decreases-loop) → c.before.loop-d.d < 16
+d<16 c = omega (arith, c.loop-d-test.true, c.before.before.requires.0)
 
-loop-holds : tie.Need-loop-init invariant-loop decreases-loop
+loop-holds : tie.Need-loop-d-init invariant-loop decreases-loop
 loop-holds c = (omega arith, levelled-first c.args.t1)
 
-mul-k : tie.Need-overflow-mul-k invariant-loop decreases-loop
+mul-k : tie.Need-offset_bounds-level-d invariant-loop decreases-loop
 mul-k c = record { fits = omega (arith, d<16 c) }
 
-array-read-k : tie.Need-array-read-k invariant-loop decreases-loop
+array-read-k : tie.Need-bounds-level-d invariant-loop decreases-loop
 array-read-k c = d<16 c
 
-array-write-to : tie.Need-array-write-to invariant-loop decreases-loop
-array-write-to c = c.before.before.requires.1 c.before.loop.d c.loop-test.true
+array-write-to : tie.Need-bounds-to-k invariant-loop decreases-loop
+array-write-to c = c.before.before.requires.1 c.before.loop-d.d c.loop-d-test.true
 
-add-d : tie.Need-overflow-add-d invariant-loop decreases-loop
+add-d : tie.Need-overflow_add-d invariant-loop decreases-loop
 add-d c = record { fits = omega (arith, d<16 c) }
 
-loop-less : tie.Need-loop-smaller invariant-loop decreases-loop
-loop-less c = omega (arith, c.loop-test.true)
+loop-less : tie.Need-loop-d-smaller invariant-loop decreases-loop
+loop-less c = omega (arith, c.loop-d-test.true)
 
-loop-again : tie.Need-loop-preserved invariant-loop decreases-loop
+loop-again : tie.Need-loop-d-preserved invariant-loop decreases-loop
 loop-again c = (
-  omega (arith, c.loop-test.true),
-  levelled-step (c.before.before.requires.1 c.before.loop.d c.loop-test.true)
-      c.before.loop.invariant.1,
+  omega (arith, c.loop-d-test.true),
+  levelled-step (c.before.before.requires.1 c.before.loop-d.d c.loop-d-test.true)
+      c.before.loop-d.invariant.1,
 )
 
 returns : tie.Need-returns invariant-loop decreases-loop
-returns c = let l = c.before.loop in levelled-done (omega (arith, c.loop-test.false, l.invariant.0)) l.invariant.1
+returns c = let l = c.before.loop-d in levelled-done (omega (arith, c.loop-d-test.false, l.invariant.0)) l.invariant.1
 
-pub wholes-spec : {M : Type 1} → statement M
-wholes-spec =
+pub wholes_spec : {M : Type 1} → statement M
+wholes_spec =
     tie.close
     (tie.spec
     invariant-loop

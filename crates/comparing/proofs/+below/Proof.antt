@@ -29,13 +29,13 @@ below-div-b t c = omega (arith, c.requires.1.1)
 
 below-returns :
     (t : ℕ) → below-lts.Need-returns (below-below t, below.Post) (below_at t) below.Post
-below-returns t c = let s = c.before in below-whole s.args.n s.args.d s.args.m s.args.e s.requires.1.0 s.requires.1.1 c.if1.true
+below-returns t c = let s = c.before in below-whole s.args.n s.args.d s.args.m s.args.e s.requires.1.0 s.requires.1.1 c.if-a-b.true
 
 below-returns-2 :
     (t : ℕ) → below-lts.Need-returns-2 (below-below t, below.Post) (below_at t) below.Post
 below-returns-2 t c =
     let s = c.before.before in
-    above-whole s.args.n s.args.d s.args.m s.args.e s.requires.1.0 s.requires.1.1 c.if2.true
+    above-whole s.args.n s.args.d s.args.m s.args.e s.requires.1.0 s.requires.1.1 c.if-b-a.true
 
 below-rem-i : (t : ℕ) → below-lts.Need-nonzero-rem-i (below-below t, below.Post) (below_at t) below.Post
 below-rem-i t c = omega (arith, c.before.before.requires.1.0)
@@ -47,21 +47,21 @@ below-rem-j t c = omega (arith, c.before.before.requires.1.1)
 same : (t : ℕ) (e : below-lts.Else2 (below-below t, below.Post) (below_at t) below.Post) →
     let s = e.before.before in
     s.args.n / s.args.d ≡ s.args.m / s.args.e
-same t e = omega (arith, e.before.if1.false, e.if2.false)
+same t e = omega (arith, e.before.if-a-b.false, e.if-b-a.false)
 
 below-returns-3 :
     (t : ℕ) → below-lts.Need-returns-3 (below-below t, below.Post) (below_at t) below.Post
 below-returns-3 t c =
     let e = c.before in
     let s = e.before.before in
-    none_left s.args.n s.args.d s.args.m s.args.e s.requires.1.0 s.requires.1.1 (same t e) c.if3.true
+    none_left s.args.n s.args.d s.args.m s.args.e s.requires.1.0 s.requires.1.1 (same t e) c.if-j-eq0.true
 
 below-returns-4 :
     (t : ℕ) → below-lts.Need-returns-4 (below-below t, below.Post) (below_at t) below.Post
 below-returns-4 t c =
     let e = c.before.before in
     let s = e.before.before in
-    all_left s.args.n s.args.d s.args.m s.args.e s.requires.1.0 s.requires.1.1 (same t e) (omega (arith, c.before.if3.false)) c.if4.true
+    all_left s.args.n s.args.d s.args.m s.args.e s.requires.1.0 s.requires.1.1 (same t e) (omega (arith, c.before.if-j-eq0.false)) c.if-i-eq0.true
 
 below-below-requires :
     (t : ℕ) → below-lts.Need-below-requires (below-below t, below.Post) (below_at t) below.Post
@@ -69,7 +69,7 @@ below-below-requires t c κs =
     let e = c.before.before in
     let s = e.before.before in (
       omega (arith, s.requires.0, mod-lt s.args.n {m = s.args.d} s.requires.1.0, mod-lt s.args.m {m = s.args.e} s.requires.1.1),
-      (omega (arith, c.before.if3.false), omega (arith, c.if4.false)),
+      (omega (arith, c.before.if-j-eq0.false), omega (arith, c.if-i-eq0.false)),
     )
 
 below-returns-5 :
@@ -79,8 +79,8 @@ below-returns-5 t c =
     let s = e.before.before in
     c.below.ensures ∙ turned_left s.args.n s.args.d s.args.m s.args.e s.requires.1.0 s.requires.1.1 (same t e)
 
-pub +below-spec : {M : Type 1} → statement M
-+below-spec =
+pub +below_spec : {M : Type 1} → statement M
++below_spec =
     close
     μ-below
     λ t. below-lts.spec

@@ -12,118 +12,118 @@ use Rattle.comparing.proofs.Order.{Alike, alike-first, alike-step, alike-back, e
 use Rattle.comparing.proofs.comes_before.Statement.{statement}
 use Rattle.comparing.proofs.comes_before.Tie as tie
 
-abbrev invariant-loop : tie.invariant-loop
+abbrev invariant-loop : tie.invariant-loop-k
 invariant-loop n x y k₀ k = (k ≤ n) × Alike x y k
 
-abbrev decreases-loop : tie.decreases-loop
+abbrev decreases-loop : tie.decreases-loop-k
 decreases-loop n x y k₀ k = n - k
 
 -- the start, and the item
-abbrev entry : tie.In-loop invariant-loop decreases-loop → tie.Start invariant-loop decreases-loop
+abbrev entry : tie.In-loop-k invariant-loop decreases-loop → tie.Start invariant-loop decreases-loop
 entry c = c.before.before
 
-abbrev item : tie.In-loop invariant-loop decreases-loop → ℕ
-item c = c.before.loop.k
+abbrev item : tie.In-loop-k invariant-loop decreases-loop → ℕ
+item c = c.before.loop-k.k
 
-item_in : (c : tie.In-loop invariant-loop decreases-loop) → item c < 16
-item_in c = omega (arith, c.loop-test.true, (entry c).requires.0)
+item_in : (c : tie.In-loop-k invariant-loop decreases-loop) → item c < 16
+item_in c = omega (arith, c.loop-k-test.true, (entry c).requires.0)
 
 -- its amounts
-mine : (c : tie.In-loop invariant-loop decreases-loop) → get_or (entry c).args.t1 (item c) (record { p = pos 0; q = 0 }) ≡ amount_in (entry c).args.t1 (item c)
+mine : (c : tie.In-loop-k invariant-loop decreases-loop) → get_or (entry c).args.t1 (item c) (record { p = pos 0; q = 0 }) ≡ amount_in (entry c).args.t1 (item c)
 mine c = let h : length (entry c).args.t1 ≡ 16 = search rules in default_free (entry c).args.t1 (item c) _ _ (omega (arith, h, item_in c))
 
-yours : (c : tie.In-loop invariant-loop decreases-loop) → get_or (entry c).args.t2 (item c) (record { p = pos 0; q = 0 }) ≡ amount_in (entry c).args.t2 (item c)
+yours : (c : tie.In-loop-k invariant-loop decreases-loop) → get_or (entry c).args.t2 (item c) (record { p = pos 0; q = 0 }) ≡ amount_in (entry c).args.t2 (item c)
 yours c = let h : length (entry c).args.t2 ≡ 16 = search rules in default_free (entry c).args.t2 (item c) _ _ (omega (arith, h, item_in c))
 
-of-mine : (c : tie.In-loop invariant-loop decreases-loop) → 1 ≤ (amount_in (entry c).args.t1 (item c)).q
-of-mine c = (entry c).requires.1.0 (item c) c.loop-test.true
+of-mine : (c : tie.In-loop-k invariant-loop decreases-loop) → 1 ≤ (amount_in (entry c).args.t1 (item c)).q
+of-mine c = (entry c).requires.1.0 (item c) c.loop-k-test.true
 
-of-yours : (c : tie.In-loop invariant-loop decreases-loop) → 1 ≤ (amount_in (entry c).args.t2 (item c)).q
-of-yours c = (entry c).requires.1.1 (item c) c.loop-test.true
+of-yours : (c : tie.In-loop-k invariant-loop decreases-loop) → 1 ≤ (amount_in (entry c).args.t2 (item c)).q
+of-yours c = (entry c).requires.1.1 (item c) c.loop-k-test.true
 
-loop-holds : tie.Need-loop-init invariant-loop decreases-loop
+loop-holds : tie.Need-loop-k-init invariant-loop decreases-loop
 loop-holds c = (omega arith, alike-first c.args.t1 c.args.t2)
 
-mul-a : tie.Need-overflow-mul-a invariant-loop decreases-loop
+mul-a : tie.Need-offset_bounds-x-k invariant-loop decreases-loop
 mul-a c = record { fits = omega (arith, item_in c) }
 
-array-copy-out-a : tie.Need-array-copy-out-a invariant-loop decreases-loop
+array-copy-out-a : tie.Need-bounds-x-k invariant-loop decreases-loop
 array-copy-out-a c = item_in c
 
-mul-b : tie.Need-overflow-mul-b invariant-loop decreases-loop
+mul-b : tie.Need-offset_bounds-y-k invariant-loop decreases-loop
 mul-b c = record { fits = omega (arith, item_in c.before) }
 
-array-copy-out-b : tie.Need-array-copy-out-b invariant-loop decreases-loop
+array-copy-out-b : tie.Need-bounds-y-k invariant-loop decreases-loop
 array-copy-out-b c = item_in c.before
 
-less-fraction-requires : tie.Need-less-fraction-requires invariant-loop decreases-loop
+less-fraction-requires : tie.Need-less_fraction-requires invariant-loop decreases-loop
 less-fraction-requires c κs = let l = c.before.before in rw (mine l, yours l) (of-mine l, of-yours l)
 
 -- the turn, from each test
-abbrev turn : tie.After-less-fraction invariant-loop decreases-loop → tie.In-loop invariant-loop decreases-loop
+abbrev turn : tie.After-less_fraction invariant-loop decreases-loop → tie.In-loop-k invariant-loop decreases-loop
 turn a = a.before.before.before
 
-abbrev turn2 : tie.After-less-fraction2 invariant-loop decreases-loop → tie.In-loop invariant-loop decreases-loop
+abbrev turn2 : tie.After-less_fraction-in-loop-k invariant-loop decreases-loop → tie.In-loop-k invariant-loop decreases-loop
 turn2 a = turn a.before.before
 
-first-is : (a : tie.After-less-fraction invariant-loop decreases-loop) → let l = turn a in
-    a.less-fraction.result ≡ less_fraction (amount_in (entry l).args.t1 (item l)) (amount_in (entry l).args.t2 (item l))
-first-is a = a.less-fraction.ensures ∙ ap₂ less_fraction (mine (turn a)) (yours (turn a))
+first-is : (a : tie.After-less_fraction invariant-loop decreases-loop) → let l = turn a in
+    a.less_fraction.result ≡ less_fraction (amount_in (entry l).args.t1 (item l)) (amount_in (entry l).args.t2 (item l))
+first-is a = a.less_fraction.ensures ∙ ap₂ less_fraction (mine (turn a)) (yours (turn a))
 
-second_is : (a : tie.After-less-fraction2 invariant-loop decreases-loop) → let l = turn2 a in
-    a.less-fraction2.result ≡ less_fraction (amount_in (entry l).args.t2 (item l)) (amount_in (entry l).args.t1 (item l))
-second_is a = a.less-fraction2.ensures ∙ ap₂ less_fraction (yours (turn2 a)) (mine (turn2 a))
+second_is : (a : tie.After-less_fraction-in-loop-k invariant-loop decreases-loop) → let l = turn2 a in
+    a.less_fraction-in-loop-k.result ≡ less_fraction (amount_in (entry l).args.t2 (item l)) (amount_in (entry l).args.t1 (item l))
+second_is a = a.less_fraction-in-loop-k.ensures ∙ ap₂ less_fraction (yours (turn2 a)) (mine (turn2 a))
 
-returns : tie.Need-returns invariant-loop decreases-loop
+returns : tie.Need-returns-then-less_fraction invariant-loop decreases-loop
 returns c =
     let l = turn c.before in
     record {
-      before = λ e. earlier-made (entry l).args.t1 (entry l).args.t2 (item l) (of-mine l) (of-yours l) (entry l).args.n l.loop-test.taken
-          l.before.loop.inv.1 (yes_lt (sym (first-is c.before) ∙ c.if1.true));
+      before = λ e. earlier-made (entry l).args.t1 (entry l).args.t2 (item l) (of-mine l) (of-yours l) (entry l).args.n l.loop-k-test.true
+          l.before.loop-k.invariant.1 (yes_lt (sym (first-is c.before) ∙ c.if-less_fraction.true));
       after = λ e. absurd (impossible (sym e));
     }
 
-less-fraction-requires-2 : tie.Need-less-fraction-requires-2 invariant-loop decreases-loop
+less-fraction-requires-2 : tie.Need-less_fraction-requires-in-loop-k invariant-loop decreases-loop
 less-fraction-requires-2 c κs = let l = turn c.before in rw (mine l, yours l) (of-yours l, of-mine l)
 
-returns-2 : tie.Need-returns-2 invariant-loop decreases-loop
+returns-2 : tie.Need-returns-then-less_fraction-2 invariant-loop decreases-loop
 returns-2 c =
     let l = turn2 c.before in
     let s = entry l in
     record {
       before = λ e. absurd (impossible e);
       after = λ e. earlier-not s.args.n (point_in s.args.t1) (point_in s.args.t2)
-          (earlier-made s.args.t2 s.args.t1 (item l) (of-yours l) (of-mine l) s.args.n l.loop-test.taken
-          (alike-back s.args.t1 s.args.t2 (item l) l.before.loop.inv.1) (yes_lt (sym (second_is c.before) ∙ c.if2.true)));
+          (earlier-made s.args.t2 s.args.t1 (item l) (of-yours l) (of-mine l) s.args.n l.loop-k-test.true
+          (alike-back s.args.t1 s.args.t2 (item l) l.before.loop-k.invariant.1) (yes_lt (sym (second_is c.before) ∙ c.if-less_fraction-2.true)));
     }
 
-add-k : tie.Need-overflow-add-k invariant-loop decreases-loop
+add-k : tie.Need-overflow_add-k invariant-loop decreases-loop
 add-k c = record { fits = omega (arith, item_in (turn2 c.before)) }
 
-loop-less : tie.Need-loop-smaller invariant-loop decreases-loop
-loop-less c = omega (arith, (turn2 c.before).loop-test.taken)
+loop-less : tie.Need-loop-k-smaller invariant-loop decreases-loop
+loop-less c = omega (arith, (turn2 c.before).loop-k-test.true)
 
-loop-again : tie.Need-loop-preserved invariant-loop decreases-loop
+loop-again : tie.Need-loop-k-preserved invariant-loop decreases-loop
 loop-again c =
     let l = turn2 c.before in
     let e = c.before.before in (
-      omega (arith, l.loop-test.taken),
-      alike-step (entry l).args.t1 (entry l).args.t2 (item l) (of-mine l) (of-yours l) l.before.loop.inv.1
-          (no_lt (sym (first-is e.before) ∙ e.if1.false)) (no_lt (sym (second_is c.before) ∙ c.if2.false)),
+      omega (arith, l.loop-k-test.true),
+      alike-step (entry l).args.t1 (entry l).args.t2 (item l) (of-mine l) (of-yours l) l.before.loop-k.invariant.1
+          (no_lt (sym (first-is e.before) ∙ e.if-less_fraction.false)) (no_lt (sym (second_is c.before) ∙ c.if-less_fraction-2.false)),
     )
 
-returns-3 : tie.Need-returns-3 invariant-loop decreases-loop
+returns-3 : tie.Need-returns invariant-loop decreases-loop
 returns-3 c =
-    let l = c.before.loop in
+    let l = c.before.loop-k in
     let s = c.before.before in
-    let e : l.k ≡ s.args.n = omega (arith, c.loop-test.false, l.invariant.0) in
+    let e : l.k ≡ s.args.n = omega (arith, c.loop-k-test.false, l.invariant.0) in
     record {
       before = λ i. absurd (impossible i);
       after = λ i. alike-not s.args.n (point_in s.args.t1) (point_in s.args.t2) (subst (λ n. Alike s.args.t1 s.args.t2 n) e l.invariant.1);
     }
 
-pub comes-before-spec : {M : Type 1} → statement M
-comes-before-spec =
+pub comes_before_spec : {M : Type 1} → statement M
+comes_before_spec =
     tie.close
     (tie.spec
     invariant-loop

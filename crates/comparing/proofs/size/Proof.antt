@@ -12,40 +12,40 @@ use Rattle.comparing.proofs.Euclid.{raised-fits, turned-fits, turned-size, size_
 use Rattle.comparing.proofs.size.Statement.{statement}
 use Rattle.comparing.proofs.size.Tie as tie
 
-down : (c : tie.Then1) → c.before.args.p <ℤ pos 0
-down c = yes_lt (rw (to_z-of_z c.before.ranges.p) at c.if1.true)
+down : (c : tie.Then-p-lt0) → c.before.args.p <ℤ pos 0
+down c = yes_lt (rw (to_z-of_z c.before.ranges.p) at c.if-p-lt0.true)
 
-plus : (c : tie.Then1) → SFits w64 (c.before.args.p +ℤ pos 1)
+plus : (c : tie.Then-p-lt0) → SFits w64 (c.before.args.p +ℤ pos 1)
 plus c = raised-fits c.before.args.p c.before.ranges.p (down c)
 
-turned : (c : tie.Then1) → (pos 0 ≤ℤ (pos 0 -ℤ (c.before.args.p +ℤ pos 1))) × SFits w64 (pos 0 -ℤ (c.before.args.p +ℤ pos 1))
+turned : (c : tie.Then-p-lt0) → (pos 0 ≤ℤ (pos 0 -ℤ (c.before.args.p +ℤ pos 1))) × SFits w64 (pos 0 -ℤ (c.before.args.p +ℤ pos 1))
 turned c = turned-fits c.before.args.p c.before.ranges.p (down c)
 
-add-n : tie.Need-overflow-add-n
+add-n : tie.Need-overflow_add-n
 add-n c = rw (to_z-of_z c.before.ranges.p) (plus c)
 
-sub-n : tie.Need-overflow-sub-n
+sub-n : tie.Need-overflow_sub-n
 sub-n c = rw (to_z-of_z c.before.ranges.p, to_z-of_z (plus c)) (turned c).1
 
-cast-result : tie.Need-overflow-cast-result
+cast-result : tie.Need-overflow_cast-result
 cast-result c = rw (to_z-of_z c.before.ranges.p, to_z-of_z (plus c), to_z-of_z (turned c).1) (cast-in (turned c).0 (turned c).1)
 
-add-result : tie.Need-overflow-add-result
+add-result : tie.Need-overflow_add-result
 add-result c = rw (to_z-of_z c.before.ranges.p, to_z-of_z (plus c), to_z-of_z (turned c).1, turned-size c.before.args.p (down c))
     (record { fits = size_fits c.before.args.p c.before.ranges.p })
 
-returns : tie.Need-returns
+returns : tie.Need-returns-then-p-lt0
 returns c = rw (to_z-of_z c.before.ranges.p, to_z-of_z (plus c), to_z-of_z (turned c).1) (turned-size c.before.args.p (down c))
 
-cast-result-2 : tie.Need-overflow-cast-result-2
+cast-result-2 : tie.Need-overflow_cast-result-2
 cast-result-2 c =
     let s = c.before in
-    let d = rw (to_z-of_z s.ranges.p) at c.if1.false in
+    let d = rw (to_z-of_z s.ranges.p) at c.if-p-lt0.false in
     let h : pos 0 ≤ℤ s.args.p = omega (arith, zs) in
     rw (to_z-of_z s.ranges.p) (cast-in h s.ranges.p)
 
-returns-2 : tie.Need-returns-2
+returns-2 : tie.Need-returns
 returns-2 c = search rules
 
-pub size-spec : {M : Type 1} → statement M
-size-spec = tie.close (tie.spec add-n sub-n cast-result add-result returns cast-result-2 returns-2)
+pub size_spec : {M : Type 1} → statement M
+size_spec = tie.close (tie.spec add-n sub-n cast-result add-result returns cast-result-2 returns-2)

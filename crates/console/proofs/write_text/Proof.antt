@@ -6,34 +6,30 @@ use Rattle.streams.specs.Carrying.{Carried}
 use Rattle.console.proofs.write_text.Statement.{statement}
 use Rattle.console.proofs.write_text.Tie as tie
 
-array-share-prefix-bytes : tie.Need-array-share-prefix-bytes
+array-share-prefix-bytes : tie.Need-slice_bounds-bytes-end
 array-share-prefix-bytes c = search rules
 
-slice-aggregate-write-reply : tie.Need-slice-aggregate-write-reply
-slice-aggregate-write-reply c = search rules
-
-write-reply-requires : tie.Need-write-reply-requires
+write-reply-requires : tie.Need-write_reply-p-requires
 write-reply-requires c κs = search rules
 
-tell-unwritten-requires : tie.Need-tell-unwritten-requires
+tell-unwritten-requires : tie.Need-tell_unwritten-requires
 tell-unwritten-requires c κs = search rules
 
-returns : tie.Need-returns
+returns : tie.Need-returns-then-p-len
 returns c =
     let w = c.before.before.before in
-    subst (λ (n : ℕ). Carried n w.write-reply.result) (sym w.before.before.before.requires.1) w.write-reply.ensures
+    subst (λ (n : ℕ). Carried n w.write_reply-p.result) (sym w.before.before.before.requires.1) w.write_reply-p.ensures
 
-returns-2 : tie.Need-returns-2
+returns-2 : tie.Need-returns-else-p-len
 returns-2 c =
     let w = c.before.before in
-    subst (λ (n : ℕ). Carried n w.write-reply.result) (sym w.before.before.before.requires.1) w.write-reply.ensures
+    subst (λ (n : ℕ). Carried n w.write_reply-p.result) (sym w.before.before.before.requires.1) w.write_reply-p.ensures
 
-pub write-text-spec : {M : Type 1} → statement M
-write-text-spec =
+pub write_text_spec : {M : Type 1} → statement M
+write_text_spec =
     tie.close
     (tie.spec
     array-share-prefix-bytes
-    slice-aggregate-write-reply
     write-reply-requires
     tell-unwritten-requires
     returns

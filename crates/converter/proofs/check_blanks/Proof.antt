@@ -4,17 +4,17 @@ use borrow.Author.Tests.{lt-ltb, le-ltb}
 use Rattle.converter.proofs.check_blanks.Statement.{statement}
 use Rattle.converter.proofs.check_blanks.Tie as tie
 
-hindrance-requires : tie.Need-hindrance-requires
+hindrance-requires : tie.Need-hindrance-k-requires
 hindrance-requires c κs = search rules
 
-add-t5 : tie.Need-overflow-add-t5
+add-t5 : tie.Need-overflow_add-result
 add-t5 c = search rules
 
-returns : tie.Need-returns
-returns c = rw (← c.before.before.hindrance.ensures, lt-ltb _ _ c.if1.true)
+returns : tie.Need-returns-then-k-m
+returns c = rw (← c.before.before.hindrance-k.ensures, lt-ltb _ _ c.if-k-m.true)
 
-returns-2 : tie.Need-returns-2
-returns-2 c = rw (← c.before.before.hindrance.ensures, le-ltb _ _ c.if1.false)
+returns-2 : tie.Need-returns
+returns-2 c = rw (← c.before.before.hindrance-k.ensures, le-ltb _ _ c.if-k-m.false)
 
-pub check-blanks-spec : {M : Type 1} → statement M
-check-blanks-spec = tie.close (tie.spec hindrance-requires add-t5 returns returns-2)
+pub check_blanks_spec : {M : Type 1} → statement M
+check_blanks_spec = tie.close (tie.spec hindrance-requires add-t5 returns returns-2)

@@ -8,46 +8,46 @@ use Rattle.converter.proofs.convert.Statement.{statement}
 use Rattle.converter.proofs.convert.Tie as tie
 
 -- the moments that are spoken of below
-abbrev reading : tie.After-enum-told → tie.After-unblanked
+abbrev reading : tie.In_default → tie.After-unblanked-r
 reading c = c.before.before.before
 
-abbrev start : tie.After-unblanked → tie.Start
+abbrev start : tie.After-unblanked-r → tie.Start
 start c = c.before.before.before
 
-free : (c : tie.After-enum-told) → convertible (start (reading c)).args.s.now ≡ Accepted
-free c = sym (reading c).unblanked.ensures.told ∙ c.enum_told.given.1
+free : (c : tie.In_default) → convertible (start (reading c)).args.s.now ≡ Accepted
+free c = sym (reading c).unblanked-r.ensures.told ∙ c.enum_told-1.given.1
 
-unblanked-requires : tie.Need-unblanked-requires
+unblanked-requires : tie.Need-unblanked-r-requires
 unblanked-requires c κs = search rules
 
-enum-known-v : tie.Need-enum-known-v
+enum-known-v : tie.Need-enum_known-v
 enum-known-v c = search rules
 
-returns : tie.Need-returns
+returns : tie.Need-returns-in-Refused
 returns c =
     let k = c.before in
-    let e = sym k.before.before.before.unblanked.ensures.told ∙ k.v.given.1 in
+    let e = sym k.before.before.before.unblanked-r.ensures.told ∙ k.v-1.given.1 in
     (rw e, rw e)
 
-enum_told : tie.Need-enum-told
+enum_told : tie.Need-enum_told-1
 enum_told c = search rules
 
-write-sheet-requires : tie.Need-write-sheet-requires
+write-sheet-requires : tie.Need-write_sheet-requires
 write-sheet-requires c κs = search rules
 
-same_length : tie.Need-same-length
+same_length : tie.Need-shape_of-out
 same_length c = search rules
 
-returns-2 : tie.Need-returns-2
+returns-2 : tie.Need-returns
 returns-2 c =
     let w = c.before.before in
     let t = w.before.before in
-    let m = (reading t).unblanked.ensures.left t.enum_told.given.1 in
-    let f = rw (m, converted-fair (start (reading t)).args.s.now (free t)) at w.write-sheet.ensures in
+    let m = (reading t).unblanked-r.ensures.left t.enum_told-1.given.1 in
+    let f = rw (m, converted-fair (start (reading t)).args.s.now (free t)) at w.write_sheet.ensures in
     (rw (free t) f.0, rw (free t) f.1)
 
-pub convert-spec : {M : Type 1} → statement M
-convert-spec =
+pub convert_spec : {M : Type 1} → statement M
+convert_spec =
     tie.close
     (tie.spec
     unblanked-requires

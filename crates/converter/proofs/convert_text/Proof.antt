@@ -8,43 +8,43 @@ use Rattle.converter.proofs.convert_text.Statement.{statement}
 use Rattle.converter.proofs.convert_text.Tie as tie
 
 -- the moments that are spoken of below
-abbrev reading : tie.After-enum-told → tie.After-unblanked
+abbrev reading : tie.In_default → tie.After-unblanked-r
 reading c = c.before.before.before
 
-abbrev start : tie.After-unblanked → tie.Start
+abbrev start : tie.After-unblanked-r → tie.Start
 start c = c.before.before
 
-free : (c : tie.After-enum-told) → convertible (start (reading c)).args.s.now ≡ Accepted
-free c = sym (reading c).unblanked.ensures.told ∙ c.enum_told.given.1
+free : (c : tie.In_default) → convertible (start (reading c)).args.s.now ≡ Accepted
+free c = sym (reading c).unblanked-r.ensures.told ∙ c.enum_told-1.given.1
 
-unblanked-requires : tie.Need-unblanked-requires
+unblanked-requires : tie.Need-unblanked-r-requires
 unblanked-requires c κs = search rules
 
-enum-known-v : tie.Need-enum-known-v
+enum-known-v : tie.Need-enum_known-v
 enum-known-v c = search rules
 
-refusal-text-requires : tie.Need-refusal-text-requires
+refusal-text-requires : tie.Need-refusal_text-requires
 refusal-text-requires c κs = search rules
 
-returns : tie.Need-returns
+returns : tie.Need-returns-in-Refused
 returns c =
     let k = c.before.before in
-    rw (sym k.before.before.before.unblanked.ensures.told ∙ k.v.given.1) c.refusal-text.ensures
+    rw (sym k.before.before.before.unblanked-r.ensures.told ∙ k.v-1.given.1) c.refusal_text.ensures
 
-enum_told : tie.Need-enum-told
+enum_told : tie.Need-enum_told-1
 enum_told c = search rules
 
-sheet-text-requires : tie.Need-sheet-text-requires
+sheet-text-requires : tie.Need-sheet_text-requires
 sheet-text-requires c κs =
-    rw ((reading c).unblanked.ensures.left c.enum_told.given.1) (converted-fair (start (reading c)).args.s.now (free c))
+    rw ((reading c).unblanked-r.ensures.left c.enum_told-1.given.1) (converted-fair (start (reading c)).args.s.now (free c))
 
-returns-2 : tie.Need-returns-2
+returns-2 : tie.Need-returns
 returns-2 c =
     let t = c.before in
-    rw (free t) (rw ((reading t).unblanked.ensures.left t.enum_told.given.1) at c.sheet-text.ensures)
+    rw (free t) (rw ((reading t).unblanked-r.ensures.left t.enum_told-1.given.1) at c.sheet_text.ensures)
 
-pub convert-text-spec : {M : Type 1} → statement M
-convert-text-spec =
+pub convert_text_spec : {M : Type 1} → statement M
+convert_text_spec =
     tie.close
     (tie.spec
     unblanked-requires

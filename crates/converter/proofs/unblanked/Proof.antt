@@ -11,44 +11,44 @@ use Rattle.converter.proofs.unblanked.Statement.{statement}
 use Rattle.converter.proofs.unblanked.Tie as tie
 
 -- the moments that are spoken of below
-abbrev reading : tie.After-enum-told → tie.After-read-by
+abbrev reading : tie.In_default → tie.After-read_by-r
 reading c = c.before.before.before
 
-abbrev start : tie.After-read-by → tie.Start
+abbrev start : tie.After-read_by-r → tie.Start
 start c = c.before.before
 
 -- the sheet was accepted
-taken : (c : tie.After-enum-told) →
+taken : (c : tie.In_default) →
     let d = reading c in
-    kept_reading (start d).args.s.now ≡ record { verdict = Accepted; model = d.read_by_lem.result.model }
+    kept_reading (start d).args.s.now ≡ record { verdict = Accepted; model = d.read_by-r.result.model }
 taken c =
-    let r = (reading c).read_by_lem in
-    sym r.ensures ∙ ap (λ v. record { verdict = v; model = r.result.model }) c.enum_told.given.1
+    let r = (reading c).read_by-r in
+    sym r.ensures ∙ ap (λ v. record { verdict = v; model = r.result.model }) c.enum_told-1.given.1
 
-read-by-requires : tie.Need-read-by-requires
+read-by-requires : tie.Need-read_by-r-requires
 read-by-requires c κs = search rules
 
-enum-known-v : tie.Need-enum-known-v
+enum-known-v : tie.Need-enum_known-v
 enum-known-v c = search rules
 
-returns : tie.Need-returns
+returns : tie.Need-returns-in-Refused
 returns c =
     let k = c.before in
-    let e = ap (λ (r : Reading). r.verdict) (sym k.before.before.before.read_by_lem.ensures) ∙ k.v.given.1 in
+    let e = ap (λ (r : Reading). r.verdict) (sym k.before.before.before.read_by-r.ensures) ∙ k.v-1.given.1 in
     record { told = rw e; left = λ h. no-refusal h }
 
-enum_told : tie.Need-enum-told
+enum_told : tie.Need-enum_told-1
 enum_told c = search rules
 
-without-blanks-requires : tie.Need-without-blanks-requires
+without-blanks-requires : tie.Need-without_blanks-requires
 without-blanks-requires c κs =
     let d = reading c in
-    (accepted-sheet (start d).args.s.now d.read_by_lem.result.model (taken c)).fair
+    (accepted-sheet (start d).args.s.now d.read_by-r.result.model (taken c)).fair
 
-returns-2 : tie.Need-returns-2
+returns-2 : tie.Need-returns
 returns-2 c =
-    let w = c.without-blanks.ensures in
+    let w = c.without_blanks.ensures in
     record { told = rw (taken c.before) w.told; left = λ h. rw (taken c.before) (w.left h) }
 
-pub unblanked-spec : {M : Type 1} → statement M
-unblanked-spec = tie.close (tie.spec read-by-requires enum-known-v returns enum_told without-blanks-requires returns-2)
+pub unblanked_spec : {M : Type 1} → statement M
+unblanked_spec = tie.close (tie.spec read-by-requires enum-known-v returns enum_told without-blanks-requires returns-2)

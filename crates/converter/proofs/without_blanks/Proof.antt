@@ -6,27 +6,27 @@ use borrow.Author.Rules.{rules}
 use Rattle.converter.proofs.without_blanks.Statement.{statement}
 use Rattle.converter.proofs.without_blanks.Tie as tie
 
-check-blanks-requires : tie.Need-check-blanks-requires
+check-blanks-requires : tie.Need-check_blanks-v-requires
 check-blanks-requires c κs = let u = unfaulted c.args.m c.requires in (u.most, u.few-needs)
 
-enum-known-v : tie.Need-enum-known-v
+enum-known-v : tie.Need-enum_known-v
 enum-known-v c = search rules
 
-returns : tie.Need-returns
+returns : tie.Need-returns-in-Refused
 returns c =
     let k = c.before in
-    record { told = sym k.v.given.1 ∙ k.before.before.check-blanks.ensures; left = λ h. no-refusal h }
+    record { told = sym k.v-1.given.1 ∙ k.before.before.check_blanks-v.ensures; left = λ h. no-refusal h }
 
-enum_told : tie.Need-enum-told
+enum_told : tie.Need-enum_told-1
 enum_told c = search rules
 
-drop-blanks-requires : tie.Need-drop-blanks-requires
+drop-blanks-requires : tie.Need-drop_blanks-model-requires
 drop-blanks-requires c κs = let s = c.before.before.before in accepted s.args.m s.requires
 
-returns-2 : tie.Need-returns-2
+returns-2 : tie.Need-returns
 returns-2 c =
     let t = c.before in
-    record { told = sym t.enum_told.given.1 ∙ t.before.before.check-blanks.ensures; left = λ h. c.drop-blanks.ensures }
+    record { told = sym t.enum_told-1.given.1 ∙ t.before.before.check_blanks-v.ensures; left = λ h. c.drop_blanks-model.ensures }
 
-pub without-blanks-spec : {M : Type 1} → statement M
-without-blanks-spec = tie.close (tie.spec check-blanks-requires enum-known-v returns enum_told drop-blanks-requires returns-2)
+pub without_blanks_spec : {M : Type 1} → statement M
+without_blanks_spec = tie.close (tie.spec check-blanks-requires enum-known-v returns enum_told drop-blanks-requires returns-2)

@@ -4,38 +4,38 @@ use borrow.Author.Rules.{rules}
 use Rattle.converter_test.proofs.counts_of.Statement.{statement}
 use Rattle.converter_test.proofs.counts_of.Tie as tie
 
-abbrev invariant-loop : tie.invariant-loop
+abbrev invariant-loop : tie.invariant-loop-k
 invariant-loop seed sheets n among z sure c₀ state₀ k₀ c state k = Unit {0}
 
-abbrev decreases-loop : tie.decreases-loop
+abbrev decreases-loop : tie.decreases-loop-k
 decreases-loop seed sheets n among z sure c₀ state₀ k₀ c state k = sheets - k
 
-no-sheets-requires : tie.Need-no-sheets-requires invariant-loop decreases-loop
+no-sheets-requires : tie.Need-no_sheets-c-requires invariant-loop decreases-loop
 no-sheets-requires c κs = search rules
 
-loop-holds : tie.Need-loop-init invariant-loop decreases-loop
+loop-holds : tie.Need-loop-k-init invariant-loop decreases-loop
 loop-holds c = search rules
 
-drawn-requires : tie.Need-drawn-requires invariant-loop decreases-loop
+drawn-requires : tie.Need-drawn-d-requires invariant-loop decreases-loop
 drawn-requires c κs = search rules
 
-tried-requires : tie.Need-tried-requires invariant-loop decreases-loop
+tried-requires : tie.Need-tried-c-requires invariant-loop decreases-loop
 tried-requires c κs = search rules
 
-add-k : tie.Need-overflow-add-k invariant-loop decreases-loop
+add-k : tie.Need-overflow_add-k invariant-loop decreases-loop
 add-k c = search rules
 
-loop-less : tie.Need-loop-smaller invariant-loop decreases-loop
+loop-less : tie.Need-loop-k-smaller invariant-loop decreases-loop
 loop-less c = search rules
 
-loop-again : tie.Need-loop-preserved invariant-loop decreases-loop
+loop-again : tie.Need-loop-k-preserved invariant-loop decreases-loop
 loop-again c = search rules
 
 returns : tie.Need-returns invariant-loop decreases-loop
 returns c = search rules
 
-pub counts-of-spec : {M : Type 1} → statement M
-counts-of-spec =
+pub counts_of_spec : {M : Type 1} → statement M
+counts_of_spec =
     tie.close
     (tie.spec
     invariant-loop

@@ -5,30 +5,30 @@ use Rattle.model.proofs.NeedLines.{numbers-iff}
 use Rattle.domination.proofs.entry_of.Statement.{statement}
 use Rattle.domination.proofs.entry_of.Tie as tie
 
-returns : tie.Need-returns
+returns : tie.Need-returns-then-named
 returns c = search rules
 
-are-wrong-requires : tie.Need-are-wrong-requires
+are-wrong-requires : tie.Need-are_wrong-requires
 are-wrong-requires c κs = search rules
 
-returns-2 : tie.Need-returns-2
-returns-2 c = let a = c.before in rw (a.before.if1.false, sym a.are-wrong.ensures ∙ c.if2.true)
+returns-2 : tie.Need-returns-then-are_wrong
+returns-2 c = let a = c.before in rw (a.before.if-named.false, sym a.are_wrong.ensures ∙ c.if-are_wrong.true)
 
-pair-items-requires : tie.Need-pair-items-requires
-pair-items-requires c κs = let a = c.before in a.before.before.requires ((numbers-iff _ _ _).0 (sym a.are-wrong.ensures ∙ c.if2.false))
+pair-items-requires : tie.Need-pair_items-q-requires
+pair-items-requires c κs = let a = c.before in a.before.before.requires ((numbers-iff _ _ _).0 (sym a.are_wrong.ensures ∙ c.if-are_wrong.false))
 
-or-missing-requires : tie.Need-or-missing-requires
+or-missing-requires : tie.Need-or_missing-requires
 or-missing-requires c κs = search rules
 
-returns-3 : tie.Need-returns-3
+returns-3 : tie.Need-returns
 returns-3 c =
     let p = c.before in
     let e = p.before in
     let a = e.before in
-    rw (a.before.if1.false, sym a.are-wrong.ensures ∙ e.if2.false) (rw p.pair-items.ensures at c.or-missing.ensures)
+    rw (a.before.if-named.false, sym a.are_wrong.ensures ∙ e.if-are_wrong.false) (rw p.pair_items-q.ensures at c.or_missing.ensures)
 
-pub entry-of-spec : {M : Type 1} → statement M
-entry-of-spec =
+pub entry_of_spec : {M : Type 1} → statement M
+entry_of_spec =
     tie.close
     (tie.spec
     returns

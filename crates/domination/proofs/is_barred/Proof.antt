@@ -3,17 +3,17 @@ use borrow.Author.Rules.{rules}
 use Rattle.domination.proofs.is_barred.Statement.{statement}
 use Rattle.domination.proofs.is_barred.Tie as tie
 
-array-read-first : tie.Need-array-read-first
+array-read-first : tie.Need-bounds-named-i
 array-read-first c = search rules
 
-array-read-second : tie.Need-array-read-second
+array-read-second : tie.Need-bounds-named-j
 array-read-second c = search rules
 
-returns : tie.Need-returns
-returns c = rw c.if1.true
+returns : tie.Need-returns-then-first
+returns c = rw c.if-first.true
 
-returns-2 : tie.Need-returns-2
-returns-2 c = rw c.if1.false
+returns-2 : tie.Need-returns
+returns-2 c = rw c.if-first.false
 
-pub is-barred-spec : {M : Type 1} → statement M
-is-barred-spec = tie.close (tie.spec array-read-first array-read-second returns returns-2)
+pub is_barred_spec : {M : Type 1} → statement M
+is_barred_spec = tie.close (tie.spec array-read-first array-read-second returns returns-2)

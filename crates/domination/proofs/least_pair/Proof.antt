@@ -14,44 +14,44 @@ use borrow.Author.Rules.{rules}
 use Rattle.domination.proofs.least_pair.Statement.{statement}
 use Rattle.domination.proofs.least_pair.Tie as tie
 
-check-model-requires : tie.Need-check-model-requires
+check-model-requires : tie.Need-check_model-v-requires
 check-model-requires c κs = search rules
 
-enum_told : tie.Need-enum-told
+enum_told : tie.Need-enum_told-1
 enum_told c = search rules
 
-plain-of-requires : tie.Need-plain-of-requires
+plain-of-requires : tie.Need-plain_of-requires
 plain-of-requires c κs = search rules
 
 -- the record is accepted
-taken : (e : tie.After-enum-told) → verdict e.before.before.before.args.m ≡ Accepted
-taken e = sym e.before.before.check-model.ensures ∙ e.enum_told.given.1
+taken : (e : tie.In-Accepted) → verdict e.before.before.before.args.m ≡ Accepted
+taken e = sym e.before.before.check_model-v.ensures ∙ e.enum_told-1.given.1
 
-pair-numbered-requires : tie.Need-pair-numbered-requires
-pair-numbered-requires c κs = rw c.plain_of_lem.ensures ((accepted _ (taken c.before)).figures _)
+pair-numbered-requires : tie.Need-pair_numbered-requires
+pair-numbered-requires c κs = rw c.plain_of.ensures ((accepted _ (taken c.before)).figures _)
 
-enum-known-v : tie.Need-enum-known-v
+enum-known-v : tie.Need-enum_known-v
 enum-known-v c = search rules
 
 met : (sense : Sense) (m : Model) (i j : ℕ) (r : PairReply) → r ≡ least_pair sense m i j → (r ≡ least_pair sense m i j) × Told sense m i j r
 met sense m i j r e = (e, subst (Told sense m i j) (sym e) (told sense m i j))
 
-returns : tie.Need-returns
+returns : tie.Need-returns-in-Accepted
 unfolding least_pair
 returns c =
     let t = c.before.before in
     let a = t.before.before.before.args in
-    met a.sense a.m a.i a.j _ (rw (taken t, ← c.before.plain_of_lem.ensures) c.pair-numbered.ensures)
+    met a.sense a.m a.i a.j _ (rw (taken t, ← c.before.plain_of.ensures) c.pair_numbered.ensures)
 
-returns-2 : tie.Need-returns-2
+returns-2 : tie.Need-returns-in-Refused
 unfolding least_pair
 returns-2 c =
     let v = c.before.before.before in
     let a = v.before.args in
-    met a.sense a.m a.i a.j _ (rw (sym v.check-model.ensures ∙ c.before.v.given.1))
+    met a.sense a.m a.i a.j _ (rw (sym v.check_model-v.ensures ∙ c.before.v-1.given.1))
 
-pub least-pair-spec : {M : Type 1} → statement M
-least-pair-spec =
+pub least_pair_spec : {M : Type 1} → statement M
+least_pair_spec =
     tie.close
     (tie.spec
     check-model-requires

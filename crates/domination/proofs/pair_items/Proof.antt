@@ -18,48 +18,48 @@ second-fails : (x y : Item) → eligible x ≡ true → eligible y ≡ false →
 unfolding paired
 second-fails x y p q = rw (p, q)
 
-is-eligible-requires : tie.Need-is-eligible-requires
+is-eligible-requires : tie.Need-is_eligible-requires
 is-eligible-requires c κs = search rules
 
-is-eligible-requires-2 : tie.Need-is-eligible-requires-2
+is-eligible-requires-2 : tie.Need-is_eligible-requires-then-is_eligible
 is-eligible-requires-2 c κs = search rules
 
 -- the moments that are spoken of below
-abbrev start : tie.After-is-eligible2 → tie.Start
+abbrev start : tie.After-is_eligible-then-is_eligible → tie.Start
 start c = c.before.before.before
 
-pair-of-requires : tie.Need-pair-of-requires
+pair-of-requires : tie.Need-pair_of-q-requires
 pair-of-requires c κs =
     let s = start c.before in
-    let p = sym c.before.before.before.is-eligible.ensures ∙ c.before.before.if1.true in
-    let q = sym c.before.is-eligible2.ensures ∙ c.if2.true in (
-      record { in-range = s.pre.0; is-eligible = (eligible-iff s.args.x).0 p },
+    let p = sym c.before.before.before.is_eligible.ensures ∙ c.before.before.if-is_eligible.true in
+    let q = sym c.before.is_eligible-then-is_eligible.ensures ∙ c.if-is_eligible-2.true in (
+      record { in-range = s.requires.0; is-eligible = (eligible-iff s.args.x).0 p },
       record {
-        in-range = s.pre.1;
+        in-range = s.requires.1;
         is-eligible = (eligible-iff s.args.y).0 q;
       },
     )
 
-returns : tie.Need-returns
+returns : tie.Need-returns-then-is_eligible-2
 unfolding paired
 returns c =
     let at-then1 = c.before.before.before in
     let at-is-eligible = at-then1.before in
-    let p = sym at-is-eligible.is-eligible.ensures ∙ c.before.before.before.if1.true in
-    let q = sym c.before.before.is-eligible2.ensures ∙ c.before.if2.true in
-    rw (p, q, c.pair_of.ensures)
+    let p = sym at-is-eligible.is_eligible.ensures ∙ c.before.before.before.if-is_eligible.true in
+    let q = sym c.before.before.is_eligible-then-is_eligible.ensures ∙ c.before.if-is_eligible-2.true in
+    rw (p, q, c.pair_of-q.ensures)
 
 refused-requires : tie.Need-refused-requires
 refused-requires c κs = search rules
 
-returns-2 : tie.Need-returns-2
+returns-2 : tie.Need-returns
 returns-2 c =
-    let e = sym c.before.before.is-eligible.ensures in
+    let e = sym c.before.before.is_eligible.ensures in
     c.refused.ensures ∙ ⊎_elim (λ w. second-fails _ _ (e ∙ w.0.taken) (sym w.1.ensures ∙ w.2.left)) (λ w. first-fails _ _ (e ∙ w.left))
-    c.before.if1.branch
+    c.before.if-is_eligible.branch
 
-pub pair-items-spec : {M : Type 1} → statement M
-pair-items-spec =
+pub pair_items_spec : {M : Type 1} → statement M
+pair_items_spec =
     tie.close
     (tie.spec
     is-eligible-requires

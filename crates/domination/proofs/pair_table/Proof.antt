@@ -21,68 +21,68 @@ at_places : (p : Problem) (named : List Bool) (i j : ℕ)
 unfolding numbered
 at_places p named i j = let e : i + 1 - 1 ≡ i = omega arith in let d : j + 1 - 1 ≡ j = omega arith in rw (e, d)
 
-abbrev invariant-loop : tie.invariant-loop
+abbrev invariant-loop : tie.invariant-loop-k
 invariant-loop named p n t₀ k₀ t k = (k ≤ 256) × ((length t ≡ 256) × ((j : ℕ) → j < k → get_or t j Missing ≡ tabled p named (j / 16) (j % 16)))
 
-abbrev decreases-loop : tie.decreases-loop
+abbrev decreases-loop : tie.decreases-loop-k
 decreases-loop named p n t₀ k₀ t k = 256 - k
 
-no-pairs-requires : tie.Need-no-pairs-requires invariant-loop decreases-loop
+no-pairs-requires : tie.Need-no_pairs-t-requires invariant-loop decreases-loop
 no-pairs-requires c κs = search rules
 
-loop-holds : tie.Need-loop-init invariant-loop decreases-loop
+loop-holds : tie.Need-loop-k-init invariant-loop decreases-loop
 loop-holds c = (omega arith, (search rules, λ j h. absurd (omega arith)))
 
-mul-x : tie.Need-overflow-mul-x invariant-loop decreases-loop
+mul-x : tie.Need-offset_bounds-p-i invariant-loop decreases-loop
 mul-x c = omega arith
 
-element-copy-out-x : tie.Need-element-copy-out-x invariant-loop decreases-loop
+element-copy-out-x : tie.Need-bounds-p-i invariant-loop decreases-loop
 element-copy-out-x c = omega arith
 
-mul-y : tie.Need-overflow-mul-y invariant-loop decreases-loop
+mul-y : tie.Need-offset_bounds-p-j invariant-loop decreases-loop
 mul-y c = omega arith
 
-element-copy-out-y : tie.Need-element-copy-out-y invariant-loop decreases-loop
+element-copy-out-y : tie.Need-bounds-p-j invariant-loop decreases-loop
 element-copy-out-y c = omega arith
 
-add-entry-of : tie.Need-overflow-add-entry-of invariant-loop decreases-loop
+add-entry-of : tie.Need-overflow_add-i invariant-loop decreases-loop
 add-entry-of c = omega arith
 
-add-entry-of-2 : tie.Need-overflow-add-entry-of-2 invariant-loop decreases-loop
+add-entry-of-2 : tie.Need-overflow_add-j invariant-loop decreases-loop
 add-entry-of-2 c = omega arith
 
-is-barred-requires : tie.Need-is-barred-requires invariant-loop decreases-loop
+is-barred-requires : tie.Need-is_barred-requires invariant-loop decreases-loop
 is-barred-requires c κs = omega arith
 
-entry-of-requires : tie.Need-entry-of-requires invariant-loop decreases-loop
+entry-of-requires : tie.Need-entry_of-requires invariant-loop decreases-loop
 entry-of-requires c κs =
     let a = c.before.before.before.before.before.before.requires in
     λ n. (a.items-in _ (omega (arith, n)), a.items-in _ (omega (arith, n)))
 
-mul-t : tie.Need-overflow-mul-t invariant-loop decreases-loop
+mul-t : tie.Need-offset_bounds-t-k invariant-loop decreases-loop
 mul-t c = omega arith
 
-array-set-from-t : tie.Need-array-set-from-t invariant-loop decreases-loop
+array-set-from-t : tie.Need-bounds-t-k invariant-loop decreases-loop
 array-set-from-t c = omega arith
 
-add-k : tie.Need-overflow-add-k invariant-loop decreases-loop
+add-k : tie.Need-overflow_add-k invariant-loop decreases-loop
 add-k c = omega arith
 
-loop-less : tie.Need-loop-smaller invariant-loop decreases-loop
+loop-less : tie.Need-loop-k-smaller invariant-loop decreases-loop
 loop-less c = omega arith
 
-loop-again : tie.Need-loop-preserved invariant-loop decreases-loop
+loop-again : tie.Need-loop-k-preserved invariant-loop decreases-loop
 loop-again c =
     let at-loop = c.before.before.before.before.before in
     let s = at-loop.before.before in
-    let k = at-loop.loop.k in
-    let l = at-loop.loop.t in
-    let e = rw c.before.is-barred.ensures at c.entry_of.ensures ∙ at_places s.args.t1 s.args.named (k / 16) (k % 16) in (
+    let k = at-loop.loop-k.k in
+    let l = at-loop.loop-k.t in
+    let e = rw c.before.is_barred.ensures at c.entry_of.ensures ∙ at_places s.args.t1 s.args.named (k / 16) (k % 16) in (
       omega arith,
       (
         simp length-set (omega arith),
         below_more _ _
-            (λ j h. let ne : j ≡ k → ⊥ = omega arith in get_or-set_other l k j _ Missing ne ∙ at-loop.loop.invariant.1.1 j h)
+            (λ j h. let ne : j ≡ k → ⊥ = omega arith in get_or-set_other l k j _ Missing ne ∙ at-loop.loop-k.invariant.1.1 j h)
             (let lt : k < length l = omega arith in get_or-set_same l k _ Missing lt ∙ e),
       ),
     )
@@ -91,10 +91,10 @@ returns : tie.Need-returns invariant-loop decreases-loop
 returns c = λ i j hi hj.
     let row : (16 * i + j) / 16 ≡ i = omega arith in
     let column : (16 * i + j) % 16 ≡ j = omega arith in
-    rw (row, column) at (c.before.loop.invariant.1.1 (16 * i + j) (omega arith))
+    rw (row, column) at (c.before.loop-k.invariant.1.1 (16 * i + j) (omega arith))
 
-pub pair-table-spec : {M : Type 1} → statement M
-pair-table-spec =
+pub pair_table_spec : {M : Type 1} → statement M
+pair_table_spec =
     tie.close
     (tie.spec
     invariant-loop

@@ -25,12 +25,12 @@ above c =
     let s = c.before.before in
     rw (number c) (≤ℤ-trans s.requires.0 (picked-in (draw_at s.args.state) s.args.lo s.args.hi s.requires.1.0).0)
 
-cast-result : tie.Need-overflow-cast-result
-cast-result c = rw (back c.pick.result c.pick.type-inv) (cast-in (above c) (record { sfits = c.pick.type-inv }))
+cast-result : tie.Need-overflow_cast-result
+cast-result c = rw (back c.pick.result c.pick.type_inv) (cast-in (above c) (record { sfits = c.pick.type_inv }))
 
 returns : tie.Need-returns
 unfolding choice_at
-returns c = rw (back c.pick.result c.pick.type-inv) (ap nat_abs (number c))
+returns c = rw (back c.pick.result c.pick.type_inv) (ap nat_abs (number c))
 
-pub choice-spec : {M : Type 1} → statement M
-choice-spec = tie.close (tie.spec draw-requires pick-requires cast-result returns)
+pub choice_spec : {M : Type 1} → statement M
+choice_spec = tie.close (tie.spec draw-requires pick-requires cast-result returns)

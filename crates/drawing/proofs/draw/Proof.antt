@@ -8,5 +8,5 @@ returns : tie.Need-returns
 unfolding draw_at
 returns c = refl
 
-pub draw-spec : {M : Type 1} → statement M
-draw-spec = tie.close (tie.spec returns)
+pub draw_spec : {M : Type 1} → statement M
+draw_spec = tie.close (tie.spec returns)

@@ -5,43 +5,43 @@ use Rattle.std.proofs.Common.{rules}
 use Rattle.drawing.proofs.draw_figures.Statement.{statement}
 use Rattle.drawing.proofs.draw_figures.Tie as tie
 
-next-state-requires : tie.Need-next-state-requires
+next-state-requires : tie.Need-next_state-a-requires
 next-state-requires c κs = search rules
 
-next-state-requires-2 : tie.Need-next-state-requires-2
+next-state-requires-2 : tie.Need-next_state-b-requires
 next-state-requires-2 c κs = search rules
 
-next-state-requires-3 : tie.Need-next-state-requires-3
+next-state-requires-3 : tie.Need-next_state-c-requires
 next-state-requires-3 c κs = search rules
 
-draw-mark-requires : tie.Need-draw-mark-requires
+draw-mark-requires : tie.Need-draw_mark-mark-requires
 draw-mark-requires c κs = search rules
 
-draw-weight-requires : tie.Need-draw-weight-requires
+draw-weight-requires : tie.Need-draw_weight-weight-requires
 draw-weight-requires c κs = search rules
 
-draw-price-requires : tie.Need-draw-price-requires
+draw-price-requires : tie.Need-draw_price-requires
 draw-price-requires c κs = search rules
 
 returns : tie.Need-returns
 unfolding drawn_figures
 returns c =
-    let w = c.before.draw-weight in
+    let w = c.before.draw_weight-weight in
     let m = c.before.before in
-    let n = m.before.next-state3.ensures in
+    let n = m.before.next_state-c.ensures in
     rw (
       back w.result w.type-inv,
-      back c.draw-price.result c.draw-price.type-inv,
-      m.draw-mark.ensures,
+      back c.draw_price.result c.draw_price.type_inv,
+      m.draw_mark-mark.ensures,
       w.ensures,
-      c.draw-price.ensures,
+      c.draw_price.ensures,
       n,
-      m.before.before.next-state2.ensures,
-      m.before.before.before.next-state.ensures,
+      m.before.before.next_state-b.ensures,
+      m.before.before.before.next_state-a.ensures,
     )
 
-pub draw-figures-spec : {M : Type 1} → statement M
-draw-figures-spec =
+pub draw_figures_spec : {M : Type 1} → statement M
+draw_figures_spec =
     tie.close
     (tie.spec
     next-state-requires

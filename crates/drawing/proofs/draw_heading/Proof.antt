@@ -5,19 +5,19 @@ use Rattle.std.proofs.Common.{rules}
 use Rattle.drawing.proofs.draw_heading.Statement.{statement}
 use Rattle.drawing.proofs.draw_heading.Tie as tie
 
-next-state-requires : tie.Need-next-state-requires
+next-state-requires : tie.Need-next_state-a-requires
 next-state-requires c κs = search rules
 
-next-state-requires-2 : tie.Need-next-state-requires-2
+next-state-requires-2 : tie.Need-next_state-b-requires
 next-state-requires-2 c κs = search rules
 
-draw-limit-requires : tie.Need-draw-limit-requires
+draw-limit-requires : tie.Need-draw_limit-requires
 draw-limit-requires c κs = search rules
 
-draw-count-requires : tie.Need-draw-count-requires
+draw-count-requires : tie.Need-draw_count-requires
 draw-count-requires c κs = search rules
 
-headed-requires : tie.Need-headed-requires
+headed-requires : tie.Need-headed-problem-requires
 headed-requires c κs = search rules
 
 returns : tie.Need-returns
@@ -25,16 +25,16 @@ unfolding drawn_heading
 returns c =
     let l = c.before.before in
     rw (
-      c.headed.ensures,
-      back l.draw-limit.result l.draw-limit.type-inv,
-      c.before.draw-count.ensures,
-      l.draw-limit.ensures,
-      l.before.next-state2.ensures,
-      l.before.before.next-state.ensures,
+      c.headed-problem.ensures,
+      back l.draw_limit.result l.draw_limit.type_inv,
+      c.before.draw_count.ensures,
+      l.draw_limit.ensures,
+      l.before.next_state-b.ensures,
+      l.before.before.next_state-a.ensures,
     )
 
-pub draw-heading-spec : {M : Type 1} → statement M
-draw-heading-spec =
+pub draw_heading_spec : {M : Type 1} → statement M
+draw_heading_spec =
     tie.close
     (tie.spec
     next-state-requires

@@ -6,11 +6,11 @@ use Rattle.drawing.proofs.draw_mark.Tie as tie
 choice-requires : tie.Need-choice-requires
 choice-requires c κs = search rules
 
-returns : tie.Need-returns
-returns c = rw (eq-eqb _ 0 (sym c.before.choice.ensures ∙ c.if1.true))
+returns : tie.Need-returns-then-choice-eq0
+returns c = rw (eq-eqb _ 0 (sym c.before.choice.ensures ∙ c.if-choice-eq0.true))
 
-returns-2 : tie.Need-returns-2
-returns-2 c = rw (ne_eqb _ 0 (λ e. c.if1.false (c.before.choice.ensures ∙ e)))
+returns-2 : tie.Need-returns-else-choice-eq0
+returns-2 c = rw (ne_eqb _ 0 (λ e. c.if-choice-eq0.false (c.before.choice.ensures ∙ e)))
 
-pub draw-mark-spec : {M : Type 1} → statement M
-draw-mark-spec = tie.close (tie.spec choice-requires returns returns-2)
+pub draw_mark_spec : {M : Type 1} → statement M
+draw_mark_spec = tie.close (tie.spec choice-requires returns returns-2)

@@ -3,19 +3,19 @@ use Rattle.std.proofs.Common.{to_z-of_z, rules}
 use Rattle.drawing.proofs.headed.Statement.{statement}
 use Rattle.drawing.proofs.headed.Tie as tie
 
-empty-model-requires : tie.Need-empty-model-requires
+empty-model-requires : tie.Need-empty_model-requires
 empty-model-requires c κs = search rules
 
-with-capacity-requires : tie.Need-with-capacity-requires
+with-capacity-requires : tie.Need-with_capacity-limited-requires
 with-capacity-requires c κs = search rules
 
-with-count-requires : tie.Need-with-count-requires
+with-count-requires : tie.Need-with_count-requires
 with-count-requires c κs = search rules
 
 returns : tie.Need-returns
 returns c =
     let e = c.before.before in
-    rw (c.with-count.ensures, c.before.with-capacity.ensures, e.empty-model.ensures, to_z-of_z e.before.ranges.limit)
+    rw (c.with_count.ensures, c.before.with_capacity-limited.ensures, e.empty_model.ensures, to_z-of_z e.before.ranges.limit)
 
-pub headed-spec : {M : Type 1} → statement M
-headed-spec = tie.close (tie.spec empty-model-requires with-capacity-requires with-count-requires returns)
+pub headed_spec : {M : Type 1} → statement M
+headed_spec = tie.close (tie.spec empty-model-requires with-capacity-requires with-count-requires returns)

@@ -4,16 +4,16 @@ use Rattle.drawing.specs.Drawing.{mended}
 use Rattle.drawing.proofs.mend.Statement.{statement}
 use Rattle.drawing.proofs.mend.Tie as tie
 
-is-blank-requires : tie.Need-is-blank-requires
+is-blank-requires : tie.Need-is_blank-requires
 is-blank-requires c κs = search rules
 
-returns : tie.Need-returns
+returns : tie.Need-returns-then-is_blank
 unfolding mended
-returns c = rw (sym c.before.is-blank.ensures ∙ c.if1.true)
+returns c = rw (sym c.before.is_blank.ensures ∙ c.if-is_blank.true)
 
-returns-2 : tie.Need-returns-2
+returns-2 : tie.Need-returns
 unfolding mended
-returns-2 c = rw (sym c.before.is-blank.ensures ∙ c.if1.false)
+returns-2 c = rw (sym c.before.is_blank.ensures ∙ c.if-is_blank.false)
 
-pub mend-spec : {M : Type 1} → statement M
-mend-spec = tie.close (tie.spec is-blank-requires returns returns-2)
+pub mend_spec : {M : Type 1} → statement M
+mend_spec = tie.close (tie.spec is-blank-requires returns returns-2)

@@ -4,12 +4,12 @@ use Rattle.std.proofs.Common.{rules}
 use Rattle.drawing.proofs.next_state.Statement.{statement}
 use Rattle.drawing.proofs.next_state.Tie as tie
 
-wrapping-add-u64-requires : tie.Need-wrapping-add-u64-requires
+wrapping-add-u64-requires : tie.Need-wrapping_add_u64-requires
 wrapping-add-u64-requires c κs = search rules
 
 returns : tie.Need-returns
 unfolding next_state
-returns c = c.wrapping-add-u64.ensures
+returns c = c.wrapping_add_u64.ensures
 
-pub next-state-spec : {M : Type 1} → statement M
-next-state-spec = tie.close (tie.spec wrapping-add-u64-requires returns)
+pub next_state_spec : {M : Type 1} → statement M
+next_state_spec = tie.close (tie.spec wrapping-add-u64-requires returns)

@@ -7,13 +7,13 @@ use Rattle.drawing.proofs.Draws.{span-some, span-few, picked-in}
 use Rattle.drawing.proofs.pick.Statement.{statement}
 use Rattle.drawing.proofs.pick.Tie as tie
 
-width-requires : tie.Need-width-requires
+width-requires : tie.Need-width-n-requires
 width-requires c κs = search rules
 
-wide : (c : tie.After-width) → c.width.result ≡ span c.before.args.lo c.before.args.hi
-wide c = rw (to_z-of_z c.before.ranges.lo, to_z-of_z c.before.ranges.hi) at c.width.ensures
+wide : (c : tie.After-width-n) → c.width-n.result ≡ span c.before.args.lo c.before.args.hi
+wide c = rw (to_z-of_z c.before.ranges.lo, to_z-of_z c.before.ranges.hi) at c.width-n.ensures
 
-small : (c : tie.After-width) → c.before.args.t % c.width.result < 2 ^ 63
+small : (c : tie.After-width-n) → c.before.args.t % c.width-n.result < 2 ^ 63
 small c =
     let s = c.before in
     let below = mod-lt s.args.t (span-some s.args.lo s.args.hi s.requires.0) in
@@ -21,23 +21,23 @@ small c =
     rw (wide c) (omega (arith, below, few))
 
 -- the remainder, as the local holds it
-part : (c : tie.After-width)
-    → to_z w64 (c.before.args.t % c.width.result) ≡ pos (c.before.args.t % span c.before.args.lo c.before.args.hi)
+part : (c : tie.After-width-n)
+    → to_z w64 (c.before.args.t % c.width-n.result) ≡ pos (c.before.args.t % span c.before.args.lo c.before.args.hi)
 part c = rw (to_z_pos w64 (small c), wide c)
 
-fits : (c : tie.After-width) → SFits w64 (picked c.before.args.t c.before.args.lo c.before.args.hi)
+fits : (c : tie.After-width-n) → SFits w64 (picked c.before.args.t c.before.args.lo c.before.args.hi)
 fits c =
     let s = c.before in
     let i = picked-in s.args.t s.args.lo s.args.hi s.requires.0 in
     between s.args.lo s.args.hi _ s.ranges.lo s.ranges.hi i.0 i.1
 
-rem-result : tie.Need-nonzero-rem-result
+rem-result : tie.Need-nonzero_rem-result
 rem-result c = rw (wide c) (span-some c.before.args.lo c.before.args.hi c.before.requires.0)
 
-cast-result : tie.Need-overflow-cast-result
+cast-result : tie.Need-overflow_cast-result
 cast-result c = record { sfits = small c }
 
-add-result : tie.Need-overflow-add-result
+add-result : tie.Need-overflow_add-result
 unfolding picked
 add-result c = rw (to_z-of_z c.before.ranges.lo, part c) (fits c)
 

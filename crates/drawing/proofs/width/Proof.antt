@@ -21,13 +21,13 @@ total : (s : tie.Start)
     ≡ (s.args.hi -ℤ s.args.lo) +ℤ pos 1
 total s = rw (difference s) (within-back tt (more s))
 
-sub-result : tie.Need-overflow-sub-result
+sub-result : tie.Need-overflow_sub-result
 sub-result c = rw (to_z-of_z c.ranges.hi, to_z-of_z c.ranges.lo) (within-sfits (lit< tt) (less c))
 
-add-result : tie.Need-overflow-add-result
+add-result : tie.Need-overflow_add-result
 add-result c = rw (difference c) (within-sfits (lit< tt) (more c))
 
-cast-result : tie.Need-overflow-cast-result
+cast-result : tie.Need-overflow_cast-result
 cast-result c = rw (total c) (cast-in (span-sign c.args.lo c.args.hi c.requires.0) (within-sfits (lit< tt) (more c)))
 
 returns : tie.Need-returns

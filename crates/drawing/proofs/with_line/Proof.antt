@@ -4,22 +4,22 @@ use Rattle.std.proofs.Common.{rules}
 use Rattle.drawing.proofs.with_line.Statement.{statement}
 use Rattle.drawing.proofs.with_line.Tie as tie
 
-mul-old : tie.Need-overflow-mul-old
+mul-old : tie.Need-offset_bounds-m-k
 mul-old c = search rules
 
-element-copy-out-old : tie.Need-element-copy-out-old
+element-copy-out-old : tie.Need-bounds-m-k
 element-copy-out-old c = search rules
 
-draw-line-requires : tie.Need-draw-line-requires
+draw-line-requires : tie.Need-draw_line-x-requires
 draw-line-requires c κs = search rules
 
-with-item-requires : tie.Need-with-item-requires
+with-item-requires : tie.Need-with_item-problem-requires
 with-item-requires c κs = search rules
 
 returns : tie.Need-returns
 unfolding with_line
-returns c = rw (c.with_item.ensures, c.before.before.draw-line.ensures)
+returns c = rw (c.with_item-problem.ensures, c.before.before.draw_line-x.ensures)
 
-pub with-line-spec : {M : Type 1} → statement M
-with-line-spec =
+pub with_line_spec : {M : Type 1} → statement M
+with_line_spec =
     tie.close (tie.spec mul-old element-copy-out-old draw-line-requires with-item-requires returns)

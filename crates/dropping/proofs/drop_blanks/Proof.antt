@@ -10,60 +10,60 @@ use Rattle.dropping.proofs.Dropped.{lines_next, line-numbers}
 use Rattle.dropping.proofs.drop_blanks.Statement.{statement}
 use Rattle.dropping.proofs.drop_blanks.Tie as tie
 
-abbrev invariant-loop : tie.invariant-loop
+abbrev invariant-loop : tie.invariant-loop-j
 invariant-loop m ns t q₀ j₀ q j = (j ≤ t) × (q ≡ dropped_to m m.count j)
 
-abbrev decreases-loop : tie.decreases-loop
+abbrev decreases-loop : tie.decreases-loop-j
 decreases-loop m ns t q₀ j₀ q j = t - j
 
 -- the moments that are spoken of below
-abbrev start : tie.At-loop invariant-loop decreases-loop → tie.Start invariant-loop decreases-loop
+abbrev start : tie.At-loop-j invariant-loop decreases-loop → tie.Start invariant-loop decreases-loop
 start c = c.before.before.before
 
-kept-items-requires : tie.Need-kept-items-requires invariant-loop decreases-loop
+kept-items-requires : tie.Need-kept_items-q-requires invariant-loop decreases-loop
 kept-items-requires c κs = (c.before.requires.figures Sure).few-items
 
-loop-holds : tie.Need-loop-init invariant-loop decreases-loop
-loop-holds c = (omega arith, c.kept-items.ensures)
+loop-holds : tie.Need-loop-j-init invariant-loop decreases-loop
+loop-holds c = (omega arith, c.kept_items-q.ensures)
 
-mul-x : tie.Need-overflow-mul-x invariant-loop decreases-loop
+mul-x : tie.Need-offset_bounds-ns-j invariant-loop decreases-loop
 mul-x c = omega arith
 
-element-copy-out-x : tie.Need-element-copy-out-x invariant-loop decreases-loop
-element-copy-out-x c = omega (arith, (start c.before).pre.few-needs)
+element-copy-out-x : tie.Need-bounds-ns-j invariant-loop decreases-loop
+element-copy-out-x c = omega (arith, (start c.before).requires.few-needs)
 
-renumber-need-requires : tie.Need-renumber-need-requires invariant-loop decreases-loop
+renumber-need-requires : tie.Need-renumber_need-requires invariant-loop decreases-loop
 renumber-need-requires c κs =
     let l = c.before.before in
-    line-numbers (start l).args.m (start l).requires l.loop.j (omega arith)
+    line-numbers (start l).args.m (start l).requires l.loop-j.j (omega arith)
 
-with-need-requires : tie.Need-with-need-requires invariant-loop decreases-loop
+with-need-requires : tie.Need-with_need-q-requires invariant-loop decreases-loop
 with-need-requires c κs = let l = c.before.before.before in omega (arith, (start l).requires.few-needs)
 
-add-j : tie.Need-overflow-add-j invariant-loop decreases-loop
+add-j : tie.Need-overflow_add-j invariant-loop decreases-loop
 add-j c = omega arith
 
-loop-less : tie.Need-loop-smaller invariant-loop decreases-loop
+loop-less : tie.Need-loop-j-smaller invariant-loop decreases-loop
 loop-less c = omega arith
 
-loop-again : tie.Need-loop-preserved invariant-loop decreases-loop
+loop-again : tie.Need-loop-j-preserved invariant-loop decreases-loop
 loop-again c =
     let n = c.before in
     let l = n.before.before.before in
     let m = (start l).args.m in
-    (omega arith, rw (add-one, c.with-need.ensures, n.renumber-need.ensures, l.loop.invariant.1) (lines_next m m.count l.loop.j))
+    (omega arith, rw (add-one, c.with_need-q.ensures, n.renumber_need.ensures, l.loop-j.invariant.1) (lines_next m m.count l.loop-j.j))
 
-with-need-count-requires : tie.Need-with-need-count-requires invariant-loop decreases-loop
+with-need-count-requires : tie.Need-with_need_count-requires invariant-loop decreases-loop
 with-need-count-requires c κs = search rules
 
 returns : tie.Need-returns invariant-loop decreases-loop
 returns c =
     let l = c.before.before in
-    let e : l.loop.j ≡ (start l).args.m.needs.count = omega arith in
-    rw (c.with-need-count.ensures, l.loop.invariant.1, e)
+    let e : l.loop-j.j ≡ (start l).args.m.needs.count = omega arith in
+    rw (c.with_need_count.ensures, l.loop-j.invariant.1, e)
 
-pub drop-blanks-spec : {M : Type 1} → statement M
-drop-blanks-spec =
+pub drop_blanks_spec : {M : Type 1} → statement M
+drop_blanks_spec =
     tie.close
     (tie.spec
     invariant-loop

@@ -9,48 +9,48 @@ use Rattle.dropping.proofs.Kept.{first-here, first-later, first-none}
 use Rattle.dropping.proofs.first_hindered.Statement.{statement}
 use Rattle.dropping.proofs.first_hindered.Tie as tie
 
-abbrev invariant-loop : tie.invariant-loop
+abbrev invariant-loop : tie.invariant-loop-k
 invariant-loop m n k₀ k = (k ≤ n) × (first_hindered m ≡ first_from (n - k) (hinders m) k)
 
-abbrev decreases-loop : tie.decreases-loop
+abbrev decreases-loop : tie.decreases-loop-k
 decreases-loop m n k₀ k = n - k
 
-loop-holds : tie.Need-loop-init invariant-loop decreases-loop
+loop-holds : tie.Need-loop-k-init invariant-loop decreases-loop
 loop-holds c = let m = c.args.m in (omega arith, ap (λ n. first_from n (hinders m) 0) (omega arith))
 
-is-hindered-requires : tie.Need-is-hindered-requires invariant-loop decreases-loop
+is-hindered-requires : tie.Need-is_hindered-requires invariant-loop decreases-loop
 is-hindered-requires c κs = (omega arith, c.before.before.requires.1)
 
-returns : tie.Need-returns invariant-loop decreases-loop
+returns : tie.Need-returns-then-is_hindered invariant-loop decreases-loop
 returns c =
     let l = c.before.before.before in
     let m = l.before.args.m in
-    sym (l.loop.invariant.1 ∙ first-here (hinders m) m.count l.loop.k (omega arith) (sym c.before.is-hindered.ensures ∙ c.if1.true))
+    sym (l.loop-k.invariant.1 ∙ first-here (hinders m) m.count l.loop-k.k (omega arith) (sym c.before.is_hindered.ensures ∙ c.if-is_hindered.true))
 
-add-k : tie.Need-overflow-add-k invariant-loop decreases-loop
+add-k : tie.Need-overflow_add-k invariant-loop decreases-loop
 add-k c = omega arith
 
-loop-less : tie.Need-loop-smaller invariant-loop decreases-loop
+loop-less : tie.Need-loop-k-smaller invariant-loop decreases-loop
 loop-less c = omega arith
 
-loop-again : tie.Need-loop-preserved invariant-loop decreases-loop
+loop-again : tie.Need-loop-k-preserved invariant-loop decreases-loop
 loop-again c =
     let l = c.before.before.before in
     let m = l.before.args.m in (
       omega arith,
-      rw add-one (l.loop.invariant.1 ∙ first-later (hinders m) m.count l.loop.k (omega arith)
-          (sym c.before.is-hindered.ensures ∙ c.if1.false)),
+      rw add-one (l.loop-k.invariant.1 ∙ first-later (hinders m) m.count l.loop-k.k (omega arith)
+          (sym c.before.is_hindered.ensures ∙ c.if-is_hindered.false)),
     )
 
-returns-2 : tie.Need-returns-2 invariant-loop decreases-loop
+returns-2 : tie.Need-returns invariant-loop decreases-loop
 returns-2 c =
     let l = c.before in
     let m = l.before.args.m in
-    let e : m.count ≡ l.loop.k = omega arith in
-    e ∙ sym (l.loop.invariant.1 ∙ first-none (hinders m) m.count l.loop.k (omega arith))
+    let e : m.count ≡ l.loop-k.k = omega arith in
+    e ∙ sym (l.loop-k.invariant.1 ∙ first-none (hinders m) m.count l.loop-k.k (omega arith))
 
-pub first-hindered-spec : {M : Type 1} → statement M
-first-hindered-spec =
+pub first_hindered_spec : {M : Type 1} → statement M
+first_hindered_spec =
     tie.close
     (tie.spec
     invariant-loop

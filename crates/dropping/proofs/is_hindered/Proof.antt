@@ -5,41 +5,41 @@ use borrow.Author.Rules.{rules}
 use Rattle.dropping.proofs.is_hindered.Statement.{statement}
 use Rattle.dropping.proofs.is_hindered.Tie as tie
 
-mul-x : tie.Need-overflow-mul-x
+mul-x : tie.Need-offset_bounds-m-k
 mul-x c = search rules
 
-element-copy-out-x : tie.Need-element-copy-out-x
+element-copy-out-x : tie.Need-bounds-m-k
 element-copy-out-x c = search rules
 
-is-blank-requires : tie.Need-is-blank-requires
+is-blank-requires : tie.Need-is_blank-requires
 is-blank-requires c κs = search rules
 
-add-is-named : tie.Need-overflow-add-is-named
+add-is-named : tie.Need-overflow_add-k
 add-is-named c = search rules
 
-is-named-requires : tie.Need-is-named-requires
+is-named-requires : tie.Need-is_named-named-requires
 is-named-requires c κs = search rules
 
-do-bounds-cross-requires : tie.Need-do-bounds-cross-requires
+do-bounds-cross-requires : tie.Need-do_bounds_cross-requires
 do-bounds-cross-requires c κs = search rules
 
-returns : tie.Need-returns
+returns : tie.Need-returns-then-do_bounds_cross
 returns c =
     let n = c.before.before in
     let b = n.before.before in
-    rw (sym b.before.is-blank.ensures ∙ b.if1.true, sym c.before.do-bounds-cross.ensures ∙ c.if2.true)
+    rw (sym b.before.is_blank.ensures ∙ b.if-is_blank.true, sym c.before.do_bounds_cross.ensures ∙ c.if-do_bounds_cross.true)
 
-returns-2 : tie.Need-returns-2
+returns-2 : tie.Need-returns-else-do_bounds_cross
 returns-2 c =
     let n = c.before.before in
     let b = n.before.before in
-    rw (sym b.before.is-blank.ensures ∙ b.if1.true, sym c.before.do-bounds-cross.ensures ∙ c.if2.false) (rw add-one at n.is-named.ensures)
+    rw (sym b.before.is_blank.ensures ∙ b.if-is_blank.true, sym c.before.do_bounds_cross.ensures ∙ c.if-do_bounds_cross.false) (rw add-one at n.is_named-named.ensures)
 
-returns-3 : tie.Need-returns-3
-returns-3 c = rw (sym c.before.is-blank.ensures ∙ c.if1.false)
+returns-3 : tie.Need-returns-else-is_blank
+returns-3 c = rw (sym c.before.is_blank.ensures ∙ c.if-is_blank.false)
 
-pub is-hindered-spec : {M : Type 1} → statement M
-is-hindered-spec =
+pub is_hindered_spec : {M : Type 1} → statement M
+is_hindered_spec =
     tie.close
     (tie.spec
     mul-x

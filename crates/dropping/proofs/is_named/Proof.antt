@@ -11,55 +11,55 @@ use Rattle.dropping.proofs.Dropped.{named_more, named-found}
 use Rattle.dropping.proofs.is_named.Statement.{statement}
 use Rattle.dropping.proofs.is_named.Tie as tie
 
-abbrev invariant-loop : tie.invariant-loop
+abbrev invariant-loop : tie.invariant-loop-j
 invariant-loop k ns t j₀ j = (j ≤ t) × (named_in j (need_at ns) k ≡ false)
 
-abbrev decreases-loop : tie.decreases-loop
+abbrev decreases-loop : tie.decreases-loop-j
 decreases-loop k ns t j₀ j = t - j
 
 -- the moment that is spoken of below
-abbrev at-loop : tie.After-does-name invariant-loop decreases-loop → tie.At-loop invariant-loop decreases-loop
+abbrev at-loop : tie.After-does_name invariant-loop decreases-loop → tie.At-loop-j invariant-loop decreases-loop
 at-loop c = c.before.before.before
 
-loop-holds : tie.Need-loop-init invariant-loop decreases-loop
+loop-holds : tie.Need-loop-j-init invariant-loop decreases-loop
 unfolding named_in
 loop-holds c = (omega arith, refl)
 
-mul-x : tie.Need-overflow-mul-x invariant-loop decreases-loop
+mul-x : tie.Need-offset_bounds-ns-j invariant-loop decreases-loop
 mul-x c = omega arith
 
-element-copy-out-x : tie.Need-element-copy-out-x invariant-loop decreases-loop
+element-copy-out-x : tie.Need-bounds-ns-j invariant-loop decreases-loop
 element-copy-out-x c = omega arith
 
-does-name-requires : tie.Need-does-name-requires invariant-loop decreases-loop
+does-name-requires : tie.Need-does_name-requires invariant-loop decreases-loop
 does-name-requires c κs = search rules
 
-returns : tie.Need-returns invariant-loop decreases-loop
+returns : tie.Need-returns-then-does_name invariant-loop decreases-loop
 returns c =
     let l = at-loop c.before in
     let a = l.before.args in
-    sym (named-found a.t1.count l.loop.j (need_at a.t1) a.k (omega arith) (sym c.before.does-name.ensures ∙ c.if1.true))
+    sym (named-found a.t1.count l.loop-j.j (need_at a.t1) a.k (omega arith) (sym c.before.does_name.ensures ∙ c.if-does_name.true))
 
-add-j : tie.Need-overflow-add-j invariant-loop decreases-loop
+add-j : tie.Need-overflow_add-j invariant-loop decreases-loop
 add-j c = omega arith
 
-loop-less : tie.Need-loop-smaller invariant-loop decreases-loop
+loop-less : tie.Need-loop-j-smaller invariant-loop decreases-loop
 loop-less c = omega arith
 
-loop-again : tie.Need-loop-preserved invariant-loop decreases-loop
+loop-again : tie.Need-loop-j-preserved invariant-loop decreases-loop
 loop-again c =
     let l = at-loop c.before in
     let a = l.before.args in
-    (omega arith, rw add-one (named_more l.loop.j (need_at a.t1) a.k l.loop.inv.1 (sym c.before.does-name.ensures ∙ c.if1.false)))
+    (omega arith, rw add-one (named_more l.loop-j.j (need_at a.t1) a.k l.loop-j.invariant.1 (sym c.before.does_name.ensures ∙ c.if-does_name.false)))
 
-returns-2 : tie.Need-returns-2 invariant-loop decreases-loop
+returns-2 : tie.Need-returns invariant-loop decreases-loop
 returns-2 c =
     let l = c.before in
-    let e : l.loop.j ≡ l.before.args.t1.count = omega arith in
-    sym (rw e at l.loop.invariant.1)
+    let e : l.loop-j.j ≡ l.before.args.t1.count = omega arith in
+    sym (rw e at l.loop-j.invariant.1)
 
-pub is-named-spec : {M : Type 1} → statement M
-is-named-spec =
+pub is_named_spec : {M : Type 1} → statement M
+is_named_spec =
     tie.close
     (tie.spec
     invariant-loop

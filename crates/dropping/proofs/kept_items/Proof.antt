@@ -12,55 +12,55 @@ use Rattle.dropping.proofs.Kept.{rank_most}
 use Rattle.dropping.proofs.kept_items.Statement.{statement}
 use Rattle.dropping.proofs.kept_items.Tie as tie
 
-abbrev invariant-loop : tie.invariant-loop
+abbrev invariant-loop : tie.invariant-loop-k
 invariant-loop m n q₀ k₀ q k = (k ≤ n) × (q ≡ dropped_to m k 0)
 
-abbrev decreases-loop : tie.decreases-loop
+abbrev decreases-loop : tie.decreases-loop-k
 decreases-loop m n q₀ k₀ q k = n - k
 
-none-of-requires : tie.Need-none-of-requires invariant-loop decreases-loop
+none-of-requires : tie.Need-none_of-q-requires invariant-loop decreases-loop
 none-of-requires c κs = tt
 
-loop-holds : tie.Need-loop-init invariant-loop decreases-loop
-loop-holds c = (omega arith, c.none_of.ensures)
+loop-holds : tie.Need-loop-k-init invariant-loop decreases-loop
+loop-holds c = (omega arith, c.none_of-q.ensures)
 
-mul-x : tie.Need-overflow-mul-x invariant-loop decreases-loop
+mul-x : tie.Need-offset_bounds-m-k invariant-loop decreases-loop
 mul-x c = omega arith
 
-element-copy-out-x : tie.Need-element-copy-out-x invariant-loop decreases-loop
+element-copy-out-x : tie.Need-bounds-m-k invariant-loop decreases-loop
 element-copy-out-x c = omega arith
 
-append-unless-blank-requires : tie.Need-append-unless-blank-requires invariant-loop decreases-loop
+append-unless-blank-requires : tie.Need-append_unless_blank-q-requires invariant-loop decreases-loop
 append-unless-blank-requires c κs =
     let l = c.before.before in
     let m = l.before.before.args.t1 in
-    let e : l.loop.q.count ≡ rank (kept m) l.loop.k = ap (λ (q : Model). q.count) l.loop.invariant.1 in
-    omega (arith, rank_most (kept m) l.loop.k)
+    let e : l.loop-k.q.count ≡ rank (kept m) l.loop-k.k = ap (λ (q : Model). q.count) l.loop-k.invariant.1 in
+    omega (arith, rank_most (kept m) l.loop-k.k)
 
-add-k : tie.Need-overflow-add-k invariant-loop decreases-loop
+add-k : tie.Need-overflow_add-k invariant-loop decreases-loop
 add-k c = omega arith
 
-loop-less : tie.Need-loop-smaller invariant-loop decreases-loop
+loop-less : tie.Need-loop-k-smaller invariant-loop decreases-loop
 loop-less c = omega arith
 
-loop-again : tie.Need-loop-preserved invariant-loop decreases-loop
+loop-again : tie.Need-loop-k-preserved invariant-loop decreases-loop
 loop-again c =
     let l = c.before.before.before in
     let m = l.before.before.args.t1 in (
       omega arith,
-      rw add-one (c.append-unless-blank.ensures ∙ ap (λ (q : Model). appended_unless_blank q (item_at m l.loop.k)) l.loop.invariant.1
-          ∙ sym (dropped-next m l.loop.k)),
+      rw add-one (c.append_unless_blank-q.ensures ∙ ap (λ (q : Model). appended_unless_blank q (item_at m l.loop-k.k)) l.loop-k.invariant.1
+          ∙ sym (dropped-next m l.loop-k.k)),
     )
 
 returns : tie.Need-returns invariant-loop decreases-loop
 returns c =
     let l = c.before in
     let m = l.before.before.args.t1 in
-    let e : l.loop.k ≡ m.count = omega arith in
-    l.loop.invariant.1 ∙ ap (λ k. dropped_to m k 0) e
+    let e : l.loop-k.k ≡ m.count = omega arith in
+    l.loop-k.invariant.1 ∙ ap (λ k. dropped_to m k 0) e
 
-pub kept-items-spec : {M : Type 1} → statement M
-kept-items-spec =
+pub kept_items_spec : {M : Type 1} → statement M
+kept_items_spec =
     tie.close
     (tie.spec
     invariant-loop

@@ -7,17 +7,17 @@ use Rattle.dropping.proofs.Dropped.{dropped-none}
 use Rattle.dropping.proofs.none_of.Statement.{statement}
 use Rattle.dropping.proofs.none_of.Tie as tie
 
-empty-model-requires : tie.Need-empty-model-requires
+empty-model-requires : tie.Need-empty_model-empty-requires
 empty-model-requires c κs = search rules
 
-with-capacity-requires : tie.Need-with-capacity-requires
+with-capacity-requires : tie.Need-with_capacity-requires
 with-capacity-requires c κs = search rules
 
 returns : tie.Need-returns
 returns c =
     let m = c.before.before.before.args.m in
     let h : SFits w64 m.capacity = search rules in
-    rw (dropped-none m) (rw (to_z-of_z h, c.before.before.empty-model.ensures) at c.with-capacity.ensures)
+    rw (dropped-none m) (rw (to_z-of_z h, c.before.before.empty_model-empty.ensures) at c.with_capacity.ensures)
 
-pub none-of-spec : {M : Type 1} → statement M
-none-of-spec = tie.close (tie.spec empty-model-requires with-capacity-requires returns)
+pub none_of_spec : {M : Type 1} → statement M
+none_of_spec = tie.close (tie.spec empty-model-requires with-capacity-requires returns)

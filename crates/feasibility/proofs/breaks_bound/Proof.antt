@@ -13,53 +13,53 @@ use Rattle.knapsack.specs.Ranges.{BoundInRange}
 use Rattle.feasibility.proofs.breaks_bound.Statement.{statement}
 use Rattle.feasibility.proofs.breaks_bound.Tie as tie
 
-enum-known-b : tie.Need-enum-known-b
+enum-known-b : tie.Need-enum_known-b
 enum-known-b c = search rules
 
-enum_told : tie.Need-enum-told
+enum_told : tie.Need-enum_told-1
 enum_told c = search rules
 
-returns : tie.Need-returns
+returns : tie.Need-returns-in_default
 returns c = search rules
 
-times-requires : tie.Need-times-requires
+times-requires : tie.Need-times-n-requires
 times-requires c κs =
-    let v = c.before.b.given in
+    let v = c.before.b-1.given in
     let s = c.before.before.before in
     let h : SFits w64 v.0.0 = search rules in
     let r : nat_abs v.0.0 ≤ 10000 = subst BoundInRange v.1 s.requires.0 in
     let m : nat_abs v.0.0 * s.args.q ≤ 10000 * 1000 = mul-le-mul r s.requires.1 in
     rw (to_z-of_z h) (omega arith, s.requires.1)
 
-enum-told-2 : tie.Need-enum-told-2
+enum-told-2 : tie.Need-enum_told-in-Lower
 enum-told-2 c = search rules
 
-enum-told-3 : tie.Need-enum-told-3
+enum-told-3 : tie.Need-enum_told-in-Upper
 enum-told-3 c = search rules
 
 -- the bound times q
-scaled : (c : tie.After-times) →
+scaled : (c : tie.After-times-n) →
     let at_b = c.before.before in
     let s = at_b.before.before in
-    to_z w64 (of_z w64 c.times.result) ≡ c.before.before.b.given.0.0 *ℤ pos s.args.q
+    to_z w64 (of_z w64 c.times-n.result) ≡ c.before.before.b-1.given.0.0 *ℤ pos s.args.q
 scaled c =
-    let h : SFits w64 c.before.before.b.given.0.0 = search rules in
-    back c.times.result c.times.type-inv ∙ (rw (to_z-of_z h) at c.times.ensures)
+    let h : SFits w64 c.before.before.b-1.given.0.0 = search rules in
+    back c.times-n.result c.times-n.type_inv ∙ (rw (to_z-of_z h) at c.times-n.ensures)
 
-returns-2 : tie.Need-returns-2
+returns-2 : tie.Need-returns-in-Lower
 returns-2 c =
     let t = c.before.before in
     let at_b = t.before.before in
-    rw (scaled t, to_z-of_z at_b.before.before.ranges.p, at_b.b.given.1, c.enum-told2.given.1)
+    rw (scaled t, to_z-of_z at_b.before.before.ranges.p, at_b.b-1.given.1, c.enum_told-in-Lower-1.given.1)
 
-returns-3 : tie.Need-returns-3
+returns-3 : tie.Need-returns-in-Upper
 returns-3 c =
     let t = c.before.before in
     let at_b = t.before.before in
-    rw (scaled t, to_z-of_z at_b.before.before.ranges.p, at_b.b.given.1, c.enum-told3.given.1)
+    rw (scaled t, to_z-of_z at_b.before.before.ranges.p, at_b.b-1.given.1, c.enum_told-in-Upper-1.given.1)
 
-pub breaks-bound-spec : {M : Type 1} → statement M
-breaks-bound-spec =
+pub breaks_bound_spec : {M : Type 1} → statement M
+breaks_bound_spec =
     tie.close
     (tie.spec
     enum-known-b

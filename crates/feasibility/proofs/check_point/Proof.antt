@@ -13,46 +13,46 @@ use Rattle.feasibility.proofs.Meaning.{told}
 use Rattle.feasibility.proofs.check_point.Statement.{statement}
 use Rattle.feasibility.proofs.check_point.Tie as tie
 
-check-model-requires : tie.Need-check-model-requires
+check-model-requires : tie.Need-check_model-v-requires
 check-model-requires c κs = search rules
 
-enum_told : tie.Need-enum-told
+enum_told : tie.Need-enum_told-1
 enum_told c = search rules
 
-plain-of-requires : tie.Need-plain-of-requires
+plain-of-requires : tie.Need-plain_of-requires
 plain-of-requires c κs = search rules
 
 -- the record is accepted
-taken : (e : tie.After-enum-told) → verdict e.before.before.before.args.m ≡ Accepted
-taken e = sym e.before.before.check-model.ensures ∙ e.enum_told.given.1
+taken : (e : tie.In-Accepted) → verdict e.before.before.before.args.m ≡ Accepted
+taken e = sym e.before.before.check_model-v.ensures ∙ e.enum_told-1.given.1
 
-check-amounts-requires : tie.Need-check-amounts-requires
+check-amounts-requires : tie.Need-check_amounts-requires
 check-amounts-requires c κs =
     let a = accepted _ (taken c.before.before) in
-    rw c.plain_of_lem.ensures (a.figures _, record { few = a.few-needs; numbers = λ j l. (a.needs j l).numbers })
+    rw c.plain_of.ensures (a.figures _, record { few = a.few-needs; numbers = λ j l. (a.needs j l).numbers })
 
-enum-known-v : tie.Need-enum-known-v
+enum-known-v : tie.Need-enum_known-v
 enum-known-v c = search rules
 
 met : (sense : Sense) (m : Model) (c : Candidate) (r : PointReply) → r ≡ point_check sense m c → (r ≡ point_check sense m c) × Told sense m c r
 met sense m c r e = (e, subst (Told sense m c) (sym e) (told sense m c))
 
-returns : tie.Need-returns
+returns : tie.Need-returns-in-Accepted
 unfolding point_check
 returns c =
     let t = c.before.before.before in
     let a = t.before.before.before.args in
-    met a.sense a.m a.c _ (rw (taken t, ← c.before.plain_of_lem.ensures) c.check-amounts.ensures)
+    met a.sense a.m a.c _ (rw (taken t, ← c.before.plain_of.ensures) c.check_amounts.ensures)
 
-returns-2 : tie.Need-returns-2
+returns-2 : tie.Need-returns-in-Refused
 unfolding point_check
 returns-2 c =
     let v = c.before.before.before in
     let a = v.before.args in
-    met a.sense a.m a.c _ (rw (sym v.check-model.ensures ∙ c.before.v.given.1))
+    met a.sense a.m a.c _ (rw (sym v.check_model-v.ensures ∙ c.before.v-1.given.1))
 
-pub check-point-spec : {M : Type 1} → statement M
-check-point-spec =
+pub check_point_spec : {M : Type 1} → statement M
+check_point_spec =
     tie.close
     (tie.spec
     check-model-requires

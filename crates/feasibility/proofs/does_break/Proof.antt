@@ -9,31 +9,31 @@ use Rattle.model.specs.declared.Side.TheVariants.{Lower}
 use Rattle.feasibility.proofs.does_break.Statement.{statement}
 use Rattle.feasibility.proofs.does_break.Tie as tie
 
-lower-test : (c : tie.After-breaks-bound) →
+lower-test : (c : tie.After-breaks_bound) →
     let s = c.before.before in
-    breaks_bound Lower s.args.i.lower s.args.x.p s.args.x.q ≡ c.breaks-bound.result
+    breaks_bound Lower s.args.i.lower s.args.x.p s.args.x.q ≡ c.breaks_bound.result
 lower-test c =
     let s = c.before.before in
     let h : SFits w64 s.args.x.p = search rules in
-    sym (rw (to_z-of_z h) at c.breaks-bound.ensures)
+    sym (rw (to_z-of_z h) at c.breaks_bound.ensures)
 
-breaks-bound-requires : tie.Need-breaks-bound-requires
+breaks-bound-requires : tie.Need-breaks_bound-requires
 breaks-bound-requires c κs = search rules
 
-returns : tie.Need-returns
+returns : tie.Need-returns-then-breaks_bound
 unfolding breaks
-returns c = rw (lower-test c.before ∙ c.if1.true)
+returns c = rw (lower-test c.before ∙ c.if-breaks_bound.true)
 
-breaks-bound-requires-2 : tie.Need-breaks-bound-requires-2
+breaks-bound-requires-2 : tie.Need-breaks_bound-requires-2
 breaks-bound-requires-2 c κs = search rules
 
-returns-2 : tie.Need-returns-2
+returns-2 : tie.Need-returns
 unfolding breaks
 returns-2 c =
     let l = c.before in
     let s = l.before.before.before in
     let h : SFits w64 s.args.x.p = search rules in
-    rw (lower-test l.before ∙ l.if1.false) (rw (to_z-of_z h) at c.breaks-bound2.ensures)
+    rw (lower-test l.before ∙ l.if-breaks_bound.false) (rw (to_z-of_z h) at c.breaks_bound-2.ensures)
 
-pub does-break-spec : {M : Type 1} → statement M
-does-break-spec = tie.close (tie.spec breaks-bound-requires returns breaks-bound-requires-2 returns-2)
+pub does_break_spec : {M : Type 1} → statement M
+does_break_spec = tie.close (tie.spec breaks-bound-requires returns breaks-bound-requires-2 returns-2)

@@ -12,30 +12,30 @@ use Rattle.feasibility.proofs.does_lack.Statement.{statement}
 use Rattle.feasibility.proofs.does_lack.Tie as tie
 
 -- the code's test of the item is the definition's
-some-test : (c : tie.After-breaks-bound) →
+some-test : (c : tie.After-breaks_bound) →
     let a = c.before.before.args in
-    breaks_bound Upper (At (pos 0)) a.x.p a.x.q ≡ c.breaks-bound.result
+    breaks_bound Upper (At (pos 0)) a.x.p a.x.q ≡ c.breaks_bound.result
 some-test c =
     let s = c.before.before in
     let h : SFits w64 s.args.x.p = search rules in
-    sym (rw (to_z-of_z h) at c.breaks-bound.ensures)
+    sym (rw (to_z-of_z h) at c.breaks_bound.ensures)
 
-breaks-bound-requires : tie.Need-breaks-bound-requires
+breaks-bound-requires : tie.Need-breaks_bound-requires
 breaks-bound-requires c κs = search rules
 
-breaks-bound-requires-2 : tie.Need-breaks-bound-requires-2
+breaks-bound-requires-2 : tie.Need-breaks_bound-requires-then-breaks_bound
 breaks-bound-requires-2 c κs = search rules
 
-returns : tie.Need-returns
+returns : tie.Need-returns-then-breaks_bound
 returns c =
     let t = c.before.before in
     let s = t.before.before.before in
     let h : SFits w64 s.args.y.p = search rules in
-    rw (some-test t.before ∙ t.if1.true) (rw (to_z-of_z h) at c.breaks-bound2.ensures)
+    rw (some-test t.before ∙ t.if-breaks_bound.true) (rw (to_z-of_z h) at c.breaks_bound-then-breaks_bound.ensures)
 
-returns-2 : tie.Need-returns-2
-returns-2 c = rw (some-test c.before ∙ c.if1.false)
+returns-2 : tie.Need-returns
+returns-2 c = rw (some-test c.before ∙ c.if-breaks_bound.false)
 
-pub does-lack-spec : {M : Type 1} → statement M
-does-lack-spec =
+pub does_lack_spec : {M : Type 1} → statement M
+does_lack_spec =
     tie.close (tie.spec breaks-bound-requires breaks-bound-requires-2 returns returns-2)

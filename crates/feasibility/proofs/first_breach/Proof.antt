@@ -3,17 +3,17 @@ use borrow.Author.Rules.{rules}
 use Rattle.feasibility.proofs.first_breach.Statement.{statement}
 use Rattle.feasibility.proofs.first_breach.Tie as tie
 
-first-broken-requires : tie.Need-first-broken-requires
+first-broken-requires : tie.Need-first_broken-k-requires
 first-broken-requires c κs = search rules
 
-first-lacking-requires : tie.Need-first-lacking-requires
+first-lacking-requires : tie.Need-first_lacking-requires
 first-lacking-requires c κs = search rules
 
-number-or-requires : tie.Need-number-or-requires
+number-or-requires : tie.Need-number_or-requires
 number-or-requires c κs = search rules
 
 returns : tie.Need-returns
-returns c = let l = c.before in rw (← l.before.first-broken.ensures, ← l.first-lacking.ensures) c.number-or.ensures
+returns c = let l = c.before in rw (← l.before.first_broken-k.ensures, ← l.first_lacking.ensures) c.number_or.ensures
 
-pub first-breach-spec : {M : Type 1} → statement M
-first-breach-spec = tie.close (tie.spec first-broken-requires first-lacking-requires number-or-requires returns)
+pub first_breach_spec : {M : Type 1} → statement M
+first_breach_spec = tie.close (tie.spec first-broken-requires first-lacking-requires number-or-requires returns)

@@ -17,7 +17,7 @@ times-requires c κs = search rules
 
 -- the distance that was computed
 limit : (c : tie.After-times) → to_z w64 (of_z w64 c.times.result) ≡ pos (1000000000 * c.before.args.q)
-limit c = back _ c.times.type-inv ∙ c.times.ensures
+limit c = back _ c.times.type_inv ∙ c.times.ensures
 
 beyond-requires : tie.Need-beyond-requires
 beyond-requires c κs = let h = c.before.requires in rw (limit c) (omega (arith, zs), omega (arith, zs))
@@ -25,5 +25,5 @@ beyond-requires c κs = let h = c.before.requires in rw (limit c) (omega (arith,
 returns : tie.Need-returns
 returns c = let s = c.before.before in rw (limit c.before, to_z-of_z s.ranges.p) at c.beyond.ensures
 
-pub is-farther-spec : {M : Type 1} → statement M
-is-farther-spec = tie.close (tie.spec times-requires beyond-requires returns)
+pub is_farther_spec : {M : Type 1} → statement M
+is_farther_spec = tie.close (tie.spec times-requires beyond-requires returns)

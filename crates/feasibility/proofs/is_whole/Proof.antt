@@ -12,21 +12,21 @@ use Rattle.arith.proofs.Parts.{abs-within}
 use Rattle.feasibility.proofs.is_whole.Statement.{statement}
 use Rattle.feasibility.proofs.is_whole.Tie as tie
 
-magnitude-requires : tie.Need-magnitude-requires
+magnitude-requires : tie.Need-magnitude-n-requires
 magnitude-requires c κs =
     let s = c.before in
     let h : SFits w64 s.args.x.p = search rules in
     rw (to_z-of_z h) (abs-within s.args.x.p (omega (arith, s.requires.near, s.requires.few)))
 
-rem-result : tie.Need-nonzero-rem-result
+rem-result : tie.Need-nonzero_rem-result
 rem-result c = search rules
 
 returns : tie.Need-returns
 returns c =
     let s = c.before.before in
     let h : SFits w64 s.args.x.p = search rules in
-    let m : c.magnitude.result ≡ nat_abs s.args.x.p = rw (to_z-of_z h) at c.magnitude.ensures in
+    let m : c.magnitude-n.result ≡ nat_abs s.args.x.p = rw (to_z-of_z h) at c.magnitude-n.ensures in
     ap (λ (n : ℕ). eqb (n % s.args.x.q) 0) m
 
-pub is-whole-spec : {M : Type 1} → statement M
-is-whole-spec = tie.close (tie.spec magnitude-requires rem-result returns)
+pub is_whole_spec : {M : Type 1} → statement M
+is_whole_spec = tie.close (tie.spec magnitude-requires rem-result returns)

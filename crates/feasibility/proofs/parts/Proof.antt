@@ -15,21 +15,21 @@ use Rattle.feasibility.proofs.Sizes.{product_small}
 use Rattle.feasibility.proofs.parts.Statement.{statement}
 use Rattle.feasibility.proofs.parts.Tie as tie
 
-times-requires : tie.Need-times-requires
+times-requires : tie.Need-times-n-requires
 times-requires c κs =
     let s = c.before in
     let h : SFits w64 s.args.x.p = search rules in
     rw (to_z-of_z h) (product_small s.args.d s.args.x s.requires.0 s.requires.1, s.requires.0)
 
-cast-floor-div : tie.Need-overflow-cast-floor-div
+cast-floor-div : tie.Need-overflow_cast-q
 cast-floor-div c = search rules
 
 -- what is divided, and by what
-product : (c : tie.After-times) → to_z w64 (of_z w64 c.times.result) ≡ c.before.before.args.x.p *ℤ pos c.before.before.args.d
+product : (c : tie.After-times-n) → to_z w64 (of_z w64 c.times-n.result) ≡ c.before.before.args.x.p *ℤ pos c.before.before.args.d
 product c =
     let s = c.before.before in
     let h : SFits w64 s.args.x.p = search rules in
-    back c.times.result c.times.type-inv ∙ (rw (to_z-of_z h) at c.times.ensures)
+    back c.times-n.result c.times-n.type_inv ∙ (rw (to_z-of_z h) at c.times-n.ensures)
 
 by : (s : tie.Start) → to_z w64 s.args.x.q ≡ pos s.args.x.q
 by s = to_z_pos w64 (omega (arith, s.requires.1.few))
@@ -37,7 +37,7 @@ by s = to_z_pos w64 (omega (arith, s.requires.1.few))
 some : (q : ℕ) → 1 ≤ q → pos q ≡ pos 0 → ⊥
 some q h = simp zed (omega arith)
 
-floor-div-requires : tie.Need-floor-div-requires
+floor-div-requires : tie.Need-floor_div-requires
 floor-div-requires c κs =
     let s = c.before.before in
     rw (product c, by s) (
@@ -50,7 +50,7 @@ returns : tie.Need-returns
 returns c =
     let t = c.before in
     let s = t.before.before in
-    back c.floor-div.result c.floor-div.type-inv ∙ c.floor-div.ensures ∙ ap₂ floor_div (product t) (by s)
+    back c.floor_div.result c.floor_div.type_inv ∙ c.floor_div.ensures ∙ ap₂ floor_div (product t) (by s)
 
-pub parts-spec : {M : Type 1} → statement M
-parts-spec = tie.close (tie.spec times-requires cast-floor-div floor-div-requires returns)
+pub parts_spec : {M : Type 1} → statement M
+parts_spec = tie.close (tie.spec times-requires cast-floor-div floor-div-requires returns)

@@ -18,14 +18,14 @@ fits c = within-sfits {n = 1000000000000000} (lit< tt) (abs-within (c.args.v *�
 is-n : (c : tie.Start) → to_z w64 c.args.q ≡ pos c.args.q
 is-n c = to_z_pos w64 (omega arith)
 
-cast-n : tie.Need-overflow-cast-n
+cast-n : tie.Need-overflow_cast-n
 cast-n c = search rules
 
-mul-result : tie.Need-overflow-mul-result
+mul-result : tie.Need-overflow_mul-result
 mul-result c = rw (to_z-of_z c.ranges.v, is-n c) (fits c)
 
 returns : tie.Need-returns
 returns c = rw (to_z-of_z c.ranges.v, is-n c) (to_z-of_z (fits c))
 
-pub times-spec : {M : Type 1} → statement M
-times-spec = tie.close (tie.spec cast-n mul-result returns)
+pub times_spec : {M : Type 1} → statement M
+times_spec = tie.close (tie.spec cast-n mul-result returns)

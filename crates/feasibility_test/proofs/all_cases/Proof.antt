@@ -5,35 +5,35 @@ use borrow.Author.Rules.{rules}
 use Rattle.feasibility_test.proofs.all_cases.Statement.{statement}
 use Rattle.feasibility_test.proofs.all_cases.Tie as tie
 
-abbrev invariant-loop : tie.invariant-loop
+abbrev invariant-loop : tie.invariant-loop-at
 invariant-loop s at₀ at = Unit {0}
 
-abbrev decreases-loop : tie.decreases-loop
+abbrev decreases-loop : tie.decreases-loop-at
 decreases-loop s at₀ at = length s - at
 
-skip-requires : tie.Need-skip-requires invariant-loop decreases-loop
+skip-requires : tie.Need-skip-at-requires invariant-loop decreases-loop
 skip-requires c κs = search rules
 
-loop-holds : tie.Need-loop-init invariant-loop decreases-loop
+loop-holds : tie.Need-loop-at-init invariant-loop decreases-loop
 loop-holds c = search rules
 
-one-case-requires : tie.Need-one-case-requires invariant-loop decreases-loop
+one-case-requires : tie.Need-one_case-next-requires invariant-loop decreases-loop
 one-case-requires c κs = search rules
 
-returns : tie.Need-returns invariant-loop decreases-loop
+returns : tie.Need-returns-then-next-at invariant-loop decreases-loop
 returns c = search rules
 
-loop-less : tie.Need-loop-smaller invariant-loop decreases-loop
+loop-less : tie.Need-loop-at-smaller invariant-loop decreases-loop
 loop-less c = search rules
 
-loop-again : tie.Need-loop-preserved invariant-loop decreases-loop
+loop-again : tie.Need-loop-at-preserved invariant-loop decreases-loop
 loop-again c = search rules
 
-returns-2 : tie.Need-returns-2 invariant-loop decreases-loop
+returns-2 : tie.Need-returns invariant-loop decreases-loop
 returns-2 c = search rules
 
-pub all-cases-spec : {M : Type 1} → statement M
-all-cases-spec =
+pub all_cases_spec : {M : Type 1} → statement M
+all_cases_spec =
     tie.close
     (tie.spec
     invariant-loop

@@ -11,13 +11,13 @@ use Rattle.fillings.proofs.by_weight.Tie as tie
 abbrev start : tie.After-excess → tie.Start
 start c = c.before.before.before.before.before.before
 
-low-load-requires : tie.Need-low-load-requires
+low-load-requires : tie.Need-low_load-total-requires
 low-load-requires c κs = (c.before.before.before.requires, λ j l. omega (arith, num-zeros 17 j))
 
 lesser-requires : tie.Need-lesser-requires
 lesser-requires c κs = search rules
 
-add-t12 : tie.Need-overflow-add-t12
+add-t12 : tie.Need-overflow_add-result
 add-t12 c = search rules
 
 excess-requires : tie.Need-excess-requires
@@ -25,17 +25,17 @@ excess-requires c κs = search rules
 
 returns : tie.Need-returns
 returns c =
-    let low = c.before.before.low_load in
+    let low = c.before.before.low_load-total in
     let s = start c in
     let a = s.args in (
       record {
         up = rw c.before.lesser.ensures
-            (caps-taken a.p _ a.capacity low.result s.pre refl refl low.ensures.0 refl (num-zeros 17));
-        down = rw c.excess.ensures (caps-left a.p _ a.capacity low.result s.pre refl refl low.ensures.0 (num-zeros 17) refl);
+            (caps-taken a.p _ a.capacity low.result s.requires refl refl low.ensures.0 refl (num-zeros 17));
+        down = rw c.excess.ensures (caps-left a.p _ a.capacity low.result s.requires refl refl low.ensures.0 (num-zeros 17) refl);
       },
       refl,
     )
 
-pub by-weight-spec : {M : Type 1} → statement M
-by-weight-spec =
+pub by_weight_spec : {M : Type 1} → statement M
+by_weight_spec =
     tie.close (tie.spec low-load-requires lesser-requires add-t12 excess-requires returns)

@@ -7,32 +7,32 @@ use Prim.Native.Nat.{ℕ, ◌+◌, ◌*◌, ◌≤◌, ◌<◌, min}
 use Rattle.fillings.proofs.keyed.Statement.{statement}
 use Rattle.fillings.proofs.keyed.Tie as tie
 
-small : (c : tie.After-lesser) → c.lesser.result * c.before.args.base < 9223372036854775808
+small : (c : tie.After-lesser-c) → c.lesser-c.result * c.before.args.base < 9223372036854775808
 small c = omega (
   arith,
   mul-le-mul_right c.before.args.base
-      (below c.before.args.left c.before.args.cost c.lesser.result c.lesser.ensures),
+      (below c.before.args.left c.before.args.cost c.lesser-c.result c.lesser-c.ensures),
 )
   where
     below : (a b n : ℕ) → n ≡ min a b → n ≤ a
     below a b n e = omega arith
 
-lesser-requires : tie.Need-lesser-requires
+lesser-requires : tie.Need-lesser-c-requires
 lesser-requires c κs = search rules
 
-mul-lesser : tie.Need-overflow-mul-lesser
+mul-lesser : tie.Need-overflow_mul-c
 mul-lesser c = omega (arith, small c)
 
-add-lesser : tie.Need-overflow-add-lesser
+add-lesser : tie.Need-overflow_add-c
 add-lesser c = omega (arith, small c)
 
-lesser-requires-2 : tie.Need-lesser-requires-2
+lesser-requires-2 : tie.Need-lesser-requires
 lesser-requires-2 c κs = search rules
 
 returns : tie.Need-returns
 returns c =
     let s = c.before.before.args in
-    c.lesser2.ensures ∙ ap (λ (n : ℕ). min s.cap (n * s.base + s.a)) c.before.lesser.ensures
+    c.lesser.ensures ∙ ap (λ (n : ℕ). min s.cap (n * s.base + s.a)) c.before.lesser-c.ensures
 
-pub keyed-spec : {M : Type 1} → statement M
-keyed-spec = tie.close (tie.spec lesser-requires mul-lesser add-lesser lesser-requires-2 returns)
+pub keyed_spec : {M : Type 1} → statement M
+keyed_spec = tie.close (tie.spec lesser-requires mul-lesser add-lesser lesser-requires-2 returns)

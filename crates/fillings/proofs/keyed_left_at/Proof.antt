@@ -13,22 +13,22 @@ small : (b : Bool) (a n : ℕ) → n ≡ left_key b a → a < 922337203685477580
 small true a n e h = omega arith
 small false a n e h = omega arith
 
-mul-c : tie.Need-overflow-mul-c
+mul-c : tie.Need-offset_bounds-p-k
 mul-c c = search rules
 
-element-copy-out-c : tie.Need-element-copy-out-c
+element-copy-out-c : tie.Need-bounds-p-k
 element-copy-out-c c = search rules
 
-element-copy-out-f : tie.Need-element-copy-out-f
+element-copy-out-f : tie.Need-bounds-p-k-2
 element-copy-out-f c = search rules
 
-mul-a : tie.Need-overflow-mul-a
+mul-a : tie.Need-offset_bounds-rad-k
 mul-a c = search rules
 
-array-read-a : tie.Need-array-read-a
+array-read-a : tie.Need-bounds-rad-k
 array-read-a c = search rules
 
-left-key-requires : tie.Need-left-key-requires
+left-key-requires : tie.Need-left_key-requires
 left-key-requires c κs = search rules
 
 keyed-requires : tie.Need-keyed-requires
@@ -37,8 +37,8 @@ keyed-requires c κs = let s = c.before.before.before in (s.requires.0, small (f
 returns : tie.Need-returns
 returns c = search rules
 
-pub keyed-left-at-spec : {M : Type 1} → statement M
-keyed-left-at-spec =
+pub keyed_left_at_spec : {M : Type 1} → statement M
+keyed_left_at_spec =
     tie.close
     (tie.spec
     mul-c

@@ -13,35 +13,35 @@ small : (b : Bool) (a n : ℕ) → n ≡ taken_key b a → a < 92233720368547758
 small true a n e h = omega arith
 small false a n e h = omega arith
 
-mul-c : tie.Need-overflow-mul-c
+mul-c : tie.Need-offset_bounds-p-k
 mul-c c = search rules
 
-element-copy-out-c : tie.Need-element-copy-out-c
+element-copy-out-c : tie.Need-bounds-p-k
 element-copy-out-c c = search rules
 
-element-copy-out-f : tie.Need-element-copy-out-f
+element-copy-out-f : tie.Need-bounds-p-k-2
 element-copy-out-f c = search rules
 
-mul-a : tie.Need-overflow-mul-a
+mul-a : tie.Need-offset_bounds-rad-k
 mul-a c = search rules
 
-array-read-a : tie.Need-array-read-a
+array-read-a : tie.Need-bounds-rad-k
 array-read-a c = search rules
 
-taken-key-requires : tie.Need-taken-key-requires
+taken-key-requires : tie.Need-taken_key-requires
 taken-key-requires c κs = search rules
 
 keyed-requires : tie.Need-keyed-requires
 keyed-requires c κs = let s = c.before.before.before in (
   s.requires.0,
-  small (flag s.args.t1.falls s.args.k) _ _ c.taken-key.ensures s.requires.1.1,
+  small (flag s.args.t1.falls s.args.k) _ _ c.taken_key.ensures s.requires.1.1,
 )
 
 returns : tie.Need-returns
 returns c = search rules
 
-pub keyed-taken-at-spec : {M : Type 1} → statement M
-keyed-taken-at-spec =
+pub keyed_taken_at_spec : {M : Type 1} → statement M
+keyed_taken_at_spec =
     tie.close
     (tie.spec
     mul-c

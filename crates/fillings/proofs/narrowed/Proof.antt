@@ -8,96 +8,96 @@ use Rattle.fillings.proofs.Narrow.{near_within}
 use Rattle.fillings.proofs.narrowed.Statement.{statement}
 use Rattle.fillings.proofs.narrowed.Tie as tie
 
-abbrev invariant-loop : tie.invariant-loop
+abbrev invariant-loop : tie.invariant-loop-k
 invariant-loop left p r low₀ wide₀ k₀ low wide k = (k ≤ 17) × (Made k (near_low_of left p r) low × Made k (near_wide_of left p r) wide)
 
-abbrev decreases-loop : tie.decreases-loop
+abbrev decreases-loop : tie.decreases-loop-k
 decreases-loop left p r low₀ wide₀ k₀ low wide k = 17 - k
 
 -- from a turn to the loop
-abbrev turn : tie.After-near-wide invariant-loop decreases-loop → tie.At-loop invariant-loop decreases-loop
+abbrev turn : tie.After-near_wide-n invariant-loop decreases-loop → tie.At-loop-k invariant-loop decreases-loop
 turn c = c.before.before.before.before.before.before
 
-loop-holds : tie.Need-loop-init invariant-loop decreases-loop
+loop-holds : tie.Need-loop-k-init invariant-loop decreases-loop
 loop-holds c = (omega arith, (made-first _, made-first _))
 
-mul-t : tie.Need-overflow-mul-t invariant-loop decreases-loop
+mul-t : tie.Need-offset_bounds-p-k invariant-loop decreases-loop
 mul-t c = omega arith
 
-element-copy-out-t : tie.Need-element-copy-out-t invariant-loop decreases-loop
+element-copy-out-t : tie.Need-bounds-p-k invariant-loop decreases-loop
 element-copy-out-t c = omega arith
 
-mul-l : tie.Need-overflow-mul-l invariant-loop decreases-loop
+mul-l : tie.Need-offset_bounds-p-k-in-loop-k invariant-loop decreases-loop
 mul-l c = omega arith
 
-element-copy-out-l : tie.Need-element-copy-out-l invariant-loop decreases-loop
+element-copy-out-l : tie.Need-bounds-p-k-in-loop-k invariant-loop decreases-loop
 element-copy-out-l c = omega arith
 
-mul-a : tie.Need-overflow-mul-a invariant-loop decreases-loop
+mul-a : tie.Need-offset_bounds-r-k invariant-loop decreases-loop
 mul-a c = omega arith
 
-element-copy-out-a : tie.Need-element-copy-out-a invariant-loop decreases-loop
+element-copy-out-a : tie.Need-bounds-r-k invariant-loop decreases-loop
 element-copy-out-a c = omega arith
 
-mul-w : tie.Need-overflow-mul-w invariant-loop decreases-loop
+mul-w : tie.Need-offset_bounds-r-k-in-loop-k invariant-loop decreases-loop
 mul-w c = omega arith
 
-element-copy-out-w : tie.Need-element-copy-out-w invariant-loop decreases-loop
+element-copy-out-w : tie.Need-bounds-r-k-in-loop-k invariant-loop decreases-loop
 element-copy-out-w c = omega arith
 
-near-wide-requires : tie.Need-near-wide-requires invariant-loop decreases-loop
+near-wide-requires : tie.Need-near_wide-n-requires invariant-loop decreases-loop
 near-wide-requires c κs = c.before.before.before.before.before.before.requires.0
 
-near-low-requires : tie.Need-near-low-requires invariant-loop decreases-loop
+near-low-requires : tie.Need-near_low-requires invariant-loop decreases-loop
 near-low-requires c κs =
     let h = turn c in
     let s = h.before in
-    let k = h.loop.k in
-    let n = c.near-wide in (
+    let k = h.loop-k.k in
+    let n = c.near_wide-n in (
       omega (arith, n.ensures, near_within s.args.left (num s.args.t1.taken k) (num s.args.t1.left k) (num s.args.t2.wide k)),
-      omega (arith, s.pre.1.0.ranges_in k (omega arith), s.pre.1.1 k (omega arith)),
+      omega (arith, s.requires.1.0.ranges_in k (omega arith), s.requires.1.1 k (omega arith)),
     )
 
-mul_low : tie.Need-overflow-mul-low invariant-loop decreases-loop
+mul_low : tie.Need-offset_bounds-low-k invariant-loop decreases-loop
 mul_low c = omega arith
 
-array-write-low : tie.Need-array-write-low invariant-loop decreases-loop
+array-write-low : tie.Need-bounds-low-k invariant-loop decreases-loop
 array-write-low c = omega arith
 
-mul_wide : tie.Need-overflow-mul-wide invariant-loop decreases-loop
+mul_wide : tie.Need-offset_bounds-wide-k invariant-loop decreases-loop
 mul_wide c = omega arith
 
-array-write-wide : tie.Need-array-write-wide invariant-loop decreases-loop
+array-write-wide : tie.Need-bounds-wide-k invariant-loop decreases-loop
 array-write-wide c = omega arith
 
-add-k : tie.Need-overflow-add-k invariant-loop decreases-loop
+add-k : tie.Need-overflow_add-k invariant-loop decreases-loop
 add-k c = omega arith
 
-loop-less : tie.Need-loop-smaller invariant-loop decreases-loop
+loop-less : tie.Need-loop-k-smaller invariant-loop decreases-loop
 loop-less c = omega arith
 
-loop-again : tie.Need-loop-preserved invariant-loop decreases-loop
+loop-again : tie.Need-loop-k-preserved invariant-loop decreases-loop
 loop-again c =
     let h = turn c.before in
-    let l = h.loop in
+    let l = h.loop-k in
     let k = l.k in
     let a = h.before.args in
-    let n = c.before.near-wide in
+    let n = c.before.near_wide-n in
     let low : ℕ → ℕ = λ m. low_near (num a.t1.taken k) (num a.t2.low k) (num a.t2.wide k) m in (
       omega arith,
       (
-        made-step _ k c.near-low.result (omega arith) (c.near-low.ensures ∙ ap low n.ensures) l.inv.1.0,
+        made-step _ k c.near_low.result (omega arith) (c.near_low.ensures ∙ ap low n.ensures) l.inv.1.0,
         made-step _ k n.result (omega arith) n.ensures l.inv.1.1,
       ),
     )
 
 returns : tie.Need-returns invariant-loop decreases-loop
 returns c =
-    let i = c.before.loop.invariant.1 in
+    let i = c.before.loop-k.invariant.1 in
     record { lows = made-done (omega arith) i.0; wides = made-done (omega arith) i.1 }
 
-pub narrowed-spec : {M : Type 1} → statement M
-narrowed-spec =
+pub narrowed_spec : {M : Type 1} → statement M
+narrowed_spec =
     tie.close
     (tie.spec
     invariant-loop

@@ -12,11 +12,11 @@ use borrow.Author.Rules.{rules}
 use Rattle.fillings.proofs.onward.Statement.{statement}
 use Rattle.fillings.proofs.onward.Tie as tie
 
-abbrev invariant-loop : tie.invariant-loop
+abbrev invariant-loop : tie.invariant-loop-from
 invariant-loop p capacity cap cells₀ r₀ written₀ from₀ cells r written from = ((length cells ≡ length cells₀) ×
     ((written ≤ written₀ + from * run_cells) × Gone p capacity cap r₀ from₀ written₀ r from written)) × Sought p capacity (cap - 1) r from
 
-abbrev decreases-loop : tie.decreases-loop
+abbrev decreases-loop : tie.decreases-loop-from
 decreases-loop p capacity cap cells₀ r₀ written₀ from₀ cells r written from = 16 - from
 
 -- what is not found is not found
@@ -24,113 +24,113 @@ never : false ≡ true → ⊥
 never e = let z : ◌≡◌ {A = ℕ} 0 1 = cc in omega arith
 
 -- from a run, back to the turn of the loop that makes it; from the loop, back to the start
-abbrev turn : tie.After-run-over invariant-loop decreases-loop → tie.In-loop invariant-loop decreases-loop
+abbrev turn : tie.After-run_over-n invariant-loop decreases-loop → tie.In-loop-from invariant-loop decreases-loop
 turn ro = ro.before.before
 
-abbrev start : tie.At-loop invariant-loop decreases-loop → tie.Start invariant-loop decreases-loop
+abbrev start : tie.At-loop-from invariant-loop decreases-loop → tie.Start invariant-loop decreases-loop
 start w = w.before.before.before
 
-loop-holds : tie.Need-loop-init invariant-loop decreases-loop
+loop-holds : tie.Need-loop-from-init invariant-loop decreases-loop
 loop-holds c = let s = c.before.before in ((refl, (omega arith, begun)), s.requires.1.0)
 
-run-over-requires : tie.Need-run-over-requires invariant-loop decreases-loop
+run-over-requires : tie.Need-run_over-n-requires invariant-loop decreases-loop
 run-over-requires c κs =
     let w = c.before.before in
     let s = start w in
-    let l = w.loop in
-    let x = s.pre.0 in
+    let l = w.loop-from in
+    let x = s.requires.0 in
     let e : length l.cells ≡ length s.args.cells.now = search rules in
-    ((x.0, (l.invariant.1.heads.among, (l.invariant.1.heads.inside, x.1.1.0))), omega (arith, e, s.pre.1.1.1))
+    ((x.0, (l.invariant.1.heads.among, (l.invariant.1.heads.inside, x.1.1.0))), omega (arith, e, s.requires.1.1.1))
 
-add-written : tie.Need-overflow-add-written invariant-loop decreases-loop
+add-written : tie.Need-overflow_add-written invariant-loop decreases-loop
 add-written c =
     let ro = c.before.before.before in
-    let l = (turn ro).before.loop in
-    let n = ro.run-over in
-    omega (arith, l.inv.0.1.0, n.ensures.0.few, l.inv.1.heads.inside, (start (turn ro).before).pre.1.1.0)
+    let l = (turn ro).before.loop-from in
+    let n = ro.run_over-n in
+    omega (arith, l.inv.0.1.0, n.ensures.0.few, l.inv.1.heads.inside, (start (turn ro).before).requires.1.1.0)
 
-same_length : tie.Need-same-length invariant-loop decreases-loop
+same_length : tie.Need-shape_of-cells-then-n-cap invariant-loop decreases-loop
 same_length c = search rules
 
-returns : tie.Need-returns invariant-loop decreases-loop
+returns : tie.Need-returns-then-n-cap invariant-loop decreases-loop
 returns c =
     let h = c.before.before.before in
     let ro = h.before.before.before in
     let t = turn ro in
     let w = t.before in
     let s = start w in
-    let l = w.loop in
-    let n = ro.run-over in
-    let x = s.pre.0 in
+    let l = w.loop-from in
+    let n = ro.run_over-n in
+    let x = s.requires.0 in
     record {
-      few = omega (arith, l.inv.0.1.0, n.ensures.0.few, t.loop-test.taken);
-      writes = lacking l.r l.from l.written n.result l.inv.0.1.1 (omega (arith, t.loop-test.taken)) n.ensures.0 n.ensures.1
-          c.before.if1.true;
+      few = omega (arith, l.inv.0.1.0, n.ensures.0.few, t.loop-from-test.true);
+      writes = lacking l.r l.from l.written n.result l.inv.0.1.1 (omega (arith, t.loop-from-test.true)) n.ensures.0 n.ensures.1
+          c.before.if-n-cap.true;
       found = λ e. absurd (never e);
       none = λ e. sought-none s.args.p s.args.capacity s.args.cap x.0.long x.1.0 x.1.1.1.1 l.r l.from l.inv.1 n.result
-          n.ensures.0 c.before.if1.true;
+          n.ensures.0 c.before.if-n-cap.true;
     }
 
 -- from where the loop goes on, back to its run, which has fixed one part more
-abbrev ran : tie.After-ranges2 invariant-loop decreases-loop → tie.After-run-over invariant-loop decreases-loop
-ran c = c.before.before.before.before.before.before
+abbrev ran : tie.After-ranges-1 invariant-loop decreases-loop → tie.After-run_over-n invariant-loop decreases-loop
+ran c = c.before.before
 
-more : (c : tie.After-ranges2 invariant-loop decreases-loop) → let ro = ran c in (turn ro).before.loop.from < ro.run-over.result.to
+more : (c : tie.After-ranges-1 invariant-loop decreases-loop) → let ro = ran c in (turn ro).before.loop-from.from < ro.run_over-n.result.to
 more c =
     let ro = ran c in
     let t = turn ro in
     let w = t.before in
     let s = start w in
-    let l = w.loop in
-    let n = ro.run-over in
-    let x = s.pre.0 in
+    let l = w.loop-from in
+    let n = ro.run_over-n in
+    let x = s.requires.0 in
     sought-more s.args.p s.args.capacity s.args.cap x.0.long x.1.0 x.1.1.1.1 l.r l.from l.from l.inv.1.heads
-    n.result n.ensures.0 c.before.if1.false (omega (arith, t.loop-test.taken)) x.1.1.1.0
+    n.result n.ensures.0 c.before.if-n-cap.false (omega (arith, t.loop-from-test.true)) x.1.1.1.0
 
-loop-less : tie.Need-loop-smaller invariant-loop decreases-loop
-loop-less c = omega (arith, (turn (ran c)).loop-test.taken, more c)
+loop-less : tie.Need-loop-from-smaller invariant-loop decreases-loop
+loop-less c = omega (arith, (turn (ran c)).loop-from-test.true, more c)
 
-loop-again : tie.Need-loop-preserved invariant-loop decreases-loop
+loop-again : tie.Need-loop-from-preserved invariant-loop decreases-loop
 loop-again c =
     let h = c.before.before.before in
     let ro = h.before.before.before in
     let t = turn ro in
     let w = t.before in
     let s = start w in
-    let l = w.loop in
-    let n = ro.run-over in
-    let x = s.pre.0 in (
+    let l = w.loop-from in
+    let n = ro.run_over-n in
+    let x = s.requires.0 in (
       (
         search rules,
         (
           omega (arith, l.inv.0.1.0, n.ensures.0.few, more c),
-          onward l.r l.from l.written n.result l.inv.0.1.1 (omega (arith, t.loop-test.taken)) n.ensures.0 n.ensures.1
-              c.before.if1.false,
+          onward l.r l.from l.written n.result l.inv.0.1.1 (omega (arith, t.loop-from-test.true)) n.ensures.0 n.ensures.1
+              c.before.if-n-cap.false,
         ),
       ),
       sought-step s.args.p s.args.capacity s.args.cap x.0.long x.1.0 x.1.1.1.1 l.r l.from l.from l.inv.1.heads n.result
-          n.ensures.0 c.before.if1.false (omega (arith, more c)) (omega (arith, more c)),
+          n.ensures.0 c.before.if-n-cap.false (omega (arith, more c)) (omega (arith, more c)),
     )
 
-same-length-2 : tie.Need-same-length-2 invariant-loop decreases-loop
+same-length-2 : tie.Need-shape_of-cells invariant-loop decreases-loop
 same-length-2 c = search rules
 
-returns-2 : tie.Need-returns-2 invariant-loop decreases-loop
+returns-2 : tie.Need-returns invariant-loop decreases-loop
 returns-2 c =
     let w = c.before.before in
     let s = start w in
-    let l = w.loop in
-    let x = s.pre.0 in
+    let l = w.loop-from in
+    let x = s.requires.0 in
     record {
       few = omega (arith, l.invariant.0.1.0, l.invariant.1.heads.inside);
-      writes = found l.r l.from l.written l.invariant.0.1.1 (omega (arith, c.before.loop-test.false));
+      writes = found l.r l.from l.written l.invariant.0.1.1 (omega (arith, c.before.loop-from-test.false));
       found = λ e. sought-done s.args.p s.args.capacity s.args.cap x.0.long x.1.0 x.1.1.1.1 l.r l.from
-          (omega (arith, c.before.loop-test.false)) l.invariant.1;
+          (omega (arith, c.before.loop-from-test.false)) l.invariant.1;
       none = λ e. absurd (never (sym e));
     }
 
-pub onward-spec : {M : Type 1} → statement M
-onward-spec =
+pub onward_spec : {M : Type 1} → statement M
+onward_spec =
     tie.close
     (tie.spec
     invariant-loop

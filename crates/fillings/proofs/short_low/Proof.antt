@@ -4,17 +4,17 @@ use native.Mathlib.Omega.{arith}
 use Rattle.fillings.proofs.short_low.Statement.{statement}
 use Rattle.fillings.proofs.short_low.Tie as tie
 
-sub-result : tie.Need-overflow-sub-result
+sub-result : tie.Need-overflow_sub-result
 sub-result c = search rules
 
-add-result : tie.Need-overflow-add-result
+add-result : tie.Need-overflow_add-result
 add-result c = search rules
 
-returns : tie.Need-returns
-returns c = rw c.if1.true (omega arith)
+returns : tie.Need-returns-then-falls
+returns c = rw c.if-falls.true (omega arith)
 
-returns-2 : tie.Need-returns-2
-returns-2 c = rw c.if1.false (omega arith)
+returns-2 : tie.Need-returns-else-falls
+returns-2 c = rw c.if-falls.false (omega arith)
 
-pub short-low-spec : {M : Type 1} → statement M
-short-low-spec = tie.close (tie.spec sub-result add-result returns returns-2)
+pub short_low_spec : {M : Type 1} → statement M
+short_low_spec = tie.close (tie.spec sub-result add-result returns returns-2)

@@ -7,5 +7,5 @@ use Rattle.fillings.proofs.whole_of.Tie as tie
 returns : tie.Need-returns
 returns c = record { none = num-zeros 17; all = refl }
 
-pub whole-of-spec : {M : Type 1} → statement M
-whole-of-spec = tie.close (tie.spec returns)
+pub whole_of_spec : {M : Type 1} → statement M
+whole_of_spec = tie.close (tie.spec returns)

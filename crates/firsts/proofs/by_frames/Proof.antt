@@ -13,61 +13,61 @@ use Rattle.firsts.proofs.Leading.{led-first, led-done, led-short}
 use Rattle.firsts.proofs.by_frames.Statement.{statement}
 use Rattle.firsts.proofs.by_frames.Tie as tie
 
-abbrev invariant-loop : tie.invariant-loop
+abbrev invariant-loop : tie.invariant-loop-t
 invariant-loop s cells₀ c l whole n b₀ t₀ cells b t = (t ≤ n) × ((length cells ≡ length cells₀) × (Led s c l t b × LeadWrites c s.ends whole l t b.written))
 
-abbrev decreases-loop : tie.decreases-loop
+abbrev decreases-loop : tie.decreases-loop-t
 decreases-loop s cells₀ c l whole n b₀ t₀ cells b t = n - t
 
 long : (s : tie.Start invariant-loop decreases-loop) → Long s.args.s.ends
 long s = record { lo-long = search rules; hi-long = search rules }
 
-tied-requires : tie.Need-tied-requires invariant-loop decreases-loop
-tied-requires c κs = c.before.requires.0.0.sized.columns
+tied-requires : tie.Need-tied-c-requires invariant-loop decreases-loop
+tied-requires c κs = c.before.before.requires.0.0.sized.columns
 
 -- the columns in the order of filling
-tying : (c : tie.After-tied invariant-loop decreases-loop) → Tying c.before.before.args.s c.tied.result
-tying c = let s = c.before.before in record { ready = s.requires.0.0; long = long s; spanned = s.requires.0.1.0; tied = c.tied.ensures }
+tying : (c : tie.After-tied-c invariant-loop decreases-loop) → Tying c.before.before.before.args.s c.tied-c.result
+tying c = let s = c.before.before in record { ready = s.before.requires.0.0; long = long s; spanned = s.before.requires.0.1.0; tied = c.tied-c.ensures }
 
-filling-at-requires : tie.Need-filling-at-requires invariant-loop decreases-loop
-filling-at-requires c κs = (tying c, c.before.before.requires.0.1.1.inside)
+filling-at-requires : tie.Need-filling_at-z-requires invariant-loop decreases-loop
+filling-at-requires c κs = (tying c, c.before.before.before.requires.0.1.1.inside)
 
-loss-of-requires : tie.Need-loss-of-requires invariant-loop decreases-loop
+loss-of-requires : tie.Need-loss_of-l-requires invariant-loop decreases-loop
 loss-of-requires c κs =
     let t = c.before in
     let s = t.before.before in (
       tying t,
-      subst (λ v. IsWorth s.args.s t.tied.result v) (sym c.filling-at.ensures.value-is)
-          (worth-made s.args.s t.tied.result (tying t) (at s.args.x) s.requires.0.1.1),
+      subst (λ v. IsWorth s.before.before.args.s t.before.tied-c.result v) (sym c.before.filling_at-z.ensures.value-is)
+          (worth-made s.before.before.args.s t.before.tied-c.result (tying t) (at s.before.before.args.x) s.before.before.requires.0.1.1),
     )
 
-wholes-requires : tie.Need-wholes-requires invariant-loop decreases-loop
+wholes-requires : tie.Need-wholes-whole-requires invariant-loop decreases-loop
 wholes-requires c κs =
     let t = c.before.before.before in
-    let r = t.before.before.requires.0.0 in (r.few, λ d l. omega (arith, r.level_in d l, r.sized.columns.few))
+    let r = t.before.before.before.before.requires.0.0 in (r.few, λ d l. omega (arith, r.level_in d l, r.sized.columns.few))
 
 -- the loss is that of the filling at the place
-loss-is : (o : tie.After-loss-of invariant-loop decreases-loop) → let t = o.before.before in let a = t.before.before.args in
-    LossOf (bound t.tied.result (fill t.tied.result (ends_at a.s (at a.x)))) o.loss-of.result
-loss-is o = subst (λ v. LossOf v o.loss-of.result) o.before.filling-at.ensures.value-is o.loss-of.ensures.1
+loss-is : (o : tie.After-loss_of-l invariant-loop decreases-loop) → let t = o.before.before in let a = t.before.before.before.before.args in
+    LossOf (bound t.before.tied-c.result (fill t.before.tied-c.result (ends_at a.s (at a.x)))) o.loss_of-l.result
+loss-is o = subst (λ v. LossOf v o.loss_of-l.result) o.before.before.filling_at-z.ensures.value-is o.loss_of-l.ensures.1
 
 -- from the first lead, back to the whole items, the loss, the order of filling and the start
-abbrev wholed : tie.After-lead-of invariant-loop decreases-loop → tie.After-wholes invariant-loop decreases-loop
+abbrev wholed : tie.After-lead_of-b invariant-loop decreases-loop → tie.After-wholes-whole invariant-loop decreases-loop
 wholed k = k.before.before
 
-abbrev lossed : tie.After-lead-of invariant-loop decreases-loop → tie.After-loss-of invariant-loop decreases-loop
+abbrev lossed : tie.After-lead_of-b invariant-loop decreases-loop → tie.After-loss_of-l invariant-loop decreases-loop
 lossed k = (wholed k).before.before
 
-abbrev ordered : tie.After-lead-of invariant-loop decreases-loop → tie.After-tied invariant-loop decreases-loop
+abbrev ordered : tie.After-lead_of-b invariant-loop decreases-loop → tie.After-tied-c invariant-loop decreases-loop
 ordered k = (lossed k).before.before
 
-abbrev start : tie.After-lead-of invariant-loop decreases-loop → tie.Start invariant-loop decreases-loop
+abbrev start : tie.After-lead_of-b invariant-loop decreases-loop → tie.Start invariant-loop decreases-loop
 start k = (ordered k).before.before
 
-lead-of-requires : tie.Need-lead-of-requires invariant-loop decreases-loop
+lead-of-requires : tie.Need-lead_of-b-requires invariant-loop decreases-loop
 lead-of-requires c κs = tt
 
-loop-holds : tie.Need-loop-init invariant-loop decreases-loop
+loop-holds : tie.Need-loop-t-init invariant-loop decreases-loop
 loop-holds c =
     let o = lossed c in
     let f = o.before in
@@ -77,55 +77,55 @@ loop-holds c =
       omega arith,
       (
         refl,
-        rw c.lead-of.ensures (
-          led-first a.s t.tied.result (tying t) (at a.x) s.pre.0.1.1 o.loss-of.result (loss-is o)
-              (record { point = f.filling-at.result.point; written = 0 }) f.filling-at.ensures.shows refl,
+        rw c.lead_of-b.ensures (
+          led-first a.s t.tied-c.result (tying t) (at a.x) s.requires.0.1.1 o.loss_of-l.result (loss-is o)
+              (record { point = f.before.filling_at-z.result.point; written = 0 }) f.before.filling_at-z.ensures.shows refl,
           begun,
         ),
       ),
     )
 
 -- a turn of the loop, from where it has considered its frame
-abbrev turn : tie.After-considered invariant-loop decreases-loop → tie.In-loop invariant-loop decreases-loop
+abbrev turn : tie.After-considered-b invariant-loop decreases-loop → tie.In-loop-t invariant-loop decreases-loop
 turn r = r.before.before
 
-considered-requires : tie.Need-considered-requires invariant-loop decreases-loop
+considered-requires : tie.Need-considered-b-requires invariant-loop decreases-loop
 considered-requires c κs =
     let l = c.before.before in
     let k = l.before in (
-      (tying (ordered k), ((lossed k).loss-of.ensures.0, ((wholed k).wholes.ensures, l.loop.invariant.1.1.0))),
-      (c.before.loop-test.true, omega (arith, l.loop.invariant.1.0, (start k).requires.1)),
+      (tying (ordered k), ((lossed k).loss_of-l.ensures.0, ((wholed k).wholes-whole.ensures, l.loop-t.invariant.1.1.0))),
+      (c.before.loop-t-test.true, omega (arith, l.loop-t.invariant.1.0, (start k).requires.1)),
     )
 
-add-t : tie.Need-overflow-add-t invariant-loop decreases-loop
+add-t : tie.Need-overflow_add-t invariant-loop decreases-loop
 add-t c =
     let l = turn c.before.before in
-    record { fits = omega (arith, l.loop-test.taken, (ordered l.before.before).tied.ensures.sized.live-few) }
+    record { fits = omega (arith, l.loop-t-test.true, (ordered l.before.before).tied-c.ensures.sized.live-few) }
 
-loop-less : tie.Need-loop-smaller invariant-loop decreases-loop
-loop-less c = omega (arith, (turn c.before.before).loop-test.taken)
+loop-less : tie.Need-loop-t-smaller invariant-loop decreases-loop
+loop-less c = omega (arith, (turn c.before.before).loop-t-test.true)
 
-loop-again : tie.Need-loop-preserved invariant-loop decreases-loop
+loop-again : tie.Need-loop-t-preserved invariant-loop decreases-loop
 loop-again c =
-    let r = c.before.before.considered.ensures in
+    let r = c.before.before.considered-b.ensures in
     let l = turn c.before.before in
-    (omega (arith, l.loop-test.taken), (search rules, (r.0, onward _ _ _ l.before.loop.inv.1.1.1 r.1)))
+    (omega (arith, l.loop-t-test.true), (search rules, (r.0, onward _ _ _ l.before.loop-t.invariant.1.1.1 r.1)))
 
 -- at the end of the loop
-all-frames : (e : tie.After-loop invariant-loop decreases-loop) → e.before.loop.t ≡ (ordered e.before.before).tied.result.live
-all-frames e = omega (arith, e.loop-test.false, e.before.loop.invariant.0)
+all-frames : (e : tie.After-loop-t invariant-loop decreases-loop) → e.before.loop-t.t ≡ (ordered e.before.before).tied-c.result.live
+all-frames e = omega (arith, e.loop-t-test.false, e.before.loop-t.invariant.0)
 
 -- the lead there
-led : (e : tie.After-loop invariant-loop decreases-loop) → let k = e.before.before in let c = (ordered k).tied.result in
-    Led (start k).args.s c (lossed k).loss-of.result c.live e.before.loop.b
+led : (e : tie.After-loop-t invariant-loop decreases-loop) → let k = e.before.before in let c = (ordered k).tied-c.result in
+    Led (start k).args.s c (lossed k).loss_of-l.result c.live e.before.loop-t.b
 led e =
     let k = e.before.before in
-    subst (λ u. Led (start k).args.s (ordered k).tied.result (lossed k).loss-of.result u e.before.loop.b) (all-frames e)
-    e.before.loop.invariant.1.1.0
+    subst (λ u. Led (start k).args.s (ordered k).tied-c.result (lossed k).loss_of-l.result u e.before.loop-t.b) (all-frames e)
+    e.before.loop-t.invariant.1.1.0
 
 -- what is written, by what is written for the last frame
-told : (e : tie.After-loop invariant-loop decreases-loop) (n : ℕ) → let k = e.before.before in let a = (start k).args in
-    LastWrites (ordered k).tied.result a.s.ends (wholed k).wholes.result (lossed k).loss-of.result e.before.loop.b.written n
+told : (e : tie.After-loop-t invariant-loop decreases-loop) (n : ℕ) → let k = e.before.before in let a = (start k).args in
+    LastWrites (ordered k).tied-c.result a.s.ends (wholed k).wholes-whole.result (lossed k).loss_of-l.result e.before.loop-t.b.written n
     → FramesWrite a.s (at a.x) n
 told e n h =
     let k = e.before.before in
@@ -133,34 +133,34 @@ told e n h =
     let t = ordered k in
     let s = (start k).args.s in
     record {
-      cols = t.tied.result;
-      tied = t.tied.ensures;
-      loss = o.loss-of.result;
-      losing = o.loss-of.ensures.0;
+      cols = t.tied-c.result;
+      tied = t.tied-c.ensures;
+      loss = o.loss_of-l.result;
+      losing = o.loss_of-l.ensures.0;
       loss-is = loss-is o;
-      whole = (wholed k).wholes.result;
-      levelled = (wholed k).wholes.ensures;
-      sofar = e.before.loop.b.written;
-      frames = subst (λ u. LeadWrites t.tied.result s.ends (wholed k).wholes.result o.loss-of.result u e.before.loop.b.written)
-          (all-frames e) e.before.loop.invariant.1.1.1;
+      whole = (wholed k).wholes-whole.result;
+      levelled = (wholed k).wholes-whole.ensures;
+      sofar = e.before.loop-t.b.written;
+      frames = subst (λ u. LeadWrites t.tied-c.result s.ends (wholed k).wholes-whole.result o.loss_of-l.result u e.before.loop-t.b.written)
+          (all-frames e) e.before.loop-t.invariant.1.1.1;
       last = h;
     }
 
-cuts-some-requires : tie.Need-cuts-some-requires invariant-loop decreases-loop
+cuts-some-requires : tie.Need-cuts_some-requires invariant-loop decreases-loop
 cuts-some-requires c κs = tying (ordered c.before.before)
 
-same_length : tie.Need-same-length invariant-loop decreases-loop
+same_length : tie.Need-shape_of-cells-then-cuts_some invariant-loop decreases-loop
 same_length c = search rules
 
-returns : tie.Need-returns invariant-loop decreases-loop
+returns : tie.Need-returns-then-cuts_some invariant-loop decreases-loop
 returns c =
     let e = c.before.before in
     let k = e.before.before in
     let t = ordered k in
-    let some = c.before.cuts-some.ensures.some c.if1.true in (
-      led-short (start k).args.s t.tied.result (tying t) (lossed k).loss-of.result e.before.loop.b t.tied.result.live (led e)
-          (wholed k).wholes.result (wholed k).wholes.ensures refl some,
-      told e e.before.loop.b.written (inl (some, refl)),
+    let some = c.before.cuts_some.ensures.some c.if-cuts_some.true in (
+      led-short (start k).args.s t.tied-c.result (tying t) (lossed k).loss_of-l.result e.before.loop-t.b t.tied-c.result.live (led e)
+          (wholed k).wholes-whole.result (wholed k).wholes-whole.ensures refl some,
+      told e e.before.loop-t.b.written (inl (some, refl)),
     )
 
 tried-requires : tie.Need-tried-requires invariant-loop decreases-loop
@@ -168,31 +168,31 @@ tried-requires c κs =
     let e = c.before.before.before in
     let l = e.before in
     let k = l.before in (
-      (tying (ordered k), ((lossed k).loss-of.ensures.0, ((wholed k).wholes.ensures, led e))),
-      (omega arith, ((λ h. absurd (omega arith)), omega (arith, l.loop.invariant.1.0, (start k).requires.1))),
+      (tying (ordered k), ((lossed k).loss_of-l.ensures.0, ((wholed k).wholes-whole.ensures, led e))),
+      (omega arith, ((λ h. absurd (omega arith)), omega (arith, l.loop-t.invariant.1.0, (start k).requires.1))),
     )
 
-same-length-2 : tie.Need-same-length-2 invariant-loop decreases-loop
+same-length-2 : tie.Need-shape_of-cells invariant-loop decreases-loop
 same-length-2 c = search rules
 
 -- from the last frame, back to the test before it
-abbrev test : tie.After-tried invariant-loop decreases-loop → tie.Else1 invariant-loop decreases-loop
+abbrev test : tie.After-tried invariant-loop decreases-loop → tie.Else-cuts_some invariant-loop decreases-loop
 test r = r.before.before
 
-returns-2 : tie.Need-returns-2 invariant-loop decreases-loop
+returns-2 : tie.Need-returns invariant-loop decreases-loop
 returns-2 c =
     let r = c.before.before in
     let d = test r in
     let e = d.before.before in
     let k = e.before.before in
     let t = ordered k in (
-      led-done (start k).args.s t.tied.result (tying t) (lossed k).loss-of.result r.tried.result (t.tied.result.live + 1)
+      led-done (start k).args.s t.tied-c.result (tying t) (lossed k).loss_of-l.result r.tried.result (t.tied-c.result.live + 1)
           r.tried.ensures.0 refl,
-      told e r.tried.result.written (inr (d.before.cuts-some.ensures.none d.if1.left, r.tried.ensures.1)),
+      told e r.tried.result.written (inr (d.before.cuts_some.ensures.none d.if-cuts_some.false, r.tried.ensures.1)),
     )
 
-pub by-frames-spec : {M : Type 1} → statement M
-by-frames-spec =
+pub by_frames_spec : {M : Type 1} → statement M
+by_frames_spec =
     tie.close
     (tie.spec
     invariant-loop

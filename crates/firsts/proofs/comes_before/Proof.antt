@@ -15,130 +15,130 @@ use Rattle.firsts.proofs.Order.{Alike, alike-first, alike-step, alike-back, earl
 use Rattle.firsts.proofs.comes_before.Statement.{statement}
 use Rattle.firsts.proofs.comes_before.Tie as tie
 
-abbrev invariant-loop : tie.invariant-loop
+abbrev invariant-loop : tie.invariant-loop-k
 invariant-loop n x y k₀ k = (k ≤ n) × Alike x y k
 
-abbrev decreases-loop : tie.decreases-loop
+abbrev decreases-loop : tie.decreases-loop-k
 decreases-loop n x y k₀ k = n - k
 
 -- the start, and the item
-abbrev entry : tie.In-loop invariant-loop decreases-loop → tie.Start invariant-loop decreases-loop
+abbrev entry : tie.In-loop-k invariant-loop decreases-loop → tie.Start invariant-loop decreases-loop
 entry c = c.before.before
 
-abbrev item : tie.In-loop invariant-loop decreases-loop → ℕ
-item c = c.before.loop.k
+abbrev item : tie.In-loop-k invariant-loop decreases-loop → ℕ
+item c = c.before.loop-k.k
 
-item_in : (c : tie.In-loop invariant-loop decreases-loop) → item c < 16
-item_in c = omega (arith, c.loop-test.true, (entry c).requires.0)
+item_in : (c : tie.In-loop-k invariant-loop decreases-loop) → item c < 16
+item_in c = omega (arith, c.loop-k-test.true, (entry c).requires.0)
 
 -- its amounts
-mine : (c : tie.In-loop invariant-loop decreases-loop) → get_or (entry c).args.t1 (item c) (record { p = pos 0; q = 0 }) ≡ amount_in (entry c).args.t1 (item c)
+mine : (c : tie.In-loop-k invariant-loop decreases-loop) → get_or (entry c).args.t1 (item c) (record { p = pos 0; q = 0 }) ≡ amount_in (entry c).args.t1 (item c)
 mine c = let h : length (entry c).args.t1 ≡ 16 = search rules in default_free (entry c).args.t1 (item c) _ _ (omega (arith, h, item_in c))
 
-yours : (c : tie.In-loop invariant-loop decreases-loop) → get_or (entry c).args.t2 (item c) (record { p = pos 0; q = 0 }) ≡ amount_in (entry c).args.t2 (item c)
+yours : (c : tie.In-loop-k invariant-loop decreases-loop) → get_or (entry c).args.t2 (item c) (record { p = pos 0; q = 0 }) ≡ amount_in (entry c).args.t2 (item c)
 yours c = let h : length (entry c).args.t2 ≡ 16 = search rules in default_free (entry c).args.t2 (item c) _ _ (omega (arith, h, item_in c))
 
-small-mine : (c : tie.In-loop invariant-loop decreases-loop) → SmallFraction (amount_in (entry c).args.t1 (item c))
-small-mine c = (entry c).requires.1.0 (item c) c.loop-test.true
+small-mine : (c : tie.In-loop-k invariant-loop decreases-loop) → SmallFraction (amount_in (entry c).args.t1 (item c))
+small-mine c = (entry c).requires.1.0 (item c) c.loop-k-test.true
 
-small-yours : (c : tie.In-loop invariant-loop decreases-loop) → SmallFraction (amount_in (entry c).args.t2 (item c))
-small-yours c = (entry c).requires.1.1 (item c) c.loop-test.true
+small-yours : (c : tie.In-loop-k invariant-loop decreases-loop) → SmallFraction (amount_in (entry c).args.t2 (item c))
+small-yours c = (entry c).requires.1.1 (item c) c.loop-k-test.true
 
-loop-holds : tie.Need-loop-init invariant-loop decreases-loop
+loop-holds : tie.Need-loop-k-init invariant-loop decreases-loop
 loop-holds c = (omega arith, alike-first c.args.t1 c.args.t2)
 
-mul-a : tie.Need-overflow-mul-a invariant-loop decreases-loop
+mul-a : tie.Need-offset_bounds-x-k invariant-loop decreases-loop
 mul-a c = record { fits = omega (arith, item_in c) }
 
-array-copy-out-a : tie.Need-array-copy-out-a invariant-loop decreases-loop
+array-copy-out-a : tie.Need-bounds-x-k invariant-loop decreases-loop
 array-copy-out-a c = item_in c
 
-mul-b : tie.Need-overflow-mul-b invariant-loop decreases-loop
+mul-b : tie.Need-offset_bounds-y-k invariant-loop decreases-loop
 mul-b c = record { fits = omega (arith, item_in c.before) }
 
-array-copy-out-b : tie.Need-array-copy-out-b invariant-loop decreases-loop
+array-copy-out-b : tie.Need-bounds-y-k invariant-loop decreases-loop
 array-copy-out-b c = item_in c.before
 
-crossed-requires : tie.Need-crossed-requires invariant-loop decreases-loop
+crossed-requires : tie.Need-crossed-v-requires invariant-loop decreases-loop
 crossed-requires c κs = let l = c.before.before in rw (mine l, yours l) (small-mine l, small-yours l)
 
-crossed-requires-2 : tie.Need-crossed-requires-2 invariant-loop decreases-loop
+crossed-requires-2 : tie.Need-crossed-w-requires invariant-loop decreases-loop
 crossed-requires-2 c κs = let l = c.before.before.before in rw (mine l, yours l) (small-yours l, small-mine l)
 
 -- the products
-abbrev start : tie.After-crossed2 invariant-loop decreases-loop → tie.In-loop invariant-loop decreases-loop
+abbrev start : tie.After-crossed-w invariant-loop decreases-loop → tie.In-loop-k invariant-loop decreases-loop
 start c = c.before.before.before.before
 
-v-is : (c : tie.After-crossed2 invariant-loop decreases-loop) → let l = start c in
-    c.before.crossed.result ≡ (amount_in (entry l).args.t1 (item l)).p *ℤ pos (amount_in (entry l).args.t2 (item l)).q
-v-is c = c.before.crossed.ensures ∙ ap₂ (λ (x y : Fraction). x.p *ℤ pos y.q) (mine (start c)) (yours (start c))
+v-is : (c : tie.After-crossed-w invariant-loop decreases-loop) → let l = start c in
+    c.before.crossed-v.result ≡ (amount_in (entry l).args.t1 (item l)).p *ℤ pos (amount_in (entry l).args.t2 (item l)).q
+v-is c = c.before.crossed-v.ensures ∙ ap₂ (λ (x y : Fraction). x.p *ℤ pos y.q) (mine (start c)) (yours (start c))
 
-w-is : (c : tie.After-crossed2 invariant-loop decreases-loop) → let l = start c in
-    c.crossed2.result ≡ (amount_in (entry l).args.t2 (item l)).p *ℤ pos (amount_in (entry l).args.t1 (item l)).q
-w-is c = c.crossed2.ensures ∙ ap₂ (λ (x y : Fraction). x.p *ℤ pos y.q) (yours (start c)) (mine (start c))
+w-is : (c : tie.After-crossed-w invariant-loop decreases-loop) → let l = start c in
+    c.crossed-w.result ≡ (amount_in (entry l).args.t2 (item l)).p *ℤ pos (amount_in (entry l).args.t1 (item l)).q
+w-is c = c.crossed-w.ensures ∙ ap₂ (λ (x y : Fraction). x.p *ℤ pos y.q) (yours (start c)) (mine (start c))
 
-returns : tie.Need-returns invariant-loop decreases-loop
+returns : tie.Need-returns-then-v-w invariant-loop decreases-loop
 returns c =
     let m = c.before in
     let l = start m in
     record {
-      before = λ e. earlier-made (entry l).args.t1 (entry l).args.t2 (item l) (small-mine l) (small-yours l) (entry l).args.n l.loop-test.taken
-          l.before.loop.inv.1
+      before = λ e. earlier-made (entry l).args.t1 (entry l).args.t2 (item l) (small-mine l) (small-yours l) (entry l).args.n l.loop-k-test.true
+          l.before.loop-k.invariant.1
           (subst₂ ◌<ℤ◌ (v-is m) (w-is m) (yes_lt (rw (
-            back m.before.crossed.result m.before.crossed.type-inv,
-            back m.crossed2.result m.crossed2.type-inv,
-          ) at c.if1.true)));
+            back m.before.crossed-v.result m.before.crossed-v.type_inv,
+            back m.crossed-w.result m.crossed-w.type_inv,
+          ) at c.if-v-w.true)));
       after = λ e. absurd (impossible (sym e));
     }
 
-returns-2 : tie.Need-returns-2 invariant-loop decreases-loop
+returns-2 : tie.Need-returns-then-w-v invariant-loop decreases-loop
 returns-2 c =
     let m = c.before.before in
     let l = start m in
     record {
       before = λ e. absurd (impossible e);
-      after = λ e. inr (earlier-made (entry l).args.t2 (entry l).args.t1 (item l) (small-yours l) (small-mine l) (entry l).args.n l.loop-test.taken
-          (alike-back (entry l).args.t1 (entry l).args.t2 (item l) l.before.loop.inv.1)
+      after = λ e. inr (earlier-made (entry l).args.t2 (entry l).args.t1 (item l) (small-yours l) (small-mine l) (entry l).args.n l.loop-k-test.true
+          (alike-back (entry l).args.t1 (entry l).args.t2 (item l) l.before.loop-k.invariant.1)
           (subst₂ ◌<ℤ◌ (w-is m) (v-is m) (yes_lt (rw (
-            back m.before.crossed.result m.before.crossed.type-inv,
-            back m.crossed2.result m.crossed2.type-inv,
-          ) at c.if2.true))));
+            back m.before.crossed-v.result m.before.crossed-v.type_inv,
+            back m.crossed-w.result m.crossed-w.type_inv,
+          ) at c.if-w-v.true))));
     }
 
-add-k : tie.Need-overflow-add-k invariant-loop decreases-loop
+add-k : tie.Need-overflow_add-k invariant-loop decreases-loop
 add-k c = record { fits = omega (arith, item_in (start c.before.before)) }
 
-loop-less : tie.Need-loop-smaller invariant-loop decreases-loop
-loop-less c = omega (arith, (start c.before.before).loop-test.taken)
+loop-less : tie.Need-loop-k-smaller invariant-loop decreases-loop
+loop-less c = omega (arith, (start c.before.before).loop-k-test.true)
 
-loop-again : tie.Need-loop-preserved invariant-loop decreases-loop
+loop-again : tie.Need-loop-k-preserved invariant-loop decreases-loop
 loop-again c =
     let m = c.before.before in
     let l = start m in (
-      omega (arith, l.loop-test.taken),
-      alike-step (entry l).args.t1 (entry l).args.t2 (item l) (small-mine l) (small-yours l) l.before.loop.inv.1
+      omega (arith, l.loop-k-test.true),
+      alike-step (entry l).args.t1 (entry l).args.t2 (item l) (small-mine l) (small-yours l) l.before.loop-k.invariant.1
           (subst₂ ◌≤ℤ◌ (w-is m) (v-is m) (no_lt (rw (
-            back m.before.crossed.result m.before.crossed.type-inv,
-            back m.crossed2.result m.crossed2.type-inv,
-          ) at c.before.if1.false)))
+            back m.before.crossed-v.result m.before.crossed-v.type_inv,
+            back m.crossed-w.result m.crossed-w.type_inv,
+          ) at c.before.if-v-w.false)))
           (subst₂ ◌≤ℤ◌ (v-is m) (w-is m) (no_lt (rw (
-            back m.before.crossed.result m.before.crossed.type-inv,
-            back m.crossed2.result m.crossed2.type-inv,
-          ) at c.if2.false))),
+            back m.before.crossed-v.result m.before.crossed-v.type_inv,
+            back m.crossed-w.result m.crossed-w.type_inv,
+          ) at c.if-w-v.false))),
     )
 
-returns-3 : tie.Need-returns-3 invariant-loop decreases-loop
+returns-3 : tie.Need-returns invariant-loop decreases-loop
 returns-3 c =
-    let l = c.before.loop in
+    let l = c.before.loop-k in
     let s = c.before.before in
-    let e : l.k ≡ s.args.n = omega (arith, c.loop-test.false, l.invariant.0) in
+    let e : l.k ≡ s.args.n = omega (arith, c.loop-k-test.false, l.invariant.0) in
     record {
       before = λ i. absurd (impossible i);
       after = λ i. inl (subst (λ n. Alike s.args.t2 s.args.t1 n) e (alike-back s.args.t1 s.args.t2 l.k l.invariant.1));
     }
 
-pub comes-before-spec : {M : Type 1} → statement M
-comes-before-spec =
+pub comes_before_spec : {M : Type 1} → statement M
+comes_before_spec =
     tie.close
     (tie.spec
     invariant-loop

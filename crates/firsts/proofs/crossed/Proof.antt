@@ -12,7 +12,7 @@ use Rattle.arith.proofs.Parts.{abs-within, within-mul, within-sfits, within-back
 use Rattle.firsts.proofs.crossed.Statement.{statement}
 use Rattle.firsts.proofs.crossed.Tie as tie
 
-cast-result : tie.Need-overflow-cast-result
+cast-result : tie.Need-overflow_cast-result
 cast-result c = search rules
 
 product_is : (s : tie.Start) → to_z w64 (of_z w64 s.args.x.p) *ℤ to_z w64 s.args.y.q ≡ s.args.x.p *ℤ pos s.args.y.q
@@ -21,11 +21,11 @@ product_is s = ap₂ (λ (x y : ℤ). x *ℤ y) (within-back tt s.requires.0.sma
 product : (s : tie.Start) → Within 20300000000000000 (s.args.x.p *ℤ pos s.args.y.q)
 product s = within-mul s.requires.0.small (abs-within (pos s.args.y.q) s.requires.1.few)
 
-mul-result : tie.Need-overflow-mul-result
+mul-result : tie.Need-overflow_mul-result
 mul-result c = rw (product_is c.before) (within-sfits (lit< tt) (product c.before))
 
 returns : tie.Need-returns
 returns c = rw (product_is c.before) (within-back tt (product c.before))
 
-pub crossed-spec : {M : Type 1} → statement M
-crossed-spec = tie.close (tie.spec cast-result mul-result returns)
+pub crossed_spec : {M : Type 1} → statement M
+crossed_spec = tie.close (tie.spec cast-result mul-result returns)

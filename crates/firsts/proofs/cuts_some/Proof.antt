@@ -10,17 +10,17 @@ use Rattle.firsts.proofs.Places.{tied-sized, tied-ranked, tied-order}
 use Rattle.firsts.proofs.cuts_some.Statement.{statement}
 use Rattle.firsts.proofs.cuts_some.Tie as tie
 
-abbrev invariant-loop : tie.invariant-loop
+abbrev invariant-loop : tie.invariant-loop-u
 invariant-loop c whole ends n u₀ u = (u ≤ n) × ((t : ℕ) → t < u → Usable c ends whole t → ⊥)
 
-abbrev decreases-loop : tie.decreases-loop
+abbrev decreases-loop : tie.decreases-loop-u
 decreases-loop c whole ends n u₀ u = n - u
 
 -- what was looked at, back to the turn of the loop; from there to the start
-abbrev turn : tie.After-is-usable invariant-loop decreases-loop → tie.In-loop invariant-loop decreases-loop
+abbrev turn : tie.After-is_usable invariant-loop decreases-loop → tie.In-loop-u invariant-loop decreases-loop
 turn u = u.before
 
-abbrev start : tie.In-loop invariant-loop decreases-loop → tie.Start invariant-loop decreases-loop
+abbrev start : tie.In-loop-u invariant-loop decreases-loop → tie.Start invariant-loop decreases-loop
 start t = t.before.before.before
 
 -- one frame more
@@ -31,47 +31,47 @@ next F t old new u i = go (ℕ_discrete u t)
     go (yes q) = subst F (sym q) new
     go (no q) = old u (omega arith)
 
-loop-holds : tie.Need-loop-init invariant-loop decreases-loop
+loop-holds : tie.Need-loop-u-init invariant-loop decreases-loop
 loop-holds c = (omega arith, λ u l. absurd (omega arith))
 
-is-usable-requires : tie.Need-is-usable-requires invariant-loop decreases-loop
+is-usable-requires : tie.Need-is_usable-requires invariant-loop decreases-loop
 is-usable-requires c κs =
     let s = c.before.before.before in
     let a = s.args in
     let y = s.requires in
-    (tied-sized a.s a.c y, (tied-ranked a.s a.c y, (tied-order a.s a.c y, c.loop-test.true)))
+    (tied-sized a.s a.c y, (tied-ranked a.s a.c y, (tied-order a.s a.c y, c.loop-u-test.true)))
 
-returns : tie.Need-returns invariant-loop decreases-loop
+returns : tie.Need-returns-then-is_usable invariant-loop decreases-loop
 returns c =
     let t = turn c.before in
     record {
-      some = λ e. record { frame = t.before.loop.u; below = t.loop-test.taken; usable = c.before.is-usable.ensures.1 c.if1.true };
+      some = λ e. record { frame = t.before.loop-u.u; below = t.loop-u-test.true; usable = c.before.is_usable.ensures.1 c.if-is_usable.true };
       none = λ e. absurd (impossible (sym e));
     }
 
-add-u : tie.Need-overflow-add-u invariant-loop decreases-loop
+add-u : tie.Need-overflow_add-u invariant-loop decreases-loop
 add-u c =
     let t = turn c.before in
-    record { fits = omega (arith, t.loop-test.taken, (start t).pre.tied.sized.live-few) }
+    record { fits = omega (arith, t.loop-u-test.true, (start t).requires.tied.sized.live-few) }
 
-loop-less : tie.Need-loop-smaller invariant-loop decreases-loop
+loop-less : tie.Need-loop-u-smaller invariant-loop decreases-loop
 loop-less c = omega arith
 
-loop-again : tie.Need-loop-preserved invariant-loop decreases-loop
+loop-again : tie.Need-loop-u-preserved invariant-loop decreases-loop
 loop-again c =
     let t = turn c.before in
-    let l = t.before.loop in
+    let l = t.before.loop-u in
     let a = (start t).args in
-    let no = c.before.is-usable.ensures.0 c.if1.false in
-    (omega (arith, t.loop-test.taken), next (λ u. Usable a.c a.s.ends a.whole u → ⊥) l.u l.inv.1 no)
+    let no = c.before.is_usable.ensures.0 c.if-is_usable.false in
+    (omega (arith, t.loop-u-test.true), next (λ u. Usable a.c a.s.ends a.whole u → ⊥) l.u l.inv.1 no)
 
-returns-2 : tie.Need-returns-2 invariant-loop decreases-loop
+returns-2 : tie.Need-returns invariant-loop decreases-loop
 returns-2 c =
-    let l = c.before.loop in
-    record { some = λ e. absurd (impossible e); none = λ e k. l.invariant.1 k.frame (omega (arith, k.below, c.loop-test.false)) k.usable }
+    let l = c.before.loop-u in
+    record { some = λ e. absurd (impossible e); none = λ e k. l.invariant.1 k.frame (omega (arith, k.below, c.loop-u-test.false)) k.usable }
 
-pub cuts-some-spec : {M : Type 1} → statement M
-cuts-some-spec =
+pub cuts_some_spec : {M : Type 1} → statement M
+cuts_some_spec =
     tie.close
     (tie.spec
     invariant-loop

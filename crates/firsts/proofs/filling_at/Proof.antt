@@ -15,37 +15,37 @@ sized s = place-sized s.args.s s.args.c s.requires.0 (at s.args.x) s.requires.1
 filled : (s : tie.Start) → SizedFill s.args.c (fill s.args.c (ends_at s.args.s (at s.args.x)))
 filled s = fill-sized s.args.c (ends_at s.args.s (at s.args.x)) (sized s)
 
-fixed-requires : tie.Need-fixed-requires
+fixed-requires : tie.Need-fixed-e-requires
 fixed-requires c κs = search rules
 
-fill-up-requires : tie.Need-fill-up-requires
-fill-up-requires c κs = rw c.fixed.ensures (sized c.before)
+fill-up-requires : tie.Need-fill_up-f-requires
+fill-up-requires c κs = rw c.fixed-e.ensures (sized c.before)
 
 -- the filling as the code has it
-fill_is : (c : tie.After-fill-up) → let s = c.before.before in c.fill-up.result ≡ fill s.args.c (ends_at s.args.s (at s.args.x))
-fill_is c = c.fill-up.ensures ∙ ap (fill c.before.before.args.c) c.before.fixed.ensures
+fill_is : (c : tie.After-fill_up-f) → let s = c.before.before in c.fill_up-f.result ≡ fill s.args.c (ends_at s.args.s (at s.args.x))
+fill_is c = c.fill_up-f.ensures ∙ ap (fill c.before.before.args.c) c.before.fixed-e.ensures
 
-bound-of-requires : tie.Need-bound-of-requires
+bound-of-requires : tie.Need-bound_of-v-requires
 bound-of-requires c κs = rw (fill_is c) (filled c.before.before)
 
-value-is : (c : tie.After-bound-of) → let s = c.before.before.before in
-    c.bound_of.result ≡ bound s.args.c (fill s.args.c (ends_at s.args.s (at s.args.x)))
-value-is c = c.bound_of.ensures ∙ ap (bound c.before.before.before.args.c) (fill_is c.before)
+value-is : (c : tie.After-bound_of-v) → let s = c.before.before.before in
+    c.bound_of-v.result ≡ bound s.args.c (fill s.args.c (ends_at s.args.s (at s.args.x)))
+value-is c = c.bound_of-v.ensures ∙ ap (bound c.before.before.before.args.c) (fill_is c.before)
 
-amounts-of-requires : tie.Need-amounts-of-requires
+amounts-of-requires : tie.Need-amounts_of-y-requires
 amounts-of-requires c κs =
     let s = c.before.before.before in
-    rw (c.before.before.fixed.ensures, fill_is c.before) (s.requires.0.ready, (sized s, filled s))
+    rw (c.before.before.fixed-e.ensures, fill_is c.before) (s.requires.0.ready, (sized s, filled s))
 
 returns : tie.Need-returns
 returns c =
     let a = c.before in
     let m = a.before in
     record {
-      shows = rw (m.before.before.fixed.ensures, fill_is m.before) at a.amounts-of.ensures;
+      shows = rw (m.before.before.fixed-e.ensures, fill_is m.before) at a.amounts_of-y.ensures;
       value-is = value-is m;
     }
 
-pub filling-at-spec : {M : Type 1} → statement M
-filling-at-spec =
+pub filling_at_spec : {M : Type 1} → statement M
+filling_at_spec =
     tie.close (tie.spec fixed-requires fill-up-requires bound-of-requires amounts-of-requires returns)

@@ -7,39 +7,39 @@ use Rattle.firsts.specs.Leading.{PointWrites, known, unknown}
 use Rattle.firsts.proofs.first_point.Statement.{statement}
 use Rattle.firsts.proofs.first_point.Tie as tie
 
-is-known-requires : tie.Need-is-known-requires
+is-known-requires : tie.Need-is_known-requires
 is-known-requires c κs = search rules
 
-by-place-requires : tie.Need-by-place-requires
+by-place-requires : tie.Need-by_place-requires
 by-place-requires c κs =
     let s = c.before.before.before in
     let p = s.requires.0 in
-    let k = c.before.is_Known.ensures.0 c.if1.true in
+    let k = c.before.is_known.ensures.0 c.if-is_known.true in
     (p, (k.1, s.requires.1.0 k.0))
 
-returns : tie.Need-returns
+returns : tie.Need-returns-then-is_known
 returns c =
     let t = c.before in
     let u = t.before in
     let a = u.before.before.args in (
       c.by_place.ensures.0,
-      subst (λ n. PointWrites a.s (at a.x) a.first n) (sym c.by_place.ensures.1) (known (u.is_Known.ensures.0 t.if1.true)),
+      subst (λ n. PointWrites a.s (at a.x) a.first n) (sym c.by_place.ensures.1) (known (u.is_known.ensures.0 t.if-is_known.true)),
     )
 
-by-frames-requires : tie.Need-by-frames-requires
+by-frames-requires : tie.Need-by_frames-requires
 by-frames-requires c κs = search rules
 
-same_length : tie.Need-same-length
+same_length : tie.Need-shape_of-cells
 same_length c = search rules
 
-returns-2 : tie.Need-returns-2
+returns-2 : tie.Need-returns
 returns-2 c =
     let f = c.before.before in
     let e = f.before.before in
-    (f.by_frames.ensures.0, unknown f.by_frames.result.written (e.before.is_Known.ensures.1 e.if1.false) f.by_frames.ensures.1)
+    (f.by_frames.ensures.0, unknown f.by_frames.result.written (e.before.is_known.ensures.1 e.if-is_known.false) f.by_frames.ensures.1)
 
-pub first-point-spec : {M : Type 1} → statement M
-first-point-spec =
+pub first_point_spec : {M : Type 1} → statement M
+first_point_spec =
     tie.close
     (tie.spec
     is-known-requires

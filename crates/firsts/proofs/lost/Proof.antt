@@ -22,52 +22,52 @@ fit s = fits-made s.args.top s.args.q s.args.v s.requires.0 s.requires.1.0 s.req
 q-is : (s : tie.Start) → to_z w64 s.args.q ≡ pos s.args.q
 q-is s = to_z_pos w64 (omega (arith, s.requires.0))
 
-w-is : (c : tie.After-struct-told) → to_z w64 (of_z w64 c.before.args.v.whole) ≡ c.before.args.v.whole
-w-is c = back c.before.args.v.whole c.struct_told.given.0.1
+w-is : (c : tie.After-struct_told-1) → to_z w64 (of_z w64 c.before.args.v.whole) ≡ c.before.args.v.whole
+w-is c = back c.before.args.v.whole c.struct_told-1.given.0.1
 
 whole_in : (s : tie.Start) → Within 10001000 (s.args.top -ℤ pos s.args.q *ℤ s.args.v.whole)
 whole_in s = subst (Within 10001000) (fit s).whole_is (abs-within (pos (fit s).whole) (fit s).small)
 
-n-is : (c : tie.After-struct-told) → let a = c.before.args in
+n-is : (c : tie.After-struct_told-1) → let a = c.before.args in
     to_z w64 (of_z w64 (to_z w64 (of_z w64 a.top) -ℤ to_z w64 (of_z w64 (to_z w64 a.q *ℤ to_z w64 (of_z w64 a.v.whole))))) ≡ pos (fit c.before).whole
 n-is c = let s = c.before in
     rw (within-back tt s.requires.1.0, q-is s, w-is c, within-back tt (fit s).product) (within-back tt (whole_in s) ∙ sym (fit s).whole_is)
 
-cast-magnitude : tie.Need-overflow-cast-magnitude
+cast-magnitude : tie.Need-overflow_cast-q
 cast-magnitude c = search rules
 
-mul-magnitude : tie.Need-overflow-mul-magnitude
+mul-magnitude : tie.Need-overflow_mul-q
 mul-magnitude c = let s = c.before in rw (q-is s, w-is c) (within-sfits (lit< tt) (fit s).product)
 
-sub-magnitude : tie.Need-overflow-sub-magnitude
+sub-magnitude : tie.Need-overflow_sub-top
 sub-magnitude c =
     let s = c.before in rw (within-back tt s.requires.1.0, q-is s, w-is c, within-back tt (fit s).product) (within-sfits (lit< tt) (whole_in s))
 
-magnitude-requires : tie.Need-magnitude-requires
+magnitude-requires : tie.Need-magnitude-n-requires
 magnitude-requires c κs = rw (n-is c) (within_more (omega arith) (abs-within (pos (fit c.before).whole) (fit c.before).small))
 
-result-is : (c : tie.After-magnitude) → c.magnitude.result ≡ (fit c.before.before).whole
-result-is c = c.magnitude.ensures ∙ ap nat_abs (n-is c.before)
+result-is : (c : tie.After-magnitude-n) → c.magnitude-n.result ≡ (fit c.before.before).whole
+result-is c = c.magnitude-n.ensures ∙ ap nat_abs (n-is c.before)
 
-mul-result : tie.Need-overflow-mul-result
+mul-result : tie.Need-overflow_mul-result
 mul-result c =
     let s = c.before.before in
     rw (result-is c) (record { fits = omega (arith, mul-le-mul (fit s).small s.requires.1.1.0.few) })
 
-mul-result-2 : tie.Need-overflow-mul-result-2
+mul-result-2 : tie.Need-overflow_mul-result-2
 mul-result-2 c =
     let s = c.before.before in
     let h : s.args.v.part ≤ 1000 = omega (arith, s.requires.1.1.0.low, s.requires.1.1.0.few) in
     record { fits = omega (arith, mul-le-mul s.requires.0 h) }
 
-sub-result : tie.Need-overflow-sub-result
+sub-result : tie.Need-overflow_sub-result
 sub-result c = rw (result-is c) (fit c.before.before).part
 
 returns : tie.Need-returns
 returns c = let s = c.before.before in rw (result-is c) ((fit s).num-is, (fit s).num-in)
 
-pub lost-spec : {M : Type 1} → statement M
-lost-spec =
+pub lost_spec : {M : Type 1} → statement M
+lost_spec =
     tie.close
     (tie.spec
     cast-magnitude

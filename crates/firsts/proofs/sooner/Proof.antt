@@ -11,58 +11,58 @@ use Rattle.firsts.proofs.Shown.{shown-small}
 use Rattle.firsts.proofs.sooner.Statement.{statement}
 use Rattle.firsts.proofs.sooner.Tie as tie
 
-by-level-requires : tie.Need-by-level-requires
+by-level-requires : tie.Need-by_level-y-requires
 by-level-requires c κs = let y = c.before.requires.0 in (y.ready.few, λ d l. omega (arith, y.ready.level_in d l, y.ready.sized.columns.few))
 
 -- the place
-inside : (c : tie.After-by-level) → Inside c.before.before.args.s (at c.by_level.result)
+inside : (c : tie.After-by_level-y) → Inside c.before.before.args.s (at c.by_level-y.result)
 inside c d l = let s = c.before.before in
-    subst (λ x. (at s.args.s.low d ≤ℤ x) × (x ≤ℤ at s.args.s.high d)) (sym (c.by_level.ensures.each d l)) (s.requires.1.1 d l)
+    subst (λ x. (at s.args.s.low d ≤ℤ x) × (x ≤ℤ at s.args.s.high d)) (sym (c.by_level-y.ensures.each d l)) (s.requires.1.1 d l)
 
-filling-at-requires : tie.Need-filling-at-requires
+filling-at-requires : tie.Need-filling_at-z-requires
 filling-at-requires c κs = (c.before.before.requires.0, inside c)
 
-comes-before-requires : tie.Need-comes-before-requires
+comes-before-requires : tie.Need-comes_before-requires
 comes-before-requires c κs =
     let f = c.before in
     let p = f.before in
     let s = p.before.before in
-    let e = ends_at s.args.s (at p.by_level.result) in (
+    let e = ends_at s.args.s (at p.by_level-y.result) in (
       s.requires.0.tied.sized.few,
       (
-        shown-small s.args.c e (place-sized s.args.s s.args.c s.requires.0 (at p.by_level.result) (inside p)) s.args.s f.filling-at.result.point
-            f.filling-at.ensures.shows,
+        shown-small s.args.c e (place-sized s.args.s s.args.c s.requires.0 (at p.by_level-y.result) (inside p)) s.args.s f.filling_at-z.result.point
+            f.filling_at-z.ensures.shows,
         s.requires.1.0,
       ),
     )
 
-returns : tie.Need-returns
+returns : tie.Need-returns-then-comes_before
 returns c =
     let b = c.before in
     let f = b.before.before in
     let p = f.before in
     record {
-      place = at p.by_level.result;
-      same = p.by_level.ensures.each;
-      other = f.filling-at.result.point;
-      shows = f.filling-at.ensures.shows;
-      which = inr (refl, inr (b.comes-before.ensures.before c.if1.true));
+      place = at p.by_level-y.result;
+      same = p.by_level-y.ensures.each;
+      other = f.filling_at-z.result.point;
+      shows = f.filling_at-z.ensures.shows;
+      which = inr (refl, inr (b.comes_before.ensures.before c.if-comes_before.true));
     }
 
-returns-2 : tie.Need-returns-2
+returns-2 : tie.Need-returns
 returns-2 c =
     let b = c.before in
     let f = b.before.before in
     let p = f.before in
     record {
-      place = at p.by_level.result;
-      same = p.by_level.ensures.each;
-      other = f.filling-at.result.point;
-      shows = f.filling-at.ensures.shows;
-      which = inl (refl, b.comes-before.ensures.after c.if1.false);
+      place = at p.by_level-y.result;
+      same = p.by_level-y.ensures.each;
+      other = f.filling_at-z.result.point;
+      shows = f.filling_at-z.ensures.shows;
+      which = inl (refl, b.comes_before.ensures.after c.if-comes_before.false);
     }
 
-pub sooner-spec : {M : Type 1} → statement M
-sooner-spec =
+pub sooner_spec : {M : Type 1} → statement M
+sooner_spec =
     tie.close
     (tie.spec by-level-requires filling-at-requires comes-before-requires returns returns-2)

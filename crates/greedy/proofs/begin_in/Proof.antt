@@ -29,10 +29,10 @@ more c e k = rw add-one (ap₂ (λ (r w : ℤ). record { at = 0; room = r; worth
     take : (x y z : ℤ) → (x -ℤ y) -ℤ z ≡ x -ℤ (y +ℤ z)
     take = split3 _ (λ a b c e f g. simp zed (omega arith))
 
-abbrev invariant-loop : tie.invariant-loop
+abbrev invariant-loop : tie.invariant-loop-k
 invariant-loop weight price lo hi n b f₀ k₀ f k = (k ≤ n) × (f ≡ partly (by_item weight price n (to_z w64 b)) (record { lo = lo; hi = hi }) k)
 
-abbrev decreases-loop : tie.decreases-loop
+abbrev decreases-loop : tie.decreases-loop-k
 decreases-loop weight price lo hi n b f₀ k₀ f k = n - k
 
 -- the columns and the box that are lent
@@ -45,7 +45,7 @@ ends s = record { lo = s.args.lo.now; hi = s.args.hi.now }
 sized : (s : tie.Start invariant-loop decreases-loop) → Sized (cols s) (ends s)
 sized s = rw (within-back tt s.requires.columns.capacity-in) s.requires
 
-loop-holds : tie.Need-loop-init invariant-loop decreases-loop
+loop-holds : tie.Need-loop-k-init invariant-loop decreases-loop
 loop-holds c = (
   omega arith,
   ap₂ (λ (r w : ℤ). record { at = 0; room = r; worth = w })
@@ -55,72 +55,72 @@ loop-holds c = (
     nothing : (x : ℤ) → x ≡ x -ℤ pos 0
     nothing = split _ (λ a b. simp zed (omega arith))
 
-mul-a : tie.Need-overflow-mul-a invariant-loop decreases-loop
+mul-a : tie.Need-offset_bounds-weight-k invariant-loop decreases-loop
 mul-a c = omega (arith, c.before.before.requires.columns.few)
 
-element-copy-out-a : tie.Need-element-copy-out-a invariant-loop decreases-loop
+element-copy-out-a : tie.Need-bounds-weight-k invariant-loop decreases-loop
 element-copy-out-a c = omega (arith, c.before.before.requires.columns.few)
 
 -- the moments that are spoken of below
-abbrev start-of-in-loop : tie.In-loop invariant-loop decreases-loop → tie.Start invariant-loop decreases-loop
+abbrev start-of-in-loop : tie.In-loop-k invariant-loop decreases-loop → tie.Start invariant-loop decreases-loop
 start-of-in-loop c = c.before.before
 
-abbrev start-of-p : tie.After-p invariant-loop decreases-loop → tie.Start invariant-loop decreases-loop
+abbrev start-of-p : tie.After-p-1 invariant-loop decreases-loop → tie.Start invariant-loop decreases-loop
 start-of-p c = start-of-in-loop c.before.before
 
-abbrev start-of-light-end : tie.After-light-end invariant-loop decreases-loop → tie.Start invariant-loop decreases-loop
+abbrev start-of-light-end : tie.After-light_end-x invariant-loop decreases-loop → tie.Start invariant-loop decreases-loop
 start-of-light-end c = start-of-p c.before.before.before
 
-abbrev at-loop-of-p : tie.After-p invariant-loop decreases-loop → tie.At-loop invariant-loop decreases-loop
+abbrev at-loop-of-p : tie.After-p-1 invariant-loop decreases-loop → tie.At-loop-k invariant-loop decreases-loop
 at-loop-of-p c = c.before.before.before
 
-abbrev at-loop : tie.After-light-end invariant-loop decreases-loop → tie.At-loop invariant-loop decreases-loop
+abbrev at-loop : tie.After-light_end-x invariant-loop decreases-loop → tie.At-loop-k invariant-loop decreases-loop
 at-loop c = at-loop-of-p c.before.before.before
 
-mul-p : tie.Need-overflow-mul-p invariant-loop decreases-loop
-mul-p c = omega (arith, (start-of-in-loop c.before).pre.columns.few)
+mul-p : tie.Need-offset_bounds-price-k invariant-loop decreases-loop
+mul-p c = omega (arith, (start-of-in-loop c.before).requires.columns.few)
 
-element-copy-out-p : tie.Need-element-copy-out-p invariant-loop decreases-loop
-element-copy-out-p c = omega (arith, (start-of-in-loop c.before).pre.columns.few)
+element-copy-out-p : tie.Need-bounds-price-k invariant-loop decreases-loop
+element-copy-out-p c = omega (arith, (start-of-in-loop c.before).requires.columns.few)
 
-mul-l : tie.Need-overflow-mul-l invariant-loop decreases-loop
+mul-l : tie.Need-offset_bounds-lo-k invariant-loop decreases-loop
 mul-l c = omega (arith, (start-of-p c).requires.columns.few)
 
-element-copy-out-l : tie.Need-element-copy-out-l invariant-loop decreases-loop
+element-copy-out-l : tie.Need-bounds-lo-k invariant-loop decreases-loop
 element-copy-out-l c = omega (arith, (start-of-p c).requires.columns.few)
 
-mul-u : tie.Need-overflow-mul-u invariant-loop decreases-loop
-mul-u c = omega (arith, (start-of-p c.before).pre.columns.few)
+mul-u : tie.Need-offset_bounds-hi-k invariant-loop decreases-loop
+mul-u c = omega (arith, (start-of-p c.before).requires.columns.few)
 
-element-copy-out-u : tie.Need-element-copy-out-u invariant-loop decreases-loop
-element-copy-out-u c = omega (arith, (start-of-p c.before).pre.columns.few)
+element-copy-out-u : tie.Need-bounds-hi-k invariant-loop decreases-loop
+element-copy-out-u c = omega (arith, (start-of-p c.before).requires.columns.few)
 
-light-end-requires : tie.Need-light-end-requires invariant-loop decreases-loop
+light-end-requires : tie.Need-light_end-x-requires invariant-loop decreases-loop
 light-end-requires c κs = search rules
 
 -- the light end of the turn's item
-amount : (c : tie.After-light-end invariant-loop decreases-loop) → c.light-end.result ≡ light_of (cols (start-of-light-end c)) (ends (start-of-light-end c))
-    (at-loop c).loop.k
+amount : (c : tie.After-light_end-x invariant-loop decreases-loop) → c.light_end-x.result ≡ light_of (cols (start-of-light-end c)) (ends (start-of-light-end c))
+    (at-loop c).loop-k.k
 amount c =
     let l = at-loop c in
     let z = sized l.before in
-    let k = l.loop.k in
+    let k = l.loop-k.k in
     rw (
       within-back tt (z.columns.weights-in k),
       within-back tt (z.columns.prices-in k),
       within-back tt (z.ends.lo-in k),
       within-back tt (z.ends.hi-in k),
-    ) at c.light-end.ensures
+    ) at c.light_end-x.ensures
 
-with-amount-requires : tie.Need-with-amount-requires invariant-loop decreases-loop
+with-amount-requires : tie.Need-with_amount-f-requires invariant-loop decreases-loop
 with-amount-requires c κs =
     let at_p = c.before.before.before in
     let l = at_p.before.before.before in
     let s = l.before in
     let z = sized s in
-    let k = l.loop.k in
+    let k = l.loop-k.k in
     let w = light-within (cols s) (ends s) z k in
-    rw (within-back tt (z.columns.weights-in k), within-back tt (z.columns.prices-in k), amount c, within-back tt w, l.loop.invariant.1) (
+    rw (within-back tt (z.columns.weights-in k), within-back tt (z.columns.prices-in k), amount c, within-back tt w, l.loop-k.invariant.1) (
       z.columns.weights-in k,
       (
         z.columns.prices-in k,
@@ -135,37 +135,37 @@ with-amount-requires c κs =
       ),
     )
 
-add-k : tie.Need-overflow-add-k invariant-loop decreases-loop
+add-k : tie.Need-overflow_add-k invariant-loop decreases-loop
 add-k c = omega arith
 
-loop-less : tie.Need-loop-smaller invariant-loop decreases-loop
+loop-less : tie.Need-loop-k-smaller invariant-loop decreases-loop
 loop-less c = omega arith
 
-loop-again : tie.Need-loop-preserved invariant-loop decreases-loop
+loop-again : tie.Need-loop-k-preserved invariant-loop decreases-loop
 loop-again c =
     let at-l = c.before.before.before in
     let at-in-loop = at-l.before.before.before in
     let l = at-in-loop.before in
     let s = l.before in
     let z = sized s in
-    let k = l.loop.k in
+    let k = l.loop-k.k in
     let e = rw (
       within-back tt (z.columns.weights-in k),
       within-back tt (z.columns.prices-in k),
       amount c.before,
       within-back tt (light-within (cols s) (ends s) z k),
-      l.loop.invariant.1,
-    ) at c.with-amount.ensures in
+      l.loop-k.invariant.1,
+    ) at c.with_amount-f.ensures in
     (omega arith, e ∙ more (cols s) (ends s) k)
 
 returns : tie.Need-returns invariant-loop decreases-loop
 returns c =
     let s = c.before.before in
-    let e : c.before.loop.k ≡ s.args.n = omega arith in
-    rw (e, within-back tt s.requires.columns.capacity-in) at c.before.loop.invariant.1
+    let e : c.before.loop-k.k ≡ s.args.n = omega arith in
+    rw (e, within-back tt s.requires.columns.capacity-in) at c.before.loop-k.invariant.1
 
-pub begin-in-spec : {M : Type 1} → statement M
-begin-in-spec =
+pub begin_in_spec : {M : Type 1} → statement M
+begin_in_spec =
     tie.close
     (tie.spec
     invariant-loop

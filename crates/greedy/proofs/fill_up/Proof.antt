@@ -5,15 +5,15 @@ use Rattle.greedy.proofs.Lent.{unranked-sized, unranked-fill}
 use Rattle.greedy.proofs.fill_up.Statement.{statement}
 use Rattle.greedy.proofs.fill_up.Tie as tie
 
-fill-in-requires : tie.Need-fill-in-requires
+fill-in-requires : tie.Need-fill_in-requires
 fill-in-requires c κs =
-    let s = c.before.before.before.before.before.before.before.before.before.before in
+    let s = c.before.before.before.before.before.before.before.before in
     rw (within-back tt s.requires.columns.capacity-in) (unranked-sized s.args.t1 s.args.t2 s.requires)
 
 returns : tie.Need-returns
 returns c =
-    let s = c.before.before.before.before.before.before.before.before.before.before.before in
-    rw (within-back tt s.requires.columns.capacity-in) at c.fill-in.ensures ∙ unranked-fill s.args.t1 s.args.t2
+    let s = c.before.before.before.before.before.before.before.before.before in
+    rw (within-back tt s.requires.columns.capacity-in) at c.fill_in.ensures ∙ unranked-fill s.args.t1 s.args.t2
 
-pub fill-up-spec : {M : Type 1} → statement M
-fill-up-spec = tie.close (tie.spec fill-in-requires returns)
+pub fill_up_spec : {M : Type 1} → statement M
+fill_up_spec = tie.close (tie.spec fill-in-requires returns)

@@ -27,23 +27,23 @@ above = split _ (λ a b. simp zed (omega arith))
 sunk : (s : tie.Start) → Within 20000300000000 (s.args.u +ℤ ceil_div s.args.room s.args.a)
 sunk s = within-add s.requires.high-in (ceil-within s.args.room s.args.a s.requires.room_in)
 
-ceil-div-requires : tie.Need-ceil-div-requires
+ceil-div-requires : tie.Need-ceil_div-requires
 ceil-div-requires c κs =
     let s = c.before in
-    let t = rw (to_z-of_z s.ranges.a) at c.if1.true in
+    let t = rw (to_z-of_z s.ranges.a) at c.if-a-lt0.true in
     rw (to_z-of_z s.ranges.a, to_z-of_z s.ranges.room) (within_more (omega arith) s.requires.room_in, below s.args.a (yes_lt t))
 
-up : (c : tie.After-ceil-div) → to_z w64 (of_z w64 c.ceil-div.result) ≡ ceil_div c.before.before.args.room c.before.before.args.a
-up c = let s = c.before.before in rw (back c.ceil-div.result c.ceil-div.type-inv)
-    (rw (to_z-of_z s.ranges.a, to_z-of_z s.ranges.room) at c.ceil-div.ensures)
+up : (c : tie.After-ceil_div) → to_z w64 (of_z w64 c.ceil_div.result) ≡ ceil_div c.before.before.args.room c.before.before.args.a
+up c = let s = c.before.before in rw (back c.ceil_div.result c.ceil_div.type_inv)
+    (rw (to_z-of_z s.ranges.a, to_z-of_z s.ranges.room) at c.ceil_div.ensures)
 
-add-result : tie.Need-overflow-add-result
+add-result : tie.Need-overflow_add-result
 add-result c = let s = c.before.before in rw (up c, to_z-of_z s.ranges.u) (within-sfits (lit< tt) (sunk s))
 
-returns : tie.Need-returns
+returns : tie.Need-returns-then-a-lt0
 returns c =
     let s = c.before.before in
-    let t = rw (to_z-of_z s.ranges.a) at c.before.if1.true in
+    let t = rw (to_z-of_z s.ranges.a) at c.before.if-a-lt0.true in
     rw (up c, to_z-of_z s.ranges.u, within-back tt (sunk s), t)
 
 -- ---- a weight above 0: rounded down, from the lower end
@@ -51,36 +51,36 @@ returns c =
 risen : (s : tie.Start) → Within 20000300000000 (s.args.l +ℤ floor_div s.args.room s.args.a)
 risen s = within-add s.requires.low-in (floor-within s.args.room s.args.a s.requires.room_in)
 
-floor-div-requires : tie.Need-floor-div-requires
+floor-div-requires : tie.Need-floor_div-requires
 floor-div-requires c κs =
     let s = c.before.before in
-    let t = rw (to_z-of_z s.ranges.a) at c.if2.true in
+    let t = rw (to_z-of_z s.ranges.a) at c.if-a-gt0.true in
     rw (to_z-of_z s.ranges.a, to_z-of_z s.ranges.room) (within_more (omega arith) s.requires.room_in, above s.args.a (yes_lt t))
 
-down : (c : tie.After-floor-div) → to_z w64 (of_z w64 c.floor-div.result) ≡ floor_div c.before.before.before.args.room
+down : (c : tie.After-floor_div) → to_z w64 (of_z w64 c.floor_div.result) ≡ floor_div c.before.before.before.args.room
     c.before.before.before.args.a
-down c = let s = c.before.before.before in rw (back c.floor-div.result c.floor-div.type-inv)
-    (rw (to_z-of_z s.ranges.a, to_z-of_z s.ranges.room) at c.floor-div.ensures)
+down c = let s = c.before.before.before in rw (back c.floor_div.result c.floor_div.type_inv)
+    (rw (to_z-of_z s.ranges.a, to_z-of_z s.ranges.room) at c.floor_div.ensures)
 
-add-result-2 : tie.Need-overflow-add-result-2
+add-result-2 : tie.Need-overflow_add-result-then-a-gt0
 add-result-2 c = let s = c.before.before.before in rw (down c, to_z-of_z s.ranges.l) (within-sfits (lit< tt) (risen s))
 
-returns-2 : tie.Need-returns-2
+returns-2 : tie.Need-returns-then-a-gt0
 returns-2 c =
     let s = c.before.before.before in
-    let t = rw (to_z-of_z s.ranges.a) at c.before.before.if1.false in
-    let u = rw (to_z-of_z s.ranges.a) at c.before.if2.true in
+    let t = rw (to_z-of_z s.ranges.a) at c.before.before.if-a-lt0.false in
+    let u = rw (to_z-of_z s.ranges.a) at c.before.if-a-gt0.true in
     rw (down c, to_z-of_z s.ranges.l, within-back tt (risen s), t, u)
 
-returns-3 : tie.Need-returns-3
+returns-3 : tie.Need-returns
 returns-3 c =
     let s = c.before.before in
-    let t = rw (to_z-of_z s.ranges.a) at c.before.if1.false in
-    let u = rw (to_z-of_z s.ranges.a) at c.if2.false in
+    let t = rw (to_z-of_z s.ranges.a) at c.before.if-a-lt0.false in
+    let u = rw (to_z-of_z s.ranges.a) at c.if-a-gt0.false in
     rw (to_z-of_z s.ranges.l, t, u)
 
-pub fitting-spec : {M : Type 1} → statement M
-fitting-spec =
+pub fitting_spec : {M : Type 1} → statement M
+fitting_spec =
     tie.close
     (tie.spec
     ceil-div-requires

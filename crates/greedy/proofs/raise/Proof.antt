@@ -16,69 +16,69 @@ module _ (s : tie.Start) where
   need-within = within-mul s.requires.size_in s.requires.wide-in
 
   gain-within : Within 6000000000000 (s.args.rate *ℤ s.args.width)
-  gain-within = within-mul s.pre.rate-in s.pre.wide-in
+  gain-within = within-mul s.requires.rate-in s.requires.wide-in
 
   -- size times width, and rate times width, as the arguments hold them
   need : to_z w64 (of_z w64 s.args.size) *ℤ to_z w64 (of_z w64 s.args.width) ≡ s.args.size *ℤ s.args.width
-  need = rw (to_z-of_z s.fits.size, to_z-of_z s.fits.width)
+  need = rw (to_z-of_z s.ranges.size, to_z-of_z s.ranges.width)
 
   gain : to_z w64 (of_z w64 s.args.rate) *ℤ to_z w64 (of_z w64 s.args.width) ≡ s.args.rate *ℤ s.args.width
-  gain = rw (to_z-of_z s.fits.rate, to_z-of_z s.fits.width)
+  gain = rw (to_z-of_z s.ranges.rate, to_z-of_z s.ranges.width)
 
   room_within : Within 20600000000000 (s.args.f.room -ℤ s.args.size *ℤ s.args.width)
-  room_within = within-sub s.pre.room_in need-within
+  room_within = within-sub s.requires.room_in need-within
 
   worth-within : Within 206000000000000 (s.args.f.worth +ℤ s.args.rate *ℤ s.args.width)
-  worth-within = within-add s.pre.worth-in gain-within
+  worth-within = within-add s.requires.worth-in gain-within
 
-mul-need : tie.Need-overflow-mul-need
+mul-need : tie.Need-overflow_mul-need
 mul-need c = rw (need c) (within-sfits (lit< tt) (need-within c))
 
-returns : tie.Need-returns
+returns : tie.Need-returns-then-f-need
 returns c =
     let s = c.before.before.before in
-    let t = rw (within-back tt s.requires.room_in, need s, within-back tt (need-within s)) at c.if1.true in
+    let t = rw (within-back tt s.requires.room_in, need s, within-back tt (need-within s)) at c.if-f-need.true in
     rw t
 
-add-t8 : tie.Need-overflow-add-t8
+add-t8 : tie.Need-overflow_add-g
 add-t8 c = search rules
 
 -- the moments that are spoken of below
-abbrev else1 : tie.After-struct-told2 → tie.Else1
+abbrev else1 : tie.After-struct_told-2-1 → tie.Else-f-need
 else1 c = c.before.before.before
 
-abbrev start : tie.After-struct-told2 → tie.Start
+abbrev start : tie.After-struct_told-2-1 → tie.Start
 start c = (else1 c).before.before.before
 
-sub-t9 : tie.Need-overflow-sub-t9
+sub-t9 : tie.Need-overflow_sub-g
 sub-t9 c =
     let s = start c in
-    rw (within-back tt s.pre.room_in, need s, within-back tt (need-within s)) (within-sfits (lit< tt) (room_within s))
+    rw (within-back tt s.requires.room_in, need s, within-back tt (need-within s)) (within-sfits (lit< tt) (room_within s))
 
-mul-t10 : tie.Need-overflow-mul-t10
+mul-t10 : tie.Need-overflow_mul-g
 mul-t10 c = let s = start c in rw (gain s) (within-sfits (lit< tt) (gain-within s))
 
-add-t11 : tie.Need-overflow-add-t11
+add-t11 : tie.Need-overflow_add-g-2
 add-t11 c =
     let s = start c.before.before in
-    rw (within-back tt s.pre.worth-in, gain s, within-back tt (gain-within s)) (within-sfits (lit< tt) (worth-within s))
+    rw (within-back tt s.requires.worth-in, gain s, within-back tt (gain-within s)) (within-sfits (lit< tt) (worth-within s))
 
-returns-2 : tie.Need-returns-2
+returns-2 : tie.Need-returns
 returns-2 c =
     let at-if1 = else1 c.before.before in
     let s = start c.before.before in
-    let t = rw (within-back tt s.pre.room_in, need s, within-back tt (need-within s)) at at-if1.if1.left in
+    let t = rw (within-back tt s.requires.room_in, need s, within-back tt (need-within s)) at at-if1.if-f-need.false in
     rw (
-      within-back tt s.pre.room_in,
+      within-back tt s.requires.room_in,
       need s,
       within-back tt (need-within s),
       within-back tt (room_within s),
-      within-back tt s.pre.worth-in,
+      within-back tt s.requires.worth-in,
       gain s,
       within-back tt (gain-within s),
       within-back tt (worth-within s),
       t,
     )
 
-pub raise-spec : {M : Type 1} → statement M
-raise-spec = tie.close (tie.spec mul-need returns add-t8 sub-t9 mul-t10 add-t11 returns-2)
+pub raise_spec : {M : Type 1} → statement M
+raise_spec = tie.close (tie.spec mul-need returns add-t8 sub-t9 mul-t10 add-t11 returns-2)

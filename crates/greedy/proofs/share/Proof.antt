@@ -33,13 +33,13 @@ whole-within : (c : tie.After-magnitude) → Within 500000000000000000 (c.before
     ((c.before.before.args.p * c.magnitude.result) / c.before.before.args.s))
 whole-within c = within-add c.before.before.requires.worth-in (record { above = quotient c; below = omega arith })
 
-mul-x : tie.Need-overflow-mul-x
+mul-x : tie.Need-overflow_mul-x
 mul-x c = record { fits = omega (arith, product c) }
 
-div-t6 : tie.Need-nonzero-div-t6
+div-t6 : tie.Need-nonzero_div-result
 div-t6 c = c.before.before.requires.size_in
 
-cast-t7 : tie.Need-overflow-cast-t7
+cast-t7 : tie.Need-overflow_cast-result
 cast-t7 c = record { sfits = omega (arith, quotient c) }
 
 -- the sum's two terms, as the code holds them
@@ -47,20 +47,20 @@ terms : (c : tie.After-magnitude) → to_z w64 ((c.before.before.args.p * c.magn
     ((c.before.before.args.p * c.magnitude.result) / c.before.before.args.s)
 terms c = to_z_pos w64 (omega (arith, quotient c))
 
-add-t8 : tie.Need-overflow-add-t8
+add-t8 : tie.Need-overflow_add-result
 add-t8 c = let d = c.before.before in rw (within-back tt d.before.before.requires.worth-in, terms d) (within-sfits (lit< tt) (whole-within d))
 
 -- the moments that are spoken of below
 abbrev start : tie.After-magnitude → tie.Start
 start c = c.before.before
 
-rem-t9 : tie.Need-nonzero-rem-t9
+rem-t9 : tie.Need-nonzero_rem-result
 rem-t9 c =
     let s = start c.before.before in
-    s.pre.size_in
+    s.requires.size_in
 
 returns : tie.Need-returns
 returns c = let d = c.before.before in rw (within-back tt d.before.before.requires.worth-in, terms d, within-back tt (whole-within d), room-is d)
 
-pub share-spec : {M : Type 1} → statement M
-share-spec = tie.close (tie.spec magnitude-requires mul-x div-t6 cast-t7 add-t8 rem-t9 returns)
+pub share_spec : {M : Type 1} → statement M
+share_spec = tie.close (tie.spec magnitude-requires mul-x div-t6 cast-t7 add-t8 rem-t9 returns)

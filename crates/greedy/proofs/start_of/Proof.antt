@@ -20,42 +20,42 @@ cols s =
 abbrev ends : tie.Start → Ends
 ends s = record { lo = s.args.lo.now; hi = s.args.hi.now }
 
-fill-in-requires : tie.Need-fill-in-requires
+fill-in-requires : tie.Need-fill_in-f-requires
 fill-in-requires c κs = rw (within-back tt c.requires.0.columns.capacity-in) (unranked-sized (cols c) (ends c) c.requires.0)
 
-filled : (c : tie.After-fill-in) → c.fill-in.result ≡ fill (cols c.before) (ends c.before)
+filled : (c : tie.After-fill_in-f) → c.fill_in-f.result ≡ fill (cols c.before) (ends c.before)
 filled c =
     let s = c.before in
-    rw (within-back tt s.requires.0.columns.capacity-in) at c.fill-in.ensures ∙ unranked-fill (cols s) (ends s)
+    rw (within-back tt s.requires.0.columns.capacity-in) at c.fill_in-f.ensures ∙ unranked-fill (cols s) (ends s)
 
-mul-a : tie.Need-overflow-mul-a
+mul-a : tie.Need-offset_bounds-weight-k
 mul-a c = search rules
 
-element-copy-out-a : tie.Need-element-copy-out-a
+element-copy-out-a : tie.Need-bounds-weight-k
 element-copy-out-a c = search rules
 
-mul-c : tie.Need-overflow-mul-c
+mul-c : tie.Need-offset_bounds-price-k
 mul-c c = search rules
 
-element-copy-out-c : tie.Need-element-copy-out-c
+element-copy-out-c : tie.Need-bounds-price-k
 element-copy-out-c c = search rules
 
-mul-l : tie.Need-overflow-mul-l
+mul-l : tie.Need-offset_bounds-lo-k
 mul-l c = search rules
 
-element-copy-out-l : tie.Need-element-copy-out-l
+element-copy-out-l : tie.Need-bounds-lo-k
 element-copy-out-l c = search rules
 
-mul-u : tie.Need-overflow-mul-u
+mul-u : tie.Need-offset_bounds-hi-k
 mul-u c = search rules
 
-element-copy-out-u : tie.Need-element-copy-out-u
+element-copy-out-u : tie.Need-bounds-hi-k
 element-copy-out-u c = search rules
 
-mul-v : tie.Need-overflow-mul-v
+mul-v : tie.Need-offset_bounds-rank-k
 mul-v c = search rules
 
-element-copy-out-v : tie.Need-element-copy-out-v
+element-copy-out-v : tie.Need-bounds-rank-k
 element-copy-out-v c = search rules
 
 rounded-requires : tie.Need-rounded-requires
@@ -63,10 +63,10 @@ rounded-requires c κs =
     let at_c = c.before.before.before in
     let at-fill-in = at_c.before.before in
     let s = at-fill-in.before in
-    let k = s.args.k in
-    let z = s.requires.0.ends in
+    let k = s.before.args.k in
+    let z = s.before.requires.0.ends in
     rw (within-back tt (z.lo-in k), within-back tt (z.hi-in k), filled at-fill-in)
-    (record { low-in = z.lo-in k; high-in = z.hi-in k; room_in = (fill-sized (cols s) (ends s) s.requires.0).room_in })
+    (record { low-in = z.lo-in k; high-in = z.hi-in k; room_in = (fill-sized (cols s) (ends s) s.before.requires.0).room_in })
 
 returns : tie.Need-returns
 unfolding start
@@ -74,8 +74,8 @@ returns c =
     let at-l = c.before.before.before in
     let at-fill-in = at-l.before.before.before in
     let s = at-fill-in.before in
-    let k = s.args.k in
-    let z = s.requires.0 in
+    let k = s.before.args.k in
+    let z = s.before.requires.0 in
     let e = rw (
       within-back tt (z.columns.weights-in k),
       within-back tt (z.columns.prices-in k),
@@ -83,10 +83,10 @@ returns c =
       within-back tt (z.ends.hi-in k),
       filled at-fill-in,
     ) at c.rounded.ensures in
-    back c.rounded.result c.rounded.type-inv ∙ e
+    back c.rounded.result c.rounded.type_inv ∙ e
 
-pub start-of-spec : {M : Type 1} → statement M
-start-of-spec =
+pub start_of_spec : {M : Type 1} → statement M
+start_of_spec =
     tie.close
     (tie.spec
     fill-in-requires

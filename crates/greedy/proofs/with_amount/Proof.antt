@@ -34,20 +34,20 @@ room_back s = to_z-of_z (within-sfits (lit< tt) s.requires.1.1.1.0)
 worth-back : (s : tie.Start) → to_z w64 (of_z w64 s.args.f.worth) ≡ s.args.f.worth
 worth-back s = to_z-of_z (within-sfits (lit< tt) s.requires.1.1.1.1)
 
-mul-t5 : tie.Need-overflow-mul-t5
+mul-t5 : tie.Need-overflow_mul-result
 mul-t5 c = rw (weight-term c) (weight-in c)
 
-sub-t6 : tie.Need-overflow-sub-t6
+sub-t6 : tie.Need-overflow_sub-result
 sub-t6 c = let s = c.before.before in rw (room_back s, weight-term s, to_z-of_z (weight-in s)) (room_in s)
 
-mul-t7 : tie.Need-overflow-mul-t7
+mul-t7 : tie.Need-overflow_mul-result-2
 mul-t7 c = let s = c.before.before in rw (price-term s) (price-in s)
 
 -- the moments that are spoken of below
-abbrev start : tie.After-struct-known2 → tie.Start
+abbrev start : tie.After-struct_known-2-1 → tie.Start
 start c = c.before.before.before
 
-add-t8 : tie.Need-overflow-add-t8
+add-t8 : tie.Need-overflow_add-result
 add-t8 c = let s = start c.before in rw (worth-back s, price-term s, to_z-of_z (price-in s)) (worth-in s)
 
 returns : tie.Need-returns
@@ -55,5 +55,5 @@ returns c =
     let s = start c.before in
     rw (room_back s, weight-term s, to_z-of_z (weight-in s), to_z-of_z (room_in s), worth-back s, price-term s, to_z-of_z (price-in s), to_z-of_z (worth-in s))
 
-pub with-amount-spec : {M : Type 1} → statement M
-with-amount-spec = tie.close (tie.spec mul-t5 sub-t6 mul-t7 add-t8 returns)
+pub with_amount_spec : {M : Type 1} → statement M
+with_amount_spec = tie.close (tie.spec mul-t5 sub-t6 mul-t7 add-t8 returns)

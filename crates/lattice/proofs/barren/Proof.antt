@@ -19,155 +19,155 @@ use Rattle.lattice.proofs.barren.Statement.{statement}
 use Rattle.lattice.proofs.barren.Tie as tie
 
 -- the descent from r with n rungs left is the one asked for, and no figure has grown by more than the strides taken
-abbrev invariant-loop : tie.invariant-loop
+abbrev invariant-loop : tie.invariant-loop-n
 invariant-loop l f room b r₀ n₀ r n =
     (n ≤ tries) × ((barren_from n l f (to_z w64 b) r ≡ barren_from tries l f (to_z w64 b) (first_rung l (to_z w64 room)))
     × (Within (20000000001000 + 1000 * (tries - n)) r.weight × Within (10000000000000000 + 100000000 * (tries - n)) r.worth))
 
-abbrev decreases-loop : tie.decreases-loop
+abbrev decreases-loop : tie.decreases-loop-n
 decreases-loop l f room b r₀ n₀ r n = n
 
-test : (c : tie.Then1 invariant-loop decreases-loop) → lt_z (pos 0) c.before.before.before.args.l.stride ≡ true
-test c = rw (within-back tt c.before.before.before.requires.0.stride-in) at c.if1.true
+test : (c : tie.Then-l-gt0 invariant-loop decreases-loop) → lt_z (pos 0) c.before.before.before.args.l.stride ≡ true
+test c = rw (within-back tt c.before.before.before.requires.0.stride-in) at c.if-l-gt0.true
 
-starts : (c : tie.Then1 invariant-loop decreases-loop) → Starts c.before.before.before.args.l c.before.before.before.args.room
+starts : (c : tie.Then-l-gt0 invariant-loop decreases-loop) → Starts c.before.before.before.args.l c.before.before.before.args.room
 starts c = let s = c.before.before.before in record { tame = s.requires.0; stride≥1 = yes_lt (test c); room_in = s.requires.1.1 }
 
 -- the whole descent
-whole : (c : tie.Then1 invariant-loop decreases-loop) → barren_by c.before.before.before.args.l c.before.before.before.args.f
+whole : (c : tie.Then-l-gt0 invariant-loop decreases-loop) → barren_by c.before.before.before.args.l c.before.before.before.args.f
     c.before.before.before.args.room c.before.before.before.args.b ≡ barren_from tries c.before.before.before.args.l
     c.before.before.before.args.f (to_z w64 (of_z w64 c.before.before.before.args.b))
     (first_rung c.before.before.before.args.l (to_z w64 (of_z w64 c.before.before.before.args.room)))
 unfolding barren_by
 whole c = let s = c.before.before.before in rw (test c, to_z-of_z s.ranges.b, to_z-of_z s.ranges.room)
 
-first-rung-requires : tie.Need-first-rung-requires invariant-loop decreases-loop
+first-rung-requires : tie.Need-first_rung-r-requires invariant-loop decreases-loop
 first-rung-requires c κs = rw (within-back tt c.before.before.before.requires.1.1) (starts c)
 
 -- the moments that are spoken of below
-abbrev start-of-then1 : tie.Then1 invariant-loop decreases-loop → tie.Start invariant-loop decreases-loop
+abbrev start-of-then1 : tie.Then-l-gt0 invariant-loop decreases-loop → tie.Start invariant-loop decreases-loop
 start-of-then1 c = c.before.before.before
 
-abbrev start-of-at-loop : tie.At-loop invariant-loop decreases-loop → tie.Start invariant-loop decreases-loop
+abbrev start-of-at-loop : tie.At-loop-n invariant-loop decreases-loop → tie.Start invariant-loop decreases-loop
 start-of-at-loop c = start-of-then1 c.before.before
 
-abbrev start-of-judge : tie.After-judge invariant-loop decreases-loop → tie.Start invariant-loop decreases-loop
+abbrev start-of-judge : tie.After-judge-y invariant-loop decreases-loop → tie.Start invariant-loop decreases-loop
 start-of-judge c = start-of-at-loop c.before.before
 
-abbrev at-loop : tie.At-match-keys3 invariant-loop decreases-loop → tie.At-loop invariant-loop decreases-loop
+abbrev at-loop : tie.In-Unknown-1 invariant-loop decreases-loop → tie.At-loop-n invariant-loop decreases-loop
 at-loop c = c.before.before.before
 
-loop-holds : tie.Need-loop-init invariant-loop decreases-loop
+loop-holds : tie.Need-loop-n-init invariant-loop decreases-loop
 loop-holds c =
     let s = start-of-then1 c.before in
     let r = s.args.room in
-    let e = rw (within-back tt s.pre.1.1) at c.first-rung.ensures in (
+    let e = rw (within-back tt s.requires.1.1) at c.first_rung-r.ensures in (
       omega arith,
       (
-        ap (λ r. barren_from tries s.args.l s.args.f (to_z w64 (of_z w64 s.args.b)) r) c.first-rung.ensures,
+        ap (λ r. barren_from tries s.args.l s.args.f (to_z w64 (of_z w64 s.args.b)) r) c.first_rung-r.ensures,
         (rw e (first-weight s.args.l r (starts c.before)), rw e (first-worth s.args.l r (starts c.before))),
       ),
     )
 
-sub-n : tie.Need-overflow-sub-n invariant-loop decreases-loop
+sub-n : tie.Need-overflow_sub-n invariant-loop decreases-loop
 sub-n c = search rules
 
-judge-requires : tie.Need-judge-requires invariant-loop decreases-loop
+judge-requires : tie.Need-judge-y-requires invariant-loop decreases-loop
 judge-requires c κs =
     let a = c.before in
     let s = start-of-at-loop a in
     record {
-      tame = s.pre.0;
-      steep = s.pre.1.0;
-      weight-in = within_more (omega arith) a.loop.invariant.1.1.0;
-      worth-in = within_more (omega arith) a.loop.invariant.1.1.1;
+      tame = s.requires.0;
+      steep = s.requires.1.0;
+      weight-in = within_more (omega arith) a.loop-n.invariant.1.1.0;
+      worth-in = within_more (omega arith) a.loop-n.invariant.1.1.1;
     }
 
 -- what is judged here, and what is below
-rest : (c : tie.After-judge invariant-loop decreases-loop) → verdict c.judge.result
-    (barren_from (c.before.before.loop.n - 1) (start-of-judge c).args.l (start-of-judge c).args.f (to_z w64 (of_z w64 (start-of-judge c).args.b))
-    (lower (start-of-judge c).args.l c.before.before.loop.r)) ≡ barren_from tries (start-of-judge c).args.l (start-of-judge c).args.f
+rest : (c : tie.After-judge-y invariant-loop decreases-loop) → verdict c.judge-y.result
+    (barren_from (c.before.before.loop-n.n - 1) (start-of-judge c).args.l (start-of-judge c).args.f (to_z w64 (of_z w64 (start-of-judge c).args.b))
+    (lower (start-of-judge c).args.l c.before.before.loop-n.r)) ≡ barren_from tries (start-of-judge c).args.l (start-of-judge c).args.f
     (to_z w64 (of_z w64 (start-of-judge c).args.b)) (first_rung (start-of-judge c).args.l (to_z w64 (of_z w64 (start-of-judge c).args.room)))
 rest c =
     let a = c.before.before in
     let s = start-of-at-loop a in
-    ap (λ y. verdict y (barren_from (a.loop.n - 1) s.args.l s.args.f (to_z w64 (of_z w64 s.args.b)) (lower s.args.l a.loop.r)))
-    c.judge.ensures
-    ∙ sym (step_of a.loop.n s.args.l s.args.f (to_z w64 (of_z w64 s.args.b)) a.loop.r c.before.loop-test.true)
-    ∙ a.loop.invariant.1.0
+    ap (λ y. verdict y (barren_from (a.loop-n.n - 1) s.args.l s.args.f (to_z w64 (of_z w64 s.args.b)) (lower s.args.l a.loop-n.r)))
+    c.judge-y.ensures
+    ∙ sym (step_of a.loop-n.n s.args.l s.args.f (to_z w64 (of_z w64 s.args.b)) a.loop-n.r c.before.loop-n-test.true)
+    ∙ a.loop-n.invariant.1.0
 
-enum_told : tie.Need-enum-told invariant-loop decreases-loop
+enum_told : tie.Need-enum_told-1 invariant-loop decreases-loop
 enum_told c = search rules
 
-returns : tie.Need-returns invariant-loop decreases-loop
+returns : tie.Need-returns-in-Nothing invariant-loop decreases-loop
 returns c =
     let j = c.before.before in
     let a = j.before.before in
     let s = start-of-at-loop a in
-    let below = barren_from (a.loop.n - 1) s.args.l s.args.f (to_z w64 (of_z w64 s.args.b)) (lower s.args.l a.loop.r) in
-    sym (whole a.before.before ∙ sym (rest j) ∙ ap (λ y. verdict y below) c.enum_told.given.1)
+    let below = barren_from (a.loop-n.n - 1) s.args.l s.args.f (to_z w64 (of_z w64 s.args.b)) (lower s.args.l a.loop-n.r) in
+    sym (whole a.before.before ∙ sym (rest j) ∙ ap (λ y. verdict y below) c.enum_told-1.given.1)
 
-enum-told-2 : tie.Need-enum-told-2 invariant-loop decreases-loop
+enum-told-2 : tie.Need-enum_told-in-Better invariant-loop decreases-loop
 enum-told-2 c = search rules
 
-returns-2 : tie.Need-returns-2 invariant-loop decreases-loop
+returns-2 : tie.Need-returns-in-Better invariant-loop decreases-loop
 returns-2 c =
     let j = c.before.before in
     let a = j.before.before in
     let s = start-of-at-loop a in
-    let below = barren_from (a.loop.n - 1) s.args.l s.args.f (to_z w64 (of_z w64 s.args.b)) (lower s.args.l a.loop.r) in
-    sym (whole a.before.before ∙ sym (rest j) ∙ ap (λ y. verdict y below) c.enum-told2.given.1)
+    let below = barren_from (a.loop-n.n - 1) s.args.l s.args.f (to_z w64 (of_z w64 s.args.b)) (lower s.args.l a.loop-n.r) in
+    sym (whole a.before.before ∙ sym (rest j) ∙ ap (λ y. verdict y below) c.enum_told-in-Better-1.given.1)
 
-enum-told-3 : tie.Need-enum-told-3 invariant-loop decreases-loop
+enum-told-3 : tie.Need-enum_told-in-Unknown invariant-loop decreases-loop
 enum-told-3 c = search rules
 
-less-stride-requires : tie.Need-less-stride-requires invariant-loop decreases-loop
+less-stride-requires : tie.Need-less_stride-r-requires invariant-loop decreases-loop
 less-stride-requires c κs =
     let a = at-loop c.before in
     let s = start-of-at-loop a in
-    record { tame = s.pre.0; weight-in = within_more (omega arith) a.loop.inv.1.1.0; worth-in = within_more (omega arith) a.loop.inv.1.1.1 }
+    record { tame = s.requires.0; weight-in = within_more (omega arith) a.loop-n.invariant.1.1.0; worth-in = within_more (omega arith) a.loop-n.invariant.1.1.1 }
 
-loop-less : tie.Need-loop-smaller invariant-loop decreases-loop
+loop-less : tie.Need-loop-n-smaller invariant-loop decreases-loop
 loop-less c = search rules
 
-loop-again : tie.Need-loop-preserved invariant-loop decreases-loop
+loop-again : tie.Need-loop-n-preserved invariant-loop decreases-loop
 loop-again c =
     let t = c.before in
     let j = t.before.before in
     let i = j.before in
     let a = i.before in
     let s = start-of-at-loop a in
-    let n = a.loop.n in
-    let below = barren_from (n - 1) s.args.l s.args.f (to_z w64 (of_z w64 s.args.b)) (lower s.args.l a.loop.r) in
-    let less : tries - (n - 1) ≡ (tries - n) + 1 = omega (arith, a.loop.invariant.0, i.loop-test.true) in (
-      omega (arith, a.loop.invariant.0),
+    let n = a.loop-n.n in
+    let below = barren_from (n - 1) s.args.l s.args.f (to_z w64 (of_z w64 s.args.b)) (lower s.args.l a.loop-n.r) in
+    let less : tries - (n - 1) ≡ (tries - n) + 1 = omega (arith, a.loop-n.invariant.0, i.loop-n-test.true) in (
+      omega (arith, a.loop-n.invariant.0),
       (
-        ap (λ r. barren_from (n - 1) s.args.l s.args.f (to_z w64 (of_z w64 s.args.b)) r) c.less-stride.ensures
-            ∙ (sym (ap (λ y. verdict y below) t.enum-told3.given.1) ∙ rest j),
+        ap (λ r. barren_from (n - 1) s.args.l s.args.f (to_z w64 (of_z w64 s.args.b)) r) c.less_stride-r.ensures
+            ∙ (sym (ap (λ y. verdict y below) t.enum_told-in-Unknown-1.given.1) ∙ rest j),
         (
-          rw c.less-stride.ensures (within_more (omega (arith, less)) (within-sub a.loop.invariant.1.1.0 s.pre.0.stride-in)),
-          rw c.less-stride.ensures (within_more (omega (arith, less)) (within-sub a.loop.invariant.1.1.1 s.pre.0.slant-in)),
+          rw c.less_stride-r.ensures (within_more (omega (arith, less)) (within-sub a.loop-n.invariant.1.1.0 s.requires.0.stride-in)),
+          rw c.less_stride-r.ensures (within_more (omega (arith, less)) (within-sub a.loop-n.invariant.1.1.1 s.requires.0.slant-in)),
         ),
       ),
     )
 
-returns-3 : tie.Need-returns-3 invariant-loop decreases-loop
+returns-3 : tie.Need-returns-after-loop-n invariant-loop decreases-loop
 unfolding barren_from
 returns-3 c =
     let a = c.before in
     let s = start-of-at-loop a in
-    let none : a.loop.n ≡ 0 = omega (arith, c.loop-test.false) in
-    sym (whole a.before.before ∙ sym a.loop.invariant.1.0 ∙ ap (λ n. barren_from n s.args.l s.args.f (to_z w64 (of_z w64 s.args.b)) a.loop.r)
+    let none : a.loop-n.n ≡ 0 = omega (arith, c.loop-n-test.false) in
+    sym (whole a.before.before ∙ sym a.loop-n.invariant.1.0 ∙ ap (λ n. barren_from n s.args.l s.args.f (to_z w64 (of_z w64 s.args.b)) a.loop-n.r)
     none)
 
-returns-4 : tie.Need-returns-4 invariant-loop decreases-loop
+returns-4 : tie.Need-returns-else-l-gt0 invariant-loop decreases-loop
 unfolding barren_by
 returns-4 c =
-    let t = rw (within-back tt c.before.before.before.requires.0.stride-in) at c.if1.false in
+    let t = rw (within-back tt c.before.before.before.requires.0.stride-in) at c.if-l-gt0.false in
     rw t
 
-pub barren-spec : {M : Type 1} → statement M
-barren-spec =
+pub barren_spec : {M : Type 1} → statement M
+barren_spec =
     tie.close
     (tie.spec
     invariant-loop

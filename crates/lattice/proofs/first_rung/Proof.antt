@@ -18,18 +18,18 @@ use Rattle.lattice.proofs.first_rung.Tie as tie
 strides : (s : tie.Start) → Within most_room (floor_div s.args.room s.args.l.stride)
 strides s = floor-within s.args.room s.args.l.stride s.requires.room_in
 
-floor-div-requires : tie.Need-floor-div-requires
+floor-div-requires : tie.Need-floor_div-s-requires
 floor-div-requires c κs = let s = c.before.before in rw (within-back tt s.requires.room_in, within-back tt s.requires.tame.stride-in)
     (within_more (omega arith) s.requires.room_in, nonzero s.args.l.stride s.requires.stride≥1)
 
-strides-is : (c : tie.After-floor-div) → c.floor-div.result ≡ floor_div c.before.before.before.args.room c.before.before.before.args.l.stride
-strides-is c = let s = c.before.before.before in rw (within-back tt s.requires.room_in, within-back tt s.requires.tame.stride-in) at c.floor-div.ensures
+strides-is : (c : tie.After-floor_div-s) → c.floor_div-s.result ≡ floor_div c.before.before.before.args.room c.before.before.before.args.l.stride
+strides-is c = let s = c.before.before.before in rw (within-back tt s.requires.room_in, within-back tt s.requires.tame.stride-in) at c.floor_div-s.ensures
 
-held : (c : tie.After-floor-div) → to_z w64 (of_z w64 c.floor-div.result) ≡ floor_div c.before.before.before.args.room
+held : (c : tie.After-floor_div-s) → to_z w64 (of_z w64 c.floor_div-s.result) ≡ floor_div c.before.before.before.args.room
     c.before.before.before.args.l.stride
-held c = rw (back c.floor-div.result c.floor-div.type-inv) (strides-is c)
+held c = rw (back c.floor_div-s.result c.floor_div-s.type_inv) (strides-is c)
 
-floor-div-requires-2 : tie.Need-floor-div-requires-2
+floor-div-requires-2 : tie.Need-floor_div-requires
 floor-div-requires-2 c κs = let s = c.before.before.before in rw (held c, within-back tt s.requires.tame.gap-in)
     (within_more (omega arith) (strides s), nonzero s.args.l.gap s.requires.tame.gap≥1)
 
@@ -37,21 +37,21 @@ abbrev S : tie.Start → ℤ
 S s = floor_div s.args.room s.args.l.stride
 
 -- the moments that are spoken of below
-abbrev start-of-floor-div : tie.After-floor-div → tie.Start
+abbrev start-of-floor-div : tie.After-floor_div-s → tie.Start
 start-of-floor-div c = c.before.before.before
 
-abbrev start : tie.After-floor-div2 → tie.Start
+abbrev start : tie.After-floor_div → tie.Start
 start c = start-of-floor-div c.before
 
 -- the gap times the second quotient, as the local holds it
-multiple : (c : tie.After-floor-div2) →
+multiple : (c : tie.After-floor_div) →
     let s = start c in
-    to_z w64 (of_z w64 s.args.l.gap) *ℤ to_z w64 (of_z w64 c.floor-div2.result)
+    to_z w64 (of_z w64 s.args.l.gap) *ℤ to_z w64 (of_z w64 c.floor_div.result)
     ≡ s.args.l.gap *ℤ floor_div (S s) s.args.l.gap
 multiple c =
     let s = start c in
-    let e = rw (held c.before, within-back tt s.pre.tame.gap-in) at c.floor-div2.ensures in
-    rw (within-back tt s.pre.tame.gap-in, back c.floor-div2.result c.floor-div2.type-inv, e)
+    let e = rw (held c.before, within-back tt s.requires.tame.gap-in) at c.floor_div.ensures in
+    rw (within-back tt s.requires.tame.gap-in, back c.floor_div.result c.floor_div.type_inv, e)
 
 taken : (s : tie.Start) → Within 20000100000000 (s.args.l.gap *ℤ floor_div (S s) s.args.l.gap)
 taken s = multiple-within (S s) s.args.l.gap s.requires.tame.gap≥1 (strides s) s.requires.tame.gap-in
@@ -65,20 +65,20 @@ weight s = multiple-within s.args.room s.args.l.stride s.requires.stride≥1 s.r
 worth : (s : tie.Start) → Within 10000000000000000 (s.args.l.slant *ℤ (S s -ℤ s.args.l.gap *ℤ floor_div (S s) s.args.l.gap))
 worth s = within-mul s.requires.tame.slant-in (left s)
 
-mul-t : tie.Need-overflow-mul-t
+mul-t : tie.Need-overflow_mul-t
 mul-t c = rw (multiple c) (within-sfits (lit< tt) (taken (start c)))
 
-sub-t : tie.Need-overflow-sub-t
+sub-t : tie.Need-overflow_sub-t
 sub-t c = let s = start c in rw (multiple c, within-back tt (taken s), held c.before) (within-sfits (lit< tt) (left s))
 
-mul-t7 : tie.Need-overflow-mul-t7
-mul-t7 c = let s = start c in rw (held c.before, within-back tt s.pre.tame.stride-in) (within-sfits (lit< tt) (weight s))
+mul-t7 : tie.Need-overflow_mul-result
+mul-t7 c = let s = start c in rw (held c.before, within-back tt s.requires.tame.stride-in) (within-sfits (lit< tt) (weight s))
 
-mul-t8 : tie.Need-overflow-mul-t8
+mul-t8 : tie.Need-overflow_mul-result-2
 mul-t8 c =
     let d = c.before.before in
     let s = start d in
-    rw (multiple d, within-back tt (taken s), held d.before, within-back tt (left s), within-back tt s.pre.tame.slant-in)
+    rw (multiple d, within-back tt (taken s), held d.before, within-back tt (left s), within-back tt s.requires.tame.slant-in)
     (within-sfits (lit< tt) (worth s))
 
 returns : tie.Need-returns
@@ -90,12 +90,12 @@ returns c =
       within-back tt (taken s),
       held d.before,
       within-back tt (left s),
-      within-back tt s.pre.tame.slant-in,
-      within-back tt s.pre.tame.stride-in,
+      within-back tt s.requires.tame.slant-in,
+      within-back tt s.requires.tame.stride-in,
       within-back tt (weight s),
       within-back tt (worth s),
     )
 
-pub first-rung-spec : {M : Type 1} → statement M
-first-rung-spec =
+pub first_rung_spec : {M : Type 1} → statement M
+first_rung_spec =
     tie.close (tie.spec floor-div-requires floor-div-requires-2 mul-t sub-t mul-t7 mul-t8 returns)

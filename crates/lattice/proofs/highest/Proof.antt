@@ -19,38 +19,38 @@ over s = within-sub s.requires.height-in s.requires.base-in
 steps : (s : tie.Start) → Within 230000000100000000 (s.args.l.gap *ℤ floor_div (s.args.h -ℤ s.args.base) s.args.l.gap)
 steps s = multiple-within (s.args.h -ℤ s.args.base) s.args.l.gap s.requires.tame.gap≥1 (over s) s.requires.tame.gap-in
 
-sub-floor-div : tie.Need-overflow-sub-floor-div
+sub-floor-div : tie.Need-overflow_sub-h
 sub-floor-div c = let s = c.before in rw (within-back tt s.requires.height-in, within-back tt s.requires.base-in) (within-sfits (lit< tt) (over s))
 
-floor-div-requires : tie.Need-floor-div-requires
+floor-div-requires : tie.Need-floor_div-requires
 floor-div-requires c κs =
     let s = c.before in
     rw (within-back tt s.requires.height-in, within-back tt s.requires.base-in, within-back tt (over s), within-back tt s.requires.tame.gap-in)
     (within_more (omega arith) (over s), nonzero s.args.l.gap s.requires.tame.gap≥1)
 
-quotient : (c : tie.After-floor-div) → c.floor-div.result ≡ floor_div (c.before.before.args.h -ℤ c.before.before.args.base)
+quotient : (c : tie.After-floor_div) → c.floor_div.result ≡ floor_div (c.before.before.args.h -ℤ c.before.before.args.base)
     c.before.before.args.l.gap
 quotient c =
     let s = c.before.before in
     rw (within-back tt s.requires.height-in, within-back tt s.requires.base-in, within-back tt (over s), within-back tt s.requires.tame.gap-in) at
-    c.floor-div.ensures
+    c.floor_div.ensures
 
 -- the gap times the quotient, as the local holds it
-multiple : (c : tie.After-floor-div) → to_z w64 (of_z w64 c.before.before.args.l.gap) *ℤ to_z w64 (of_z w64 c.floor-div.result)
+multiple : (c : tie.After-floor_div) → to_z w64 (of_z w64 c.before.before.args.l.gap) *ℤ to_z w64 (of_z w64 c.floor_div.result)
     ≡ c.before.before.args.l.gap *ℤ floor_div (c.before.before.args.h -ℤ c.before.before.args.base) c.before.before.args.l.gap
-multiple c = let s = c.before.before in rw (within-back tt s.requires.tame.gap-in, back c.floor-div.result c.floor-div.type-inv, quotient c)
+multiple c = let s = c.before.before in rw (within-back tt s.requires.tame.gap-in, back c.floor_div.result c.floor_div.type_inv, quotient c)
 
-mul-result : tie.Need-overflow-mul-result
+mul-result : tie.Need-overflow_mul-result
 mul-result c = rw (multiple c) (within-sfits (lit< tt) (steps c.before.before))
 
 total : (s : tie.Start) → Within 250000000100000000 (s.args.base +ℤ s.args.l.gap *ℤ floor_div (s.args.h -ℤ s.args.base) s.args.l.gap)
 total s = within-add s.requires.base-in (steps s)
 
-add-result : tie.Need-overflow-add-result
+add-result : tie.Need-overflow_add-result
 add-result c = let s = c.before.before in rw (multiple c, within-back tt (steps s), within-back tt s.requires.base-in) (within-sfits (lit< tt) (total s))
 
 returns : tie.Need-returns
 returns c = let s = c.before.before in rw (multiple c, within-back tt (steps s), within-back tt s.requires.base-in) (within-back tt (total s))
 
-pub highest-spec : {M : Type 1} → statement M
-highest-spec = tie.close (tie.spec sub-floor-div floor-div-requires mul-result add-result returns)
+pub highest_spec : {M : Type 1} → statement M
+highest_spec = tie.close (tie.spec sub-floor-div floor-div-requires mul-result add-result returns)

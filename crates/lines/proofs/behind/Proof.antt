@@ -3,17 +3,17 @@ use borrow.Author.Rules.{rules}
 use Rattle.lines.proofs.behind.Statement.{statement}
 use Rattle.lines.proofs.behind.Tie as tie
 
-enum-known-p : tie.Need-enum-known-p
+enum-known-p : tie.Need-enum_known-p
 enum-known-p c = search rules
 
-enum-known-p-2 : tie.Need-enum-known-p-2
+enum-known-p-2 : tie.Need-enum_known-p-in-Both-1
 enum-known-p-2 c = search rules
 
-returns : tie.Need-returns
-returns c = rw c.before.p.given.1
+returns : tie.Need-returns-in-Fault
+returns c = rw c.before.p-1.given.1
 
-returns-2 : tie.Need-returns-2
-returns-2 c = rw c.before.p2.given.1
+returns-2 : tie.Need-returns-in-Both
+returns-2 c = rw c.before.p-in-Both-1.given.1
 
-pub behind-spec : {M : Type 1} → statement M
-behind-spec = tie.close (tie.spec enum-known-p enum-known-p-2 returns returns-2)
+pub behind_spec : {M : Type 1} → statement M
+behind_spec = tie.close (tie.spec enum-known-p enum-known-p-2 returns returns-2)

@@ -7,43 +7,43 @@ use borrow.Author.Rules.{rules}
 use Rattle.lines.proofs.bound_at.Statement.{statement}
 use Rattle.lines.proofs.bound_at.Tie as tie
 
-cast-due : tie.Need-overflow-cast-due
+cast-due : tie.Need-overflow_cast-due
 cast-due c = search rules
 
-closed-number-requires : tie.Need-closed-number-requires
+closed-number-requires : tie.Need-closed_number-f-requires
 closed-number-requires c κs = rw (to_z_pos w64 {n = c.before.args.k} (omega arith)) (omega arith)
 
-enum-known-f : tie.Need-enum-known-f
+enum-known-f : tie.Need-enum_known-f
 enum-known-f c = search rules
 
-enum-known-f-2 : tie.Need-enum-known-f-2
+enum-known-f-2 : tie.Need-enum_known-f-in-Number-1
 enum-known-f-2 c = search rules
 
-bound-field-requires : tie.Need-bound-field-requires
+bound-field-requires : tie.Need-bound_field-requires
 bound-field-requires c κs = search rules
 
-bound-of-requires : tie.Need-bound-of-requires
+bound-of-requires : tie.Need-bound_of-requires
 bound-of-requires c κs = search rules
 
-returns : tie.Need-returns
+returns : tie.Need-returns-in-Fault
 unfolding bound_read
 returns c =
     let f = c.before in
     let n = f.before.before in
     let e = to_z_pos w64 {n = n.before.before.args.k} (omega arith) in
-    rw (sym (rw e at n.closed-number.ensures) ∙ f.f.given.1)
+    rw (sym (rw e at n.closed_number-f.ensures) ∙ f.f-1.given.1)
 
-returns-2 : tie.Need-returns-2
+returns-2 : tie.Need-returns-in-Number
 unfolding bound_read
 returns-2 c =
     let b = c.before in
     let f = b.before.before in
     let n = f.before.before in
     let e = to_z_pos w64 {n = n.before.before.args.k} (omega arith) in
-    rw (sym (rw e at n.closed-number.ensures) ∙ f.f2.given.1, ← b.bound-field.ensures) c.bound_of.ensures
+    rw (sym (rw e at n.closed_number-f.ensures) ∙ f.f-in-Number-1.given.1, ← b.bound_field.ensures) c.bound_of.ensures
 
-pub bound-at-spec : {M : Type 1} → statement M
-bound-at-spec =
+pub bound_at_spec : {M : Type 1} → statement M
+bound_at_spec =
     tie.close
     (tie.spec
     cast-due

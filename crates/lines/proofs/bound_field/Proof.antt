@@ -5,63 +5,59 @@ use borrow.Author.Rules.{rules}
 use Rattle.lines.proofs.bound_field.Statement.{statement}
 use Rattle.lines.proofs.bound_field.Tie as tie
 
-slice-aggregate-after-word : tie.Need-slice-aggregate-after-word
-slice-aggregate-after-word c = search rules
-
-after-word-requires : tie.Need-after-word-requires
+after-word-requires : tie.Need-after_word-w-requires
 after-word-requires c κs = search rules
 
-enum_told : tie.Need-enum-told
+enum_told : tie.Need-enum_told-1
 enum_told c = search rules
 
-number-bound-requires : tie.Need-number-bound-requires
+number-bound-requires : tie.Need-number_bound-requires
 number-bound-requires c κs = search rules
 
-enum-known-w : tie.Need-enum-known-w
+enum-known-w : tie.Need-enum_known-w
 enum-known-w c = search rules
 
-after-byte-requires : tie.Need-after-byte-requires
+after-byte-requires : tie.Need-after_byte-p-requires
 after-byte-requires c κs = search rules
 
-enum-told-2 : tie.Need-enum-told-2
+enum-told-2 : tie.Need-enum_told-in-Nothing-p
 enum-told-2 c = search rules
 
-fault-at-requires : tie.Need-fault-at-requires
+fault-at-requires : tie.Need-fault_at-requires
 fault-at-requires c κs = search rules
 
-enum-known-p : tie.Need-enum-known-p
+enum-known-p : tie.Need-enum_known-p
 enum-known-p c = search rules
 
-returns : tie.Need-returns
+returns : tie.Need-returns-in-Nothing
 unfolding bound_field
-returns c = let t = c.before in rw (sym t.before.before.after-word.ensures ∙ t.enum_told.given.1) c.number_bound.ensures
+returns c = let t = c.before in rw (sym t.before.before.after_word-w.ensures ∙ t.enum_told-1.given.1) c.number_bound.ensures
 
-returns-2 : tie.Need-returns-2
+returns-2 : tie.Need-returns-in-Nothing-p
 unfolding bound_field
 returns-2 c =
     let t = c.before in
     let k = t.before.before.before in
     rw (
-      sym k.before.before.before.after-word.ensures ∙ k.before.w.given.1,
-      sym t.before.before.after-byte.ensures ∙ t.enum-told2.given.1,
+      sym k.before.before.before.after_word-w.ensures ∙ k.before.w-1.given.1,
+      sym t.before.before.after_byte-p.ensures ∙ t.enum_told-in-Nothing-p-1.given.1,
     )
-    (ap (λ n. Fault n) c.fault-at.ensures)
+    (ap (λ n. Fault n) c.fault_at.ensures)
 
-returns-3 : tie.Need-returns-3
+returns-3 : tie.Need-returns-in-At-p
 unfolding bound_field
 returns-3 c =
     let p = c.before in
     let k = p.before.before.before in
     rw (
-      sym k.before.before.before.after-word.ensures ∙ k.before.w.given.1,
-      sym p.before.before.after-byte.ensures ∙ p.p.given.1,
+      sym k.before.before.before.after_word-w.ensures ∙ k.before.w-1.given.1,
+      sym p.before.before.after_byte-p.ensures ∙ p.p-1.given.1,
     )
 
-pub bound-field-spec : {M : Type 1} → statement M
-bound-field-spec =
+pub bound_field_spec : {M : Type 1} → statement M
+bound_field_spec =
     tie.close
     (tie.spec
-    slice-aggregate-after-word
     after-word-requires
     enum_told
     number-bound-requires

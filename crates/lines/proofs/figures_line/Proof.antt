@@ -5,34 +5,34 @@ use Rattle.lines.specs.Lines.{figures_line}
 use Rattle.lines.proofs.figures_line.Statement.{statement}
 use Rattle.lines.proofs.figures_line.Tie as tie
 
-closed-number-requires : tie.Need-closed-number-requires
+closed-number-requires : tie.Need-closed_number-f-requires
 closed-number-requires c κs = search rules
 
-enum-known-f : tie.Need-enum-known-f
+enum-known-f : tie.Need-enum_known-f
 enum-known-f c = search rules
 
-enum-known-f-2 : tie.Need-enum-known-f-2
+enum-known-f-2 : tie.Need-enum_known-f-in-Number-1
 enum-known-f-2 c = search rules
 
-numbers-line-requires : tie.Need-numbers-line-requires
+numbers-line-requires : tie.Need-numbers_line-requires
 numbers-line-requires c κs = search rules
 
 behind-requires : tie.Need-behind-requires
 behind-requires c κs = search rules
 
-returns : tie.Need-returns
+returns : tie.Need-returns-in-Fault
 unfolding figures_line
-returns c = rw (sym c.before.before.before.closed-number.ensures ∙ c.before.f.given.1)
+returns c = rw (sym c.before.before.before.closed_number-f.ensures ∙ c.before.f-1.given.1)
 
-returns-2 : tie.Need-returns-2
+returns-2 : tie.Need-returns-in-Number
 unfolding figures_line
 returns-2 c =
     let n = c.before in
     let k = n.before.before in
-    rw (sym k.before.before.closed-number.ensures ∙ k.f2.given.1, ← n.numbers-line.ensures) c.behind.ensures
+    rw (sym k.before.before.closed_number-f.ensures ∙ k.f-in-Number-1.given.1, ← n.numbers_line.ensures) c.behind.ensures
 
-pub figures-line-spec : {M : Type 1} → statement M
-figures-line-spec =
+pub figures_line_spec : {M : Type 1} → statement M
+figures_line_spec =
     tie.close
     (tie.spec
     closed-number-requires

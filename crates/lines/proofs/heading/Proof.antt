@@ -13,58 +13,58 @@ use borrow.Author.Rules.{rules}
 use Rattle.lines.proofs.heading.Statement.{statement}
 use Rattle.lines.proofs.heading.Tie as tie
 
-heading-line-requires : tie.Need-heading-line-requires
+heading-line-requires : tie.Need-heading_line-f-requires
 heading-line-requires c κs = search rules
 
-enum-known-f : tie.Need-enum-known-f
+enum-known-f : tie.Need-enum_known-f
 enum-known-f c = search rules
 
-enum-known-f-2 : tie.Need-enum-known-f-2
+enum-known-f-2 : tie.Need-enum_known-f-in-Number-1
 enum-known-f-2 c = search rules
 
-enum_told : tie.Need-enum-told
+enum_told : tie.Need-enum_told-1
 enum_told c = search rules
 
-enum-known-g : tie.Need-enum-known-g
+enum-known-g : tie.Need-enum_known-g
 enum-known-g c = search rules
 
 -- where the field was known, and where all began
-abbrev known : tie.After-known-told3 → tie.After-f2
+abbrev known : tie.In-In → tie.In-Number-2
 known c = let g = c.before.before in g.before.before
 
-abbrev start : tie.After-known-told3 → tie.Start
+abbrev start : tie.In-In → tie.Start
 start c = let h = (known c).before.before in h.before.before.before
 
-back-z : (c : tie.After-known-told3) → to_z w64 (of_z w64 c.before.g.given.0.0) ≡ c.before.g.given.0.0
-back-z c = back _ c.known-told3.given.0.1
+back-z : (c : tie.In-In) → to_z w64 (of_z w64 c.before.g-1.given.0.0) ≡ c.before.g-1.given.0.0
+back-z c = back _ c.known_told-in-Number-2.given.0.1
 
 -- the heading that was read
-read : (c : tie.After-known-told3) →
+read : (c : tie.In-In) →
     let a = (start c).args in
-    heading_line a.word.now a.range a.s.now a.at ≡ Number (In c.before.g.given.0.0) (known c).f2.given.0.1.0
+    heading_line a.word.now a.range a.s.now a.at ≡ Number (In c.before.g-1.given.0.0) (known c).f-in-Number-1.given.0.1.0
 read c =
     let k = known c in
-    sym k.before.before.heading-line.ensures ∙ k.f2.given.1 ∙ ap (λ x. Number x k.f2.given.0.1.0) c.before.g.given.1
+    sym k.before.before.heading_line-f.ensures ∙ k.f-in-Number-1.given.1 ∙ ap (λ x. Number x k.f-in-Number-1.given.0.1.0) c.before.g-1.given.1
 
-cast-t12 : tie.Need-overflow-cast-t12
+cast-t12 : tie.Need-overflow_cast-result
 cast-t12 c =
-    rw (back-z c) (cast-in (≤ℤ-trans (start c).requires.1 (heading-range _ _ _ _ _ _ (read c)).0) (record { sfits = c.known-told3.given.0.1 }))
+    rw (back-z c) (cast-in (≤ℤ-trans (start c).requires.1 (heading-range _ _ _ _ _ _ (read c)).0) (record { sfits = c.known_told-in-Number-2.given.0.1 }))
 
-returns : tie.Need-returns
+returns : tie.Need-returns-in-Fault
 unfolding count_at
-returns c = rw (sym c.before.before.before.heading-line.ensures ∙ c.before.f.given.1)
+returns c = rw (sym c.before.before.before.heading_line-f.ensures ∙ c.before.f-1.given.1)
 
-returns-2 : tie.Need-returns-2
+returns-2 : tie.Need-returns-in-Out
 unfolding count_at
 returns-2 c =
-    let k = c.before.before in rw (sym k.before.before.before.heading-line.ensures ∙ k.before.f2.given.1, c.enum_told.given.1)
+    let k = c.before.before in rw (sym k.before.before.before.heading_line-f.ensures ∙ k.before.f-in-Number-1.given.1, c.enum_told-1.given.1)
 
-returns-3 : tie.Need-returns-3
+returns-3 : tie.Need-returns-in-In
 unfolding count_at
 returns-3 c = rw (back-z c, read c)
 
-pub heading-spec : {M : Type 1} → statement M
-heading-spec =
+pub heading_spec : {M : Type 1} → statement M
+heading_spec =
     tie.close
     (tie.spec
     heading-line-requires

@@ -4,27 +4,27 @@ use borrow.Author.Rules.{rules}
 use Rattle.lines.proofs.item_at.Statement.{statement}
 use Rattle.lines.proofs.item_at.Tie as tie
 
-item-form-requires : tie.Need-item-form-requires
+item-form-requires : tie.Need-item_form-l-requires
 item-form-requires c κs = search rules
 
-enum-known-l : tie.Need-enum-known-l
+enum-known-l : tie.Need-enum_known-l
 enum-known-l c = search rules
 
-enum-known-l-2 : tie.Need-enum-known-l-2
+enum-known-l-2 : tie.Need-enum_known-l-in-Item-1
 enum-known-l-2 c = search rules
 
-item-of-requires : tie.Need-item-of-requires
+item-of-requires : tie.Need-item_of-requires
 item-of-requires c κs = search rules
 
-returns : tie.Need-returns
+returns : tie.Need-returns-in-Fault
 unfolding item_read
-returns c = rw (sym c.before.before.before.item-form.ensures ∙ c.before.l.given.1)
+returns c = rw (sym c.before.before.before.item_form-l.ensures ∙ c.before.l-1.given.1)
 
-returns-2 : tie.Need-returns-2
+returns-2 : tie.Need-returns-in-Item
 unfolding item_read
-returns-2 c = let l = c.before.before in rw (sym l.before.before.item-form.ensures ∙ l.l2.given.1) c.item_of.ensures
+returns-2 c = let l = c.before.before in rw (sym l.before.before.item_form-l.ensures ∙ l.l-in-Item-1.given.1) c.item_of.ensures
 
-pub item-at-spec : {M : Type 1} → statement M
-item-at-spec =
+pub item_at_spec : {M : Type 1} → statement M
+item_at_spec =
     tie.close
     (tie.spec item-form-requires enum-known-l enum-known-l-2 item-of-requires returns returns-2)

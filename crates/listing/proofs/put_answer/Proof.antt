@@ -14,49 +14,43 @@ as-kind : (n : ℕ) (a : Answer) {k : Kind} → a.kind ≡ k → printed n a ≡
 unfolding printed
 as-kind n a e = ap (λ k. printed_as k n a) e
 
-listed-items-requires : tie.Need-listed-items-requires
+listed-items-requires : tie.Need-listed_items-m-requires
 listed-items-requires c κs = search rules
 
-enum_told : tie.Need-enum-told
+enum_told : tie.Need-enum_told-1
 enum_told c = search rules
 
-put-best-requires : tie.Need-put-best-requires
+put-best-requires : tie.Need-put_best-next-requires
 put-best-requires c κs = search rules
 
-put-items-requires : tie.Need-put-items-requires
+put-items-requires : tie.Need-put_items-requires
 put-items-requires c κs = search rules
 
-enum-told-2 : tie.Need-enum-told-2
+enum-told-2 : tie.Need-enum_told-in-Infeasible
 enum-told-2 c = search rules
 
-slice-aggregate-put-word : tie.Need-slice-aggregate-put-word
-slice-aggregate-put-word c = search rules
-
-put-word-requires : tie.Need-put-word-requires
+put-word-requires : tie.Need-put_word-requires
 put-word-requires c κs = search rules
 
-enum-told-3 : tie.Need-enum-told-3
+enum-told-3 : tie.Need-enum_told-in-Unbounded
 enum-told-3 c = search rules
 
-slice-aggregate-put-word-2 : tie.Need-slice-aggregate-put-word-2
-slice-aggregate-put-word-2 c = search rules
-
-put-word-requires-2 : tie.Need-put-word-requires-2
+put-word-requires-2 : tie.Need-put_word-next-requires
 put-word-requires-2 c κs = search rules
 
-put-items-requires-2 : tie.Need-put-items-requires-2
+put-items-requires-2 : tie.Need-put_items-requires-in-Unbounded
 put-items-requires-2 c κs = search rules
 
-enum-known-kind : tie.Need-enum-known-kind
+enum-known-kind : tie.Need-enum_known-kind
 enum-known-kind c = search rules
 
-put-refused-requires : tie.Need-put-refused-requires
+put-refused-requires : tie.Need-put_refused-requires
 put-refused-requires c κs = search rules
 
-same_length : tie.Need-same-length
+same_length : tie.Need-shape_of-out-in-Optimal
 same_length c = search rules
 
-returns : tie.Need-returns
+returns : tie.Need-returns-in-Optimal
 returns c =
     let i = c.before.before in
     let at_out = i.before.before.before in
@@ -64,51 +58,51 @@ returns c =
     let t = b.before.before.before in
     let m = t.before.before in
     let s = m.before.before.args in
-    let h : m.listed-items.result ≤ 16 = omega arith in
-    let p = roomier {n = 1440} (omega arith) (puts (omega arith) b.put-best.ensures i.put-items.ensures) in
-    rw (as-kind s.n s.a t.enum_told.given.1) (rw m.listed-items.ensures at p)
+    let h : m.listed_items-m.result ≤ 16 = omega arith in
+    let p = roomier {n = 1440} (omega arith) (puts (omega arith) b.put_best-next.ensures i.put_items.ensures) in
+    rw (as-kind s.n s.a t.enum_told-1.given.1) (rw m.listed_items-m.ensures at p)
 
-same-length-2 : tie.Need-same-length-2
+same-length-2 : tie.Need-shape_of-out-in-Infeasible
 same-length-2 c = search rules
 
 -- the moments that are spoken of below
-abbrev start : tie.After-listed-items → tie.Start
+abbrev start : tie.After-listed_items-m → tie.Start
 start c = c.before.before
 
-returns-2 : tie.Need-returns-2
+returns-2 : tie.Need-returns-in-Infeasible
 returns-2 c =
     let w = c.before.before in
     let t = w.before.before.before in
     let s = (start t.before.before).args in
-    rw (as-kind s.n s.a t.enum-told2.given.1) (roomier (omega arith) w.put_word.ensures)
+    rw (as-kind s.n s.a t.before.enum_told-in-Infeasible-1.given.1) (roomier (omega arith) w.put_word.ensures)
 
-same-length-3 : tie.Need-same-length-3
+same-length-3 : tie.Need-shape_of-out-in-Unbounded
 same-length-3 c = search rules
 
-returns-3 : tie.Need-returns-3
+returns-3 : tie.Need-returns-in-Unbounded
 returns-3 c =
     let i = c.before.before in
     let at-out4 = i.before.before.before in
     let w = at-out4.before in
     let t = w.before.before.before in
     let m = t.before.before in
-    let s = m.before.before.args in
-    let h : m.listed-items.result ≤ 16 = omega arith in
-    let p = roomier {n = 1440} (omega arith) (puts (omega arith) w.put-word2.ensures i.put-items2.ensures) in
-    rw (as-kind s.n s.a t.enum-told3.given.1) (rw m.listed-items.ensures at p)
+    let s = m.before.before.before.args in
+    let h : m.before.listed_items-m.result ≤ 16 = omega arith in
+    let p = roomier {n = 1440} (omega arith) (puts (omega arith) w.put_word-next.ensures i.put_items-in-Unbounded.ensures) in
+    rw (as-kind s.n s.a t.before.enum_told-in-Unbounded-1.given.1) (rw m.before.listed_items-m.ensures at p)
 
-same-length-4 : tie.Need-same-length-4
+same-length-4 : tie.Need-shape_of-out-in-Refused
 same-length-4 c = search rules
 
-returns-4 : tie.Need-returns-4
+returns-4 : tie.Need-returns-in-Refused
 returns-4 c =
     let f = c.before.before in
     let t = f.before.before.before in
     let s = (start t.before.before).args in
-    rw (as-kind s.n s.a t.kind.given.1) (roomier (omega arith) f.Put-refused.ensures)
+    rw (as-kind s.n s.a t.kind-1.given.1) (roomier (omega arith) f.put_refused.ensures)
 
-pub put-answer-spec : {M : Type 1} → statement M
-put-answer-spec =
+pub put_answer_spec : {M : Type 1} → statement M
+put_answer_spec =
     tie.close
     (tie.spec
     listed-items-requires
@@ -116,10 +110,8 @@ put-answer-spec =
     put-best-requires
     put-items-requires
     enum-told-2
-    slice-aggregate-put-word
     put-word-requires
     enum-told-3
-    slice-aggregate-put-word-2
     put-word-requires-2
     put-items-requires-2
     enum-known-kind

@@ -8,29 +8,26 @@ use borrow.Author.Rules.{rules}
 use Rattle.listing.proofs.put_best.Statement.{statement}
 use Rattle.listing.proofs.put_best.Tie as tie
 
-slice-aggregate-put-word : tie.Need-slice-aggregate-put-word
-slice-aggregate-put-word c = search rules
-
-put-word-requires : tie.Need-put-word-requires
+put-word-requires : tie.Need-put_word-amount-requires
 put-word-requires c κs = search rules
 
-put-integer-requires : tie.Need-put-integer-requires
+put-integer-requires : tie.Need-put_integer-divisor-requires
 put-integer-requires c κs = search rules
 
-put-natural-requires : tie.Need-put-natural-requires
+put-natural-requires : tie.Need-put_natural-requires
 put-natural-requires c κs = search rules
 
-same_length : tie.Need-same-length
+same_length : tie.Need-shape_of-out
 same_length c = search rules
 
 -- the moments that are spoken of below
-abbrev start : tie.After-put-word-arg → tie.Start
+abbrev start : tie.After-put_word-arg-1 → tie.Start
 start c = c.before.before.before
 
-abbrev after-put-word : tie.After-put-integer-arg → tie.After-put-word
+abbrev after-put-word : tie.After-put_integer-arg-1 → tie.After-put_word-amount
 after-put-word c = c.before.before.before
 
-abbrev after-put-integer : tie.After-put-natural-arg → tie.After-put-integer
+abbrev after-put-integer : tie.After-put_natural-arg-1 → tie.After-put_integer-divisor
 after-put-integer c = c.before.before.before
 
 returns : tie.Need-returns
@@ -40,13 +37,12 @@ returns c =
     let w = after-put-word i.before in
     let s = start w.before.before in
     let h : SFits w64 s.args.value.p = search rules in
-    rw (to_z-of_z h) at (puts (omega arith) w.put_word.ensures (puts (omega arith) i.put-integer.ensures n.put-natural.ensures))
+    rw (to_z-of_z h) at (puts (omega arith) w.put_word-amount.ensures (puts (omega arith) i.put_integer-divisor.ensures n.put_natural.ensures))
 
-pub put-best-spec : {M : Type 1} → statement M
-put-best-spec =
+pub put_best_spec : {M : Type 1} → statement M
+put_best_spec =
     tie.close
     (tie.spec
-    slice-aggregate-put-word
     put-word-requires
     put-integer-requires
     put-natural-requires

@@ -11,63 +11,63 @@ use Rattle.text.proofs.Buffers.{put-nothing, puts, roomier}
 use Rattle.listing.proofs.put_items.Statement.{statement}
 use Rattle.listing.proofs.put_items.Tie as tie
 
-abbrev invariant-loop : tie.invariant-loop
+abbrev invariant-loop : tie.invariant-loop-k
 invariant-loop out₀ at steps n a next₀ k₀ out next k = (k ≤ n) × ((length out ≡ length out₀) × Put (86 * k) at (item_lines steps a k) out₀ out next)
 
-abbrev decreases-loop : tie.decreases-loop
+abbrev decreases-loop : tie.decreases-loop-k
 decreases-loop out₀ at steps n a next₀ k₀ out next k = n - k
 
-loop-holds : tie.Need-loop-init invariant-loop decreases-loop
+loop-holds : tie.Need-loop-k-init invariant-loop decreases-loop
 unfolding item_lines
 loop-holds c =
     let a = c.before.args in
     (omega arith, (refl, record { short = omega arith; next = omega arith; bytes = sym (put-nothing a.at a.out.now) }))
 
-mul-x : tie.Need-overflow-mul-x invariant-loop decreases-loop
+mul-x : tie.Need-offset_bounds-a-k invariant-loop decreases-loop
 mul-x c = omega arith
 
-element-copy-out-x : tie.Need-element-copy-out-x invariant-loop decreases-loop
+element-copy-out-x : tie.Need-bounds-a-k invariant-loop decreases-loop
 element-copy-out-x c = omega arith
 
-mul-s : tie.Need-overflow-mul-s invariant-loop decreases-loop
+mul-s : tie.Need-offset_bounds-a-k-in-loop-k invariant-loop decreases-loop
 mul-s c = omega arith
 
-element-copy-out-s : tie.Need-element-copy-out-s invariant-loop decreases-loop
+element-copy-out-s : tie.Need-bounds-a-k-in-loop-k invariant-loop decreases-loop
 element-copy-out-s c = omega arith
 
-put-item-requires : tie.Need-put-item-requires invariant-loop decreases-loop
+put-item-requires : tie.Need-put_item-next-requires invariant-loop decreases-loop
 put-item-requires c κs = omega arith
 
-add-k : tie.Need-overflow-add-k invariant-loop decreases-loop
+add-k : tie.Need-overflow_add-k invariant-loop decreases-loop
 add-k c = omega arith
 
-loop-less : tie.Need-loop-smaller invariant-loop decreases-loop
+loop-less : tie.Need-loop-k-smaller invariant-loop decreases-loop
 loop-less c = omega arith
 
 -- the moments that are spoken of below
-abbrev at-loop : tie.After-s invariant-loop decreases-loop → tie.At-loop invariant-loop decreases-loop
+abbrev at-loop : tie.After-s-1 invariant-loop decreases-loop → tie.At-loop-k invariant-loop decreases-loop
 at-loop c = c.before.before.before
 
-loop-again : tie.Need-loop-preserved invariant-loop decreases-loop
+loop-again : tie.Need-loop-k-preserved invariant-loop decreases-loop
 unfolding item_lines
 loop-again c =
     let p = c.before.before in
     let l = at-loop p.before.before in
-    let z = step_at l.before.before.args.t4 l.loop.k in
-    let e = rw (back z p.before.before.s.given) at p.put_item.ensures in
-    (omega arith, (omega arith, rw add-one (roomier (omega arith) (puts (omega arith) l.loop.inv.1.1 e))))
+    let z = step_at l.before.before.args.t4 l.loop-k.k in
+    let e = rw (back z p.before.before.s-1.given) at p.put_item-next.ensures in
+    (omega arith, (omega arith, rw add-one (roomier (omega arith) (puts (omega arith) l.loop-k.invariant.1.1 e))))
 
-same_length : tie.Need-same-length invariant-loop decreases-loop
+same_length : tie.Need-shape_of-out invariant-loop decreases-loop
 same_length c = omega arith
 
 returns : tie.Need-returns invariant-loop decreases-loop
 returns c =
     let s = c.before.before.before in
-    let e : c.before.loop.k ≡ s.args.n = omega arith in
-    rw e at c.before.loop.invariant.1.1
+    let e : c.before.loop-k.k ≡ s.args.n = omega arith in
+    rw e at c.before.loop-k.invariant.1.1
 
-pub put-items-spec : {M : Type 1} → statement M
-put-items-spec =
+pub put_items_spec : {M : Type 1} → statement M
+put_items_spec =
     tie.close
     (tie.spec
     invariant-loop

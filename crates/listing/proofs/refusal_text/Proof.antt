@@ -10,18 +10,15 @@ use borrow.Author.Rules.{rules}
 use Rattle.listing.proofs.refusal_text.Statement.{statement}
 use Rattle.listing.proofs.refusal_text.Tie as tie
 
-space-requires : tie.Need-space-requires
+space-requires : tie.Need-space-bytes-requires
 space-requires c κs = search rules
 
-slice-aggregate-put-refused : tie.Need-slice-aggregate-put-refused
-slice-aggregate-put-refused c = search rules
-
-put-refused-requires : tie.Need-put-refused-requires
+put-refused-requires : tie.Need-put_refused-len-requires
 put-refused-requires c κs = search rules
 
 returns : tie.Need-returns
 returns c =
-    let p = c.before.Put-refused in
+    let p = c.before.put_refused-len in
     let b = c.before.before in
     let a = b.before.before.args in
     let e : p.result ≡ length (refused_line a.f) = omega arith in
@@ -33,6 +30,6 @@ returns c =
       shown = rw (e, p.ensures.bytes) (put-shown (refused_line a.f) _);
     }
 
-pub refusal-text-spec : {M : Type 1} → statement M
-refusal-text-spec =
-    tie.close (tie.spec space-requires slice-aggregate-put-refused put-refused-requires returns)
+pub refusal_text_spec : {M : Type 1} → statement M
+refusal_text_spec =
+    tie.close (tie.spec space-requires put-refused-requires returns)

@@ -10,20 +10,17 @@ use borrow.Author.Rules.{rules}
 use Rattle.listing.proofs.text_of.Statement.{statement}
 use Rattle.listing.proofs.text_of.Tie as tie
 
-space-requires : tie.Need-space-requires
+space-requires : tie.Need-space-bytes-requires
 space-requires c κs = search rules
 
-slice-aggregate-put-answers : tie.Need-slice-aggregate-put-answers
-slice-aggregate-put-answers c = search rules
-
-put-answers-requires : tie.Need-put-answers-requires
+put-answers-requires : tie.Need-put_answers-len-requires
 put-answers-requires c κs = search rules
 
 returns : tie.Need-returns
 returns c =
     let at-space = c.before.before.before in
     let s = at-space.before in
-    let p = c.before.put-answers in
+    let p = c.before.put_answers-len in
     let a = s.args in
     let e : p.result ≡ length (printed_both a.n a.s) = omega arith in
     let h : p.result ≤ length p.new.0 = omega arith in
@@ -34,6 +31,6 @@ returns c =
       shown = rw (e, p.ensures.bytes) (put-shown (printed_both a.n a.s) _);
     }
 
-pub text-of-spec : {M : Type 1} → statement M
-text-of-spec =
-    tie.close (tie.spec space-requires slice-aggregate-put-answers put-answers-requires returns)
+pub text_of_spec : {M : Type 1} → statement M
+text_of_spec =
+    tie.close (tie.spec space-requires put-answers-requires returns)

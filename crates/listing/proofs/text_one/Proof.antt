@@ -10,20 +10,17 @@ use borrow.Author.Rules.{rules}
 use Rattle.listing.proofs.text_one.Statement.{statement}
 use Rattle.listing.proofs.text_one.Tie as tie
 
-space-requires : tie.Need-space-requires
+space-requires : tie.Need-space-bytes-requires
 space-requires c κs = search rules
 
-slice-aggregate-put-answer : tie.Need-slice-aggregate-put-answer
-slice-aggregate-put-answer c = search rules
-
-put-answer-requires : tie.Need-put-answer-requires
+put-answer-requires : tie.Need-put_answer-len-requires
 put-answer-requires c κs = search rules
 
 returns : tie.Need-returns
 returns c =
     let at-space = c.before.before.before in
     let s = at-space.before in
-    let p = c.before.put-answer in
+    let p = c.before.put_answer-len in
     let a = s.args in
     let e : p.result ≡ length (printed a.n a.a) = omega arith in
     let h : p.result ≤ length p.new.0 = omega arith in
@@ -34,6 +31,6 @@ returns c =
       shown = rw (e, p.ensures.bytes) (put-shown (printed a.n a.a) _);
     }
 
-pub text-one-spec : {M : Type 1} → statement M
-text-one-spec =
-    tie.close (tie.spec space-requires slice-aggregate-put-answer put-answer-requires returns)
+pub text_one_spec : {M : Type 1} → statement M
+text_one_spec =
+    tie.close (tie.spec space-requires put-answer-requires returns)

@@ -6,27 +6,23 @@ use borrow.Author.Rules.{rules}
 use Rattle.listing_test.proofs.listed_in_part.Statement.{statement}
 use Rattle.listing_test.proofs.listed_in_part.Tie as tie
 
-slice-relend-prefix-list-reply : tie.Need-slice-relend-prefix-list-reply
+slice-relend-prefix-list-reply : tie.Need-slice_bounds-list_reply-end
 slice-relend-prefix-list-reply c = search rules
 
-slice-aggregate-list-reply : tie.Need-slice-aggregate-list-reply
-slice-aggregate-list-reply c = sym (length-take-le _ _ (omega arith))
-
-list-reply-requires : tie.Need-list-reply-requires
+list-reply-requires : tie.Need-list_reply-requires
 list-reply-requires c κs = search rules
 
-same_length : tie.Need-same-length
+same_length : tie.Need-shape_of-out
 same_length c = search rules
 
 returns : tie.Need-returns
 returns c = search rules
 
-pub listed-in-part-spec : {M : Type 1} → statement M
-listed-in-part-spec =
+pub listed_in_part_spec : {M : Type 1} → statement M
+listed_in_part_spec =
     tie.close
     (tie.spec
     slice-relend-prefix-list-reply
-    slice-aggregate-list-reply
     list-reply-requires
     same_length
     returns)

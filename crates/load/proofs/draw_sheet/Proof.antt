@@ -8,18 +8,18 @@ use borrow.Author.Rules.{rules}
 use Rattle.load.proofs.draw_sheet.Statement.{statement}
 use Rattle.load.proofs.draw_sheet.Tie as tie
 
-draw-problem-requires : tie.Need-draw-problem-requires
+draw-problem-requires : tie.Need-draw_problem-d-requires
 draw-problem-requires c κs = search rules
 
-sheet-text-requires : tie.Need-sheet-text-requires
+sheet-text-requires : tie.Need-sheet_text-sheet-requires
 sheet-text-requires c κs =
     let d = c.before in
-    rw d.draw-problem.ensures (admitted (drawn_problem d.before.args.state).problem (drawn-admissible d.before.args.state))
+    rw d.draw_problem-d.ensures (admitted (drawn_problem d.before.args.state).problem (drawn-admissible d.before.args.state))
 
 returns : tie.Need-returns
 returns c =
-    let e = c.before.before.draw-problem.ensures in
-    (rw e at c.sheet-text.ensures, ap (λ (d : DrawnProblem). d.state) e)
+    let e = c.before.before.draw_problem-d.ensures in
+    (rw e at c.sheet_text-sheet.ensures, ap (λ (d : DrawnProblem). d.state) e)
 
-pub draw-sheet-spec : {M : Type 1} → statement M
-draw-sheet-spec = tie.close (tie.spec draw-problem-requires sheet-text-requires returns)
+pub draw_sheet_spec : {M : Type 1} → statement M
+draw_sheet_spec = tie.close (tie.spec draw-problem-requires sheet-text-requires returns)

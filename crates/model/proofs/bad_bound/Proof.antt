@@ -6,23 +6,23 @@ use borrow.Author.Rules.{rules}
 use Rattle.model.proofs.bad_bound.Statement.{statement}
 use Rattle.model.proofs.bad_bound.Tie as tie
 
-enum_told : tie.Need-enum-told
+enum_told : tie.Need-enum_told-1
 enum_told c = search rules
 
-enum-known-b : tie.Need-enum-known-b
+enum-known-b : tie.Need-enum_known-b
 enum-known-b c = search rules
 
 beyond-requires : tie.Need-beyond-requires
 beyond-requires c κs = search rules
 
-returns : tie.Need-returns
+returns : tie.Need-returns-in-Absent
 returns c = search rules
 
-returns-2 : tie.Need-returns-2
+returns-2 : tie.Need-returns-in-At
 returns-2 c =
-    let b = c.before.before.b.given in
+    let b = c.before.before.b-1.given in
     let h : SFits w64 b.0.0 = search rules in
     rw b.1 (rw (to_z-of_z h) at c.beyond.ensures)
 
-pub bad-bound-spec : {M : Type 1} → statement M
-bad-bound-spec = tie.close (tie.spec enum_told enum-known-b beyond-requires returns returns-2)
+pub bad_bound_spec : {M : Type 1} → statement M
+bad_bound_spec = tie.close (tie.spec enum_told enum-known-b beyond-requires returns returns-2)

@@ -16,17 +16,17 @@ low-test c =
 beyond-requires : tie.Need-beyond-requires
 beyond-requires c κs = search rules
 
-returns : tie.Need-returns
-returns c = rw (low-test c.before ∙ c.if1.true)
+returns : tie.Need-returns-then-beyond
+returns c = rw (low-test c.before ∙ c.if-beyond.true)
 
 beyond-requires-2 : tie.Need-beyond-requires-2
 beyond-requires-2 c κs = search rules
 
-returns-2 : tie.Need-returns-2
+returns-2 : tie.Need-returns
 returns-2 c =
     let e = c.before.before in
     let h : SFits w64 e.before.before.before.args.i.high = search rules in
-    rw (low-test e.before ∙ e.if1.false) (rw (to_z-of_z h) at c.beyond2.ensures)
+    rw (low-test e.before ∙ e.if-beyond.false) (rw (to_z-of_z h) at c.beyond-2.ensures)
 
-pub bad-weights-spec : {M : Type 1} → statement M
-bad-weights-spec = tie.close (tie.spec beyond-requires returns beyond-requires-2 returns-2)
+pub bad_weights_spec : {M : Type 1} → statement M
+bad_weights_spec = tie.close (tie.spec beyond-requires returns beyond-requires-2 returns-2)

@@ -4,26 +4,26 @@ use borrow.Author.Rules.{rules}
 use Rattle.model.proofs.check_counts.Statement.{statement}
 use Rattle.model.proofs.check_counts.Tie as tie
 
-refused-if-requires : tie.Need-refused-if-requires
+refused-if-requires : tie.Need-refused_if-requires
 refused-if-requires c κs = search rules
 
-returns : tie.Need-returns
-returns c = rw (eq-eqb _ _ c.before.if1.true) c.refused-if.ensures
+returns : tie.Need-returns-then-items-eq0
+returns c = rw (eq-eqb _ _ c.before.if-items-eq0.true) c.refused_if.ensures
 
-refused-if-requires-2 : tie.Need-refused-if-requires-2
+refused-if-requires-2 : tie.Need-refused_if-requires-then-items-gt16
 refused-if-requires-2 c κs = search rules
 
-returns-2 : tie.Need-returns-2
-returns-2 c = rw (ne_eqb _ _ c.before.before.if1.false, lt-ltb 16 _ c.before.if2.true) c.refused-if2.ensures
+returns-2 : tie.Need-returns-then-items-gt16
+returns-2 c = rw (ne_eqb _ _ c.before.before.if-items-eq0.false, lt-ltb 16 _ c.before.if-items-gt16.true) c.refused_if-then-items-gt16.ensures
 
-refused-if-requires-3 : tie.Need-refused-if-requires-3
+refused-if-requires-3 : tie.Need-refused_if-requires-2
 refused-if-requires-3 c κs = search rules
 
-returns-3 : tie.Need-returns-3
-returns-3 c = let e = c.before.before in rw (ne_eqb _ _ e.before.if1.false, le-ltb 16 _ e.if2.false) c.refused-if3.ensures
+returns-3 : tie.Need-returns
+returns-3 c = let e = c.before.before in rw (ne_eqb _ _ e.before.if-items-eq0.false, le-ltb 16 _ e.if-items-gt16.false) c.refused_if-2.ensures
 
-pub check-counts-spec : {M : Type 1} → statement M
-check-counts-spec =
+pub check_counts_spec : {M : Type 1} → statement M
+check_counts_spec =
     tie.close
     (tie.spec
     refused-if-requires

@@ -3,14 +3,14 @@ use borrow.Author.Rules.{rules}
 use Rattle.model.proofs.check_items.Statement.{statement}
 use Rattle.model.proofs.check_items.Tie as tie
 
-some-faulty-requires : tie.Need-some-faulty-requires
+some-faulty-requires : tie.Need-some_faulty-requires
 some-faulty-requires c κs = search rules
 
-refused-if-requires : tie.Need-refused-if-requires
+refused-if-requires : tie.Need-refused_if-requires
 refused-if-requires c κs = search rules
 
 returns : tie.Need-returns
-returns c = rw (c.refused-if.ensures, c.before.some-faulty.ensures)
+returns c = rw (c.refused_if.ensures, c.before.some_faulty.ensures)
 
-pub check-items-spec : {M : Type 1} → statement M
-check-items-spec = tie.close (tie.spec some-faulty-requires refused-if-requires returns)
+pub check_items_spec : {M : Type 1} → statement M
+check_items_spec = tie.close (tie.spec some-faulty-requires refused-if-requires returns)

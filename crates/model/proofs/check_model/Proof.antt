@@ -4,31 +4,31 @@ use Rattle.model.specs.Records.{verdict_by}
 use Rattle.model.proofs.check_model.Statement.{statement}
 use Rattle.model.proofs.check_model.Tie as tie
 
-check-counts-requires : tie.Need-check-counts-requires
+check-counts-requires : tie.Need-check_counts-v-requires
 check-counts-requires c κs = search rules
 
-check-figures-requires : tie.Need-check-figures-requires
+check-figures-requires : tie.Need-check_figures-requires
 check-figures-requires c κs = search rules
 
-first-of-requires : tie.Need-first-of-requires
+first-of-requires : tie.Need-first_of-w-requires
 first-of-requires c κs = search rules
 
-check-kinds-requires : tie.Need-check-kinds-requires
+check-kinds-requires : tie.Need-check_kinds-requires
 check-kinds-requires c κs = search rules
 
-first-of-requires-2 : tie.Need-first-of-requires-2
+first-of-requires-2 : tie.Need-first_of-x-requires
 first-of-requires-2 c κs = search rules
 
-check-needs-requires : tie.Need-check-needs-requires
+check-needs-requires : tie.Need-check_needs-requires
 check-needs-requires c κs = search rules
 
-first-of-requires-3 : tie.Need-first-of-requires-3
+first-of-requires-3 : tie.Need-first_of-y-requires
 first-of-requires-3 c κs = search rules
 
-check-items-requires : tie.Need-check-items-requires
+check-items-requires : tie.Need-check_items-requires
 check-items-requires c κs = search rules
 
-first-of-requires-4 : tie.Need-first-of-requires-4
+first-of-requires-4 : tie.Need-first_of-requires
 first-of-requires-4 c κs = search rules
 
 returns : tie.Need-returns
@@ -42,19 +42,19 @@ returns c =
     let w = k.before in
     let f = w.before in
     rw (
-      c.first-of4.ensures,
-      r.check-items.ensures,
-      y.first-of3.ensures,
-      n.check-needs.ensures,
-      x.first-of2.ensures,
-      k.check-kinds.ensures,
-      w.first_of.ensures,
-      f.check-figures.ensures,
-      f.before.check-counts.ensures,
+      c.first_of.ensures,
+      r.check_items.ensures,
+      y.first_of-y.ensures,
+      n.check_needs.ensures,
+      x.first_of-x.ensures,
+      k.check_kinds.ensures,
+      w.first_of-w.ensures,
+      f.check_figures.ensures,
+      f.before.check_counts-v.ensures,
     )
 
-pub check-model-spec : {M : Type 1} → statement M
-check-model-spec =
+pub check_model_spec : {M : Type 1} → statement M
+check_model_spec =
     tie.close
     (tie.spec
     check-counts-requires

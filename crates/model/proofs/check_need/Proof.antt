@@ -8,54 +8,54 @@ use Rattle.model.proofs.NeedLines.{line-numbers}
 use Rattle.model.proofs.check_need.Statement.{statement}
 use Rattle.model.proofs.check_need.Tie as tie
 
-held-of-requires : tie.Need-held-of-requires
+held-of-requires : tie.Need-held_of-n-requires
 held-of-requires c κs = search rules
 
-line-before-requires : tie.Need-line-before-requires
+line-before-requires : tie.Need-line_before-before-requires
 line-before-requires c κs = search rules
 
-mul-need : tie.Need-overflow-mul-need
+mul-need : tie.Need-offset_bounds-ns-j
 mul-need c = search rules
 
-element-copy-out-need : tie.Need-element-copy-out-need
+element-copy-out-need : tie.Need-bounds-ns-j
 element-copy-out-need c = search rules
 
-is-bad-line-requires : tie.Need-is-bad-line-requires
+is-bad-line-requires : tie.Need-is_bad_line-requires
 is-bad-line-requires c κs = search rules
 
-refused-if-requires : tie.Need-refused-if-requires
+refused-if-requires : tie.Need-refused_if-requires
 refused-if-requires c κs = search rules
 
 -- the code's test of row 5 is the definition's
-tested : (c : tie.After-is-bad-line) {b : Bool} → c.is-bad-line.result ≡ b →
+tested : (c : tie.After-is_bad_line) {b : Bool} → c.is_bad_line.result ≡ b →
     let l = c.before.before in
     let a = l.before.before.before.args in
     bad_line (held a.m.count) (line_before a.m.needs a.j) (need_at a.m.needs a.j) ≡ b
 tested c e =
     let l = c.before.before in
-    sym (rw (l.line_Before.ensures, l.before.before.held_of.ensures.0) at c.is-bad-line.ensures) ∙ e
+    sym (rw (l.line_before-before.ensures, l.before.before.held_of-n.ensures.0) at c.is_bad_line.ensures) ∙ e
 
-returns : tie.Need-returns
-returns c = rw (tested c.before.before c.before.if1.true) c.refused-if.ensures
+returns : tie.Need-returns-then-is_bad_line
+returns c = rw (tested c.before.before c.before.if-is_bad_line.true) c.refused_if.ensures
 
-names-unfit-requires : tie.Need-names-unfit-requires
+names-unfit-requires : tie.Need-names_unfit-requires
 names-unfit-requires c κs =
     let t = c.before in
     let l = t.before.before in
-    let n = line-numbers _ _ _ (tested t c.if1.false) in
-    let h = l.before.before.held_of.ensures in
+    let n = line-numbers _ _ _ (tested t c.if-is_bad_line.false) in
+    let h = l.before.before.held_of-n.ensures in
     ((n.first-least, omega (arith, h.0, h.1, n.first-most)), (n.second-least, omega (arith, h.0, h.1, n.second-most)))
 
-refused-if-requires-2 : tie.Need-refused-if-requires-2
+refused-if-requires-2 : tie.Need-refused_if-requires-2
 refused-if-requires-2 c κs = search rules
 
-returns-2 : tie.Need-returns-2
+returns-2 : tie.Need-returns
 returns-2 c =
     let u = c.before in
-    rw (tested u.before.before u.before.if1.false, ← u.names-unfit.ensures) c.refused-if2.ensures
+    rw (tested u.before.before u.before.if-is_bad_line.false, ← u.names_unfit.ensures) c.refused_if-2.ensures
 
-pub check-need-spec : {M : Type 1} → statement M
-check-need-spec =
+pub check_need_spec : {M : Type 1} → statement M
+check_need_spec =
     tie.close
     (tie.spec
     held-of-requires

@@ -7,20 +7,20 @@ use mir.Val.{SFits}
 use Rattle.model.proofs.is_blank.Statement.{statement}
 use Rattle.model.proofs.is_blank.Tie as tie
 
-is-weightless-requires : tie.Need-is-weightless-requires
+is-weightless-requires : tie.Need-is_weightless-requires
 is-weightless-requires c κs = search rules
 
-is-zero-requires : tie.Need-is-zero-requires
+is-zero-requires : tie.Need-is_zero-requires
 is-zero-requires c κs = search rules
 
-returns : tie.Need-returns
+returns : tie.Need-returns-then-is_weightless
 returns c =
     let e = c.before.before in
     let h : SFits w64 e.before.before.args.i.price = search rules in
-    rw (sym e.before.is-weightless.ensures ∙ e.if1.true) (rw (to_z-of_z h) at c.is_zero.ensures)
+    rw (sym e.before.is_weightless.ensures ∙ e.if-is_weightless.true) (rw (to_z-of_z h) at c.is_zero.ensures)
 
-returns-2 : tie.Need-returns-2
-returns-2 c = rw (sym c.before.is-weightless.ensures ∙ c.if1.false)
+returns-2 : tie.Need-returns
+returns-2 c = rw (sym c.before.is_weightless.ensures ∙ c.if-is_weightless.false)
 
-pub is-blank-spec : {M : Type 1} → statement M
-is-blank-spec = tie.close (tie.spec is-weightless-requires is-zero-requires returns returns-2)
+pub is_blank_spec : {M : Type 1} → statement M
+is_blank_spec = tie.close (tie.spec is-weightless-requires is-zero-requires returns returns-2)

@@ -9,11 +9,11 @@ use Rattle.model.proofs.BlankItems.{is_zero}
 use Rattle.model.proofs.is_zero.Statement.{statement}
 use Rattle.model.proofs.is_zero.Tie as tie
 
-returns : tie.Need-returns
-returns c = rw (bits-zero c.before.args.z c.before.ranges.z c.if1.true)
+returns : tie.Need-returns-then-z-eq0
+returns c = rw (bits-zero c.before.args.z c.before.ranges.z c.if-z-eq0.true)
 
-returns-2 : tie.Need-returns-2
-returns-2 c = sym (ne_eqb (nat_abs c.before.args.z) 0 (λ e. c.if1.false (ap (of_z w64) (is_zero c.before.args.z e))))
+returns-2 : tie.Need-returns
+returns-2 c = sym (ne_eqb (nat_abs c.before.args.z) 0 (λ e. c.if-z-eq0.false (ap (of_z w64) (is_zero c.before.args.z e))))
 
-pub is-zero-spec : {M : Type 1} → statement M
-is-zero-spec = tie.close (tie.spec returns returns-2)
+pub is_zero_spec : {M : Type 1} → statement M
+is_zero_spec = tie.close (tie.spec returns returns-2)

@@ -7,14 +7,14 @@ use Rattle.arith.proofs.Words.{back}
 use Rattle.model.proofs.item_in.Statement.{statement}
 use Rattle.model.proofs.item_in.Tie as tie
 
-weight-in-requires : tie.Need-weight-in-requires
+weight-in-requires : tie.Need-weight_in-weight-requires
 weight-in-requires c κs = search rules
 
 returns : tie.Need-returns
 returns c =
     let i = c.before.before.args.i in
     let g : SFits w64 i.price = search rules in
-    rw (back c.before.weight-in.result c.before.weight-in.type-inv, to_z-of_z g, c.before.weight-in.ensures)
+    rw (back c.before.weight_in-weight.result c.before.weight_in-weight.type_inv, to_z-of_z g, c.before.weight_in-weight.ensures)
 
-pub item-in-spec : {M : Type 1} → statement M
-item-in-spec = tie.close (tie.spec weight-in-requires returns)
+pub item_in_spec : {M : Type 1} → statement M
+item_in_spec = tie.close (tie.spec weight-in-requires returns)

@@ -18,51 +18,51 @@ use Rattle.model.proofs.plain_of.Tie as tie
 abbrev partly : Sense → Model → ℕ → Problem
 partly sense m k = record { items = filled_to sense 16 m.items k; count = m.count; capacity = m.capacity }
 
-abbrev invariant-loop : tie.invariant-loop
+abbrev invariant-loop : tie.invariant-loop-k
 invariant-loop sense m p₀ k₀ p k = (k ≤ 16) × ((length m.items ≡ 16) × (p ≡ partly sense m k))
 
-abbrev decreases-loop : tie.decreases-loop
+abbrev decreases-loop : tie.decreases-loop-k
 decreases-loop sense m p₀ k₀ p k = 16 - k
 
-unfilled-requires : tie.Need-unfilled-requires invariant-loop decreases-loop
+unfilled-requires : tie.Need-unfilled-p-requires invariant-loop decreases-loop
 unfilled-requires c κs = search rules
 
-loop-holds : tie.Need-loop-init invariant-loop decreases-loop
+loop-holds : tie.Need-loop-k-init invariant-loop decreases-loop
 loop-holds c =
-    let size : length c.before.args.t1.items ≡ 16 = simp length-map at c.before.well-formed.0.1.1.0.1.0.1 in
-    (omega arith, (size, rw (filled_none c.before.args.sense 16 c.before.args.t1.items) c.unfilled.ensures))
+    let size : length c.before.args.t1.items ≡ 16 = simp length-map at c.before.well_formed.0.1.1.0.1.0.1 in
+    (omega arith, (size, rw (filled_none c.before.args.sense 16 c.before.args.t1.items) c.unfilled-p.ensures))
 
-mul-i : tie.Need-overflow-mul-i invariant-loop decreases-loop
+mul-i : tie.Need-offset_bounds-m-k invariant-loop decreases-loop
 mul-i c = omega arith
 
-element-copy-out-i : tie.Need-element-copy-out-i invariant-loop decreases-loop
+element-copy-out-i : tie.Need-bounds-m-k invariant-loop decreases-loop
 element-copy-out-i c = omega arith
 
-item-in-requires : tie.Need-item-in-requires invariant-loop decreases-loop
+item-in-requires : tie.Need-item_in-requires invariant-loop decreases-loop
 item-in-requires c κs = search rules
 
-with-item-requires : tie.Need-with-item-requires invariant-loop decreases-loop
+with-item-requires : tie.Need-with_item-p-requires invariant-loop decreases-loop
 with-item-requires c κs = omega arith
 
-add-k : tie.Need-overflow-add-k invariant-loop decreases-loop
+add-k : tie.Need-overflow_add-k invariant-loop decreases-loop
 add-k c = omega arith
 
-loop-less : tie.Need-loop-smaller invariant-loop decreases-loop
+loop-less : tie.Need-loop-k-smaller invariant-loop decreases-loop
 loop-less c = omega arith
 
-loop-again : tie.Need-loop-preserved invariant-loop decreases-loop
+loop-again : tie.Need-loop-k-preserved invariant-loop decreases-loop
 loop-again c =
     let l = c.before.before.before.before in
     let a = l.before.before.args in
-    let k = l.loop.k in
-    let size = l.loop.invariant.1.0 in
-    let p : l.loop.p ≡ partly a.sense a.t1 k = l.loop.invariant.1.1 in
+    let k = l.loop-k.k in
+    let size = l.loop-k.invariant.1.0 in
+    let p : l.loop-k.p ≡ partly a.sense a.t1 k = l.loop-k.invariant.1.1 in
     let x : c.before.item_in.result ≡ item_in a.sense (item_at a.t1 k) = c.before.item_in.ensures in (
       omega arith,
       (
         size,
         rw add-one
-            (c.with_item.ensures ∙ ap (with_item l.loop.p k) x ∙ ap (λ (p : Problem). with_item p k (item_in a.sense (item_at a.t1 k))) p
+            (c.with_item-p.ensures ∙ ap (with_item l.loop-k.p k) x ∙ ap (λ (p : Problem). with_item p k (item_in a.sense (item_at a.t1 k))) p
             ∙ ap (λ t. record { items = t; count = a.t1.count; capacity = a.t1.capacity }) (filled_more a.sense 16 a.t1.items k (omega arith) (omega (arith, size)))),
       ),
     )
@@ -71,11 +71,11 @@ returns : tie.Need-returns invariant-loop decreases-loop
 returns c =
     let l = c.before in
     let a = l.before.before.args in
-    let e : l.loop.k ≡ 16 = omega arith in
-    l.loop.invariant.1.1 ∙ rw (e, filled-all a.sense 16 a.t1.items l.loop.invariant.1.0)
+    let e : l.loop-k.k ≡ 16 = omega arith in
+    l.loop-k.invariant.1.1 ∙ rw (e, filled-all a.sense 16 a.t1.items l.loop-k.invariant.1.0)
 
-pub plain-of-spec : {M : Type 1} → statement M
-plain-of-spec =
+pub plain_of_spec : {M : Type 1} → statement M
+plain_of_spec =
     tie.close
     (tie.spec
     invariant-loop

@@ -10,65 +10,65 @@ use Rattle.model.proofs.Records.{some-found, some_more}
 use Rattle.model.proofs.some_faulty.Statement.{statement}
 use Rattle.model.proofs.some_faulty.Tie as tie
 
-abbrev invariant-loop : tie.invariant-loop
+abbrev invariant-loop : tie.invariant-loop-k
 invariant-loop fault m n k₀ k = (k ≤ n) × (some_item k (item_at m) (has_fault fault) ≡ false)
 
-abbrev decreases-loop : tie.decreases-loop
+abbrev decreases-loop : tie.decreases-loop-k
 decreases-loop fault m n k₀ k = n - k
 
-held-of-requires : tie.Need-held-of-requires invariant-loop decreases-loop
+held-of-requires : tie.Need-held_of-n-requires invariant-loop decreases-loop
 held-of-requires c κs = search rules
 
-loop-holds : tie.Need-loop-init invariant-loop decreases-loop
+loop-holds : tie.Need-loop-k-init invariant-loop decreases-loop
 unfolding some_item
 loop-holds c = (omega arith, refl)
 
-mul-i : tie.Need-overflow-mul-i invariant-loop decreases-loop
+mul-i : tie.Need-offset_bounds-m-k invariant-loop decreases-loop
 mul-i c = omega arith
 
-element-copy-out-i : tie.Need-element-copy-out-i invariant-loop decreases-loop
+element-copy-out-i : tie.Need-bounds-m-k invariant-loop decreases-loop
 element-copy-out-i c = omega arith
 
-has-fault-requires : tie.Need-has-fault-requires invariant-loop decreases-loop
+has-fault-requires : tie.Need-has_fault-requires invariant-loop decreases-loop
 has-fault-requires c κs = search rules
 
-returns : tie.Need-returns invariant-loop decreases-loop
+returns : tie.Need-returns-then-has_fault invariant-loop decreases-loop
 returns c =
     let at-in-loop = c.before.before.before in
     let l = at-in-loop.before in
     let h = l.before in
     let a = h.before.args in
-    let found = some-found h.held_of.result l.loop.k (item_at a.t1) (has_fault a.fault) (omega arith)
-    (sym c.before.has-fault.ensures ∙ c.if1.true) in
-    sym (rw h.held_of.ensures.0 at found)
+    let found = some-found h.held_of-n.result l.loop-k.k (item_at a.t1) (has_fault a.fault) (omega arith)
+    (sym c.before.has_fault.ensures ∙ c.if-has_fault.true) in
+    sym (rw h.held_of-n.ensures.0 at found)
 
-add-k : tie.Need-overflow-add-k invariant-loop decreases-loop
+add-k : tie.Need-overflow_add-k invariant-loop decreases-loop
 add-k c = omega arith
 
-loop-less : tie.Need-loop-smaller invariant-loop decreases-loop
+loop-less : tie.Need-loop-k-smaller invariant-loop decreases-loop
 loop-less c = omega arith
 
 -- the moments that are spoken of below
-abbrev at-loop : tie.After-has-fault invariant-loop decreases-loop → tie.At-loop invariant-loop decreases-loop
+abbrev at-loop : tie.After-has_fault invariant-loop decreases-loop → tie.At-loop-k invariant-loop decreases-loop
 at-loop c = c.before.before.before
 
-loop-again : tie.Need-loop-preserved invariant-loop decreases-loop
+loop-again : tie.Need-loop-k-preserved invariant-loop decreases-loop
 loop-again c =
     let l = at-loop c.before in
     let a = l.before.before.args in (
       omega arith,
       rw add-one
-          (some_more l.loop.k (item_at a.t1) (has_fault a.fault) l.loop.inv.1 (sym c.before.has-fault.ensures ∙ c.if1.false)),
+          (some_more l.loop-k.k (item_at a.t1) (has_fault a.fault) l.loop-k.invariant.1 (sym c.before.has_fault.ensures ∙ c.if-has_fault.false)),
     )
 
-returns-2 : tie.Need-returns-2 invariant-loop decreases-loop
+returns-2 : tie.Need-returns invariant-loop decreases-loop
 returns-2 c =
     let l = c.before in
-    let e : l.loop.k ≡ l.before.held_of.result = omega arith in
-    sym (rw (e, l.before.held_of.ensures.0) at l.loop.invariant.1)
+    let e : l.loop-k.k ≡ l.before.held_of-n.result = omega arith in
+    sym (rw (e, l.before.held_of-n.ensures.0) at l.loop-k.invariant.1)
 
-pub some-faulty-spec : {M : Type 1} → statement M
-some-faulty-spec =
+pub some_faulty_spec : {M : Type 1} → statement M
+some_faulty_spec =
     tie.close
     (tie.spec
     invariant-loop

@@ -6,13 +6,13 @@ use mir.Val.{SFits}
 use Rattle.model.proofs.unfilled.Statement.{statement}
 use Rattle.model.proofs.unfilled.Tie as tie
 
-blank-item-requires : tie.Need-blank-item-requires
+blank-item-requires : tie.Need-blank_item-item-requires
 blank-item-requires c κs = search rules
 
 returns : tie.Need-returns
 returns c =
     let h : SFits w64 c.before.before.args.m.capacity = search rules in
-    rw (c.before.blank-item.ensures, to_z-of_z h)
+    rw (c.before.blank_item-item.ensures, to_z-of_z h)
 
-pub unfilled-spec : {M : Type 1} → statement M
-unfilled-spec = tie.close (tie.spec blank-item-requires returns)
+pub unfilled_spec : {M : Type 1} → statement M
+unfilled_spec = tie.close (tie.spec blank-item-requires returns)

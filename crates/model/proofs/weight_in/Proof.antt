@@ -6,21 +6,21 @@ use mir.Val.{SFits}
 use Rattle.model.proofs.weight_in.Statement.{statement}
 use Rattle.model.proofs.weight_in.Tie as tie
 
-enum_told : tie.Need-enum-told
+enum_told : tie.Need-enum_told-1
 enum_told c = search rules
 
-enum-told-2 : tie.Need-enum-told-2
+enum-told-2 : tie.Need-enum_told-in-Possible
 enum-told-2 c = search rules
 
-returns : tie.Need-returns
+returns : tie.Need-returns-in-Sure
 returns c =
     let h : SFits w64 c.before.before.before.args.i.high = search rules in
-    rw c.before.enum_told.given.1 (to_z-of_z h)
+    rw c.before.enum_told-1.given.1 (to_z-of_z h)
 
-returns-2 : tie.Need-returns-2
+returns-2 : tie.Need-returns-in-Possible
 returns-2 c =
     let h : SFits w64 c.before.before.before.args.i.low = search rules in
-    rw c.before.enum-told2.given.1 (to_z-of_z h)
+    rw c.before.enum_told-in-Possible-1.given.1 (to_z-of_z h)
 
-pub weight-in-spec : {M : Type 1} → statement M
-weight-in-spec = tie.close (tie.spec enum_told enum-told-2 returns returns-2)
+pub weight_in_spec : {M : Type 1} → statement M
+weight_in_spec = tie.close (tie.spec enum_told enum-told-2 returns returns-2)

@@ -112,7 +112,7 @@ module _ (t : ℕ) where
   lacks h = h.before.before.before
 
   abbrev broken : Needing → Need
-  broken c = c.need-at.result
+  broken c = c.need_at-n.result
 
   long : (s : Start) → length s.args.p.items ≡ 16
   long s = simp length-map at s.well-formed.0.1.1.0.1.0.1
@@ -128,7 +128,7 @@ module _ (t : ℕ) where
   among : (c : Needing) → Among (broken c) (needs_of (start c).args.ns)
   among c =
       let ns = (start c).args.ns in
-      subst (λ n. Among n (needs_of ns)) (sym c.need-at.ensures) (need-in ns (asked c).first-broken.result c.before.if2.true)
+      subst (λ n. Among n (needs_of ns)) (sym c.need_at-n.ensures) (need-in ns (asked c).first_broken-i.result c.before.if-i-ns.true)
 
   its : (c : Needing) → Allowed (instance_of (start c).args.p) (broken c)
   its c = (start c).requires.1.allowed (broken c) (among c)
@@ -141,65 +141,65 @@ module _ (t : ℕ) where
       let o = after-outdoes f in
       let a = s.args.r.answer in
       let i = instance_of s.args.p in
-      let k = (o.outdoes.ensures.ahead f.before.before.if1.taken).0 in
+      let k = (o.outdoes.ensures.ahead f.before.before.if-outdoes.true).0 in
       let b : breaks a.point (broken c) ≡ true =
-      subst (λ n. breaks a.point n ≡ true) (sym c.need-at.ensures) (f.first-broken.ensures.broken c.before.if2.true) in
-      broken-open i (broken c) ((its c).item.inside, (its c).cover.inside) (point_of a) (optimal-of i a s.pre.1.solved.answers k).optimal.feasible
+      subst (λ n. breaks a.point n ≡ true) (sym c.need_at-n.ensures) (f.first_broken-i.ensures.broken c.before.if-i-ns.true) in
+      broken-open i (broken c) ((its c).item.inside, (its c).cover.inside) (point_of a) (optimal-of i a s.requires.1.solved.answers k).optimal.feasible
       (breaks-yes i a (broken c) b)
 
   -- the two cases
-  q-is : (w : Lacking) → let c = w.before in instance_of w.without.result ≡ without (instance_of (start c).args.p) (broken c).item
+  q-is : (w : Lacking) → let c = w.before in instance_of w.without-q.result ≡ without (instance_of (start c).args.p) (broken c).item
   q-is w =
       let c = w.before in
       let s = start c in
-      ap instance_of w.without.ensures ∙ capped_is s.args.p (broken c).item
-      (omega (arith, long s, (its c).item.inside, s.pre.1.figures.few-items))
+      ap instance_of w.without-q.ensures ∙ capped_is s.args.p (broken c).item
+      (omega (arith, long s, (its c).item.inside, s.requires.1.figures.few-items))
 
-  q-figures : (w : Lacking) → FiguresInRange w.without.result
+  q-figures : (w : Lacking) → FiguresInRange w.without-q.result
   q-figures w =
       let c = w.before in
       let s = start c in
-      let f = s.pre.1.figures in
+      let f = s.requires.1.figures in
       let l = (its c).item.inside in
-      rw w.without.ensures (capped-figures s.args.p (broken c).item (omega (arith, long s, l, f.few-items)) l f)
+      rw w.without-q.ensures (capped-figures s.args.p (broken c).item (omega (arith, long s, l, f.few-items)) l f)
 
-  q-part : (w : Lacking) → let s = start w.before in Part (instance_of s.args.p) (needs_of s.args.ns) (instance_of w.without.result)
+  q-part : (w : Lacking) → let s = start w.before in Part (instance_of s.args.p) (needs_of s.args.ns) (instance_of w.without-q.result)
   q-part w =
       let c = w.before in
       let s = start c in
       subst (Part (instance_of s.args.p) (needs_of s.args.ns)) (sym (q-is w))
-      (part_without (instance_of s.args.p) (needs_of s.args.ns) s.pre.1.allowed s.pre.1.limited (broken c) (among c) (open-yet c))
+      (part_without (instance_of s.args.p) (needs_of s.args.ns) s.requires.1.allowed s.requires.1.limited (broken c) (among c) (open-yet c))
 
-  h-is : (h : Having) → let c = (lacks h).before in instance_of h.having.result ≡ having (instance_of (start c).args.p) (broken c).cover
+  h-is : (h : Having) → let c = (lacks h).before in instance_of h.having-h.result ≡ having (instance_of (start c).args.p) (broken c).cover
   h-is h =
       let c = (lacks h).before in
       let s = start c in
-      ap instance_of h.having.ensures ∙ raised_is s.args.p (broken c).cover
-      (omega (arith, long s, (its c).cover.inside, s.pre.1.figures.few-items))
+      ap instance_of h.having-h.ensures ∙ raised_is s.args.p (broken c).cover
+      (omega (arith, long s, (its c).cover.inside, s.requires.1.figures.few-items))
 
-  h-figures : (h : Having) → FiguresInRange h.having.result
+  h-figures : (h : Having) → FiguresInRange h.having-h.result
   h-figures h =
       let c = (lacks h).before in
       let s = start c in
-      let f = s.pre.1.figures in
+      let f = s.requires.1.figures in
       let l = (its c).cover.inside in
-      rw h.having.ensures (raised-figures s.args.p (broken c).cover (omega (arith, long s, l, f.few-items)) l f)
+      rw h.having-h.ensures (raised-figures s.args.p (broken c).cover (omega (arith, long s, l, f.few-items)) l f)
 
-  h-part : (h : Having) → let s = start (lacks h).before in Part (instance_of s.args.p) (needs_of s.args.ns) (instance_of h.having.result)
+  h-part : (h : Having) → let s = start (lacks h).before in Part (instance_of s.args.p) (needs_of s.args.ns) (instance_of h.having-h.result)
   h-part h =
       let c = (lacks h).before in
       let s = start c in
       subst (Part (instance_of s.args.p) (needs_of s.args.ns)) (sym (h-is h))
-      (part-having (instance_of s.args.p) (needs_of s.args.ns) s.pre.1.allowed s.pre.1.limited (broken c) (among c) (open-yet c))
+      (part-having (instance_of s.args.p) (needs_of s.args.ns) s.requires.1.allowed s.requires.1.limited (broken c) (among c) (open-yet c))
 
   -- both cases are few enough
   both-few : (h : Having) → let s = start (lacks h).before in let ns = needs_of s.args.ns in
-      suc (twigs (undecided (instance_of (lacks h).without.result) ns) + twigs (undecided (instance_of h.having.result) ns))
+      suc (twigs (undecided (instance_of (lacks h).without-q.result) ns) + twigs (undecided (instance_of h.having-h.result) ns))
       ≤ twigs (undecided (instance_of s.args.p) ns)
   both-few h =
       let s = start (lacks h).before in
       let ns = needs_of s.args.ns in
-      twigs-two (undecided (instance_of (lacks h).without.result) ns) (undecided (instance_of h.having.result) ns)
+      twigs-two (undecided (instance_of (lacks h).without-q.result) ns) (undecided (instance_of h.having-h.result) ns)
       (undecided (instance_of s.args.p) ns) (q-part (lacks h)).fewer (h-part h).fewer
 
   -- ---- what the code owes
@@ -215,7 +215,7 @@ module _ (t : ℕ) where
   branch-outdoes-requires c κs =
       let s = c.before.before in
       let b = s.requires.1 in
-      rw c.before.counted.ensures (
+      rw c.before.counted-c.ensures (
         b.figures.few-items,
         (
           plain-comparable (instance_of s.args.p) s.args.r.answer b.solved.answers,
@@ -229,7 +229,7 @@ module _ (t : ℕ) where
   branch-need-at-requires : branch-lts.Need-need-at-requires (calls t) (branch-at t) branch.Post
   branch-need-at-requires c κs =
       let s = (after-counted (after-outdoes c.before.before)).before in
-      omega (arith, c.if2.true, s.pre.1.few)
+      omega (arith, c.if-i-ns.true, s.requires.1.few)
 
   branch-without-requires : branch-lts.Need-without-requires (calls t) (branch-at t) branch.Post
   branch-without-requires c κs = omega (arith, (its c).item.inside, (start c).requires.1.figures.few-items)
@@ -241,13 +241,13 @@ module _ (t : ℕ) where
   branch-branch-requires c κs =
       let w = c.before in
       let s = start w.before in
-      let b = s.pre.1 in
-      let u = undecided (instance_of w.without.result) (needs_of s.args.ns) in
+      let b = s.requires.1 in
+      let u = undecided (instance_of w.without-q.result) (needs_of s.args.ns) in
       let part = q-part w in (
-        subst (λ n. u < n) s.pre.0 part.fewer,
-        rw (counts w.before).counted.ensures
-            (enter s.args.p w.without.result s.args.ns s.args.most c.solve-case.result (counted_of s.args.b s.args.r)
-            (q-figures w) c.solve-case.ensures.0 b.short b.few part b.holds (own-work (more-work s))
+        subst (λ n. u < n) s.requires.0 part.fewer,
+        rw (counts w.before).counted-c.ensures
+            (enter s.args.p w.without-q.result s.args.ns s.args.most c.solve_case.result (counted_of s.args.b s.args.r)
+            (q-figures w) c.solve_case.ensures.0 b.short b.few part b.holds (own-work (more-work s))
             (omega (arith, b.room, twigs-two u u (undecided (instance_of s.args.p) (needs_of s.args.ns)) part.fewer part.fewer))),
       )
 
@@ -262,14 +262,14 @@ module _ (t : ℕ) where
       let h = c.before in
       let n = (lacks h).before in
       let s = start n in
-      let b = s.pre.1 in
+      let b = s.requires.1 in
       let ns = needs_of s.args.ns in
       let part = h-part h in
       let d = h.before.branch in
-      let most : d.result.cases ≤ s.args.b.cases + 1 + twigs (undecided (instance_of (lacks h).without.result) ns) =
-      rw (counts n).counted.ensures at d.ensures.0.worked.cases in (
-        subst (λ u. undecided (instance_of h.having.result) ns < u) s.pre.0 part.fewer,
-        enter s.args.p h.having.result s.args.ns s.args.most c.solve-case2.result d.result (h-figures h) c.solve-case2.ensures.0
+      let most : d.result.cases ≤ s.args.b.cases + 1 + twigs (undecided (instance_of (lacks h).without-q.result) ns) =
+      rw (counts n).counted-c.ensures at d.ensures.0.worked.cases in (
+        subst (λ u. undecided (instance_of h.having-h.result) ns < u) s.requires.0 part.fewer,
+        enter s.args.p h.having-h.result s.args.ns s.args.most c.solve_case-then-i-ns.result d.result (h-figures h) c.solve_case-then-i-ns.ensures.0
             b.short b.few part (λ f. (q-part (lacks h)).out d.result.answer (d.ensures.0.holds f)) (own-work d.ensures.0.worked)
             (omega (arith, b.room, most, both-few h)),
       )
@@ -281,12 +281,12 @@ module _ (t : ℕ) where
       let o = after-outdoes f in
       let k = after-counted o in
       let s = k.before in
-      subst (λ x. Outdoes s.args.p.count s.args.r.answer x true) k.counted.ensures
-      (subst (Outdoes s.args.p.count s.args.r.answer k.counted.result) f.before.before.if1.taken o.outdoes.ensures)
+      subst (λ x. Outdoes s.args.p.count s.args.r.answer x true) k.counted-c.ensures
+      (subst (Outdoes s.args.p.count s.args.r.answer k.counted-c.result) f.before.before.if-outdoes.true o.outdoes.ensures)
 
   -- the work of both cases
   split-take : (c : Returned) → let s = start (lacks c.before.before).before in
-      CasesTake s.args.ns s.args.most s.args.p s.args.r s.args.b c.branch2.result
+      CasesTake s.args.ns s.args.most s.args.p s.args.r s.args.b c.branch-h.result
   split-take c =
       let h = c.before.before in
       let w = lacks h in
@@ -296,22 +296,22 @@ module _ (t : ℕ) where
       let k = (counts n).counted in
       let ns = s.args.ns in
       let most = s.args.most in
-      let i = f.first-broken.result in
+      let i = f.first_broken-i.result in
       let one = counted_of s.args.b s.args.r in
       let d = h.before.branch in
       let v = h.before.before.solve-case in
       let z = c.before.solve-case2 in
-      let q : w.without.result ≡ capped_at s.args.p (placed (need_at ns i)).item =
-      w.without.ensures ∙ ap (λ (x : Need). capped_at s.args.p x.item) n.need-at.ensures in
-      let g : h.having.result ≡ raised_at s.args.p (placed (need_at ns i)).cover =
-      h.having.ensures ∙ ap (λ (x : Need). raised_at s.args.p x.cover) n.need-at.ensures in
-      split s.args.p s.args.r s.args.b i v.result z.result d.result c.branch2.result
-      (ahead_of f) f.first-broken.ensures n.before.if2.taken
+      let q : w.without-q.result ≡ capped_at s.args.p (placed (need_at ns i)).item =
+      w.without-q.ensures ∙ ap (λ (x : Need). capped_at s.args.p x.item) n.need_at-n.ensures in
+      let g : h.having-h.result ≡ raised_at s.args.p (placed (need_at ns i)).cover =
+      h.having-h.ensures ∙ ap (λ (x : Need). raised_at s.args.p x.cover) n.need_at-n.ensures in
+      split s.args.p s.args.r s.args.b i v.result z.result d.result c.branch-h.result
+      (ahead_of f) f.first_broken-i.ensures n.before.if-i-ns.true
       (subst (λ x. SolvesCase most x (needs_of ns) v.result) q v.ensures)
       (subst (λ x. CasesTake ns most x v.result one d.result) q
-      (subst (λ x. CasesTake ns most w.without.result v.result x d.result) k.ensures d.ensures.1))
+      (subst (λ x. CasesTake ns most w.without-q.result v.result x d.result) k.ensures d.ensures.1))
       (subst (λ x. SolvesCase most x (needs_of ns) z.result) g z.ensures)
-      (subst (λ x. CasesTake ns most x z.result d.result c.branch2.result) g c.branch2.ensures.1)
+      (subst (λ x. CasesTake ns most x z.result d.result c.branch-h.result) g c.branch-h.ensures.1)
 
   branch-returns : branch-lts.Need-returns (calls t) (branch-at t) branch.Post
   branch-returns c =
@@ -320,10 +320,10 @@ module _ (t : ℕ) where
       let n = w.before in
       let s = start n in
       let k = (counts n).counted in (
-        through-split (instance_of s.args.p) (needs_of s.args.ns) s.args.most s.pre.1.allowed (broken n) (among n)
-            (instance_of w.without.result) (instance_of h.having.result) (q-is w) (h-is h) (q-part w) (h-part h) s.args.b k.result
-            h.before.branch.result c.branch2.result (ap known k.ensures) (ap (λ (x : Best). x.cases) k.ensures) h.before.branch.ensures.0
-            c.branch2.ensures.0,
+        through-split (instance_of s.args.p) (needs_of s.args.ns) s.args.most s.requires.1.allowed (broken n) (among n)
+            (instance_of w.without-q.result) (instance_of h.having-h.result) (q-is w) (h-is h) (q-part w) (h-part h) s.args.b k.result
+            h.before.branch-d.result c.branch-h.result (ap known k.ensures) (ap (λ (x : Best). x.cases) k.ensures) h.before.branch-d.ensures.0
+            c.branch-h.ensures.0,
         split-take c,
       )
 
@@ -339,10 +339,10 @@ module _ (t : ℕ) where
       let b = s.requires.1 in
       let i = instance_of s.args.p in
       let a = s.args.r.answer in
-      let e = f.first-broken.ensures in
-      let all : f.first-broken.result ≡ s.args.ns.count = omega (arith, e.most, c.before.if2.false) in
-      let ahead = rw k.counted.ensures at (o.outdoes.ensures.ahead f.before.before.if1.true) in
-      rw (c.with-best.ensures, k.counted.ensures) (
+      let e = f.first_broken-i.ensures in
+      let all : f.first_broken-i.result ≡ s.args.ns.count = omega (arith, e.most, c.before.if-i-ns.false) in
+      let ahead = rw k.counted-c.ensures at (o.outdoes.ensures.ahead f.before.before.if-outdoes.true) in
+      rw (c.with_best.ensures, k.counted-c.ensures) (
         through-kept i (needs_of s.args.ns) s.args.most s.args.b s.args.r a b.solved.answers b.solved.first b.limited b.holds
             (more-work s) ahead
             (every-kept s.args.ns i a b.allowed (optimal-of i a b.solved.answers ahead.0).optimal.feasible
@@ -355,17 +355,17 @@ module _ (t : ℕ) where
       let o = c.before in
       let k = after-counted o in
       let s = k.before in
-      let b = s.pre.1 in
-      rw k.counted.ensures (
+      let b = s.requires.1 in
+      rw k.counted-c.ensures (
         through-behind (instance_of s.args.p) (needs_of s.args.ns) s.args.most s.args.b s.args.r s.args.r.answer b.solved.answers
-            b.solved.first b.limited b.holds (more-work s) (rw k.counted.ensures at (o.outdoes.ensures.behind c.if1.false)),
+            b.solved.first b.limited b.holds (more-work s) (rw k.counted-c.ensures at (o.outdoes.ensures.behind c.if-outdoes.false)),
         left s.args.p s.args.r s.args.b
-            (subst (Outdoes s.args.p.count s.args.r.answer (counted_of s.args.b s.args.r)) c.if1.false
-            (rw k.counted.ensures at o.outdoes.ensures)),
+            (subst (Outdoes s.args.p.count s.args.r.answer (counted_of s.args.b s.args.r)) c.if-outdoes.false
+            (rw k.counted-c.ensures at o.outdoes.ensures)),
       )
 
-pub +branch-spec : {M : Type 1} → statement M
-+branch-spec = close μ-branch λ t. branch-lts.spec (calls t)
+pub +branch_spec : {M : Type 1} → statement M
++branch_spec = close μ-branch λ t. branch-lts.spec (calls t)
     (branch-at t)
     branch.Post
     (branch-counted-requires t)

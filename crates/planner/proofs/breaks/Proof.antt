@@ -27,49 +27,49 @@ long : (s : tie.Start) → length s.args.t1 ≡ 16
 long s = search rules
 
 -- the start, from the test of the item's amount
-abbrev start : tie.After-struct-told → tie.Start
+abbrev start : tie.After-struct_told-1 → tie.Start
 start c = c.before.before.before.before
 
-item-fits : (c : tie.Then1) → let s = start c.before in mag (get_or s.args.t1 s.args.n.item (record { p = pos 0; q = 0 })).p < 2 ^ 63
+item-fits : (c : tie.Then-a-gt0) → let s = start c.before in mag (get_or s.args.t1 s.args.n.item (record { p = pos 0; q = 0 })).p < 2 ^ 63
 item-fits c = search rules
 
-mul-a : tie.Need-overflow-mul-a
+mul-a : tie.Need-offset_bounds-x-k
 mul-a c = search rules
 
-array-copy-out-a : tie.Need-array-copy-out-a
+array-copy-out-a : tie.Need-bounds-x-k
 array-copy-out-a c = search rules
 
-mul-b : tie.Need-overflow-mul-b
+mul-b : tie.Need-offset_bounds-x-m
 mul-b c = search rules
 
-array-copy-out-b : tie.Need-array-copy-out-b
+array-copy-out-b : tie.Need-bounds-x-m
 array-copy-out-b c = search rules
 
-returns : tie.Need-returns
+returns : tie.Need-returns-then-b-gt0
 returns c =
     let y = c.before.before.before in
     let s = start y.before in
     let f : mag (get_or s.args.t1 s.args.n.cover (record { p = pos 0; q = 0 })).p < 2 ^ 63 = search rules in
-    let a = tested s.args.t1 s.args.n.item _ (omega (arith, long s, s.pre.0)) (item-fits y) y.if1.true in
-    let b = tested s.args.t1 s.args.n.cover _ (omega (arith, long s, s.pre.1)) f c.if2.true in
+    let a = tested s.args.t1 s.args.n.item _ (omega (arith, long s, s.requires.0)) (item-fits y) y.if-a-gt0.true in
+    let b = tested s.args.t1 s.args.n.cover _ (omega (arith, long s, s.requires.1)) f c.if-b-gt0.true in
     sym (ap₂ (λ (u v : Bool). cond u (not v) false) a b)
 
-returns-2 : tie.Need-returns-2
+returns-2 : tie.Need-returns-then-a-gt0
 returns-2 c =
     let y = c.before.before.before in
     let s = start y.before in
     let f : mag (get_or s.args.t1 s.args.n.cover (record { p = pos 0; q = 0 })).p < 2 ^ 63 = search rules in
-    let a = tested s.args.t1 s.args.n.item _ (omega (arith, long s, s.pre.0)) (item-fits y) y.if1.true in
-    let b = tested s.args.t1 s.args.n.cover _ (omega (arith, long s, s.pre.1)) f c.if2.false in
+    let a = tested s.args.t1 s.args.n.item _ (omega (arith, long s, s.requires.0)) (item-fits y) y.if-a-gt0.true in
+    let b = tested s.args.t1 s.args.n.cover _ (omega (arith, long s, s.requires.1)) f c.if-b-gt0.false in
     sym (ap₂ (λ (u v : Bool). cond u (not v) false) a b)
 
-returns-3 : tie.Need-returns-3
+returns-3 : tie.Need-returns
 returns-3 c =
     let s = start c.before in
     let f : mag (get_or s.args.t1 s.args.n.item (record { p = pos 0; q = 0 })).p < 2 ^ 63 = search rules in
-    let a = tested s.args.t1 s.args.n.item _ (omega (arith, long s, s.pre.0)) f c.if1.false in
+    let a = tested s.args.t1 s.args.n.item _ (omega (arith, long s, s.requires.0)) f c.if-a-gt0.false in
     sym (ap (λ (u : Bool). cond u (not (lt_z (pos 0) (amount_in s.args.t1 s.args.n.cover).p)) false) a)
 
-pub breaks-spec : {M : Type 1} → statement M
-breaks-spec =
+pub breaks_spec : {M : Type 1} → statement M
+breaks_spec =
     tie.close (tie.spec mul-a array-copy-out-a mul-b array-copy-out-b returns returns-2 returns-3)

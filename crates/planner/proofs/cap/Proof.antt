@@ -16,28 +16,28 @@ held : (v : ℤ) (t : Bool) → lt_z (pos 0) v ≡ t → At (cond t (pos 0) (v))
 unfolding minℤ
 held v t h = ap (λ (x : Bool). At (cond x (pos 0) (v))) (sym h)
 
-enum_told : tie.Need-enum-told
+enum_told : tie.Need-enum_told-1
 enum_told c = search rules
 
-enum-known-b : tie.Need-enum-known-b
+enum-known-b : tie.Need-enum_known-b
 enum-known-b c = search rules
 
-returns : tie.Need-returns
-returns c = sym (ap cap c.enum_told.given.1)
+returns : tie.Need-returns-in-Absent
+returns c = sym (ap cap c.enum_told-1.given.1)
 
-returns-2 : tie.Need-returns-2
+returns-2 : tie.Need-returns-then-u-gt0
 returns-2 c =
     let b = c.before.before in
-    let v = b.b.given.0.0 in
-    let e = back v c.before.known-told.given.0.1 in
-    held v _ (rw e at c.if1.true) ∙ ap cap (sym b.b.given.1)
+    let v = b.b-1.given.0.0 in
+    let e = back v c.before.known_told-1.given.0.1 in
+    held v _ (rw e at c.if-u-gt0.true) ∙ ap cap (sym b.b-1.given.1)
 
-returns-3 : tie.Need-returns-3
+returns-3 : tie.Need-returns-else-u-gt0
 returns-3 c =
     let b = c.before.before in
-    let v = b.b.given.0.0 in
-    let e = back v c.before.known-told.given.0.1 in
-    rw e (held v _ (rw e at c.if1.false) ∙ ap cap (sym b.b.given.1))
+    let v = b.b-1.given.0.0 in
+    let e = back v c.before.known_told-1.given.0.1 in
+    rw e (held v _ (rw e at c.if-u-gt0.false) ∙ ap cap (sym b.b-1.given.1))
 
-pub cap-spec : {M : Type 1} → statement M
-cap-spec = tie.close (tie.spec enum_told enum-known-b returns returns-2 returns-3)
+pub cap_spec : {M : Type 1} → statement M
+cap_spec = tie.close (tie.spec enum_told enum-known-b returns returns-2 returns-3)

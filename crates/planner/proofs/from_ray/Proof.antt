@@ -5,15 +5,15 @@ use borrow.Author.Rules.{rules}
 use Rattle.planner.proofs.from_ray.Statement.{statement}
 use Rattle.planner.proofs.from_ray.Tie as tie
 
-returns : tie.Need-returns
-returns c = record { found = λ e. refl; none = λ e. absurd (impossible (sym e ∙ c.before.before.if1.true)); steps = refl; cells = refl }
+returns : tie.Need-returns-then-b
+returns c = record { found = λ e. refl; none = λ e. absurd (impossible (sym e ∙ c.before.before.if-b.true)); steps = refl; cells = refl }
 
 told-requires : tie.Need-told-requires
 told-requires c κs = search rules
 
-returns-2 : tie.Need-returns-2
+returns-2 : tie.Need-returns
 returns-2 c = let t = c.told.ensures in
-    record { found = λ e. absurd (impossible (sym c.before.if1.false ∙ e)); none = t.none; steps = t.steps; cells = t.cells }
+    record { found = λ e. absurd (impossible (sym c.before.if-b.false ∙ e)); none = t.none; steps = t.steps; cells = t.cells }
 
-pub from-ray-spec : {M : Type 1} → statement M
-from-ray-spec = tie.close (tie.spec returns told-requires returns-2)
+pub from_ray_spec : {M : Type 1} → statement M
+from_ray_spec = tie.close (tie.spec returns told-requires returns-2)

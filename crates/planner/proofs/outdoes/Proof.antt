@@ -8,7 +8,7 @@ use borrow.Author.Rules.{rules}
 use Rattle.planner.proofs.outdoes.Statement.{statement}
 use Rattle.planner.proofs.outdoes.Tie as tie
 
-is-optimal-requires : tie.Need-is-optimal-requires
+is-optimal-requires : tie.Need-is_optimal-requires
 is-optimal-requires c κs = search rules
 
 leads-requires : tie.Need-leads-requires
@@ -16,31 +16,31 @@ leads-requires c κs =
     let t = c.before in
     let o = t.before.before in
     let s = o.before in
-    (s.requires.0, (s.requires.1.0 (kind-of s.args.a.kind (sym o.is-optimal.ensures ∙ t.before.if1.true)), s.requires.1.1 t.if2.true))
+    (s.requires.0, (s.requires.1.0 (kind-of s.args.a.kind (sym o.is_optimal.ensures ∙ t.before.if-is_optimal.true)), s.requires.1.1 t.if-b.true))
 
-returns : tie.Need-returns
+returns : tie.Need-returns-then-b
 returns c =
     let t = c.before.before in
     let o = t.before.before in
-    let k = kind-of o.before.args.a.kind (sym o.is-optimal.ensures ∙ t.before.if1.true) in
-    record { ahead = λ e. (k, λ f. c.leads.ensures.ahead e); behind = λ e. inr (t.if2.true, (k, c.leads.ensures.behind e)) }
+    let k = kind-of o.before.args.a.kind (sym o.is_optimal.ensures ∙ t.before.if-is_optimal.true) in
+    record { ahead = λ e. (k, λ f. c.leads.ensures.ahead e); behind = λ e. inr (t.if-b.true, (k, c.leads.ensures.behind e)) }
 
-returns-2 : tie.Need-returns-2
+returns-2 : tie.Need-returns-then-is_optimal
 returns-2 c =
     let o = c.before.before in
-    let k = kind-of o.before.args.a.kind (sym o.is-optimal.ensures ∙ c.before.if1.true) in
+    let k = kind-of o.before.args.a.kind (sym o.is_optimal.ensures ∙ c.before.if-is_optimal.true) in
     record {
-      ahead = λ e. (k, λ f. absurd (impossible (sym c.if2.false ∙ f)));
+      ahead = λ e. (k, λ f. absurd (impossible (sym c.if-b.false ∙ f)));
       behind = λ e. absurd (impossible (sym e));
     }
 
-returns-3 : tie.Need-returns-3
+returns-3 : tie.Need-returns
 returns-3 c =
     let o = c.before in
     record {
       ahead = λ e. absurd (impossible e);
-      behind = λ e. inl (λ k. impossible (sym (sym o.is-optimal.ensures ∙ c.if1.false) ∙ ap is_optimal k));
+      behind = λ e. inl (λ k. impossible (sym (sym o.is_optimal.ensures ∙ c.if-is_optimal.false) ∙ ap is_optimal k));
     }
 
-pub outdoes-spec : {M : Type 1} → statement M
-outdoes-spec = tie.close (tie.spec is-optimal-requires leads-requires returns returns-2 returns-3)
+pub outdoes_spec : {M : Type 1} → statement M
+outdoes_spec = tie.close (tie.spec is-optimal-requires leads-requires returns returns-2 returns-3)

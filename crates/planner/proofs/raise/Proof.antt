@@ -16,28 +16,28 @@ held : (v : ℤ) (t : Bool) → lt_z (pos 1) v ≡ t → At (cond t (v) (pos 1))
 unfolding maxℤ
 held v t h = ap (λ (x : Bool). At (cond x (v) (pos 1))) (sym h)
 
-enum_told : tie.Need-enum-told
+enum_told : tie.Need-enum_told-1
 enum_told c = search rules
 
-enum-known-b : tie.Need-enum-known-b
+enum-known-b : tie.Need-enum_known-b
 enum-known-b c = search rules
 
-returns : tie.Need-returns
-returns c = sym (ap raise c.enum_told.given.1)
+returns : tie.Need-returns-in-Absent
+returns c = sym (ap raise c.enum_told-1.given.1)
 
-returns-2 : tie.Need-returns-2
+returns-2 : tie.Need-returns-then-l-gt1
 returns-2 c =
     let b = c.before.before in
-    let v = b.b.given.0.0 in
-    let e = back v c.before.known-told.given.0.1 in
-    rw e (held v _ (rw e at c.if1.true) ∙ ap raise (sym b.b.given.1))
+    let v = b.b-1.given.0.0 in
+    let e = back v c.before.known_told-1.given.0.1 in
+    rw e (held v _ (rw e at c.if-l-gt1.true) ∙ ap raise (sym b.b-1.given.1))
 
-returns-3 : tie.Need-returns-3
+returns-3 : tie.Need-returns-else-l-gt1
 returns-3 c =
     let b = c.before.before in
-    let v = b.b.given.0.0 in
-    let e = back v c.before.known-told.given.0.1 in
-    held v _ (rw e at c.if1.false) ∙ ap raise (sym b.b.given.1)
+    let v = b.b-1.given.0.0 in
+    let e = back v c.before.known_told-1.given.0.1 in
+    held v _ (rw e at c.if-l-gt1.false) ∙ ap raise (sym b.b-1.given.1)
 
-pub raise-spec : {M : Type 1} → statement M
-raise-spec = tie.close (tie.spec enum_told enum-known-b returns returns-2 returns-3)
+pub raise_spec : {M : Type 1} → statement M
+raise_spec = tie.close (tie.spec enum_told enum-known-b returns returns-2 returns-3)

@@ -15,78 +15,78 @@ use Rattle.planner.proofs.solve_needs.Statement.{statement}
 use Rattle.planner.proofs.solve_needs.Tie as tie
 
 -- the plain answer, and the start, from the test of its kind
-abbrev solved : tie.After-is-unbounded → tie.After-solve-case
+abbrev solved : tie.After-is_unbounded → tie.After-solve_case-r
 solved o = o.before.before
 
-abbrev start : tie.After-is-unbounded → tie.Start
+abbrev start : tie.After-is_unbounded → tie.Start
 start o = (solved o).before.before
 
 -- the steps of a case are few
-few : (v : tie.After-solve-case) → let s = v.before.before in
-    (v.before.few-steps.result ≤ s.args.most) × (v.before.few-steps.result ≤ case_steps)
-few v = rw v.before.few-steps.ensures (few-most v.before.before.args.most)
+few : (v : tie.After-solve_case-r) → let s = v.before.before in
+    (v.before.few_steps-few.result ≤ s.args.most) × (v.before.few_steps-few.result ≤ case_steps)
+few v = rw v.before.few_steps-few.ensures (few-most v.before.before.args.most)
 
-plain-case : (v : tie.After-solve-case) → let s = v.before.before in
-    SolvesCase (few_of s.args.most) s.args.p (needs_of s.args.ns) v.solve-case.result
+plain-case : (v : tie.After-solve_case-r) → let s = v.before.before in
+    SolvesCase (few_of s.args.most) s.args.p (needs_of s.args.ns) v.solve_case-r.result
 plain-case v =
     let s = v.before.before in
-    subst (λ m. SolvesCase m s.args.p (needs_of s.args.ns) v.solve-case.result) v.before.few-steps.ensures v.solve-case.ensures
+    subst (λ m. SolvesCase m s.args.p (needs_of s.args.ns) v.solve_case-r.result) v.before.few_steps-few.ensures v.solve_case-r.ensures
 
-few-steps-requires : tie.Need-few-steps-requires
+few-steps-requires : tie.Need-few_steps-few-requires
 few-steps-requires c κs = search rules
 
-solve-case-requires : tie.Need-solve-case-requires
+solve-case-requires : tie.Need-solve_case-r-requires
 solve-case-requires c κs = let s = c.before in (s.requires.figures, needed-placed s.args.ns s.args.p s.requires)
 
-is-unbounded-requires : tie.Need-is-unbounded-requires
+is-unbounded-requires : tie.Need-is_unbounded-requires
 is-unbounded-requires c κs = search rules
 
-solve-ray-requires : tie.Need-solve-ray-requires
+solve-ray-requires : tie.Need-solve_ray-requires
 solve-ray-requires c κs =
     let v = solved c.before in
     record {
       needed = (start c.before).requires;
-      solved = v.solve-case.ensures.0;
+      solved = v.solve_case-r.ensures.0;
       short = (few v).1;
-      kind-is = ray-kind v.solve-case.result.answer.kind (sym c.before.is-unbounded.ensures ∙ c.if1.true);
+      kind-is = ray-kind v.solve_case-r.result.answer.kind (sym c.before.is_unbounded.ensures ∙ c.if-is_unbounded.true);
     }
 
-returns : tie.Need-returns
+returns : tie.Need-returns-then-is_unbounded
 returns c =
     let e = c.before in
     let v = solved e.before in
     let s = start e.before in
-    let z = c.solve-ray in (
+    let z = c.solve_ray in (
       more-steps (few v).0 z.ensures.0,
-      by-ray v.solve-case.result z.result (plain-case v) (sym e.before.is-unbounded.ensures ∙ e.if1.true)
-          (subst (λ m. RayTakes s.args.ns m s.args.p v.solve-case.result z.result) v.before.few-steps.ensures z.ensures.1),
+      by-ray v.solve_case-r.result z.result (plain-case v) (sym e.before.is_unbounded.ensures ∙ e.if-is_unbounded.true)
+          (subst (λ m. RayTakes s.args.ns m s.args.p v.solve_case-r.result z.result) v.before.few_steps-few.ensures z.ensures.1),
     )
 
-nothing-yet-requires : tie.Need-nothing-yet-requires
+nothing-yet-requires : tie.Need-nothing_yet-none-requires
 nothing-yet-requires c κs = search rules
 
-branch-requires : tie.Need-branch-requires
+branch-requires : tie.Need-branch-p-requires
 branch-requires c κs =
     let e = c.before in
     let v = solved e.before in
     let s = start e.before in
     let i = instance_of s.args.p in
-    rw c.nothing_yet.ensures (record {
-      figures = s.pre.figures;
-      solved = v.solve-case.ensures.0;
+    rw c.nothing_yet-none.ensures (record {
+      figures = s.requires.figures;
+      solved = v.solve_case-r.ensures.0;
       short = (few v).1;
-      few = s.pre.few;
-      allowed = s.pre.allowed;
-      limited = limited-by i v.solve-case.result.answer v.solve-case.ensures.0.answers (sym e.before.is-unbounded.ensures ∙ e.if1.false);
+      few = s.requires.few;
+      allowed = s.requires.allowed;
+      limited = limited-by i v.solve_case-r.result.answer v.solve_case-r.ensures.0.answers (sym e.before.is_unbounded.ensures ∙ e.if-is_unbounded.false);
       holds = λ h. absurd (impossible h);
-      worked = none-worked v.before.few-steps.result;
-      room = omega (arith, few-twigs s.args.ns s.pre.few i);
+      worked = none-worked v.before.few_steps-few.result;
+      room = omega (arith, few-twigs s.args.ns s.requires.few i);
     })
 
 told-requires : tie.Need-told-requires
 told-requires c κs = search rules
 
-returns-2 : tie.Need-returns-2
+returns-2 : tie.Need-returns
 returns-2 c =
     let b = c.before in
     let n = b.before in
@@ -94,27 +94,27 @@ returns-2 c =
     let s = start n.before.before in
     let i = instance_of s.args.p in
     let ns = needs_of s.args.ns in
-    let f = v.before.few-steps in
+    let f = v.before.few_steps-few in
     let e = n.before in
-    let th : Through i ns f.result nothing_yet b.branch.result =
-    subst (λ x. Through i ns f.result x b.branch.result) n.nothing_yet.ensures b.branch.ensures.0 in
-    let take : CasesTake s.args.ns f.result s.args.p v.solve-case.result nothing_yet b.branch.result =
-    subst (λ x. CasesTake s.args.ns f.result s.args.p v.solve-case.result x b.branch.result) n.nothing_yet.ensures
-    b.branch.ensures.1 in
+    let th : Through i ns f.result nothing_yet b.branch-p.result =
+    subst (λ x. Through i ns f.result x b.branch-p.result) n.nothing_yet-none.ensures b.branch-p.ensures.0 in
+    let take : CasesTake s.args.ns f.result s.args.p v.solve_case-r.result nothing_yet b.branch-p.result =
+    subst (λ x. CasesTake s.args.ns f.result s.args.p v.solve_case-r.result x b.branch-p.result) n.nothing_yet-none.ensures
+    b.branch-p.ensures.1 in
     let t = c.told.ensures in
     let w = few-work {n = most_cases ns} (omega (arith, cases-plain i ns)) th.worked in (
       more-steps (few v).0 (record {
-        answers = told-answers i ns b.branch.result c.told.result.answer th.worth th.holds t.found t.none;
-        first = told-first i ns b.branch.result c.told.result.answer th.first t.found t.none;
+        answers = told-answers i ns b.branch-p.result c.told.result.answer th.worth th.holds t.found t.none;
+        first = told-first i ns b.branch-p.result c.told.result.answer th.first t.found t.none;
         few-steps = omega (arith, t.steps, w.0);
         few-cells = omega (arith, t.cells, w.1);
       }),
-      by_cases v.solve-case.result c.told.result b.branch.result (plain-case v) (sym e.before.is-unbounded.ensures ∙ e.if1.false)
-          (subst (λ m. CasesTake s.args.ns m s.args.p v.solve-case.result nothing_yet b.branch.result) f.ensures take) t,
+      by_cases v.solve_case-r.result c.told.result b.branch-p.result (plain-case v) (sym e.before.is_unbounded.ensures ∙ e.if-is_unbounded.false)
+          (subst (λ m. CasesTake s.args.ns m s.args.p v.solve_case-r.result nothing_yet b.branch-p.result) f.ensures take) t,
     )
 
-pub solve-needs-spec : {M : Type 1} → statement M
-solve-needs-spec =
+pub solve_needs_spec : {M : Type 1} → statement M
+solve_needs_spec =
     tie.close
     (tie.spec
     few-steps-requires

@@ -7,25 +7,25 @@ use borrow.Author.Rules.{rules}
 use Rattle.planner.proofs.without.Statement.{statement}
 use Rattle.planner.proofs.without.Tie as tie
 
-abbrev start : tie.After-with-item → tie.Start
+abbrev start : tie.After-with_item → tie.Start
 start c = c.before.before.before.before
 
-weighs : (c : tie.After-with-item) → mag (item_at (start c).args.t1 (start c).args.k).weight < 2 ^ 63
+weighs : (c : tie.After-with_item) → mag (item_at (start c).args.t1 (start c).args.k).weight < 2 ^ 63
 weighs c = search rules
 
-costs : (c : tie.After-with-item) → mag (item_at (start c).args.t1 (start c).args.k).price < 2 ^ 63
+costs : (c : tie.After-with_item) → mag (item_at (start c).args.t1 (start c).args.k).price < 2 ^ 63
 costs c = search rules
 
-mul-i : tie.Need-overflow-mul-i
+mul-i : tie.Need-offset_bounds-p-k
 mul-i c = search rules
 
-element-copy-out-i : tie.Need-element-copy-out-i
+element-copy-out-i : tie.Need-bounds-p-k
 element-copy-out-i c = search rules
 
-cap-requires : tie.Need-cap-requires
+cap-requires : tie.Need-cap-low-requires
 cap-requires c κs = search rules
 
-with-item-requires : tie.Need-with-item-requires
+with-item-requires : tie.Need-with_item-requires
 with-item-requires c κs = search rules
 
 returns : tie.Need-returns
@@ -33,8 +33,8 @@ returns c =
     let b = c.before.before in
     let s = b.before.before in
     let i = item_at s.args.t1 s.args.k in
-    rw (back i.weight (weighs c), back i.price (costs c), b.cap.ensures) at c.with_item.ensures
+    rw (back i.weight (weighs c), back i.price (costs c), b.cap-low.ensures) at c.with_item.ensures
 
-pub without-spec : {M : Type 1} → statement M
-without-spec =
+pub without_spec : {M : Type 1} → statement M
+without_spec =
     tie.close (tie.spec mul-i element-copy-out-i cap-requires with-item-requires returns)

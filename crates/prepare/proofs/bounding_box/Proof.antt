@@ -5,24 +5,24 @@ use Rattle.prepare.proofs.Lists.{places-listing, tabled-places}
 use Rattle.prepare.proofs.bounding_box.Statement.{statement}
 use Rattle.prepare.proofs.bounding_box.Tie as tie
 
-all-places-requires : tie.Need-all-places-requires
+all-places-requires : tie.Need-all_places-items-requires
 all-places-requires c κs = search rules
 
-table-requires : tie.Need-table-requires
-table-requires c κs = let s = c.before in places-listing s.args.p s.requires c.all-places.result c.all-places.ensures
+table-requires : tie.Need-table-lo-requires
+table-requires c κs = let s = c.before in places-listing s.args.p s.requires c.all_places-items.result c.all_places-items.ensures
 
-table-requires-2 : tie.Need-table-requires-2
-table-requires-2 c κs = let s = c.before.before in places-listing s.args.p s.requires c.before.all-places.result c.before.all-places.ensures
+table-requires-2 : tie.Need-table-hi-requires
+table-requires-2 c κs = let s = c.before.before in places-listing s.args.p s.requires c.before.all_places-items.result c.before.all_places-items.ensures
 
 returns : tie.Need-returns
 returns c =
     let a = c.before.before in
     let s = a.before in
     record {
-      lows = tabled-places s.args.p s.requires a.all-places.result a.all-places.ensures Low c.before.table.result c.before.table.ensures;
-      highs = tabled-places s.args.p s.requires a.all-places.result a.all-places.ensures High c.table2.result c.table2.ensures;
+      lows = tabled-places s.args.p s.requires a.all_places-items.result a.all_places-items.ensures Low c.before.table-lo.result c.before.table-lo.ensures;
+      highs = tabled-places s.args.p s.requires a.all_places-items.result a.all_places-items.ensures High c.table-hi.result c.table-hi.ensures;
     }
 
-pub bounding-box-spec : {M : Type 1} → statement M
-bounding-box-spec =
+pub bounding_box_spec : {M : Type 1} → statement M
+bounding_box_spec =
     tie.close (tie.spec all-places-requires table-requires table-requires-2 returns)

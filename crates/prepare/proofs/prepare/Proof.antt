@@ -13,56 +13,56 @@ use Rattle.prepare.proofs.prepare.Statement.{statement}
 use Rattle.prepare.proofs.prepare.Tie as tie
 
 -- the moments that are spoken of below
-abbrev start-of-bounding-box : tie.After-bounding-box → tie.Start
+abbrev start-of-bounding-box : tie.After-bounding_box-ends → tie.Start
 start-of-bounding-box c = c.before.before
 
-abbrev start : tie.After-ranking-by → tie.Start
+abbrev start : tie.After-ranking_by-level → tie.Start
 start c = start-of-bounding-box c.before.before
 
-in_order : (c : tie.After-ranking-by) → Listing (start c).args.p c.ranking-by.result (start c).args.p.count
+in_order : (c : tie.After-ranking_by-level) → Listing (start c).args.p c.ranking_by-level.result (start c).args.p.count
 in_order c =
     let s = start c in
-    sorted-listing s.args.p s.pre (λ k. key_of c.before.branching.result (item_at s.args.p k)) c.ranking-by.result c.ranking-by.ensures
+    sorted-listing s.args.p s.requires (λ k. key_of c.before.branching-by.result (item_at s.args.p k)) c.ranking_by-level.result c.ranking_by-level.ensures
 
-by_level : (c : tie.After-leading) → Listing (start c.before).args.p c.before.ranking-by.result c.leading.result
+by_level : (c : tie.After-leading-levels) → Listing (start c.before).args.p c.before.ranking_by-level.result c.leading-levels.result
 by_level c =
     let s = start c.before in
-    shorter-listing s.args.p c.before.ranking-by.result c.leading.result s.args.p.count c.leading.ensures.most (in_order c.before)
+    shorter-listing s.args.p c.before.ranking_by-level.result c.leading-levels.result s.args.p.count c.leading-levels.ensures.most (in_order c.before)
 
-columns-requires : tie.Need-columns-requires
+columns-requires : tie.Need-columns-cols-requires
 columns-requires c κs = search rules
 
-bounding-box-requires : tie.Need-bounding-box-requires
+bounding-box-requires : tie.Need-bounding_box-ends-requires
 bounding-box-requires c κs = search rules
 
-branching-requires : tie.Need-branching-requires
+branching-requires : tie.Need-branching-by-requires
 branching-requires c κs =
     let k = c.before in
     let s = k.before in
     record {
-      columns = columns-sized s.args.p k.columns.result s.requires k.columns.ensures;
-      ends = box-sized s.args.p s.requires c.bounding-box.result c.bounding-box.ensures;
+      columns = columns-sized s.args.p k.columns-cols.result s.requires k.columns-cols.ensures;
+      ends = box-sized s.args.p s.requires c.bounding_box-ends.result c.bounding_box-ends.ensures;
     }
 
-ranking-by-requires : tie.Need-ranking-by-requires
+ranking-by-requires : tie.Need-ranking_by-level-requires
 ranking-by-requires c κs =
     let k = c.before.before in
     let s = k.before in (
       s.requires,
-      subst SmallKey (sym c.branching.ensures) (critical-small k.columns.result (fill k.columns.result c.before.bounding-box.result)
-          (columns-sized s.args.p k.columns.result s.requires k.columns.ensures)),
+      subst SmallKey (sym c.branching-by.ensures) (critical-small k.columns-cols.result (fill k.columns-cols.result c.before.bounding_box-ends.result)
+          (columns-sized s.args.p k.columns-cols.result s.requires k.columns-cols.ensures)),
     )
 
-leading-requires : tie.Need-leading-requires
+leading-requires : tie.Need-leading-levels-requires
 leading-requires c κs = in_order c
 
-table-requires : tie.Need-table-requires
+table-requires : tie.Need-table-low-requires
 table-requires c κs = by_level c
 
-table-requires-2 : tie.Need-table-requires-2
+table-requires-2 : tie.Need-table-high-requires
 table-requires-2 c κs = by_level c.before
 
-lattices-of-requires : tie.Need-lattices-of-requires
+lattices-of-requires : tie.Need-lattices_of-lattice-requires
 lattices-of-requires c κs = by_level c.before.before
 
 returns : tie.Need-returns
@@ -73,19 +73,19 @@ returns c =
     let e = b.before in
     let k = e.before in
     let s = k.before in
-    prepared s.args.p s.requires b.branching.result _ (record {
-      columned = k.columns.ensures;
-      boxed = e.bounding-box.ensures;
-      by-is = b.branching.ensures;
-      sorted = o.ranking-by.ensures;
-      leading = l.leading.ensures;
-      lows = c.before.before.table.ensures;
-      highs = c.before.table2.ensures;
-      latticing = c.lattices-of.ensures;
+    prepared s.args.p s.requires b.branching-by.result _ (record {
+      columned = k.columns-cols.ensures;
+      boxed = e.bounding_box-ends.ensures;
+      by-is = b.branching-by.ensures;
+      sorted = o.ranking_by-level.ensures;
+      leading = l.leading-levels.ensures;
+      lows = c.before.before.table-low.ensures;
+      highs = c.before.table-high.ensures;
+      latticing = c.lattices_of-lattice.ensures;
     })
 
-pub prepare-spec : {M : Type 1} → statement M
-prepare-spec =
+pub prepare_spec : {M : Type 1} → statement M
+prepare_spec =
     tie.close
     (tie.spec
     columns-requires

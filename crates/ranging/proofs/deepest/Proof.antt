@@ -22,14 +22,14 @@ not-below = split _ (λ a b. simp zed (omega arith))
 sum_is : (s : tie.Start) → to_z w64 (of_z w64 (to_z w64 (of_z w64 s.args.c) +ℤ pos 10000)) ≡ s.args.c +ℤ pos 10000
 sum_is s = rw (to_z-of_z s.ranges.c) (to_z-of_z (fits s))
 
-add-result : tie.Need-overflow-add-result
+add-result : tie.Need-overflow_add-result
 add-result c = rw (to_z-of_z c.ranges.c) (fits c)
 
-cast-result : tie.Need-overflow-cast-result
+cast-result : tie.Need-overflow_cast-result
 cast-result c = rw (sum_is c) (cast-in (not-below c.args.c c.requires) (fits c))
 
 returns : tie.Need-returns
 returns c = rw (sum_is c)
 
-pub deepest-spec : {M : Type 1} → statement M
-deepest-spec = tie.close (tie.spec add-result cast-result returns)
+pub deepest_spec : {M : Type 1} → statement M
+deepest_spec = tie.close (tie.spec add-result cast-result returns)

@@ -13,27 +13,27 @@ use Rattle.ranging.proofs.Lowering.{deepest-most, shown-good, low-stays, span-fi
 use Rattle.ranging.proofs.fall_of.Statement.{statement}
 use Rattle.ranging.proofs.fall_of.Tie as tie
 
-abbrev invariant-loop : tie.invariant-loop
+abbrev invariant-loop : tie.invariant-loop-s
 invariant-loop ns a k p most s₀ s = (most ≡ deepest (item_at p k).price) × Spans p ns a k s
 
-abbrev decreases-loop : tie.decreases-loop
+abbrev decreases-loop : tie.decreases-loop-s
 decreases-loop ns a k p most s₀ s = s.high - s.low
 
 -- ---- the moments that are spoken of below
 
-abbrev start : tie.After-struct-told invariant-loop decreases-loop → tie.Start invariant-loop decreases-loop
+abbrev start : tie.After-struct_told-1 invariant-loop decreases-loop → tie.Start invariant-loop decreases-loop
 start c = c.before.before.before.before.before
 
-abbrev told : tie.After-deepest invariant-loop decreases-loop → tie.Start invariant-loop decreases-loop
+abbrev told : tie.After-deepest-most invariant-loop decreases-loop → tie.Start invariant-loop decreases-loop
 told c = start c.before
 
-mul-i : tie.Need-overflow-mul-i invariant-loop decreases-loop
+mul-i : tie.Need-offset_bounds-p-k invariant-loop decreases-loop
 mul-i c = omega (arith, c.requires.1, c.requires.0.needed.figures.few-items)
 
-element-copy-out-i : tie.Need-element-copy-out-i invariant-loop decreases-loop
+element-copy-out-i : tie.Need-bounds-p-k invariant-loop decreases-loop
 element-copy-out-i c = omega (arith, c.requires.1, c.requires.0.needed.figures.few-items)
 
-stands-low-requires : tie.Need-stands-low-requires invariant-loop decreases-loop
+stands-low-requires : tie.Need-stands_low-requires invariant-loop decreases-loop
 stands-low-requires c κs =
     let s = c.before.before in
     let h = s.requires.0 in
@@ -45,36 +45,36 @@ stands-low-requires c κs =
       ),
     )
 
-returns : tie.Need-returns invariant-loop decreases-loop
+returns : tie.Need-returns-then-stands_low invariant-loop decreases-loop
 returns c =
     let l = c.before in
     let s = l.before.before.before in
     let a = s.args in
-    low-stays a.t1 a.ns a.a a.k s.requires.0 s.requires.1 (l.stands-low.ensures c.if1.true)
+    low-stays a.t1 a.ns a.a a.k s.requires.0 s.requires.1 (l.stands_low.ensures c.if-stands_low.true)
 
-deepest-requires : tie.Need-deepest-requires invariant-loop decreases-loop
+deepest-requires : tie.Need-deepest-most-requires invariant-loop decreases-loop
 deepest-requires c κs =
     let s = start c in
     let i = item_at s.args.t1 s.args.k in
     let h : mag i.price < 2 ^ 63 = search rules in
-    rw (back i.price h) (s.pre.0.needed.figures.items-in s.args.k s.pre.1).price-in
+    rw (back i.price h) (s.requires.0.needed.figures.items-in s.args.k s.requires.1).price-in
 
-deep_is : (c : tie.After-deepest invariant-loop decreases-loop) → let s = told c in c.deepest.result ≡ deepest (item_at s.args.t1 s.args.k).price
+deep_is : (c : tie.After-deepest-most invariant-loop decreases-loop) → let s = told c in c.deepest-most.result ≡ deepest (item_at s.args.t1 s.args.k).price
 deep_is c =
     let s = told c in
     let i = item_at s.args.t1 s.args.k in
     let h : mag i.price < 2 ^ 63 = search rules in
-    rw (back i.price h) at c.deepest.ensures
+    rw (back i.price h) at c.deepest-most.ensures
 
-few : (c : tie.After-deepest invariant-loop decreases-loop) → let s = told c in deepest (item_at s.args.t1 s.args.k).price ≤ 20000
+few : (c : tie.After-deepest-most invariant-loop decreases-loop) → let s = told c in deepest (item_at s.args.t1 s.args.k).price ≤ 20000
 few c =
     let s = told c in
-    deepest-most (item_at s.args.t1 s.args.k).price (s.pre.0.needed.figures.items-in s.args.k s.pre.1).price-in
+    deepest-most (item_at s.args.t1 s.args.k).price (s.requires.0.needed.figures.items-in s.args.k s.requires.1).price-in
 
-add-t16 : tie.Need-overflow-add-t16 invariant-loop decreases-loop
+add-t16 : tie.Need-overflow_add-s invariant-loop decreases-loop
 add-t16 c = record { fits = omega (arith, few c, deep_is c) }
 
-loop-holds : tie.Need-loop-init invariant-loop decreases-loop
+loop-holds : tie.Need-loop-s-init invariant-loop decreases-loop
 loop-holds c =
     let a = (told c).args in
     let h = (told c).requires in (
@@ -83,38 +83,38 @@ loop-holds c =
           (span-first a.t1 a.ns a.a a.k h.0 h.1 6),
     )
 
-add-if2 : tie.Need-overflow-add-if2 invariant-loop decreases-loop
+add-if2 : tie.Need-overflow_add-s-in-loop-s invariant-loop decreases-loop
 add-if2 c =
     let l = c.before in
-    record { fits = omega (arith, few l.before, l.loop.invariant.1.order, l.loop.invariant.1.most) }
+    record { fits = omega (arith, few l.before, l.loop-s.invariant.1.order, l.loop-s.invariant.1.most) }
 
-narrowed-requires : tie.Need-narrowed-requires invariant-loop decreases-loop
+narrowed-requires : tie.Need-narrowed-s-requires invariant-loop decreases-loop
 narrowed-requires c κs =
     let l = c.before.before.before in
-    ((told l.before).pre, (l.loop.invariant.1, omega arith))
+    ((told l.before).requires, (l.loop-s.invariant.1, omega arith))
 
-loop-less : tie.Need-loop-smaller invariant-loop decreases-loop
-loop-less c = omega (arith, c.narrowed.ensures.less)
+loop-less : tie.Need-loop-s-smaller invariant-loop decreases-loop
+loop-less c = omega (arith, c.narrowed-s.ensures.less)
 
-loop-again : tie.Need-loop-preserved invariant-loop decreases-loop
-loop-again c = (c.before.before.before.before.loop.invariant.0, c.narrowed.ensures.spans)
+loop-again : tie.Need-loop-s-preserved invariant-loop decreases-loop
+loop-again c = (c.before.before.before.before.loop-s.invariant.0, c.narrowed-s.ensures.spans)
 
-returns-2 : tie.Need-returns-2 invariant-loop decreases-loop
+returns-2 : tie.Need-returns-then-most-s invariant-loop decreases-loop
 returns-2 c =
     let l = c.before.before.before.before.before in
     let s = told l.before in
     let a = s.args in
-    span_none a.t1 a.ns a.a a.k s.pre.0 s.pre.1 l.loop.s l.loop.invariant.1 (omega arith) (omega (arith, l.loop.invariant.0))
+    span_none a.t1 a.ns a.a a.k s.requires.0 s.requires.1 l.loop-s.s l.loop-s.invariant.1 (omega arith) (omega (arith, l.loop-s.invariant.0))
 
-returns-3 : tie.Need-returns-3 invariant-loop decreases-loop
+returns-3 : tie.Need-returns-else-most-s invariant-loop decreases-loop
 returns-3 c =
     let l = c.before.before.before.before.before in
     let s = told l.before in
     let a = s.args in
-    span-found a.t1 a.ns a.a a.k s.pre.0 s.pre.1 l.loop.s l.loop.invariant.1 (omega arith) (omega (arith, l.loop.invariant.0))
+    span-found a.t1 a.ns a.a a.k s.requires.0 s.requires.1 l.loop-s.s l.loop-s.invariant.1 (omega arith) (omega (arith, l.loop-s.invariant.0))
 
-pub fall-of-spec : {M : Type 1} → statement M
-fall-of-spec =
+pub fall_of_spec : {M : Type 1} → statement M
+fall_of_spec =
     tie.close
     (tie.spec
     invariant-loop

@@ -12,7 +12,7 @@ use Rattle.ranging.proofs.Worth.{passes-by}
 use Rattle.ranging.proofs.is_passed.Statement.{statement}
 use Rattle.ranging.proofs.is_passed.Tie as tie
 
-lowered-requires : tie.Need-lowered-requires
+lowered-requires : tie.Need-lowered-q-requires
 lowered-requires c κs =
     let h = c.requires.0 in
     let f = (h.figures.items-in c.args.k h.inside).price-in in
@@ -21,33 +21,33 @@ lowered-requires c κs =
 -- the item is one of 16
 long : (s : tie.Start) → s.args.k < length s.args.p.items
 long s =
-    let size : length s.args.p.items ≡ 16 = simp length-map at s.well-formed.0.1.1.0.1.0.1 in
+    let size : length s.args.p.items ≡ 16 = simp length-map at s.well_formed.0.1.1.0.1.0.1 in
     omega (arith, s.requires.0.inside, s.requires.0.figures.few-items)
 
-abbrev lowering : tie.After-y → tie.After-lowered
+abbrev lowering : tie.After-y-1 → tie.After-lowered-q
 lowering c = c.before.before
 
-worth-of-requires : tie.Need-worth-of-requires
+worth-of-requires : tie.Need-worth_of-v-requires
 worth-of-requires c κs =
     let q = lowering c in
     let s = q.before in
-    let h = s.pre.0 in
-    rw q.lowered.ensures (
+    let h = s.requires.0 in
+    rw q.lowered-q.ensures (
       lowered-figures s.args.p s.args.k s.args.d (long s) h.figures h.most h.inside,
-      shown-lowered s.args.p s.args.k s.args.d (long s) (amount_at s.args.a) s.pre.1.0,
+      shown-lowered s.args.p s.args.k s.args.d (long s) (amount_at s.args.a) s.requires.1.0,
     )
 
-worth-of-requires-2 : tie.Need-worth-of-requires-2
+worth-of-requires-2 : tie.Need-worth_of-w-requires
 worth-of-requires-2 c κs =
     let q = lowering c.before in
     let s = q.before in
-    let h = s.pre.0 in
-    rw q.lowered.ensures (
+    let h = s.requires.0 in
+    rw q.lowered-q.ensures (
       lowered-figures s.args.p s.args.k s.args.d (long s) h.figures h.most h.inside,
-      shown-lowered s.args.p s.args.k s.args.d (long s) (amount_at s.args.b) s.pre.1.1,
+      shown-lowered s.args.p s.args.k s.args.d (long s) (amount_at s.args.b) s.requires.1.1,
     )
 
-less-fraction-requires : tie.Need-less-fraction-requires
+less-fraction-requires : tie.Need-less_fraction-requires
 less-fraction-requires c κs = search rules
 
 returns : tie.Need-returns
@@ -56,14 +56,14 @@ returns c =
     let v = w.before in
     let q = lowering v.before in
     let s = q.before in
-    let r = c.less-fraction.result in
-    let t = passes-by q.lowered.result s.args.a.point s.args.b.point v.worth-of.result w.worth-of2.result v.worth-of.ensures
-    w.worth-of2.ensures r c.less-fraction.ensures in
+    let r = c.less_fraction.result in
+    let t = passes-by q.lowered-q.result s.args.a.point s.args.b.point v.worth_of-v.result w.worth_of-w.result v.worth_of-v.ensures
+    w.worth_of-w.ensures r c.less_fraction.ensures in
     subst (λ i. Passes i (point_of s.args.a) (point_of s.args.b) r) (lowered_is s.args.p s.args.k s.args.d (long s))
-    (subst (λ z. Passes (instance_of z) (point_of s.args.a) (point_of s.args.b) r) q.lowered.ensures t)
+    (subst (λ z. Passes (instance_of z) (point_of s.args.a) (point_of s.args.b) r) q.lowered-q.ensures t)
 
-pub is-passed-spec : {M : Type 1} → statement M
-is-passed-spec =
+pub is_passed_spec : {M : Type 1} → statement M
+is_passed_spec =
     tie.close
     (tie.spec
     lowered-requires

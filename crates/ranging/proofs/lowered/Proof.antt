@@ -22,27 +22,27 @@ fits s = within-sfits {n = 30000} (lit< tt)
 is-n : (s : tie.Start) → to_z w64 s.args.d ≡ pos s.args.d
 is-n s = to_z_pos w64 (omega (arith, s.requires.1.1))
 
-costs : (c : tie.After-struct-told) → let s = c.before.before.before in mag (item_at s.args.t1 s.args.k).price < 2 ^ 63
+costs : (c : tie.After-struct_told-1) → let s = c.before.before.before in mag (item_at s.args.t1 s.args.k).price < 2 ^ 63
 costs c = search rules
 
-weighs : (c : tie.After-struct-told) → let s = c.before.before.before in mag (item_at s.args.t1 s.args.k).weight < 2 ^ 63
+weighs : (c : tie.After-struct_told-1) → let s = c.before.before.before in mag (item_at s.args.t1 s.args.k).weight < 2 ^ 63
 weighs c = search rules
 
-mul-i : tie.Need-overflow-mul-i
+mul-i : tie.Need-offset_bounds-p-k
 mul-i c = search rules
 
-element-copy-out-i : tie.Need-element-copy-out-i
+element-copy-out-i : tie.Need-bounds-p-k
 element-copy-out-i c = search rules
 
-cast-n : tie.Need-overflow-cast-n
+cast-n : tie.Need-overflow_cast-n
 cast-n c = search rules
 
-sub-t15 : tie.Need-overflow-sub-t15
+sub-t15 : tie.Need-overflow_sub-x
 sub-t15 c =
     let s = c.before.before.before in
     rw (back (item_at s.args.t1 s.args.k).price (costs c), is-n s) (fits s)
 
-with-item-requires : tie.Need-with-item-requires
+with-item-requires : tie.Need-with_item-requires
 with-item-requires c κs = search rules
 
 returns : tie.Need-returns
@@ -52,6 +52,6 @@ returns c =
     let i = item_at s.args.t1 s.args.k in
     rw (back i.weight (weighs t), back i.price (costs t), is-n s, to_z-of_z (fits s)) at c.with_item.ensures
 
-pub lowered-spec : {M : Type 1} → statement M
-lowered-spec =
+pub lowered_spec : {M : Type 1} → statement M
+lowered_spec =
     tie.close (tie.spec mul-i element-copy-out-i cast-n sub-t15 with-item-requires returns)

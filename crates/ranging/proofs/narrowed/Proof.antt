@@ -21,59 +21,59 @@ use Rattle.ranging.proofs.narrowed.Tie as tie
 
 -- ---- the moments that are spoken of below
 
-abbrev start : tie.After-probe → tie.Start
+abbrev start : tie.After-probe-d → tie.Start
 start c = c.before
 
-abbrev solving : tie.After-is-optimal → tie.After-solve-needs
+abbrev solving : tie.After-is_optimal → tie.After-solve_needs-solved
 solving c = c.before.before
 
-abbrev probing : tie.After-is-optimal → tie.After-probe
+abbrev probing : tie.After-is_optimal → tie.After-probe-d
 probing c = (solving c).before.before
 
 -- the fall tried is one of the item's
-fall-in : (c : tie.After-probe) → let s = start c in Lowerable s.args.p s.args.k c.probe.result
+fall-in : (c : tie.After-probe-d) → let s = start c in Lowerable s.args.p s.args.k c.probe-d.result
 fall-in c =
     let s = start c in
     record {
-      figures = s.pre.0.0.needed.figures;
-      inside = s.pre.0.1;
-      most = omega (arith, c.probe.ensures.1, s.pre.1.0.most);
+      figures = s.requires.0.0.needed.figures;
+      inside = s.requires.0.1;
+      most = omega (arith, c.probe-d.ensures.1, s.requires.1.0.most);
     }
 
 long : (s : tie.Start) → s.args.k < length s.args.p.items
 long s =
-    let size : length s.args.p.items ≡ 16 = simp length-map at s.well-formed.0.1.1.0.1.0.1 in
+    let size : length s.args.p.items ≡ 16 = simp length-map at s.well_formed.0.1.1.0.1.0.1 in
     omega (arith, s.requires.0.1, s.requires.0.0.needed.figures.few-items)
 
 -- the lowered problem's answer
-answered : (c : tie.After-is-optimal) → let q = probing c in let s = start q in
-    AnswersNeeds (lowered (instance_of s.args.p) s.args.k q.probe.result) (needs_of s.args.ns) (solving c).solve-needs.result.answer
+answered : (c : tie.After-is_optimal) → let q = probing c in let s = start q in
+    AnswersNeeds (lowered (instance_of s.args.p) s.args.k q.probe-d.result) (needs_of s.args.ns) (solving c).solve_needs-solved.result.answer
 answered c =
     let r = solving c in
     let l = r.before in
     let q = probing c in
     let s = start q in
-    let a = r.solve-needs.result.answer in
-    subst (λ i. AnswersNeeds i (needs_of s.args.ns) a) (lowered_is s.args.p s.args.k q.probe.result (long s))
-    (subst (λ z. AnswersNeeds (instance_of z) (needs_of s.args.ns) a) l.lowered.ensures r.solve-needs.ensures.0.answers)
+    let a = r.solve_needs-solved.result.answer in
+    subst (λ i. AnswersNeeds i (needs_of s.args.ns) a) (lowered_is s.args.p s.args.k q.probe-d.result (long s))
+    (subst (λ z. AnswersNeeds (instance_of z) (needs_of s.args.ns) a) l.lowered.ensures r.solve_needs-solved.ensures.0.answers)
 
-best : (c : tie.Then1) → let o = c.before in let q = probing o in let s = start q in
-    ShownOptimalNeeds (lowered (instance_of s.args.p) s.args.k q.probe.result) (needs_of s.args.ns) (solving o).solve-needs.result.answer
+best : (c : tie.Then-is_optimal) → let o = c.before in let q = probing o in let s = start q in
+    ShownOptimalNeeds (lowered (instance_of s.args.p) s.args.k q.probe-d.result) (needs_of s.args.ns) (solving o).solve_needs-solved.result.answer
 best c =
     let o = c.before in
     let q = probing o in
     let s = start q in
-    let a = (solving o).solve-needs.result.answer in
-    subst (AnswersAsNeeds (lowered (instance_of s.args.p) s.args.k q.probe.result) (needs_of s.args.ns) a)
-    (kind-of a.kind (sym o.is-optimal.ensures ∙ c.if1.true)) (answered o)
+    let a = (solving o).solve_needs-solved.result.answer in
+    subst (AnswersAsNeeds (lowered (instance_of s.args.p) s.args.k q.probe-d.result) (needs_of s.args.ns) a)
+    (kind-of a.kind (sym o.is_optimal.ensures ∙ c.if-is_optimal.true)) (answered o)
 
-shown-both : (c : tie.Then1) → let o = c.before in let s = start (probing o) in
-    Shown (instance_of s.args.p) (amount_at s.args.a) × Shown (instance_of s.args.p) (amount_at (solving o).solve-needs.result.answer)
-shown-both c = let s = start (probing c.before) in (s.pre.0.0.best.shown, shown-priced (instance_of s.args.p) _ _ (best c).shown)
+shown-both : (c : tie.Then-is_optimal) → let o = c.before in let s = start (probing o) in
+    Shown (instance_of s.args.p) (amount_at s.args.a) × Shown (instance_of s.args.p) (amount_at (solving o).solve_needs-solved.result.answer)
+shown-both c = let s = start (probing c.before) in (s.requires.0.0.best.shown, shown-priced (instance_of s.args.p) _ _ (best c).shown)
 
 -- ---- the calls
 
-probe-requires : tie.Need-probe-requires
+probe-requires : tie.Need-probe-d-requires
 probe-requires c κs = search rules
 
 lowered-requires : tie.Need-lowered-requires
@@ -83,69 +83,69 @@ lowered-requires c κs =
     let f = (h.figures.items-in s.args.k h.inside).price-in in
     (omega (arith, h.inside, h.figures.few-items), (f, omega (arith, h.most, deepest-most (item_at s.args.p s.args.k).price f)))
 
-solve-needs-requires : tie.Need-solve-needs-requires
+solve-needs-requires : tie.Need-solve_needs-solved-requires
 solve-needs-requires c κs =
     let q = c.before in
     let s = start q in
     rw c.lowered.ensures
-    (lowered-needed s.args.p s.args.k q.probe.result (long s) s.args.ns s.pre.0.0.needed (fall-in q).most s.pre.0.1)
+    (lowered-needed s.args.p s.args.k q.probe-d.result (long s) s.args.ns s.requires.0.0.needed (fall-in q).most s.requires.0.1)
 
-is-optimal-requires : tie.Need-is-optimal-requires
+is-optimal-requires : tie.Need-is_optimal-requires
 is-optimal-requires c κs = search rules
 
-is-passed-requires : tie.Need-is-passed-requires
+is-passed-requires : tie.Need-is_passed-requires
 is-passed-requires c κs = (fall-in (probing c.before), shown-both c)
 
-first-passed-requires : tie.Need-first-passed-requires
+first-passed-requires : tie.Need-first_passed-requires
 first-passed-requires c κs =
     let p = c.before in
     let t = p.before in
     let q = probing t.before in
-    ((fall-in q, shown-both t), record { above = q.probe.ensures.0; ahead = p.is-passed.ensures.ahead c.if2.true })
+    ((fall-in q, shown-both t), record { above = q.probe-d.ensures.0; ahead = p.is_passed.ensures.ahead c.if-is_passed.true })
 
 fewer-requires : tie.Need-fewer-requires
 fewer-requires c κs = search rules
 
 -- ---- the narrower span
 
-returns : tie.Need-returns
+returns : tie.Need-returns-then-is_passed
 returns c =
     let f = c.before in
     let t = f.before.before.before in
     let q = probing t.before in
     let s = start q in
     let z = s.args.s in
-    let b = (solving t.before).solve-needs.result.answer in
-    let r = f.first-passed in
-    span-passed s.args.p s.args.ns s.args.a s.args.k s.pre.0.0 s.pre.0.1 z.low z.high z.leaps s.pre.1.0
-    q.probe.result q.probe.ensures.0 q.probe.ensures.1 c.fewer.result b
-    (feasible-before (instance_of s.args.p) s.args.k s.pre.0.1 (needs_of s.args.ns) (point_of b) q.probe.result (point_of b)
+    let b = (solving t.before).solve_needs-solved.result.answer in
+    let r = f.first_passed in
+    span-passed s.args.p s.args.ns s.args.a s.args.k s.requires.0.0 s.requires.0.1 z.low z.high z.leaps s.requires.1.0
+    q.probe-d.result q.probe-d.ensures.0 q.probe-d.ensures.1 c.fewer.result b
+    (feasible-before (instance_of s.args.p) s.args.k s.requires.0.1 (needs_of s.args.ns) (point_of b) q.probe-d.result (point_of b)
     (best t).optimal.feasible)
     r.result r.ensures.0 r.ensures.1
 
-returns-2 : tie.Need-returns-2
+returns-2 : tie.Need-returns-then-is_optimal
 returns-2 c =
     let p = c.before in
     let t = p.before in
     let q = probing t.before in
     let s = start q in
     let z = s.args.s in
-    let b = (solving t.before).solve-needs.result.answer in
-    span-kept s.args.p s.args.ns s.args.a s.args.k s.pre.0.0 s.pre.0.1 z.low z.high z.leaps s.pre.1.0
-    q.probe.result q.probe.ensures.0 q.probe.ensures.1 z.leaps b (best t).optimal (p.is-passed.ensures.behind c.if2.false)
+    let b = (solving t.before).solve_needs-solved.result.answer in
+    span-kept s.args.p s.args.ns s.args.a s.args.k s.requires.0.0 s.requires.0.1 z.low z.high z.leaps s.requires.1.0
+    q.probe-d.result q.probe-d.ensures.0 q.probe-d.ensures.1 z.leaps b (best t).optimal (p.is_passed.ensures.behind c.if-is_passed.false)
 
-returns-3 : tie.Need-returns-3
+returns-3 : tie.Need-returns
 returns-3 c =
     let o = c.before in
     let q = probing o in
     let s = start q in
     let z = s.args.s in
-    let b = (solving o).solve-needs.result.answer in
-    span-unended s.args.p s.args.ns s.args.a s.args.k s.pre.0.0 s.pre.0.1 z.low z.high z.leaps s.pre.1.0
-    q.probe.result q.probe.ensures.0 q.probe.ensures.1 0 b (answered o) (λ e. impossible (sym (sym o.is-optimal.ensures ∙ c.if1.false) ∙ ap is_optimal e))
+    let b = (solving o).solve_needs-solved.result.answer in
+    span-unended s.args.p s.args.ns s.args.a s.args.k s.requires.0.0 s.requires.0.1 z.low z.high z.leaps s.requires.1.0
+    q.probe-d.result q.probe-d.ensures.0 q.probe-d.ensures.1 0 b (answered o) (λ e. impossible (sym (sym o.is_optimal.ensures ∙ c.if-is_optimal.false) ∙ ap is_optimal e))
 
-pub narrowed-spec : {M : Type 1} → statement M
-narrowed-spec =
+pub narrowed_spec : {M : Type 1} → statement M
+narrowed_spec =
     tie.close
     (tie.spec
     probe-requires

@@ -13,56 +13,56 @@ use Rattle.ranging.proofs.Lowering.{no-small, planned-watched}
 use Rattle.ranging.proofs.price_falls.Statement.{statement}
 use Rattle.ranging.proofs.price_falls.Tie as tie
 
-abbrev testing : tie.After-plain-of → tie.Then1
+abbrev testing : tie.After-plain_of → tie.Then-is_optimal
 testing c = c.before.before
 
 -- the planner shows a best point
-best-kind : (c : tie.Then1) → c.before.before.plan.result.kind ≡ kind.Optimal
-best-kind c = kind-of c.before.before.plan.result.kind (sym c.before.is-optimal.ensures ∙ c.if1.true)
+best-kind : (c : tie.Then-is_optimal) → c.before.before.plan-a.result.kind ≡ kind.Optimal
+best-kind c = kind-of c.before.before.plan-a.result.kind (sym c.before.is_optimal.ensures ∙ c.if-is_optimal.true)
 
-plan-requires : tie.Need-plan-requires
+plan-requires : tie.Need-plan-a-requires
 plan-requires c κs = search rules
 
-is-optimal-requires : tie.Need-is-optimal-requires
+is-optimal-requires : tie.Need-is_optimal-requires
 is-optimal-requires c κs = search rules
 
-plain-of-requires : tie.Need-plain-of-requires
+plain-of-requires : tie.Need-plain_of-requires
 plain-of-requires c κs = search rules
 
-falls-of-requires : tie.Need-falls-of-requires
+falls-of-requires : tie.Need-falls_of-of-requires
 falls-of-requires c κs =
     let t = testing c in
     let a = t.before.before in
     let m = a.before.args.m in
-    rw c.plain_of_lem.ensures (planned-watched m a.plan.result a.plan.ensures (best-kind t))
+    rw c.plain_of.ensures (planned-watched m a.plan-a.result a.plan-a.ensures (best-kind t))
 
-returns : tie.Need-returns
+returns : tie.Need-returns-then-is_optimal
 returns c =
     let p = c.before in
     let t = testing p in
     let a = t.before.before in
     let m = a.before.args.m in
-    let f : FallsAre (plain_of Sure m) m.needs a.plan.result m.count c.Falls-of.result = rw p.plain_of_lem.ensures at c.Falls-of.ensures in
-    record { planned = a.plan.ensures; falls = λ e k l. f.falls k l; others = λ n. absurd (n (best-kind t)); small = f.small }
+    let f : FallsAre (plain_of Sure m) m.needs a.plan-a.result m.count c.falls_of-of.result = rw p.plain_of.ensures at c.falls_of-of.ensures in
+    record { planned = a.plan-a.ensures; falls = λ e k l. f.falls k l; others = λ n. absurd (n (best-kind t)); small = f.small }
 
-no-falls-requires : tie.Need-no-falls-requires
+no-falls-requires : tie.Need-no_falls-requires
 no-falls-requires c κs = search rules
 
-returns-2 : tie.Need-returns-2
+returns-2 : tie.Need-returns
 returns-2 c =
     let t = c.before in
     let o = t.before in
     let a = o.before in
-    subst (FallsOf a.before.args.m) (sym c.no-falls.ensures)
+    subst (FallsOf a.before.args.m) (sym c.no_falls.ensures)
     (record {
-      planned = a.plan.ensures;
-      falls = λ e k l. absurd (impossible (sym (sym o.is-optimal.ensures ∙ t.if1.false) ∙ ap is_optimal e));
+      planned = a.plan-a.ensures;
+      falls = λ e k l. absurd (impossible (sym (sym o.is_optimal.ensures ∙ t.if-is_optimal.false) ∙ ap is_optimal e));
       others = λ n. search rules;
       small = no-small;
     })
 
-pub price-falls-spec : {M : Type 1} → statement M
-price-falls-spec =
+pub price_falls_spec : {M : Type 1} → statement M
+price_falls_spec =
     tie.close
     (tie.spec
     plan-requires

@@ -17,5 +17,5 @@ returns c =
     let s = c.before in
     worth-of-shown s.args.p s.args.x (size s) s.requires.0 s.requires.1 c.worth.result c.worth.ensures
 
-pub worth-of-spec : {M : Type 1} → statement M
-worth-of-spec = tie.close (tie.spec worth-requires returns)
+pub worth_of_spec : {M : Type 1} → statement M
+worth_of_spec = tie.close (tie.spec worth-requires returns)

@@ -15,33 +15,33 @@ use Rattle.rays.proofs.direction_at.Tie as tie
 item_in : (s : tie.Start) → ItemInRange (item_at s.args.t1 (s.args.u / 2))
 item_in s = s.requires.0.items-in (s.args.u / 2) (omega arith)
 
-mul-i : tie.Need-overflow-mul-i
+mul-i : tie.Need-offset_bounds-p-k
 mul-i c = search rules
 
-element-copy-out-i : tie.Need-element-copy-out-i
+element-copy-out-i : tie.Need-bounds-p-k
 element-copy-out-i c = search rules
 
-stop-of-requires : tie.Need-stop-of-requires
+stop-of-requires : tie.Need-stop_of-b-requires
 stop-of-requires c κs = search rules
 
-is-absent-requires : tie.Need-is-absent-requires
+is-absent-requires : tie.Need-is_absent-requires
 is-absent-requires c κs = search rules
 
 -- the figures of the direction's item, where they are read
-weight-fits : (c : tie.After-struct-told) →
+weight-fits : (c : tie.After-struct_told-1) →
     let at-is-absent = c.before in
     let s = at-is-absent.before.before.before in
     SFits w64 (item_at s.args.t1 (s.args.u / 2)).weight
 weight-fits c = search rules
 
-price-fits : (c : tie.After-struct-told2) →
+price-fits : (c : tie.After-struct_told-2-1) →
     let at-is-absent = c.before.before.before in
     let s = at-is-absent.before.before.before in
     SFits w64 (item_at s.args.t1 (s.args.u / 2)).price
 price-fits c = search rules
 
 -- the moments that are spoken of below
-abbrev start : tie.After-is-absent → tie.Start
+abbrev start : tie.After-is_absent → tie.Start
 start c = c.before.before.before
 
 turned-requires : tie.Need-turned-requires
@@ -61,18 +61,18 @@ returns c =
     let at-is-absent = at-turned.before.before in
     let at-stop-of = at-is-absent.before in
     rw (
-      back c.before.before.turned.result c.before.before.turned.type-inv,
-      back c.turned2.result c.turned2.type-inv,
+      back c.before.before.turned.result c.before.before.turned.type_inv,
+      back c.turned-2.result c.turned-2.type_inv,
       c.before.before.turned.ensures,
-      c.turned2.ensures,
+      c.turned-2.ensures,
       to_z-of_z (weight-fits at-turned.before),
       to_z-of_z (price-fits c.before),
-      at-is-absent.is-absent.ensures,
-      at-stop-of.stop-of.ensures,
+      at-is-absent.is_absent.ensures,
+      at-stop-of.stop_of-b.ensures,
     )
 
-pub direction-at-spec : {M : Type 1} → statement M
-direction-at-spec =
+pub direction_at_spec : {M : Type 1} → statement M
+direction_at_spec =
     tie.close
     (tie.spec
     mul-i

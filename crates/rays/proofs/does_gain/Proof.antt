@@ -7,15 +7,15 @@ use Rattle.rays.specs.Directions.{gains}
 use Rattle.rays.proofs.does_gain.Statement.{statement}
 use Rattle.rays.proofs.does_gain.Tie as tie
 
-returns : tie.Need-returns
+returns : tie.Need-returns-then-d
 unfolding gains
 returns c =
     let h : SFits w64 c.before.before.before.args.d.price = search rules in
-    rw (to_z-of_z h, c.before.before.if1.true)
+    rw (to_z-of_z h, c.before.before.if-d.true)
 
-returns-2 : tie.Need-returns-2
+returns-2 : tie.Need-returns-else-d
 unfolding gains
-returns-2 c = rw c.if1.false
+returns-2 c = rw c.if-d.false
 
-pub does-gain-spec : {M : Type 1} → statement M
-does-gain-spec = tie.close (tie.spec returns returns-2)
+pub does_gain_spec : {M : Type 1} → statement M
+does_gain_spec = tie.close (tie.spec returns returns-2)

@@ -9,37 +9,37 @@ use Rattle.rays.specs.Directions.{pays}
 use Rattle.rays.proofs.does_pay.Statement.{statement}
 use Rattle.rays.proofs.does_pay.Tie as tie
 
-gain-of-requires : tie.Need-gain-of-requires
+gain-of-requires : tie.Need-gain_of-requires
 gain-of-requires c κs = search rules
 
 zero-fits : SFits w64 (pos 0)
 zero-fits = record { sfits = lit< tt }
 
 -- the moments that are spoken of below
-abbrev start : tie.After-struct-told → tie.Start
+abbrev start : tie.After-struct_told-1 → tie.Start
 start c = c.before.before.before
 
-abbrev then1 : tie.Then2 → tie.Then1
+abbrev then1 : tie.Then-e-lt0 → tie.Then-e
 then1 c = c.before.before.before
 
-returns : tie.Need-returns
+returns : tie.Need-returns-then-e-lt0
 unfolding pays
 returns c =
     let at-if1 = then1 c.before in
     let s = at-if1.before in
     let h : SFits w64 s.args.e.weight = search rules in
-    rw (back _ c.gain-of.type-inv, c.gain-of.ensures, at-if1.if1.taken, on_values h zero-fits c.before.if2.true)
+    rw (back _ c.gain_of.type_inv, c.gain_of.ensures, at-if1.if-e.true, on_values h zero-fits c.before.if-e-lt0.true)
 
-returns-2 : tie.Need-returns-2
+returns-2 : tie.Need-returns-else-e-lt0
 unfolding pays
 returns-2 c =
     let s = start c.before in
     let h : SFits w64 s.args.e.weight = search rules in
-    rw (c.before.before.before.if1.true, on_values h zero-fits c.if2.false)
+    rw (c.before.before.before.if-e.true, on_values h zero-fits c.if-e-lt0.false)
 
-returns-3 : tie.Need-returns-3
+returns-3 : tie.Need-returns-else-e
 unfolding pays
-returns-3 c = rw c.if1.false
+returns-3 c = rw c.if-e.false
 
-pub does-pay-spec : {M : Type 1} → statement M
-does-pay-spec = tie.close (tie.spec gain-of-requires returns returns-2 returns-3)
+pub does_pay_spec : {M : Type 1} → statement M
+does_pay_spec = tie.close (tie.spec gain-of-requires returns returns-2 returns-3)

@@ -6,21 +6,21 @@ use borrow.Author.Rules.{rules}
 use Rattle.rays.proofs.find_ray.Statement.{statement}
 use Rattle.rays.proofs.find_ray.Tie as tie
 
-first-ray-requires : tie.Need-first-ray-requires
+first-ray-requires : tie.Need-first_ray-r-requires
 first-ray-requires c κs = search rules
 
-is-ray-requires : tie.Need-is-ray-requires
+is-ray-requires : tie.Need-is_ray-found-requires
 is-ray-requires c κs = search rules
 
-steps-of-requires : tie.Need-steps-of-requires
+steps-of-requires : tie.Need-steps_of-steps-requires
 steps-of-requires c κs =
     let s = c.before.before in
-    (s.requires, rw c.before.first-ray.ensures (tested-directs s.args.p (ray_of s.args.p) (tested s.args.p)))
+    (s.requires, rw c.before.first_ray-r.ensures (tested-directs s.args.p (ray_of s.args.p) (tested s.args.p)))
 
 returns : tie.Need-returns
 returns c =
     let s = c.before.before.before in
-    rw (c.steps_of.ensures, c.before.is-ray.ensures, c.before.before.first-ray.ensures) (found s.args.p s.requires)
+    rw (c.steps_of-steps.ensures, c.before.is_ray-found.ensures, c.before.before.first_ray-r.ensures) (found s.args.p s.requires)
 
-pub find-ray-spec : {M : Type 1} → statement M
-find-ray-spec = tie.close (tie.spec first-ray-requires is-ray-requires steps-of-requires returns)
+pub find_ray_spec : {M : Type 1} → statement M
+find_ray_spec = tie.close (tie.spec first-ray-requires is-ray-requires steps-of-requires returns)

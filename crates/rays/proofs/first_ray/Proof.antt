@@ -9,56 +9,56 @@ use Rattle.rays.proofs.Scan.{first_past, first-here}
 use Rattle.rays.proofs.first_ray.Statement.{statement}
 use Rattle.rays.proofs.first_ray.Tie as tie
 
-abbrev invariant-loop : tie.invariant-loop
+abbrev invariant-loop : tie.invariant-loop-u
 invariant-loop p n u₀ u = (u ≤ n) × (first u (ray_from p) ≡ None)
 
-abbrev decreases-loop : tie.decreases-loop
+abbrev decreases-loop : tie.decreases-loop-u
 decreases-loop p n u₀ u = n - u
 
-mul-n : tie.Need-overflow-mul-n invariant-loop decreases-loop
+mul-n : tie.Need-overflow_mul-n invariant-loop decreases-loop
 mul-n c = omega arith
 
-loop-holds : tie.Need-loop-init invariant-loop decreases-loop
+loop-holds : tie.Need-loop-u-init invariant-loop decreases-loop
 unfolding first
 loop-holds c = (omega arith, refl)
 
-ray-from-requires : tie.Need-ray-from-requires invariant-loop decreases-loop
+ray-from-requires : tie.Need-ray_from-r-requires invariant-loop decreases-loop
 ray-from-requires c κs = search rules
 
-is-ray-requires : tie.Need-is-ray-requires invariant-loop decreases-loop
+is-ray-requires : tie.Need-is_ray-requires invariant-loop decreases-loop
 is-ray-requires c κs = search rules
 
 -- the moments that are spoken of below
-abbrev at-loop-of-is-ray : tie.After-is-ray invariant-loop decreases-loop → tie.At-loop invariant-loop decreases-loop
+abbrev at-loop-of-is-ray : tie.After-is_ray invariant-loop decreases-loop → tie.At-loop-u invariant-loop decreases-loop
 at-loop-of-is-ray c = c.before.before.before
 
-returns : tie.Need-returns invariant-loop decreases-loop
+returns : tie.Need-returns-then-is_ray invariant-loop decreases-loop
 unfolding ray_of
 returns c =
     let at-loop = at-loop-of-is-ray c.before in
-    let l = at-loop.loop in
-    first-here _ l.u _ _ _ (omega arith) l.inv.1 c.before.before.ray-from.ensures c.before.is-ray.ensures c.if1.true
+    let l = at-loop.loop-u in
+    first-here _ l.u _ _ _ (omega arith) l.inv.1 c.before.before.ray_from-r.ensures c.before.is_ray.ensures c.if-is_ray.true
 
-add-u : tie.Need-overflow-add-u invariant-loop decreases-loop
+add-u : tie.Need-overflow_add-u invariant-loop decreases-loop
 add-u c = omega arith
 
-loop-less : tie.Need-loop-smaller invariant-loop decreases-loop
+loop-less : tie.Need-loop-u-smaller invariant-loop decreases-loop
 loop-less c = omega arith
 
-loop-again : tie.Need-loop-preserved invariant-loop decreases-loop
+loop-again : tie.Need-loop-u-preserved invariant-loop decreases-loop
 loop-again c =
     let at-loop = at-loop-of-is-ray c.before in
-    let l = at-loop.loop in
-    (omega arith, first_past l.u _ _ _ l.inv.1 c.before.before.ray-from.ensures c.before.is-ray.ensures c.if1.false)
+    let l = at-loop.loop-u in
+    (omega arith, first_past l.u _ _ _ l.inv.1 c.before.before.ray_from-r.ensures c.before.is_ray.ensures c.if-is_ray.false)
 
-returns-2 : tie.Need-returns-2 invariant-loop decreases-loop
+returns-2 : tie.Need-returns invariant-loop decreases-loop
 unfolding ray_of
 returns-2 c =
-    let e : c.before.loop.u ≡ 2 * c.before.before.before.args.p.count = omega arith in
-    sym (rw e at c.before.loop.invariant.1)
+    let e : c.before.loop-u.u ≡ 2 * c.before.before.before.args.p.count = omega arith in
+    sym (rw e at c.before.loop-u.invariant.1)
 
-pub first-ray-spec : {M : Type 1} → statement M
-first-ray-spec =
+pub first_ray_spec : {M : Type 1} → statement M
+first_ray_spec =
     tie.close
     (tie.spec
     invariant-loop

@@ -46,23 +46,23 @@ module _ (c : tie.Start) where
   gain-fits : SFits w64 (gain c.args.d c.args.e)
   gain-fits = within-sfits (lit< tt) (within-add there-in here_in)
 
-sub-result : tie.Need-overflow-sub-result
+sub-result : tie.Need-overflow_sub-result
 sub-result c = let s = c.before.before in rw (negated (lit< tt) (e-weight s)) (within-sfits (lit< tt) (negation s))
 
 -- the moments that are spoken of below
-abbrev start-of-known2 : tie.After-struct-known2 → tie.Start
+abbrev start-of-known2 : tie.After-struct_known-2-1 → tie.Start
 start-of-known2 c = c.before.before.before
 
-abbrev start-of-told3 : tie.After-struct-told3 → tie.Start
+abbrev start-of-told3 : tie.After-struct_told-3-1 → tie.Start
 start-of-told3 c = start-of-known2 c.before.before.before
 
-abbrev start : tie.After-struct-told4 → tie.Start
+abbrev start : tie.After-struct_told-4-1 → tie.Start
 start c = start-of-told3 c.before.before
 
-mul-result : tie.Need-overflow-mul-result
+mul-result : tie.Need-overflow_mul-result
 mul-result c = let s = start-of-known2 c.before in rw (there s) (within-sfits (lit< tt) (there-in s))
 
-mul-result-2 : tie.Need-overflow-mul-result-2
+mul-result-2 : tie.Need-overflow_mul-result-2
 mul-result-2 c = let s = start c in rw (here s) (within-sfits (lit< tt) (here_in s))
 
 -- the sum of the two products, read back
@@ -70,11 +70,11 @@ summed : (s : tie.Start) → to_z w64 (of_z w64 (to_z w64 (of_z w64 s.args.d.pri
     +ℤ to_z w64 (of_z w64 (to_z w64 (of_z w64 s.args.e.price) *ℤ to_z w64 (of_z w64 s.args.d.weight))) ≡ gain s.args.d s.args.e
 summed s = rw (there s, here s, read_back (lit< tt) (there-in s), read_back (lit< tt) (here_in s))
 
-add-result : tie.Need-overflow-add-result
+add-result : tie.Need-overflow_add-result
 add-result c = let s = start c in rw (summed s) (gain-fits s)
 
 returns : tie.Need-returns
 returns c = let s = start c in rw (summed s) (to_z-of_z (gain-fits s))
 
-pub gain-of-spec : {M : Type 1} → statement M
-gain-of-spec = tie.close (tie.spec sub-result mul-result mul-result-2 add-result returns)
+pub gain_of_spec : {M : Type 1} → statement M
+gain_of_spec = tie.close (tie.spec sub-result mul-result mul-result-2 add-result returns)

@@ -8,14 +8,14 @@ use Rattle.rays.proofs.moved.Tie as tie
 turned-requires : tie.Need-turned-requires
 turned-requires c κs = search rules
 
-mul-l : tie.Need-overflow-mul-l
+mul-l : tie.Need-offset_bounds-l-u
 mul-l c = search rules
 
-array-set-from-l : tie.Need-array-set-from-l
+array-set-from-l : tie.Need-bounds-l-u
 array-set-from-l c = search rules
 
 returns : tie.Need-returns
-returns c = rw (back _ c.turned.type-inv, c.turned.ensures, to_z-of_z c.before.ranges.n)
+returns c = rw (back _ c.turned.type_inv, c.turned.ensures, to_z-of_z c.before.ranges.n)
 
-pub moved-spec : {M : Type 1} → statement M
-moved-spec = tie.close (tie.spec turned-requires mul-l array-set-from-l returns)
+pub moved_spec : {M : Type 1} → statement M
+moved_spec = tie.close (tie.spec turned-requires mul-l array-set-from-l returns)

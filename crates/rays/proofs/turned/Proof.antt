@@ -12,14 +12,14 @@ use Rattle.rays.proofs.turned.Tie as tie
 negation : (s : tie.Start) → Within 10000 (neg_ℤ s.args.x)
 negation s = within-neg s.args.x s.requires
 
-sub-result : tie.Need-overflow-sub-result
+sub-result : tie.Need-overflow_sub-result
 sub-result c = rw (negated (lit< tt) c.before.requires) (within-sfits (lit< tt) (negation c.before))
 
-returns : tie.Need-returns
-returns c = rw (eq-eqb _ _ c.if1.true) (to_z-of_z c.before.ranges.x)
+returns : tie.Need-returns-then-u-eq0
+returns c = rw (eq-eqb _ _ c.if-u-eq0.true) (to_z-of_z c.before.ranges.x)
 
-returns-2 : tie.Need-returns-2
-returns-2 c = rw (negated (lit< tt) c.before.requires, ne_eqb _ _ c.if1.false) (read_back (lit< tt) (negation c.before))
+returns-2 : tie.Need-returns-else-u-eq0
+returns-2 c = rw (negated (lit< tt) c.before.requires, ne_eqb _ _ c.if-u-eq0.false) (read_back (lit< tt) (negation c.before))
 
-pub turned-spec : {M : Type 1} → statement M
-turned-spec = tie.close (tie.spec sub-result returns returns-2)
+pub turned_spec : {M : Type 1} → statement M
+turned_spec = tie.close (tie.spec sub-result returns returns-2)

@@ -6,37 +6,34 @@ use borrow.Author.Rules.{rules}
 use Rattle.rays_test.proofs.print_ray.Statement.{statement}
 use Rattle.rays_test.proofs.print_ray.Tie as tie
 
-check-model-requires : tie.Need-check-model-requires
+check-model-requires : tie.Need-check_model-v-requires
 check-model-requires c κs = search rules
 
-enum_told : tie.Need-enum-told
+enum_told : tie.Need-enum_told-1
 enum_told c = search rules
 
-plain-of-requires : tie.Need-plain-of-requires
+plain-of-requires : tie.Need-plain_of-requires
 plain-of-requires c κs = search rules
 
 scanned-requires : tie.Need-scanned-requires
 scanned-requires c κs =
     let e = c.before in
-    rw c.plain_of_lem.ensures ((accepted _ (sym e.before.before.check-model.ensures ∙ e.enum_told.given.1)).figures Sure)
+    rw c.plain_of.ensures ((accepted _ (sym e.before.before.check_model-v.ensures ∙ e.enum_told-1.given.1)).figures Sure)
 
-enum-told-2 : tie.Need-enum-told-2
+enum-told-2 : tie.Need-enum_told-in-Refused
 enum-told-2 c = search rules
-
-slice-aggregate-print : tie.Need-slice-aggregate-print
-slice-aggregate-print c = search rules
 
 print-requires : tie.Need-print-requires
 print-requires c κs = search rules
 
-returns : tie.Need-returns
+returns : tie.Need-returns-in-Accepted
 returns c = search rules
 
-returns-2 : tie.Need-returns-2
+returns-2 : tie.Need-returns-in-Refused
 returns-2 c = search rules
 
-pub print-ray-spec : {M : Type 1} → statement M
-print-ray-spec =
+pub print_ray_spec : {M : Type 1} → statement M
+print_ray_spec =
     tie.close
     (tie.spec
     check-model-requires
@@ -44,7 +41,6 @@ print-ray-spec =
     plain-of-requires
     scanned-requires
     enum-told-2
-    slice-aggregate-print
     print-requires
     returns
     returns-2)

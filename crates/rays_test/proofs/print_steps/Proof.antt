@@ -5,38 +5,38 @@ use borrow.Author.Rules.{rules}
 use Rattle.rays_test.proofs.print_steps.Statement.{statement}
 use Rattle.rays_test.proofs.print_steps.Tie as tie
 
-abbrev invariant-loop : tie.invariant-loop
+abbrev invariant-loop : tie.invariant-loop-k
 invariant-loop n steps k₀ k = k ≤ n
 
-abbrev decreases-loop : tie.decreases-loop
+abbrev decreases-loop : tie.decreases-loop-k
 decreases-loop n steps k₀ k = n - k
 
-loop-holds : tie.Need-loop-init invariant-loop decreases-loop
+loop-holds : tie.Need-loop-k-init invariant-loop decreases-loop
 loop-holds c = omega arith
 
-mul-z : tie.Need-overflow-mul-z invariant-loop decreases-loop
+mul-z : tie.Need-offset_bounds-steps-k invariant-loop decreases-loop
 mul-z c = omega arith
 
-array-copy-out-z : tie.Need-array-copy-out-z invariant-loop decreases-loop
+array-copy-out-z : tie.Need-bounds-steps-k invariant-loop decreases-loop
 array-copy-out-z c = omega arith
 
-print-signed-field-requires : tie.Need-print-signed-field-requires invariant-loop decreases-loop
+print-signed-field-requires : tie.Need-print_signed_field-requires invariant-loop decreases-loop
 print-signed-field-requires c κs = search rules
 
-add-k : tie.Need-overflow-add-k invariant-loop decreases-loop
+add-k : tie.Need-overflow_add-k invariant-loop decreases-loop
 add-k c = omega arith
 
-loop-less : tie.Need-loop-smaller invariant-loop decreases-loop
+loop-less : tie.Need-loop-k-smaller invariant-loop decreases-loop
 loop-less c = omega arith
 
-loop-again : tie.Need-loop-preserved invariant-loop decreases-loop
+loop-again : tie.Need-loop-k-preserved invariant-loop decreases-loop
 loop-again c = omega arith
 
 returns : tie.Need-returns invariant-loop decreases-loop
 returns c = search rules
 
-pub print-steps-spec : {M : Type 1} → statement M
-print-steps-spec =
+pub print_steps_spec : {M : Type 1} → statement M
+print_steps_spec =
     tie.close
     (tie.spec
     invariant-loop

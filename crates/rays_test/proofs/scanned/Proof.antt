@@ -6,35 +6,31 @@ use borrow.Author.Rules.{rules}
 use Rattle.rays_test.proofs.scanned.Statement.{statement}
 use Rattle.rays_test.proofs.scanned.Tie as tie
 
-some-crosses-requires : tie.Need-some-crosses-requires
+some-crosses-requires : tie.Need-some_crosses-requires
 some-crosses-requires c κs = c.requires.few-items
-
-slice-aggregate-print : tie.Need-slice-aggregate-print
-slice-aggregate-print c = search rules
 
 print-requires : tie.Need-print-requires
 print-requires c κs = search rules
 
-find-ray-requires : tie.Need-find-ray-requires
+find-ray-requires : tie.Need-find_ray-r-requires
 find-ray-requires c κs =
     let s = c.before.before in
-    plain-in-range s.args.p s.requires (uncrossed s.args.p (sym c.before.some-crosses.ensures ∙ c.if1.false))
+    plain-in-range s.args.p s.requires (uncrossed s.args.p (sym c.before.some_crosses.ensures ∙ c.if-some_crosses.false))
 
-print-reply-requires : tie.Need-print-reply-requires
+print-reply-requires : tie.Need-print_reply-requires
 print-reply-requires c κs = c.before.before.before.requires.few-items
 
-returns : tie.Need-returns
+returns : tie.Need-returns-then-some_crosses
 returns c = search rules
 
-returns-2 : tie.Need-returns-2
+returns-2 : tie.Need-returns-else-some_crosses
 returns-2 c = search rules
 
-pub scanned-spec : {M : Type 1} → statement M
-scanned-spec =
+pub scanned_spec : {M : Type 1} → statement M
+scanned_spec =
     tie.close
     (tie.spec
     some-crosses-requires
-    slice-aggregate-print
     print-requires
     find-ray-requires
     print-reply-requires

@@ -46,76 +46,76 @@ place-all sense m at s =
     let e = order-cong (plain_item (plain_of sense m)) (λ k. item_in sense (item_at m k)) m.count (λ k h. plain-item sense m k) in
     ap (λ t. with_items m (t ++ drop m.count m.items)) (take-map (item_at m) m.count at ∙ ap (map (item_at m)) (s.first ∙ e))
 
-abbrev invariant-loop : tie.invariant-loop
+abbrev invariant-loop : tie.invariant-loop-u
 invariant-loop m n at q₀ u₀ q u = (u ≤ n) × ((length m.items ≡ 16) × ((length at ≡ 16) × (q ≡ placed m at u)))
 
-abbrev decreases-loop : tie.decreases-loop
+abbrev decreases-loop : tie.decreases-loop-u
 decreases-loop m n at q₀ u₀ q u = n - u
 
-plain-of-requires : tie.Need-plain-of-requires invariant-loop decreases-loop
+plain-of-requires : tie.Need-plain_of-requires invariant-loop decreases-loop
 plain-of-requires c κs = search rules
 
-rank-requires : tie.Need-rank-requires invariant-loop decreases-loop
-rank-requires c κs = rw c.plain_of_lem.ensures (ranged _ c.before.requires)
+rank-requires : tie.Need-rank-ranking-requires invariant-loop decreases-loop
+rank-requires c κs = rw c.plain_of.ensures (ranged _ c.before.requires)
 
 -- the moments that are spoken of below
-abbrev ranked : tie.At-loop invariant-loop decreases-loop → tie.After-rank invariant-loop decreases-loop
+abbrev ranked : tie.At-loop-u invariant-loop decreases-loop → tie.After-rank-ranking invariant-loop decreases-loop
 ranked c = c.before.before
 
-abbrev start : tie.At-loop invariant-loop decreases-loop → tie.Start invariant-loop decreases-loop
+abbrev start : tie.At-loop-u invariant-loop decreases-loop → tie.Start invariant-loop decreases-loop
 start c = (ranked c).before.before
 
 -- the ranking is of the record's items in the sense
-sorted : (c : tie.At-loop invariant-loop decreases-loop) →
+sorted : (c : tie.At-loop-u invariant-loop decreases-loop) →
     let a = (start c).args in
-    Sorted (plain_item (plain_of a.sense a.t1)) a.t1.count (ranked c).rank.result.at
-sorted c = subst (λ (p : Problem). Sorted (plain_item p) p.count (ranked c).rank.result.at) (ranked c).before.plain_of_lem.ensures (ranked c).rank.ensures
+    Sorted (plain_item (plain_of a.sense a.t1)) a.t1.count (ranked c).rank-ranking.result.at
+sorted c = subst (λ (p : Problem). Sorted (plain_item p) p.count (ranked c).rank-ranking.result.at) (ranked c).before.plain_of.ensures (ranked c).rank-ranking.ensures
 
-few : (c : tie.At-loop invariant-loop decreases-loop) → (start c).args.t1.count ≤ 16
+few : (c : tie.At-loop-u invariant-loop decreases-loop) → (start c).args.t1.count ≤ 16
 few c = (start c).requires.few-items
 
-loop-holds : tie.Need-loop-init invariant-loop decreases-loop
+loop-holds : tie.Need-loop-u-init invariant-loop decreases-loop
 loop-holds c =
     let s = c.before.before.before in
-    let size : length s.args.t1.items ≡ 16 = simp length-map at s.well-formed.0.1.1.0.1.0.1 in
-    let long : length c.before.rank.result.at ≡ 16 = search rules in
+    let size : length s.args.t1.items ≡ 16 = simp length-map at s.well_formed.0.1.1.0.1.0.1 in
+    let long : length c.before.rank-ranking.result.at ≡ 16 = search rules in
     (omega arith, (size, (long, refl)))
 
-mul-k : tie.Need-overflow-mul-k invariant-loop decreases-loop
+mul-k : tie.Need-offset_bounds-at-u invariant-loop decreases-loop
 mul-k c = omega (arith, few c.before)
 
-array-read-k : tie.Need-array-read-k invariant-loop decreases-loop
+array-read-k : tie.Need-bounds-at-u invariant-loop decreases-loop
 array-read-k c = omega (arith, few c.before)
 
-mul-x : tie.Need-overflow-mul-x invariant-loop decreases-loop
-mul-x c = omega (arith, (sorted c.before).below c.before.loop.u)
+mul-x : tie.Need-offset_bounds-m-k invariant-loop decreases-loop
+mul-x c = omega (arith, (sorted c.before).below c.before.loop-u.u)
 
-element-copy-out-x : tie.Need-element-copy-out-x invariant-loop decreases-loop
-element-copy-out-x c = (sorted c.before).below c.before.loop.u
+element-copy-out-x : tie.Need-bounds-m-k invariant-loop decreases-loop
+element-copy-out-x c = (sorted c.before).below c.before.loop-u.u
 
-with-item-requires : tie.Need-with-item-requires invariant-loop decreases-loop
+with-item-requires : tie.Need-with_item-q-requires invariant-loop decreases-loop
 with-item-requires c κs = omega (arith, few c.before.before)
 
-add-u : tie.Need-overflow-add-u invariant-loop decreases-loop
+add-u : tie.Need-overflow_add-u invariant-loop decreases-loop
 add-u c = omega arith
 
-loop-less : tie.Need-loop-smaller invariant-loop decreases-loop
+loop-less : tie.Need-loop-u-smaller invariant-loop decreases-loop
 loop-less c = omega arith
 
-loop-again : tie.Need-loop-preserved invariant-loop decreases-loop
+loop-again : tie.Need-loop-u-preserved invariant-loop decreases-loop
 loop-again c =
     let l = c.before.before.before in
     let m = (start l).args.t1 in
-    let at = (ranked l).rank.result.at in
-    let i = l.loop.invariant.1 in
-    let u = l.loop.u in
+    let at = (ranked l).rank-ranking.result.at in
+    let i = l.loop-u.invariant.1 in
+    let u = l.loop-u.u in
     let h : u < 16 = omega (arith, few l) in (
       omega arith,
       (
         i.0,
         (
           i.1.0,
-          c.with_item.ensures ∙ ap (λ (q : Model). with_item q u (item_at m (get_or at u 0))) i.1.1
+          c.with_item-q.ensures ∙ ap (λ (q : Model). with_item q u (item_at m (get_or at u 0))) i.1.1
               ∙ place-more m at u (omega (arith, i.1.0)) (omega (arith, i.0)),
         ),
       ),
@@ -125,12 +125,12 @@ returns : tie.Need-returns invariant-loop decreases-loop
 returns c =
     let l = c.before in
     let a = (start l).args in
-    let at = (ranked l).rank.result.at in
-    let e : l.loop.u ≡ a.t1.count = omega arith in
-    l.loop.invariant.1.1.1 ∙ ap (placed a.t1 at) e ∙ place-all a.sense a.t1 at (sorted l)
+    let at = (ranked l).rank-ranking.result.at in
+    let e : l.loop-u.u ≡ a.t1.count = omega arith in
+    l.loop-u.invariant.1.1.1 ∙ ap (placed a.t1 at) e ∙ place-all a.sense a.t1 at (sorted l)
 
-pub arranged-spec : {M : Type 1} → statement M
-arranged-spec =
+pub arranged_spec : {M : Type 1} → statement M
+arranged_spec =
     tie.close
     (tie.spec
     invariant-loop

@@ -12,13 +12,13 @@ use Rattle.relaxation.proofs.Lent.{settled-accepted, settled-refused}
 use Rattle.relaxation.proofs.core.Statement.{statement}
 use Rattle.relaxation.proofs.core.Tie as tie
 
-check-model-requires : tie.Need-check-model-requires
+check-model-requires : tie.Need-check_model-v-requires
 check-model-requires c κs = search rules
 
-enum_told : tie.Need-enum-told
+enum_told : tie.Need-enum_told-1
 enum_told c = search rules
 
-abbrev asked : tie.After-check-model → Query
+abbrev asked : tie.After-check_model-v → Query
 asked k = k.before.before.args.q
 
 -- the problem that is answered
@@ -26,39 +26,39 @@ abbrev relaxation : Query → Instance
 relaxation q = relaxed_but (needs_of q.model.needs) (instance_of (plain_of q.sense q.model))
 
 -- the record is accepted
-taken : (t : tie.After-enum-told) → verdict (asked t.before.before).model ≡ Accepted
-taken t = sym t.before.before.check-model.ensures ∙ t.enum_told.given.1
+taken : (t : tie.In-Accepted) → verdict (asked t.before.before).model ≡ Accepted
+taken t = sym t.before.before.check_model-v.ensures ∙ t.enum_told-1.given.1
 
-relaxed-answer-requires : tie.Need-relaxed-answer-requires
+relaxed-answer-requires : tie.Need-relaxed_answer-a-requires
 relaxed-answer-requires c κs = accepted _ (taken c)
 
-arranged-requires : tie.Need-arranged-requires
+arranged-requires : tie.Need-arranged-n-requires
 arranged-requires c κs = (accepted _ (taken c.before)).figures _
 
-enum-known-v : tie.Need-enum-known-v
+enum-known-v : tie.Need-enum_known-v
 enum-known-v c = search rules
 
-no-point-requires : tie.Need-no-point-requires
+no-point-requires : tie.Need-no_point-a-requires
 no-point-requires c κs = search rules
 
-returns : tie.Need-returns
+returns : tie.Need-returns-in-Accepted
 returns c =
     let a = c.before in
     let k = a.before.before.before in
     let q = asked k in
     record {
-      reply = subst (RepliesAs (relaxation q) (needs_of q.model.needs) a.relaxed-answer.result) (sym (taken a.before)) a.relaxed-answer.ensures;
-      model = c.arranged.ensures ∙ sym (settled-accepted q (taken a.before));
+      reply = subst (RepliesAs (relaxation q) (needs_of q.model.needs) a.relaxed_answer-a.result) (sym (taken a.before)) a.relaxed_answer-a.ensures;
+      model = c.arranged-n.ensures ∙ sym (settled-accepted q (taken a.before));
     }
 
-returns-2 : tie.Need-returns-2
+returns-2 : tie.Need-returns-in-Refused
 returns-2 c =
     let v = c.before.before in
     let k = v.before.before in
     let q = asked k in
-    let is = sym k.check-model.ensures ∙ v.v.given.1 in
+    let is = sym k.check_model-v.ensures ∙ v.v-1.given.1 in
     record {
-      reply = subst (RepliesAs (relaxation q) (needs_of q.model.needs) c.no-point.result) (sym is) c.no-point.ensures;
+      reply = subst (RepliesAs (relaxation q) (needs_of q.model.needs) c.no_point-a.result) (sym is) c.no_point-a.ensures;
       model = sym (settled-refused q _ is);
     }
 

@@ -11,63 +11,63 @@ use Rattle.relaxation.proofs.Loose.{loosened-none, loosened-more}
 use Rattle.relaxation.proofs.loosen.Statement.{statement}
 use Rattle.relaxation.proofs.loosen.Tie as tie
 
-abbrev invariant-loop : tie.invariant-loop
+abbrev invariant-loop : tie.invariant-loop-k
 invariant-loop p named n q₀ k₀ q k = (k ≤ n) × ((length q.items ≡ 16) × Loosened p named k q)
 
-abbrev decreases-loop : tie.decreases-loop
+abbrev decreases-loop : tie.decreases-loop-k
 decreases-loop p named n q₀ k₀ q k = n - k
 
-loop-holds : tie.Need-loop-init invariant-loop decreases-loop
+loop-holds : tie.Need-loop-k-init invariant-loop decreases-loop
 loop-holds c =
-    let size : length c.args.t1.items ≡ 16 = simp length-map at c.well-formed.0.1.1.0.1.0.1 in
+    let size : length c.args.t1.items ≡ 16 = simp length-map at c.well_formed.0.1.1.0.1.0.1 in
     (omega arith, (size, loosened-none c.args.t1 c.args.t2))
 
-array-read-kept : tie.Need-array-read-kept invariant-loop decreases-loop
+array-read-kept : tie.Need-bounds-named-k invariant-loop decreases-loop
 array-read-kept c = omega arith
 
-mul-loose-item : tie.Need-overflow-mul-loose-item invariant-loop decreases-loop
+mul-loose-item : tie.Need-offset_bounds-p-k invariant-loop decreases-loop
 mul-loose-item c = omega arith
 
-element-copy-out-loose-item : tie.Need-element-copy-out-loose-item invariant-loop decreases-loop
+element-copy-out-loose-item : tie.Need-bounds-p-k invariant-loop decreases-loop
 element-copy-out-loose-item c = omega arith
 
-loose-item-requires : tie.Need-loose-item-requires invariant-loop decreases-loop
+loose-item-requires : tie.Need-loose_item-x-requires invariant-loop decreases-loop
 loose-item-requires c κs = search rules
 
-with-item-requires : tie.Need-with-item-requires invariant-loop decreases-loop
+with-item-requires : tie.Need-with_item-q-requires invariant-loop decreases-loop
 with-item-requires c κs = omega arith
 
-add-k : tie.Need-overflow-add-k invariant-loop decreases-loop
+add-k : tie.Need-overflow_add-k invariant-loop decreases-loop
 add-k c = omega arith
 
-loop-less : tie.Need-loop-smaller invariant-loop decreases-loop
+loop-less : tie.Need-loop-k-smaller invariant-loop decreases-loop
 loop-less c = omega arith
 
-loop-again : tie.Need-loop-preserved invariant-loop decreases-loop
+loop-again : tie.Need-loop-k-preserved invariant-loop decreases-loop
 loop-again c =
     let t = c.before.before.before in
     let b = t.before in
     let p = b.before.args.t1 in
     let named = b.before.args.t2 in
-    let k = b.loop.k in
-    let x : c.before.loose-item.result ≡ loose (get_or named k false) (item_at p k) = c.before.loose-item.ensures in
-    let q : c.with_item.result ≡ with_item b.loop.q k (loose (get_or named k false) (item_at p k)) = c.with_item.ensures ∙
-    ap (with_item b.loop.q k) x in (
+    let k = b.loop-k.k in
+    let x : c.before.loose_item-x.result ≡ loose (get_or named k false) (item_at p k) = c.before.loose_item-x.ensures in
+    let q : c.with_item-q.result ≡ with_item b.loop-k.q k (loose (get_or named k false) (item_at p k)) = c.with_item-q.ensures ∙
+    ap (with_item b.loop-k.q k) x in (
       omega arith,
       rw q (
-        simp length-set b.loop.invariant.1.0,
-        loosened-more p b.loop.q named k (omega (arith, b.loop.invariant.1.0))
-            b.loop.invariant.1.1,
+        simp length-set b.loop-k.invariant.1.0,
+        loosened-more p b.loop-k.q named k (omega (arith, b.loop-k.invariant.1.0))
+            b.loop-k.invariant.1.1,
       ),
     )
 
 returns : tie.Need-returns invariant-loop decreases-loop
 returns c =
     let b = c.before in
-    subst (λ k. Loosened b.before.args.t1 b.before.args.t2 k b.loop.q) (omega arith) b.loop.invariant.1.1
+    subst (λ k. Loosened b.before.args.t1 b.before.args.t2 k b.loop-k.q) (omega arith) b.loop-k.invariant.1.1
 
-pub loosen-spec : {M : Type 1} → statement M
-loosen-spec =
+pub loosen_spec : {M : Type 1} → statement M
+loosen_spec =
     tie.close
     (tie.spec
     invariant-loop

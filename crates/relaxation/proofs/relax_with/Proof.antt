@@ -278,13 +278,13 @@ module _ {M : Type 1} {𝓤 : Ura M} (𝓛 : Logic 𝓤) (mem : Memory → SProp
       move ! (1 ∷ 0 ∷ []) $ fjoin ! $ owned ! i64 (Is i64) (sint_Makes 𝓛 w64) c _ (refl, c-fits) $ fjoin ! $ done !
 
   -- what each call is handed
-  goes-usable : ent 𝓤 (sem 𝓛 ftrue) ((Usable 𝓛 mem run).pre ((tt, tt, tt, (len, tt), (vint w64 len ∷ [], tt)), tt))
+  goes-usable : ent 𝓤 (sem 𝓛 ftrue) ((Usable 𝓛 mem run).requires ((tt, tt, tt, (len, tt), (vint w64 len ∷ [], tt)), tt))
   goes-usable =
       qed 𝓛 (‵ ftrue ∷ []) ∵ nothing ! $ owned ! usize (Is usize) (uint_Makes 𝓛 w64) len _ (refl, room.0) $ fjoin ! $ move ! (1 ∷ 0 ∷ []) $ join ! $
       frame ! $ done !
 
   goes-opened : ent 𝓤 (sem 𝓛 ftrue)
-      ((Opened 𝓛 mem run).pre ((tt, tt, tt, (c, (len, (ts, tt))), (vint w64 (of_z w64 c) ∷ [], (vint w64 len ∷ [], (nv ∷ [], tt)))), tt))
+      ((Opened 𝓛 mem run).requires ((tt, tt, tt, (c, (len, (ts, tt))), (vint w64 (of_z w64 c) ∷ [], (vint w64 len ∷ [], (nv ∷ [], tt)))), tt))
   goes-opened =
       qed 𝓛 (‵ ftrue ∷ []) ∵ nothing ! $ owned ! N.the_row (Is N.the_row) (LL.makes N.the_type N'.the_plain 𝓛) ts _ ts-is $ fjoin ! $
       owned ! usize (Is usize) (uint_Makes 𝓛 w64) len _ (refl, room.0) $ fjoin ! $
@@ -292,25 +292,25 @@ module _ {M : Type 1} {𝓤 : Ura M} (𝓛 : Logic 𝓤) (mem : Memory → SProp
       move ! (1 ∷ 0 ∷ []) $ join ! $ frame ! $ done !
 
   goes_with : (p : Query) (v : Val) (i : ℕ) (y : ModelItem) → Is P.the_row p (v ∷ []) → Is R y (val y ∷ []) → i < n →
-      ent 𝓤 (sem 𝓛 ftrue) ((With 𝓛 mem run).pre ((tt, tt, tt, (p, (i, (y, tt))), (v ∷ [], (vint w64 i ∷ [], (val y ∷ [], tt)))), tt))
+      ent 𝓤 (sem 𝓛 ftrue) ((With 𝓛 mem run).requires ((tt, tt, tt, (p, (i, (y, tt))), (v ∷ [], (vint w64 i ∷ [], (val y ∷ [], tt)))), tt))
   goes_with p v i y gp gy h =
       qed 𝓛 (‵ ftrue ∷ []) ∵ says ! (omega arith) $ frame ! $ nothing ! $ owned ! R (Is R) (LL.makes T.the_type T'.the_plain 𝓛) y _ gy $ fjoin ! $
       owned ! usize (Is usize) (uint_Makes 𝓛 w64) i _ (refl, omega arith) $ fjoin ! $
       owned ! P.the_row (Is P.the_row) (LL.makes P.the_type P'.the_plain 𝓛) p _ gp $ fjoin ! $ done !
 
-  goes-core : (p : Query) (v : Val) → Is P.the_row p (v ∷ []) → ent 𝓤 (sem 𝓛 ftrue) ((Core 𝓛 mem run).pre ((tt, tt, tt, (p, tt), (v ∷ [], tt)), tt))
+  goes-core : (p : Query) (v : Val) → Is P.the_row p (v ∷ []) → ent 𝓤 (sem 𝓛 ftrue) ((Core 𝓛 mem run).requires ((tt, tt, tt, (p, tt), (v ∷ [], tt)), tt))
   goes-core p v gp =
       qed 𝓛 (‵ ftrue ∷ []) ∵ nothing ! $ owned ! P.the_row (Is P.the_row) (LL.makes P.the_type P'.the_plain 𝓛) p _ gp $ fjoin ! $ move ! (1 ∷ 0 ∷ []) $
       join ! $ frame ! $ done !
 
   goes-nth : (a : Outcome) (v : Val) (j : ℕ) → Is O.the_row a (v ∷ []) → j < n →
-      ent 𝓤 (sem 𝓛 ftrue) ((Nth 𝓛 mem run).pre ((tt, tt, tt, (a, (j, tt)), (v ∷ [], (vint w64 j ∷ [], tt))), tt))
+      ent 𝓤 (sem 𝓛 ftrue) ((Nth 𝓛 mem run).requires ((tt, tt, tt, (a, (j, tt)), (v ∷ [], (vint w64 j ∷ [], tt))), tt))
   goes-nth a v j ga h =
       qed 𝓛 (‵ ftrue ∷ []) ∵ says ! (omega arith) $ frame ! $ nothing ! $ owned ! usize (Is usize) (uint_Makes 𝓛 w64) j _ (refl, omega arith) $ fjoin ! $
       owned ! O.the_row (Is O.the_row) (LL.makes O.the_type O'.the_plain 𝓛) a _ ga $ fjoin ! $ done !
 
   goes-answer : (a : Outcome) (v : Val) → Is O.the_row a (v ∷ []) →
-      ent 𝓤 (sem 𝓛 ftrue) ((AnswerOf 𝓛 mem run).pre ((tt, tt, tt, (a, tt), (v ∷ [], tt)), tt))
+      ent 𝓤 (sem 𝓛 ftrue) ((AnswerOf 𝓛 mem run).requires ((tt, tt, tt, (a, tt), (v ∷ [], tt)), tt))
   goes-answer a v ga =
       qed 𝓛 (‵ ftrue ∷ []) ∵ nothing ! $ owned ! O.the_row (Is O.the_row) (LL.makes O.the_type O'.the_plain 𝓛) a _ ga $ fjoin ! $ move ! (1 ∷ 0 ∷ []) $
       join ! $ frame ! $ done !
@@ -687,9 +687,9 @@ module _ {M : Type 1} {𝓤 : Ura M} (𝓛 : Logic 𝓤) (mem : Memory → SProp
       ) (relax'.clauses 𝓛 mem run)
       (WpFn 𝓤 H 𝓣.C 𝓣.Λ code.function) (WpFn-mono 𝓤 H 𝓛.laws 𝓣 code.function) relax-walks
 
-pub relax-with-spec : {M : Type 1} → stated.statement M
+pub relax_with_spec : {M : Type 1} → stated.statement M
 unfolding code.routine tables_of
-relax-with-spec 𝓤 𝓛 𝓜 𝓡 =
+relax_with_spec 𝓤 𝓛 𝓜 𝓡 =
     entered 𝓤 𝓛.H (triple_of 𝓛 relax'.signature (relax'.spec 𝓛 𝓜.mem 𝓡.run))
     (tables 𝓤 𝓛.H 𝓜 𝓡 code.env).C (tables 𝓤 𝓛.H 𝓜 𝓡 code.env).Λ #relax-with code.function (code.unfolded 𝓤 𝓛.H 𝓜 𝓡)
     (relax-meets 𝓛 𝓜.mem 𝓡.run (tables_of 𝓤 𝓛.H 𝓜 (tables 𝓤 𝓛.H 𝓜 𝓡 code.env))

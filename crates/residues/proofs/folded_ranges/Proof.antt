@@ -6,10 +6,10 @@ use borrow.Author.Rules.{rules}
 use Rattle.residues.proofs.folded_ranges.Statement.{statement}
 use Rattle.residues.proofs.folded_ranges.Tie as tie
 
-mul-to : tie.Need-overflow-mul-to
+mul-to : tie.Need-offset_bounds-to-f
 mul-to c = search rules
 
-array-write-to : tie.Need-array-write-to
+array-write-to : tie.Need-bounds-to-f
 array-write-to c = search rules
 
 returns : tie.Need-returns
@@ -17,5 +17,5 @@ returns c = let a = c.args in
     let n : length a.us ≡ 17 = search rules in
     made-put a.us a.f a.n n c.requires
 
-pub folded-ranges-spec : {M : Type 1} → statement M
-folded-ranges-spec = tie.close (tie.spec mul-to array-write-to returns)
+pub folded_ranges_spec : {M : Type 1} → statement M
+folded_ranges_spec = tie.close (tie.spec mul-to array-write-to returns)

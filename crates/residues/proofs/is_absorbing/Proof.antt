@@ -6,34 +6,34 @@ use borrow.Author.Rules.{rules}
 use Rattle.residues.proofs.is_absorbing.Statement.{statement}
 use Rattle.residues.proofs.is_absorbing.Tie as tie
 
-returns : tie.Need-returns
+returns : tie.Need-returns-then-m-eq0
 returns c = tells-not (λ a. absurd (omega (arith, a.some)))
 
-returns-2 : tie.Need-returns-2
+returns-2 : tie.Need-returns-then-t-gt0
 returns-2 c = tells-not (λ a. absurd (omega (arith, a.free-taken)))
 
-returns-3 : tie.Need-returns-3
+returns-3 : tie.Need-returns-then-l-gt0
 returns-3 c = tells-not (λ a. absurd (omega (arith, a.free-left)))
 
-mul-all : tie.Need-overflow-mul-all
+mul-all : tie.Need-overflow_mul-all
 mul-all c = search rules
 
-add-if4 : tie.Need-overflow-add-if4
+add-if4 : tie.Need-overflow_add-all
 add-if4 c = search rules
 
-returns-4 : tie.Need-returns-4
+returns-4 : tie.Need-returns-then-whole-all
 returns-4 c = tells-not (λ a. absurd (omega (arith, a.worth)))
 
-add-beyond : tie.Need-overflow-add-beyond
+add-beyond : tie.Need-overflow_add-beyond
 add-beyond c = search rules
 
-returns-5 : tie.Need-returns-5
+returns-5 : tie.Need-returns-then-beyond-capacity
 returns-5 c = tells-not (λ a. absurd (omega (arith, a.reaches)))
 
-add-result : tie.Need-overflow-add-result
+add-result : tie.Need-overflow_add-result
 add-result c = search rules
 
-returns-6 : tie.Need-returns-6
+returns-6 : tie.Need-returns
 returns-6 c =
     let a = c.before.before.before.before.before.args in
     tells-by a.whole (a.capacity + (a.m * a.u + a.m)) (λ h. record {
@@ -45,8 +45,8 @@ returns-6 c =
       carries = omega (arith, h);
     }) (λ h. omega (arith, h.carries))
 
-pub is-absorbing-spec : {M : Type 1} → statement M
-is-absorbing-spec =
+pub is_absorbing_spec : {M : Type 1} → statement M
+is_absorbing_spec =
     tie.close
     (tie.spec
     returns

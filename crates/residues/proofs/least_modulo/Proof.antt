@@ -10,13 +10,13 @@ use borrow.Author.Rules.{rules}
 use Rattle.residues.proofs.least_modulo.Statement.{statement}
 use Rattle.residues.proofs.least_modulo.Tie as tie
 
-mul-m : tie.Need-overflow-mul-m
+mul-m : tie.Need-offset_bounds-ws-f
 mul-m c = search rules
 
-array-read-m : tie.Need-array-read-m
+array-read-m : tie.Need-bounds-ws-f
 array-read-m c = search rules
 
-folded-capacity-requires : tie.Need-folded-capacity-requires
+folded-capacity-requires : tie.Need-folded_capacity-whole-requires
 folded-capacity-requires c κs =
     let s = c.before in
     let x = s.requires.0 in
@@ -25,40 +25,28 @@ folded-capacity-requires c κs =
     let in-17 : s.args.f < 17 = omega (arith, a.inside, fit.long) in
     (fit, (a.by.some, (in-17, omega (arith, a.by.reaches, beyond-small _ _ s.args.f fit in-17))))
 
-folded-weights-requires : tie.Need-folded-weights-requires
+folded-weights-requires : tie.Need-folded_weights-weights-requires
 folded-weights-requires c κs = search rules
 
-div-folded-ranges : tie.Need-nonzero-div-folded-ranges
+div-folded-ranges : tie.Need-nonzero_div-whole
 div-folded-ranges c = search rules
 
-folded-ranges-requires : tie.Need-folded-ranges-requires
+folded-ranges-requires : tie.Need-folded_ranges-ranges-requires
 folded-ranges-requires c κs = search rules
 
-swapped-costs-requires : tie.Need-swapped-costs-requires
+swapped-costs-requires : tie.Need-swapped_costs-takens-requires
 swapped-costs-requires c κs = search rules
 
-swapped-costs-requires-2 : tie.Need-swapped-costs-requires-2
+swapped-costs-requires-2 : tie.Need-swapped_costs-lefts-requires
 swapped-costs-requires-2 c κs = search rules
 
-slice-aggregate-least-cost : tie.Need-slice-aggregate-least-cost
-slice-aggregate-least-cost c = search rules
-
-slice-aggregate-least-cost-2 : tie.Need-slice-aggregate-least-cost-2
-slice-aggregate-least-cost-2 c = search rules
-
-slice-aggregate-least-cost-3 : tie.Need-slice-aggregate-least-cost-3
-slice-aggregate-least-cost-3 c = search rules
-
-slice-aggregate-least-cost-4 : tie.Need-slice-aggregate-least-cost-4
-slice-aggregate-least-cost-4 c = search rules
-
 -- from the last list, back to the start
-abbrev start : tie.After-swapped-costs2 → tie.Start
+abbrev start : tie.After-swapped_costs-lefts → tie.Start
 start l = l.before.before.before.before.before.before
 
 -- the lists show the folded parts
-same : (l : tie.After-swapped-costs2) → let t = l.before in let r = t.before in let w = r.before in let g = (start l).args in
-    items_of w.folded-weights.result r.folded-ranges.result t.swapped-costs.result l.swapped-costs2.result
+same : (l : tie.After-swapped_costs-lefts) → let t = l.before in let r = t.before in let w = r.before in let g = (start l).args in
+    items_of w.folded_weights-weights.result r.folded_ranges-ranges.result t.swapped_costs-takens.result l.swapped_costs-lefts.result
     ≡ folded g.f g.capacity (items_of g.t1 g.us g.ts g.ls)
 same l =
     let t = l.before in
@@ -67,23 +55,23 @@ same l =
     let q = w.before in
     let s = start l in
     let g = s.args in
-    let x = s.pre.0 in
-    items-folded g.cap g.t1 g.us g.ts g.ls g.f g.capacity q.folded-capacity.result _ _ _ _ x.1.0 x.0 x.1.1.inside
-    q.folded-capacity.ensures w.folded-weights.ensures r.folded-ranges.ensures t.swapped-costs.ensures l.swapped-costs2.ensures
+    let x = s.requires.0 in
+    items-folded g.cap g.t1 g.us g.ts g.ls g.f g.capacity q.folded_capacity-whole.result _ _ _ _ x.1.0 x.0 x.1.1.inside
+    q.folded_capacity-whole.ensures w.folded_weights-weights.ensures r.folded_ranges-ranges.ensures t.swapped_costs-takens.ensures l.swapped_costs-lefts.ensures
 
-least-cost-requires : tie.Need-least-cost-requires
+least-cost-requires : tie.Need-least_cost-requires
 least-cost-requires c κs =
     let l = c.before.before.before.before.before in
     let t = l.before in
     let r = t.before in
     let s = start l in
     let g = s.args in
-    let x = s.pre.0 in
+    let x = s.requires.0 in
     let h = listed-folded g.cap g.t1 g.us g.ts g.ls g.f g.capacity _ _ _ _ x.1.0 x.1.1 x.0 (same l)
-    r.folded-ranges.ensures.long t.swapped-costs.ensures.long l.swapped-costs2.ensures.long in
-    (h.0, omega (arith, h.1, s.pre.1))
+    r.folded_ranges-ranges.ensures.long t.swapped_costs-takens.ensures.long l.swapped_costs-lefts.ensures.long in
+    (h.0, omega (arith, h.1, s.requires.1))
 
-same_length : tie.Need-same-length
+same_length : tie.Need-shape_of-cells
 same_length c = search rules
 
 returns : tie.Need-returns
@@ -92,11 +80,11 @@ returns c =
     let l = b.before.before.before.before.before.before in
     let s = start l in
     let g = s.args in
-    answer-folded g.cap (items_of g.t1 g.us g.ts g.ls) _ g.f g.capacity _ _ _ s.pre.0.1.1 (same l)
-    l.before.before.before.before.folded-capacity.ensures b.least-cost.ensures.0 b.least-cost.ensures.1
+    answer-folded g.cap (items_of g.t1 g.us g.ts g.ls) _ g.f g.capacity _ _ _ s.requires.0.1.1 (same l)
+    l.before.before.before.before.folded_capacity-whole.ensures b.least_cost.ensures.0 b.least_cost.ensures.1
 
-pub least-modulo-spec : {M : Type 1} → statement M
-least-modulo-spec =
+pub least_modulo_spec : {M : Type 1} → statement M
+least_modulo_spec =
     tie.close
     (tie.spec
     mul-m
@@ -107,10 +95,6 @@ least-modulo-spec =
     folded-ranges-requires
     swapped-costs-requires
     swapped-costs-requires-2
-    slice-aggregate-least-cost
-    slice-aggregate-least-cost-2
-    slice-aggregate-least-cost-3
-    slice-aggregate-least-cost-4
     least-cost-requires
     same_length
     returns)

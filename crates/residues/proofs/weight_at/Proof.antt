@@ -4,26 +4,26 @@ use borrow.Author.Tests.{eq-eqb, ne_eqb}
 use Rattle.residues.proofs.weight_at.Statement.{statement}
 use Rattle.residues.proofs.weight_at.Tie as tie
 
-mul-m : tie.Need-overflow-mul-m
+mul-m : tie.Need-offset_bounds-ws-f
 mul-m c = search rules
 
-array-read-m : tie.Need-array-read-m
+array-read-m : tie.Need-bounds-ws-f
 array-read-m c = search rules
 
-mul-w : tie.Need-overflow-mul-w
+mul-w : tie.Need-offset_bounds-ws-k
 mul-w c = search rules
 
-array-read-w : tie.Need-array-read-w
+array-read-w : tie.Need-bounds-ws-k
 array-read-w c = search rules
 
-folded-weight-requires : tie.Need-folded-weight-requires
+folded-weight-requires : tie.Need-folded_weight-requires
 folded-weight-requires c κs = search rules
 
-returns : tie.Need-returns
-returns c = let s = c.before.args in rw (eq-eqb s.k s.f c.if1.true)
+returns : tie.Need-returns-then-k-f
+returns c = let s = c.before.args in rw (eq-eqb s.k s.f c.if-k-f.true)
 
-returns-2 : tie.Need-returns-2
-returns-2 c = let s = c.before.before.args in rw (ne_eqb s.k s.f c.before.if1.false) c.folded-weight.ensures
+returns-2 : tie.Need-returns-else-k-f
+returns-2 c = let s = c.before.before.args in rw (ne_eqb s.k s.f c.before.if-k-f.false) c.folded_weight.ensures
 
-pub weight-at-spec : {M : Type 1} → statement M
-weight-at-spec = tie.close (tie.spec mul-m array-read-m mul-w array-read-w folded-weight-requires returns returns-2)
+pub weight_at_spec : {M : Type 1} → statement M
+weight_at_spec = tie.close (tie.spec mul-m array-read-m mul-w array-read-w folded-weight-requires returns returns-2)

@@ -5,22 +5,22 @@ use Rattle.runcefo.specs.Entries.{told_number, told_line, length_of, listed_verd
 use Rattle.runcefo.proofs.charge_convert.Statement.{statement}
 use Rattle.runcefo.proofs.charge_convert.Tie as tie
 
-convert-requires : tie.Need-convert-requires
+convert-requires : tie.Need-convert-w-requires
 convert-requires c κs = search rules
 
-listed-verdict-requires : tie.Need-listed-verdict-requires
+listed-verdict-requires : tie.Need-listed_verdict-v-requires
 listed-verdict-requires c κs = search rules
 
-length-of-requires : tie.Need-length-of-requires
+length-of-requires : tie.Need-length_of-requires
 length-of-requires c κs = search rules
 
-told-line-requires : tie.Need-told-line-requires
+told-line-requires : tie.Need-told_line-requires
 told-line-requires c κs = search rules
 
-told-number-requires : tie.Need-told-number-requires
+told-number-requires : tie.Need-told_number-requires
 told-number-requires c κs = search rules
 
-same_length : tie.Need-same-length
+same_length : tie.Need-shape_of-out
 same_length c = search rules
 
 returns : tie.Need-returns
@@ -29,13 +29,13 @@ returns c =
     let n = l.before in
     let v = n.before in
     let w = v.before.before.before in
-    let e = v.listed-verdict.ensures ∙ ap listed_verdict w.convert.ensures.0 in (
-      c.told-number.ensures ∙ ap told_number e,
-      (l.told_Line.ensures ∙ ap told_line e, (n.length-of.ensures ∙ ap length_of w.convert.ensures.0, w.convert.ensures.1)),
+    let e = v.listed_verdict-v.ensures ∙ ap listed_verdict w.convert-w.ensures.0 in (
+      c.told_number.ensures ∙ ap told_number e,
+      (l.told_line.ensures ∙ ap told_line e, (n.length_of.ensures ∙ ap length_of w.convert-w.ensures.0, w.convert-w.ensures.1)),
     )
 
-pub charge-convert-spec : {M : Type 1} → statement M
-charge-convert-spec =
+pub charge_convert_spec : {M : Type 1} → statement M
+charge_convert_spec =
     tie.close
     (tie.spec
     convert-requires

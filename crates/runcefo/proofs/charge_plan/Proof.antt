@@ -5,22 +5,22 @@ use Rattle.runcefo.specs.Entries.{told_number, told_line}
 use Rattle.runcefo.proofs.charge_plan.Statement.{statement}
 use Rattle.runcefo.proofs.charge_plan.Tie as tie
 
-list-sheet-requires : tie.Need-list-sheet-requires
+list-sheet-requires : tie.Need-list_sheet-w-requires
 list-sheet-requires c κs = search rules
 
-listed-verdict-requires : tie.Need-listed-verdict-requires
+listed-verdict-requires : tie.Need-listed_verdict-v-requires
 listed-verdict-requires c κs = search rules
 
-length-of-requires : tie.Need-length-of-requires
+length-of-requires : tie.Need-length_of-requires
 length-of-requires c κs = search rules
 
-told-line-requires : tie.Need-told-line-requires
+told-line-requires : tie.Need-told_line-requires
 told-line-requires c κs = search rules
 
-told-number-requires : tie.Need-told-number-requires
+told-number-requires : tie.Need-told_number-requires
 told-number-requires c κs = search rules
 
-same_length : tie.Need-same-length
+same_length : tie.Need-shape_of-out
 same_length c = search rules
 
 returns : tie.Need-returns
@@ -30,15 +30,15 @@ returns c =
     let v = n.before in
     let w = v.before.before.before in
     record {
-      reply = w.list-sheet.result;
-      lists = w.list-sheet.ensures;
-      length-is = n.length-of.ensures;
-      line-is = l.told_Line.ensures ∙ ap told_line v.listed-verdict.ensures;
-      number_is = c.told-number.ensures ∙ ap told_number v.listed-verdict.ensures;
+      reply = w.list_sheet-w.result;
+      lists = w.list_sheet-w.ensures;
+      length-is = n.length_of.ensures;
+      line-is = l.told_line.ensures ∙ ap told_line v.listed_verdict-v.ensures;
+      number_is = c.told_number.ensures ∙ ap told_number v.listed_verdict-v.ensures;
     }
 
-pub charge-plan-spec : {M : Type 1} → statement M
-charge-plan-spec =
+pub charge_plan_spec : {M : Type 1} → statement M
+charge_plan_spec =
     tie.close
     (tie.spec
     list-sheet-requires

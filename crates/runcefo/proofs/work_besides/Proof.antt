@@ -4,21 +4,21 @@ use borrow.Author.Rules.{rules}
 use Rattle.runcefo.proofs.work_besides.Statement.{statement}
 use Rattle.runcefo.proofs.work_besides.Tie as tie
 
-some-range-requires : tie.Need-some-range-requires
+some-range-requires : tie.Need-some_range-requires
 some-range-requires c κs = search rules
 
-solved-in-requires : tie.Need-solved-in-requires
+solved-in-requires : tie.Need-solved_in-b-requires
 solved-in-requires c κs = search rules
 
-returns : tie.Need-returns
+returns : tie.Need-returns-then-some_range
 returns c =
     let t = c.before in
-    let b = c.solved-in in
-    rw (sym t.before.some-range.ensures ∙ t.if1.true)
+    let b = c.solved_in-b in
+    rw (sym t.before.some_range.ensures ∙ t.if-some_range.true)
     ((b.result, (b.ensures, refl)), (b.result, (b.ensures, refl)))
 
-returns-2 : tie.Need-returns-2
-returns-2 c = rw (sym c.before.some-range.ensures ∙ c.if1.false) (refl, refl)
+returns-2 : tie.Need-returns
+returns-2 c = rw (sym c.before.some_range.ensures ∙ c.if-some_range.false) (refl, refl)
 
-pub work-besides-spec : {M : Type 1} → statement M
-work-besides-spec = tie.close (tie.spec some-range-requires solved-in-requires returns returns-2)
+pub work_besides_spec : {M : Type 1} → statement M
+work_besides_spec = tie.close (tie.spec some-range-requires solved-in-requires returns returns-2)

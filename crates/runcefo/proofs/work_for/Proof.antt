@@ -17,14 +17,14 @@ use Rattle.runcefo.proofs.work_for.Tie as tie
 fit : (s : List ℕ) → (read_sheet s).verdict ≡ Accepted → Admissible (read_sheet s).model
 fit s h = let m = (read_sheet s).model in accepted m (accepted-sheet s m (ap (λ (v : Verdict). record { verdict = v; model = m }) h)).fair
 
-read-requires : tie.Need-read-requires
+read-requires : tie.Need-read-r-requires
 read-requires c κs = search rules
 
-work-of-requires : tie.Need-work-of-requires
-work-of-requires c κs = rw c.read.ensures (fit _)
+work-of-requires : tie.Need-work_of-requires
+work-of-requires c κs = rw c.read-r.ensures (fit _)
 
 returns : tie.Need-returns
-returns c = subst (λ (x : Reading). Steps x c.work-of.result.steps × Cells x c.work-of.result.cells) c.before.read.ensures c.work-of.ensures
+returns c = subst (λ (x : Reading). Steps x c.work_of.result.steps × Cells x c.work_of.result.cells) c.before.read-r.ensures c.work_of.ensures
 
-pub work-for-spec : {M : Type 1} → statement M
-work-for-spec = tie.close (tie.spec read-requires work-of-requires returns)
+pub work_for_spec : {M : Type 1} → statement M
+work_for_spec = tie.close (tie.spec read-requires work-of-requires returns)

@@ -31,66 +31,66 @@ few-cells : (sense : Sense) (m : Model) (r : Solved) → Admissible m → Solves
 few-cells sense m r a h = omega (arith, h.answers.few-cells, mul-le-mul_right most_work (cases-most m.needs a.few-needs))
 
 -- the moments that are spoken of below
-abbrev start : tie.After-enum-told → tie.Start
+abbrev start : tie.In-Accepted → tie.Start
 start t = t.before.before.before
 
-abbrev taken : tie.After-work-besides → tie.After-enum-told
+abbrev taken : tie.After-work_besides-b → tie.In-Accepted
 taken c = c.before.before
 
-fair : (t : tie.After-enum-told) → Admissible (start t).args.r.model
-fair t = (start t).requires t.enum_told.given.1
+fair : (t : tie.In-Accepted) → Admissible (start t).args.r.model
+fair t = (start t).requires t.enum_told-1.given.1
 
-both-steps : (c : tie.After-work-besides) → c.before.solved-in.result.steps + c.work-besides.result.steps ≤ 262144000
+both-steps : (c : tie.After-work_besides-b) → c.before.solved_in-a.result.steps + c.work_besides-b.result.steps ≤ 262144000
 both-steps c =
     let t = taken c in
     let m = (start t).args.r.model in
-    let a = c.before.solved-in in
-    let b = c.work-besides in
+    let a = c.before.solved_in-a in
+    let b = c.work_besides-b in
     omega (arith, few-steps Sure m a.result (fair t) a.ensures, few-besides (λ r. r.steps) 65536000 m (some_range m) b.result.steps (λ r. few-steps Possible m r (fair t)) b.ensures.0)
 
-both-cells : (c : tie.After-work-besides) → c.before.solved-in.result.cells + c.work-besides.result.cells ≤ 17713094669107200
+both-cells : (c : tie.After-work_besides-b) → c.before.solved_in-a.result.cells + c.work_besides-b.result.cells ≤ 17713094669107200
 both-cells c =
     let t = taken c in
     let m = (start t).args.r.model in
-    let a = c.before.solved-in in
-    let b = c.work-besides in
+    let a = c.before.solved_in-a in
+    let b = c.work_besides-b in
     omega (arith, few-cells Sure m a.result (fair t) a.ensures, few-besides (λ r. r.cells) (131072 * most_work) m (some_range m) b.result.cells (λ r. few-cells Possible m r (fair t)) b.ensures.1)
 
-enum_told : tie.Need-enum-told
+enum_told : tie.Need-enum_told-1
 enum_told c = search rules
 
-solved-in-requires : tie.Need-solved-in-requires
+solved-in-requires : tie.Need-solved_in-a-requires
 solved-in-requires c κs = fair c
 
-work-besides-requires : tie.Need-work-besides-requires
+work-besides-requires : tie.Need-work_besides-b-requires
 work-besides-requires c κs = fair c.before
 
-add-t8 : tie.Need-overflow-add-t8
+add-t8 : tie.Need-overflow_add-result
 add-t8 c = omega (arith, both-steps c.before.before)
 
 -- behind the fields that are read
-abbrev behind : tie.After-struct-known4 → tie.After-work-besides
+abbrev behind : tie.After-struct_known-in-Accepted-3-1 → tie.After-work_besides-b
 behind c = let k = c.before.before in k.before.before
 
-add-t9 : tie.Need-overflow-add-t9
+add-t9 : tie.Need-overflow_add-result-in-Accepted
 add-t9 c = omega (arith, both-cells (behind c))
 
-enum-told-2 : tie.Need-enum-told-2
+enum-told-2 : tie.Need-enum_told-in-Refused
 enum-told-2 c = search rules
 
-returns : tie.Need-returns
+returns : tie.Need-returns-in-Accepted
 returns c =
     let d = behind c in
-    let a = d.before.solved-in in
-    let b = d.work-besides in
-    rw (taken d).enum_told.given.1
+    let a = d.before.solved_in-a in
+    let b = d.work_besides-b in
+    rw (taken d).enum_told-1.given.1
     ((a.result, b.result.steps, (a.ensures, (b.ensures.0, refl))), (a.result, b.result.cells, (a.ensures, (b.ensures.1, refl))))
 
-returns-2 : tie.Need-returns-2
-returns-2 c = rw c.enum-told2.given.1 (refl, refl)
+returns-2 : tie.Need-returns-in-Refused
+returns-2 c = rw c.enum_told-in-Refused-1.given.1 (refl, refl)
 
-pub work-of-spec : {M : Type 1} → statement M
-work-of-spec =
+pub work_of_spec : {M : Type 1} → statement M
+work_of_spec =
     tie.close
     (tie.spec
     enum_told

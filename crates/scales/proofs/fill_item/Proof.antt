@@ -11,80 +11,80 @@ use Rattle.scales.proofs.fill_item.Statement.{statement}
 use Rattle.scales.proofs.fill_item.Tie as tie
 
 -- from the digit back to the weight, and to the start
-abbrev indexed : tie.After-digit-of → tie.After-index
+abbrev indexed : tie.After-digit_of-d → tie.After-index-w
 indexed e = e.before.before.before
 
-abbrev start : tie.After-index → tie.Start
+abbrev start : tie.After-index-w → tie.Start
 start i = i.before.before.before.before.before.before.before.before
 
-mul-index : tie.Need-overflow-mul-index
+mul-index : tie.Need-offset_bounds-ws-j
 mul-index c = search rules
 
-shared-slice-read-index : tie.Need-shared-slice-read-index
+shared-slice-read-index : tie.Need-bounds-ws-j
 shared-slice-read-index c = search rules
 
-div-index : tie.Need-nonzero-div-index
+div-index : tie.Need-nonzero_div-ws
 div-index c = search rules
 
-index-requires : tie.Need-index-requires
+index-requires : tie.Need-index-w-requires
 index-requires c κs = search rules
 
-mul-rest-at : tie.Need-overflow-mul-rest-at
+mul-rest-at : tie.Need-offset_bounds-us-j
 mul-rest-at c = search rules
 
-shared-slice-read-rest-at : tie.Need-shared-slice-read-rest-at
+shared-slice-read-rest-at : tie.Need-bounds-us-j
 shared-slice-read-rest-at c = search rules
 
-rest-at-requires : tie.Need-rest-at-requires
+rest-at-requires : tie.Need-rest_at-requires
 rest-at-requires c κs = search rules
 
-digit-of-requires : tie.Need-digit-of-requires
+digit-of-requires : tie.Need-digit_of-d-requires
 digit-of-requires c κs = search rules
 
-mul-cost-at : tie.Need-overflow-mul-cost-at
+mul-cost-at : tie.Need-offset_bounds-ts-j
 mul-cost-at c = search rules
 
-shared-slice-read-cost-at : tie.Need-shared-slice-read-cost-at
+shared-slice-read-cost-at : tie.Need-bounds-ts-j
 shared-slice-read-cost-at c = search rules
 
-cost-at-requires : tie.Need-cost-at-requires
+cost-at-requires : tie.Need-cost_at-a-requires
 cost-at-requires c κs =
     let s = start (indexed c.before) in
-    (s.pre.0.0.taken s.args.j s.pre.1.0, s.pre.0.0.small)
+    (s.requires.0.0.taken s.args.j s.requires.1.0, s.requires.0.0.small)
 
-mul-cost-at-2 : tie.Need-overflow-mul-cost-at-2
+mul-cost-at-2 : tie.Need-offset_bounds-ls-j
 mul-cost-at-2 c = search rules
 
-shared-slice-read-cost-at-2 : tie.Need-shared-slice-read-cost-at-2
+shared-slice-read-cost-at-2 : tie.Need-bounds-ls-j
 shared-slice-read-cost-at-2 c = search rules
 
-cost-at-requires-2 : tie.Need-cost-at-requires-2
+cost-at-requires-2 : tie.Need-cost_at-b-requires
 cost-at-requires-2 c κs =
     let s = start (indexed c.before.before.before) in
-    (s.pre.0.0.left s.args.j s.pre.1.0, s.pre.0.0.small)
+    (s.requires.0.0.left s.args.j s.requires.1.0, s.requires.0.0.small)
 
-pass-times-requires : tie.Need-pass-times-requires
+pass-times-requires : tie.Need-pass_times-requires
 pass-times-requires c κs =
     let k = c.before.before.before in
     let e = k.before.before in
     let i = indexed e in
     let s = start i in
     let a = s.args in
-    let l = s.pre.0.0 in
-    let j-in = s.pre.1.0 in
-    let d = e.digit-of.ensures ∙ ap digit e.before.rest_at.ensures in
-    let w = i.index.ensures in
+    let l = s.requires.0.0 in
+    let j-in = s.requires.1.0 in
+    let d = e.digit_of-d.ensures ∙ ap digit e.before.rest_at.ensures in
+    let w = i.index-w.ensures in
     let D = a.s.divisor in
     let x = get_or a.ws.now a.j 0 in
     let light : x / D ≤ x = div-le_self x D in
     let two : digit (rest_at a.s.i (get_or a.us.now a.j 0)) * (x / D) ≤ 2 * (x / D) = mul-le-mul_right (x / D) (omega arith) in
     let ta = cost-below a.s.cap a.s.i (get_or a.ts.now a.j 0) (l.taken a.j j-in) in
     let le = cost-below a.s.cap a.s.i (get_or a.ls.now a.j 0) (l.left a.j j-in) in (
-      record { small = l.small; taken = rw k.cost-at.ensures ta; left = rw c.before.cost-at2.ensures le },
-      (s.pre.1.1.0, rw (d, w) (omega arith, (s.pre.1.1.1.0, (omega arith, omega arith)))),
+      record { small = l.small; taken = rw k.cost_at-a.ensures ta; left = rw c.before.cost_at-b.ensures le },
+      (s.requires.1.1.0, rw (d, w) (omega arith, (s.requires.1.1.1.0, (omega arith, omega arith)))),
     )
 
-same_length : tie.Need-same-length
+same_length : tie.Need-shape_of-cells
 same_length c = search rules
 
 returns : tie.Need-returns
@@ -93,11 +93,11 @@ returns c =
     let l-at = o.before.before in
     let a_at = l-at.before.before in
     let e = a_at.before.before in
-    let d = e.digit-of.ensures ∙ ap digit e.before.rest_at.ensures in
-    let w = (indexed e).index.ensures in
-    let a = a_at.cost-at.ensures in
-    let l = l-at.cost-at2.ensures in
-    let p = o.pass-times.ensures in
+    let d = e.digit_of-d.ensures ∙ ap digit e.before.rest_at.ensures in
+    let w = (indexed e).index-w.ensures in
+    let a = a_at.cost_at-a.ensures in
+    let l = l-at.cost_at-b.ensures in
+    let p = o.pass_times.ensures in
     record {
       live = rw (d, w) at p.0.0;
       written = rw (d, w) at p.0.1.0;
@@ -105,8 +105,8 @@ returns c =
       shows = rw (d, w, a, l) at p.1;
     }
 
-pub fill-item-spec : {M : Type 1} → statement M
-fill-item-spec =
+pub fill_item_spec : {M : Type 1} → statement M
+fill_item_spec =
     tie.close
     (tie.spec
     mul-index

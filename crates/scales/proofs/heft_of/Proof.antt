@@ -10,64 +10,64 @@ use Rattle.scales.proofs.Sums.{sum_more}
 use Rattle.scales.proofs.heft_of.Statement.{statement}
 use Rattle.scales.proofs.heft_of.Tie as tie
 
-abbrev invariant-loop : tie.invariant-loop
+abbrev invariant-loop : tie.invariant-loop-j
 invariant-loop ws us sum₀ j₀ so_far j = (j ≤ length ws) × (so_far ≡ sum j (λ k. get_or ws k 0 * get_or us k 0))
 
-abbrev decreases-loop : tie.decreases-loop
+abbrev decreases-loop : tie.decreases-loop-j
 decreases-loop ws us sum₀ j₀ so_far j = length ws - j
 
 -- from a turn to the start
-abbrev start : tie.After-shared-slice-known2 invariant-loop decreases-loop → tie.Start invariant-loop decreases-loop
+abbrev start : tie.After-shared_slice_known-in-loop-j-1 invariant-loop decreases-loop → tie.Start invariant-loop decreases-loop
 start c = c.before.before.before.before
 
-loop-holds : tie.Need-loop-init invariant-loop decreases-loop
+loop-holds : tie.Need-loop-j-init invariant-loop decreases-loop
 loop-holds c = (omega arith, refl)
 
-mul-sum : tie.Need-overflow-mul-sum invariant-loop decreases-loop
+mul-sum : tie.Need-offset_bounds-ws-j invariant-loop decreases-loop
 mul-sum c = search rules
 
-shared-slice-read-sum : tie.Need-shared-slice-read-sum invariant-loop decreases-loop
+shared-slice-read-sum : tie.Need-bounds-ws-j invariant-loop decreases-loop
 shared-slice-read-sum c = search rules
 
-mul-sum-2 : tie.Need-overflow-mul-sum-2 invariant-loop decreases-loop
+mul-sum-2 : tie.Need-offset_bounds-us-j invariant-loop decreases-loop
 mul-sum-2 c = search rules
 
-shared-slice-read-sum-2 : tie.Need-shared-slice-read-sum-2 invariant-loop decreases-loop
+shared-slice-read-sum-2 : tie.Need-bounds-us-j invariant-loop decreases-loop
 shared-slice-read-sum-2 c = omega arith
 
-mul-sum-3 : tie.Need-overflow-mul-sum-3 invariant-loop decreases-loop
+mul-sum-3 : tie.Need-overflow_mul-sum invariant-loop decreases-loop
 mul-sum-3 c =
     let s = start c in
-    let l = c.before.before.before.loop in
+    let l = c.before.before.before.loop-j in
     let ws = s.args.ws.now in
     let us = s.args.us.now in
     omega (arith, sum_more (suc l.j) (length ws) (λ k. get_or ws k 0 * get_or us k 0) (omega arith), l.invariant.1)
 
-add-sum : tie.Need-overflow-add-sum invariant-loop decreases-loop
+add-sum : tie.Need-overflow_add-sum invariant-loop decreases-loop
 add-sum c =
     let s = start c in
-    let l = c.before.before.before.loop in
+    let l = c.before.before.before.loop-j in
     let ws = s.args.ws.now in
     let us = s.args.us.now in
     omega (arith, sum_more (suc l.j) (length ws) (λ k. get_or ws k 0 * get_or us k 0) (omega arith), l.invariant.1)
 
-add-j : tie.Need-overflow-add-j invariant-loop decreases-loop
+add-j : tie.Need-overflow_add-j invariant-loop decreases-loop
 add-j c = omega arith
 
-loop-less : tie.Need-loop-smaller invariant-loop decreases-loop
+loop-less : tie.Need-loop-j-smaller invariant-loop decreases-loop
 loop-less c = omega arith
 
-loop-again : tie.Need-loop-preserved invariant-loop decreases-loop
-loop-again c = (omega arith, rw add-one (omega (arith, c.before.before.before.loop.invariant.1)))
+loop-again : tie.Need-loop-j-preserved invariant-loop decreases-loop
+loop-again c = (omega arith, rw add-one (omega (arith, c.before.before.before.loop-j.invariant.1)))
 
 returns : tie.Need-returns invariant-loop decreases-loop
 returns c =
-    let l = c.before.loop in
+    let l = c.before.loop-j in
     let e : l.j ≡ length c.before.before.args.ws.now = omega arith in
     rw e at l.invariant.1
 
-pub heft-of-spec : {M : Type 1} → statement M
-heft-of-spec =
+pub heft_of_spec : {M : Type 1} → statement M
+heft_of_spec =
     tie.close
     (tie.spec
     invariant-loop

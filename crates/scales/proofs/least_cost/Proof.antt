@@ -8,7 +8,7 @@ use Rattle.scales.proofs.Scaling.{least-below, start-below}
 use Rattle.scales.proofs.least_cost.Statement.{statement}
 use Rattle.scales.proofs.least_cost.Tie as tie
 
-scales-of-all-requires : tie.Need-scales-of-all-requires
+scales-of-all-requires : tie.Need-scales_of_all-scales-requires
 scales-of-all-requires c κs = search rules
 
 solve-requires : tie.Need-solve-requires
@@ -16,9 +16,9 @@ solve-requires c κs =
     let h = c.before.before.before in
     let g = h.before.before.before in
     let s = g.before in
-    ((s.requires.0, c.before.scales-of-all.ensures.few), s.requires.1)
+    ((s.requires.0, c.before.scales_of_all-scales.ensures.few), s.requires.1)
 
-same_length : tie.Need-same-length
+same_length : tie.Need-shape_of-cells
 same_length c = search rules
 
 returns : tie.Need-returns
@@ -29,7 +29,7 @@ returns c =
     let s = e.before.before.before in
     let cap = s.args.cap in
     let C = s.args.capacity in
-    let n = soa.scales-of-all in
+    let n = soa.scales_of_all-scales in
     let I = items_of s.args.ws.now s.args.us.now s.args.ts.now s.args.ls.now in
     let done : Done n.result I = λ j l. n.ensures.done j (omega (arith, s.requires.0.ranges)) in
     let r = c.before.before.solve.ensures in (
@@ -46,5 +46,5 @@ returns c =
       },
     )
 
-pub least-cost-spec : {M : Type 1} → statement M
-least-cost-spec = tie.close (tie.spec scales-of-all-requires solve-requires same_length returns)
+pub least_cost_spec : {M : Type 1} → statement M
+least_cost_spec = tie.close (tie.spec scales-of-all-requires solve-requires same_length returns)

@@ -7,50 +7,50 @@ use Rattle.scales.proofs.Cells.{passed_first, passed-below, passed-step}
 use Rattle.scales.proofs.pass_inside.Statement.{statement}
 use Rattle.scales.proofs.pass_inside.Tie as tie
 
-abbrev invariant-loop : tie.invariant-loop
+abbrev invariant-loop : tie.invariant-loop-x
 invariant-loop cells₀ n w a b cap lo hi x₀ cells x = ((lo ≤ x) × (x ≤ hi)) × Passed cap n w a b x hi cells₀ cells
 
-abbrev decreases-loop : tie.decreases-loop
+abbrev decreases-loop : tie.decreases-loop-x
 decreases-loop cells₀ n w a b cap lo hi x₀ cells x = x
 
-loop-holds : tie.Need-loop-init invariant-loop decreases-loop
+loop-holds : tie.Need-loop-x-init invariant-loop decreases-loop
 loop-holds c = (omega arith, passed_first)
 
-sub-x : tie.Need-overflow-sub-x invariant-loop decreases-loop
+sub-x : tie.Need-overflow_sub-x invariant-loop decreases-loop
 sub-x c = omega arith
 
-passed-inside-requires : tie.Need-passed-inside-requires invariant-loop decreases-loop
+passed-inside-requires : tie.Need-passed_inside-v-requires invariant-loop decreases-loop
 passed-inside-requires c κs =
     let h = c.before.before.before in
-    let s = h.before in
-    let p = c.before.before.loop.invariant.1 in
+    let s = h. in
+    let p = c.before.loop-x.invariant.1 in
     (s.requires.0, (record { room = omega arith; below = passed-below s.requires.1.0.below p }, (omega arith, omega arith)))
 
-mul-cells : tie.Need-overflow-mul-cells invariant-loop decreases-loop
+mul-cells : tie.Need-offset_bounds-cells-x invariant-loop decreases-loop
 mul-cells c = omega arith
 
-slice-write-cells : tie.Need-slice-write-cells invariant-loop decreases-loop
+slice-write-cells : tie.Need-bounds-cells-x invariant-loop decreases-loop
 slice-write-cells c = omega arith
 
-loop-less : tie.Need-loop-smaller invariant-loop decreases-loop
+loop-less : tie.Need-loop-x-smaller invariant-loop decreases-loop
 loop-less c = omega arith
 
-loop-again : tie.Need-loop-preserved invariant-loop decreases-loop
+loop-again : tie.Need-loop-x-preserved invariant-loop decreases-loop
 loop-again c =
-    let l = c.before.before.before.loop in
-    (omega arith, passed-step (l.x - 1) c.passed-inside.result (omega arith) (omega arith) (omega arith) c.passed-inside.ensures l.invariant.1)
+    let l = c.before.before.loop-x in
+    (omega arith, passed-step (l.x - 1) c.passed_inside-v.result (omega arith) (omega arith) (omega arith) c.passed_inside-v.ensures l.invariant.1)
 
-same_length : tie.Need-same-length invariant-loop decreases-loop
-same_length c = c.before.loop.invariant.1.same
+same_length : tie.Need-shape_of-cells invariant-loop decreases-loop
+same_length c = c.before.loop-x.invariant.1.same
 
 returns : tie.Need-returns invariant-loop decreases-loop
 returns c =
-    let l = c.before.loop in
+    let l = c.before.loop-x in
     let e : l.x ≡ c.before.before.before.args.lo = omega arith in
     rw e at l.invariant.1
 
-pub pass-inside-spec : {M : Type 1} → statement M
-pass-inside-spec =
+pub pass_inside_spec : {M : Type 1} → statement M
+pass_inside_spec =
     tie.close
     (tie.spec
     invariant-loop

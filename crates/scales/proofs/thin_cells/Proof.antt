@@ -7,77 +7,77 @@ use Rattle.scales.proofs.Cells.{Thinning, thin_reads, thinning-first, thinning-s
 use Rattle.scales.proofs.thin_cells.Statement.{statement}
 use Rattle.scales.proofs.thin_cells.Tie as tie
 
-abbrev invariant-loop : tie.invariant-loop
+abbrev invariant-loop : tie.invariant-loop-x
 invariant-loop cells₀ n s bit kept x₀ cells x = ((x ≤ kept) × (kept ≡ thin_of n s bit)) × Thinning s bit cells₀ cells x
 
-abbrev decreases-loop : tie.decreases-loop
+abbrev decreases-loop : tie.decreases-loop-x
 decreases-loop cells₀ n s bit kept x₀ cells x = kept - x
 
 -- what a turn reads
-read : (c : tie.In-loop invariant-loop decreases-loop) → let a = c.before.before.args in let x = c.before.loop.x in
+read : (c : tie.In-loop-x invariant-loop decreases-loop) → let a = c.before.before.args in let x = c.before.loop-x.x in
     (x ≤ a.s * x + a.bit) × (a.s * x + a.bit < a.n)
 read c =
     let a = c.before.before.args in
-    let l = c.before.loop in
+    let l = c.before.loop-x in
     thin_reads a.n a.s a.bit l.x (omega arith) (omega (arith, l.invariant.0.1))
 
-sub-kept : tie.Need-overflow-sub-kept invariant-loop decreases-loop
+sub-kept : tie.Need-overflow_sub-kept invariant-loop decreases-loop
 sub-kept c = omega arith
 
-sub-kept-2 : tie.Need-overflow-sub-kept-2 invariant-loop decreases-loop
+sub-kept-2 : tie.Need-overflow_sub-kept-2 invariant-loop decreases-loop
 sub-kept-2 c = omega arith
 
-add_kept : tie.Need-overflow-add-kept invariant-loop decreases-loop
+add_kept : tie.Need-overflow_add-kept invariant-loop decreases-loop
 add_kept c = omega arith
 
-div-kept : tie.Need-nonzero-div-kept invariant-loop decreases-loop
+div-kept : tie.Need-nonzero_div-kept invariant-loop decreases-loop
 div-kept c = omega arith
 
-loop-holds : tie.Need-loop-init invariant-loop decreases-loop
+loop-holds : tie.Need-loop-x-init invariant-loop decreases-loop
 loop-holds c = ((omega arith, refl), thinning-first)
 
-mul-cells : tie.Need-overflow-mul-cells invariant-loop decreases-loop
+mul-cells : tie.Need-overflow_mul-cells invariant-loop decreases-loop
 mul-cells c = omega (arith, (read c).1)
 
-add-cells : tie.Need-overflow-add-cells invariant-loop decreases-loop
+add-cells : tie.Need-overflow_add-cells invariant-loop decreases-loop
 add-cells c = omega (arith, (read c).1)
 
-mul-cells-2 : tie.Need-overflow-mul-cells-2 invariant-loop decreases-loop
+mul-cells-2 : tie.Need-offset_bounds-cells-s invariant-loop decreases-loop
 mul-cells-2 c = omega (arith, (read c).1)
 
-slice-read-cells : tie.Need-slice-read-cells invariant-loop decreases-loop
-slice-read-cells c = let r = read c.before in omega (arith, r.0, r.1, c.before.before.loop.invariant.1.same)
+slice-read-cells : tie.Need-bounds-cells-s invariant-loop decreases-loop
+slice-read-cells c = let r = read c.before in omega (arith, r.0, r.1, c.before.before.loop-x.invariant.1.same)
 
-mul-cells-3 : tie.Need-overflow-mul-cells-3 invariant-loop decreases-loop
-mul-cells-3 c = let r = read c.before in omega (arith, r.0, r.1, c.before.before.loop.invariant.1.same)
+mul-cells-3 : tie.Need-offset_bounds-cells-x invariant-loop decreases-loop
+mul-cells-3 c = let r = read c.before in omega (arith, r.0, r.1, c.before.before.loop-x.invariant.1.same)
 
-slice-write-cells : tie.Need-slice-write-cells invariant-loop decreases-loop
-slice-write-cells c = let r = read c.before in omega (arith, r.0, r.1, c.before.before.loop.invariant.1.same)
+slice-write-cells : tie.Need-bounds-cells-x invariant-loop decreases-loop
+slice-write-cells c = let r = read c.before in omega (arith, r.0, r.1, c.before.before.loop-x.invariant.1.same)
 
-add-x : tie.Need-overflow-add-x invariant-loop decreases-loop
-add-x c = let r = read c.before in omega (arith, r.0, r.1, c.before.before.loop.invariant.1.same)
+add-x : tie.Need-overflow_add-x invariant-loop decreases-loop
+add-x c = let r = read c.before in omega (arith, r.0, r.1, c.before.before.loop-x.invariant.1.same)
 
-loop-less : tie.Need-loop-smaller invariant-loop decreases-loop
+loop-less : tie.Need-loop-x-smaller invariant-loop decreases-loop
 loop-less c = omega arith
 
-loop-again : tie.Need-loop-preserved invariant-loop decreases-loop
+loop-again : tie.Need-loop-x-preserved invariant-loop decreases-loop
 loop-again c =
     let r = read c.before in
-    let l = c.before.before.loop in
+    let l = c.before.before.loop-x in
     ((omega arith, l.invariant.0.1), thinning-step l.x (omega (arith, r.0, r.1)) r.0 l.invariant.1)
 
-same_length : tie.Need-same-length invariant-loop decreases-loop
-same_length c = c.before.loop.invariant.1.same
+same_length : tie.Need-shape_of-cells invariant-loop decreases-loop
+same_length c = c.before.loop-x.invariant.1.same
 
 returns : tie.Need-returns invariant-loop decreases-loop
 returns c =
-    let l = c.before.loop in
+    let l = c.before.loop-x in
     let a = c.before.before.args in
     let e : l.x ≡ thin_of a.n a.s a.bit = omega (arith, l.invariant.0.1) in
     (l.invariant.0.1, (l.invariant.1.same, λ cap. thinning-done cap a.n (omega arith) refl (rw e at l.invariant.1)))
 
-pub thin-cells-spec : {M : Type 1} → statement M
-thin-cells-spec =
+pub thin_cells_spec : {M : Type 1} → statement M
+thin_cells_spec =
     tie.close
     (tie.spec
     invariant-loop

@@ -13,10 +13,10 @@ use Rattle.search.proofs.Dives.{Diving, start_in, diving-first, diving-sized, di
 use Rattle.search.proofs.dive.Statement.{statement}
 use Rattle.search.proofs.dive.Tie as tie
 
-abbrev invariant-loop : tie.invariant-loop
+abbrev invariant-loop : tie.invariant-loop-k
 invariant-loop j s n x₀ y₀ e₀ k₀ x y e k = Diving s j (record { place = x₀; starts = y₀ }) (record { place = x; starts = y }) e k
 
-abbrev decreases-loop : tie.decreases-loop
+abbrev decreases-loop : tie.decreases-loop-k
 decreases-loop j s n x₀ y₀ e₀ k₀ x y e k = n - k
 
 -- arrays have a place for each item
@@ -27,99 +27,99 @@ long_path : (s : tie.Start invariant-loop decreases-loop) → LongPath s.args.p
 long_path s = record { place-long = search rules; starts-long = search rules }
 
 -- the moments that are spoken of below
-abbrev start-of-ends : tie.After-ends invariant-loop decreases-loop → tie.Start invariant-loop decreases-loop
+abbrev start-of-ends : tie.After-ends-1 invariant-loop decreases-loop → tie.Start invariant-loop decreases-loop
 start-of-ends c = c.before.before.before
 
 -- what the function was given, at the loop
-abbrev Of : tie.At-loop invariant-loop decreases-loop → tie.Start invariant-loop decreases-loop
+abbrev Of : tie.At-loop-k invariant-loop decreases-loop → tie.Start invariant-loop decreases-loop
 Of l = start-of-ends l.before.before.before
 
-k<16 : (c : tie.In-loop invariant-loop decreases-loop) → c.before.loop.k < 16
-k<16 c = omega (arith, c.loop-test.true, (Of c.before).pre.0.ready.few)
+k<16 : (c : tie.In-loop-k invariant-loop decreases-loop) → c.before.loop-k.k < 16
+k<16 c = omega (arith, c.loop-k-test.true, (Of c.before).requires.0.ready.few)
 
 -- the level's item has a place
-item : (c : tie.In-loop invariant-loop decreases-loop) → level_at (Of c.before).args.t1 c.before.loop.k < 16
-item c = let s = Of c.before in item<16 s.args.t1 s.pre.0 (long s) c.before.loop.k c.loop-test.true
+item : (c : tie.In-loop-k invariant-loop decreases-loop) → level_at (Of c.before).args.t1 c.before.loop-k.k < 16
+item c = let s = Of c.before in item<16 s.args.t1 s.requires.0 (long s) c.before.loop-k.k c.loop-k-test.true
 
-fixed-in-requires : tie.Need-fixed-in-requires invariant-loop decreases-loop
+fixed-in-requires : tie.Need-fixed_in-e-requires invariant-loop decreases-loop
 fixed-in-requires c κs =
     let s = start-of-ends c.before in
-    let r = s.pre.0 in
-    (omega (arith, s.pre.1.0, r.ready.few), λ k h. item<16 s.args.t1 r (long s) k (omega (arith, s.pre.1.0)))
+    let r = s.requires.0 in
+    (omega (arith, s.requires.1.0, r.ready.few), λ k h. item<16 s.args.t1 r (long s) k (omega (arith, s.requires.1.0)))
 
-loop-holds : tie.Need-loop-init invariant-loop decreases-loop
-loop-holds c = let s = start-of-ends c.before.before in diving-first s.args.t1 s.args.j s.args.p c.fixed_in.result s.pre.1.0
-    (long_path s) c.fixed_in.ensures s.pre.1.1
+loop-holds : tie.Need-loop-k-init invariant-loop decreases-loop
+loop-holds c = let s = start-of-ends c.before.before in diving-first s.args.t1 s.args.j s.args.p c.fixed_in-e.result s.requires.1.0
+    (long_path s) c.fixed_in-e.ensures s.requires.1.1
 
-mul-i : tie.Need-overflow-mul-i invariant-loop decreases-loop
+mul-i : tie.Need-offset_bounds-s-k invariant-loop decreases-loop
 mul-i c = record { fits = omega (arith, k<16 c) }
 
-element-copy-out-i : tie.Need-element-copy-out-i invariant-loop decreases-loop
+element-copy-out-i : tie.Need-bounds-s-k invariant-loop decreases-loop
 element-copy-out-i c = k<16 c
 
 -- where a turn began
-abbrev Lending : tie.After-start-of-arg8 invariant-loop decreases-loop → tie.In-loop invariant-loop decreases-loop
+abbrev Lending : tie.After-start_of-arg-in-loop-k-7-1 invariant-loop decreases-loop → tie.In-loop-k invariant-loop decreases-loop
 Lending c = c.before.before.before.before.before.before.before.before.before.before.before.before
 
-abbrev Round : tie.After-start-of invariant-loop decreases-loop → tie.In-loop invariant-loop decreases-loop
+abbrev Round : tie.After-start_of-v invariant-loop decreases-loop → tie.In-loop-k invariant-loop decreases-loop
 Round c = Lending c.before
 
-sized : (l : tie.At-loop invariant-loop decreases-loop) → Sized (Of l).args.t1.cols l.loop.e
-sized l = let s = Of l in diving-sized s.args.t1 s.pre.0 (long s) s.args.j s.args.p _ l.loop.e l.loop.k l.loop.invariant
+sized : (l : tie.At-loop-k invariant-loop decreases-loop) → Sized (Of l).args.t1.cols l.loop-k.e
+sized l = let s = Of l in diving-sized s.args.t1 s.requires.0 (long s) s.args.j s.args.p _ l.loop-k.e l.loop-k.k l.loop-k.invariant
 
-start-of-requires : tie.Need-start-of-requires invariant-loop decreases-loop
+start-of-requires : tie.Need-start_of-v-requires invariant-loop decreases-loop
 start-of-requires c κs =
     let i = Lending c in
     let z = sized i.before in
     (rw (within-back tt z.columns.capacity-in) z, item i)
 
-mul-v : tie.Need-overflow-mul-v invariant-loop decreases-loop
+mul-v : tie.Need-offset_bounds-e-i invariant-loop decreases-loop
 mul-v c = record { fits = omega (arith, item (Round c)) }
 
-element-set-from-v : tie.Need-element-set-from-v invariant-loop decreases-loop
+element-set-from-v : tie.Need-bounds-e-i invariant-loop decreases-loop
 element-set-from-v c = item (Round c)
 
-mul-v-2 : tie.Need-overflow-mul-v-2 invariant-loop decreases-loop
+mul-v-2 : tie.Need-offset_bounds-e-i-in-loop-k invariant-loop decreases-loop
 mul-v-2 c = record { fits = omega (arith, item (Round c)) }
 
-element-set-from-v-2 : tie.Need-element-set-from-v-2 invariant-loop decreases-loop
+element-set-from-v-2 : tie.Need-bounds-e-i-in-loop-k invariant-loop decreases-loop
 element-set-from-v-2 c = item (Round c)
 
-mul-x : tie.Need-overflow-mul-x invariant-loop decreases-loop
+mul-x : tie.Need-offset_bounds-x-k invariant-loop decreases-loop
 mul-x c = record { fits = omega (arith, k<16 (Round c)) }
 
-array-set-from-x : tie.Need-array-set-from-x invariant-loop decreases-loop
+array-set-from-x : tie.Need-bounds-x-k invariant-loop decreases-loop
 array-set-from-x c = k<16 (Round c)
 
-mul-y : tie.Need-overflow-mul-y invariant-loop decreases-loop
+mul-y : tie.Need-offset_bounds-y-k invariant-loop decreases-loop
 mul-y c = record { fits = omega (arith, k<16 (Round c)) }
 
-array-set-from-y : tie.Need-array-set-from-y invariant-loop decreases-loop
+array-set-from-y : tie.Need-bounds-y-k invariant-loop decreases-loop
 array-set-from-y c = k<16 (Round c)
 
-add-k : tie.Need-overflow-add-k invariant-loop decreases-loop
+add-k : tie.Need-overflow_add-k invariant-loop decreases-loop
 add-k c = record { fits = omega (arith, k<16 (Round c)) }
 
-loop-less : tie.Need-loop-smaller invariant-loop decreases-loop
+loop-less : tie.Need-loop-k-smaller invariant-loop decreases-loop
 loop-less c = omega arith
 
-loop-again : tie.Need-loop-preserved invariant-loop decreases-loop
+loop-again : tie.Need-loop-k-preserved invariant-loop decreases-loop
 loop-again c =
     let i = Round c in
     let l = i.before in
     let s = Of l in
-    let v : c.start_of.result ≡ start_in s.args.t1 l.loop.e l.loop.k = rw (within-back tt (sized l).columns.capacity-in) at c.start_of.ensures in
-    rw (back c.start_of.result c.start_of.type-inv, v) (diving-step s.args.t1 s.pre.0 (long s) s.args.j s.args.p _ l.loop.e l.loop.k
-    i.loop-test.taken l.loop.inv)
+    let v : c.start_of-v.result ≡ start_in s.args.t1 l.loop-k.e l.loop-k.k = rw (within-back tt (sized l).columns.capacity-in) at c.start_of-v.ensures in
+    rw (back c.start_of-v.result c.start_of-v.type_inv, v) (diving-step s.args.t1 s.requires.0 (long s) s.args.j s.args.p _ l.loop-k.e l.loop-k.k
+    i.loop-k-test.true l.loop-k.invariant)
 
 returns : tie.Need-returns invariant-loop decreases-loop
 returns c =
     let l = c.before in
     let s = Of l in
-    diving-done s.args.t1 s.pre.0 (long s) s.args.j s.args.p _ l.loop.e l.loop.k c.loop-test.false l.loop.invariant
+    diving-done s.args.t1 s.requires.0 (long s) s.args.j s.args.p _ l.loop-k.e l.loop-k.k c.loop-k-test.false l.loop-k.invariant
 
-pub dive-spec : {M : Type 1} → statement M
-dive-spec =
+pub dive_spec : {M : Type 1} → statement M
+dive_spec =
     tie.close
     (tie.spec
     invariant-loop

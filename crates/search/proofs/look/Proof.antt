@@ -23,50 +23,50 @@ use Rattle.search.proofs.Runs.{fixed-in-range, run-in-range}
 use Rattle.search.proofs.look.Statement.{statement}
 use Rattle.search.proofs.look.Tie as tie
 
-abbrev invariant-loop : tie.invariant-loop
+abbrev invariant-loop : tie.invariant-loop-d
 invariant-loop best from s n x v m e₀ d₀ e d =
     (d ≤ n) × ((e ≡ fixed_by s (at x) d) × ((d ≤ m) × ((i : ℕ) → i < d → cut_at s (record { place = x; starts = v }) best i ≡ false)))
 
-abbrev decreases-loop : tie.decreases-loop
+abbrev decreases-loop : tie.decreases-loop-d
 decreases-loop best from s n x v m e₀ d₀ e d = n - d
 
 -- the moments that are spoken of below
-abbrev start : tie.After-first-paired invariant-loop decreases-loop → tie.Start invariant-loop decreases-loop
+abbrev start : tie.After-first_paired-m invariant-loop decreases-loop → tie.Start invariant-loop decreases-loop
 start c = c.before.before.before
 
-abbrev after-by-side2 : tie.After-cut invariant-loop decreases-loop → tie.After-by-side2 invariant-loop decreases-loop
+abbrev after-by-side2 : tie.After-cut invariant-loop decreases-loop → tie.After-by_side-h invariant-loop decreases-loop
 after-by-side2 c = c.before.before.before
 
-abbrev after-a : tie.After-by-side-arg invariant-loop decreases-loop → tie.After-a invariant-loop decreases-loop
+abbrev after-a : tie.After-by_side-arg-1 invariant-loop decreases-loop → tie.After-a-1 invariant-loop decreases-loop
 after-a c = c.before.before.before
 
-abbrev in-loop-of-by-side : tie.After-by-side invariant-loop decreases-loop → tie.In-loop invariant-loop decreases-loop
+abbrev in-loop-of-by-side : tie.After-by_side-l invariant-loop decreases-loop → tie.In-loop-d invariant-loop decreases-loop
 in-loop-of-by-side c = (after-a c.before).before
 
 -- where a turn of the loop began
-abbrev Round : tie.After-by-side2 invariant-loop decreases-loop → tie.In-loop invariant-loop decreases-loop
+abbrev Round : tie.After-by_side-h invariant-loop decreases-loop → tie.In-loop-d invariant-loop decreases-loop
 Round c = in-loop-of-by-side c.before.before
 
-abbrev at-loop : tie.Else1 invariant-loop decreases-loop → tie.At-loop invariant-loop decreases-loop
+abbrev at-loop : tie.Else-cut invariant-loop decreases-loop → tie.At-loop-d invariant-loop decreases-loop
 at-loop c = (Round (after-by-side2 c.before)).before
 
-abbrev after-first-paired : tie.After-fixed-in invariant-loop decreases-loop → tie.After-first-paired invariant-loop decreases-loop
+abbrev after-first-paired : tie.After-fixed_in-e invariant-loop decreases-loop → tie.After-first_paired-m invariant-loop decreases-loop
 after-first-paired c = c.before.before.before
 
 -- what the function was given, at the loop
-abbrev Of : tie.At-loop invariant-loop decreases-loop → tie.Start invariant-loop decreases-loop
+abbrev Of : tie.At-loop-d invariant-loop decreases-loop → tie.Start invariant-loop decreases-loop
 Of l = start (after-first-paired l.before)
 
-abbrev start-of-else1 : tie.Else1 invariant-loop decreases-loop → tie.Start invariant-loop decreases-loop
+abbrev start-of-else1 : tie.Else-cut invariant-loop decreases-loop → tie.Start invariant-loop decreases-loop
 start-of-else1 c = Of (at-loop c)
 
-abbrev in-loop-of-else2 : tie.Else2 invariant-loop decreases-loop → tie.In-loop invariant-loop decreases-loop
+abbrev in-loop-of-else2 : tie.Else-d-m invariant-loop decreases-loop → tie.In-loop-d invariant-loop decreases-loop
 in-loop-of-else2 c = Round (after-by-side2 c.before.before)
 
-d<16 : (c : tie.In-loop invariant-loop decreases-loop) → c.before.loop.d < 16
-d<16 c = omega (arith, c.loop-test.true, (Of c.before).pre.ready.setting.ready.few)
+d<16 : (c : tie.In-loop-d invariant-loop decreases-loop) → c.before.loop-d.d < 16
+d<16 c = omega (arith, c.loop-d-test.true, (Of c.before).requires.ready.setting.ready.few)
 
-first-paired-requires : tie.Need-first-paired-requires invariant-loop decreases-loop
+first-paired-requires : tie.Need-first_paired-m-requires invariant-loop decreases-loop
 first-paired-requires c κs =
     let s = c.before.before in record {
       ready = s.requires.ready;
@@ -76,133 +76,133 @@ first-paired-requires c κs =
     }
 
 -- no level above the first that is looked at is paired
-least : (c : tie.After-first-paired invariant-loop decreases-loop) → (start c).args.from ≤ c.first-paired.result
+least : (c : tie.After-first_paired-m invariant-loop decreases-loop) → (start c).args.from ≤ c.first_paired-m.result
 least c = go (dec_lt m s.args.from)
   where
     s : tie.Start invariant-loop decreases-loop
     s = start c
 
     m : ℕ
-    m = c.first-paired.result
+    m = c.first_paired-m.result
 
     go : Dec (m < s.args.from) → s.args.from ≤ m
-    go (yes l) = absurd (s.pre.passed.unpaired m l (c.first-paired.ensures.here (omega (arith, l, s.pre.from_in))))
+    go (yes l) = absurd (s.requires.passed.unpaired m l (c.first_paired-m.ensures.here (omega (arith, l, s.requires.from_in))))
     go (no l) = omega arith
 
-fixed-in-requires : tie.Need-fixed-in-requires invariant-loop decreases-loop
+fixed-in-requires : tie.Need-fixed_in-e-requires invariant-loop decreases-loop
 fixed-in-requires c κs =
     let s = start c.before.before in
-    let r = s.pre.ready.setting in
-    (omega (arith, s.pre.from_in, r.ready.few), λ k h. item<16 s.args.t1 r s.pre.started.long k (omega (arith, s.pre.from_in)))
+    let r = s.requires.ready.setting in
+    (omega (arith, s.requires.from_in, r.ready.few), λ k h. item<16 s.args.t1 r s.requires.started.long k (omega (arith, s.requires.from_in)))
 
-loop-holds : tie.Need-loop-init invariant-loop decreases-loop
+loop-holds : tie.Need-loop-d-init invariant-loop decreases-loop
 loop-holds c =
     let f = c.before.before.before in
     let s = start f in
-    (s.pre.from_in, (c.fixed_in.ensures, (least f, s.pre.passed.uncut)))
+    (s.requires.from_in, (c.fixed_in-e.ensures, (least f, s.requires.passed.uncut)))
 
-mul-a : tie.Need-overflow-mul-a invariant-loop decreases-loop
+mul-a : tie.Need-offset_bounds-x-d invariant-loop decreases-loop
 mul-a c = record { fits = omega (arith, d<16 c) }
 
-array-copy-out-a : tie.Need-array-copy-out-a invariant-loop decreases-loop
+array-copy-out-a : tie.Need-bounds-x-d invariant-loop decreases-loop
 array-copy-out-a c = d<16 c
 
-mul-b : tie.Need-overflow-mul-b invariant-loop decreases-loop
+mul-b : tie.Need-offset_bounds-v-d invariant-loop decreases-loop
 mul-b c = record { fits = omega (arith, d<16 c.before) }
 
-array-copy-out-b : tie.Need-array-copy-out-b invariant-loop decreases-loop
+array-copy-out-b : tie.Need-bounds-v-d invariant-loop decreases-loop
 array-copy-out-b c = d<16 c.before
 
-mul-i : tie.Need-overflow-mul-i invariant-loop decreases-loop
+mul-i : tie.Need-offset_bounds-s-d invariant-loop decreases-loop
 mul-i c = record { fits = omega (arith, d<16 c.before.before) }
 
-element-copy-out-i : tie.Need-element-copy-out-i invariant-loop decreases-loop
+element-copy-out-i : tie.Need-bounds-s-d invariant-loop decreases-loop
 element-copy-out-i c = d<16 c.before.before
 
-mul-by-side : tie.Need-overflow-mul-by-side invariant-loop decreases-loop
+mul-by-side : tie.Need-offset_bounds-s-d-in-loop-d invariant-loop decreases-loop
 mul-by-side c = record { fits = omega (arith, d<16 c.before.before.before) }
 
-element-copy-out-by-side : tie.Need-element-copy-out-by-side invariant-loop decreases-loop
+element-copy-out-by-side : tie.Need-bounds-s-d-in-loop-d invariant-loop decreases-loop
 element-copy-out-by-side c = d<16 c.before.before.before
 
-by-side-requires : tie.Need-by-side-requires invariant-loop decreases-loop
+by-side-requires : tie.Need-by_side-l-requires invariant-loop decreases-loop
 by-side-requires c κs = tt
 
-mul-by-side-2 : tie.Need-overflow-mul-by-side-2 invariant-loop decreases-loop
+mul-by-side-2 : tie.Need-offset_bounds-s-d-in-loop-d-2 invariant-loop decreases-loop
 mul-by-side-2 c = record { fits = omega (arith, d<16 (in-loop-of-by-side c)) }
 
-element-copy-out-by-side-2 : tie.Need-element-copy-out-by-side-2 invariant-loop decreases-loop
+element-copy-out-by-side-2 : tie.Need-bounds-s-d-in-loop-d-2 invariant-loop decreases-loop
 element-copy-out-by-side-2 c = d<16 (in-loop-of-by-side c)
 
-by-side-requires-2 : tie.Need-by-side-requires-2 invariant-loop decreases-loop
+by-side-requires-2 : tie.Need-by_side-h-requires invariant-loop decreases-loop
 by-side-requires-2 c κs = tt
 
 -- the level's item has a place
-item : (c : tie.In-loop invariant-loop decreases-loop) → level_at (Of c.before).args.t1 c.before.loop.d < 16
-item c = let s = Of c.before in item<16 s.args.t1 s.pre.ready.setting s.pre.started.long c.before.loop.d c.loop-test.true
+item : (c : tie.In-loop-d invariant-loop decreases-loop) → level_at (Of c.before).args.t1 c.before.loop-d.d < 16
+item c = let s = Of c.before in item<16 s.args.t1 s.requires.ready.setting s.requires.started.long c.before.loop-d.d c.loop-d-test.true
 
 -- the ends of the run
-low-is : (c : tie.After-by-side2 invariant-loop decreases-loop) → c.before.before.by_side.result ≡ by_side
-    (at (Of (Round c).before).args.t.place (Round c).before.loop.d) (at (Of (Round c).before).args.t.starts (Round c).before.loop.d)
-    (at (Of (Round c).before).args.t1.low (Round c).before.loop.d) (at (Of (Round c).before).args.t.place (Round c).before.loop.d)
+low-is : (c : tie.After-by_side-h invariant-loop decreases-loop) → c.before.before.by_side-l.result ≡ by_side
+    (at (Of (Round c).before).args.t.place (Round c).before.loop-d.d) (at (Of (Round c).before).args.t.starts (Round c).before.loop-d.d)
+    (at (Of (Round c).before).args.t1.low (Round c).before.loop-d.d) (at (Of (Round c).before).args.t.place (Round c).before.loop-d.d)
 low-is c =
     let l = (Round c).before in
     let s = Of l in
-    let d = l.loop.d in
+    let d = l.loop-d.d in
     let b = c.before.before in
     rw (
-      back (at s.args.t.place d) (after-a b.before).a.given,
-      back (at s.args.t.starts d) b.before.before.before.b.given,
-      back (at s.args.t1.low d) b.before.by-side-arg.given,
-    ) at b.by_side.ensures
+      back (at s.args.t.place d) (after-a b.before).a-1.given,
+      back (at s.args.t.starts d) b.before.before.before.b-1.given,
+      back (at s.args.t1.low d) b.before.by_side-arg-1.given,
+    ) at b.by_side-l.ensures
 
-high_is : (c : tie.After-by-side2 invariant-loop decreases-loop) → c.by-side2.result ≡ by_side (at (Of (Round c).before).args.t.place (Round c).before.loop.d)
-    (at (Of (Round c).before).args.t.starts (Round c).before.loop.d) (at (Of (Round c).before).args.t.place (Round c).before.loop.d)
-    (at (Of (Round c).before).args.t1.high (Round c).before.loop.d)
+high_is : (c : tie.After-by_side-h invariant-loop decreases-loop) → c.by_side-h.result ≡ by_side (at (Of (Round c).before).args.t.place (Round c).before.loop-d.d)
+    (at (Of (Round c).before).args.t.starts (Round c).before.loop-d.d) (at (Of (Round c).before).args.t.place (Round c).before.loop-d.d)
+    (at (Of (Round c).before).args.t1.high (Round c).before.loop-d.d)
 high_is c =
     let l = (Round c).before in
     let s = Of l in
-    let d = l.loop.d in
+    let d = l.loop-d.d in
     let b = c.before.before in
     rw (
-      back (at s.args.t.place d) (after-a b.before).a.given,
-      back (at s.args.t.starts d) b.before.before.before.b.given,
-      back (at s.args.t1.high d) c.before.by-side-arg2.given,
-    ) at c.by-side2.ensures
+      back (at s.args.t.place d) (after-a b.before).a-1.given,
+      back (at s.args.t.starts d) b.before.before.before.b-1.given,
+      back (at s.args.t1.high d) c.before.by_side-arg-in-loop-d-1.given,
+    ) at c.by_side-h.ensures
 
 -- the box of the run, as it is written
-abbrev Ran : tie.After-by-side2 invariant-loop decreases-loop → Ends
-Ran c = spanned (Round c).before.loop.e (level_at (Of (Round c).before).args.t1 (Round c).before.loop.d)
-    (to_z w64 (of_z w64 c.before.before.by_side.result)) (to_z w64 (of_z w64 c.by-side2.result))
+abbrev Ran : tie.After-by_side-h invariant-loop decreases-loop → Ends
+Ran c = spanned (Round c).before.loop-d.e (level_at (Of (Round c).before).args.t1 (Round c).before.loop-d.d)
+    (to_z w64 (of_z w64 c.before.before.by_side-l.result)) (to_z w64 (of_z w64 c.by_side-h.result))
 
-run_is : (c : tie.After-by-side2 invariant-loop decreases-loop) → Ran c ≡ run_ends (Of (Round c).before).args.t1 (at (Of (Round c).before).args.t.place)
-    (at (Of (Round c).before).args.t.starts (Round c).before.loop.d) (Round c).before.loop.d
+run_is : (c : tie.After-by_side-h invariant-loop decreases-loop) → Ran c ≡ run_ends (Of (Round c).before).args.t1 (at (Of (Round c).before).args.t.place)
+    (at (Of (Round c).before).args.t.starts (Round c).before.loop-d.d) (Round c).before.loop-d.d
 run_is c =
     let b = c.before.before in
     let l = (Round c).before in
     let s = Of l in
-    let d = l.loop.d in
+    let d = l.loop-d.d in
     let k = level_at s.args.t1 d in
-    ap₂ (λ (x y : ℤ). spanned l.loop.e k x y) (back b.by_side.result b.by_side.type-inv ∙ low-is c)
-    (back c.by-side2.result c.by-side2.type-inv ∙ high_is c)
-    ∙ ap (λ e. run_box e k (at s.args.t1.low d) (at s.args.t1.high d) (at s.args.t.place d) (at s.args.t.starts d)) l.loop.inv.1.0
+    ap₂ (λ (x y : ℤ). spanned l.loop-d.e k x y) (back b.by_side-l.result b.by_side-l.type_inv ∙ low-is c)
+    (back c.by_side-h.result c.by_side-h.type_inv ∙ high_is c)
+    ∙ ap (λ e. run_box e k (at s.args.t1.low d) (at s.args.t1.high d) (at s.args.t.place d) (at s.args.t.starts d)) l.loop-d.invariant.1.0
 
-mul-l : tie.Need-overflow-mul-l invariant-loop decreases-loop
+mul-l : tie.Need-offset_bounds-e-i invariant-loop decreases-loop
 mul-l c = record { fits = omega (arith, item (Round c)) }
 
-element-set-from-l : tie.Need-element-set-from-l invariant-loop decreases-loop
+element-set-from-l : tie.Need-bounds-e-i invariant-loop decreases-loop
 element-set-from-l c = item (Round c)
 
-mul-h : tie.Need-overflow-mul-h invariant-loop decreases-loop
+mul-h : tie.Need-offset_bounds-e-i-in-loop-d invariant-loop decreases-loop
 mul-h c = record { fits = omega (arith, item (Round c)) }
 
-element-set-from-h : tie.Need-element-set-from-h invariant-loop decreases-loop
+element-set-from-h : tie.Need-bounds-e-i-in-loop-d invariant-loop decreases-loop
 element-set-from-h c = item (Round c)
 
-mul-cut : tie.Need-overflow-mul-cut invariant-loop decreases-loop
+mul-cut : tie.Need-offset_bounds-s-d-in-loop-d-3 invariant-loop decreases-loop
 mul-cut c = record { fits = omega (arith, d<16 (Round c.before)) }
 
-element-copy-out-cut : tie.Need-element-copy-out-cut invariant-loop decreases-loop
+element-copy-out-cut : tie.Need-bounds-s-d-in-loop-d-3 invariant-loop decreases-loop
 element-copy-out-cut c = d<16 (Round c.before)
 
 cut-requires : tie.Need-cut-requires invariant-loop decreases-loop
@@ -212,94 +212,94 @@ cut-requires c κs =
     let l = i.before in
     let s = Of l in
     rw (run_is b) (
-      run-in-range s.args.t1 s.pre.ready.setting s.pre.started.long (at s.args.t.place) s.pre.started.inside
-          (at s.args.t.starts l.loop.d) l.loop.d s.args.best i.loop-test.taken s.pre.proper,
-      s.pre.ready.setting.ready.tame l.loop.d (d<16 i),
+      run-in-range s.args.t1 s.requires.ready.setting s.requires.started.long (at s.args.t.place) s.requires.started.inside
+          (at s.args.t.starts l.loop-d.d) l.loop-d.d s.args.best i.loop-d-test.true s.requires.proper,
+      s.requires.ready.setting.ready.tame l.loop-d.d (d<16 i),
     )
 
 -- the levels above settle nothing
-passed : (l : tie.At-loop invariant-loop decreases-loop) (d : ℕ) → d ≤ l.loop.d → Passed (Of l).args.t1 (Of l).args.p (Of l).args.t (Of l).args.best d
+passed : (l : tie.At-loop-d invariant-loop decreases-loop) (d : ℕ) → d ≤ l.loop-d.d → Passed (Of l).args.t1 (Of l).args.p (Of l).args.t (Of l).args.best d
 passed l d h =
     let at-first-paired = after-first-paired l.before in
     record {
-      uncut = λ i g. l.loop.invariant.1.1.1 i (omega arith);
-      unpaired = λ i g. at-first-paired.first-paired.ensures.before i (omega (arith, l.loop.invariant.1.1.0));
+      uncut = λ i g. l.loop-d.invariant.1.1.1 i (omega arith);
+      unpaired = λ i g. at-first-paired.first_paired-m.ensures.before i (omega (arith, l.loop-d.invariant.1.1.0));
     }
 
 -- whether the run of the level is cut
 cut-is : (c : tie.After-cut invariant-loop decreases-loop) → c.cut.result ≡ cut_at (Of (Round c.before.before.before).before).args.t1
     (Of (Round c.before.before.before).before).args.t (Of (Round c.before.before.before).before).args.best
-    (Round c.before.before.before).before.loop.d
+    (Round c.before.before.before).before.loop-d.d
 cut-is c =
     let b = c.before.before.before in
     let l = (Round b).before in
     let s = Of l in
-    c.cut.ensures ∙ ap (λ e. cut_by s.args.t1.cols (lattice_at s.args.t1.lattice l.loop.d) e s.args.best) (run_is b)
+    c.cut.ensures ∙ ap (λ e. cut_by s.args.t1.cols (lattice_at s.args.t1.lattice l.loop-d.d) e s.args.best) (run_is b)
 
-returns : tie.Need-returns invariant-loop decreases-loop
+returns : tie.Need-returns-then-cut invariant-loop decreases-loop
 returns c =
     let s = after-by-side2 c.before in
     let i = Round s in
     let l = i.before in
-    (refl, record { level_in = i.loop-test.taken; passed = passed l l.loop.d (omega arith); cut = sym (cut-is c.before) ∙ c.if1.true })
+    (refl, record { level_in = i.loop-d-test.true; passed = passed l l.loop-d.d (omega arith); cut = sym (cut-is c.before) ∙ c.if-cut.true })
 
-add-t50 : tie.Need-overflow-add-t50 invariant-loop decreases-loop
+add-t50 : tie.Need-overflow_add-result invariant-loop decreases-loop
 add-t50 c =
     let s = after-by-side2 c.before.before in
     record { fits = omega (arith, d<16 (Round s)) }
 
 -- the level that a pair discards
-returns-2 : tie.Need-returns-2 invariant-loop decreases-loop
+returns-2 : tie.Need-returns-then-d-m invariant-loop decreases-loop
 returns-2 c =
     let e = c.before in
     let i = Round (after-by-side2 e.before) in
     let l = i.before in
     let s = Of l in
     let paired = after-first-paired l.before in
-    let f = paired.first-paired in
-    let q = c.if2.true in
+    let f = paired.first_paired-m in
+    let q = c.if-d-m.true in
     inr (
       refl,
       record {
-        level = l.loop.d;
-        level_in = i.loop-test.taken;
-        last = add-one l.loop.d;
-        passed = passed l l.loop.d (omega arith);
-        uncut = sym (cut-is e.before) ∙ e.if1.false;
-        paired = subst (λ k. Applies s.args.t1 s.args.p (at s.args.t.place) k) (sym q) (f.ensures.here (omega (arith, q, i.loop-test.taken)));
+        level = l.loop-d.d;
+        level_in = i.loop-d-test.true;
+        last = add-one l.loop-d.d;
+        passed = passed l l.loop-d.d (omega arith);
+        uncut = sym (cut-is e.before) ∙ e.if-cut.false;
+        paired = subst (λ k. Applies s.args.t1 s.args.p (at s.args.t.place) k) (sym q) (f.ensures.here (omega (arith, q, i.loop-d-test.true)));
       },
     )
 
-mul-a-2 : tie.Need-overflow-mul-a-2 invariant-loop decreases-loop
+mul-a-2 : tie.Need-offset_bounds-e-i-in-loop-d-2 invariant-loop decreases-loop
 mul-a-2 c = record { fits = omega (arith, item (in-loop-of-else2 c)) }
 
-element-set-from-a : tie.Need-element-set-from-a invariant-loop decreases-loop
+element-set-from-a : tie.Need-bounds-e-i-in-loop-d-2 invariant-loop decreases-loop
 element-set-from-a c = item (in-loop-of-else2 c)
 
-mul-a-3 : tie.Need-overflow-mul-a-3 invariant-loop decreases-loop
+mul-a-3 : tie.Need-offset_bounds-e-i-in-loop-d-3 invariant-loop decreases-loop
 mul-a-3 c = record { fits = omega (arith, item (in-loop-of-else2 c)) }
 
-element-set-from-a-2 : tie.Need-element-set-from-a-2 invariant-loop decreases-loop
+element-set-from-a-2 : tie.Need-bounds-e-i-in-loop-d-3 invariant-loop decreases-loop
 element-set-from-a-2 c = item (in-loop-of-else2 c)
 
-add-d : tie.Need-overflow-add-d invariant-loop decreases-loop
+add-d : tie.Need-overflow_add-d invariant-loop decreases-loop
 add-d c = record { fits = omega (arith, d<16 (in-loop-of-else2 c)) }
 
-loop-less : tie.Need-loop-smaller invariant-loop decreases-loop
-loop-less c = let i = in-loop-of-else2 c in omega (arith, i.loop-test.taken)
+loop-less : tie.Need-loop-d-smaller invariant-loop decreases-loop
+loop-less c = let i = in-loop-of-else2 c in omega (arith, i.loop-d-test.true)
 
 -- ends written twice are those written last
 rewritten : (e : Ends) (k : ℕ) (l h u : ℤ) → spanned (spanned e k l h) k u u ≡ spanned e k u u
 rewritten e k l h u = ap₂ (λ (x y : List ℤ). record { lo = x; hi = y }) (set-set e.lo k l u) (set-set e.hi k h u)
 
 -- so does the level itself
-still : (c : tie.Else1 invariant-loop decreases-loop) (i : ℕ) → i ≤ (at-loop c).loop.d
-    → Dec (i ≡ (at-loop c).loop.d) → cut_at (start-of-else1 c).args.t1
+still : (c : tie.Else-cut invariant-loop decreases-loop) (i : ℕ) → i ≤ (at-loop c).loop-d.d
+    → Dec (i ≡ (at-loop c).loop-d.d) → cut_at (start-of-else1 c).args.t1
     (start-of-else1 c).args.t (start-of-else1 c).args.best i ≡ false
-still c i h (yes e) = rw e (sym (cut-is c.before) ∙ c.if1.false)
-still c i h (no e) = (at-loop c).loop.invariant.1.1.1 i (omega (arith, e))
+still c i h (yes e) = rw e (sym (cut-is c.before) ∙ c.if-cut.false)
+still c i h (no e) = (at-loop c).loop-d.invariant.1.1.1 i (omega (arith, e))
 
-loop-again : tie.Need-loop-preserved invariant-loop decreases-loop
+loop-again : tie.Need-loop-d-preserved invariant-loop decreases-loop
 unfolding fixed_in
 loop-again c =
     let u = c.before in
@@ -308,32 +308,32 @@ loop-again c =
     let l = i.before in
     let s = Of l in
     let read = after-a b.before.before.before in
-    let x = at s.args.t.place l.loop.d in
-    let k = level_at s.args.t1 l.loop.d in (
-      omega (arith, i.loop-test.taken),
+    let x = at s.args.t.place l.loop-d.d in
+    let k = level_at s.args.t1 l.loop-d.d in (
+      omega (arith, i.loop-d-test.true),
       (
-        rw (add-one, back x read.a.given)
-            (rewritten l.loop.e k (to_z w64 (of_z w64 b.before.before.by_side.result)) (to_z w64 (of_z w64 b.by-side2.result)) x
-            ∙ ap (λ e. spanned e k x x) l.loop.inv.1.0),
-        (omega (arith, l.loop.inv.1.1.0, c.if2.false), λ j h. still u j (omega arith) (ℕ_discrete j l.loop.d)),
+        rw (add-one, back x read.a-1.given)
+            (rewritten l.loop-d.e k (to_z w64 (of_z w64 b.before.before.by_side-l.result)) (to_z w64 (of_z w64 b.by_side-h.result)) x
+            ∙ ap (λ e. spanned e k x x) l.loop-d.invariant.1.0),
+        (omega (arith, l.loop-d.invariant.1.1.0, c.if-d-m.false), λ j h. still u j (omega arith) (ℕ_discrete j l.loop-d.d)),
       ),
     )
 
-tried-requires : tie.Need-tried-requires invariant-loop decreases-loop
+tried-requires : tie.Need-tried-r-requires invariant-loop decreases-loop
 tried-requires c κs =
     let l = c.before.before in
     let s = Of l in
-    rw l.loop.invariant.1.0 (fixed-in-range s.args.t1 s.pre.ready.setting s.pre.started.long (at s.args.t.place) s.pre.started.inside
-    l.loop.d s.args.best l.loop.invariant.0 s.pre.proper)
+    rw l.loop-d.invariant.1.0 (fixed-in-range s.args.t1 s.requires.ready.setting s.requires.started.long (at s.args.t.place) s.requires.started.inside
+    l.loop-d.d s.args.best l.loop-d.invariant.0 s.requires.proper)
 
-returns-3 : tie.Need-returns-3 invariant-loop decreases-loop
+returns-3 : tie.Need-returns invariant-loop decreases-loop
 returns-3 c =
     let y = c.before in
     let l = y.before.before.before in
     let s = Of l in
-    let n : l.loop.d ≡ s.args.t1.levels = omega (arith, y.before.before.loop-test.false, l.loop.invariant.0) in
-    let e = l.loop.invariant.1.0 ∙ ap (fixed_by s.args.t1 (at s.args.t.place)) n in
-    inl (record { all = refl; passed = passed l s.args.t1.levels (omega (arith, n)); tries = rw e at y.tried.ensures })
+    let n : l.loop-d.d ≡ s.args.t1.levels = omega (arith, y.before.before.loop-d-test.false, l.loop-d.invariant.0) in
+    let e = l.loop-d.invariant.1.0 ∙ ap (fixed_by s.args.t1 (at s.args.t.place)) n in
+    inl (record { all = refl; passed = passed l s.args.t1.levels (omega (arith, n)); tries = rw e at y.tried-r.ensures })
 
 pub look_spec : {M : Type 1} → statement M
 look_spec =

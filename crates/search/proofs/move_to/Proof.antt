@@ -5,10 +5,10 @@ use Rattle.search.specs.Steps.{LongPath}
 use Rattle.search.proofs.move_to.Statement.{statement}
 use Rattle.search.proofs.move_to.Tie as tie
 
-mul-x : tie.Need-overflow-mul-x
+mul-x : tie.Need-offset_bounds-x-j
 mul-x c = search rules
 
-array-set-from-x : tie.Need-array-set-from-x
+array-set-from-x : tie.Need-bounds-x-j
 array-set-from-x c = search rules
 
 long : (s : tie.Start) → LongPath s.args.t

@@ -21,5 +21,5 @@ returns c =
       to_z-of_z s.ranges.w,
     ) at c.barren.ensures
 
-pub sparse-spec : {M : Type 1} → statement M
-sparse-spec = tie.close (tie.spec barren-requires returns)
+pub sparse_spec : {M : Type 1} → statement M
+sparse_spec = tie.close (tie.spec barren-requires returns)

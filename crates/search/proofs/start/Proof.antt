@@ -7,11 +7,11 @@ use Rattle.search.proofs.start.Tie as tie
 dive-requires : tie.Need-dive-requires
 dive-requires c κs = (c.requires, (omega arith, λ d l. absurd (omega arith)))
 
-no-incumbent-requires : tie.Need-no-incumbent-requires
+no-incumbent-requires : tie.Need-no_incumbent-requires
 no-incumbent-requires c κs = tt
 
 returns : tie.Need-returns
-returns c = rw c.no-incumbent.ensures (record { first = c.before.dive.ensures; nothing = refl; no_steps = refl; top = refl; going = refl })
+returns c = rw c.no_incumbent.ensures (record { first = c.before.dive.ensures; nothing = refl; no_steps = refl; top = refl; going = refl })
 
 pub start_spec : {M : Type 1} → statement M
 start_spec = tie.close (tie.spec dive-requires no-incumbent-requires returns)

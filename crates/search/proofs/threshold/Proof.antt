@@ -11,7 +11,7 @@ use Rattle.search.specs.Search.{threshold_at}
 use Rattle.search.proofs.threshold.Statement.{statement}
 use Rattle.search.proofs.threshold.Tie as tie
 
-is-corner-sooner-requires : tie.Need-is-corner-sooner-requires
+is-corner-sooner-requires : tie.Need-is_corner_sooner-requires
 is-corner-sooner-requires c κs = search rules
 
 one_less : (s : tie.Start) → Within 201000000000000001 (s.args.w -ℤ pos 1)
@@ -20,22 +20,22 @@ one_less s = within-sub s.requires.1.1.1 one
     one : Within 1 (pos 1)
     one = record { above = omega arith; below = omega arith }
 
-sub-result : tie.Need-overflow-sub-result
+sub-result : tie.Need-overflow_sub-result
 sub-result c = let s = c.before.before in rw (to_z-of_z s.ranges.w) (within-sfits (lit< tt) (one_less s))
 
-returns : tie.Need-returns
+returns : tie.Need-returns-then-is_corner_sooner
 unfolding threshold_at
 returns c =
     let s = c.before.before in
-    let t = sym c.before.is-corner-sooner.ensures ∙ c.if1.true in
+    let t = sym c.before.is_corner_sooner.ensures ∙ c.if-is_corner_sooner.true in
     rw (t, to_z-of_z s.ranges.w) (within-back tt (one_less s))
 
-returns-2 : tie.Need-returns-2
+returns-2 : tie.Need-returns-else-is_corner_sooner
 unfolding threshold_at
 returns-2 c =
     let s = c.before.before in
-    let t = sym c.before.is-corner-sooner.ensures ∙ c.if1.false in
+    let t = sym c.before.is_corner_sooner.ensures ∙ c.if-is_corner_sooner.false in
     rw t (to_z-of_z s.ranges.w)
 
-pub threshold-spec : {M : Type 1} → statement M
-threshold-spec = tie.close (tie.spec is-corner-sooner-requires sub-result returns returns-2)
+pub threshold_spec : {M : Type 1} → statement M
+threshold_spec = tie.close (tie.spec is-corner-sooner-requires sub-result returns returns-2)

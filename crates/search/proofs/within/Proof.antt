@@ -15,20 +15,20 @@ use Rattle.search.proofs.within.Tie as tie
 difference : (s : tie.Start) → Within 300001000 (s.args.x -ℤ s.args.r)
 difference s = within-sub s.requires.0 s.requires.1
 
-sub-y : tie.Need-overflow-sub-y
+sub-y : tie.Need-overflow_sub-y
 sub-y c = rw (to_z-of_z c.ranges.x, to_z-of_z c.ranges.r) (within-sfits (lit< tt) (difference c))
 
 -- the difference, as the local holds it, against an end
-low? : (c : tie.Then1) → (c.before.args.x -ℤ c.before.args.r) <ℤ c.before.args.l
-low? c = let s = c.before in yes_lt (rw (to_z-of_z s.ranges.x, to_z-of_z s.ranges.r, within-back tt (difference s), to_z-of_z s.ranges.l) at c.if1.true)
+low? : (c : tie.Then-y-l) → (c.before.args.x -ℤ c.before.args.r) <ℤ c.before.args.l
+low? c = let s = c.before in yes_lt (rw (to_z-of_z s.ranges.x, to_z-of_z s.ranges.r, within-back tt (difference s), to_z-of_z s.ranges.l) at c.if-y-l.true)
 
-returns : tie.Need-returns
+returns : tie.Need-returns-then-y-l
 returns c = record { holds = λ e. absurd (impossible e); fails = λ e q. clash_ℤ (low? c) q.low }
 
-returns-2 : tie.Need-returns-2
+returns-2 : tie.Need-returns
 returns-2 c =
     let s = c.before in
-    let low = rw (to_z-of_z s.ranges.x, to_z-of_z s.ranges.r, within-back tt (difference s), to_z-of_z s.ranges.l) at c.if1.false in
+    let low = rw (to_z-of_z s.ranges.x, to_z-of_z s.ranges.r, within-back tt (difference s), to_z-of_z s.ranges.l) at c.if-y-l.false in
     rw (to_z-of_z s.ranges.x, to_z-of_z s.ranges.r, within-back tt (difference s), to_z-of_z s.ranges.u)
     (decided s.args.x s.args.r s.args.l s.args.u (no_lt low) (lt_z s.args.u (s.args.x -ℤ s.args.r)) refl)
   where
@@ -36,5 +36,5 @@ returns-2 c =
     decided x r l u h true q = record { holds = λ e. absurd (impossible e); fails = λ e z. clash_ℤ (yes_lt q) z.high }
     decided x r l u h false q = record { holds = λ e. record { low = h; high = no_lt q }; fails = λ e z. absurd (impossible (sym e)) }
 
-pub within-spec : {M : Type 1} → statement M
-within-spec = tie.close (tie.spec sub-y returns returns-2)
+pub within_spec : {M : Type 1} → statement M
+within_spec = tie.close (tie.spec sub-y returns returns-2)

@@ -3,7 +3,7 @@ use native.Mathlib.Omega.{arith}
 use Rattle.setting.proofs.fixed.Statement.{statement}
 use Rattle.setting.proofs.fixed.Tie as tie
 
-fixed-in-requires : tie.Need-fixed-in-requires
+fixed-in-requires : tie.Need-fixed_in-requires
 fixed-in-requires c κs =
     let s = c.before.before in
     let r = s.requires.0 in
@@ -12,5 +12,5 @@ fixed-in-requires c κs =
 returns : tie.Need-returns
 returns c = c.fixed_in.ensures
 
-pub fixed-spec : {M : Type 1} → statement M
-fixed-spec = tie.close (tie.spec fixed-in-requires returns)
+pub fixed_spec : {M : Type 1} → statement M
+fixed_spec = tie.close (tie.spec fixed-in-requires returns)

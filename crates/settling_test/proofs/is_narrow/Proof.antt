@@ -22,20 +22,20 @@ spanned c e z lo hi k l = omega (
       (within-abs (at e.hi k -ℤ at e.lo k) (within-sub (hi k l) (lo k l))),
 )
 
-are-near-requires : tie.Need-are-near-requires
+are-near-requires : tie.Need-are_near-requires
 are-near-requires c κs = search rules
 
-are-near-requires-2 : tie.Need-are-near-requires-2
+are-near-requires-2 : tie.Need-are_near-requires-then-are_near
 are-near-requires-2 c κs = search rules
 
-returns : tie.Need-returns
+returns : tie.Need-returns-then-are_near
 returns c =
     let n = c.before.before in
     let s = n.before.before.before in
-    λ i. spanned s.args.s.cols s.args.s.ends s.requires.sized.columns (n.are-near.ensures c.before.if1.true) (c.are-near2.ensures i)
+    λ i. spanned s.args.s.cols s.args.s.ends s.requires.sized.columns (n.are_near.ensures c.before.if-are_near.true) (c.are_near-then-are_near.ensures i)
 
-returns-2 : tie.Need-returns-2
+returns-2 : tie.Need-returns
 returns-2 c = λ i. absurd (impossible i)
 
-pub is-narrow-spec : {M : Type 1} → statement M
-is-narrow-spec = tie.close (tie.spec are-near-requires are-near-requires-2 returns returns-2)
+pub is_narrow_spec : {M : Type 1} → statement M
+is_narrow_spec = tie.close (tie.spec are-near-requires are-near-requires-2 returns returns-2)

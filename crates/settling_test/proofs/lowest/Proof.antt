@@ -49,37 +49,37 @@ sized s = record {
 filled : (s : tie.Start) → SizedFill s.args.s.cols (fill s.args.s.cols (box s))
 filled s = fill-sized s.args.s.cols (box s) (sized s)
 
-fixed-requires : tie.Need-fixed-requires
+fixed-requires : tie.Need-fixed-e-requires
 fixed-requires c κs = search rules
 
-fill-up-requires : tie.Need-fill-up-requires
-fill-up-requires c κs = rw c.fixed.ensures (sized c.before.before)
+fill-up-requires : tie.Need-fill_up-f-requires
+fill-up-requires c κs = rw c.before.fixed-e.ensures (sized c.before.before)
 
 -- the filling as the code has it
-fill_is : (c : tie.After-fill-up) → let s = c.before.before.before in c.fill-up.result ≡ fill s.args.s.cols (box s)
-fill_is c = c.fill-up.ensures ∙ ap (fill c.before.before.before.args.s.cols) c.before.fixed.ensures
+fill_is : (c : tie.After-fill_up-f) → let s = c.before.before.before in c.fill_up-f.result ≡ fill s.before.args.s.cols (box s)
+fill_is c = c.fill_up-f.ensures ∙ ap (fill c.before.before.before.before.args.s.cols) c.before.before.fixed-e.ensures
 
-bound-of-requires : tie.Need-bound-of-requires
+bound-of-requires : tie.Need-bound_of-value-requires
 bound-of-requires c κs = rw (fill_is c) (filled c.before.before.before)
 
-returns : tie.Need-returns
+returns : tie.Need-returns-then-f-lt0
 returns c = λ i. absurd (impossible i)
 
-returns-2 : tie.Need-returns-2
+returns-2 : tie.Need-returns
 returns-2 c = λ i.
     let b = c.before.before.before in
     let f = b.before in
     let s = f.before.before.before in
-    let r = rw (fill_is f, within-back tt (filled s).room_in) at c.if1.false in
+    let r = rw (fill_is f, within-back tt (filled s).room_in) at c.if-f-lt0.false in
     record {
-      between = between s.args.s s.requires;
+      between = between s.before.before.args.s s.before.before.requires;
       ends = box s;
-      fixes = fixes s.args.s s.requires (long s);
+      fixes = fixes s.before.before.args.s s.before.before.requires (long s);
       roomy = no_lt r;
-      value-is = b.bound_of.ensures ∙ ap (bound s.args.s.cols) (fill_is f);
-      proper = rw (b.bound_of.ensures, fill_is f) (bound-proper s.args.s.cols (fill s.args.s.cols (box s)) (filled s));
+      value-is = b.bound_of-value.ensures ∙ ap (bound s.before.before.args.s.cols) (fill_is f);
+      proper = rw (b.bound_of-value.ensures, fill_is f) (bound-proper s.before.before.args.s.cols (fill s.before.before.args.s.cols (box s)) (filled s));
     }
 
-pub lowest-spec : {M : Type 1} → statement M
-lowest-spec =
+pub lowest_spec : {M : Type 1} → statement M
+lowest_spec =
     tie.close (tie.spec fixed-requires fill-up-requires bound-of-requires returns returns-2)

@@ -7,50 +7,50 @@ use borrow.Author.Rules.{rules}
 use Rattle.sheet.proofs.bounds_section.Statement.{statement}
 use Rattle.sheet.proofs.bounds_section.Tie as tie
 
-enum_told : tie.Need-enum-told
+enum_told : tie.Need-enum_told-1
 enum_told c = search rules
 
-enum-told-2 : tie.Need-enum-told-2
+enum-told-2 : tie.Need-enum_told-in-Accepted
 enum-told-2 c = search rules
 
-bounds-heading-requires : tie.Need-bounds-heading-requires
+bounds-heading-requires : tie.Need-bounds_heading-c-requires
 bounds-heading-requires c κs = search rules
 
-enum-known-c : tie.Need-enum-known-c
+enum-known-c : tie.Need-enum_known-c
 enum-known-c c = search rules
 
 refused-requires : tie.Need-refused-requires
 refused-requires c κs = search rules
 
-enum-known-c-2 : tie.Need-enum-known-c-2
+enum-known-c-2 : tie.Need-enum_known-c-in-Lines-1
 enum-known-c-2 c = search rules
 
-bound-lines-requires : tie.Need-bound-lines-requires
+bound-lines-requires : tie.Need-bound_lines-requires
 bound-lines-requires c κs =
     let k = c.before in
-    let p = count-parts _ _ _ _ _ _ _ (sym k.before.before.bounds-heading.ensures ∙ k.c2.given.1) in
+    let p = count-parts _ _ _ _ _ _ _ (sym k.before.before.bounds_heading-c.ensures ∙ k.c-in-Lines-1.given.1) in
     omega (arith, p.most)
 
-returns : tie.Need-returns
+returns : tie.Need-returns-in-Refused
 unfolding bounds_section section_of
-returns c = rw c.enum_told.given.1
+returns c = rw c.enum_told-1.given.1
 
-returns-2 : tie.Need-returns-2
+returns-2 : tie.Need-returns-in-Fault
 unfolding bounds_section section_of
 returns-2 c =
     let k = c.before.before in
     let h = k.before.before in
-    rw (h.before.before.enum-told2.given.1, sym h.bounds-heading.ensures ∙ k.c.given.1) c.refused.ensures
+    rw (h.before.before.enum_told-in-Accepted-1.given.1, sym h.bounds_heading-c.ensures ∙ k.c-1.given.1) c.refused.ensures
 
-returns-3 : tie.Need-returns-3
+returns-3 : tie.Need-returns-in-Lines
 unfolding bounds_section section_of
 returns-3 c =
     let k = c.before.before in
     let h = k.before.before in
-    rw (h.before.before.enum-told2.given.1, sym h.bounds-heading.ensures ∙ k.c2.given.1) c.bound-lines.ensures
+    rw (h.before.before.enum_told-in-Accepted-1.given.1, sym h.bounds_heading-c.ensures ∙ k.c-in-Lines-1.given.1) c.bound_lines.ensures
 
-pub bounds-section-spec : {M : Type 1} → statement M
-bounds-section-spec =
+pub bounds_section_spec : {M : Type 1} → statement M
+bounds_section_spec =
     tie.close
     (tie.spec
     enum_told

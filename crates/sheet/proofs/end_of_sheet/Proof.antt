@@ -4,27 +4,27 @@ use borrow.Author.Rules.{rules}
 use Rattle.sheet.proofs.end_of_sheet.Statement.{statement}
 use Rattle.sheet.proofs.end_of_sheet.Tie as tie
 
-enum_told : tie.Need-enum-told
+enum_told : tie.Need-enum_told-1
 enum_told c = search rules
 
-enum-told-2 : tie.Need-enum-told-2
+enum-told-2 : tie.Need-enum_told-in-Accepted
 enum-told-2 c = search rules
 
 refused-requires : tie.Need-refused-requires
 refused-requires c κs = search rules
 
-returns : tie.Need-returns
+returns : tie.Need-returns-in-Refused
 unfolding end_of_sheet
-returns c = rw c.enum_told.given.1
+returns c = rw c.enum_told-1.given.1
 
-returns-2 : tie.Need-returns-2
+returns-2 : tie.Need-returns-then-at-s
 unfolding end_of_sheet
-returns-2 c = rw (c.before.before.enum-told2.given.1, lt-ltb _ _ c.before.if1.true) c.refused.ensures
+returns-2 c = rw (c.before.before.enum_told-in-Accepted-1.given.1, lt-ltb _ _ c.before.if-at-s.true) c.refused.ensures
 
-returns-3 : tie.Need-returns-3
+returns-3 : tie.Need-returns-else-at-s
 unfolding end_of_sheet
-returns-3 c = rw (c.before.enum-told2.given.1, le-ltb _ _ c.if1.false)
+returns-3 c = rw (c.before.enum_told-in-Accepted-1.given.1, le-ltb _ _ c.if-at-s.false)
 
-pub end-of-sheet-spec : {M : Type 1} → statement M
-end-of-sheet-spec =
+pub end_of_sheet_spec : {M : Type 1} → statement M
+end_of_sheet_spec =
     tie.close (tie.spec enum_told enum-told-2 refused-requires returns returns-2 returns-3)

@@ -7,68 +7,64 @@ use borrow.Author.Rules.{rules}
 use Rattle.sheet.proofs.items_section.Statement.{statement}
 use Rattle.sheet.proofs.items_section.Tie as tie
 
-enum_told : tie.Need-enum-told
+enum_told : tie.Need-enum_told-1
 enum_told c = search rules
 
-enum-told-2 : tie.Need-enum-told-2
+enum-told-2 : tie.Need-enum_told-in-Accepted
 enum-told-2 c = search rules
 
-slice-aggregate-heading : tie.Need-slice-aggregate-heading
-slice-aggregate-heading c = search rules
-
-heading-requires : tie.Need-heading-requires
+heading-requires : tie.Need-heading-c-requires
 heading-requires c κs = search rules
 
-enum-known-c : tie.Need-enum-known-c
+enum-known-c : tie.Need-enum_known-c
 enum-known-c c = search rules
 
 refused-requires : tie.Need-refused-requires
 refused-requires c κs = search rules
 
-enum-known-c-2 : tie.Need-enum-known-c-2
+enum-known-c-2 : tie.Need-enum_known-c-in-Lines-1
 enum-known-c-2 c = search rules
 
-with-count-requires : tie.Need-with-count-requires
+with-count-requires : tie.Need-with_count-requires
 with-count-requires c κs = search rules
 
-goes-on-requires : tie.Need-goes-on-requires
+goes-on-requires : tie.Need-goes_on-requires
 goes-on-requires c κs = search rules
 
-item-lines-requires : tie.Need-item-lines-requires
+item-lines-requires : tie.Need-item_lines-requires
 item-lines-requires c κs =
     let w = c.before in
     let k = w.before.before.before in
-    let p = count-parts items 1 16 _ _ _ _ (sym k.before.before.heading.ensures ∙ k.c2.given.1) in
+    let p = count-parts items 1 16 _ _ _ _ (sym k.before.before.heading-c.ensures ∙ k.c-in-Lines-1.given.1) in
     rw c.goes_on.ensures (omega (arith, p.most))
 
-returns : tie.Need-returns
+returns : tie.Need-returns-in-Refused
 unfolding items_section section_of
-returns c = rw c.enum_told.given.1
+returns c = rw c.enum_told-1.given.1
 
-returns-2 : tie.Need-returns-2
+returns-2 : tie.Need-returns-in-Fault
 unfolding items_section section_of
 returns-2 c =
     let k = c.before.before in
     let h = k.before.before in
-    rw (h.before.before.enum-told2.given.1, sym h.heading.ensures ∙ k.c.given.1) c.refused.ensures
+    rw (h.before.before.before.enum_told-in-Accepted-1.given.1, sym h.heading-c.ensures ∙ k.c-1.given.1) c.refused.ensures
 
-returns-3 : tie.Need-returns-3
+returns-3 : tie.Need-returns-in-Lines
 unfolding items_section section_of
 returns-3 c =
     let g = c.before in
     let w = g.before in
     let k = w.before.before.before in
     let h = k.before.before in
-    rw (h.before.before.enum-told2.given.1, sym h.heading.ensures ∙ k.c2.given.1, ← w.with-count.ensures, ← g.goes_on.ensures)
-    c.item-lines.ensures
+    rw (h.before.before.before.enum_told-in-Accepted-1.given.1, sym h.heading-c.ensures ∙ k.c-in-Lines-1.given.1, ← w.with_count.ensures, ← g.goes_on.ensures)
+    c.item_lines.ensures
 
-pub items-section-spec : {M : Type 1} → statement M
-items-section-spec =
+pub items_section_spec : {M : Type 1} → statement M
+items_section_spec =
     tie.close
     (tie.spec
     enum_told
     enum-told-2
-    slice-aggregate-heading
     heading-requires
     enum-known-c
     refused-requires

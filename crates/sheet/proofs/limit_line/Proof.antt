@@ -5,59 +5,59 @@ use borrow.Author.Rules.{rules}
 use Rattle.sheet.proofs.limit_line.Statement.{statement}
 use Rattle.sheet.proofs.limit_line.Tie as tie
 
-closed-number-requires : tie.Need-closed-number-requires
+closed-number-requires : tie.Need-closed_number-f-requires
 closed-number-requires c κs = search rules
 
-enum-known-f : tie.Need-enum-known-f
+enum-known-f : tie.Need-enum_known-f
 enum-known-f c = search rules
 
 refused-requires : tie.Need-refused-requires
 refused-requires c κs = search rules
 
-enum-known-f-2 : tie.Need-enum-known-f-2
+enum-known-f-2 : tie.Need-enum_known-f-in-Number-1
 enum-known-f-2 c = search rules
 
-enum_told : tie.Need-enum-told
+enum_told : tie.Need-enum_told-1
 enum_told c = search rules
 
-refused-requires-2 : tie.Need-refused-requires-2
+refused-requires-2 : tie.Need-refused-requires-in-Out
 refused-requires-2 c κs = search rules
 
-enum-known-g : tie.Need-enum-known-g
+enum-known-g : tie.Need-enum_known-g
 enum-known-g c = search rules
 
-empty-model-requires : tie.Need-empty-model-requires
+empty-model-requires : tie.Need-empty_model-empty-requires
 empty-model-requires c κs = search rules
 
-with-capacity-requires : tie.Need-with-capacity-requires
+with-capacity-requires : tie.Need-with_capacity-requires
 with-capacity-requires c κs = search rules
 
-goes-on-requires : tie.Need-goes-on-requires
+goes-on-requires : tie.Need-goes_on-requires
 goes-on-requires c κs = search rules
 
-returns : tie.Need-returns
+returns : tie.Need-returns-in-Fault
 unfolding step_of
-returns c = let f = c.before.before in rw (sym f.before.before.closed-number.ensures ∙ f.f.given.1) c.refused.ensures
+returns c = let f = c.before.before in rw (sym f.before.before.closed_number-f.ensures ∙ f.f-1.given.1) c.refused.ensures
 
-returns-2 : tie.Need-returns-2
+returns-2 : tie.Need-returns-in-Out
 unfolding step_of
 returns-2 c =
     let k = c.before.before.before in
-    rw (sym k.before.before.before.closed-number.ensures ∙ k.before.f2.given.1, c.before.enum_told.given.1) c.refused2.ensures
+    rw (sym k.before.before.before.closed_number-f.ensures ∙ k.before.f-in-Number-1.given.1, c.before.enum_told-1.given.1) c.refused-in-Out.ensures
 
-returns-3 : tie.Need-returns-3
+returns-3 : tie.Need-returns-in-In
 unfolding step_of
 returns-3 c =
     let w = c.before in
     let e = w.before in
     let t = e.before in
-    let g = t.before.g in
+    let g = t.before.g-1 in
     let k = t.before.before.before in
-    rw (sym k.before.before.before.closed-number.ensures ∙ k.before.f2.given.1, g.given.1)
-    (c.goes_on.ensures ∙ rw (w.with-capacity.ensures, e.empty-model.ensures, back g.given.0.0 t.known-told3.given.0.1))
+    rw (sym k.before.before.before.closed_number-f.ensures ∙ k.before.f-in-Number-1.given.1, g.given.1)
+    (c.goes_on.ensures ∙ rw (w.with_capacity.ensures, e.empty_model-empty.ensures, back g.given.0.0 t.known_told-in-Number-2.given.0.1))
 
-pub limit-line-spec : {M : Type 1} → statement M
-limit-line-spec =
+pub limit_line_spec : {M : Type 1} → statement M
+limit_line_spec =
     tie.close
     (tie.spec
     closed-number-requires

@@ -9,46 +9,42 @@ use Rattle.sheet.specs.Reading.{limit, limit_section}
 use Rattle.sheet.proofs.limit_section.Statement.{statement}
 use Rattle.sheet.proofs.limit_section.Tie as tie
 
-slice-aggregate-heading : tie.Need-slice-aggregate-heading
-slice-aggregate-heading c = search rules
-
-heading-requires : tie.Need-heading-requires
+heading-requires : tie.Need-heading-c-requires
 heading-requires c κs = search rules
 
-enum-known-c : tie.Need-enum-known-c
+enum-known-c : tie.Need-enum_known-c
 enum-known-c c = search rules
 
 refused-requires : tie.Need-refused-requires
 refused-requires c κs = search rules
 
-enum-known-c-2 : tie.Need-enum-known-c-2
+enum-known-c-2 : tie.Need-enum_known-c-in-Lines-1
 enum-known-c-2 c = search rules
 
-limit-line-requires : tie.Need-limit-line-requires
+limit-line-requires : tie.Need-limit_line-requires
 limit-line-requires c κs = search rules
 
 -- the heading is read as one with the count 1
-heading-is : (c : tie.After-heading) → c.heading.result ≡ count_at limit (from_to 1 1) c.before.before.before.args.s.now 0
-heading-is c = c.heading.ensures
+heading-is : (c : tie.After-heading-c) → c.heading-c.result ≡ count_at limit (from_to 1 1) c.before.before.before.before.args.s.now 0
+heading-is c = c.heading-c.ensures
 
-returns : tie.Need-returns
+returns : tie.Need-returns-in-Fault
 unfolding limit_section section_of
-returns c = let k = c.before.before in rw (sym (heading-is k.before.before) ∙ k.c.given.1) c.refused.ensures
+returns c = let k = c.before.before in rw (sym (heading-is k.before.before) ∙ k.c-1.given.1) c.refused.ensures
 
-returns-2 : tie.Need-returns-2
+returns-2 : tie.Need-returns-in-Lines
 unfolding limit_section section_of lines_of
 returns-2 c =
     let k = c.before.before in
-    let e = sym (heading-is k.before.before) ∙ k.c2.given.1 in
+    let e = sym (heading-is k.before.before) ∙ k.c-in-Lines-1.given.1 in
     let p = count-parts limit 1 1 _ 0 _ _ e in
-    let one : k.c2.given.0.0 ≡ 1 = omega (arith, p.least, p.most) in
-    rw (e, one) c.limit-line.ensures
+    let one : k.c-in-Lines-1.given.0.0 ≡ 1 = omega (arith, p.least, p.most) in
+    rw (e, one) c.limit_line.ensures
 
-pub limit-section-spec : {M : Type 1} → statement M
-limit-section-spec =
+pub limit_section_spec : {M : Type 1} → statement M
+limit_section_spec =
     tie.close
     (tie.spec
-    slice-aggregate-heading
     heading-requires
     enum-known-c
     refused-requires

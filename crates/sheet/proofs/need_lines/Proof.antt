@@ -8,36 +8,36 @@ use Rattle.sheet.proofs.Steps.{Few, step-item, need-few}
 use Rattle.sheet.proofs.need_lines.Statement.{statement}
 use Rattle.sheet.proofs.need_lines.Tie as tie
 
-abbrev invariant-loop : tie.invariant-loop
+abbrev invariant-loop : tie.invariant-loop-k
 invariant-loop s n r₀ k₀ r k = (k ≤ n) × (((r.item ≤ r₀.item + k) × Few r) × (r ≡ lines_of need_form k s r₀))
 
-abbrev decreases-loop : tie.decreases-loop
+abbrev decreases-loop : tie.decreases-loop-k
 decreases-loop s n r₀ k₀ r k = n - k
 
-loop-holds : tie.Need-loop-init invariant-loop decreases-loop
+loop-holds : tie.Need-loop-k-init invariant-loop decreases-loop
 unfolding lines_of
 loop-holds c = (omega arith, ((omega arith, c.before.requires.1), refl))
 
-need-step-requires : tie.Need-need-step-requires invariant-loop decreases-loop
-need-step-requires c κs = (omega arith, c.before.loop.invariant.1.0.1)
+need-step-requires : tie.Need-need_step-r-requires invariant-loop decreases-loop
+need-step-requires c κs = (omega arith, c.before.loop-k.invariant.1.0.1)
 
-add-k : tie.Need-overflow-add-k invariant-loop decreases-loop
+add-k : tie.Need-overflow_add-k invariant-loop decreases-loop
 add-k c = omega arith
 
-loop-less : tie.Need-loop-smaller invariant-loop decreases-loop
+loop-less : tie.Need-loop-k-smaller invariant-loop decreases-loop
 loop-less c = omega arith
 
-loop-again : tie.Need-loop-preserved invariant-loop decreases-loop
+loop-again : tie.Need-loop-k-preserved invariant-loop decreases-loop
 unfolding lines_of
 loop-again c =
     let l = c.before.before in
     let s = l.before.before.args.s.now in
-    let e = c.need-step.ensures in
-    let r = l.loop.r in (
+    let e = c.need_step-r.ensures in
+    let r = l.loop-k.r in (
       omega arith,
       (
-        rw e (omega (arith, step-item need_form s r (λ i. refl)), need-few s r l.loop.invariant.1.0.1),
-        rw add-one (e ∙ ap (step_of need_form s) l.loop.invariant.1.1),
+        rw e (omega (arith, step-item need_form s r (λ i. refl)), need-few s r l.loop-k.invariant.1.0.1),
+        rw add-one (e ∙ ap (step_of need_form s) l.loop-k.invariant.1.1),
       ),
     )
 
@@ -45,10 +45,10 @@ returns : tie.Need-returns invariant-loop decreases-loop
 returns c =
     let l = c.before in
     let a = l.before.before.args in
-    let q : l.loop.k ≡ a.n = omega arith in
-    rw q at l.loop.invariant.1.1
+    let q : l.loop-k.k ≡ a.n = omega arith in
+    rw q at l.loop-k.invariant.1.1
 
-pub need-lines-spec : {M : Type 1} → statement M
-need-lines-spec =
+pub need_lines_spec : {M : Type 1} → statement M
+need_lines_spec =
     tie.close
     (tie.spec invariant-loop decreases-loop loop-holds need-step-requires add-k loop-less loop-again returns)

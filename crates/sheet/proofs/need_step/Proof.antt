@@ -12,49 +12,49 @@ use Rattle.sheet.proofs.need_step.Statement.{statement}
 use Rattle.sheet.proofs.need_step.Tie as tie
 
 -- where nothing was refused as yet, and where all began
-abbrev going : tie.After-need-at → tie.After-enum-told2
+abbrev going : tie.After-need_at-r → tie.In-Accepted
 going c =
     let m = c.before.before in
     m.before.before
 
-abbrev start : tie.After-need-at → tie.Start
+abbrev start : tie.After-need_at-r → tie.Start
 start c = (going c).before.before.before
 
 -- the line that was read
-line : (c : tie.After-need-at) → let a = (start c).args in
-    c.need-at.result ≡ need_read a.p.model.count (line_before a.p.model.needs a.p.item) a.s.now a.p.at
-line c = rw c.before.line_Before.ensures at c.need-at.ensures
+line : (c : tie.After-need_at-r) → let a = (start c).args in
+    c.need_at-r.result ≡ need_read a.p.model.count (line_before a.p.model.needs a.p.item) a.s.now a.p.at
+line c = rw c.before.line_before-before.ensures at c.need_at-r.ensures
 
-step : (c : tie.After-need-at) → let a = (start c).args in
+step : (c : tie.After-need_at-r) → let a = (start c).args in
     step_of need_form a.s.now a.p ≡ taken need_form a.s.now a.p (need_form.read a.s.now a.p)
-step c = step-on need_form (start c).args.s.now (start c).args.p (going c).enum-told2.given.1
+step c = step-on need_form (start c).args.s.now (start c).args.p (going c).enum_told-in-Accepted-1.given.1
 
-enum_told : tie.Need-enum-told
+enum_told : tie.Need-enum_told-1
 enum_told c = search rules
 
-enum-told-2 : tie.Need-enum-told-2
+enum-told-2 : tie.Need-enum_told-in-Accepted
 enum-told-2 c = search rules
 
-line-before-requires : tie.Need-line-before-requires
+line-before-requires : tie.Need-line_before-before-requires
 line-before-requires c κs = search rules
 
-need-at-requires : tie.Need-need-at-requires
+need-at-requires : tie.Need-need_at-r-requires
 need-at-requires c κs = search rules
 
-enum-known-r : tie.Need-enum-known-r
+enum-known-r : tie.Need-enum_known-r
 enum-known-r c = search rules
 
 refused-requires : tie.Need-refused-requires
 refused-requires c κs = search rules
 
-enum-known-r-2 : tie.Need-enum-known-r-2
+enum-known-r-2 : tie.Need-enum_known-r-in-Read-1
 enum-known-r-2 c = search rules
 
-need-judged-requires : tie.Need-need-judged-requires
+need-judged-requires : tie.Need-need_judged-requires
 need-judged-requires c κs =
     let k = c.before in
     let l = k.before.before in
-    let n = line-numbers _ _ _ (need-parts _ _ _ _ _ _ (sym (line l) ∙ k.r2.given.1)).fair in
+    let n = line-numbers _ _ _ (need-parts _ _ _ _ _ _ (sym (line l) ∙ k.r-in-Read-1.given.1)).fair in
     let few = (start l).requires.1 in (
       (start l).requires.0,
       record {
@@ -66,24 +66,24 @@ need-judged-requires c κs =
       },
     )
 
-returns : tie.Need-returns
+returns : tie.Need-returns-in-Refused
 unfolding step_of
-returns c = rw c.enum_told.given.1
+returns c = rw c.enum_told-1.given.1
 
-returns-2 : tie.Need-returns-2
+returns-2 : tie.Need-returns-in-Fault
 returns-2 c =
     let k = c.before.before in
     let l = k.before.before in
-    rw (step l, sym (line l) ∙ k.r.given.1) c.refused.ensures
+    rw (step l, sym (line l) ∙ k.r-1.given.1) c.refused.ensures
 
-returns-3 : tie.Need-returns-3
+returns-3 : tie.Need-returns-in-Read
 returns-3 c =
     let k = c.before.before in
     let l = k.before.before in
-    rw (step l, sym (line l) ∙ k.r2.given.1) c.need-judged.ensures
+    rw (step l, sym (line l) ∙ k.r-in-Read-1.given.1) c.need_judged.ensures
 
-pub need-step-spec : {M : Type 1} → statement M
-need-step-spec =
+pub need_step_spec : {M : Type 1} → statement M
+need_step_spec =
     tie.close
     (tie.spec
     enum_told

@@ -4,19 +4,19 @@ use borrow.Author.Rules.{rules}
 use Rattle.sheet.proofs.read_by.Statement.{statement}
 use Rattle.sheet.proofs.read_by.Tie as tie
 
-empty-model-requires : tie.Need-empty-model-requires
+empty-model-requires : tie.Need-empty_model-model-requires
 empty-model-requires c κs = search rules
 
-returns : tie.Need-returns
+returns : tie.Need-returns-then-sheet-gt-LONGEST
 unfolding read_sheet_by
-returns c = rw (lt-ltb _ _ c.before.if1.true, c.empty-model.ensures)
+returns c = rw (lt-ltb _ _ c.before.if-sheet-gt-LONGEST.true, c.empty_model-model.ensures)
 
-whole-requires : tie.Need-whole-requires
+whole-requires : tie.Need-whole-p-requires
 whole-requires c κs = search rules
 
-returns-2 : tie.Need-returns-2
+returns-2 : tie.Need-returns
 unfolding read_sheet_by
-returns-2 c = rw (le-ltb _ _ c.before.before.if1.false, c.before.whole.ensures)
+returns-2 c = rw (le-ltb _ _ c.before.before.if-sheet-gt-LONGEST.false, c.before.whole-p.ensures)
 
-pub read-by-spec : {M : Type 1} → statement M
-read-by-spec = tie.close (tie.spec empty-model-requires returns whole-requires returns-2)
+pub read_by_spec : {M : Type 1} → statement M
+read_by_spec = tie.close (tie.spec empty-model-requires returns whole-requires returns-2)

@@ -2,14 +2,14 @@ use borrow.Author.Rules.{rules}
 use Rattle.sheet.proofs.refused.Statement.{statement}
 use Rattle.sheet.proofs.refused.Tie as tie
 
-line-at-requires : tie.Need-line-at-requires
+line-at-requires : tie.Need-line_at-line-requires
 line-at-requires c κs = search rules
 
 stopped-requires : tie.Need-stopped-requires
 stopped-requires c κs = search rules
 
 returns : tie.Need-returns
-returns c = rw (← c.before.line_at.ensures) c.stopped.ensures
+returns c = rw (← c.before.line_at-line.ensures) c.stopped.ensures
 
-pub refused-spec : {M : Type 1} → statement M
-refused-spec = tie.close (tie.spec line-at-requires stopped-requires returns)
+pub refused_spec : {M : Type 1} → statement M
+refused_spec = tie.close (tie.spec line-at-requires stopped-requires returns)

@@ -13,16 +13,16 @@ use Rattle.solver.proofs.Values.{joined-within}
 use Rattle.solver.proofs.joined.Statement.{statement}
 use Rattle.solver.proofs.joined.Tie as tie
 
-cast-result : tie.Need-overflow-cast-result
+cast-result : tie.Need-overflow_cast-result
 cast-result c = search rules
 
 product_is : (s : tie.Start) → to_z w64 (of_z w64 s.args.v.whole) *ℤ to_z w64 s.args.v.parts ≡ s.args.v.whole *ℤ pos s.args.v.parts
 product_is s = ap₂ (λ (x y : ℤ). x *ℤ y) (within-back tt s.requires.whole_in) (to_z_pos w64 (omega (arith, s.requires.parts_in)))
 
-mul-result : tie.Need-overflow-mul-result
+mul-result : tie.Need-overflow_mul-result
 mul-result c = let s = c.before.before.before in rw (product_is s) (within-sfits (lit< tt) s.requires.product-in)
 
-cast-result-2 : tie.Need-overflow-cast-result-2
+cast-result-2 : tie.Need-overflow_cast-result-2
 cast-result-2 c = search rules
 
 held : (s : tie.Start) → to_z w64 (of_z w64 (to_z w64 (of_z w64 s.args.v.whole) *ℤ to_z w64 s.args.v.parts)) +ℤ to_z w64 s.args.v.part ≡ over
@@ -30,7 +30,7 @@ held : (s : tie.Start) → to_z w64 (of_z w64 (to_z w64 (of_z w64 s.args.v.whole
 held s = ap₂ (λ (x y : ℤ). x +ℤ y) (ap (λ (x : ℤ). to_z w64 (of_z w64 x)) (product_is s) ∙ within-back tt s.requires.product-in)
     (to_z_pos w64 (omega (arith, s.requires.part_in)))
 
-add-result : tie.Need-overflow-add-result
+add-result : tie.Need-overflow_add-result
 add-result c =
     let m = c.before.before in
     let s = m.before.before in
@@ -42,5 +42,5 @@ returns c =
     let s = m.before.before in
     rw (held s) (within-back tt (joined-within s.args.v s.requires))
 
-pub joined-spec : {M : Type 1} → statement M
-joined-spec = tie.close (tie.spec cast-result mul-result cast-result-2 add-result returns)
+pub joined_spec : {M : Type 1} → statement M
+joined_spec = tie.close (tie.spec cast-result mul-result cast-result-2 add-result returns)

@@ -28,48 +28,48 @@ sized s = record {
 filled : (s : tie.Start) → SizedFill s.args.c (fill_at s.args.s s.args.c s.args.x)
 filled s = fill-sized s.args.c (box_at s.args.s s.args.x) (sized s)
 
-fixed-requires : tie.Need-fixed-requires
+fixed-requires : tie.Need-fixed-e-requires
 fixed-requires c κs = search rules
 
-fill-up-requires : tie.Need-fill-up-requires
-fill-up-requires c κs = rw c.fixed.ensures (sized c.before)
+fill-up-requires : tie.Need-fill_up-f-requires
+fill-up-requires c κs = rw c.fixed-e.ensures (sized c.before)
 
 -- the filling as the code has it
-fill_is : (c : tie.After-fill-up) → c.fill-up.result ≡ fill_at c.before.before.args.s c.before.before.args.c c.before.before.args.x
-fill_is c = c.fill-up.ensures ∙ ap (fill c.before.before.args.c) c.before.fixed.ensures
+fill_is : (c : tie.After-fill_up-f) → c.fill_up-f.result ≡ fill_at c.before.before.args.s c.before.before.args.c c.before.before.args.x
+fill_is c = c.fill_up-f.ensures ∙ ap (fill c.before.before.args.c) c.before.fixed-e.ensures
 
-bound-of-requires : tie.Need-bound-of-requires
+bound-of-requires : tie.Need-bound_of-v-requires
 bound-of-requires c κs = rw (fill_is c) (filled c.before.before)
 
-value-is : (c : tie.After-bound-of) → c.bound_of.result ≡ value_at
+value-is : (c : tie.After-bound_of-v) → c.bound_of-v.result ≡ value_at
     c.before.before.before.args.s c.before.before.before.args.c c.before.before.before.args.x
-value-is c = c.bound_of.ensures ∙ ap (bound c.before.before.before.args.c) (fill_is c.before)
+value-is c = c.bound_of-v.ensures ∙ ap (bound c.before.before.before.args.c) (fill_is c.before)
 
-amounts-of-requires : tie.Need-amounts-of-requires
+amounts-of-requires : tie.Need-amounts_of-y-requires
 amounts-of-requires c κs =
     let s = c.before.before.before in
-    rw (c.before.before.fixed.ensures, fill_is c.before) (s.requires.0, (sized s, filled s))
+    rw (c.before.before.fixed-e.ensures, fill_is c.before) (s.requires.0, (sized s, filled s))
 
-joined-requires : tie.Need-joined-requires
+joined-requires : tie.Need-joined-n-requires
 joined-requires c κs =
     let v = c.before in
     let s = v.before.before.before in
     rw (value-is v) (bound-joins s.args.c (fill_at s.args.s s.args.c s.args.x) (filled s))
 
-numerator-is : (c : tie.After-joined) →
+numerator-is : (c : tie.After-joined-n) →
     let v = c.before.before in
     let start = v.before.before.before in
-    c.joined.result ≡ over (value_at start.args.s start.args.c
+    c.joined-n.result ≡ over (value_at start.args.s start.args.c
     start.args.x)
-numerator-is c = c.joined.ensures ∙ ap over (value-is c.before.before)
+numerator-is c = c.joined-n.ensures ∙ ap over (value-is c.before.before)
 
-reduce-requires : tie.Need-reduce-requires
+reduce-requires : tie.Need-reduce-value-requires
 reduce-requires c κs =
     let m = c.before.before in
     let s = m.before.before.before in
     let v = value_at s.args.s s.args.c s.args.x in
     let j = bound-joins s.args.c (fill_at s.args.s s.args.c s.args.x) (filled s) in
-    rw (back c.joined.result c.joined.type-inv, numerator-is c, value-is c.before.before)
+    rw (back c.joined-n.result c.joined-n.type_inv, numerator-is c, value-is c.before.before)
     (within_more (omega arith) (joined-within v j), omega (arith, (bound-proper s.args.c (fill_at s.args.s s.args.c s.args.x) (filled s)).low))
 
 returns : tie.Need-returns
@@ -77,12 +77,12 @@ returns c =
     let r = c.before in
     let j = r.before in
     let m = j.before in
-    let e = rw (m.before.before.before.fixed.ensures, fill_is m.before.before) at m.amounts-of.ensures in
-    let v = rw (back j.joined.result j.joined.type-inv, numerator-is j, value-is m.before) at r.reduce.ensures in
+    let e = rw (m.before.before.before.fixed-e.ensures, fill_is m.before.before) at m.amounts_of-y.ensures in
+    let v = rw (back j.joined-n.result j.joined-n.type_inv, numerator-is j, value-is m.before) at r.reduce-value.ensures in
     record { kind-is = refl; long = long m.before.before.before.before; point-is = e; steps-are = refl; value-is = v }
 
-pub optimal-spec : {M : Type 1} → statement M
-optimal-spec =
+pub optimal_spec : {M : Type 1} → statement M
+optimal_spec =
     tie.close
     (tie.spec
     fixed-requires

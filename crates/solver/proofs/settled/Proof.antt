@@ -14,29 +14,26 @@ use Rattle.solver.proofs.settled.Tie as tie
 long : (s : tie.Start) → Long s.args.s.ends
 long s = record { lo-long = search rules; hi-long = search rules }
 
-value-at-requires : tie.Need-value-at-requires
+value-at-requires : tie.Need-value_at-v-requires
 value-at-requires c κs = search rules
 
 -- what the function was given
-abbrev start : tie.After-value-at → tie.Start
+abbrev start : tie.After-value_at-v → tie.Start
 start c = c.before.before.before.before
 
 -- the incumbent is one that they take
-known : (c : tie.After-value-at) → (start c).args.found ≡ true → let s = start c in
-    Tried s.args.s.cols s.args.s.ends s.args.s.level s.args.s.levels (at s.args.x) c.value-at.result
+known : (c : tie.After-value_at-v) → (start c).args.found ≡ true → let s = start c in
+    Tried s.args.s.cols s.args.s.ends s.args.s.level s.args.s.levels (at s.args.x) c.value_at-v.result
 known c y =
     let s = start c in
     let v = s.args.s in
-    let e : c.value-at.result ≡ value_at v v.cols s.args.x = c.value-at.ensures
+    let e : c.value_at-v.result ≡ value_at v v.cols s.args.x = c.value_at-v.ensures
     ∙ ap (λ (b : Bool). cond b (value_at v v.cols s.args.x) (record { whole = pos 0; part = 0; parts = 1 })) y in
-    subst (λ z. Tried v.cols v.ends v.level v.levels (at s.args.x) z) (sym e) (tried v s.pre.0 (long s) s.args.x (s.pre.1.1 y))
-
-slice-aggregate-settle : tie.Need-slice-aggregate-settle
-slice-aggregate-settle c = search rules
+    subst (λ z. Tried v.cols v.ends v.level v.levels (at s.args.x) z) (sym e) (tried v s.requires.0 (long s) s.args.x (s.requires.1.1 y))
 
 settle-requires : tie.Need-settle-requires
 settle-requires c κs =
-    let s = start c.before in ((boxes s.args.s s.pre.0 s.pre.1.0, known c.before), search rules)
+    let s = start c.before in ((boxes s.args.s s.requires.0 s.requires.1.0, known c.before), search rules)
 
 returns : tie.Need-returns
 returns c =
@@ -46,9 +43,9 @@ returns c =
     let w = s.args.s in (
       r.settle.ensures.0,
       subst (λ z. SettleWrites w.cols w.ends w.level w.levels s.args.found z r.settle.result.first r.settle.result.written)
-          v.value-at.ensures r.settle.ensures.1,
+          v.value_at-v.ensures r.settle.ensures.1,
     )
 
-pub settled-spec : {M : Type 1} → statement M
-settled-spec =
-    tie.close (tie.spec value-at-requires slice-aggregate-settle settle-requires returns)
+pub settled_spec : {M : Type 1} → statement M
+settled_spec =
+    tie.close (tie.spec value-at-requires settle-requires returns)

@@ -10,29 +10,29 @@ use Rattle.model.proofs.Crossings.{uncrossed, crossed-infeasible}
 use Rattle.solver.proofs.solve_within.Statement.{statement}
 use Rattle.solver.proofs.solve_within.Tie as tie
 
-some-crosses-requires : tie.Need-some-crosses-requires
+some-crosses-requires : tie.Need-some_crosses-requires
 some-crosses-requires c κs = c.requires.few-items
 
-no-point-requires : tie.Need-no-point-requires
+no-point-requires : tie.Need-no_point-none-requires
 no-point-requires c κs = search rules
 
-with-work-requires : tie.Need-with-work-requires
+with-work-requires : tie.Need-with_work-requires
 with-work-requires c κs = search rules
 
 -- where no bounds cross the problem is in range
-ranged : (c : tie.Else1) → InRange c.before.before.args.p
-ranged c = let s = c.before.before in plain-in-range s.args.p s.requires (uncrossed s.args.p (sym c.before.some-crosses.ensures ∙ c.if1.false))
+ranged : (c : tie.Else-some_crosses) → InRange c.before.before.args.p
+ranged c = let s = c.before.before in plain-in-range s.args.p s.requires (uncrossed s.args.p (sym c.before.some_crosses.ensures ∙ c.if-some_crosses.false))
 
 decide-requires : tie.Need-decide-requires
 decide-requires c κs = ranged c
 
-returns : tie.Need-returns
+returns : tie.Need-returns-then-some_crosses
 returns c =
     let a = c.before in
     let x = a.before.before in
     let p = x.before.args.p in
-    let crosses = sym x.some-crosses.ensures ∙ a.before.if1.true in
-    rw (c.with-work.ensures, a.no-point.ensures) (
+    let crosses = sym x.some_crosses.ensures ∙ a.before.if-some_crosses.true in
+    rw (c.with_work.ensures, a.no_point-none.ensures) (
       record {
         answers = (crossed-infeasible p crosses, refl);
         first = λ low e. absurd (not-infeasible kind.Infeasible refl e);
@@ -42,11 +42,11 @@ returns c =
       (refl, refl),
     )
 
-returns-2 : tie.Need-returns-2
+returns-2 : tie.Need-returns
 returns-2 c = c.decide.ensures
 
-pub solve-within-spec : {M : Type 1} → statement M
-solve-within-spec =
+pub solve_within_spec : {M : Type 1} → statement M
+solve_within_spec =
     tie.close
     (tie.spec
     some-crosses-requires

@@ -21,31 +21,31 @@ sized s y = record {
   ends = fixed-sized s.args.s s.requires.0 (long s) (at s.args.x) s.args.s.levels (omega arith) (s.requires.1 y).inside;
 }
 
-fixed-requires : tie.Need-fixed-requires
+fixed-requires : tie.Need-fixed-e-requires
 fixed-requires c κs = search rules
 
-fill-up-requires : tie.Need-fill-up-requires
-fill-up-requires c κs = let t = c.before in rw c.fixed.ensures (sized t.before t.if1.true)
+fill-up-requires : tie.Need-fill_up-f-requires
+fill-up-requires c κs = let t = c.before in rw c.before.fixed-e.ensures (sized t.before t.before.if-found.true)
 
 -- the filling as the code has it
-fill_is : (c : tie.After-fill-up) → let s = c.before.before.before in c.fill-up.result ≡ fill_at s.args.s s.args.s.cols s.args.x
-fill_is c = let s = c.before.before.before in c.fill-up.ensures ∙ ap (fill s.args.s.cols) c.before.fixed.ensures
+fill_is : (c : tie.After-fill_up-f) → let s = c.before.before.before in c.fill_up-f.result ≡ fill_at s.before.args.s s.before.args.s.cols s.before.args.x
+fill_is c = let s = c.before.before.before in c.fill_up-f.ensures ∙ ap (fill s.before.args.s.cols) c.before.before.fixed-e.ensures
 
-bound-of-requires : tie.Need-bound-of-requires
+bound-of-requires : tie.Need-bound_of-requires
 bound-of-requires c κs =
     let t = c.before.before in
     let s = t.before in
-    rw (fill_is c) (fill-sized s.args.s.cols (box_at s.args.s s.args.x) (sized s t.if1.true))
+    rw (fill_is c) (fill-sized s.before.before.args.s.cols (box_at s.before.before.args.s s.before.before.args.x) (sized s t.before.before.if-found.true))
 
-returns : tie.Need-returns
+returns : tie.Need-returns-then-found
 returns c =
     let f = c.before in
     let t = f.before.before in
     let s = t.before in
-    rw t.if1.true (c.bound_of.ensures ∙ ap (bound s.args.s.cols) (fill_is f))
+    rw t.before.before.if-found.true (c.bound_of.ensures ∙ ap (bound s.before.before.args.s.cols) (fill_is f))
 
-returns-2 : tie.Need-returns-2
-returns-2 c = rw c.if1.false
+returns-2 : tie.Need-returns
+returns-2 c = rw c.if-found.false
 
-pub value-at-spec : {M : Type 1} → statement M
-value-at-spec = tie.close (tie.spec fixed-requires fill-up-requires bound-of-requires returns returns-2)
+pub value_at_spec : {M : Type 1} → statement M
+value_at_spec = tie.close (tie.spec fixed-requires fill-up-requires bound-of-requires returns returns-2)

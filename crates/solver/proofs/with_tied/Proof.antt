@@ -8,11 +8,11 @@ use Rattle.solver.proofs.with_tied.Tie as tie
 long : (s : tie.Start) → Long s.args.s.ends
 long s = record { lo-long = search rules; hi-long = search rules }
 
-tied-requires : tie.Need-tied-requires
+tied-requires : tie.Need-tied-cols-requires
 tied-requires c κs = search rules
 
 returns : tie.Need-returns
-returns c = let t = c.before.before.before.before.before in record { long = long t.before; same = refl; tied = t.tied.ensures }
+returns c = let t = c.before.before.before.before.before in record { long = long t.before; same = refl; tied = t.tied-cols.ensures }
 
-pub with-tied-spec : {M : Type 1} → statement M
-with-tied-spec = tie.close (tie.spec tied-requires returns)
+pub with_tied_spec : {M : Type 1} → statement M
+with_tied_spec = tie.close (tie.spec tied-requires returns)

@@ -6,38 +6,38 @@ use borrow.Author.Rules.{rules}
 use Rattle.standing.proofs.add_item.Statement.{statement}
 use Rattle.standing.proofs.add_item.Tie as tie
 
-check-room-requires : tie.Need-check-room-requires
+check-room-requires : tie.Need-check_room-verdict-requires
 check-room-requires c κs = search rules
 
-enum_told : tie.Need-enum-told
+enum_told : tie.Need-enum_told-1
 enum_told c = search rules
 
 append-requires : tie.Need-append-requires
-append-requires c κs = let k = c.before.before in room k.before.before.args.p.model (sym k.check-room.ensures ∙ c.enum_told.given.1)
+append-requires c κs = let k = c.before.before in room k.before.before.args.p.model (sym k.check_room-verdict.ensures ∙ c.enum_told-1.given.1)
 
 tried-requires : tie.Need-tried-requires
 tried-requires c κs = search rules
 
-enum-told-2 : tie.Need-enum-told-2
+enum-told-2 : tie.Need-enum_told-in-Refused
 enum-told-2 c = search rules
 
-returns : tie.Need-returns
+returns : tie.Need-returns-in-Accepted
 returns c =
     let n = c.before in
     let e = n.before in
     let k = e.before.before in
     let a = k.before.before.args in
-    tried-changes (Adding a.x) a.p k.check-room.result k.check-room.ensures e.enum_told.given.1 c.tried.result
+    tried-changes (Adding a.x) a.p k.check_room-verdict.result k.check_room-verdict.ensures e.enum_told-1.given.1 c.tried.result
     (rw n.append.ensures at c.tried.ensures)
 
-returns-2 : tie.Need-returns-2
+returns-2 : tie.Need-returns-in-Refused
 returns-2 c =
     let k = c.before.before in
     let a = k.before.before.args in
-    refused-changes (Adding a.x) a.p k.check-room.result k.check-room.ensures _ c.enum-told2.given.1
+    refused-changes (Adding a.x) a.p k.check_room-verdict.result k.check_room-verdict.ensures _ c.enum_told-in-Refused-1.given.1
 
-pub add-item-spec : {M : Type 1} → statement M
-add-item-spec =
+pub add_item_spec : {M : Type 1} → statement M
+add_item_spec =
     tie.close
     (tie.spec
     check-room-requires

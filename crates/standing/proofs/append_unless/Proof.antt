@@ -3,14 +3,14 @@ use borrow.Author.Rules.{rules}
 use Rattle.standing.proofs.append_unless.Statement.{statement}
 use Rattle.standing.proofs.append_unless.Tie as tie
 
-returns : tie.Need-returns
+returns : tie.Need-returns-then-left
 returns c = search rules
 
 append-requires : tie.Need-append-requires
 append-requires c κs = search rules
 
-returns-2 : tie.Need-returns-2
-returns-2 c = rw c.before.if1.false c.append.ensures
+returns-2 : tie.Need-returns
+returns-2 c = rw c.before.if-left.false c.append.ensures
 
-pub append-unless-spec : {M : Type 1} → statement M
-append-unless-spec = tie.close (tie.spec returns append-requires returns-2)
+pub append_unless_spec : {M : Type 1} → statement M
+append_unless_spec = tie.close (tie.spec returns append-requires returns-2)

@@ -3,18 +3,18 @@ use borrow.Author.Rules.{rules}
 use Rattle.standing.proofs.check_room.Statement.{statement}
 use Rattle.standing.proofs.check_room.Tie as tie
 
-check-model-requires : tie.Need-check-model-requires
+check-model-requires : tie.Need-check_model-v-requires
 check-model-requires c κs = search rules
 
-refused-if-requires : tie.Need-refused-if-requires
+refused-if-requires : tie.Need-refused_if-requires
 refused-if-requires c κs = search rules
 
-first-of-requires : tie.Need-first-of-requires
+first-of-requires : tie.Need-first_of-requires
 first-of-requires c κs = search rules
 
 returns : tie.Need-returns
-returns c = let w = c.before in rw (c.first_of.ensures, w.refused-if.ensures, w.before.check-model.ensures)
+returns c = let w = c.before in rw (c.first_of.ensures, w.refused_if.ensures, w.before.check_model-v.ensures)
 
-pub check-room-spec : {M : Type 1} → statement M
-check-room-spec =
+pub check_room_spec : {M : Type 1} → statement M
+check_room_spec =
     tie.close (tie.spec check-model-requires refused-if-requires first-of-requires returns)

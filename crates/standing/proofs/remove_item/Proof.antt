@@ -7,46 +7,46 @@ use borrow.Author.Rules.{rules}
 use Rattle.standing.proofs.remove_item.Statement.{statement}
 use Rattle.standing.proofs.remove_item.Tie as tie
 
-check-removal-requires : tie.Need-check-removal-requires
+check-removal-requires : tie.Need-check_removal-verdict-requires
 check-removal-requires c κs = search rules
 
-enum_told : tie.Need-enum-told
+enum_told : tie.Need-enum_told-1
 enum_told c = search rules
 
-without-item-requires : tie.Need-without-item-requires
+without-item-requires : tie.Need-without_item-requires
 without-item-requires c κs =
     let k = c.before.before in
     let a = k.before.before.args in
-    let h = (there-more a.p.model a.k (sym k.check-removal.ensures ∙ c.enum_told.given.1)).0 in
+    let h = (there-more a.p.model a.k (sym k.check_removal-verdict.ensures ∙ c.enum_told-1.given.1)).0 in
     (h.few, h.short)
 
 tried-requires : tie.Need-tried-requires
 tried-requires c κs = search rules
 
-enum-told-2 : tie.Need-enum-told-2
+enum-told-2 : tie.Need-enum_told-in-Refused
 enum-told-2 c = search rules
 
-returns : tie.Need-returns
+returns : tie.Need-returns-in-Accepted
 returns c =
     let n = c.before in
     let e = n.before in
     let k = e.before.before in
     let a = k.before.before.args in
     let m = a.p.model in
-    tried-changes (Removing a.k) a.p k.check-removal.result
-    (k.check-removal.ensures ∙ in_a_row (verdict m) (missing_verdict m a.k) (only_verdict m))
-    e.enum_told.given.1 c.tried.result (rw n.without-item.ensures at c.tried.ensures)
+    tried-changes (Removing a.k) a.p k.check_removal-verdict.result
+    (k.check_removal-verdict.ensures ∙ in_a_row (verdict m) (missing_verdict m a.k) (only_verdict m))
+    e.enum_told-1.given.1 c.tried.result (rw n.without_item.ensures at c.tried.ensures)
 
-returns-2 : tie.Need-returns-2
+returns-2 : tie.Need-returns-in-Refused
 returns-2 c =
     let k = c.before.before in
     let a = k.before.before.args in
     let m = a.p.model in
-    refused-changes (Removing a.k) a.p k.check-removal.result
-    (k.check-removal.ensures ∙ in_a_row (verdict m) (missing_verdict m a.k) (only_verdict m)) _ c.enum-told2.given.1
+    refused-changes (Removing a.k) a.p k.check_removal-verdict.result
+    (k.check_removal-verdict.ensures ∙ in_a_row (verdict m) (missing_verdict m a.k) (only_verdict m)) _ c.enum_told-in-Refused-1.given.1
 
-pub remove-item-spec : {M : Type 1} → statement M
-remove-item-spec =
+pub remove_item_spec : {M : Type 1} → statement M
+remove_item_spec =
     tie.close
     (tie.spec
     check-removal-requires

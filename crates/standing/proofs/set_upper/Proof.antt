@@ -7,48 +7,48 @@ use borrow.Author.Rules.{rules}
 use Rattle.standing.proofs.set_upper.Statement.{statement}
 use Rattle.standing.proofs.set_upper.Tie as tie
 
-check-number-requires : tie.Need-check-number-requires
+check-number-requires : tie.Need-check_number-verdict-requires
 check-number-requires c κs = search rules
 
-enum_told : tie.Need-enum-told
+enum_told : tie.Need-enum_told-1
 enum_told c = search rules
 
-sub-with-bound : tie.Need-overflow-sub-with-bound
+sub-with-bound : tie.Need-overflow_sub-k
 sub-with-bound c =
     let k = c.before.before in
     let a = k.before.before.args in
-    omega (arith, (there-is a.p.model a.k (sym k.check-number.ensures ∙ c.enum_told.given.1)).least)
+    omega (arith, (there-is a.p.model a.k (sym k.check_number-verdict.ensures ∙ c.enum_told-1.given.1)).least)
 
-with-bound-requires : tie.Need-with-bound-requires
+with-bound-requires : tie.Need-with_bound-requires
 with-bound-requires c κs =
     let k = c.before.before in
     let a = k.before.before.args in
-    let h = there-is a.p.model a.k (sym k.check-number.ensures ∙ c.enum_told.given.1) in
+    let h = there-is a.p.model a.k (sym k.check_number-verdict.ensures ∙ c.enum_told-1.given.1) in
     omega (arith, h.least, h.most, h.few)
 
 tried-requires : tie.Need-tried-requires
 tried-requires c κs = search rules
 
-enum-told-2 : tie.Need-enum-told-2
+enum-told-2 : tie.Need-enum_told-in-Refused
 enum-told-2 c = search rules
 
-returns : tie.Need-returns
+returns : tie.Need-returns-in-Accepted
 returns c =
     let n = c.before in
     let e = n.before in
     let k = e.before.before in
     let a = k.before.before.args in
-    tried-changes (Bounding a.k a.u) a.p k.check-number.result k.check-number.ensures e.enum_told.given.1 c.tried.result
+    tried-changes (Bounding a.k a.u) a.p k.check_number-verdict.result k.check_number-verdict.ensures e.enum_told-1.given.1 c.tried.result
     (rw n.with_bound.ensures at c.tried.ensures)
 
-returns-2 : tie.Need-returns-2
+returns-2 : tie.Need-returns-in-Refused
 returns-2 c =
     let k = c.before.before in
     let a = k.before.before.args in
-    refused-changes (Bounding a.k a.u) a.p k.check-number.result k.check-number.ensures _ c.enum-told2.given.1
+    refused-changes (Bounding a.k a.u) a.p k.check_number-verdict.result k.check_number-verdict.ensures _ c.enum_told-in-Refused-1.given.1
 
-pub set-upper-spec : {M : Type 1} → statement M
-set-upper-spec =
+pub set_upper_spec : {M : Type 1} → statement M
+set_upper_spec =
     tie.close
     (tie.spec
     check-number-requires

@@ -15,51 +15,51 @@ use Rattle.standing.proofs.Removed.{spared-next}
 use Rattle.standing.proofs.without_item.Statement.{statement}
 use Rattle.standing.proofs.without_item.Tie as tie
 
-abbrev invariant-loop : tie.invariant-loop
+abbrev invariant-loop : tie.invariant-loop-j
 invariant-loop k ns t q₀ j₀ q j = (j ≤ t) × (q ≡ with_needs q₀ (spared_to k ns j))
 
-abbrev decreases-loop : tie.decreases-loop
+abbrev decreases-loop : tie.decreases-loop-j
 decreases-loop k ns t q₀ j₀ q j = t - j
 
 -- the moment that is spoken of below
-abbrev start : tie.At-loop invariant-loop decreases-loop → tie.Start invariant-loop decreases-loop
+abbrev start : tie.At-loop-j invariant-loop decreases-loop → tie.Start invariant-loop decreases-loop
 start c = c.before.before.before
 
-other-items-requires : tie.Need-other-items-requires invariant-loop decreases-loop
+other-items-requires : tie.Need-other_items-q-requires invariant-loop decreases-loop
 other-items-requires c κs = search rules
 
-loop-holds : tie.Need-loop-init invariant-loop decreases-loop
-loop-holds c = (omega arith, rw c.other_items.ensures)
+loop-holds : tie.Need-loop-j-init invariant-loop decreases-loop
+loop-holds c = (omega arith, rw c.other_items-q.ensures)
 
-mul-x : tie.Need-overflow-mul-x invariant-loop decreases-loop
+mul-x : tie.Need-offset_bounds-ns-j invariant-loop decreases-loop
 mul-x c = omega arith
 
-element-copy-out-x : tie.Need-element-copy-out-x invariant-loop decreases-loop
-element-copy-out-x c = omega (arith, (start c.before).pre.1)
+element-copy-out-x : tie.Need-bounds-ns-j invariant-loop decreases-loop
+element-copy-out-x c = omega (arith, (start c.before).requires.1)
 
-append-other-need-requires : tie.Need-append-other-need-requires invariant-loop decreases-loop
+append-other-need-requires : tie.Need-append_other_need-q-requires invariant-loop decreases-loop
 append-other-need-requires c κs =
     let l = c.before.before in
     let a = (start l).args in
     let keep = spared a.k a.m.needs in
-    let e : l.loop.q.needs.count ≡ rank keep l.loop.j = ap (λ (q : Model). q.needs.count) l.loop.invariant.1 in
-    omega (arith, rank_most keep l.loop.j, (start l).requires.1)
+    let e : l.loop-j.q.needs.count ≡ rank keep l.loop-j.j = ap (λ (q : Model). q.needs.count) l.loop-j.invariant.1 in
+    omega (arith, rank_most keep l.loop-j.j, (start l).requires.1)
 
-add-j : tie.Need-overflow-add-j invariant-loop decreases-loop
+add-j : tie.Need-overflow_add-j invariant-loop decreases-loop
 add-j c = omega arith
 
-loop-less : tie.Need-loop-smaller invariant-loop decreases-loop
+loop-less : tie.Need-loop-j-smaller invariant-loop decreases-loop
 loop-less c = omega arith
 
-loop-again : tie.Need-loop-preserved invariant-loop decreases-loop
+loop-again : tie.Need-loop-j-preserved invariant-loop decreases-loop
 loop-again c =
     let l = c.before.before.before in
     let k = (start l).args.k in
     let ns = (start l).args.m.needs in
-    let x = need_at ns l.loop.j in (
+    let x = need_at ns l.loop-j.j in (
       omega arith,
-      rw add-one (c.append-other-need.ensures ∙ ap (λ (q : Model). cond (names_item x k) q (appended_need q (lowered_need k x))) l.loop.invariant.1
-          ∙ spared-next l.before.other_items.result k ns l.loop.j),
+      rw add-one (c.append_other_need-q.ensures ∙ ap (λ (q : Model). cond (names_item x k) q (appended_need q (lowered_need k x))) l.loop-j.invariant.1
+          ∙ spared-next l.before.other_items-q.result k ns l.loop-j.j),
     )
 
 returns : tie.Need-returns invariant-loop decreases-loop
@@ -67,13 +67,13 @@ returns c =
     let l = c.before in
     let a = (start l).args in
     let t = a.m.needs.count in
-    let e : l.loop.j ≡ t = omega arith in
-    let o = l.before.other_items in
-    l.loop.invariant.1 ∙ ap (λ j. with_needs o.result (spared_to a.k a.m.needs j)) e
+    let e : l.loop-j.j ≡ t = omega arith in
+    let o = l.before.other_items-q in
+    l.loop-j.invariant.1 ∙ ap (λ j. with_needs o.result (spared_to a.k a.m.needs j)) e
     ∙ ap (λ (q : Model). with_needs q (spared_to a.k a.m.needs t)) o.ensures
 
-pub without-item-spec : {M : Type 1} → statement M
-without-item-spec =
+pub without_item_spec : {M : Type 1} → statement M
+without_item_spec =
     tie.close
     (tie.spec
     invariant-loop

@@ -4,18 +4,18 @@ use Rattle.streams.proofs.Carries.{within, at-the-end}
 use Rattle.streams.proofs.goes_on.Statement.{statement}
 use Rattle.streams.proofs.goes_on.Tie as tie
 
-returns : tie.Need-returns
+returns : tie.Need-returns-then-p-len
 returns c =
     let first = c.before.before.before in
-    within first.before.args.p first.before.args.len first.if1.true c.before.if2.true
+    within first.before.args.p first.before.args.len first.if-p.true c.before.if-p-len.true
 
-returns-2 : tie.Need-returns-2
+returns-2 : tie.Need-returns-else-p-len
 returns-2 c =
     let first = c.before.before in
-    at-the-end first.before.args.p first.before.args.len first.if1.true c.if2.false
+    at-the-end first.before.args.p first.before.args.len first.if-p.true c.if-p-len.false
 
-returns-3 : tie.Need-returns-3
+returns-3 : tie.Need-returns-else-p
 returns-3 c = search rules
 
-pub goes-on-spec : {M : Type 1} → statement M
-goes-on-spec = tie.close (tie.spec returns returns-2 returns-3)
+pub goes_on_spec : {M : Type 1} → statement M
+goes_on_spec = tie.close (tie.spec returns returns-2 returns-3)

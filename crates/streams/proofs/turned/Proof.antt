@@ -9,14 +9,14 @@ use Rattle.streams.proofs.turned.Tie as tie
 unmoved-requires : tie.Need-unmoved-requires
 unmoved-requires c κs = search rules
 
-returns : tie.Need-returns
+returns : tie.Need-returns-then-n-eq0
 returns c = search rules
 
-add-t6 : tie.Need-overflow-add-t6
+add-t6 : tie.Need-overflow_add-result
 add-t6 c = search rules
 
-returns-2 : tie.Need-returns-2
+returns-2 : tie.Need-returns
 returns-2 c = Turn.piece c.before.before.args.n (omega arith) (omega arith) refl
 
-pub turned-spec : {M : Type 1} → statement M
-turned-spec = tie.close (tie.spec unmoved-requires returns add-t6 returns-2)
+pub turned_spec : {M : Type 1} → statement M
+turned_spec = tie.close (tie.spec unmoved-requires returns add-t6 returns-2)

@@ -10,16 +10,16 @@ use Rattle.streams.proofs.unmoved.Tie as tie
 closed-requires : tie.Need-closed-requires
 closed-requires c κs = search rules
 
-returns : tie.Need-returns
+returns : tie.Need-returns-then-got-eq0
 returns c = Turn.ended c.closed.ensures
 
 errno-requires : tie.Need-errno-requires
 errno-requires c κs = search rules
 
-sub-t6 : tie.Need-overflow-sub-t6
+sub-t6 : tie.Need-overflow_sub-result
 sub-t6 c = search rules
 
-returns-2 : tie.Need-returns-2
+returns-2 : tie.Need-returns-then-errno-eq-EINTR
 returns-2 c =
     let l = c.before.before.before.before.args.p.left in
     let h : l ≡ (l - 1) + 1 = omega arith in
@@ -28,8 +28,8 @@ returns-2 c =
 closed-requires-2 : tie.Need-closed-requires-2
 closed-requires-2 c κs = search rules
 
-returns-3 : tie.Need-returns-3
-returns-3 c = Turn.failed c.closed2.ensures
+returns-3 : tie.Need-returns
+returns-3 c = Turn.failed c.closed-2.ensures
 
-pub unmoved-spec : {M : Type 1} → statement M
-unmoved-spec = tie.close (tie.spec closed-requires returns errno-requires sub-t6 returns-2 closed-requires-2 returns-3)
+pub unmoved_spec : {M : Type 1} → statement M
+unmoved_spec = tie.close (tie.spec closed-requires returns errno-requires sub-t6 returns-2 closed-requires-2 returns-3)

@@ -26,49 +26,49 @@ one_more : (rest first : ℕ) (bytes : List ℕ) → 0 < rest → 1 ≤ first �
 one_more rest zero bytes z h g = absurd (omega arith)
 one_more rest (suc i) bytes z h g = rw (sub-one, drop-set bytes i (digit (rest % 10)) (omega arith), digits_step rest z) (simp append_assoc)
 
-abbrev invariant-loop : tie.invariant-loop
+abbrev invariant-loop : tie.invariant-loop-rest
 invariant-loop n bytes₀ first₀ rest₀ bytes first rest = ((first ≤ 19) × (rest < 10 ^ first)) × ((length bytes ≡ 20) × (digits rest ++ drop first bytes ≡ decimal n))
 
-abbrev decreases-loop : tie.decreases-loop
+abbrev decreases-loop : tie.decreases-loop-rest
 decreases-loop n bytes₀ first₀ rest₀ bytes first rest = rest
 
-cast-bytes : tie.Need-overflow-cast-bytes invariant-loop decreases-loop
+cast-bytes : tie.Need-overflow_cast-bytes invariant-loop decreases-loop
 cast-bytes c = omega arith
 
-add-bytes : tie.Need-overflow-add-bytes invariant-loop decreases-loop
+add-bytes : tie.Need-overflow_add-bytes invariant-loop decreases-loop
 add-bytes c = omega arith
 
-array-write-bytes : tie.Need-array-write-bytes invariant-loop decreases-loop
+array-write-bytes : tie.Need-bounds-bytes-19 invariant-loop decreases-loop
 array-write-bytes c = search rules
 
-loop-holds : tie.Need-loop-init invariant-loop decreases-loop
+loop-holds : tie.Need-loop-rest-init invariant-loop decreases-loop
 unfolding decimal
 loop-holds c = ((omega arith, omega (arith, c.ranges.n.fits)), (refl, refl))
 
-sub-first : tie.Need-overflow-sub-first invariant-loop decreases-loop
-sub-first c = (fewer c.before.loop.rest c.before.loop.first (omega arith) c.before.loop.invariant.0.1).0
+sub-first : tie.Need-overflow_sub-first invariant-loop decreases-loop
+sub-first c = (fewer c.before.loop-rest.rest c.before.loop-rest.first (omega arith) c.before.loop-rest.invariant.0.1).0
 
-cast-bytes-2 : tie.Need-overflow-cast-bytes-2 invariant-loop decreases-loop
+cast-bytes-2 : tie.Need-overflow_cast-bytes-in-loop-rest invariant-loop decreases-loop
 cast-bytes-2 c = omega arith
 
-add-bytes-2 : tie.Need-overflow-add-bytes-2 invariant-loop decreases-loop
+add-bytes-2 : tie.Need-overflow_add-bytes-in-loop-rest invariant-loop decreases-loop
 add-bytes-2 c = omega arith
 
-array-write-bytes-2 : tie.Need-array-write-bytes-2 invariant-loop decreases-loop
+array-write-bytes-2 : tie.Need-bounds-bytes-first invariant-loop decreases-loop
 array-write-bytes-2 c = omega arith
 
-loop-less : tie.Need-loop-smaller invariant-loop decreases-loop
+loop-less : tie.Need-loop-rest-smaller invariant-loop decreases-loop
 loop-less c = omega arith
 
-loop-again : tie.Need-loop-preserved invariant-loop decreases-loop
+loop-again : tie.Need-loop-rest-preserved invariant-loop decreases-loop
 loop-again c =
-    let l = c.before.loop in
+    let l = c.before.loop-rest in
     let f = fewer l.rest l.first (omega arith) l.invariant.0.1 in
     ((omega arith, f.1), (simp length-set l.invariant.1.0, one_more l.rest l.first l.bytes (omega arith) f.0 (omega arith) ∙ l.invariant.1.1))
 
 returns : tie.Need-returns invariant-loop decreases-loop
 returns c =
-    let l = c.before.loop in
+    let l = c.before.loop-rest in
     let e : l.rest ≡ 0 = omega arith in
     record {
       sized = l.invariant.1.0;
@@ -76,8 +76,8 @@ returns c =
       spelled = rw (e, digits-zero) at l.invariant.1.1;
     }
 
-pub digits-of-spec : {M : Type 1} → statement M
-digits-of-spec =
+pub digits_of_spec : {M : Type 1} → statement M
+digits_of_spec =
     tie.close
     (tie.spec
     invariant-loop

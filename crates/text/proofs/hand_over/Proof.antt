@@ -9,24 +9,24 @@ use borrow.Author.Rules.{rules}
 use Rattle.text.proofs.hand_over.Statement.{statement}
 use Rattle.text.proofs.hand_over.Tie as tie
 
-returns : tie.Need-returns
+returns : tie.Need-returns-then-out-text
 unfolding told filled
 returns c =
     let a = c.before.before.before.args in
     let e : too_short a.text.now a.out.now ≡ true = omega (arith, lt-ltb) in
     (rw e, rw e)
 
-put-word-requires : tie.Need-put-word-requires
+put-word-requires : tie.Need-put_word-requires
 put-word-requires c κs = omega arith
 
-same_length : tie.Need-same-length
+same_length : tie.Need-shape_of-out
 same_length c = search rules
 
 -- the moments that are spoken of below
-abbrev start : tie.Else1 → tie.Start
+abbrev start : tie.Else-out-text → tie.Start
 start c = c.before.before.before
 
-returns-2 : tie.Need-returns-2
+returns-2 : tie.Need-returns
 unfolding told filled
 returns-2 c =
     let w = c.before.before in
@@ -34,5 +34,5 @@ returns-2 c =
     let e : too_short a.text.now a.out.now ≡ false = omega (arith, le-ltb) in
     (rw e, rw e (w.put_word.ensures.bytes ∙ put-start a.text.now a.out.now))
 
-pub hand-over-spec : {M : Type 1} → statement M
-hand-over-spec = tie.close (tie.spec returns put-word-requires same_length returns-2)
+pub hand_over_spec : {M : Type 1} → statement M
+hand_over_spec = tie.close (tie.spec returns put-word-requires same_length returns-2)

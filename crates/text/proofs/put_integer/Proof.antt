@@ -12,25 +12,25 @@ use borrow.Author.Rules.{rules}
 use Rattle.text.proofs.put_integer.Statement.{statement}
 use Rattle.text.proofs.put_integer.Tie as tie
 
-sized : (c : tie.After-magnitude) → c.magnitude.result ≡ nat_abs c.before.before.args.z
-sized c = c.magnitude.ensures ∙ ap nat_abs (to_z-of_z c.before.before.ranges.z)
+sized : (c : tie.After-magnitude-n) → c.magnitude-n.result ≡ nat_abs c.before.before.args.z
+sized c = c.magnitude-n.ensures ∙ ap nat_abs (to_z-of_z c.before.before.ranges.z)
 
-magnitude-requires : tie.Need-magnitude-requires
+magnitude-requires : tie.Need-magnitude-n-requires
 magnitude-requires c κs = search rules
 
-put-byte-requires : tie.Need-put-byte-requires
+put-byte-requires : tie.Need-put_byte-next-requires
 put-byte-requires c κs = search rules
 
-put-natural-requires : tie.Need-put-natural-requires
+put-natural-requires : tie.Need-put_natural-requires
 put-natural-requires c κs = search rules
 
-put-natural-requires-2 : tie.Need-put-natural-requires-2
+put-natural-requires-2 : tie.Need-put_natural-requires-else-z-lt0
 put-natural-requires-2 c κs = search rules
 
-same_length : tie.Need-same-length
+same_length : tie.Need-shape_of-out-then-z-lt0
 same_length c = search rules
 
-returns : tie.Need-returns
+returns : tie.Need-returns-then-z-lt0
 returns c =
     let n = c.before.before in
     let at_out = n.before.before.before in
@@ -38,21 +38,21 @@ returns c =
     let m = b.before.before.before in
     let z = m.before.before.args.z in
     let e : integer z ≡ 45 ∷ decimal (nat_abs z) = integer-below z (omega (arith, zs)) in
-    rw e (rw (sized m) at (puts (omega arith) b.put_byte.ensures n.put-natural.ensures))
+    rw e (rw (sized m) at (puts (omega arith) b.put_byte-next.ensures n.put_natural.ensures))
 
-same-length-2 : tie.Need-same-length-2
+same-length-2 : tie.Need-shape_of-out-else-z-lt0
 same-length-2 c = search rules
 
-returns-2 : tie.Need-returns-2
+returns-2 : tie.Need-returns-else-z-lt0
 returns-2 c =
     let n = c.before.before in
     let m = n.before.before.before in
     let z = m.before.before.args.z in
     let e : integer z ≡ decimal (nat_abs z) = integer-above z (omega (arith, zs)) in
-    rw e (rw (sized m) at (roomier {n = 22} (omega arith) n.put-natural2.ensures))
+    rw e (rw (sized m) at (roomier {n = 22} (omega arith) n.put_natural-else-z-lt0.ensures))
 
-pub put-integer-spec : {M : Type 1} → statement M
-put-integer-spec =
+pub put_integer_spec : {M : Type 1} → statement M
+put_integer_spec =
     tie.close
     (tie.spec
     magnitude-requires

@@ -11,32 +11,32 @@ use borrow.Author.Rules.{rules}
 use Rattle.text.proofs.put_natural.Statement.{statement}
 use Rattle.text.proofs.put_natural.Tie as tie
 
-digits-of-requires : tie.Need-digits-of-requires
+digits-of-requires : tie.Need-digits_of-d-requires
 digits-of-requires c κs = search rules
 
-sub-put-word : tie.Need-overflow-sub-put-word
+sub-put-word : tie.Need-slice_bounds-put_word-count
 sub-put-word c = search rules
 
-part-put-word-start : tie.Need-slice-bounds-put-word-start
+part-put-word-start : tie.Need-slice_bounds-put_word-start
 part-put-word-start c = search rules
 
-part-put-word-end : tie.Need-slice-bounds-put-word-end
+part-put-word-end : tie.Need-slice_bounds-put_word-end
 part-put-word-end c = omega arith
 
-put-word-requires : tie.Need-put-word-requires
+put-word-requires : tie.Need-put_word-next-requires
 put-word-requires c κs = search rules
 
-put-byte-requires : tie.Need-put-byte-requires
+put-byte-requires : tie.Need-put_byte-requires
 put-byte-requires c κs = search rules
 
-same_length : tie.Need-same-length
+same_length : tie.Need-shape_of-out
 same_length c = search rules
 
 -- the moments that are spoken of below
-abbrev after-digits-of : tie.After-bytes2 → tie.After-digits-of
+abbrev after-digits-of : tie.After-bytes2 → tie.After-digits_of-d
 after-digits-of c = c.before.before.before
 
-abbrev after-put-word : tie.After-put-byte-arg → tie.After-put-word
+abbrev after-put-word : tie.After-put_byte-arg-1 → tie.After-put_word-next
 after-put-word c = c.before.before.before
 
 returns : tie.Need-returns
@@ -45,15 +45,15 @@ returns c =
     let w = after-put-word b.before in
     let d = after-digits-of w.before.before in
     let a = d.before.before.args in
-    let s = d.digits_of.ensures in
-    let r = d.digits_of.result in
+    let s = d.digits_of-d.ensures in
+    let r = d.digits_of-d.result in
     let e : take (20 - r.first) (drop r.first r.bytes) ≡ decimal a.n
     = take_all (20 - r.first) (drop r.first r.bytes) (simp length-drop (omega arith)) ∙ s.spelled in
-    let l = decimal-length 19 a.n (omega (arith, d.before.before.fits.n.fits)) in
-    roomier (omega arith) (puts (omega arith) (rw e at w.put_word.ensures) b.put_byte.ensures)
+    let l = decimal-length 19 a.n (omega (arith, d.before.before.ranges.n.fits)) in
+    roomier (omega arith) (puts (omega arith) (rw e at w.put_word-next.ensures) b.put_byte.ensures)
 
-pub put-natural-spec : {M : Type 1} → statement M
-put-natural-spec =
+pub put_natural_spec : {M : Type 1} → statement M
+put_natural_spec =
     tie.close
     (tie.spec
     digits-of-requires

@@ -10,53 +10,53 @@ use Rattle.watching.proofs.Watching.{items-none, items_more}
 use Rattle.watching.proofs.fall_items.Statement.{statement}
 use Rattle.watching.proofs.fall_items.Tie as tie
 
-abbrev invariant-loop : tie.invariant-loop
+abbrev invariant-loop : tie.invariant-loop-k
 invariant-loop n of p₀ k₀ p k = (k ≤ n) × FallItems of n k p
 
-abbrev decreases-loop : tie.decreases-loop
+abbrev decreases-loop : tie.decreases-loop-k
 decreases-loop n of p₀ k₀ p k = n - k
 
-blank-items-requires : tie.Need-blank-items-requires invariant-loop decreases-loop
+blank-items-requires : tie.Need-blank_items-items-requires invariant-loop decreases-loop
 blank-items-requires c κs = search rules
 
-loop-holds : tie.Need-loop-init invariant-loop decreases-loop
-loop-holds c = (omega arith, items-none c.before.args.t1 c.before.args.n _ refl c.blank-items.ensures)
+loop-holds : tie.Need-loop-k-init invariant-loop decreases-loop
+loop-holds c = (omega arith, items-none c.before.args.t1 c.before.args.n _ refl c.blank_items-items.ensures)
 
-mul-d : tie.Need-overflow-mul-d invariant-loop decreases-loop
+mul-d : tie.Need-offset_bounds-of-k invariant-loop decreases-loop
 mul-d c = omega arith
 
-array-read-d : tie.Need-array-read-d invariant-loop decreases-loop
+array-read-d : tie.Need-bounds-of-k invariant-loop decreases-loop
 array-read-d c = omega arith
 
-fall-item-requires : tie.Need-fall-item-requires invariant-loop decreases-loop
-fall-item-requires c κs = c.before.before.before.requires.1 c.before.loop.k
+fall-item-requires : tie.Need-fall_item-requires invariant-loop decreases-loop
+fall-item-requires c κs = c.before.before.before.requires.1 c.before.loop-k.k
 
-with-item-requires : tie.Need-with-item-requires invariant-loop decreases-loop
+with-item-requires : tie.Need-with_item-p-requires invariant-loop decreases-loop
 with-item-requires c κs = omega arith
 
-add-k : tie.Need-overflow-add-k invariant-loop decreases-loop
+add-k : tie.Need-overflow_add-k invariant-loop decreases-loop
 add-k c = omega arith
 
-loop-less : tie.Need-loop-smaller invariant-loop decreases-loop
+loop-less : tie.Need-loop-k-smaller invariant-loop decreases-loop
 loop-less c = omega arith
 
-loop-again : tie.Need-loop-preserved invariant-loop decreases-loop
+loop-again : tie.Need-loop-k-preserved invariant-loop decreases-loop
 loop-again c =
     let l = c.before.before.before in
     let a = l.before.before.args in
-    let q : c.with_item.result ≡ with_item l.loop.p l.loop.k (fall_item (get_or a.t1 l.loop.k 0)) =
-    c.with_item.ensures ∙ ap (with_item l.loop.p l.loop.k) c.before.fall-item.ensures in
-    (omega arith, rw q (items_more a.t1 a.n l.loop.k l.loop.p (omega arith) l.loop.invariant.1))
+    let q : c.with_item-p.result ≡ with_item l.loop-k.p l.loop-k.k (fall_item (get_or a.t1 l.loop-k.k 0)) =
+    c.with_item-p.ensures ∙ ap (with_item l.loop-k.p l.loop-k.k) c.before.fall_item.ensures in
+    (omega arith, rw q (items_more a.t1 a.n l.loop-k.k l.loop-k.p (omega arith) l.loop-k.invariant.1))
 
 returns : tie.Need-returns invariant-loop decreases-loop
 returns c =
     let l = c.before in
     let a = l.before.before.args in
-    let e : l.loop.k ≡ a.n = omega arith in
-    subst (λ (k : ℕ). FallItems a.t1 a.n k l.loop.p) e l.loop.invariant.1
+    let e : l.loop-k.k ≡ a.n = omega arith in
+    subst (λ (k : ℕ). FallItems a.t1 a.n k l.loop-k.p) e l.loop-k.invariant.1
 
-pub fall-items-spec : {M : Type 1} → statement M
-fall-items-spec =
+pub fall_items_spec : {M : Type 1} → statement M
+fall_items_spec =
     tie.close
     (tie.spec
     invariant-loop

@@ -13,29 +13,26 @@ use Rattle.watching.proofs.Watching.{lines-cong, put_as}
 use Rattle.watching.proofs.fall_lines.Statement.{statement}
 use Rattle.watching.proofs.fall_lines.Tie as tie
 
-fall-order-requires : tie.Need-fall-order-requires
+fall-order-requires : tie.Need-fall_order-r-requires
 fall-order-requires c κs = search rules
 
-space-requires : tie.Need-space-requires
+space-requires : tie.Need-space-bytes-requires
 space-requires c κs = search rules
 
-slice-aggregate-put-falls : tie.Need-slice-aggregate-put-falls
-slice-aggregate-put-falls c = search rules
-
-put-falls-requires : tie.Need-put-falls-requires
+put-falls-requires : tie.Need-put_falls-len-requires
 put-falls-requires c κs = search rules
 
 returns : tie.Need-returns
 returns c =
-    let p = c.before.put-falls in
+    let p = c.before.put_falls-len in
     let o = c.before.before.before.before.before in
     let s = o.before in
     let of = s.args.of in
     let n = s.args.n in
     let f : ℕ → ℕ = λ k. get_or of k 0 in
     let text : List ℕ = fall_lines f (watch_order f n) n in
-    let same = lines-cong f (λ u. get_or o.fall-order.result.at u 0) (watch_order f n) n
-    (sorted-at (λ k. fall_item (f k)) n o.fall-order.result.at o.fall-order.ensures) in
+    let same = lines-cong f (λ u. get_or o.fall_order-r.result.at u 0) (watch_order f n) n
+    (sorted-at (λ k. fall_item (f k)) n o.fall_order-r.result.at o.fall_order-r.ensures) in
     let h = put_as same p.ensures in
     let e : p.result ≡ length text = omega (arith, h.next) in
     let i : p.result ≤ length p.new.0 = omega (arith, h.short) in
@@ -46,12 +43,11 @@ returns c =
       shown = rw (e, h.bytes) (put-shown text _);
     }
 
-pub fall-lines-spec : {M : Type 1} → statement M
-fall-lines-spec =
+pub fall_lines_spec : {M : Type 1} → statement M
+fall_lines_spec =
     tie.close
     (tie.spec
     fall-order-requires
     space-requires
-    slice-aggregate-put-falls
     put-falls-requires
     returns)

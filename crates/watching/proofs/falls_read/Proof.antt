@@ -8,31 +8,31 @@ use Rattle.watching.specs.Watching.{SmallFalls}
 use Rattle.watching.proofs.falls_read.Statement.{statement}
 use Rattle.watching.proofs.falls_read.Tie as tie
 
-enum_told : tie.Need-enum-told
+enum_told : tie.Need-enum_told-1
 enum_told c = search rules
 
-price-falls-requires : tie.Need-price-falls-requires
+price-falls-requires : tie.Need-price_falls-requires
 price-falls-requires c κs = search rules
 
-enum-known-v : tie.Need-enum-known-v
+enum-known-v : tie.Need-enum_known-v
 enum-known-v c = search rules
 
-no-point-requires : tie.Need-no-point-requires
+no-point-requires : tie.Need-no_point-requires
 no-point-requires c κs = search rules
 
-no-falls-requires : tie.Need-no-falls-requires
+no-falls-requires : tie.Need-no_falls-requires
 no-falls-requires c κs = search rules
 
-returns : tie.Need-returns
-returns c = (rw c.before.enum_told.given.1 c.price-falls.ensures, c.price-falls.ensures.small)
+returns : tie.Need-returns-in-Accepted
+returns c = (rw c.before.enum_told-1.given.1 c.price_falls.ensures, c.price_falls.ensures.small)
 
-returns-2 : tie.Need-returns-2
+returns-2 : tie.Need-returns-in-Refused
 returns-2 c =
-    let e = c.no-falls.ensures ∙ ap no_falls c.before.no-point.ensures in
-    (rw c.before.before.before.v.given.1 e, subst (λ (w : Falls). SmallFalls w.of) (sym e) no-small)
+    let e = c.no_falls.ensures ∙ ap no_falls c.before.no_point.ensures in
+    (rw c.before.before.before.v-1.given.1 e, subst (λ (w : Falls). SmallFalls w.of) (sym e) no-small)
 
-pub falls-read-spec : {M : Type 1} → statement M
-falls-read-spec =
+pub falls_read_spec : {M : Type 1} → statement M
+falls_read_spec =
     tie.close
     (tie.spec
     enum_told

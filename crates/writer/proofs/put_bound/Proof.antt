@@ -7,13 +7,13 @@ use borrow.Author.Rules.{rules}
 use Rattle.writer.proofs.put_bound.Statement.{statement}
 use Rattle.writer.proofs.put_bound.Tie as tie
 
-put-natural-requires : tie.Need-put-natural-requires
+put-natural-requires : tie.Need-put_natural-bound-requires
 put-natural-requires c κs = search rules
 
-put-bound-word-requires : tie.Need-put-bound-word-requires
+put-bound-word-requires : tie.Need-put_bound_word-requires
 put-bound-word-requires c κs = search rules
 
-same_length : tie.Need-same-length
+same_length : tie.Need-shape_of-out
 same_length c = search rules
 
 returns : tie.Need-returns
@@ -22,9 +22,9 @@ returns c =
     let e = w.before.before in
     let n = e.before.before in
     let s = n.before.before.before in
-    let f = puts (omega arith) n.put-natural.ensures w.put-bound-word.ensures in
+    let f = puts (omega arith) n.put_natural-bound.ensures w.put_bound_word.ensures in
     record { short = bound-short (bounding s.args.k s.args.b) s.requires.1.0 s.requires.1.1; next = f.next; bytes = f.bytes }
 
-pub put-bound-spec : {M : Type 1} → statement M
-put-bound-spec =
+pub put_bound_spec : {M : Type 1} → statement M
+put_bound_spec =
     tie.close (tie.spec put-natural-requires put-bound-word-requires same_length returns)

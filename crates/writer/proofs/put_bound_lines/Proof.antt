@@ -15,71 +15,71 @@ use Rattle.sheet.proofs.Forms.{fair-side}
 use Rattle.writer.proofs.put_bound_lines.Statement.{statement}
 use Rattle.writer.proofs.put_bound_lines.Tie as tie
 
-abbrev invariant-loop : tie.invariant-loop
+abbrev invariant-loop : tie.invariant-loop-k
 invariant-loop out₀ at side m n next₀ k₀ out next k =
     (k ≤ n) × ((length out ≡ length out₀) × Put (22 * k) at (lines_text bound_text (up_to k (bounding_at side m))) out₀ out next)
 
-abbrev decreases-loop : tie.decreases-loop
+abbrev decreases-loop : tie.decreases-loop-k
 decreases-loop out₀ at side m n next₀ k₀ out next k = n - k
 
 -- the items are at most as many as there are places
-few : (c : tie.At-loop invariant-loop decreases-loop) → c.before.before.args.t4.count ≤ 16
+few : (c : tie.At-loop-k invariant-loop decreases-loop) → c.before.before.args.t4.count ≤ 16
 few c = (unfaulted c.before.before.args.t4 c.before.before.requires.1).most
 
-loop-holds : tie.Need-loop-init invariant-loop decreases-loop
+loop-holds : tie.Need-loop-k-init invariant-loop decreases-loop
 unfolding up_to lines_text
 loop-holds c =
     let a = c.before.args in
     (omega arith, (refl, record { short = omega arith; next = omega arith; bytes = sym (put-nothing a.at a.out.now) }))
 
-mul-i : tie.Need-overflow-mul-i invariant-loop decreases-loop
+mul-i : tie.Need-offset_bounds-m-k invariant-loop decreases-loop
 mul-i c = omega (arith, few c.before)
 
-element-copy-out-i : tie.Need-element-copy-out-i invariant-loop decreases-loop
+element-copy-out-i : tie.Need-bounds-m-k invariant-loop decreases-loop
 element-copy-out-i c = omega (arith, few c.before)
 
-add-put-bound : tie.Need-overflow-add-put-bound invariant-loop decreases-loop
+add-put-bound : tie.Need-overflow_add-k invariant-loop decreases-loop
 add-put-bound c = omega (arith, few c.before.before.before)
 
-bound-of-requires : tie.Need-bound-of-requires invariant-loop decreases-loop
+bound-of-requires : tie.Need-bound_of-requires invariant-loop decreases-loop
 bound-of-requires c κs = search rules
 
-put-bound-requires : tie.Need-put-bound-requires invariant-loop decreases-loop
+put-bound-requires : tie.Need-put_bound-next-requires invariant-loop decreases-loop
 put-bound-requires c κs =
     let at-in-loop = c.before.before.before in
     let l = at-in-loop.before in
     let s = l.before.before in
     let u = unfaulted s.args.t4 s.requires.1 in
-    (omega (arith, few l), (omega (arith, few l), rw c.bound_of.ensures (fair-side s.args.side _ (u.figures l.loop.k (omega arith)))))
+    (omega (arith, few l), (omega (arith, few l), rw c.bound_of.ensures (fair-side s.args.side _ (u.figures l.loop-k.k (omega arith)))))
 
-add-k : tie.Need-overflow-add-k invariant-loop decreases-loop
+add-k : tie.Need-overflow_add-k-in-loop-k invariant-loop decreases-loop
 add-k c = omega arith
 
-loop-less : tie.Need-loop-smaller invariant-loop decreases-loop
+loop-less : tie.Need-loop-k-smaller invariant-loop decreases-loop
 loop-less c = omega arith
 
-loop-again : tie.Need-loop-preserved invariant-loop decreases-loop
+loop-again : tie.Need-loop-k-preserved invariant-loop decreases-loop
 unfolding up_to lines_text
 loop-again c =
     let p = c.before.before in
     let b = p.before in
     let at-in-loop = b.before.before.before in
     let l = at-in-loop.before in
-    let g = puts (omega arith) l.loop.invariant.1.1 p.put-bound.ensures in
-    let h = rw (b.bound_of.ensures, add-one l.loop.k) at g in
+    let g = puts (omega arith) l.loop-k.invariant.1.1 p.put_bound-next.ensures in
+    let h = rw (b.bound_of.ensures, add-one l.loop-k.k) at g in
     (omega arith, (omega arith, rw add-one (roomier (omega arith) h)))
 
-same_length : tie.Need-same-length invariant-loop decreases-loop
+same_length : tie.Need-shape_of-out invariant-loop decreases-loop
 same_length c = omega arith
 
 returns : tie.Need-returns invariant-loop decreases-loop
 returns c =
     let l = c.before in
-    let e : l.loop.k ≡ l.before.before.args.t4.count = omega arith in
-    roomier (omega (arith, few l)) (rw e at l.loop.invariant.1.1)
+    let e : l.loop-k.k ≡ l.before.before.args.t4.count = omega arith in
+    roomier (omega (arith, few l)) (rw e at l.loop-k.invariant.1.1)
 
-pub put-bound-lines-spec : {M : Type 1} → statement M
-put-bound-lines-spec =
+pub put_bound_lines_spec : {M : Type 1} → statement M
+put_bound_lines_spec =
     tie.close
     (tie.spec
     invariant-loop

@@ -5,23 +5,23 @@ use borrow.Author.Rules.{rules}
 use Rattle.writer.proofs.put_heading.Statement.{statement}
 use Rattle.writer.proofs.put_heading.Tie as tie
 
-put-word-requires : tie.Need-put-word-requires
+put-word-requires : tie.Need-put_word-blank-requires
 put-word-requires c κs = search rules
 
-put-byte-requires : tie.Need-put-byte-requires
+put-byte-requires : tie.Need-put_byte-number-requires
 put-byte-requires c κs = search rules
 
-put-natural-requires : tie.Need-put-natural-requires
+put-natural-requires : tie.Need-put_natural-requires
 put-natural-requires c κs = search rules
 
-same_length : tie.Need-same-length
+same_length : tie.Need-shape_of-out
 same_length c = search rules
 
 -- the moments that are spoken of below
-abbrev after-put-word : tie.After-put-byte-arg → tie.After-put-word
+abbrev after-put-word : tie.After-put_byte-arg-1 → tie.After-put_word-blank
 after-put-word c = c.before.before.before
 
-abbrev after-put-byte : tie.After-put-natural-arg → tie.After-put-byte
+abbrev after-put-byte : tie.After-put_natural-arg-1 → tie.After-put_byte-number
 after-put-byte c = c.before.before.before
 
 returns : tie.Need-returns
@@ -29,9 +29,9 @@ returns c =
     let n = c.before.before in
     let b = after-put-byte n.before in
     let w = after-put-word b.before in
-    roomier (omega arith) (puts (omega arith) (puts (omega arith) w.put_word.ensures b.put_byte.ensures) n.put-natural.ensures)
+    roomier (omega arith) (puts (omega arith) (puts (omega arith) w.put_word-blank.ensures b.put_byte-number.ensures) n.put_natural.ensures)
 
-pub put-heading-spec : {M : Type 1} → statement M
-put-heading-spec =
+pub put_heading_spec : {M : Type 1} → statement M
+put_heading_spec =
     tie.close
     (tie.spec put-word-requires put-byte-requires put-natural-requires same_length returns)

@@ -10,33 +10,33 @@ use Rattle.writer.proofs.put_item.Statement.{statement}
 use Rattle.writer.proofs.put_item.Tie as tie
 
 -- the moments that are spoken of below
-abbrev start : tie.After-struct-told3 → tie.Start
+abbrev start : tie.After-struct_told-3-1 → tie.Start
 start c = c.before.before.before.before
 
-figures-fit : (c : tie.After-mark-byte) →
+figures-fit : (c : tie.After-mark_byte) →
     let s = start c.before.before in
     SFits w64 s.args.i.low × (SFits w64 s.args.i.high × SFits w64 s.args.i.price)
 figures-fit c = (search rules, (search rules, search rules))
 
-mark-byte-requires : tie.Need-mark-byte-requires
+mark-byte-requires : tie.Need-mark_byte-requires
 mark-byte-requires c κs = search rules
 
-put-byte-requires : tie.Need-put-byte-requires
+put-byte-requires : tie.Need-put_byte-blank-requires
 put-byte-requires c κs = search rules
 
-put-byte-requires-2 : tie.Need-put-byte-requires-2
+put-byte-requires-2 : tie.Need-put_byte-low-requires
 put-byte-requires-2 c κs = search rules
 
-put-integer-requires : tie.Need-put-integer-requires
+put-integer-requires : tie.Need-put_integer-high-requires
 put-integer-requires c κs = search rules
 
-put-integer-requires-2 : tie.Need-put-integer-requires-2
+put-integer-requires-2 : tie.Need-put_integer-price-requires
 put-integer-requires-2 c κs = search rules
 
-put-integer-requires-3 : tie.Need-put-integer-requires-3
+put-integer-requires-3 : tie.Need-put_integer-requires
 put-integer-requires-3 c κs = search rules
 
-same_length : tie.Need-same-length
+same_length : tie.Need-shape_of-out
 same_length c = search rules
 
 returns : tie.Need-returns
@@ -54,13 +54,13 @@ returns c =
     let at_told = k.before.before.before in
     let s = at_told.before.before.before in
     let fit = figures-fit k in
-    let f = puts (omega arith) (puts (omega arith) m.put_byte.ensures b.put-byte2.ensures)
-    (puts (omega arith) w.put-integer.ensures (puts (omega arith) h.put-integer2.ensures p.put-integer3.ensures)) in
-    let g = rw (k.mark-byte.ensures, to_z-of_z fit.0, to_z-of_z fit.1.0, to_z-of_z fit.1.1) at f in
+    let f = puts (omega arith) (puts (omega arith) m.put_byte-blank.ensures b.put_byte-low.ensures)
+    (puts (omega arith) w.put_integer-high.ensures (puts (omega arith) h.put_integer-price.ensures p.put_integer.ensures)) in
+    let g = rw (k.mark_byte.ensures, to_z-of_z fit.0, to_z-of_z fit.1.0, to_z-of_z fit.1.1) at f in
     record { short = item-short s.args.i s.requires.1; next = g.next; bytes = g.bytes }
 
-pub put-item-spec : {M : Type 1} → statement M
-put-item-spec =
+pub put_item_spec : {M : Type 1} → statement M
+put_item_spec =
     tie.close
     (tie.spec
     mark-byte-requires

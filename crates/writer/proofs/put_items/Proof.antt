@@ -7,23 +7,20 @@ use borrow.Author.Rules.{rules}
 use Rattle.writer.proofs.put_items.Statement.{statement}
 use Rattle.writer.proofs.put_items.Tie as tie
 
-slice-aggregate-put-heading : tie.Need-slice-aggregate-put-heading
-slice-aggregate-put-heading c = search rules
-
-put-heading-requires : tie.Need-put-heading-requires
+put-heading-requires : tie.Need-put_heading-next-requires
 put-heading-requires c κs = search rules
 
-put-item-lines-requires : tie.Need-put-item-lines-requires
+put-item-lines-requires : tie.Need-put_item_lines-requires
 put-item-lines-requires c κs = search rules
 
-same_length : tie.Need-same-length
+same_length : tie.Need-shape_of-out
 same_length c = search rules
 
 -- the moments that are spoken of below
-abbrev start : tie.After-put-heading-arg2 → tie.Start
+abbrev start : tie.After-put_heading-arg-2-1 → tie.Start
 start c = c.before.before.before
 
-abbrev after-put-heading : tie.After-put-item-lines-arg → tie.After-put-heading
+abbrev after-put-heading : tie.After-put_item_lines-arg-1 → tie.After-put_heading-next
 after-put-heading c = c.before.before.before
 
 returns : tie.Need-returns
@@ -31,13 +28,12 @@ returns c =
     let l = c.before.before in
     let h = after-put-heading l.before in
     let s = (start h.before).args in
-    rw (upto-length s.m.count (item_at s.m)) (puts (omega arith) h.put-heading.ensures l.put-item-lines.ensures)
+    rw (upto-length s.m.count (item_at s.m)) (puts (omega arith) h.put_heading-next.ensures l.put_item_lines.ensures)
 
-pub put-items-spec : {M : Type 1} → statement M
-put-items-spec =
+pub put_items_spec : {M : Type 1} → statement M
+put_items_spec =
     tie.close
     (tie.spec
-    slice-aggregate-put-heading
     put-heading-requires
     put-item-lines-requires
     same_length

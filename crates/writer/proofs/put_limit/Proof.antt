@@ -7,23 +7,20 @@ use borrow.Author.Rules.{rules}
 use Rattle.writer.proofs.put_limit.Statement.{statement}
 use Rattle.writer.proofs.put_limit.Tie as tie
 
-slice-aggregate-put-heading : tie.Need-slice-aggregate-put-heading
-slice-aggregate-put-heading c = search rules
-
-put-heading-requires : tie.Need-put-heading-requires
+put-heading-requires : tie.Need-put_heading-next-requires
 put-heading-requires c κs = search rules
 
-put-integer-requires : tie.Need-put-integer-requires
+put-integer-requires : tie.Need-put_integer-requires
 put-integer-requires c κs = search rules
 
-same_length : tie.Need-same-length
+same_length : tie.Need-shape_of-out
 same_length c = search rules
 
 -- the moments that are spoken of below
-abbrev start : tie.After-put-heading-arg2 → tie.Start
+abbrev start : tie.After-put_heading-arg-2-1 → tie.Start
 start c = c.before.before.before
 
-abbrev after-put-heading : tie.After-put-integer-arg → tie.After-put-heading
+abbrev after-put-heading : tie.After-put_integer-arg-1 → tie.After-put_heading-next
 after-put-heading c = c.before.before.before
 
 returns : tie.Need-returns
@@ -32,13 +29,12 @@ returns c =
     let i = c.before.before in
     let h = after-put-heading i.before in
     let s = start h.before in
-    rw (to_z-of_z s.fits.b) at (puts (omega arith) h.put-heading.ensures i.put-integer.ensures)
+    rw (to_z-of_z s.ranges.b) at (puts (omega arith) h.put_heading-next.ensures i.put_integer.ensures)
 
-pub put-limit-spec : {M : Type 1} → statement M
-put-limit-spec =
+pub put_limit_spec : {M : Type 1} → statement M
+put_limit_spec =
     tie.close
     (tie.spec
-    slice-aggregate-put-heading
     put-heading-requires
     put-integer-requires
     same_length

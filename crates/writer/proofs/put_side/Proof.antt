@@ -7,17 +7,17 @@ use borrow.Author.Rules.{rules}
 use Rattle.writer.proofs.put_side.Statement.{statement}
 use Rattle.writer.proofs.put_side.Tie as tie
 
-put-side-heading-requires : tie.Need-put-side-heading-requires
+put-side-heading-requires : tie.Need-put_side_heading-next-requires
 put-side-heading-requires c κs = search rules
 
-put-bound-lines-requires : tie.Need-put-bound-lines-requires
+put-bound-lines-requires : tie.Need-put_bound_lines-requires
 put-bound-lines-requires c κs = search rules
 
-same_length : tie.Need-same-length
+same_length : tie.Need-shape_of-out
 same_length c = search rules
 
 -- the moments that are spoken of below
-abbrev after-put-side-heading : tie.After-put-bound-lines-arg → tie.After-put-side-heading
+abbrev after-put-side-heading : tie.After-put_bound_lines-arg-1 → tie.After-put_side_heading-next
 after-put-side-heading c = c.before.before.before
 
 returns : tie.Need-returns
@@ -25,10 +25,10 @@ returns c =
     let l = c.before.before in
     let h = after-put-side-heading l.before in
     let s = h.before.before.before.args in
-    rw (upto-length s.m.count (bounding_at s.side s.m)) (puts (omega arith) h.put-side-heading.ensures l.put-bound-lines.ensures)
+    rw (upto-length s.m.count (bounding_at s.side s.m)) (puts (omega arith) h.put_side_heading-next.ensures l.put_bound_lines.ensures)
 
-pub put-side-spec : {M : Type 1} → statement M
-put-side-spec =
+pub put_side_spec : {M : Type 1} → statement M
+put_side_spec =
     tie.close
     (tie.spec
     put-side-heading-requires

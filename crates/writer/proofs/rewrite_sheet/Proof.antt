@@ -8,42 +8,42 @@ use borrow.Author.Rules.{rules}
 use Rattle.writer.proofs.rewrite_sheet.Statement.{statement}
 use Rattle.writer.proofs.rewrite_sheet.Tie as tie
 
-read-requires : tie.Need-read-requires
+read-requires : tie.Need-read-r-requires
 read-requires c κs = search rules
 
-enum-known-v : tie.Need-enum-known-v
+enum-known-v : tie.Need-enum_known-v
 enum-known-v c = search rules
 
-returns : tie.Need-returns
+returns : tie.Need-returns-in-Refused
 returns c =
     let k = c.before in
-    let e = ap (λ (r : Reading). r.verdict) (sym k.before.before.before.read.ensures) ∙ k.v.given.1 in
+    let e = ap (λ (r : Reading). r.verdict) (sym k.before.before.before.read-r.ensures) ∙ k.v-1.given.1 in
     (rw e, rw e)
 
-enum_told : tie.Need-enum-told
+enum_told : tie.Need-enum_told-1
 enum_told c = search rules
 
-write-sheet-requires : tie.Need-write-sheet-requires
+write-sheet-requires : tie.Need-write_sheet-requires
 write-sheet-requires c κs = search rules
 
-same_length : tie.Need-same-length
+same_length : tie.Need-shape_of-out
 same_length c = search rules
 
-returns-2 : tie.Need-returns-2
+returns-2 : tie.Need-returns
 returns-2 c =
     let w = c.before.before in
     let t = w.before.before in
     let d = t.before.before.before in
-    let r = d.read in
+    let r = d.read-r in
     let s = d.before.before.before.args.s.now in
     let a : read_sheet s ≡ record { verdict = Accepted; model = r.result.model }
-    = sym r.ensures ∙ ap (λ v. record { verdict = v; model = r.result.model }) t.enum_told.given.1 in
+    = sym r.ensures ∙ ap (λ v. record { verdict = v; model = r.result.model }) t.enum_told-1.given.1 in
     let b = read-written s r.result.model a in
-    let f = rw (b.0, b.1) at w.write-sheet.ensures in
+    let f = rw (b.0, b.1) at w.write_sheet.ensures in
     (rw a f.0, rw a f.1)
 
-pub rewrite-sheet-spec : {M : Type 1} → statement M
-rewrite-sheet-spec =
+pub rewrite_sheet_spec : {M : Type 1} → statement M
+rewrite_sheet_spec =
     tie.close
     (tie.spec
     read-requires

@@ -10,20 +10,17 @@ use borrow.Author.Rules.{rules}
 use Rattle.writer.proofs.sheet_text.Statement.{statement}
 use Rattle.writer.proofs.sheet_text.Tie as tie
 
-space-requires : tie.Need-space-requires
+space-requires : tie.Need-space-bytes-requires
 space-requires c κs = search rules
 
-slice-aggregate-put-sheet : tie.Need-slice-aggregate-put-sheet
-slice-aggregate-put-sheet c = search rules
-
-put-sheet-requires : tie.Need-put-sheet-requires
+put-sheet-requires : tie.Need-put_sheet-len-requires
 put-sheet-requires c κs = search rules
 
 returns : tie.Need-returns
 returns c =
     let at-space = c.before.before.before in
     let s = at-space.before in
-    let p = c.before.put-sheet in
+    let p = c.before.put_sheet-len in
     let m = s.args.m in
     let e : p.result ≡ length (printing m) = omega arith in
     let h : p.result ≤ length p.new.0 = omega arith in
@@ -34,6 +31,6 @@ returns c =
       shown = rw (e, p.ensures.bytes) (put-shown (printing m) _);
     }
 
-pub sheet-text-spec : {M : Type 1} → statement M
-sheet-text-spec =
-    tie.close (tie.spec space-requires slice-aggregate-put-sheet put-sheet-requires returns)
+pub sheet_text_spec : {M : Type 1} → statement M
+sheet_text_spec =
+    tie.close (tie.spec space-requires put-sheet-requires returns)

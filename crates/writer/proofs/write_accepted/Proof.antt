@@ -3,19 +3,16 @@ use borrow.Author.Rules.{rules}
 use Rattle.writer.proofs.write_accepted.Statement.{statement}
 use Rattle.writer.proofs.write_accepted.Tie as tie
 
-sheet-text-requires : tie.Need-sheet-text-requires
+sheet-text-requires : tie.Need-sheet_text-t-requires
 sheet-text-requires c κs = search rules
 
-array-share-prefix-bytes : tie.Need-array-share-prefix-bytes
+array-share-prefix-bytes : tie.Need-slice_bounds-bytes-end
 array-share-prefix-bytes c = search rules
 
-slice-aggregate-hand-over : tie.Need-slice-aggregate-hand-over
-slice-aggregate-hand-over c = search rules
-
-hand-over-requires : tie.Need-hand-over-requires
+hand-over-requires : tie.Need-hand_over-requires
 hand-over-requires c κs = search rules
 
-same_length : tie.Need-same-length
+same_length : tie.Need-shape_of-out
 same_length c = search rules
 
 returns : tie.Need-returns
@@ -23,15 +20,14 @@ returns c =
     let h = c.before.before in
     let at-bytes = h.before.before.before in
     let written = at-bytes.before in
-    rw written.sheet-text.ensures.shown at h.hand-over.ensures
+    rw written.sheet_text-t.ensures.shown at h.hand_over.ensures
 
-pub write-accepted-spec : {M : Type 1} → statement M
-write-accepted-spec =
+pub write_accepted_spec : {M : Type 1} → statement M
+write_accepted_spec =
     tie.close
     (tie.spec
     sheet-text-requires
     array-share-prefix-bytes
-    slice-aggregate-hand-over
     hand-over-requires
     same_length
     returns)

@@ -4,36 +4,36 @@ use borrow.Author.Rules.{rules}
 use Rattle.writer.proofs.write_sheet.Statement.{statement}
 use Rattle.writer.proofs.write_sheet.Tie as tie
 
-check-model-requires : tie.Need-check-model-requires
+check-model-requires : tie.Need-check_model-v-requires
 check-model-requires c κs = search rules
 
-enum-known-v : tie.Need-enum-known-v
+enum-known-v : tie.Need-enum_known-v
 enum-known-v c = search rules
 
-returns : tie.Need-returns
+returns : tie.Need-returns-in-Refused
 returns c =
     let k = c.before in
-    let e = sym k.before.before.check-model.ensures ∙ k.v.given.1 in
+    let e = sym k.before.before.check_model-v.ensures ∙ k.v-1.given.1 in
     (rw e, rw e)
 
-enum_told : tie.Need-enum-told
+enum_told : tie.Need-enum_told-1
 enum_told c = search rules
 
-write-accepted-requires : tie.Need-write-accepted-requires
-write-accepted-requires c κs = sym c.before.before.before.check-model.ensures ∙ c.before.enum_told.given.1
+write-accepted-requires : tie.Need-write_accepted-requires
+write-accepted-requires c κs = sym c.before.before.before.check_model-v.ensures ∙ c.before.enum_told-1.given.1
 
-same_length : tie.Need-same-length
+same_length : tie.Need-shape_of-out
 same_length c = search rules
 
-returns-2 : tie.Need-returns-2
+returns-2 : tie.Need-returns
 returns-2 c =
     let w = c.before.before in
     let t = w.before.before in
-    let e = sym t.before.before.check-model.ensures ∙ t.enum_told.given.1 in
-    (rw e w.write-accepted.ensures.0, rw e w.write-accepted.ensures.1)
+    let e = sym t.before.before.check_model-v.ensures ∙ t.enum_told-1.given.1 in
+    (rw e w.write_accepted.ensures.0, rw e w.write_accepted.ensures.1)
 
-pub write-sheet-spec : {M : Type 1} → statement M
-write-sheet-spec =
+pub write_sheet_spec : {M : Type 1} → statement M
+write_sheet_spec =
     tie.close
     (tie.spec
     check-model-requires

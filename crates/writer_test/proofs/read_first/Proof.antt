@@ -9,18 +9,15 @@ use Rattle.writer_test.proofs.read_first.Tie as tie
 read-requires : tie.Need-read-requires
 read-requires c κs = search rules
 
-returns : tie.Need-returns
+returns : tie.Need-returns-then-s-n
 returns c = search rules
-
-slice-aggregate-read : tie.Need-slice-aggregate-read
-slice-aggregate-read c = sym (length-take-le _ _ (omega arith))
 
 read-requires-2 : tie.Need-read-requires-2
 read-requires-2 c κs = search rules
 
-returns-2 : tie.Need-returns-2
+returns-2 : tie.Need-returns
 returns-2 c = search rules
 
-pub read-first-spec : {M : Type 1} → statement M
-read-first-spec =
-    tie.close (tie.spec read-requires returns slice-aggregate-read read-requires-2 returns-2)
+pub read_first_spec : {M : Type 1} → statement M
+read_first_spec =
+    tie.close (tie.spec read-requires returns read-requires-2 returns-2)

@@ -9,36 +9,32 @@ use Rattle.converter_test.proofs.sheets.convert_in_part.Tie as tie
 convert-requires : tie.Need-convert-requires
 convert-requires c κs = search rules
 
-same_length : tie.Need-same-length
+same_length : tie.Need-shape_of-out-then-out-size
 same_length c = search rules
 
-returns : tie.Need-returns
+returns : tie.Need-returns-then-out-size
 returns c = search rules
 
-slice-relend-prefix-convert : tie.Need-slice-relend-prefix-convert
+slice-relend-prefix-convert : tie.Need-slice_bounds-convert-end
 slice-relend-prefix-convert c = search rules
-
-slice-aggregate-convert : tie.Need-slice-aggregate-convert
-slice-aggregate-convert c = sym (length-take-le _ _ (omega arith))
 
 convert-requires-2 : tie.Need-convert-requires-2
 convert-requires-2 c κs = search rules
 
-same-length-2 : tie.Need-same-length-2
+same-length-2 : tie.Need-shape_of-out
 same-length-2 c = search rules
 
-returns-2 : tie.Need-returns-2
+returns-2 : tie.Need-returns
 returns-2 c = search rules
 
-pub convert-in-part-spec : {M : Type 1} → statement M
-convert-in-part-spec =
+pub convert_in_part_spec : {M : Type 1} → statement M
+convert_in_part_spec =
     tie.close
     (tie.spec
     convert-requires
     same_length
     returns
     slice-relend-prefix-convert
-    slice-aggregate-convert
     convert-requires-2
     same-length-2
     returns-2)

@@ -6,57 +6,57 @@ use Rattle.domination.proofs.Sizes.{trade-small}
 use Rattle.domination.proofs.pairing.one_way.Statement.{statement}
 use Rattle.domination.proofs.pairing.one_way.Tie as tie
 
-trade-of-requires : tie.Need-trade-of-requires
+trade-of-requires : tie.Need-trade_of-t-requires
 trade-of-requires c κs = search rules
 
-has-room-requires : tie.Need-has-room-requires
-has-room-requires c κs = rw c.trade-of.ensures (c.before.requires.first-fit.in-range, (trade-small c.before.requires).0)
+has-room-requires : tie.Need-has_room-requires
+has-room-requires c κs = rw c.trade_of-t.ensures (c.before.requires.first-fit.in-range, (trade-small c.before.requires).0)
 
-has-room-requires-2 : tie.Need-has-room-requires-2
+has-room-requires-2 : tie.Need-has_room-requires-then-has_room
 has-room-requires-2 c κs =
     let s = c.before.before.before in
-    rw c.before.before.trade-of.ensures (s.requires.second-fit.in-range, (trade-small s.requires).1)
+    rw c.before.before.trade_of-t.ensures (s.requires.second-fit.in-range, (trade-small s.requires).1)
 
-steps-of-requires : tie.Need-steps-of-requires
+steps-of-requires : tie.Need-steps_of-requires
 steps-of-requires c κs =
     let at-has-room = c.before.before.before in
     let at-trade-of = at-has-room.before in
     let s = at-trade-of.before in
-    rw at-trade-of.trade-of.ensures (s.requires.first-fit.in-range, (s.requires.second-fit.in-range, trade-small s.requires))
+    rw at-trade-of.trade_of-t.ensures (s.requires.first-fit.in-range, (s.requires.second-fit.in-range, trade-small s.requires))
 
-returns : tie.Need-returns
+returns : tie.Need-returns-then-has_room-2
 unfolding one_way
 returns c =
     let at-then1 = c.before.before.before in
     let at-has-room = at-then1.before in
     let at-trade-of = at-has-room.before in
-    let t = at-trade-of.trade-of.ensures in
-    let p = rw t at (sym at-has-room.has_room.ensures ∙ c.before.before.before.if1.true) in
-    let q = rw t at (sym c.before.before.has-room2.ensures ∙ c.before.if2.true) in
+    let t = at-trade-of.trade_of-t.ensures in
+    let p = rw t at (sym at-has-room.has_room.ensures ∙ c.before.before.before.if-has_room.true) in
+    let q = rw t at (sym c.before.before.has_room-then-has_room.ensures ∙ c.before.if-has_room-2.true) in
     rw (p, q) (rw t at c.steps_of.ensures)
 
 -- the moments that are spoken of below
-abbrev after-trade-of : tie.After-has-room2 → tie.After-trade-of
+abbrev after-trade-of : tie.After-has_room-then-has_room → tie.After-trade_of-t
 after-trade-of c = c.before.before.before
 
-returns-2 : tie.Need-returns-2
+returns-2 : tie.Need-returns-else-has_room-2
 unfolding one_way
 returns-2 c =
     let at-trade-of = after-trade-of c.before in
-    let t = at-trade-of.trade-of.ensures in
-    let p = rw t at (sym c.before.before.before.has_room.ensures ∙ c.before.before.if1.true) in
-    let q = rw t at (sym c.before.has-room2.ensures ∙ c.if2.false) in
+    let t = at-trade-of.trade_of-t.ensures in
+    let p = rw t at (sym c.before.before.before.has_room.ensures ∙ c.before.before.if-has_room.true) in
+    let q = rw t at (sym c.before.has_room-then-has_room.ensures ∙ c.if-has_room-2.false) in
     rw (p, q)
 
-returns-3 : tie.Need-returns-3
+returns-3 : tie.Need-returns-else-has_room
 unfolding one_way
 returns-3 c =
-    let t = c.before.before.trade-of.ensures in
-    let p = rw t at (sym c.before.has_room.ensures ∙ c.if1.false) in
+    let t = c.before.before.trade_of-t.ensures in
+    let p = rw t at (sym c.before.has_room.ensures ∙ c.if-has_room.false) in
     rw p
 
-pub one-way-spec : {M : Type 1} → statement M
-one-way-spec =
+pub one_way_spec : {M : Type 1} → statement M
+one_way_spec =
     tie.close
     (tie.spec
     trade-of-requires

@@ -18,72 +18,72 @@ use Rattle.domination.proofs.pairing.room_for.Statement.{statement}
 use Rattle.domination.proofs.pairing.room_for.Tie as tie
 
 -- the moments that are spoken of below
-abbrev after_lower : tie.After-upper → tie.After-lower
+abbrev after_lower : tie.In-At-upper-2 → tie.In-At-2
 after_lower c = c.before.before.before
 
 -- the two bounds where both are present
-abbrev L : tie.After-known-told2 → ℤ
+abbrev L : tie.In-At-upper → ℤ
 L c =
     let at-lower = after_lower c.before in
-    at-lower.lower.given.0.0
+    at-lower.lower-1.given.0.0
 
-abbrev U : tie.After-known-told2 → ℤ
-U c = c.before.upper.given.0.0
+abbrev U : tie.In-At-upper → ℤ
+U c = c.before.upper-1.given.0.0
 
-lower_in : (c : tie.After-known-told2) → Within 10000 (L c)
+lower_in : (c : tie.In-At-upper) → Within 10000 (L c)
 lower_in c =
     let at-lower = after_lower c.before in
     let s = at-lower.before.before in
-    abs-within _ (rw at-lower.lower.given.1 at s.pre.0)
+    abs-within _ (rw at-lower.lower-1.given.1 at s.requires.0)
 
-upper_in : (c : tie.After-known-told2) → Within 10000 (U c)
+upper_in : (c : tie.In-At-upper) → Within 10000 (U c)
 upper_in c =
     let s = (after_lower c.before).before.before in
-    abs-within _ (rw c.before.upper.given.1 at s.pre.1.0)
+    abs-within _ (rw c.before.upper-1.given.1 at s.requires.1.0)
 
-fits : (c : tie.After-known-told2) → SFits w64 (U c -ℤ L c)
+fits : (c : tie.In-At-upper) → SFits w64 (U c -ℤ L c)
 fits c = let l = lower_in c in let u = upper_in c in omega (arith, zs, diff (U c) (L c))
 
 both : (lower upper : Bound) (l u : ℤ) (n : ℕ) → lower ≡ At l → upper ≡ At u → le_z (pos n) (u -ℤ l) ≡ room_for lower upper n
 both lower upper l u n p q = rw (p, q)
 
 -- the difference as the code computes it
-difference : (c : tie.After-known-told2) → to_z w64 (of_z w64 (U c)) -ℤ to_z w64 (of_z w64 (L c)) ≡ U c -ℤ L c
+difference : (c : tie.In-At-upper) → to_z w64 (of_z w64 (U c)) -ℤ to_z w64 (of_z w64 (L c)) ≡ U c -ℤ L c
 difference c = ap₂ ◌-ℤ◌ (to_z-of_z (within-sfits (lit< tt) (upper_in c))) (to_z-of_z (within-sfits (lit< tt) (lower_in c)))
 
-enum_told : tie.Need-enum-told
+enum_told : tie.Need-enum_told-1
 enum_told c = search rules
 
-enum-known-lower : tie.Need-enum-known-lower
+enum-known-lower : tie.Need-enum_known-lower
 enum-known-lower c = search rules
 
-enum-told-2 : tie.Need-enum-told-2
+enum-told-2 : tie.Need-enum_told-in-Absent-upper
 enum-told-2 c = search rules
 
-enum-known-upper : tie.Need-enum-known-upper
+enum-known-upper : tie.Need-enum_known-upper
 enum-known-upper c = search rules
 
-cast-result : tie.Need-overflow-cast-result
+cast-result : tie.Need-overflow_cast-result
 cast-result c = search rules
 
-sub-result : tie.Need-overflow-sub-result
+sub-result : tie.Need-overflow_sub-result
 sub-result c = rw (difference c) (fits c)
 
-returns : tie.Need-returns
+returns : tie.Need-returns-in-Absent
 returns c = search rules
 
-returns-2 : tie.Need-returns-2
+returns-2 : tie.Need-returns-in-Absent-upper
 returns-2 c = search rules
 
-returns-3 : tie.Need-returns-3
+returns-3 : tie.Need-returns-in-At-upper
 returns-3 c =
     let at-lower = after_lower c.before in
     let s = at-lower.before.before in
     rw (difference c, to_z-of_z (fits c), to_z_pos w64 {n = s.args.n} (omega arith))
-    (both _ _ _ _ s.args.n at-lower.lower.given.1 c.before.upper.given.1)
+    (both _ _ _ _ s.args.n at-lower.lower-1.given.1 c.before.upper-1.given.1)
 
-pub room-for-spec : {M : Type 1} → statement M
-room-for-spec =
+pub room_for_spec : {M : Type 1} → statement M
+room_for_spec =
     tie.close
     (tie.spec
     enum_told

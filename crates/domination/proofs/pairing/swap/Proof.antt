@@ -14,22 +14,22 @@ use Rattle.domination.proofs.pairing.swap.Tie as tie
 turned : (q : Pair) (r s : ℤ) → q ≡ Steps r s → Steps s r ≡ swapped q
 turned q r s e = rw e
 
-enum_told : tie.Need-enum-told
+enum_told : tie.Need-enum_told-1
 enum_told c = search rules
 
-enum-known-q : tie.Need-enum-known-q
+enum-known-q : tie.Need-enum_known-q
 enum-known-q c = search rules
 
-returns : tie.Need-returns
+returns : tie.Need-returns-in-Missing
 returns c = search rules
 
-returns-2 : tie.Need-returns-2
+returns-2 : tie.Need-returns-in-Steps
 returns-2 c =
-    let r = c.before.q.given.0.0 in
-    let s = c.before.q.given.0.1.0 in
+    let r = c.before.q-1.given.0.0 in
+    let s = c.before.q-1.given.0.1.0 in
     let hr : SFits w64 r = search rules in
     let hs : SFits w64 s = search rules in
-    rw (to_z-of_z hr, to_z-of_z hs) (turned _ r s c.before.q.given.1)
+    rw (to_z-of_z hr, to_z-of_z hs) (turned _ r s c.before.q-1.given.1)
 
 pub swap_spec : {M : Type 1} → statement M
 swap_spec = tie.close (tie.spec enum_told enum-known-q returns returns-2)

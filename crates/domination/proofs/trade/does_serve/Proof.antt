@@ -6,20 +6,20 @@ use Rattle.domination.proofs.Trades.{partner-most}
 use Rattle.domination.proofs.trade.does_serve.Statement.{statement}
 use Rattle.domination.proofs.trade.does_serve.Tie as tie
 
-partner-of-requires : tie.Need-partner-of-requires
+partner-of-requires : tie.Need-partner_of-t-requires
 partner-of-requires c κs = search rules
 
-mul-result : tie.Need-overflow-mul-result
+mul-result : tie.Need-overflow_mul-result
 mul-result c =
     let s = c.before in
     let h = partner-most s.args.c s.args.d s.args.r s.requires.0.c-most s.requires.1 in
-    rw c.partner-of.ensures (omega (arith, mul-le-mul s.requires.0.b-most h))
+    rw c.partner_of-t.ensures (omega (arith, mul-le-mul s.requires.0.b-most h))
 
-mul-result-2 : tie.Need-overflow-mul-result-2
+mul-result-2 : tie.Need-overflow_mul-result-2
 mul-result-2 c = let s = c.before in omega (arith, mul-le-mul s.requires.0.a-most s.requires.1)
 
 returns : tie.Need-returns
-returns c = rw c.partner-of.ensures
+returns c = rw c.partner_of-t.ensures
 
-pub does-serve-spec : {M : Type 1} → statement M
-does-serve-spec = tie.close (tie.spec partner-of-requires mul-result mul-result-2 returns)
+pub does_serve_spec : {M : Type 1} → statement M
+does_serve_spec = tie.close (tie.spec partner-of-requires mul-result mul-result-2 returns)

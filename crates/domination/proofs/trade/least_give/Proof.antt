@@ -7,47 +7,47 @@ use Rattle.domination.proofs.Trades.{turn-stop, turn_on, turn_last}
 use Rattle.domination.proofs.trade.least_give.Statement.{statement}
 use Rattle.domination.proofs.trade.least_give.Tie as tie
 
-abbrev invariant-loop : tie.invariant-loop
+abbrev invariant-loop : tie.invariant-loop-r
 invariant-loop a b c d r₀ r = (r ≤ b) × (serving (b - r) a b c d r ≡ least_give a b c d)
 
-abbrev decreases-loop : tie.decreases-loop
+abbrev decreases-loop : tie.decreases-loop-r
 decreases-loop a b c d r₀ r = b - r
 
-loop-holds : tie.Need-loop-init invariant-loop decreases-loop
+loop-holds : tie.Need-loop-r-init invariant-loop decreases-loop
 unfolding least_give
 loop-holds c = (omega arith, refl)
 
-does-serve-requires : tie.Need-does-serve-requires invariant-loop decreases-loop
+does-serve-requires : tie.Need-does_serve-requires invariant-loop decreases-loop
 does-serve-requires c κs = omega arith
 
-returns : tie.Need-returns invariant-loop decreases-loop
+returns : tie.Need-returns-then-does_serve invariant-loop decreases-loop
 returns c =
     let l = c.before.before.before in
     let x = l.before.args in
-    let e = sym c.before.does-serve.ensures ∙ c.if1.true in
-    sym (turn-stop x.a x.b x.c x.d l.loop.r (omega arith) e) ∙ l.loop.invariant.1
+    let e = sym c.before.does_serve.ensures ∙ c.if-does_serve.true in
+    sym (turn-stop x.a x.b x.c x.d l.loop-r.r (omega arith) e) ∙ l.loop-r.invariant.1
 
-add_r : tie.Need-overflow-add-r invariant-loop decreases-loop
+add_r : tie.Need-overflow_add-r invariant-loop decreases-loop
 add_r c = omega arith
 
-loop-less : tie.Need-loop-smaller invariant-loop decreases-loop
+loop-less : tie.Need-loop-r-smaller invariant-loop decreases-loop
 loop-less c = omega arith
 
-loop-again : tie.Need-loop-preserved invariant-loop decreases-loop
+loop-again : tie.Need-loop-r-preserved invariant-loop decreases-loop
 loop-again c =
     let l = c.before.before.before in
     let x = l.before.args in
-    let e = sym c.before.does-serve.ensures ∙ c.if1.false in
-    (omega arith, sym (turn_on x.a x.b x.c x.d l.loop.r (omega arith) e) ∙ l.loop.invariant.1)
+    let e = sym c.before.does_serve.ensures ∙ c.if-does_serve.false in
+    (omega arith, sym (turn_on x.a x.b x.c x.d l.loop-r.r (omega arith) e) ∙ l.loop-r.invariant.1)
 
-returns-2 : tie.Need-returns-2 invariant-loop decreases-loop
+returns-2 : tie.Need-returns invariant-loop decreases-loop
 returns-2 c =
     let l = c.before in
     let x = l.before.args in
-    sym (turn_last x.a x.b x.c x.d l.loop.r (omega arith)) ∙ l.loop.invariant.1
+    sym (turn_last x.a x.b x.c x.d l.loop-r.r (omega arith)) ∙ l.loop-r.invariant.1
 
-pub least-give-spec : {M : Type 1} → statement M
-least-give-spec =
+pub least_give_spec : {M : Type 1} → statement M
+least_give_spec =
     tie.close
     (tie.spec
     invariant-loop

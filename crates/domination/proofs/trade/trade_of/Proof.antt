@@ -8,30 +8,30 @@ use Rattle.domination.proofs.trade.trade_of.Statement.{statement}
 use Rattle.domination.proofs.trade.trade_of.Tie as tie
 
 -- the four figures, as the locals hold them
-figures : (c : tie.After-size-of2) →
-    Sizes c.before.size_of.result.weight c.size-of2.result.weight c.before.size_of.result.price c.size-of2.result.price
-figures c = rw (c.before.size_of.ensures, c.size-of2.ensures) (sizes c.before.before.requires)
+figures : (c : tie.After-size_of-t) →
+    Sizes c.before.size_of-s.result.weight c.size_of-t.result.weight c.before.size_of-s.result.price c.size_of-t.result.price
+figures c = rw (c.before.size_of-s.ensures, c.size_of-t.ensures) (sizes c.before.before.requires)
 
-size-of-requires : tie.Need-size-of-requires
+size-of-requires : tie.Need-size_of-s-requires
 size-of-requires c κs = search rules
 
-size-of-requires-2 : tie.Need-size-of-requires-2
+size-of-requires-2 : tie.Need-size_of-t-requires
 size-of-requires-2 c κs = search rules
 
-least-give-requires : tie.Need-least-give-requires
+least-give-requires : tie.Need-least_give-give-requires
 least-give-requires c κs = figures c
 
 -- the least step, as the local holds it
-small : (c : tie.After-least-give) → c.least-give.result ≤ 1000
-small c = rw (c.least-give.ensures, c.before.before.size_of.ensures, c.before.size-of2.ensures) (trade-small c.before.before.before.requires).0
+small : (c : tie.After-least_give-give) → c.least_give-give.result ≤ 1000
+small c = rw (c.least_give-give.ensures, c.before.before.size_of-s.ensures, c.before.size_of-t.ensures) (trade-small c.before.before.before.requires).0
 
-partner-of-requires : tie.Need-partner-of-requires
+partner-of-requires : tie.Need-partner_of-take-requires
 partner-of-requires c κs = omega (arith, figures c.before, small c)
 
 returns : tie.Need-returns
-returns c = rw (c.partner-of.ensures, c.before.least-give.ensures, c.before.before.before.size_of.ensures, c.before.before.size-of2.ensures)
+returns c = rw (c.partner_of-take.ensures, c.before.least_give-give.ensures, c.before.before.before.size_of-s.ensures, c.before.before.size_of-t.ensures)
 
-pub trade-of-spec : {M : Type 1} → statement M
-trade-of-spec =
+pub trade_of_spec : {M : Type 1} → statement M
+trade_of_spec =
     tie.close
     (tie.spec size-of-requires size-of-requires-2 least-give-requires partner-of-requires returns)

@@ -33,34 +33,34 @@ unit-above (negsuc n) r h = absurd (omega (arith, zs))
 less-fits : (r : ℤ) → Within most_room r → SFits w64 (pos 0 -ℤ r)
 less-fits r h = rw (zero-less r) (within-sfits (lit< tt) (within-neg r h))
 
-sub-result : tie.Need-overflow-sub-result
+sub-result : tie.Need-overflow_sub-result
 sub-result c = let s = c.before.before.before in rw (within-back tt s.requires) (less-fits s.args.room s.requires)
 
-returns : tie.Need-returns
+returns : tie.Need-returns-then-a-lt0
 returns c =
     let s = c.before.before.before in
-    let t = rw (to_z-of_z s.ranges.a) at c.if3.true in
+    let t = rw (to_z-of_z s.ranges.a) at c.if-a-lt0.true in
     rw (
-      lt-ltb _ _ c.before.before.if1.true,
-      eq-eqb _ _ c.before.if2.true,
+      lt-ltb _ _ c.before.before.if-u-n.true,
+      eq-eqb _ _ c.before.if-v-u.true,
       within-back tt s.requires,
       to_z-of_z (less-fits s.args.room s.requires),
       zero-less s.args.room,
     )
     (unit-below s.args.a s.args.room (omega (arith, zs)))
 
-returns-2 : tie.Need-returns-2
+returns-2 : tie.Need-returns-then-v-u
 returns-2 c =
     let s = c.before.before.before in
-    let t = rw (to_z-of_z s.ranges.a) at c.if3.false in
-    rw (lt-ltb _ _ c.before.before.if1.true, eq-eqb _ _ c.before.if2.true, within-back tt s.requires)
+    let t = rw (to_z-of_z s.ranges.a) at c.if-a-lt0.false in
+    rw (lt-ltb _ _ c.before.before.if-u-n.true, eq-eqb _ _ c.before.if-v-u.true, within-back tt s.requires)
     (unit-above s.args.a s.args.room (omega (arith, zs)))
 
-returns-3 : tie.Need-returns-3
-returns-3 c = rw (lt-ltb _ _ c.before.if1.true, ne_eqb _ _ c.if2.false)
+returns-3 : tie.Need-returns-else-v-u
+returns-3 c = rw (lt-ltb _ _ c.before.if-u-n.true, ne_eqb _ _ c.if-v-u.false)
 
-returns-4 : tie.Need-returns-4
-returns-4 c = rw (le-ltb _ _ c.if1.false)
+returns-4 : tie.Need-returns-else-u-n
+returns-4 c = rw (le-ltb _ _ c.if-u-n.false)
 
-pub taking-spec : {M : Type 1} → statement M
-taking-spec = tie.close (tie.spec sub-result returns returns-2 returns-3 returns-4)
+pub taking_spec : {M : Type 1} → statement M
+taking_spec = tie.close (tie.spec sub-result returns returns-2 returns-3 returns-4)

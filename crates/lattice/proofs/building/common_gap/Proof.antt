@@ -26,18 +26,18 @@ is : (c : tie.After-gcd) → pos c.gcd.result ≡ common_gap c.before.before.bef
 is c =
     let s = c.before.before.before in
     let e = rw (within-back tt s.requires.0) at c.before.before.magnitude.ensures in
-    let f = rw (within-back tt s.requires.1) at c.before.magnitude2.ensures in
+    let f = rw (within-back tt s.requires.1) at c.before.magnitude-2.ensures in
     rw (c.gcd.ensures, e, f)
 
 near : (c : tie.After-gcd) → Within 100000000 (pos c.gcd.result)
 near c = let s = c.before.before.before in rw (is c) (common-within s.args.g s.args.h s.requires.0 s.requires.1)
 
-cast-result : tie.Need-overflow-cast-result
+cast-result : tie.Need-overflow_cast-result
 cast-result c = within-sfits (lit< tt) (near c)
 
 returns : tie.Need-returns
 returns c = to_z_pos w64 (omega (arith, (near c).above)) ∙ is c
 
-pub common-gap-spec : {M : Type 1} → statement M
-common-gap-spec =
+pub common_gap_spec : {M : Type 1} → statement M
+common_gap_spec =
     tie.close (tie.spec magnitude-requires magnitude-requires-2 gcd-requires cast-result returns)

@@ -8,83 +8,83 @@ use Rattle.lattice.proofs.Levels.{held-step, held-stop, held_none}
 use Rattle.lattice.proofs.building.held_from.Statement.{statement}
 use Rattle.lattice.proofs.building.held_from.Tie as tie
 
-abbrev invariant-loop : tie.invariant-loop
+abbrev invariant-loop : tie.invariant-loop-j
 invariant-loop l d n weight price j₀ j = held_from l (entry weight) (entry price) j (n - j) ≡ held_from l (entry weight) (entry price) d (n - d)
 
-abbrev decreases-loop : tie.decreases-loop
+abbrev decreases-loop : tie.decreases-loop-j
 decreases-loop l d n weight price j₀ j = n - j
 
-loop-holds : tie.Need-loop-init invariant-loop decreases-loop
+loop-holds : tie.Need-loop-j-init invariant-loop decreases-loop
 loop-holds c = refl
 
-mul-a : tie.Need-overflow-mul-a invariant-loop decreases-loop
+mul-a : tie.Need-offset_bounds-weight-j invariant-loop decreases-loop
 mul-a c = omega (arith, c.before.before.requires.1.1.few)
 
-array-copy-out-a : tie.Need-array-copy-out-a invariant-loop decreases-loop
+array-copy-out-a : tie.Need-bounds-weight-j invariant-loop decreases-loop
 array-copy-out-a c = omega (arith, c.before.before.requires.1.1.few)
 
-mul-c : tie.Need-overflow-mul-c invariant-loop decreases-loop
+mul-c : tie.Need-offset_bounds-price-j invariant-loop decreases-loop
 mul-c c = omega (arith, c.before.before.before.requires.1.1.few)
 
-array-copy-out-c : tie.Need-array-copy-out-c invariant-loop decreases-loop
+array-copy-out-c : tie.Need-bounds-price-j invariant-loop decreases-loop
 array-copy-out-c c = omega (arith, c.before.before.before.requires.1.1.few)
 
 holds-requires : tie.Need-holds-requires invariant-loop decreases-loop
 holds-requires c κs =
     let i = c.before.before.before in
     let s = i.before in
-    let w = s.requires.1.1.weights-in i.loop.j in
-    let p = s.requires.1.1.prices-in i.loop.j in
+    let w = s.requires.1.1.weights-in i.loop-j.j in
+    let p = s.requires.1.1.prices-in i.loop-j.j in
     rw (within-back tt w, within-back tt p) (record { tame = s.requires.0; stride≥1 = s.requires.1.0; weight-in = w; price-in = p })
 
 -- the moments that are spoken of below
-abbrev at-loop-of-a : tie.After-a invariant-loop decreases-loop → tie.At-loop invariant-loop decreases-loop
+abbrev at-loop-of-a : tie.After-a-1 invariant-loop decreases-loop → tie.At-loop-j invariant-loop decreases-loop
 at-loop-of-a c = c.before.before
 
-abbrev at-loop : tie.After-holds invariant-loop decreases-loop → tie.At-loop invariant-loop decreases-loop
+abbrev at-loop : tie.After-holds invariant-loop decreases-loop → tie.At-loop-j invariant-loop decreases-loop
 at-loop c = at-loop-of-a c.before.before
 
 abbrev start : tie.After-holds invariant-loop decreases-loop → tie.Start invariant-loop decreases-loop
 start c = (at-loop c).before
 
 -- what `holds` says of the item at j
-found : (c : tie.After-holds invariant-loop decreases-loop) → c.holds.result ≡ holds_by (start c).args.l (entry (start c).args.t2 (at-loop c).loop.j)
-    (entry (start c).args.t3 (at-loop c).loop.j)
+found : (c : tie.After-holds invariant-loop decreases-loop) → c.holds.result ≡ holds_by (start c).args.l (entry (start c).args.t2 (at-loop c).loop-j.j)
+    (entry (start c).args.t3 (at-loop c).loop-j.j)
 found c =
     let i = at-loop c in
     let s = i.before in
-    rw (within-back tt (s.pre.1.1.weights-in i.loop.j), within-back tt (s.pre.1.1.prices-in i.loop.j)) at c.holds.ensures
+    rw (within-back tt (s.requires.1.1.weights-in i.loop-j.j), within-back tt (s.requires.1.1.prices-in i.loop-j.j)) at c.holds.ensures
 
-add-j : tie.Need-overflow-add-j invariant-loop decreases-loop
+add-j : tie.Need-overflow_add-j invariant-loop decreases-loop
 add-j c =
     let s = start c.before in
-    omega (arith, s.pre.1.1.few)
+    omega (arith, s.requires.1.1.few)
 
-loop-less : tie.Need-loop-smaller invariant-loop decreases-loop
+loop-less : tie.Need-loop-j-smaller invariant-loop decreases-loop
 loop-less c = omega arith
 
-loop-again : tie.Need-loop-preserved invariant-loop decreases-loop
+loop-again : tie.Need-loop-j-preserved invariant-loop decreases-loop
 loop-again c =
     let i = at-loop c.before in
     let s = i.before in
-    held-step s.args.l (entry s.args.t2) (entry s.args.t3) i.loop.j s.args.n (omega arith) (sym (found c.before) ∙ c.if1.true)
-    ∙ i.loop.inv
+    held-step s.args.l (entry s.args.t2) (entry s.args.t3) i.loop-j.j s.args.n (omega arith) (sym (found c.before) ∙ c.if-holds.true)
+    ∙ i.loop-j.invariant
 
-returns : tie.Need-returns invariant-loop decreases-loop
+returns : tie.Need-returns-else-holds invariant-loop decreases-loop
 returns c =
     let i = at-loop c.before in
     let s = i.before in
-    sym (sym i.loop.inv ∙ held-stop s.args.l (entry s.args.t2) (entry s.args.t3) i.loop.j s.args.n (omega arith)
-    (sym (found c.before) ∙ c.if1.false))
+    sym (sym i.loop-j.invariant ∙ held-stop s.args.l (entry s.args.t2) (entry s.args.t3) i.loop-j.j s.args.n (omega arith)
+    (sym (found c.before) ∙ c.if-holds.false))
 
-returns-2 : tie.Need-returns-2 invariant-loop decreases-loop
+returns-2 : tie.Need-returns invariant-loop decreases-loop
 returns-2 c =
     let i = c.before in
     let s = i.before in
-    sym (sym i.loop.invariant ∙ held_none s.args.l (entry s.args.t2) (entry s.args.t3) i.loop.j s.args.n (omega arith))
+    sym (sym i.loop-j.invariant ∙ held_none s.args.l (entry s.args.t2) (entry s.args.t3) i.loop-j.j s.args.n (omega arith))
 
-pub held-from-spec : {M : Type 1} → statement M
-held-from-spec =
+pub held_from_spec : {M : Type 1} → statement M
+held_from_spec =
     tie.close
     (tie.spec
     invariant-loop

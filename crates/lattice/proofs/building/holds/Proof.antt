@@ -38,13 +38,13 @@ rest-requires c κs =
 left : (c : tie.After-rest) → to_z w64 (of_z w64 c.rest.result) ≡ rest_of c.before.before.args.a c.before.before.args.l.stride
 left c =
     let s = c.before.before in
-    rw (back c.rest.result c.rest.type-inv) (rw (within-back tt s.requires.weight-in, within-back tt s.requires.tame.stride-in) at c.rest.ensures)
+    rw (back c.rest.result c.rest.type_inv) (rw (within-back tt s.requires.weight-in, within-back tt s.requires.tame.stride-in) at c.rest.ensures)
 
-returns : tie.Need-returns
+returns : tie.Need-returns-then-rest-gt0
 unfolding holds_by
-returns c = let k = rw (left c.before) at c.if1.true in rw k
+returns c = let k = rw (left c.before) at c.if-rest-gt0.true in rw k
 
-floor-div-requires : tie.Need-floor-div-requires
+floor-div-requires : tie.Need-floor_div-requires
 floor-div-requires c κs =
     let s = c.before.before.before in
     rw (within-back tt s.requires.weight-in, within-back tt s.requires.tame.stride-in)
@@ -54,49 +54,49 @@ floor-div-requires c κs =
 abbrev start-of-rest : tie.After-rest → tie.Start
 start-of-rest c = c.before.before
 
-abbrev start : tie.After-floor-div → tie.Start
+abbrev start : tie.After-floor_div → tie.Start
 start c = start-of-rest c.before.before
 
-abbrev after-floor-div : tie.After-struct-told3 → tie.After-floor-div
+abbrev after-floor-div : tie.After-struct_told-3-1 → tie.After-floor_div
 after-floor-div c = c.before.before.before
 
 -- the slant times the strides, as the locals hold them
-multiple : (c : tie.After-floor-div) →
+multiple : (c : tie.After-floor_div) →
     let s = start c in
-    to_z w64 (of_z w64 s.args.l.slant) *ℤ to_z w64 (of_z w64 c.floor-div.result)
+    to_z w64 (of_z w64 s.args.l.slant) *ℤ to_z w64 (of_z w64 c.floor_div.result)
     ≡ s.args.l.slant *ℤ S s
 multiple c =
     let s = start c in
-    let e = rw (within-back tt s.pre.weight-in, within-back tt s.pre.tame.stride-in) at c.floor-div.ensures in
-    rw (within-back tt s.pre.tame.slant-in, back c.floor-div.result c.floor-div.type-inv, e)
+    let e = rw (within-back tt s.requires.weight-in, within-back tt s.requires.tame.stride-in) at c.floor_div.ensures in
+    rw (within-back tt s.requires.tame.slant-in, back c.floor_div.result c.floor_div.type_inv, e)
 
-mul-z : tie.Need-overflow-mul-z
+mul-z : tie.Need-overflow_mul-z
 mul-z c = let f = c.before.before in rw (multiple f) (within-sfits (lit< tt) (product (start f)))
 
-sub-z : tie.Need-overflow-sub-z
+sub-z : tie.Need-overflow_sub-z
 sub-z c =
     let f = c.before.before in
     let s = start f in
-    rw (multiple f, within-back tt (product s), within-back tt s.pre.price-in) (within-sfits (lit< tt) (over s))
+    rw (multiple f, within-back tt (product s), within-back tt s.requires.price-in) (within-sfits (lit< tt) (over s))
 
 rest-requires-2 : tie.Need-rest-requires-2
 rest-requires-2 c κs =
     let f = c.before.before.before in
     let s = start f in
-    rw (multiple f, within-back tt (product s), within-back tt s.pre.price-in, within-back tt (over s), within-back tt s.pre.tame.gap-in)
-    (record { dividend-in = within_more (omega arith) (over s); divisor-in = s.pre.tame.gap-in; divisor≥1 = s.pre.tame.gap≥1 })
+    rw (multiple f, within-back tt (product s), within-back tt s.requires.price-in, within-back tt (over s), within-back tt s.requires.tame.gap-in)
+    (record { dividend-in = within_more (omega arith) (over s); divisor-in = s.requires.tame.gap-in; divisor≥1 = s.requires.tame.gap≥1 })
 
-returns-2 : tie.Need-returns-2
+returns-2 : tie.Need-returns
 unfolding holds_by
 returns-2 c =
     let f = after-floor-div c.before in
     let s = start f in
-    let k = rw (left f.before.before) at f.before.if1.left in
-    let e = rw (multiple f, within-back tt (product s), within-back tt s.pre.price-in, within-back tt (over s), within-back tt s.pre.tame.gap-in) at
-    c.rest2.ensures in
-    rw (k, back c.rest2.result c.rest2.type-inv, e)
+    let k = rw (left f.before.before) at f.before.if-rest-gt0.false in
+    let e = rw (multiple f, within-back tt (product s), within-back tt s.requires.price-in, within-back tt (over s), within-back tt s.requires.tame.gap-in) at
+    c.rest-2.ensures in
+    rw (k, back c.rest-2.result c.rest-2.type_inv, e)
 
-pub holds-spec : {M : Type 1} → statement M
-holds-spec =
+pub holds_spec : {M : Type 1} → statement M
+holds_spec =
     tie.close
     (tie.spec rest-requires returns floor-div-requires mul-z sub-z rest-requires-2 returns-2)

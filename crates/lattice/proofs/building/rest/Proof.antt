@@ -20,26 +20,26 @@ taken s = multiple-within s.args.n s.args.m s.requires.divisor≥1 s.requires.di
 left : (s : tie.Start) → Within 100000000 (rest_of s.args.n s.args.m)
 left s = rest-within s.args.n s.args.m s.requires.divisor≥1 s.requires.dividend-in s.requires.divisor-in
 
-floor-div-requires : tie.Need-floor-div-requires
+floor-div-requires : tie.Need-floor_div-requires
 floor-div-requires c κs = let s = c in rw (within-back tt s.requires.dividend-in, within-back tt s.requires.divisor-in)
     (within_more (omega arith) s.requires.dividend-in, nonzero s.args.m s.requires.divisor≥1)
 
 -- the divisor times the quotient, as the local holds it
-multiple : (c : tie.After-floor-div) → to_z w64 (of_z w64 c.before.args.m) *ℤ to_z w64 (of_z w64 c.floor-div.result) ≡ c.before.args.m *ℤ floor_div
+multiple : (c : tie.After-floor_div) → to_z w64 (of_z w64 c.before.args.m) *ℤ to_z w64 (of_z w64 c.floor_div.result) ≡ c.before.args.m *ℤ floor_div
     c.before.args.n c.before.args.m
 multiple c =
     let s = c.before in
-    let e = rw (within-back tt s.requires.dividend-in, within-back tt s.requires.divisor-in) at c.floor-div.ensures in
-    rw (within-back tt s.requires.divisor-in, back c.floor-div.result c.floor-div.type-inv, e)
+    let e = rw (within-back tt s.requires.dividend-in, within-back tt s.requires.divisor-in) at c.floor_div.ensures in
+    rw (within-back tt s.requires.divisor-in, back c.floor_div.result c.floor_div.type_inv, e)
 
-mul-result : tie.Need-overflow-mul-result
+mul-result : tie.Need-overflow_mul-result
 mul-result c = rw (multiple c) (within-sfits (lit< tt) (taken c.before))
 
-sub-result : tie.Need-overflow-sub-result
+sub-result : tie.Need-overflow_sub-result
 sub-result c = let s = c.before in rw (multiple c, within-back tt (taken s), within-back tt s.requires.dividend-in) (within-sfits (lit< tt) (left s))
 
 returns : tie.Need-returns
 returns c = let s = c.before in rw (multiple c, within-back tt (taken s), within-back tt s.requires.dividend-in) (within-back tt (left s))
 
-pub rest-spec : {M : Type 1} → statement M
-rest-spec = tie.close (tie.spec floor-div-requires mul-result sub-result returns)
+pub rest_spec : {M : Type 1} → statement M
+rest_spec = tie.close (tie.spec floor-div-requires mul-result sub-result returns)

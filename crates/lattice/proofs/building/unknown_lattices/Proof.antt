@@ -5,11 +5,11 @@ use borrow.Author.Rules.{rules}
 use Rattle.lattice.proofs.building.unknown_lattices.Statement.{statement}
 use Rattle.lattice.proofs.building.unknown_lattices.Tie as tie
 
-unknown-lattice-requires : tie.Need-unknown-lattice-requires
+unknown-lattice-requires : tie.Need-unknown_lattice-l-requires
 unknown-lattice-requires c κs = search rules
 
 returns : tie.Need-returns
-returns c = ap (replicate 16) c.unknown-lattice.ensures
+returns c = ap (replicate 16) c.unknown_lattice-l.ensures
 
-pub unknown-lattices-spec : {M : Type 1} → statement M
-unknown-lattices-spec = tie.close (tie.spec unknown-lattice-requires returns)
+pub unknown_lattices_spec : {M : Type 1} → statement M
+unknown_lattices_spec = tie.close (tie.spec unknown-lattice-requires returns)

@@ -5,58 +5,58 @@ use borrow.Author.Rules.{rules}
 use Rattle.lines.proofs.number.closed_number.Statement.{statement}
 use Rattle.lines.proofs.number.closed_number.Tie as tie
 
-number-requires : tie.Need-number-requires
+number-requires : tie.Need-number-f-requires
 number-requires c κs = search rules
 
-enum_told : tie.Need-enum-told
+enum_told : tie.Need-enum_told-1
 enum_told c = search rules
 
-fault-at-requires : tie.Need-fault-at-requires
+fault-at-requires : tie.Need-fault_at-requires
 fault-at-requires c κs = search rules
 
-enum-known-f : tie.Need-enum-known-f
+enum-known-f : tie.Need-enum_known-f
 enum-known-f c = search rules
 
-after-byte-requires : tie.Need-after-byte-requires
+after-byte-requires : tie.Need-after_byte-p-requires
 after-byte-requires c κs = search rules
 
-enum-told-2 : tie.Need-enum-told-2
+enum-told-2 : tie.Need-enum_told-in-Nothing-p
 enum-told-2 c = search rules
 
-fault-at-requires-2 : tie.Need-fault-at-requires-2
+fault-at-requires-2 : tie.Need-fault_at-requires-in-Nothing-p
 fault-at-requires-2 c κs = search rules
 
-enum-known-p : tie.Need-enum-known-p
+enum-known-p : tie.Need-enum_known-p
 enum-known-p c = search rules
 
-returns : tie.Need-returns
+returns : tie.Need-returns-in-Nothing
 unfolding field_at
 returns c =
-    let t = c.before in rw (sym t.before.before.number.ensures ∙ t.enum_told.given.1) (ap (λ n. Fault n) c.fault-at.ensures)
+    let t = c.before in rw (sym t.before.before.number-f.ensures ∙ t.enum_told-1.given.1) (ap (λ n. Fault n) c.fault_at.ensures)
 
-returns-2 : tie.Need-returns-2
+returns-2 : tie.Need-returns-in-Nothing-p
 unfolding field_at
 returns-2 c =
     let t = c.before in
     let m = t.before.before.before in
     rw (
-      sym m.before.before.before.number.ensures ∙ m.before.f.given.1,
-      sym t.before.before.after-byte.ensures ∙ t.enum-told2.given.1,
+      sym m.before.before.before.number-f.ensures ∙ m.before.f-1.given.1,
+      sym t.before.before.after_byte-p.ensures ∙ t.enum_told-in-Nothing-p-1.given.1,
     )
-    (ap (λ n. Fault n) c.fault-at2.ensures)
+    (ap (λ n. Fault n) c.fault_at-in-Nothing-p.ensures)
 
-returns-3 : tie.Need-returns-3
+returns-3 : tie.Need-returns-in-At
 unfolding field_at
 returns-3 c =
     let p = c.before in
     let m = p.before.before.before in
     rw (
-      sym m.before.before.before.number.ensures ∙ m.before.f.given.1,
-      sym p.before.before.after-byte.ensures ∙ p.p.given.1,
+      sym m.before.before.before.number-f.ensures ∙ m.before.f-1.given.1,
+      sym p.before.before.after_byte-p.ensures ∙ p.p-1.given.1,
     )
 
-pub closed-number-spec : {M : Type 1} → statement M
-closed-number-spec =
+pub closed_number_spec : {M : Type 1} → statement M
+closed_number_spec =
     tie.close
     (tie.spec
     number-requires

@@ -22,65 +22,65 @@ done : (s : List ℕ) (from value at : ℕ) → Reading s from value at → digi
 unfolding read_after
 done s from value at r e = record { capped = sym (r.same ∙ rw e (omega (arith, r.small))); behind = omega (arith, rw e at r.place) }
 
-abbrev invariant-loop : tie.invariant-loop
+abbrev invariant-loop : tie.invariant-loop-at
 invariant-loop s from value₀ at₀ value at = Reading s from value at
 
-abbrev decreases-loop : tie.decreases-loop
+abbrev decreases-loop : tie.decreases-loop-at
 decreases-loop s from value₀ at₀ value at = length s - at
 
-loop-holds : tie.Need-loop-init invariant-loop decreases-loop
+loop-holds : tie.Need-loop-at-init invariant-loop decreases-loop
 loop-holds c = record { small = omega arith; same = refl; place = refl }
 
-shared-slice-read-b : tie.Need-shared-slice-read-b invariant-loop decreases-loop
+shared-slice-read-b : tie.Need-bounds-s-at invariant-loop decreases-loop
 shared-slice-read-b c = omega arith
 
-returns : tie.Need-returns invariant-loop decreases-loop
+returns : tie.Need-returns-then-b-lt48 invariant-loop decreases-loop
 returns c =
     let l = c.before.before.before in
-    done _ _ l.loop.value l.loop.at l.loop.invariant (run-stop _ _ c.before.before.loop-test.true (digit_low _ c.if1.true))
+    done _ _ l.loop-at.value l.loop-at.at l.loop-at.invariant (run-stop _ _ c.before.before.loop-at-test.true (digit_low _ c.if-b-lt48.true))
 
-returns-2 : tie.Need-returns-2 invariant-loop decreases-loop
+returns-2 : tie.Need-returns-then-b-gt57 invariant-loop decreases-loop
 returns-2 c =
     let f = c.before.before in
     let l = f.before.before in
-    done _ _ l.loop.value l.loop.at l.loop.invariant (run-stop _ _ f.before.loop-test.true (digit-high _ c.if2.true))
+    done _ _ l.loop-at.value l.loop-at.at l.loop-at.invariant (run-stop _ _ f.before.loop-at-test.true (digit-high _ c.if-b-gt57.true))
 
 -- the moments that are spoken of below
-abbrev at-loop-of-else1 : tie.Else1 invariant-loop decreases-loop → tie.At-loop invariant-loop decreases-loop
+abbrev at-loop-of-else1 : tie.Else-b-lt48 invariant-loop decreases-loop → tie.At-loop-at invariant-loop decreases-loop
 at-loop-of-else1 c = c.before.before.before
 
-push-requires : tie.Need-push-requires invariant-loop decreases-loop
+push-requires : tie.Need-push-value-requires invariant-loop decreases-loop
 push-requires c κs =
     let at-loop = at-loop-of-else1 c.before in
-    (at-loop.loop.inv.small, c.before.if1.false)
+    (at-loop.loop-at.invariant.small, c.before.if-b-lt48.false)
 
-add_at : tie.Need-overflow-add-at invariant-loop decreases-loop
+add_at : tie.Need-overflow_add-at invariant-loop decreases-loop
 add_at c = omega arith
 
-loop-less : tie.Need-loop-smaller invariant-loop decreases-loop
+loop-less : tie.Need-loop-at-smaller invariant-loop decreases-loop
 loop-less c = omega arith
 
-loop-again : tie.Need-loop-preserved invariant-loop decreases-loop
+loop-again : tie.Need-loop-at-preserved invariant-loop decreases-loop
 unfolding read_after
 loop-again c =
     let f = c.before.before in
     let t = f.before.before in
     let l = t.before in
     let s = l.before.before.args.s.now in
-    let at = l.loop.at in
-    let v = l.loop.value in
-    let e = run_more s at t.loop-test.true (digit-yes (get_or s at 0) f.if1.false c.before.if2.false) in
+    let at = l.loop-at.at in
+    let v = l.loop-at.value in
+    let e = run_more s at t.loop-at-test.true (digit-yes (get_or s at 0) f.if-b-lt48.false c.before.if-b-gt57.false) in
     record {
-      small = omega (arith, c.push.ensures);
-      same = l.loop.invariant.same ∙ rw (e, add-one, c.push.ensures) (saturate 1000000000 (10 * v + (get_or s at 0 - 48)) (digit_run (drop (suc at) s)));
-      place = rw add-one (omega (arith, ap length e, l.loop.invariant.place));
+      small = omega (arith, c.push-value.ensures);
+      same = l.loop-at.invariant.same ∙ rw (e, add-one, c.push-value.ensures) (saturate 1000000000 (10 * v + (get_or s at 0 - 48)) (digit_run (drop (suc at) s)));
+      place = rw add-one (omega (arith, ap length e, l.loop-at.invariant.place));
     }
 
-returns-3 : tie.Need-returns-3 invariant-loop decreases-loop
-returns-3 c = let l = c.before in done _ _ l.loop.value l.loop.at l.loop.invariant (run_end _ _ c.loop-test.false)
+returns-3 : tie.Need-returns invariant-loop decreases-loop
+returns-3 c = let l = c.before in done _ _ l.loop-at.value l.loop-at.at l.loop-at.invariant (run_end _ _ c.loop-at-test.false)
 
-pub digits-from-spec : {M : Type 1} → statement M
-digits-from-spec =
+pub digits_from_spec : {M : Type 1} → statement M
+digits_from_spec =
     tie.close
     (tie.spec
     invariant-loop

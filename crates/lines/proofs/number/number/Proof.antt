@@ -4,61 +4,61 @@ use borrow.Author.Rules.{rules}
 use Rattle.lines.proofs.number.number.Statement.{statement}
 use Rattle.lines.proofs.number.number.Tie as tie
 
-after-byte-requires : tie.Need-after-byte-requires
+after-byte-requires : tie.Need-after_byte-zero-requires
 after-byte-requires c κs = search rules
 
-enum-known-zero : tie.Need-enum-known-zero
+enum-known-zero : tie.Need-enum_known-zero
 enum-known-zero c = search rules
 
-by-range-requires : tie.Need-by-range-requires
+by-range-requires : tie.Need-by_range-f-requires
 by-range-requires c κs = search rules
 
-enum_told : tie.Need-enum-told
+enum_told : tie.Need-enum_told-1
 enum_told c = search rules
 
-after-byte-requires-2 : tie.Need-after-byte-requires-2
+after-byte-requires-2 : tie.Need-after_byte-minus-requires
 after-byte-requires-2 c κs = search rules
 
-enum-known-minus : tie.Need-enum-known-minus
+enum-known-minus : tie.Need-enum_known-minus
 enum-known-minus c = search rules
 
 unsigned-requires : tie.Need-unsigned-requires
 unsigned-requires c κs = search rules
 
-enum-told-2 : tie.Need-enum-told-2
+enum-told-2 : tie.Need-enum_told-in-Nothing-minus
 enum-told-2 c = search rules
 
-unsigned-requires-2 : tie.Need-unsigned-requires-2
+unsigned-requires-2 : tie.Need-unsigned-requires-in-Nothing-minus
 unsigned-requires-2 c κs = search rules
 
-returns : tie.Need-returns
+returns : tie.Need-returns-in-At
 returns c =
     let at_zero = c.before.before in
     let at-after-byte = at_zero.before.before in
-    rw (sym at-after-byte.after-byte.ensures ∙ c.before.before.zero.given.1)
-    (ap (λ f. Number f c.before.before.zero.given.0.0) c.by-range.ensures)
+    rw (sym at-after-byte.after_byte-zero.ensures ∙ c.before.before.zero-1.given.1)
+    (ap (λ f. Number f c.before.before.zero-1.given.0.0) c.by_range-f.ensures)
 
-returns-2 : tie.Need-returns-2
+returns-2 : tie.Need-returns-in-At-minus
 returns-2 c =
     let at-minus = c.before.before in
     let m = at-minus.before.before in
     rw (
-      sym m.before.before.before.after-byte.ensures ∙ m.before.enum_told.given.1,
-      sym m.after-byte2.ensures ∙ c.before.before.minus.given.1,
+      sym m.before.before.before.after_byte-zero.ensures ∙ m.before.enum_told-1.given.1,
+      sym m.after_byte-minus.ensures ∙ c.before.before.minus-1.given.1,
     )
     c.unsigned.ensures
 
-returns-3 : tie.Need-returns-3
+returns-3 : tie.Need-returns-in-Nothing-minus
 returns-3 c =
     let m = c.before.before.before in
     rw (
-      sym m.before.before.before.after-byte.ensures ∙ m.before.enum_told.given.1,
-      sym m.after-byte2.ensures ∙ c.before.enum-told2.given.1,
+      sym m.before.before.before.after_byte-zero.ensures ∙ m.before.enum_told-1.given.1,
+      sym m.after_byte-minus.ensures ∙ c.before.enum_told-in-Nothing-minus-1.given.1,
     )
-    c.unsigned2.ensures
+    c.unsigned-in-Nothing-minus.ensures
 
-pub number-spec : {M : Type 1} → statement M
-number-spec =
+pub number_spec : {M : Type 1} → statement M
+number_spec =
     tie.close
     (tie.spec
     after-byte-requires

@@ -13,22 +13,22 @@ use Rattle.lines.proofs.number.signed.Tie as tie
 small : (n : ℕ) → n ≤ 1000000000 → SFits w64 (pos 0 -ℤ pos n)
 small n h = rw (zero-less (pos n)) (within-sfits (lit< tt) (neg-within n h))
 
-cast-result : tie.Need-overflow-cast-result
+cast-result : tie.Need-overflow_cast-result
 cast-result c = search rules
 
-sub-result : tie.Need-overflow-sub-result
+sub-result : tie.Need-overflow_sub-result
 sub-result c = rw (to_z_pos w64 {n = c.before.args.n} (omega arith)) (small c.before.args.n c.before.requires)
 
-cast-result-2 : tie.Need-overflow-cast-result-2
+cast-result-2 : tie.Need-overflow_cast-result-else-negative
 cast-result-2 c = search rules
 
-returns : tie.Need-returns
+returns : tie.Need-returns-then-negative
 returns c =
-    rw (to_z_pos w64 {n = c.before.args.n} (omega arith), to_z-of_z (small c.before.args.n c.before.requires), c.if1.true)
+    rw (to_z_pos w64 {n = c.before.args.n} (omega arith), to_z-of_z (small c.before.args.n c.before.requires), c.if-negative.true)
     (zero-less (pos c.before.args.n))
 
-returns-2 : tie.Need-returns-2
-returns-2 c = rw c.if1.false (to_z_pos w64 (omega arith))
+returns-2 : tie.Need-returns-else-negative
+returns-2 c = rw c.if-negative.false (to_z_pos w64 (omega arith))
 
-pub signed-spec : {M : Type 1} → statement M
-signed-spec = tie.close (tie.spec cast-result sub-result cast-result-2 returns returns-2)
+pub signed_spec : {M : Type 1} → statement M
+signed_spec = tie.close (tie.spec cast-result sub-result cast-result-2 returns returns-2)

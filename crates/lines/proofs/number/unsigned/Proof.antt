@@ -11,16 +11,16 @@ use Rattle.lines.proofs.number.unsigned.Tie as tie
 leads-requires : tie.Need-leads-requires
 leads-requires c κs = search rules
 
-digits-from-requires : tie.Need-digits-from-requires
+digits-from-requires : tie.Need-digits_from-d-requires
 digits-from-requires c κs = search rules
 
-signed-requires : tie.Need-signed-requires
+signed-requires : tie.Need-signed-z-requires
 signed-requires c κs = search rules
 
-by-range-requires : tie.Need-by-range-requires
+by-range-requires : tie.Need-by_range-f-requires
 by-range-requires c κs = search rules
 
-returns : tie.Need-returns
+returns : tie.Need-returns-then-leads
 returns c =
     let g = c.before in
     let d = g.before in
@@ -28,15 +28,15 @@ returns c =
     let s = t.before.before.before in
     let r = s.args.range in
     let n = s.args.negative in
-    let z = back g.signed.result g.signed.type-inv ∙ g.signed.ensures ∙ ap (signed_of n) d.digits_from.ensures.capped in
-    let f = c.by-range.ensures ∙ ap (ranged r) z ∙ ranged-saturated r n (read_after 0 _) s.requires in
-    rw (sym t.before.leads.ensures ∙ t.if1.true) (ap₂ Number f d.digits_from.ensures.behind)
+    let z = back g.signed-z.result g.signed-z.type_inv ∙ g.signed-z.ensures ∙ ap (signed_of n) d.digits_from-d.ensures.capped in
+    let f = c.by_range-f.ensures ∙ ap (ranged r) z ∙ ranged-saturated r n (read_after 0 _) s.requires in
+    rw (sym t.before.leads.ensures ∙ t.if-leads.true) (ap₂ Number f d.digits_from-d.ensures.behind)
 
-returns-2 : tie.Need-returns-2
-returns-2 c = rw (sym c.before.leads.ensures ∙ c.if1.false)
+returns-2 : tie.Need-returns-else-leads
+returns-2 c = rw (sym c.before.leads.ensures ∙ c.if-leads.false)
 
-pub unsigned-spec : {M : Type 1} → statement M
-unsigned-spec =
+pub unsigned_spec : {M : Type 1} → statement M
+unsigned_spec =
     tie.close
     (tie.spec
     leads-requires

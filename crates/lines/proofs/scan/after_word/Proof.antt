@@ -9,61 +9,61 @@ use Rattle.lines.proofs.Places.{word_more, word-not, word-done}
 use Rattle.lines.proofs.scan.after_word.Statement.{statement}
 use Rattle.lines.proofs.scan.after_word.Tie as tie
 
-abbrev invariant-loop : tie.invariant-loop
+abbrev invariant-loop : tie.invariant-loop-i
 invariant-loop s from w at₀ i₀ at i = (i ≤ length w) × (after_word s from w ≡ after_word s at (drop i w))
 
-abbrev decreases-loop : tie.decreases-loop
+abbrev decreases-loop : tie.decreases-loop-i
 decreases-loop s from w at₀ i₀ at i = length w - i
 
-loop-holds : tie.Need-loop-init invariant-loop decreases-loop
+loop-holds : tie.Need-loop-i-init invariant-loop decreases-loop
 loop-holds c = search rules
 
-shared-slice-read-after-byte : tie.Need-shared-slice-read-after-byte invariant-loop decreases-loop
+shared-slice-read-after-byte : tie.Need-bounds-w-i invariant-loop decreases-loop
 shared-slice-read-after-byte c = search rules
 
-after-byte-requires : tie.Need-after-byte-requires invariant-loop decreases-loop
+after-byte-requires : tie.Need-after_byte-p-requires invariant-loop decreases-loop
 after-byte-requires c κs = search rules
 
-enum_told : tie.Need-enum-told invariant-loop decreases-loop
+enum_told : tie.Need-enum_told-1 invariant-loop decreases-loop
 enum_told c = search rules
 
-returns : tie.Need-returns invariant-loop decreases-loop
+returns : tie.Need-returns-in-Nothing invariant-loop decreases-loop
 returns c =
     let b = c.before.before in
     let t = b.before.before in
     let l = t.before in
     let a = l.before.before.before.args in
-    let e = sym b.after-byte.ensures ∙ c.enum_told.given.1 in
-    sym (l.loop.invariant.1 ∙ word-not a.s.now a.w.now l.loop.at l.loop.i t.loop-test.true e)
+    let e = sym b.after_byte-p.ensures ∙ c.enum_told-1.given.1 in
+    sym (l.loop-i.invariant.1 ∙ word-not a.s.now a.w.now l.loop-i.at l.loop-i.i t.loop-i-test.true e)
 
-enum-known-p : tie.Need-enum-known-p invariant-loop decreases-loop
+enum-known-p : tie.Need-enum_known-p invariant-loop decreases-loop
 enum-known-p c = search rules
 
-add-i : tie.Need-overflow-add-i invariant-loop decreases-loop
+add-i : tie.Need-overflow_add-i invariant-loop decreases-loop
 add-i c = search rules
 
-loop-less : tie.Need-loop-smaller invariant-loop decreases-loop
+loop-less : tie.Need-loop-i-smaller invariant-loop decreases-loop
 loop-less c = search rules
 
-loop-again : tie.Need-loop-preserved invariant-loop decreases-loop
+loop-again : tie.Need-loop-i-preserved invariant-loop decreases-loop
 loop-again c =
     let k = c.before in
     let b = k.before.before in
     let t = b.before.before in
     let l = t.before in
     let a = l.before.before.before.args in
-    let e = sym b.after-byte.ensures ∙ k.p.given.1 in
-    let m = word_more a.s.now a.w.now l.loop.at l.loop.i k.p.given.0.0 t.loop-test.true e in
-    (omega arith, l.loop.invariant.1 ∙ rw add-one m)
+    let e = sym b.after_byte-p.ensures ∙ k.p-1.given.1 in
+    let m = word_more a.s.now a.w.now l.loop-i.at l.loop-i.i k.p-1.given.0.0 t.loop-i-test.true e in
+    (omega arith, l.loop-i.invariant.1 ∙ rw add-one m)
 
-returns-2 : tie.Need-returns-2 invariant-loop decreases-loop
+returns-2 : tie.Need-returns invariant-loop decreases-loop
 returns-2 c =
     let l = c.before in
     let a = l.before.before.before.args in
-    sym (l.loop.invariant.1 ∙ word-done a.s.now a.w.now l.loop.at l.loop.i c.loop-test.false)
+    sym (l.loop-i.invariant.1 ∙ word-done a.s.now a.w.now l.loop-i.at l.loop-i.i c.loop-i-test.false)
 
-pub after-word-spec : {M : Type 1} → statement M
-after-word-spec =
+pub after_word_spec : {M : Type 1} → statement M
+after_word_spec =
     tie.close
     (tie.spec
     invariant-loop

@@ -7,40 +7,40 @@ use Rattle.lines.proofs.scan.asked_line.Tie as tie
 overlong-requires : tie.Need-overlong-requires
 overlong-requires c κs = search rules
 
-returns : tie.Need-returns
-returns c = rw (lt-ltb _ _ c.before.if1.true) c.overlong.ensures
+returns : tie.Need-returns-then-s-gt-LONGEST
+returns c = rw (lt-ltb _ _ c.before.if-s-gt-LONGEST.true) c.overlong.ensures
 
-overlong-requires-2 : tie.Need-overlong-requires-2
+overlong-requires-2 : tie.Need-overlong-requires-then-line-eq0
 overlong-requires-2 c κs = search rules
 
-returns-2 : tie.Need-returns-2
-returns-2 c = let t = c.before in rw (le-ltb _ _ t.before.if1.false, eq-eqb _ _ t.if2.true) c.overlong2.ensures
+returns-2 : tie.Need-returns-then-line-eq0
+returns-2 c = let t = c.before in rw (le-ltb _ _ t.before.if-s-gt-LONGEST.false, eq-eqb _ _ t.if-line-eq0.true) c.overlong-then-line-eq0.ensures
 
-sub-closed-line : tie.Need-overflow-sub-closed-line
+sub-closed-line : tie.Need-overflow_sub-line
 sub-closed-line c = search rules
 
-closed-line-requires : tie.Need-closed-line-requires
+closed-line-requires : tie.Need-closed_line-span-requires
 closed-line-requires c κs = search rules
 
-enum_told : tie.Need-enum-told
+enum_told : tie.Need-enum_told-1
 enum_told c = search rules
 
-enum-known-span : tie.Need-enum-known-span
+enum-known-span : tie.Need-enum_known-span
 enum-known-span c = search rules
 
-returns-3 : tie.Need-returns-3
+returns-3 : tie.Need-returns-in-Nothing
 returns-3 c =
     let l = c.before.before in
-    rw (le-ltb _ _ l.before.before.if1.false, ne_eqb _ _ l.before.if2.false, sym l.closed-line.ensures ∙ c.enum_told.given.1)
+    rw (le-ltb _ _ l.before.before.if-s-gt-LONGEST.false, ne_eqb _ _ l.before.if-line-eq0.false, sym l.closed_line-span.ensures ∙ c.enum_told-1.given.1)
 
-returns-4 : tie.Need-returns-4
+returns-4 : tie.Need-returns-in-Line
 returns-4 c =
     let k = c.before in
     let l = k.before.before in
-    rw (le-ltb _ _ l.before.before.if1.false, ne_eqb _ _ l.before.if2.false, sym l.closed-line.ensures ∙ k.span.given.1)
+    rw (le-ltb _ _ l.before.before.if-s-gt-LONGEST.false, ne_eqb _ _ l.before.if-line-eq0.false, sym l.closed_line-span.ensures ∙ k.span-1.given.1)
 
-pub asked-line-spec : {M : Type 1} → statement M
-asked-line-spec =
+pub asked_line_spec : {M : Type 1} → statement M
+asked_line_spec =
     tie.close
     (tie.spec
     overlong-requires

@@ -10,73 +10,73 @@ use Rattle.lines.proofs.Places.{end-within, closed_none, closed-last, closed-mor
 use Rattle.lines.proofs.scan.closed_line.Statement.{statement}
 use Rattle.lines.proofs.scan.closed_line.Tie as tie
 
-abbrev invariant-loop : tie.invariant-loop
+abbrev invariant-loop : tie.invariant-loop-e
 invariant-loop s n from₀ left₀ from left = (from ≤ length s) × (closed_line n s 0 ≡ closed_line left s from)
 
-abbrev decreases-loop : tie.decreases-loop
+abbrev decreases-loop : tie.decreases-loop-e
 decreases-loop s n from₀ left₀ from left = length s - from
 
-loop-holds : tie.Need-loop-init invariant-loop decreases-loop
+loop-holds : tie.Need-loop-e-init invariant-loop decreases-loop
 loop-holds c = (omega arith, refl)
 
-first-line-end-requires : tie.Need-first-line-end-requires invariant-loop decreases-loop
+first-line-end-requires : tie.Need-first_line_end-p-requires invariant-loop decreases-loop
 first-line-end-requires c κs = search rules
 
-enum_told : tie.Need-enum-told invariant-loop decreases-loop
+enum_told : tie.Need-enum_told-1 invariant-loop decreases-loop
 enum_told c = search rules
 
-returns : tie.Need-returns invariant-loop decreases-loop
+returns : tie.Need-returns-in-Nothing invariant-loop decreases-loop
 returns c =
     let l = c.before.before.before in
-    let e = sym c.before.before.first-line-end.ensures ∙ c.enum_told.given.1 in
-    sym (l.loop.invariant.1 ∙ closed_none l.loop.left l.before.before.args.s.now l.loop.from e)
+    let e = sym c.before.before.first_line_end-p.ensures ∙ c.enum_told-1.given.1 in
+    sym (l.loop-e.invariant.1 ∙ closed_none l.loop-e.false l.before.before.args.s.now l.loop-e.from e)
 
-enum-known-p : tie.Need-enum-known-p invariant-loop decreases-loop
+enum-known-p : tie.Need-enum_known-p invariant-loop decreases-loop
 enum-known-p c = search rules
 
 -- where a line's end was looked for, and the loop before that
-abbrev looked : tie.After-known-told invariant-loop decreases-loop → tie.After-first-line-end invariant-loop decreases-loop
+abbrev looked : tie.In-At invariant-loop decreases-loop → tie.After-first_line_end-p invariant-loop decreases-loop
 looked c = c.before.before.before
 
-abbrev at-loop : tie.After-known-told invariant-loop decreases-loop → tie.At-loop invariant-loop decreases-loop
+abbrev at-loop : tie.In-At invariant-loop decreases-loop → tie.At-loop-e invariant-loop decreases-loop
 at-loop c = (looked c).before
 
 -- the end that was found
-found : (c : tie.After-known-told invariant-loop decreases-loop) →
+found : (c : tie.In-At invariant-loop decreases-loop) →
     let l = at-loop c in
-    first_end l.loop.from (drop l.loop.from l.before.before.args.s.now) ≡ At c.before.p.given.0.0
-found c = sym (looked c).first-line-end.ensures ∙ c.before.p.given.1
+    first_end l.loop-e.from (drop l.loop-e.from l.before.before.args.s.now) ≡ At c.before.p-1.given.0.0
+found c = sym (looked c).first_line_end-p.ensures ∙ c.before.p-1.given.1
 
-returns-2 : tie.Need-returns-2 invariant-loop decreases-loop
+returns-2 : tie.Need-returns-then-left-eq0 invariant-loop decreases-loop
 returns-2 c =
     let l = at-loop c.before in
     let s = l.before.before.args.s.now in
-    sym (l.loop.inv.1 ∙ ap (λ n. closed_line n s l.loop.from) c.if1.true ∙ closed-last s l.loop.from _ (found c.before))
+    sym (l.loop-e.invariant.1 ∙ ap (λ n. closed_line n s l.loop-e.from) c.if-left-eq0.true ∙ closed-last s l.loop-e.from _ (found c.before))
 
-sub-left : tie.Need-overflow-sub-left invariant-loop decreases-loop
+sub-left : tie.Need-overflow_sub-left invariant-loop decreases-loop
 sub-left c = omega arith
 
-within : (c : tie.Else1 invariant-loop decreases-loop) →
+within : (c : tie.Else-left-eq0 invariant-loop decreases-loop) →
     let l = at-loop c.before in
-    (l.loop.from ≤ c.before.before.p.given.0.0) × (c.before.before.p.given.0.0 < length l.before.before.args.s.now)
-within c = let l = at-loop c.before in end-within l.before.before.args.s.now l.loop.from _ (found c.before)
+    (l.loop-e.from ≤ c.before.before.p-1.given.0.0) × (c.before.before.p-1.given.0.0 < length l.before.before.args.s.now)
+within c = let l = at-loop c.before in end-within l.before.before.args.s.now l.loop-e.from _ (found c.before)
 
-add-from : tie.Need-overflow-add-from invariant-loop decreases-loop
+add-from : tie.Need-overflow_add-from invariant-loop decreases-loop
 add-from c = omega (arith, within c)
 
-loop-less : tie.Need-loop-smaller invariant-loop decreases-loop
+loop-less : tie.Need-loop-e-smaller invariant-loop decreases-loop
 loop-less c = omega (arith, within c)
 
-loop-again : tie.Need-loop-preserved invariant-loop decreases-loop
+loop-again : tie.Need-loop-e-preserved invariant-loop decreases-loop
 loop-again c =
     let l = at-loop c.before in
     let s = l.before.before.args.s.now in
-    let q : l.loop.left ≡ suc (l.loop.left - 1) = omega arith in
-    let m = closed-more (l.loop.left - 1) s l.loop.from _ (found c.before) in
-    (omega (arith, within c), l.loop.inv.1 ∙ ap (λ n. closed_line n s l.loop.from) q ∙ rw add-one m)
+    let q : l.loop-e.false ≡ suc (l.loop-e.false - 1) = omega arith in
+    let m = closed-more (l.loop-e.false - 1) s l.loop-e.from _ (found c.before) in
+    (omega (arith, within c), l.loop-e.invariant.1 ∙ ap (λ n. closed_line n s l.loop-e.from) q ∙ rw add-one m)
 
-pub closed-line-spec : {M : Type 1} → statement M
-closed-line-spec =
+pub closed_line_spec : {M : Type 1} → statement M
+closed_line_spec =
     tie.close
     (tie.spec
     invariant-loop

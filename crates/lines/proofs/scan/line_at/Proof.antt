@@ -12,74 +12,74 @@ use Rattle.lines.proofs.scan.line_at.Statement.{statement}
 use Rattle.lines.proofs.scan.line_at.Tie as tie
 
 -- the bytes 10 from `from` on are still to be counted, and each line has one
-abbrev invariant-loop : tie.invariant-loop
+abbrev invariant-loop : tie.invariant-loop-e
 invariant-loop s at line₀ from₀ line from = (from ≤ length s) × ((line ≤ from + 1) × (line_at s at ≡ line + ends_from s from at))
 
-abbrev decreases-loop : tie.decreases-loop
+abbrev decreases-loop : tie.decreases-loop-e
 decreases-loop s at line₀ from₀ line from = length s - from
 
-loop-holds : tie.Need-loop-init invariant-loop decreases-loop
+loop-holds : tie.Need-loop-e-init invariant-loop decreases-loop
 loop-holds c = (omega arith, (omega arith, rw sub-zero (omega arith)))
 
-first-line-end-requires : tie.Need-first-line-end-requires invariant-loop decreases-loop
+first-line-end-requires : tie.Need-first_line_end-p-requires invariant-loop decreases-loop
 first-line-end-requires c κs = search rules
 
-enum_told : tie.Need-enum-told invariant-loop decreases-loop
+enum_told : tie.Need-enum_told-1 invariant-loop decreases-loop
 enum_told c = search rules
 
-returns : tie.Need-returns invariant-loop decreases-loop
+returns : tie.Need-returns-in-Nothing invariant-loop decreases-loop
 returns c =
     let l = c.before.before.before in
     let a = l.before.before.args in
-    let n = ends-none a.s.now l.loop.from a.at (sym c.before.before.first-line-end.ensures ∙ c.enum_told.given.1) in
+    let n = ends-none a.s.now l.loop-e.from a.at (sym c.before.before.first_line_end-p.ensures ∙ c.enum_told-1.given.1) in
     omega arith
 
-enum-known-p : tie.Need-enum-known-p invariant-loop decreases-loop
+enum-known-p : tie.Need-enum_known-p invariant-loop decreases-loop
 enum-known-p c = search rules
 
 -- where a line's end was looked for, and the loop before that
-abbrev looked : tie.After-known-told invariant-loop decreases-loop → tie.After-first-line-end invariant-loop decreases-loop
+abbrev looked : tie.In-At invariant-loop decreases-loop → tie.After-first_line_end-p invariant-loop decreases-loop
 looked c = c.before.before.before
 
-abbrev at-loop : tie.After-known-told invariant-loop decreases-loop → tie.At-loop invariant-loop decreases-loop
+abbrev at-loop : tie.In-At invariant-loop decreases-loop → tie.At-loop-e invariant-loop decreases-loop
 at-loop c = (looked c).before
 
 -- the end that was found
-found : (c : tie.After-known-told invariant-loop decreases-loop) →
+found : (c : tie.In-At invariant-loop decreases-loop) →
     let l = at-loop c in
-    first_end l.loop.from (drop l.loop.from l.before.before.args.s.now) ≡ At c.before.p.given.0.0
-found c = sym (looked c).first-line-end.ensures ∙ c.before.p.given.1
+    first_end l.loop-e.from (drop l.loop-e.from l.before.before.args.s.now) ≡ At c.before.p-1.given.0.0
+found c = sym (looked c).first_line_end-p.ensures ∙ c.before.p-1.given.1
 
-returns-2 : tie.Need-returns-2 invariant-loop decreases-loop
+returns-2 : tie.Need-returns-then-at-e invariant-loop decreases-loop
 returns-2 c =
     let l = at-loop c.before in
     let a = l.before.before.args in
-    let n = ends-before a.s.now l.loop.from a.at c.before.before.p.given.0.0 (found c.before) c.if1.true in
+    let n = ends-before a.s.now l.loop-e.from a.at c.before.before.p-1.given.0.0 (found c.before) c.if-at-e.true in
     omega arith
 
-within : (c : tie.Else1 invariant-loop decreases-loop) →
+within : (c : tie.Else-at-e invariant-loop decreases-loop) →
     let l = at-loop c.before in
-    (l.loop.from ≤ c.before.before.p.given.0.0) × (c.before.before.p.given.0.0 < length l.before.before.args.s.now)
-within c = let l = at-loop c.before in end-within l.before.before.args.s.now l.loop.from _ (found c.before)
+    (l.loop-e.from ≤ c.before.before.p-1.given.0.0) × (c.before.before.p-1.given.0.0 < length l.before.before.args.s.now)
+within c = let l = at-loop c.before in end-within l.before.before.args.s.now l.loop-e.from _ (found c.before)
 
-add-line : tie.Need-overflow-add-line invariant-loop decreases-loop
+add-line : tie.Need-overflow_add-line invariant-loop decreases-loop
 add-line c = omega (arith, within c)
 
-add-from : tie.Need-overflow-add-from invariant-loop decreases-loop
+add-from : tie.Need-overflow_add-from invariant-loop decreases-loop
 add-from c = omega (arith, within c)
 
-loop-less : tie.Need-loop-smaller invariant-loop decreases-loop
+loop-less : tie.Need-loop-e-smaller invariant-loop decreases-loop
 loop-less c = omega (arith, within c)
 
-loop-again : tie.Need-loop-preserved invariant-loop decreases-loop
+loop-again : tie.Need-loop-e-preserved invariant-loop decreases-loop
 loop-again c =
     let l = at-loop c.before in
     let a = l.before.before.args in
-    let n = ends-past a.s.now l.loop.from a.at c.before.before.p.given.0.0 (found c.before) c.if1.false in
-    (omega (arith, within c), (omega (arith, within c), rw (add-one c.before.before.p.given.0.0) (omega arith)))
+    let n = ends-past a.s.now l.loop-e.from a.at c.before.before.p-1.given.0.0 (found c.before) c.if-at-e.false in
+    (omega (arith, within c), (omega (arith, within c), rw (add-one c.before.before.p-1.given.0.0) (omega arith)))
 
-pub line-at-spec : {M : Type 1} → statement M
-line-at-spec =
+pub line_at_spec : {M : Type 1} → statement M
+line_at_spec =
     tie.close
     (tie.spec
     invariant-loop

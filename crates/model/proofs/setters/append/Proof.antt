@@ -4,17 +4,17 @@ use borrow.Author.Rules.{rules}
 use Rattle.model.proofs.setters.append.Statement.{statement}
 use Rattle.model.proofs.setters.append.Tie as tie
 
-with-item-requires : tie.Need-with-item-requires
+with-item-requires : tie.Need-with_item-r-requires
 with-item-requires c κs = search rules
 
-add-with-count : tie.Need-overflow-add-with-count
+add-with-count : tie.Need-overflow_add-n
 add-with-count c = search rules
 
-with-count-requires : tie.Need-with-count-requires
+with-count-requires : tie.Need-with_count-requires
 with-count-requires c κs = search rules
 
 returns : tie.Need-returns
-returns c = rw (c.with-count.ensures, c.before.with_item.ensures, add-one)
+returns c = rw (c.with_count.ensures, c.before.with_item-r.ensures, add-one)
 
-pub append-spec : {M : Type 1} → statement M
-append-spec = tie.close (tie.spec with-item-requires add-with-count with-count-requires returns)
+pub append_spec : {M : Type 1} → statement M
+append_spec = tie.close (tie.spec with-item-requires add-with-count with-count-requires returns)

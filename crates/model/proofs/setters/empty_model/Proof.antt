@@ -3,14 +3,14 @@ use borrow.Author.Rules.{rules}
 use Rattle.model.proofs.setters.empty_model.Statement.{statement}
 use Rattle.model.proofs.setters.empty_model.Tie as tie
 
-no-item-requires : tie.Need-no-item-requires
+no-item-requires : tie.Need-no_item-item-requires
 no-item-requires c κs = search rules
 
-no-needs-requires : tie.Need-no-needs-requires
+no-needs-requires : tie.Need-no_needs-needs-requires
 no-needs-requires c κs = search rules
 
 returns : tie.Need-returns
-returns c = rw (c.before.no_item.ensures, c.no-needs.ensures)
+returns c = rw (c.before.no_item-item.ensures, c.no_needs-needs.ensures)
 
-pub empty-model-spec : {M : Type 1} → statement M
-empty-model-spec = tie.close (tie.spec no-item-requires no-needs-requires returns)
+pub empty_model_spec : {M : Type 1} → statement M
+empty_model_spec = tie.close (tie.spec no-item-requires no-needs-requires returns)

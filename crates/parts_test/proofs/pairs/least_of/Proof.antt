@@ -4,35 +4,35 @@ use borrow.Author.Rules.{rules}
 use Rattle.parts_test.proofs.pairs.least_of.Statement.{statement}
 use Rattle.parts_test.proofs.pairs.least_of.Tie as tie
 
-abbrev invariant-loop : tie.invariant-loop
+abbrev invariant-loop : tie.invariant-loop-k
 invariant-loop x y m₀ k₀ m k = Unit {0}
 
-abbrev decreases-loop : tie.decreases-loop
+abbrev decreases-loop : tie.decreases-loop-k
 decreases-loop x y m₀ k₀ m k = 81 - k
 
-loop-holds : tie.Need-loop-init invariant-loop decreases-loop
+loop-holds : tie.Need-loop-k-init invariant-loop decreases-loop
 loop-holds c = search rules
 
-step-at-requires : tie.Need-step-at-requires invariant-loop decreases-loop
+step-at-requires : tie.Need-step_at-requires invariant-loop decreases-loop
 step-at-requires c κs = search rules
 
-with-row-requires : tie.Need-with-row-requires invariant-loop decreases-loop
+with-row-requires : tie.Need-with_row-m-requires invariant-loop decreases-loop
 with-row-requires c κs = search rules
 
-add-k : tie.Need-overflow-add-k invariant-loop decreases-loop
+add-k : tie.Need-overflow_add-k invariant-loop decreases-loop
 add-k c = search rules
 
-loop-less : tie.Need-loop-smaller invariant-loop decreases-loop
+loop-less : tie.Need-loop-k-smaller invariant-loop decreases-loop
 loop-less c = search rules
 
-loop-again : tie.Need-loop-preserved invariant-loop decreases-loop
+loop-again : tie.Need-loop-k-preserved invariant-loop decreases-loop
 loop-again c = search rules
 
 returns : tie.Need-returns invariant-loop decreases-loop
 returns c = search rules
 
-pub least-of-spec : {M : Type 1} → statement M
-least-of-spec =
+pub least_of_spec : {M : Type 1} → statement M
+least_of_spec =
     tie.close
     (tie.spec
     invariant-loop

@@ -4,10 +4,10 @@ use borrow.Author.Rules.{rules}
 use Rattle.parts_test.proofs.points.print_wrong.Statement.{statement}
 use Rattle.parts_test.proofs.points.print_wrong.Tie as tie
 
-abbrev invariant-loop : tie.invariant-loop
+abbrev invariant-loop : tie.invariant-loop-k
 invariant-loop n amounts k₀ t9 k = k ≤ n
 
-abbrev decreases-loop : tie.decreases-loop
+abbrev decreases-loop : tie.decreases-loop-k
 decreases-loop n amounts k₀ t9 k = n - k
 
 slice-aggregate-print : tie.Need-slice-aggregate-print invariant-loop decreases-loop
@@ -16,34 +16,34 @@ slice-aggregate-print c = search rules
 print-requires : tie.Need-print-requires invariant-loop decreases-loop
 print-requires c κs = search rules
 
-print-problem-requires : tie.Need-print-problem-requires invariant-loop decreases-loop
+print-problem-requires : tie.Need-print_problem-requires invariant-loop decreases-loop
 print-problem-requires c κs = search rules
 
 slice-aggregate-print-count : tie.Need-slice-aggregate-print-count invariant-loop decreases-loop
 slice-aggregate-print-count c = search rules
 
-print-count-requires : tie.Need-print-count-requires invariant-loop decreases-loop
+print-count-requires : tie.Need-print_count-requires invariant-loop decreases-loop
 print-count-requires c κs = search rules
 
-loop-holds : tie.Need-loop-init invariant-loop decreases-loop
+loop-holds : tie.Need-loop-k-init invariant-loop decreases-loop
 loop-holds c = search rules
 
-mul-x : tie.Need-overflow-mul-x invariant-loop decreases-loop
+mul-x : tie.Need-offset_bounds-amounts-k invariant-loop decreases-loop
 mul-x c = search rules
 
-array-copy-out-x : tie.Need-array-copy-out-x invariant-loop decreases-loop
+array-copy-out-x : tie.Need-bounds-amounts-k invariant-loop decreases-loop
 array-copy-out-x c = search rules
 
-print-amount-requires : tie.Need-print-amount-requires invariant-loop decreases-loop
+print-amount-requires : tie.Need-print_amount-requires invariant-loop decreases-loop
 print-amount-requires c κs = search rules
 
-add-k : tie.Need-overflow-add-k invariant-loop decreases-loop
+add-k : tie.Need-overflow_add-k invariant-loop decreases-loop
 add-k c = search rules
 
-loop-less : tie.Need-loop-smaller invariant-loop decreases-loop
+loop-less : tie.Need-loop-k-smaller invariant-loop decreases-loop
 loop-less c = search rules
 
-loop-again : tie.Need-loop-preserved invariant-loop decreases-loop
+loop-again : tie.Need-loop-k-preserved invariant-loop decreases-loop
 loop-again c = search rules
 
 slice-aggregate-print-2 : tie.Need-slice-aggregate-print-2 invariant-loop decreases-loop
@@ -55,8 +55,8 @@ print-requires-2 c κs = search rules
 returns : tie.Need-returns invariant-loop decreases-loop
 returns c = search rules
 
-pub print-wrong-spec : {M : Type 1} → statement M
-print-wrong-spec =
+pub print_wrong_spec : {M : Type 1} → statement M
+print_wrong_spec =
     tie.close
     (tie.spec
     invariant-loop

@@ -9,28 +9,28 @@ use Rattle.knapsack.specs.Ranges.{BoundInRange}
 use Rattle.prepare.proofs.narrowing.bound_size.Statement.{statement}
 use Rattle.prepare.proofs.narrowing.bound_size.Tie as tie
 
-enum_told : tie.Need-enum-told
+enum_told : tie.Need-enum_told-1
 enum_told c = search rules
 
-enum-known-b : tie.Need-enum-known-b
+enum-known-b : tie.Need-enum_known-b
 enum-known-b c = search rules
 
 -- the bound is small
-small : (c : tie.After-known-told) → Within 10000 c.before.b.given.0.0
-small c = abs-within c.before.b.given.0.0 (subst BoundInRange c.before.b.given.1 c.before.before.before.requires)
+small : (c : tie.In-At) → Within 10000 c.before.b-1.given.0.0
+small c = abs-within c.before.b-1.given.0.0 (subst BoundInRange c.before.b-1.given.1 c.before.before.before.requires)
 
 magnitude-requires : tie.Need-magnitude-requires
-magnitude-requires c κs = rw (back c.before.b.given.0.0 c.known-told.given.0.1) (within_more (omega arith) (small c))
+magnitude-requires c κs = rw (back c.before.b-1.given.0.0 c.known_told-1.given.0.1) (within_more (omega arith) (small c))
 
-returns : tie.Need-returns
-returns c = rw c.enum_told.given.1
+returns : tie.Need-returns-in-Absent
+returns c = rw c.enum_told-1.given.1
 
-returns-2 : tie.Need-returns-2
+returns-2 : tie.Need-returns-in-At
 returns-2 c =
     let k = c.before in
-    rw k.before.b.given.1 (rw (back k.before.b.given.0.0 k.known-told.given.0.1) at c.magnitude.ensures)
+    rw k.before.b-1.given.1 (rw (back k.before.b-1.given.0.0 k.known_told-1.given.0.1) at c.magnitude.ensures)
 
-pub bound-size-spec : {M : Type 1} → statement M
-bound-size-spec =
+pub bound_size_spec : {M : Type 1} → statement M
+bound_size_spec =
     tie.close
     (tie.spec enum_told enum-known-b magnitude-requires returns returns-2)

@@ -12,67 +12,67 @@ use Rattle.prepare.proofs.Lists.{one_more}
 use Rattle.prepare.proofs.narrowing.clamped.Statement.{statement}
 use Rattle.prepare.proofs.narrowing.clamped.Tie as tie
 
-abbrev invariant-loop : tie.invariant-loop
+abbrev invariant-loop : tie.invariant-loop-k
 invariant-loop r xs weight to₀ k₀ to k = (length to ≡ 16) × ((j : ℕ) → j < k → at to j ≡ clamp_to (span_by r (at weight j)) (at xs j))
 
-abbrev decreases-loop : tie.decreases-loop
+abbrev decreases-loop : tie.decreases-loop-k
 decreases-loop r xs weight to₀ k₀ to k = 16 - k
 
-loop-holds : tie.Need-loop-init invariant-loop decreases-loop
+loop-holds : tie.Need-loop-k-init invariant-loop decreases-loop
 loop-holds c = (search rules, λ j h. absurd (omega arith))
 
-mul-x : tie.Need-overflow-mul-x invariant-loop decreases-loop
-mul-x c = record { fits = omega (arith, c.loop-test.true) }
+mul-x : tie.Need-offset_bounds-xs-k invariant-loop decreases-loop
+mul-x c = record { fits = omega (arith, c.loop-k-test.true) }
 
-array-copy-out-x : tie.Need-array-copy-out-x invariant-loop decreases-loop
-array-copy-out-x c = c.loop-test.true
+array-copy-out-x : tie.Need-bounds-xs-k invariant-loop decreases-loop
+array-copy-out-x c = c.loop-k-test.true
 
-mul-end-within : tie.Need-overflow-mul-end-within invariant-loop decreases-loop
-mul-end-within c = record { fits = omega (arith, c.before.loop-test.true) }
+mul-end-within : tie.Need-offset_bounds-weight-k invariant-loop decreases-loop
+mul-end-within c = record { fits = omega (arith, c.before.loop-k-test.true) }
 
-array-copy-out-end-within : tie.Need-array-copy-out-end-within invariant-loop decreases-loop
-array-copy-out-end-within c = c.before.loop-test.true
+array-copy-out-end-within : tie.Need-bounds-weight-k invariant-loop decreases-loop
+array-copy-out-end-within c = c.before.loop-k-test.true
 
 -- the moments that are spoken of below
-abbrev at-loop : tie.After-end-within-arg invariant-loop decreases-loop → tie.At-loop invariant-loop decreases-loop
+abbrev at-loop : tie.After-end_within-arg-1 invariant-loop decreases-loop → tie.At-loop-k invariant-loop decreases-loop
 at-loop c = c.before.before.before
 
-end-within-requires : tie.Need-end-within-requires invariant-loop decreases-loop
+end-within-requires : tie.Need-end_within-requires invariant-loop decreases-loop
 end-within-requires c κs =
     let s = (at-loop c).before in (
-      s.pre.0,
-      rw (within-back tt (s.pre.1 c.before.before.before.loop.k)) (s.pre.1 c.before.before.before.loop.k),
+      s.requires.0,
+      rw (within-back tt (s.requires.1 c.before.before.before.loop-k.k)) (s.requires.1 c.before.before.before.loop-k.k),
     )
 
-mul-to : tie.Need-overflow-mul-to invariant-loop decreases-loop
-mul-to c = record { fits = omega (arith, c.before.before.before.loop-test.true) }
+mul-to : tie.Need-offset_bounds-to-k invariant-loop decreases-loop
+mul-to c = record { fits = omega (arith, c.before.before.before.loop-k-test.true) }
 
-array-set-from-to : tie.Need-array-set-from-to invariant-loop decreases-loop
-array-set-from-to c = c.before.before.before.loop-test.true
+array-set-from-to : tie.Need-bounds-to-k invariant-loop decreases-loop
+array-set-from-to c = c.before.before.before.loop-k-test.true
 
-add-k : tie.Need-overflow-add-k invariant-loop decreases-loop
-add-k c = record { fits = omega (arith, c.before.before.before.loop-test.true) }
+add-k : tie.Need-overflow_add-k invariant-loop decreases-loop
+add-k c = record { fits = omega (arith, c.before.before.before.loop-k-test.true) }
 
-loop-less : tie.Need-loop-smaller invariant-loop decreases-loop
-loop-less c = omega (arith, c.before.before.before.loop-test.true)
+loop-less : tie.Need-loop-k-smaller invariant-loop decreases-loop
+loop-less c = omega (arith, c.before.before.before.loop-k-test.true)
 
-loop-again : tie.Need-loop-preserved invariant-loop decreases-loop
+loop-again : tie.Need-loop-k-preserved invariant-loop decreases-loop
 loop-again c =
     let l = at-loop c.before in
     let s = l.before in
-    let k = l.loop.k in
-    let e = rw (back (at s.args.t1 k) c.before.before.x.given, within-back tt (s.pre.1 k)) at c.end-within.ensures in (
-      length-set l.loop.to k _ ∙ l.loop.inv.0,
-      one_more l.loop.to k _ (λ j. clamp_to (span_by s.args.r (at s.args.t2 j)) (at s.args.t1 j))
-          (omega (arith, l.loop.inv.0, c.before.before.before.loop-test.true)) (back c.end-within.result c.end-within.type-inv ∙ e)
-          l.loop.inv.1,
+    let k = l.loop-k.k in
+    let e = rw (back (at s.args.t1 k) c.before.before.x-1.given, within-back tt (s.requires.1 k)) at c.end_within.ensures in (
+      length-set l.loop-k.to k _ ∙ l.loop-k.invariant.0,
+      one_more l.loop-k.to k _ (λ j. clamp_to (span_by s.args.r (at s.args.t2 j)) (at s.args.t1 j))
+          (omega (arith, l.loop-k.invariant.0, c.before.before.before.loop-k-test.true)) (back c.end_within.result c.end_within.type_inv ∙ e)
+          l.loop-k.invariant.1,
     )
 
 returns : tie.Need-returns invariant-loop decreases-loop
-returns c = λ k h. c.before.loop.invariant.1 k (omega (arith, c.loop-test.false))
+returns c = λ k h. c.before.loop-k.invariant.1 k (omega (arith, c.loop-k-test.false))
 
-pub clamped-spec : {M : Type 1} → statement M
-clamped-spec =
+pub clamped_spec : {M : Type 1} → statement M
+clamped_spec =
     tie.close
     (tie.spec
     invariant-loop

@@ -15,23 +15,23 @@ use Rattle.prepare.specs.Narrowing.{span_by, clamp_to}
 use Rattle.prepare.proofs.narrowing.end_within.Statement.{statement}
 use Rattle.prepare.proofs.narrowing.end_within.Tie as tie
 
-span-of-requires : tie.Need-span-of-requires
+span-of-requires : tie.Need-span_of-u-requires
 span-of-requires c κs = (c.requires.0, rw (to_z-of_z c.ranges.a) c.requires.1)
 
-span-is : (c : tie.After-span-of) → c.Span-of.result ≡ span_by c.before.args.r c.before.args.a
-span-is c = rw (to_z-of_z c.before.ranges.a) at c.Span-of.ensures.0
+span-is : (c : tie.After-span_of-u) → c.span_of-u.result ≡ span_by c.before.args.r c.before.args.a
+span-is c = rw (to_z-of_z c.before.ranges.a) at c.span_of-u.ensures.0
 
-up : (c : tie.After-span-of) → to_z w64 c.Span-of.result ≡ pos c.Span-of.result
-up c = to_z_pos w64 (omega (arith, c.Span-of.ensures.1))
+up : (c : tie.After-span_of-u) → to_z w64 c.span_of-u.result ≡ pos c.span_of-u.result
+up c = to_z_pos w64 (omega (arith, c.span_of-u.ensures.1))
 
-down : (c : tie.After-span-of) → Within farthest (neg_ℤ (pos c.Span-of.result))
-down c = neg-within c.Span-of.result c.Span-of.ensures.1
+down : (c : tie.After-span_of-u) → Within farthest (neg_ℤ (pos c.span_of-u.result))
+down c = neg-within c.span_of-u.result c.span_of-u.ensures.1
 
-cast-u : tie.Need-overflow-cast-u
-cast-u c = record { sfits = omega (arith, c.Span-of.ensures.1) }
+cast-u : tie.Need-overflow_cast-u
+cast-u c = record { sfits = omega (arith, c.span_of-u.ensures.1) }
 
-sub-clamp : tie.Need-overflow-sub-clamp
-sub-clamp c = rw (up c, zero-less (pos c.Span-of.result)) (within-sfits (lit< tt) (down c))
+sub-clamp : tie.Need-overflow_sub-u
+sub-clamp c = rw (up c, zero-less (pos c.span_of-u.result)) (within-sfits (lit< tt) (down c))
 
 clamp-requires : tie.Need-clamp-requires
 clamp-requires c κs = search rules
@@ -40,8 +40,8 @@ returns : tie.Need-returns
 returns c =
     let b = c.before in
     let s = b.before in
-    let e = rw (to_z-of_z s.ranges.x, up b, zero-less (pos b.Span-of.result), within-back tt (down b)) at c.clamp.ensures in
-    back c.clamp.result c.clamp.type-inv ∙ e ∙ ap (λ n. clamp_to n s.args.x) (span-is b)
+    let e = rw (to_z-of_z s.ranges.x, up b, zero-less (pos b.span_of-u.result), within-back tt (down b)) at c.clamp.ensures in
+    back c.clamp.result c.clamp.type_inv ∙ e ∙ ap (λ n. clamp_to n s.args.x) (span-is b)
 
-pub end-within-spec : {M : Type 1} → statement M
-end-within-spec = tie.close (tie.spec span-of-requires cast-u sub-clamp clamp-requires returns)
+pub end_within_spec : {M : Type 1} → statement M
+end_within_spec = tie.close (tie.spec span-of-requires cast-u sub-clamp clamp-requires returns)

@@ -4,11 +4,11 @@ use borrow.Author.Tests.{lt-ltb, le-ltb}
 use Rattle.prepare.proofs.narrowing.larger_of.Statement.{statement}
 use Rattle.prepare.proofs.narrowing.larger_of.Tie as tie
 
-returns : tie.Need-returns
-returns c = rw (lt-ltb c.before.args.a c.before.args.b c.if1.true)
+returns : tie.Need-returns-then-a-b
+returns c = rw (lt-ltb c.before.args.a c.before.args.b c.if-a-b.true)
 
-returns-2 : tie.Need-returns-2
-returns-2 c = rw (le-ltb c.before.args.a c.before.args.b (omega (arith, c.if1.false)))
+returns-2 : tie.Need-returns-else-a-b
+returns-2 c = rw (le-ltb c.before.args.a c.before.args.b (omega (arith, c.if-a-b.false)))
 
-pub larger-of-spec : {M : Type 1} → statement M
-larger-of-spec = tie.close (tie.spec returns returns-2)
+pub larger_of_spec : {M : Type 1} → statement M
+larger_of_spec = tie.close (tie.spec returns returns-2)

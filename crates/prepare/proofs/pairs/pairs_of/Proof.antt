@@ -9,20 +9,20 @@ use Rattle.prepare.proofs.pairs.pairs_of.Tie as tie
 ranged : (s : tie.Start) → FiguresInRange s.args.p
 ranged s = figures-of s.args.p s.requires
 
-pair-table-requires : tie.Need-pair-table-requires
+pair-table-requires : tie.Need-pair_table-t-requires
 pair-table-requires c κs = ranged c
 
 spread-requires : tie.Need-spread-requires
-spread-requires c κs = all_short c.before.args.p (ranged c.before) c.before.args.named c.pair-table.result c.pair-table.ensures
+spread-requires c κs = all_short c.before.args.p (ranged c.before) c.before.args.named c.pair_table-t.result c.pair_table-t.ensures
 
 returns : tie.Need-returns
 returns c =
-    let t = c.before.pair-table in
+    let t = c.before.pair_table-t in
     let s = c.before.before in
     record {
       held = held s.args.p (ranged s) s.args.named c.spread.result t.result t.ensures c.spread.ensures;
       ready = ready s.args.p (ranged s) s.args.named c.spread.result t.result t.ensures c.spread.ensures;
     }
 
-pub pairs-of-spec : {M : Type 1} → statement M
-pairs-of-spec = tie.close (tie.spec pair-table-requires spread-requires returns)
+pub pairs_of_spec : {M : Type 1} → statement M
+pairs_of_spec = tie.close (tie.spec pair-table-requires spread-requires returns)

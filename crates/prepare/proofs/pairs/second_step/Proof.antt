@@ -9,26 +9,26 @@ use Rattle.prepare.proofs.Spreading.{fits-few}
 use Rattle.prepare.proofs.pairs.second_step.Statement.{statement}
 use Rattle.prepare.proofs.pairs.second_step.Tie as tie
 
-enum_told : tie.Need-enum-told
+enum_told : tie.Need-enum_told-1
 enum_told c = search rules
 
-enum-known-q : tie.Need-enum-known-q
+enum-known-q : tie.Need-enum_known-q
 enum-known-q c = search rules
 
 -- the steps of the pair
-steps : (c : tie.After-known-told) → Short (Steps c.before.q.given.0.0 c.before.q.given.0.1.0)
-steps c = subst Short c.before.q.given.1 c.before.before.before.requires
+steps : (c : tie.In-Steps) → Short (Steps c.before.q-1.given.0.0 c.before.q-1.given.0.1.0)
+steps c = subst Short c.before.q-1.given.1 c.before.before.before.requires
 
-cast-result : tie.Need-overflow-cast-result
-cast-result c = let a = c.before.q.given.0.1.0 in rw (within-back tt (abs-within a (steps c).1)) (fits-few a (steps c).1)
+cast-result : tie.Need-overflow_cast-result
+cast-result c = let a = c.before.q-1.given.0.1.0 in rw (within-back tt (abs-within a (steps c).1)) (fits-few a (steps c).1)
 
-returns : tie.Need-returns
-returns c = sym (ap second_step c.enum_told.given.1)
+returns : tie.Need-returns-in-Missing
+returns c = sym (ap second_step c.enum_told-1.given.1)
 
-returns-2 : tie.Need-returns-2
+returns-2 : tie.Need-returns-in-Steps
 returns-2 c =
-    let a = c.before.q.given.0.1.0 in
-    rw (within-back tt (abs-within a (steps c).1), to_z-of_z (fits-few a (steps c).1)) (sym (ap second_step c.before.q.given.1))
+    let a = c.before.q-1.given.0.1.0 in
+    rw (within-back tt (abs-within a (steps c).1), to_z-of_z (fits-few a (steps c).1)) (sym (ap second_step c.before.q-1.given.1))
 
-pub second-step-spec : {M : Type 1} → statement M
-second-step-spec = tie.close (tie.spec enum_told enum-known-q cast-result returns returns-2)
+pub second_step_spec : {M : Type 1} → statement M
+second_step_spec = tie.close (tie.spec enum_told enum-known-q cast-result returns returns-2)

@@ -10,69 +10,69 @@ use Rattle.prepare.proofs.Spreading.{fits-few, spread-first, spread-step}
 use Rattle.prepare.proofs.pairs.spread.Statement.{statement}
 use Rattle.prepare.proofs.pairs.spread.Tie as tie
 
-abbrev invariant-loop : tie.invariant-loop
+abbrev invariant-loop : tie.invariant-loop-k
 invariant-loop t r₀ k₀ r k = (k ≤ 256) × Spread t k r
 
-abbrev decreases-loop : tie.decreases-loop
+abbrev decreases-loop : tie.decreases-loop-k
 decreases-loop t r₀ k₀ r k = 256 - k
 
-no-steps-requires : tie.Need-no-steps-requires invariant-loop decreases-loop
+no-steps-requires : tie.Need-no_steps-r-requires invariant-loop decreases-loop
 no-steps-requires c κs = tt
 
-loop-holds : tie.Need-loop-init invariant-loop decreases-loop
-loop-holds c = (omega arith, rw c.no_steps.ensures (spread-first c.before.args.t1))
+loop-holds : tie.Need-loop-k-init invariant-loop decreases-loop
+loop-holds c = (omega arith, rw c.no_steps-r.ensures (spread-first c.before.args.t1))
 
-mul-q : tie.Need-overflow-mul-q invariant-loop decreases-loop
+mul-q : tie.Need-offset_bounds-t-k invariant-loop decreases-loop
 mul-q c = omega arith
 
-array-copy-out-q : tie.Need-array-copy-out-q invariant-loop decreases-loop
+array-copy-out-q : tie.Need-bounds-t-k invariant-loop decreases-loop
 array-copy-out-q c = omega arith
 
-first-step-requires : tie.Need-first-step-requires invariant-loop decreases-loop
-first-step-requires c κs = let l = c.before.before in l.before.before.requires l.loop.k (omega arith)
+first-step-requires : tie.Need-first_step-requires invariant-loop decreases-loop
+first-step-requires c κs = let l = c.before.before in l.before.before.requires l.loop-k.k (omega arith)
 
-mul-r : tie.Need-overflow-mul-r invariant-loop decreases-loop
+mul-r : tie.Need-offset_bounds-r-k invariant-loop decreases-loop
 mul-r c = omega arith
 
-element-set-from-r : tie.Need-element-set-from-r invariant-loop decreases-loop
+element-set-from-r : tie.Need-bounds-r-k invariant-loop decreases-loop
 element-set-from-r c = omega arith
 
-second-step-requires : tie.Need-second-step-requires invariant-loop decreases-loop
-second-step-requires c κs = let l = c.before.before.before in l.before.before.requires l.loop.k (omega arith)
+second-step-requires : tie.Need-second_step-requires invariant-loop decreases-loop
+second-step-requires c κs = let l = c.before.before.before in l.before.before.requires l.loop-k.k (omega arith)
 
-mul-t8 : tie.Need-overflow-mul-t8 invariant-loop decreases-loop
+mul-t8 : tie.Need-offset_bounds-r-k-in-loop-k invariant-loop decreases-loop
 mul-t8 c = omega arith
 
-element-set-from-r-2 : tie.Need-element-set-from-r-2 invariant-loop decreases-loop
+element-set-from-r-2 : tie.Need-bounds-r-k-in-loop-k invariant-loop decreases-loop
 element-set-from-r-2 c = omega arith
 
-add-k : tie.Need-overflow-add-k invariant-loop decreases-loop
+add-k : tie.Need-overflow_add-k invariant-loop decreases-loop
 add-k c = omega arith
 
-loop-less : tie.Need-loop-smaller invariant-loop decreases-loop
+loop-less : tie.Need-loop-k-smaller invariant-loop decreases-loop
 loop-less c = omega arith
 
-loop-again : tie.Need-loop-preserved invariant-loop decreases-loop
+loop-again : tie.Need-loop-k-preserved invariant-loop decreases-loop
 loop-again c =
     let l = c.before.before.before.before in
     let t = l.before.before.args.t1 in
-    let k = l.loop.k in
+    let k = l.loop-k.k in
     let q = get_or t k Missing in
     let short = l.before.before.requires k (omega arith) in (
       omega arith,
       rw (
         c.before.first_step.ensures,
-        c.second-step.ensures,
+        c.second_step.ensures,
         to_z-of_z (fits-few (first_step q) short.0),
         to_z-of_z (fits-few (second_step q) short.1),
-      ) (spread-step t k l.loop.r (omega arith) l.loop.invariant.1),
+      ) (spread-step t k l.loop-k.r (omega arith) l.loop-k.invariant.1),
     )
 
 returns : tie.Need-returns invariant-loop decreases-loop
-returns c = let e : c.before.loop.k ≡ 256 = omega arith in rw e at c.before.loop.invariant.1
+returns c = let e : c.before.loop-k.k ≡ 256 = omega arith in rw e at c.before.loop-k.invariant.1
 
-pub spread-spec : {M : Type 1} → statement M
-spread-spec =
+pub spread_spec : {M : Type 1} → statement M
+spread_spec =
     tie.close
     (tie.spec
     invariant-loop

@@ -7,13 +7,13 @@ use Rattle.arith.proofs.Signs.{times-sign-self}
 use Rattle.prepare.proofs.tables.absolute.Statement.{statement}
 use Rattle.prepare.proofs.tables.absolute.Tie as tie
 
-times-sign-requires : tie.Need-times-sign-requires
+times-sign-requires : tie.Need-times_sign-requires
 times-sign-requires c κs = search rules
 
 returns : tie.Need-returns
 returns c =
     let s = c.before in
-    rw (back c.times-sign.result c.times-sign.type-inv) ((rw (to_z-of_z s.ranges.x) at c.times-sign.ensures) ∙ times-sign-self s.args.x)
+    rw (back c.times_sign.result c.times_sign.type_inv) ((rw (to_z-of_z s.ranges.x) at c.times_sign.ensures) ∙ times-sign-self s.args.x)
 
-pub absolute-spec : {M : Type 1} → statement M
-absolute-spec = tie.close (tie.spec times-sign-requires returns)
+pub absolute_spec : {M : Type 1} → statement M
+absolute_spec = tie.close (tie.spec times-sign-requires returns)

@@ -22,5 +22,5 @@ returns : tie.Need-returns
 unfolding rising
 returns c = λ k h. omega (arith, rising-at 0 16 k h)
 
-pub all-places-spec : {M : Type 1} → statement M
-all-places-spec = tie.close (tie.spec returns)
+pub all_places_spec : {M : Type 1} → statement M
+all_places_spec = tie.close (tie.spec returns)

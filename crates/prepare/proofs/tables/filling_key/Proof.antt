@@ -15,10 +15,10 @@ use Rattle.prepare.proofs.tables.filling_key.Statement.{statement}
 use Rattle.prepare.proofs.tables.filling_key.Tie as tie
 
 -- the moments that are spoken of below
-abbrev start-of-light-bound : tie.After-light-bound → tie.Start
+abbrev start-of-light-bound : tie.After-light_bound-b → tie.Start
 start-of-light-bound c = c.before.before
 
-abbrev start-of-times-sign : tie.After-times-sign → tie.Start
+abbrev start-of-times-sign : tie.After-times_sign-c → tie.Start
 start-of-times-sign c = start-of-light-bound c.before.before
 
 -- what the function was given
@@ -26,69 +26,69 @@ abbrev S : tie.After-absolute → tie.Start
 S c = start-of-times-sign c.before.before
 
 -- the three numbers that the key is made of
-first : (c : tie.After-absolute) → to_z w64 (of_z w64 c.before.before.times-sign.result) ≡ times_sign (S c).args.i.weight (S c).args.i.price
+first : (c : tie.After-absolute) → to_z w64 (of_z w64 c.before.before.times_sign-c.result) ≡ times_sign (S c).args.i.weight (S c).args.i.price
 first c =
     let s = S c in
-    back c.before.before.times-sign.result c.before.before.times-sign.type-inv
-    ∙ (rw (within-back tt (weight-within s.args.i s.pre), within-back tt (price-within s.args.i s.pre)) at
-    c.before.before.times-sign.ensures)
+    back c.before.before.times_sign-c.result c.before.before.times_sign-c.type_inv
+    ∙ (rw (within-back tt (weight-within s.args.i s.requires), within-back tt (price-within s.args.i s.requires)) at
+    c.before.before.times_sign-c.ensures)
 
-second : (c : tie.After-absolute) → to_z w64 (of_z w64 c.before.head-start.result) ≡ head_start (light_bound (S c).args.i) (S c).args.i.weight
+second : (c : tie.After-absolute) → to_z w64 (of_z w64 c.before.head_start-t.result) ≡ head_start (light_bound (S c).args.i) (S c).args.i.weight
 second c =
     let at-times-sign = c.before.before in
     let at-light-bound = at-times-sign.before.before in
     let s = S c in
-    back c.before.head-start.result c.before.head-start.type-inv
-    ∙ (rw (within-back tt (weight-within s.args.i s.pre), at-light-bound.light-bound.ensures) at c.before.head-start.ensures)
+    back c.before.head_start-t.result c.before.head_start-t.type_inv
+    ∙ (rw (within-back tt (weight-within s.args.i s.requires), at-light-bound.light_bound-b.ensures) at c.before.head_start-t.ensures)
 
 size : (c : tie.After-absolute) → to_z w64 (of_z w64 c.absolute.result) ≡ pos (nat_abs (S c).args.i.weight)
 size c =
     let s = S c in
-    back c.absolute.result c.absolute.type-inv ∙ (rw (within-back tt (weight-within s.args.i s.pre)) at c.absolute.ensures)
+    back c.absolute.result c.absolute.type_inv ∙ (rw (within-back tt (weight-within s.args.i s.requires)) at c.absolute.ensures)
 
-light-bound-requires : tie.Need-light-bound-requires
+light-bound-requires : tie.Need-light_bound-b-requires
 light-bound-requires c κs = search rules
 
-times-sign-requires : tie.Need-times-sign-requires
+times-sign-requires : tie.Need-times_sign-c-requires
 times-sign-requires c κs =
     let s = c.before.before.before in
     let w = price-within s.args.i s.requires in
     rw (within-back tt w) (within_more (omega arith) w)
 
-head-start-requires : tie.Need-head-start-requires
+head-start-requires : tie.Need-head_start-t-requires
 head-start-requires c κs =
     let s = start-of-times-sign c in
-    let w = weight-within s.args.i s.pre in
+    let w = weight-within s.args.i s.requires in
     rw (within-back tt w) w
 
 absolute-requires : tie.Need-absolute-requires
 absolute-requires c κs =
     let s = start-of-times-sign c.before in
-    let w = weight-within s.args.i s.pre in
+    let w = weight-within s.args.i s.requires in
     rw (within-back tt w) (within_more (omega arith) w)
 
-mul-key-item : tie.Need-overflow-mul-key-item
+mul-key-item : tie.Need-overflow_mul-c
 mul-key-item c =
     let s = S c in
-    rw (first c) (within-sfits (lit< tt) (scaled-within s.args.i s.pre))
+    rw (first c) (within-sfits (lit< tt) (scaled-within s.args.i s.requires))
 
-add-key-item : tie.Need-overflow-add-key-item
+add-key-item : tie.Need-overflow_add-c
 add-key-item c =
     let s = S c in
-    rw (first c, within-back tt (scaled-within s.args.i s.pre), second c) (within-sfits (lit< tt) (key-within s.args.i s.pre))
+    rw (first c, within-back tt (scaled-within s.args.i s.requires), second c) (within-sfits (lit< tt) (key-within s.args.i s.requires))
 
-key-item-requires : tie.Need-key-item-requires
+key-item-requires : tie.Need-key_item-requires
 key-item-requires c κs = search rules
 
 returns : tie.Need-returns
 returns c =
     let s = S c.before in
     let i = s.args.i in
-    rw (size c.before, first c.before, within-back tt (scaled-within i s.pre), second c.before, within-back tt (key-within i s.pre)) at
-    c.key-item.ensures
+    rw (size c.before, first c.before, within-back tt (scaled-within i s.requires), second c.before, within-back tt (key-within i s.requires)) at
+    c.key_item.ensures
 
-pub filling-key-spec : {M : Type 1} → statement M
-filling-key-spec =
+pub filling_key_spec : {M : Type 1} → statement M
+filling_key_spec =
     tie.close
     (tie.spec
     light-bound-requires

@@ -4,17 +4,17 @@ use borrow.Author.Rules.{rules}
 use Rattle.prepare.proofs.tables.is_fixed.Statement.{statement}
 use Rattle.prepare.proofs.tables.is_fixed.Tie as tie
 
-is-integer-requires : tie.Need-is-integer-requires
+is-integer-requires : tie.Need-is_integer-requires
 is-integer-requires c κs = search rules
 
-returns : tie.Need-returns
+returns : tie.Need-returns-then-is_integer
 returns c = search rules
 
 meets-requires : tie.Need-meets-requires
 meets-requires c κs = search rules
 
-returns-2 : tie.Need-returns-2
-returns-2 c = rw (sym c.before.before.is-integer.ensures ∙ c.before.if1.false) c.meets.ensures
+returns-2 : tie.Need-returns
+returns-2 c = rw (sym c.before.before.is_integer.ensures ∙ c.before.if-is_integer.false) c.meets.ensures
 
-pub is-fixed-spec : {M : Type 1} → statement M
-is-fixed-spec = tie.close (tie.spec is-integer-requires returns meets-requires returns-2)
+pub is_fixed_spec : {M : Type 1} → statement M
+is_fixed_spec = tie.close (tie.spec is-integer-requires returns meets-requires returns-2)

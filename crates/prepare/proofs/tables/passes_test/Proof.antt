@@ -6,47 +6,47 @@ use Rattle.prepare.proofs.Ranges.{weight-within, price-within}
 use Rattle.prepare.proofs.tables.passes_test.Statement.{statement}
 use Rattle.prepare.proofs.tables.passes_test.Tie as tie
 
-enum_told : tie.Need-enum-told
+enum_told : tie.Need-enum_told-1
 enum_told c = search rules
 
 -- the moments that are spoken of below
-abbrev start : tie.After-struct-told → tie.Start
+abbrev start : tie.After-struct_told-1 → tie.Start
 start c = c.before.before.before
 
-is-live-requires : tie.Need-is-live-requires
+is-live-requires : tie.Need-is_live-requires
 is-live-requires c κs =
     let s = start c.before in
-    let w = price-within s.args.i s.pre in
+    let w = price-within s.args.i s.requires in
     rw (within-back tt w) (within_more (omega arith) w)
 
-enum-told-2 : tie.Need-enum-told-2
+enum-told-2 : tie.Need-enum_told-in-Level
 enum-told-2 c = search rules
 
-is-integer-requires : tie.Need-is-integer-requires
+is-integer-requires : tie.Need-is_integer-requires
 is-integer-requires c κs = search rules
 
-enum-told-3 : tie.Need-enum-told-3
+enum-told-3 : tie.Need-enum_told-in-Fixed
 enum-told-3 c = search rules
 
-is-fixed-requires : tie.Need-is-fixed-requires
+is-fixed-requires : tie.Need-is_fixed-requires
 is-fixed-requires c κs = search rules
 
-returns : tie.Need-returns
+returns : tie.Need-returns-in-Live
 returns c =
     let s = start c.before.before in
-    rw c.before.before.before.enum_told.given.1 (rw (
-      within-back tt (weight-within s.args.i s.pre),
-      within-back tt (price-within s.args.i s.pre),
+    rw c.before.before.before.enum_told-1.given.1 (rw (
+      within-back tt (weight-within s.args.i s.requires),
+      within-back tt (price-within s.args.i s.requires),
     ) at c.is_live.ensures)
 
-returns-2 : tie.Need-returns-2
+returns-2 : tie.Need-returns-in-Level
 returns-2 c = search rules
 
-returns-3 : tie.Need-returns-3
-returns-3 c = rw c.before.enum-told3.given.1 c.is-fixed.ensures
+returns-3 : tie.Need-returns-in-Fixed
+returns-3 c = rw c.before.enum_told-in-Fixed-1.given.1 c.is_fixed.ensures
 
-pub passes-test-spec : {M : Type 1} → statement M
-passes-test-spec =
+pub passes_test_spec : {M : Type 1} → statement M
+passes_test_spec =
     tie.close
     (tie.spec
     enum_told

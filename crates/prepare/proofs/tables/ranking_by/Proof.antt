@@ -4,17 +4,17 @@ use Rattle.prepare.proofs.Keys.{keys-ranged, keys-sorted}
 use Rattle.prepare.proofs.tables.ranking_by.Statement.{statement}
 use Rattle.prepare.proofs.tables.ranking_by.Tie as tie
 
-keyed-requires : tie.Need-keyed-requires
+keyed-requires : tie.Need-keyed-keys-requires
 keyed-requires c κs = search rules
 
-rank-requires : tie.Need-rank-requires
-rank-requires c κs = let s = c.before in keys-ranged s.args.p c.keyed.result s.args.by c.keyed.ensures s.requires.0 s.requires.1
+rank-requires : tie.Need-rank-ranking-requires
+rank-requires c κs = let s = c.before in keys-ranged s.args.p c.keyed-keys.result s.args.by c.keyed-keys.ensures s.requires.0 s.requires.1
 
 returns : tie.Need-returns
 returns c =
     let s = c.before.before.before in
     let k = c.before.before in
-    keys-sorted s.args.p k.keyed.result s.args.by k.keyed.ensures c.before.rank.result.at c.before.rank.ensures
+    keys-sorted s.args.p k.keyed-keys.result s.args.by k.keyed-keys.ensures c.before.rank-ranking.result.at c.before.rank-ranking.ensures
 
-pub ranking-by-spec : {M : Type 1} → statement M
-ranking-by-spec = tie.close (tie.spec keyed-requires rank-requires returns)
+pub ranking_by_spec : {M : Type 1} → statement M
+ranking_by_spec = tie.close (tie.spec keyed-requires rank-requires returns)

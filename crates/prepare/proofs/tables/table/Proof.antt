@@ -10,63 +10,63 @@ use Rattle.prepare.proofs.Tabling.{listing-inside, Filled, filled_none, filled_m
 use Rattle.prepare.proofs.tables.table.Statement.{statement}
 use Rattle.prepare.proofs.tables.table.Tie as tie
 
-abbrev invariant-loop : tie.invariant-loop
+abbrev invariant-loop : tie.invariant-loop-u
 invariant-loop n f p list to₀ u₀ to u = Filled n (λ v. figure_of f (listed p list v)) u to
 
-abbrev decreases-loop : tie.decreases-loop
+abbrev decreases-loop : tie.decreases-loop-u
 decreases-loop n f p list to₀ u₀ to u = n - u
 
-item<16 : (c : tie.In-loop invariant-loop decreases-loop) → place c.before.before.args.t2 c.before.loop.u < 16
-item<16 c = let s = c.before.before in listing-inside s.args.t1 s.args.t2 _ c.before.loop.u s.requires (omega arith)
+item<16 : (c : tie.In-loop-u invariant-loop decreases-loop) → place c.before.before.args.t2 c.before.loop-u.u < 16
+item<16 c = let s = c.before.before in listing-inside s.args.t1 s.args.t2 _ c.before.loop-u.u s.requires (omega arith)
 
-loop-holds : tie.Need-loop-init invariant-loop decreases-loop
+loop-holds : tie.Need-loop-u-init invariant-loop decreases-loop
 loop-holds c = filled_none c.args.n _
 
-mul-k : tie.Need-overflow-mul-k invariant-loop decreases-loop
+mul-k : tie.Need-offset_bounds-list-u invariant-loop decreases-loop
 mul-k c = omega arith
 
-array-read-k : tie.Need-array-read-k invariant-loop decreases-loop
+array-read-k : tie.Need-bounds-list-u invariant-loop decreases-loop
 array-read-k c = omega arith
 
-mul-i : tie.Need-overflow-mul-i invariant-loop decreases-loop
+mul-i : tie.Need-offset_bounds-p-k invariant-loop decreases-loop
 mul-i c = omega (arith, item<16 c)
 
-element-copy-out-i : tie.Need-element-copy-out-i invariant-loop decreases-loop
+element-copy-out-i : tie.Need-bounds-p-k invariant-loop decreases-loop
 element-copy-out-i c = item<16 c
 
-figure-of-requires : tie.Need-figure-of-requires invariant-loop decreases-loop
+figure-of-requires : tie.Need-figure_of-requires invariant-loop decreases-loop
 figure-of-requires c κs =
     let l = c.before.before in
     let s = l.before in
-    s.requires.accepted.items-in (place s.args.t2 l.loop.u) (s.requires.below l.loop.u (omega arith))
+    s.requires.accepted.items-in (place s.args.t2 l.loop-u.u) (s.requires.below l.loop-u.u (omega arith))
 
-mul-to : tie.Need-overflow-mul-to invariant-loop decreases-loop
+mul-to : tie.Need-offset_bounds-to-u invariant-loop decreases-loop
 mul-to c = omega arith
 
-array-set-from-to : tie.Need-array-set-from-to invariant-loop decreases-loop
+array-set-from-to : tie.Need-bounds-to-u invariant-loop decreases-loop
 array-set-from-to c = omega arith
 
-add-u : tie.Need-overflow-add-u invariant-loop decreases-loop
+add-u : tie.Need-overflow_add-u invariant-loop decreases-loop
 add-u c = omega arith
 
-loop-less : tie.Need-loop-smaller invariant-loop decreases-loop
+loop-less : tie.Need-loop-u-smaller invariant-loop decreases-loop
 loop-less c = omega arith
 
-loop-again : tie.Need-loop-preserved invariant-loop decreases-loop
+loop-again : tie.Need-loop-u-preserved invariant-loop decreases-loop
 loop-again c =
     let l = c.before.before.before in
     let s = l.before in
-    filled_more s.args.n (λ v. figure_of s.args.f (listed s.args.t1 s.args.t2 v)) l.loop.u l.loop.to _ s.requires.few (omega arith)
-    (back c.figure-of.result c.figure-of.type-inv ∙ c.figure-of.ensures) l.loop.invariant
+    filled_more s.args.n (λ v. figure_of s.args.f (listed s.args.t1 s.args.t2 v)) l.loop-u.u l.loop-u.to _ s.requires.few (omega arith)
+    (back c.figure_of.result c.figure_of.type_inv ∙ c.figure_of.ensures) l.loop-u.invariant
 
 returns : tie.Need-returns invariant-loop decreases-loop
 returns c =
     let s = c.before.before in
-    let e : c.before.loop.u ≡ s.args.n = omega arith in
-    rw e at c.before.loop.invariant.so_far
+    let e : c.before.loop-u.u ≡ s.args.n = omega arith in
+    rw e at c.before.loop-u.invariant.so_far
 
-pub table-spec : {M : Type 1} → statement M
-table-spec =
+pub table_spec : {M : Type 1} → statement M
+table_spec =
     tie.close
     (tie.spec
     invariant-loop

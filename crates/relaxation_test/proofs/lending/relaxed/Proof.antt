@@ -240,7 +240,7 @@ module _ {M : Type 1} {𝓤 : Ura M} (𝓛 : Logic 𝓤) (mem : Memory → SProp
     to-relax = (((κ, tt), (full_share, tt), tt, (c, (x, (ts, tt))), (vint w64 (of_z w64 c) ∷ [], (slice_val (b, 0) (length ls) ∷ [], (nv ∷ [], tt)))), tt)
 
     goes : ent 𝓤 (⋆ 𝓛 (‵ (flft κ full_share) ∷ ‵ ((MutSlice (named 0) κ R).own_val x (slice_val (b, 0) (length ls) ∷ [])) ∷ []))
-        ((Relax 𝓛 mem run).pre to-relax)
+        ((Relax 𝓛 mem run).requires to-relax)
     goes =
         qed 𝓛 (‵ (flft κ full_share) ∷ ‵ ((MutSlice (named 0) κ R).own_val x (slice_val (b, 0) (length ls) ∷ [])) ∷ []) ∵ nothing ! $ move ! (1 ∷ 0 ∷ []) $ join ! $
         nothing ! $ owned ! N.the_row (Is N.the_row) (LL.makes N.the_type N'.the_plain 𝓛) ts (nv ∷ []) ts-is $ fjoin ! $
@@ -295,7 +295,7 @@ module _ {M : Type 1} {𝓤 : Ura M} (𝓛 : Logic 𝓤) (mem : Memory → SProp
           lft_new ! tt (λ α. move ! (1 ∷ []) $
           use1 𝓛 (later (some (λ (γ : GName). ‵ ((MutSlice (named 0) (α ∷ []) R).own_val (record { ref_ptr = (l₂, 0); ghost_name = γ; now = ls })
           (slice_val (l₂, 0) (length ls) ∷ [])) ⊛ ‵ (flent (α ∷ []) (Held R (length ls) l₂ 0 γ))))) (lends_slice 𝓛 R (named 0) (α ∷ []) ls l₂ 0 room) $
-          await ! tt $ pick ! (λ γ. split ! $ move ! (2 ∷ 0 ∷ []) $ use2 𝓛 (raw ((Relax 𝓛 mem run).pre (to-relax l₂ α γ))) (goes l₂ α γ) $
+          await ! tt $ pick ! (λ γ. split ! $ move ! (2 ∷ 0 ∷ []) $ use2 𝓛 (raw ((Relax 𝓛 mem run).requires (to-relax l₂ α γ))) (goes l₂ α γ) $
           calls_at ! fm (Relax 𝓛 mem run) known (to-relax l₂ α γ)
           (and_then ! (load ! (from ! (fld ! refl (stop !))) (look_in ! 14 (sub ! 2 refl (whole !))))
           (and_then ! (load ! (from ! (stop !)) (look ! 5 refl))
@@ -368,9 +368,9 @@ module _ {M : Type 1} {𝓤 : Ura M} (𝓛 : Logic 𝓤) (mem : Memory → SProp
       walk_Meets 𝓛 relaxed'.ended stayed (Goes-none 𝓛 0 (λ _. S.the_row) kept-as-is (λ κs x f. refl), tt) (relaxed'.clauses 𝓛 mem run)
       (WpFn 𝓤 H 𝓣.C 𝓣.Λ code.function) (WpFn-mono 𝓤 H 𝓛.laws 𝓣 code.function) (relaxed-walks 𝓣.C 𝓣.Λ (fm_of 𝓤 H 𝓛.laws 𝓣) known)
 
-pub relaxed-spec : {M : Type 1} → stated.statement M
+pub relaxed_spec : {M : Type 1} → stated.statement M
 unfolding code.routine tables_of
-relaxed-spec 𝓤 𝓛 𝓜 𝓡 =
+relaxed_spec 𝓤 𝓛 𝓜 𝓡 =
     entered 𝓤 𝓛.H (triple_of 𝓛 relaxed'.signature (relaxed'.spec 𝓛 𝓜.mem 𝓡.run))
     (tables 𝓤 𝓛.H 𝓜 𝓡 code.env).C (tables 𝓤 𝓛.H 𝓜 𝓡 code.env).Λ #relaxed code.function (code.unfolded 𝓤 𝓛.H 𝓜 𝓡)
     (relaxed-meets 𝓛 𝓜.mem 𝓡.run (tables_of 𝓤 𝓛.H 𝓜 (tables 𝓤 𝓛.H 𝓜 𝓡 code.env))

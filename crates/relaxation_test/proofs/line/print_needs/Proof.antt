@@ -4,38 +4,38 @@ use borrow.Author.Rules.{rules}
 use Rattle.relaxation_test.proofs.line.print_needs.Statement.{statement}
 use Rattle.relaxation_test.proofs.line.print_needs.Tie as tie
 
-abbrev invariant-loop : tie.invariant-loop
+abbrev invariant-loop : tie.invariant-loop-j
 invariant-loop ns j₀ j = Unit {0}
 
-abbrev decreases-loop : tie.decreases-loop
+abbrev decreases-loop : tie.decreases-loop-j
 decreases-loop ns j₀ j = 16 - j
 
-loop-holds : tie.Need-loop-init invariant-loop decreases-loop
+loop-holds : tie.Need-loop-j-init invariant-loop decreases-loop
 loop-holds c = search rules
 
-mul-need : tie.Need-overflow-mul-need invariant-loop decreases-loop
+mul-need : tie.Need-offset_bounds-ns-j invariant-loop decreases-loop
 mul-need c = search rules
 
-element-copy-out-need : tie.Need-element-copy-out-need invariant-loop decreases-loop
+element-copy-out-need : tie.Need-bounds-ns-j invariant-loop decreases-loop
 element-copy-out-need c = search rules
 
-print-need-requires : tie.Need-print-need-requires invariant-loop decreases-loop
+print-need-requires : tie.Need-print_need-requires invariant-loop decreases-loop
 print-need-requires c κs = search rules
 
-add-j : tie.Need-overflow-add-j invariant-loop decreases-loop
+add-j : tie.Need-overflow_add-j invariant-loop decreases-loop
 add-j c = search rules
 
-loop-less : tie.Need-loop-smaller invariant-loop decreases-loop
+loop-less : tie.Need-loop-j-smaller invariant-loop decreases-loop
 loop-less c = search rules
 
-loop-again : tie.Need-loop-preserved invariant-loop decreases-loop
+loop-again : tie.Need-loop-j-preserved invariant-loop decreases-loop
 loop-again c = search rules
 
 returns : tie.Need-returns invariant-loop decreases-loop
 returns c = search rules
 
-pub print-needs-spec : {M : Type 1} → statement M
-print-needs-spec =
+pub print_needs_spec : {M : Type 1} → statement M
+print_needs_spec =
     tie.close
     (tie.spec
     invariant-loop

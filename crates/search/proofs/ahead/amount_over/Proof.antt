@@ -18,17 +18,17 @@ use Rattle.greedy.proofs.Sizes.{cond-within, lightest-within}
 use Rattle.search.proofs.ahead.amount_over.Statement.{statement}
 use Rattle.search.proofs.ahead.amount_over.Tie as tie
 
-standing-requires : tie.Need-standing-requires
+standing-requires : tie.Need-standing-x-requires
 standing-requires c κs = search rules
 
-taking-requires : tie.Need-taking-requires
+taking-requires : tie.Need-taking-t-requires
 taking-requires c κs = let s = c.before.before in rw (within-back tt s.requires.1.1.0) s.requires.1.1.0
 
-cast-result : tie.Need-overflow-cast-result
+cast-result : tie.Need-overflow_cast-result
 cast-result c = search rules
 
 -- what the function was given
-abbrev S : tie.After-taking → tie.Start
+abbrev S : tie.After-taking-t → tie.Start
 S c = c.before.before.before
 
 -- the whole amount
@@ -43,40 +43,40 @@ whole-within s = within-mul
     (record { above = s.requires.1.1.1; below = omega arith })
 
 -- the two terms, as the code holds them
-whole_is : (c : tie.After-taking) → to_z w64 (of_z w64 c.before.standing.result) *ℤ to_z w64 (S c).args.q ≡ stand (S c) *ℤ pos (S c).args.q
+whole_is : (c : tie.After-taking-t) → to_z w64 (of_z w64 c.before.standing-x.result) *ℤ to_z w64 (S c).args.q ≡ stand (S c) *ℤ pos (S c).args.q
 whole_is c =
     let s = S c in
-    let d = c.before.standing in
-    let e = rw (to_z-of_z s.fits.a, to_z-of_z s.fits.p, to_z-of_z s.fits.l, to_z-of_z s.fits.h) at d.ensures in
-    ap₂ (λ (x y : ℤ). x *ℤ y) (back d.result d.type-inv ∙ e) (to_z_pos w64 (omega (arith, s.pre.1.1.1)))
+    let d = c.before.standing-x in
+    let e = rw (to_z-of_z s.ranges.a, to_z-of_z s.ranges.p, to_z-of_z s.ranges.l, to_z-of_z s.ranges.h) at d.ensures in
+    ap₂ (λ (x y : ℤ). x *ℤ y) (back d.result d.type-inv ∙ e) (to_z_pos w64 (omega (arith, s.requires.1.1.1)))
 
 abbrev taken : tie.Start → ℤ
 taken s = taken_by s.args.a s.args.f.room s.args.v s.args.f.at s.args.n
 
-taken_is : (c : tie.After-taking) → to_z w64 (of_z w64 c.taking.result) ≡ taken (S c)
+taken_is : (c : tie.After-taking-t) → to_z w64 (of_z w64 c.taking-t.result) ≡ taken (S c)
 taken_is c =
     let s = S c in
-    let e : c.taking.result ≡ taken s = rw (to_z-of_z s.fits.a, within-back tt s.pre.1.1.0) at c.taking.ensures in
-    back c.taking.result c.taking.type-inv ∙ e
+    let e : c.taking-t.result ≡ taken s = rw (to_z-of_z s.ranges.a, within-back tt s.requires.1.1.0) at c.taking-t.ensures in
+    back c.taking-t.result c.taking-t.type_inv ∙ e
 
-mul-result : tie.Need-overflow-mul-result
+mul-result : tie.Need-overflow_mul-result
 mul-result c = rw (whole_is c) (within-sfits (lit< tt) (whole-within (S c)))
 
 -- and their sum
 inside : (s : tie.Start) → Within 20300000000000 (stand s *ℤ pos s.args.q +ℤ taken s)
 inside s = within-add (whole-within s) (taken-within s.args.a s.args.f.room s.args.v s.args.f.at s.args.n s.requires.1.1.0)
 
-held : (c : tie.After-taking) → to_z w64 (of_z w64 (to_z w64 (of_z w64 c.before.standing.result) *ℤ to_z w64 (S c).args.q)) +ℤ to_z w64
-    (of_z w64 c.taking.result) ≡ stand (S c) *ℤ pos (S c).args.q +ℤ taken (S c)
+held : (c : tie.After-taking-t) → to_z w64 (of_z w64 (to_z w64 (of_z w64 c.before.standing-x.result) *ℤ to_z w64 (S c).args.q)) +ℤ to_z w64
+    (of_z w64 c.taking-t.result) ≡ stand (S c) *ℤ pos (S c).args.q +ℤ taken (S c)
 held c = ap₂ (λ (x y : ℤ). x +ℤ y) (ap (λ (x : ℤ). to_z w64 (of_z w64 x)) (whole_is c) ∙ within-back tt (whole-within (S c))) (taken_is c)
 
-add-result : tie.Need-overflow-add-result
+add-result : tie.Need-overflow_add-result
 add-result c = rw (held c) (within-sfits (lit< tt) (inside (S c)))
 
 returns : tie.Need-returns
 returns c = rw (held c) (within-back tt (inside (S c)))
 
-pub amount-over-spec : {M : Type 1} → statement M
-amount-over-spec =
+pub amount_over_spec : {M : Type 1} → statement M
+amount_over_spec =
     tie.close
     (tie.spec standing-requires taking-requires cast-result mul-result add-result returns)

@@ -36,107 +36,107 @@ counted_step F k l h c = record {
     at_j j m (yes e) = rw e (at_same l k (F k) (omega (arith, c.long)))
     at_j j m (no d) = at_other l k (F k) j d ∙ c.counted j (omega (arith, d))
 
-abbrev invariant-loop : tie.invariant-loop
+abbrev invariant-loop : tie.invariant-loop-k
 invariant-loop f q c e n live to₀ k₀ to k = (k ≤ c.count) × Counted (numerator c e f q) k to
 
-abbrev decreases-loop : tie.decreases-loop
+abbrev decreases-loop : tie.decreases-loop-k
 decreases-loop f q c e n live to₀ k₀ to k = n - k
 
-loop-holds : tie.Need-loop-init invariant-loop decreases-loop
+loop-holds : tie.Need-loop-k-init invariant-loop decreases-loop
 loop-holds c = (omega arith, record { long = refl; counted = λ j h. absurd (omega arith); beyond = λ j h. zeros 16 j })
 
 -- an item counted has a place
-in_place : (c : tie.In-loop invariant-loop decreases-loop) → c.before.loop.k < 16
-in_place c = omega (arith, c.before.before.requires.sized.columns.few, c.loop-test.true)
+in_place : (c : tie.In-loop-k invariant-loop decreases-loop) → c.before.loop-k.k < 16
+in_place c = omega (arith, c.before.before.requires.sized.columns.few, c.loop-k-test.true)
 
 -- where the turn began
-abbrev Round : tie.After-v invariant-loop decreases-loop → tie.In-loop invariant-loop decreases-loop
+abbrev Round : tie.After-v-1 invariant-loop decreases-loop → tie.In-loop-k invariant-loop decreases-loop
 Round c = c.before.before.before.before.before
 
-mul-a : tie.Need-overflow-mul-a invariant-loop decreases-loop
+mul-a : tie.Need-offset_bounds-c-k invariant-loop decreases-loop
 mul-a c = record { fits = omega (arith, in_place c) }
 
-element-copy-out-a : tie.Need-element-copy-out-a invariant-loop decreases-loop
+element-copy-out-a : tie.Need-bounds-c-k invariant-loop decreases-loop
 element-copy-out-a c = in_place c
 
-mul-p : tie.Need-overflow-mul-p invariant-loop decreases-loop
+mul-p : tie.Need-offset_bounds-c-k-in-loop-k invariant-loop decreases-loop
 mul-p c = record { fits = omega (arith, in_place c.before) }
 
-element-copy-out-p : tie.Need-element-copy-out-p invariant-loop decreases-loop
+element-copy-out-p : tie.Need-bounds-c-k-in-loop-k invariant-loop decreases-loop
 element-copy-out-p c = in_place c.before
 
-mul-l : tie.Need-overflow-mul-l invariant-loop decreases-loop
+mul-l : tie.Need-offset_bounds-e-k invariant-loop decreases-loop
 mul-l c = record { fits = omega (arith, in_place c.before.before) }
 
-element-copy-out-l : tie.Need-element-copy-out-l invariant-loop decreases-loop
+element-copy-out-l : tie.Need-bounds-e-k invariant-loop decreases-loop
 element-copy-out-l c = in_place c.before.before
 
-mul-h : tie.Need-overflow-mul-h invariant-loop decreases-loop
+mul-h : tie.Need-offset_bounds-e-k-in-loop-k invariant-loop decreases-loop
 mul-h c = record { fits = omega (arith, in_place c.before.before.before) }
 
-element-copy-out-h : tie.Need-element-copy-out-h invariant-loop decreases-loop
+element-copy-out-h : tie.Need-bounds-e-k-in-loop-k invariant-loop decreases-loop
 element-copy-out-h c = in_place c.before.before.before
 
-mul-v : tie.Need-overflow-mul-v invariant-loop decreases-loop
+mul-v : tie.Need-offset_bounds-c-k-in-loop-k-2 invariant-loop decreases-loop
 mul-v c = record { fits = omega (arith, in_place c.before.before.before.before) }
 
-element-copy-out-v : tie.Need-element-copy-out-v invariant-loop decreases-loop
+element-copy-out-v : tie.Need-bounds-c-k-in-loop-k-2 invariant-loop decreases-loop
 element-copy-out-v c = in_place c.before.before.before.before
 
-amount-over-requires : tie.Need-amount-over-requires invariant-loop decreases-loop
+amount-over-requires : tie.Need-amount_over-requires invariant-loop decreases-loop
 amount-over-requires c κs =
     let i = Round c in
-    let p = i.before.before.pre in
-    let k = i.before.loop.k in
+    let p = i.before.before.requires in
+    let k = i.before.loop-k.k in
     rw (within-back tt (p.sized.ends.lo-in k), within-back tt (p.sized.ends.hi-in k))
     (p.sized.ends.lo-in k, (p.sized.ends.hi-in k, (p.filled.room_in, p.few)))
 
-mul-to : tie.Need-overflow-mul-to invariant-loop decreases-loop
+mul-to : tie.Need-offset_bounds-to-k invariant-loop decreases-loop
 mul-to c = record { fits = omega (arith, in_place (Round c.before)) }
 
-array-set-from-to : tie.Need-array-set-from-to invariant-loop decreases-loop
+array-set-from-to : tie.Need-bounds-to-k invariant-loop decreases-loop
 array-set-from-to c = in_place (Round c.before)
 
-add-k : tie.Need-overflow-add-k invariant-loop decreases-loop
+add-k : tie.Need-overflow_add-k invariant-loop decreases-loop
 add-k c = record { fits = omega (arith, in_place (Round c.before)) }
 
-loop-less : tie.Need-loop-smaller invariant-loop decreases-loop
-loop-less c = let i = Round c.before in omega (arith, i.loop-test.taken)
+loop-less : tie.Need-loop-k-smaller invariant-loop decreases-loop
+loop-less c = let i = Round c.before in omega (arith, i.loop-k-test.true)
 
 -- the amount is the item's
-amount-is : (c : tie.After-amount-over invariant-loop decreases-loop) → c.amount-over.result ≡ numerator (Round c.before).before.before.args.t1
+amount-is : (c : tie.After-amount_over invariant-loop decreases-loop) → c.amount_over.result ≡ numerator (Round c.before).before.before.args.t1
     (Round c.before).before.before.args.t2 (Round c.before).before.before.args.f (Round c.before).before.before.args.q
-    (Round c.before).before.loop.k
+    (Round c.before).before.loop-k.k
 amount-is c =
     let i = Round c.before in
-    let p = i.before.before.pre in
-    let k = i.before.loop.k in
+    let p = i.before.before.requires in
+    let k = i.before.loop-k.k in
     rw (
       within-back tt (p.sized.columns.weights-in k),
       within-back tt (p.sized.columns.prices-in k),
       within-back tt (p.sized.ends.lo-in k),
       within-back tt (p.sized.ends.hi-in k),
-    ) at c.amount-over.ensures
+    ) at c.amount_over.ensures
 
-loop-again : tie.Need-loop-preserved invariant-loop decreases-loop
+loop-again : tie.Need-loop-k-preserved invariant-loop decreases-loop
 loop-again c =
     let i = Round c.before in
     let l = i.before in (
-      omega (arith, i.loop-test.taken),
-      rw (back c.amount-over.result c.amount-over.type-inv, amount-is c) (counted_step _ l.loop.k l.loop.to (in_place i) l.loop.inv.1),
+      omega (arith, i.loop-k-test.true),
+      rw (back c.amount_over.result c.amount_over.type_inv, amount-is c) (counted_step _ l.loop-k.k l.loop-k.to (in_place i) l.loop-k.invariant.1),
     )
 
 returns : tie.Need-returns invariant-loop decreases-loop
 returns c =
     let l = c.before in
     let s = l.before in
-    let n : l.loop.k ≡ s.args.t1.count = omega (arith, l.loop.invariant.0, c.loop-test.false) in
-    let g = l.loop.invariant.1 in
-    point-once s.args.t1 s.args.t2 s.args.f s.args.q s.requires.sized.columns.few l.loop.to g.long (λ j m. g.counted j (omega arith))
+    let n : l.loop-k.k ≡ s.args.t1.count = omega (arith, l.loop-k.invariant.0, c.loop-k-test.false) in
+    let g = l.loop-k.invariant.1 in
+    point-once s.args.t1 s.args.t2 s.args.f s.args.q s.requires.sized.columns.few l.loop-k.to g.long (λ j m. g.counted j (omega arith))
     (λ j m. g.beyond j (omega arith))
 
-pub amounts-over-spec : {M : Type 1} → statement M
-amounts-over-spec =
+pub amounts_over_spec : {M : Type 1} → statement M
+amounts_over_spec =
     tie.close
     (tie.spec
     invariant-loop

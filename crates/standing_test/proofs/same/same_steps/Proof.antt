@@ -4,44 +4,44 @@ use borrow.Author.Rules.{rules}
 use Rattle.standing_test.proofs.same.same_steps.Statement.{statement}
 use Rattle.standing_test.proofs.same.same_steps.Tie as tie
 
-abbrev invariant-loop : tie.invariant-loop
+abbrev invariant-loop : tie.invariant-loop-k
 invariant-loop a b k₀ k = k ≤ 16
 
-abbrev decreases-loop : tie.decreases-loop
+abbrev decreases-loop : tie.decreases-loop-k
 decreases-loop a b k₀ k = 16 - k
 
-loop-holds : tie.Need-loop-init invariant-loop decreases-loop
+loop-holds : tie.Need-loop-k-init invariant-loop decreases-loop
 loop-holds c = search rules
 
-mul-if1 : tie.Need-overflow-mul-if1 invariant-loop decreases-loop
+mul-if1 : tie.Need-offset_bounds-a-k invariant-loop decreases-loop
 mul-if1 c = search rules
 
-array-copy-out-if1 : tie.Need-array-copy-out-if1 invariant-loop decreases-loop
+array-copy-out-if1 : tie.Need-bounds-a-k invariant-loop decreases-loop
 array-copy-out-if1 c = search rules
 
-mul-if1-2 : tie.Need-overflow-mul-if1-2 invariant-loop decreases-loop
+mul-if1-2 : tie.Need-offset_bounds-b-k invariant-loop decreases-loop
 mul-if1-2 c = search rules
 
-array-copy-out-if1-2 : tie.Need-array-copy-out-if1-2 invariant-loop decreases-loop
+array-copy-out-if1-2 : tie.Need-bounds-b-k invariant-loop decreases-loop
 array-copy-out-if1-2 c = search rules
 
-returns : tie.Need-returns invariant-loop decreases-loop
+returns : tie.Need-returns-then-a-k invariant-loop decreases-loop
 returns c = search rules
 
-add-k : tie.Need-overflow-add-k invariant-loop decreases-loop
+add-k : tie.Need-overflow_add-k invariant-loop decreases-loop
 add-k c = search rules
 
-loop-less : tie.Need-loop-smaller invariant-loop decreases-loop
+loop-less : tie.Need-loop-k-smaller invariant-loop decreases-loop
 loop-less c = search rules
 
-loop-again : tie.Need-loop-preserved invariant-loop decreases-loop
+loop-again : tie.Need-loop-k-preserved invariant-loop decreases-loop
 loop-again c = search rules
 
-returns-2 : tie.Need-returns-2 invariant-loop decreases-loop
+returns-2 : tie.Need-returns invariant-loop decreases-loop
 returns-2 c = search rules
 
-pub same-steps-spec : {M : Type 1} → statement M
-same-steps-spec =
+pub same_steps_spec : {M : Type 1} → statement M
+same_steps_spec =
     tie.close
     (tie.spec
     invariant-loop

@@ -3,41 +3,41 @@ use Rattle.std.proofs.Common.{◌-◌, ◌≤◌, rules}
 use Rattle.trials.proofs.enumerate.points.Statement.{statement}
 use Rattle.trials.proofs.enumerate.points.Tie as tie
 
-abbrev invariant-loop : tie.invariant-loop
+abbrev invariant-loop : tie.invariant-loop-k
 invariant-loop filler n items total₀ k₀ total k = k ≤ n
 
-abbrev decreases-loop : tie.decreases-loop
+abbrev decreases-loop : tie.decreases-loop-k
 decreases-loop filler n items total₀ k₀ total k = n - k
 
-loop-holds : tie.Need-loop-init invariant-loop decreases-loop
+loop-holds : tie.Need-loop-k-init invariant-loop decreases-loop
 loop-holds c = search rules
 
-mul-x : tie.Need-overflow-mul-x invariant-loop decreases-loop
+mul-x : tie.Need-offset_bounds-items-k invariant-loop decreases-loop
 mul-x c = search rules
 
-array-copy-out-x : tie.Need-array-copy-out-x invariant-loop decreases-loop
+array-copy-out-x : tie.Need-bounds-items-k invariant-loop decreases-loop
 array-copy-out-x c = search rules
 
-choices-of-requires : tie.Need-choices-of-requires invariant-loop decreases-loop
+choices-of-requires : tie.Need-choices_of-c-requires invariant-loop decreases-loop
 choices-of-requires c κs = search rules
 
-scaled-requires : tie.Need-scaled-requires invariant-loop decreases-loop
+scaled-requires : tie.Need-scaled-total-requires invariant-loop decreases-loop
 scaled-requires c κs = search rules
 
-add-k : tie.Need-overflow-add-k invariant-loop decreases-loop
+add-k : tie.Need-overflow_add-k invariant-loop decreases-loop
 add-k c = search rules
 
-loop-less : tie.Need-loop-smaller invariant-loop decreases-loop
+loop-less : tie.Need-loop-k-smaller invariant-loop decreases-loop
 loop-less c = search rules
 
-loop-again : tie.Need-loop-preserved invariant-loop decreases-loop
+loop-again : tie.Need-loop-k-preserved invariant-loop decreases-loop
 loop-again c = search rules
 
 returns : tie.Need-returns invariant-loop decreases-loop
 returns c = search rules
 
-pub points-spec : {M : Type 1} → statement M
-points-spec =
+pub points_spec : {M : Type 1} → statement M
+points_spec =
     tie.close
     (tie.spec
     invariant-loop

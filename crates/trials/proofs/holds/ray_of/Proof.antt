@@ -3,44 +3,44 @@ use Rattle.std.proofs.Common.{◌-◌, ◌≤◌, rules}
 use Rattle.trials.proofs.holds.ray_of.Statement.{statement}
 use Rattle.trials.proofs.holds.ray_of.Tie as tie
 
-abbrev invariant-loop : tie.invariant-loop
+abbrev invariant-loop : tie.invariant-loop-k
 invariant-loop n steps items r₀ k₀ r k = k ≤ n
 
-abbrev decreases-loop : tie.decreases-loop
+abbrev decreases-loop : tie.decreases-loop-k
 decreases-loop n steps items r₀ k₀ r k = n - k
 
-loop-holds : tie.Need-loop-init invariant-loop decreases-loop
+loop-holds : tie.Need-loop-k-init invariant-loop decreases-loop
 loop-holds c = search rules
 
-mul-x : tie.Need-overflow-mul-x invariant-loop decreases-loop
+mul-x : tie.Need-offset_bounds-items-k invariant-loop decreases-loop
 mul-x c = search rules
 
-array-copy-out-x : tie.Need-array-copy-out-x invariant-loop decreases-loop
+array-copy-out-x : tie.Need-bounds-items-k invariant-loop decreases-loop
 array-copy-out-x c = search rules
 
-mul-s : tie.Need-overflow-mul-s invariant-loop decreases-loop
+mul-s : tie.Need-offset_bounds-steps-k invariant-loop decreases-loop
 mul-s c = search rules
 
-array-copy-out-s : tie.Need-array-copy-out-s invariant-loop decreases-loop
+array-copy-out-s : tie.Need-bounds-steps-k invariant-loop decreases-loop
 array-copy-out-s c = search rules
 
-with-step-requires : tie.Need-with-step-requires invariant-loop decreases-loop
+with-step-requires : tie.Need-with_step-r-requires invariant-loop decreases-loop
 with-step-requires c κs = search rules
 
-add-k : tie.Need-overflow-add-k invariant-loop decreases-loop
+add-k : tie.Need-overflow_add-k invariant-loop decreases-loop
 add-k c = search rules
 
-loop-less : tie.Need-loop-smaller invariant-loop decreases-loop
+loop-less : tie.Need-loop-k-smaller invariant-loop decreases-loop
 loop-less c = search rules
 
-loop-again : tie.Need-loop-preserved invariant-loop decreases-loop
+loop-again : tie.Need-loop-k-preserved invariant-loop decreases-loop
 loop-again c = search rules
 
 returns : tie.Need-returns invariant-loop decreases-loop
 returns c = search rules
 
-pub ray-of-spec : {M : Type 1} → statement M
-ray-of-spec =
+pub ray_of_spec : {M : Type 1} → statement M
+ray_of_spec =
     tie.close
     (tie.spec
     invariant-loop

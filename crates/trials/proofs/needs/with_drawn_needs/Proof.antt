@@ -3,38 +3,38 @@ use Rattle.std.proofs.Common.{◌-◌, ◌≤◌, rules}
 use Rattle.trials.proofs.needs.with_drawn_needs.Statement.{statement}
 use Rattle.trials.proofs.needs.with_drawn_needs.Tie as tie
 
-abbrev invariant-loop : tie.invariant-loop
+abbrev invariant-loop : tie.invariant-loop-t
 invariant-loop state among p₀ now₀ t₀ p now t = t ≤ 256
 
-abbrev decreases-loop : tie.decreases-loop
+abbrev decreases-loop : tie.decreases-loop-t
 decreases-loop state among p₀ now₀ t₀ p now t = 256 - t
 
-loop-holds : tie.Need-loop-init invariant-loop decreases-loop
+loop-holds : tie.Need-loop-t-init invariant-loop decreases-loop
 loop-holds c = search rules
 
-next-requires : tie.Need-next-requires invariant-loop decreases-loop
+next-requires : tie.Need-next-now-requires invariant-loop decreases-loop
 next-requires c κs = search rules
 
 below-requires : tie.Need-below-requires invariant-loop decreases-loop
 below-requires c κs = search rules
 
-with-line-requires : tie.Need-with-line-requires invariant-loop decreases-loop
+with-line-requires : tie.Need-with_line-p-requires invariant-loop decreases-loop
 with-line-requires c κs = search rules
 
-add-t : tie.Need-overflow-add-t invariant-loop decreases-loop
+add-t : tie.Need-overflow_add-t invariant-loop decreases-loop
 add-t c = search rules
 
-loop-less : tie.Need-loop-smaller invariant-loop decreases-loop
+loop-less : tie.Need-loop-t-smaller invariant-loop decreases-loop
 loop-less c = search rules
 
-loop-again : tie.Need-loop-preserved invariant-loop decreases-loop
+loop-again : tie.Need-loop-t-preserved invariant-loop decreases-loop
 loop-again c = search rules
 
 returns : tie.Need-returns invariant-loop decreases-loop
 returns c = search rules
 
-pub with-drawn-needs-spec : {M : Type 1} → statement M
-with-drawn-needs-spec =
+pub with_drawn_needs_spec : {M : Type 1} → statement M
+with_drawn_needs_spec =
     tie.close
     (tie.spec
     invariant-loop

@@ -3,44 +3,44 @@ use Rattle.std.proofs.Common.{◌-◌, ◌≤◌, rules}
 use Rattle.trials.proofs.points.judge.Statement.{statement}
 use Rattle.trials.proofs.points.judge.Tie as tie
 
-abbrev invariant-loop : tie.invariant-loop
+abbrev invariant-loop : tie.invariant-loop-k
 invariant-loop m a n items j₀ k₀ j k = k ≤ n
 
-abbrev decreases-loop : tie.decreases-loop
+abbrev decreases-loop : tie.decreases-loop-k
 decreases-loop m a n items j₀ k₀ j k = n - k
 
-with-points-requires : tie.Need-with-points-requires invariant-loop decreases-loop
+with-points-requires : tie.Need-with_points-j-requires invariant-loop decreases-loop
 with-points-requires c κs = search rules
 
-loop-holds : tie.Need-loop-init invariant-loop decreases-loop
+loop-holds : tie.Need-loop-k-init invariant-loop decreases-loop
 loop-holds c = search rules
 
-mul-x : tie.Need-overflow-mul-x invariant-loop decreases-loop
+mul-x : tie.Need-offset_bounds-items-k invariant-loop decreases-loop
 mul-x c = search rules
 
-array-copy-out-x : tie.Need-array-copy-out-x invariant-loop decreases-loop
+array-copy-out-x : tie.Need-bounds-items-k invariant-loop decreases-loop
 array-copy-out-x c = search rules
 
-can-fill-requires : tie.Need-can-fill-requires invariant-loop decreases-loop
+can-fill-requires : tie.Need-can_fill-requires invariant-loop decreases-loop
 can-fill-requires c κs = search rules
 
-with-points-requires-2 : tie.Need-with-points-requires-2 invariant-loop decreases-loop
+with-points-requires-2 : tie.Need-with_points-j-requires-then-can_fill invariant-loop decreases-loop
 with-points-requires-2 c κs = search rules
 
-add-k : tie.Need-overflow-add-k invariant-loop decreases-loop
+add-k : tie.Need-overflow_add-k invariant-loop decreases-loop
 add-k c = search rules
 
-loop-less : tie.Need-loop-smaller invariant-loop decreases-loop
+loop-less : tie.Need-loop-k-smaller invariant-loop decreases-loop
 loop-less c = search rules
 
-loop-again : tie.Need-loop-preserved invariant-loop decreases-loop
+loop-again : tie.Need-loop-k-preserved invariant-loop decreases-loop
 loop-again c = search rules
 
 returns : tie.Need-returns invariant-loop decreases-loop
 returns c = search rules
 
-pub judge-spec : {M : Type 1} → statement M
-judge-spec =
+pub judge_spec : {M : Type 1} → statement M
+judge_spec =
     tie.close
     (tie.spec
     invariant-loop
