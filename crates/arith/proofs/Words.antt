@@ -63,4 +63,4 @@ more-fits {w} {b} {x} f g h = between x b (x +ℤ pos 1) g f (low x) (high x b h
 
 -- the same from the bound alone, as an array's element or a variant's field hands it over
 pub back : (z : ℤ) → mag z < 2 ^ 63 → to_z w64 (of_z w64 z) ≡ z
-back z h = to_z-of_z (record { sfits = h })
+back z h = to_z-of_z {w = w64} (record { sfits = h })

@@ -26,21 +26,21 @@ floor-div-requires : tie.Need-floor_div-requires
 floor-div-requires c κs = rw (negated c, to_z-of_z c.ranges.d) (within-neg c.args.n c.requires.0, c.requires.1)
 
 -- the quotient, as the local holds it
-quotient : (c : tie.After-floor_div) → to_z w64 (of_z w64 c.floor_div.result) ≡ floor_div (neg_ℤ c.before.args.n) c.before.args.d
+quotient : (c : tie.After-floor_div) → to_z w64 (of_z w64 c.floor_div.result) ≡ floor_div (neg_ℤ c.args.n) c.args.d
 quotient c =
     let s = c.before in
     let e = rw (negated s, to_z-of_z s.ranges.d) at c.floor_div.ensures in
     rw e (to_z-of_z (fits (floor-within (neg_ℤ s.args.n) s.args.d (within-neg s.args.n s.requires.0))))
 
-within : (c : tie.After-floor_div) → Within 1000000000000000000 (neg_ℤ (floor_div (neg_ℤ c.before.args.n) c.before.args.d))
-within c = within-neg _ (floor-within (neg_ℤ c.before.args.n) c.before.args.d (within-neg c.before.args.n c.before.requires.0))
+within : (c : tie.After-floor_div) → Within 1000000000000000000 (neg_ℤ (floor_div (neg_ℤ c.args.n) c.args.d))
+within c = within-neg _ (floor-within (neg_ℤ c.args.n) c.args.d (within-neg c.args.n c.requires.0))
 
 sub-result : tie.Need-overflow_sub-result
-sub-result c = rw (quotient c, zero-less (floor_div (neg_ℤ c.before.args.n) c.before.args.d)) (fits (within c))
+sub-result c = rw (quotient c, zero-less (floor_div (neg_ℤ c.args.n) c.args.d)) (fits (within c))
 
 returns : tie.Need-returns
 unfolding ceil_div
-returns c = rw (quotient c, zero-less (floor_div (neg_ℤ c.before.args.n) c.before.args.d)) (to_z-of_z (fits (within c)))
+returns c = rw (quotient c, zero-less (floor_div (neg_ℤ c.args.n) c.args.d)) (to_z-of_z (fits (within c)))
 
 pub ceil_div_spec : {M : Type 1} → statement M
 ceil_div_spec = tie.close (tie.spec sub-floor-div floor-div-requires sub-result returns)

@@ -82,7 +82,7 @@ sub-result-2 c = rw (quot-back c.before.before.before) (moved c.before.before.be
 returns-2 : tie.Need-returns-then-d-gt0
 returns-2 c =
     let s = c.before.before.before in
-    let r = rw (rem-back s) at c.before.if-r-lt0.true in
+    let r = rw (rem-back s) at c.if-r-lt0.true in
     let d = rw (to_z-of_z s.ranges.d) at c.if-d-gt0.true in
     let g : rem_z (N s) (D s) <ℤ pos 0 = omega (arith, zs) in
     rw (moved_back s) (exact s _ (floor-less (N s) (D s) _ _ (quot-rem (N s) (D s)) (small s) (λ h. g) (λ h. absurd (omega (arith, zs)))))
@@ -90,7 +90,7 @@ returns-2 c =
 returns-3 : tie.Need-returns-else-d-gt0
 returns-3 c =
     let s = c.before.before.before in
-    let r = rw (rem-back s) at c.before.if-r-lt0.true in
+    let r = rw (rem-back s) at c.if-r-lt0.true in
     let d = rw (to_z-of_z s.ranges.d) at c.if-d-gt0.false in
     let g : rem_z (N s) (D s) <ℤ pos 0 = omega (arith, zs) in
     rw (quot-back s) (exact s _ (floor-same (N s) (D s) _ _ (quot-rem (N s) (D s)) (small s) (λ h. absurd (omega (arith, zs))) (λ h. lt-le g)))
@@ -98,17 +98,17 @@ returns-3 c =
 returns-4 : tie.Need-returns-then-d-gt0-2
 returns-4 c =
     let s = c.before.before.before in
-    let r = rw (rem-back s) at c.before.if-r-lt0.false in
+    let r = rw (rem-back s) at c.if-r-lt0.false in
     let d = rw (to_z-of_z s.ranges.d) at c.if-d-gt0-2.true in
-    let g : pos 0 ≤ℤ rem_z (N s) (D s) = omega (arith, zs) in let g' = rem-above s c.before.before.if-r-eq0.false g in
+    let g : pos 0 ≤ℤ rem_z (N s) (D s) = omega (arith, zs) in let g' = rem-above s c.if-r-eq0.false g in
     rw (quot-back s) (exact s _ (floor-same (N s) (D s) _ _ (quot-rem (N s) (D s)) (small s) (λ h. g) (λ h. absurd (omega (arith, zs)))))
 
 returns-5 : tie.Need-returns-else-d-gt0-2
 returns-5 c =
     let s = c.before.before.before in
-    let r = rw (rem-back s) at c.before.if-r-lt0.false in
+    let r = rw (rem-back s) at c.if-r-lt0.false in
     let d = rw (to_z-of_z s.ranges.d) at c.if-d-gt0-2.false in
-    let g : pos 0 ≤ℤ rem_z (N s) (D s) = omega (arith, zs) in let g' = rem-above s c.before.before.if-r-eq0.false g in
+    let g : pos 0 ≤ℤ rem_z (N s) (D s) = omega (arith, zs) in let g' = rem-above s c.if-r-eq0.false g in
     rw (moved_back s) (exact s _ (floor-less (N s) (D s) _ _ (quot-rem (N s) (D s)) (small s) (λ h. absurd (omega (arith, zs))) (λ h. g')))
 
 pub floor_div_spec : {M : Type 1} → statement M

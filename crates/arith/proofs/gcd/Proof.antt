@@ -19,15 +19,15 @@ rem-r : tie.Need-nonzero_rem-r invariant-loop decreases-loop
 rem-r c = omega arith
 
 loop-less : tie.Need-loop-y-smaller invariant-loop decreases-loop
-loop-less c = mod-lt c.before.loop-y.x c.loop-y-test.true
+loop-less c = mod-lt c.loop-y.x c.loop-y-test.true
 
 loop-again : tie.Need-loop-y-preserved invariant-loop decreases-loop
-loop-again c = λ g h. c.before.loop-y.invariant g (gcd-step _ _ g h)
+loop-again c = λ g h. c.loop-y.invariant g (gcd-step _ _ g h)
 
 returns : tie.Need-returns invariant-loop decreases-loop
 returns c =
-    let e : c.before.loop-y.y ≡ 0 = omega arith in
-    gcd-unique _ _ _ _ (c.before.loop-y.invariant _ (rw e (gcd-end _))) (gcd-is _ _)
+    let e : c.loop-y.y ≡ 0 = omega arith in
+    gcd-unique _ _ _ _ (c.loop-y.invariant _ (rw e (gcd-end _))) (gcd-is _ _)
 
 pub gcd_spec : {M : Type 1} → statement M
 gcd_spec = tie.close (tie.spec invariant-loop decreases-loop loop-holds rem-r loop-less loop-again returns)

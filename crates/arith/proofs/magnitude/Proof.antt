@@ -20,7 +20,7 @@ negated : (s : tie.Start) → to_z w64 (of_z w64 (pos 0 -ℤ to_z w64 (of_z w64 
 negated s = rw (to_z-of_z s.ranges.p, zero-less s.args.p) (to_z-of_z (fits s))
 
 sub-result : tie.Need-overflow_sub-result
-sub-result c = rw (to_z-of_z c.before.ranges.p, zero-less c.before.args.p) (fits c.before)
+sub-result c = rw (to_z-of_z c.ranges.p, zero-less c.args.p) (fits c.before)
 
 cast-result : tie.Need-overflow_cast-result
 cast-result c =
@@ -38,7 +38,7 @@ cast-result-2 c =
     rw (to_z-of_z s.ranges.p) (cast-in h s.ranges.p)
 
 returns : tie.Need-returns-then-p-lt0
-returns c = rw (negated c.before) (nat_abs-neg c.before.args.p)
+returns c = rw (negated c.before) (nat_abs-neg c.args.p)
 
 returns-2 : tie.Need-returns-else-p-lt0
 returns-2 c = search rules

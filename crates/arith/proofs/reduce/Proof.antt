@@ -19,14 +19,14 @@ magnitude-requires c κs = rw (to_z-of_z c.ranges.p) c.requires.0
 gcd-requires : tie.Need-gcd-g-requires
 gcd-requires c κs = search rules
 
-is-abs : (c : tie.After-magnitude-m) → c.magnitude-m.result ≡ nat_abs c.before.args.p
-is-abs c = rw (to_z-of_z c.before.ranges.p) at c.magnitude-m.ensures
+is-abs : (c : tie.After-magnitude-m) → c.magnitude-m.result ≡ nat_abs c.args.p
+is-abs c = rw (to_z-of_z c.ranges.p) at c.magnitude-m.ensures
 
-divisor : (c : tie.After-gcd-g) → c.gcd-g.result ≡ gcd_of (nat_abs c.before.before.args.p) c.before.before.args.q
-divisor c = c.gcd-g.ensures ∙ ap (λ n. gcd_of n c.before.before.args.q) (is-abs c.before)
+divisor : (c : tie.After-gcd-g) → c.gcd-g.result ≡ gcd_of (nat_abs c.args.p) c.args.q
+divisor c = c.gcd-g.ensures ∙ ap (λ n. gcd_of n c.args.q) (is-abs c.before)
 
 divisor≥1 : (c : tie.After-gcd-g) → 0 < c.gcd-g.result
-divisor≥1 c = rw (divisor c) (divisor-pos _ _ (gcd-is _ c.before.before.args.q).right c.before.before.requires.1)
+divisor≥1 c = rw (divisor c) (divisor-pos _ _ (gcd-is _ c.args.q).right c.requires.1)
 
 div-with-sign : tie.Need-nonzero_div-m
 div-with-sign c = divisor≥1 c
@@ -35,9 +35,9 @@ with-sign-requires : tie.Need-with_sign-requires
 with-sign-requires c κs =
     omega (
       arith,
-      div-le_self c.before.magnitude-m.result c.gcd-g.result,
+      div-le_self c.magnitude-m.result c.gcd-g.result,
       is-abs c.before,
-      within-abs c.before.before.args.p c.before.before.requires.0,
+      within-abs c.args.p c.requires.0,
     )
 
 div-t7 : tie.Need-nonzero_div-result

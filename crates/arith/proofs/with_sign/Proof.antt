@@ -35,7 +35,7 @@ cast-n : tie.Need-overflow_cast-n
 cast-n c = search rules
 
 sub-result : tie.Need-overflow_sub-result
-sub-result c = rw (is-n c.before, zero-less (pos c.before.args.m)) (fits c.before)
+sub-result c = rw (is-n c.before, zero-less (pos c.args.m)) (fits c.before)
 
 returns : tie.Need-returns-then-p-lt0
 returns c =

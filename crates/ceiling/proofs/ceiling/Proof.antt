@@ -18,26 +18,26 @@ known-loss-requires : tie.Need-known_loss-k-requires
 known-loss-requires c κs =
     let h = c.before.before.before in
     let s = h.before in
-    let t = c.before.top_of-top in
-    rw (within-back tt t.ensures.1) (t.ensures.1, (c.before.before.price_of-c.ensures.q-in, λ i. let v = s.requires.0.1.1.1.1 i in (v.low, v.few)))
+    let t = c.top_of-top in
+    rw (within-back tt t.ensures.1) (t.ensures.1, (c.price_of-c.ensures.q-in, λ i. let v = s.requires.0.1.1.1.1 i in (v.low, v.few)))
 
 least-loss-requires : tie.Need-least_loss-b-requires
 least-loss-requires c κs =
     let m = c.before.before.before in
     let s = m.before.before.before in
-    let pr = m.before.before.price_of-c in
-    let z = s.before.requires.0 in (
+    let pr = m.price_of-c in
+    let z = s.requires.0 in (
       (
         record {
           sized = z.0;
-          ranked = ordered-ranked s.before.args.cols z.1.0;
+          ranked = ordered-ranked s.args.cols z.1.0;
           in_order = z.1.1.0;
           p-in = pr.ensures.p-in;
           q-in = pr.ensures.q-in;
         },
-        s.before.requires.1.0,
+        s.requires.1.0,
       ),
-      (c.before.before.known_loss-k.ensures.loss.counted, (s.before.requires.1.1, z.1.0)),
+      (c.known_loss-k.ensures.loss.counted, (s.requires.1.1, z.1.0)),
     )
 
 same_length : tie.Need-shape_of-cells
@@ -51,18 +51,18 @@ returns c =
     let to = st.before in
     let po = to.before in
     let s = po.before.before in
-    let a = s.before.args in
-    let z = s.before.requires.0 in
-    let pr = po.before.price_of-c in
-    let t = to.before.top_of-top in
-    let k = kl.before.known_loss-k in
+    let a = s.args in
+    let z = s.requires.0 in
+    let pr = po.price_of-c in
+    let t = to.top_of-top in
+    let k = kl.known_loss-k in
     let r = h.least_loss-b in
     let low = shallow a.cols a.ends z.1.0 z.1.1.0 z.1.1.1.0 pr.result.p pr.result.q pr.ensures.p-is pr.ensures.q-is
     pr.ensures.p-in pr.ensures.q-in pr.ensures.q≥1 in
     rw (within-back tt t.ensures.1) (bounded-made pr.result.p pr.result.q a.cols a.ends a.whole a.known a.value
     k.result t.result r.result
     pr.ensures t.ensures.0 t.ensures.1
-    (rw (back a.value.whole st.before.struct_told-1.given.0.1, within-back tt t.ensures.1) at k.ensures) r.ensures low)
+    (rw (back a.value.whole st.struct_told-1.given.0.1, within-back tt t.ensures.1) at k.ensures) r.ensures low)
 
 pub ceiling_spec : {M : Type 1} → statement M
 ceiling_spec =

@@ -25,7 +25,7 @@ returns c =
     let i = h.before in
     let iu = i.before in
     let s = iu.before.before in
-    let r = c.before.before.lowered.ensures in
+    let r = c.lowered.ensures in
     let u = iu.is_usable.ensures.1 i.if-is_usable.true in
     record {
       counted = r.counted;
@@ -44,7 +44,7 @@ returns c =
 returns-2 : tie.Need-returns
 returns-2 c =
     let s = c.before.before.before in
-    let no = c.before.is_usable.ensures.0 c.if-is_usable.false in
+    let no = c.is_usable.ensures.0 c.if-is_usable.false in
     record {
       counted = s.requires.1.0;
       lower = omega arith;

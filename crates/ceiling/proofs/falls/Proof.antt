@@ -16,13 +16,13 @@ loop-holds : tie.Need-loop-k-init invariant-loop decreases-loop
 loop-holds c = (omega arith, flags-first _)
 
 falls-at-requires : tie.Need-falls_at-requires invariant-loop decreases-loop
-falls-at-requires c κs = (c.before.before.requires, omega (arith, c.before.before.requires.few))
+falls-at-requires c κs = (c.requires, omega (arith, c.requires.few))
 
 array-write-to : tie.Need-bounds-to-k invariant-loop decreases-loop
-array-write-to c = omega (arith, c.before.before.before.requires.few)
+array-write-to c = omega (arith, c.requires.few)
 
 add-k : tie.Need-overflow_add-k invariant-loop decreases-loop
-add-k c = omega (arith, c.before.before.before.requires.few)
+add-k c = omega (arith, c.requires.few)
 
 loop-less : tie.Need-loop-k-smaller invariant-loop decreases-loop
 loop-less c = omega arith
@@ -30,12 +30,12 @@ loop-less c = omega arith
 loop-again : tie.Need-loop-k-preserved invariant-loop decreases-loop
 loop-again c = (
   omega arith,
-  flags-step _ c.before.before.loop-k.k c.falls_at.result (omega (arith, c.before.before.before.requires.few))
-      c.falls_at.ensures c.before.before.loop-k.invariant.1,
+  flags-step _ c.loop-k.k c.falls_at.result (omega (arith, c.requires.few))
+      c.falls_at.ensures c.loop-k.invariant.1,
 )
 
 returns : tie.Need-returns invariant-loop decreases-loop
-returns c = flags-done (omega arith) c.before.loop-k.invariant.1
+returns c = flags-done (omega arith) c.loop-k.invariant.1
 
 pub falls_spec : {M : Type 1} → statement M
 falls_spec =

@@ -41,8 +41,8 @@ first-filling-requires c κs =
     let a = s.args in
     let z = s.requires.0 in
     let m = (rooms c.before).room_of-f in
-    let fits = c.before.before.if-f.true in
-    let ps = c.before.pieces_of-ps in
+    let fits = c.if-f.true in
+    let ps = c.pieces_of-ps in
     let bound = floor-bounds a.p a.q a.cols a.ends a.scale a.cut z.0.columns.few z.1.0.scale≥1 z.1.1.0 z.1.1.1
     m.result.left (m.ensures.left_is fits) ps.result ps.ensures a.r s.requires.1.0.1.1 in (
       (
@@ -69,7 +69,7 @@ returns c =
     let a = s.args in
     let z = s.requires.0 in
     let m = (rooms po).room_of-f in
-    let fits = po.before.if-f.true in
+    let fits = po.if-f.true in
     let ps = po.pieces_of-ps in
     let r = l.first_filling in
     let same : (a.r + 1) - 1 ≡ a.r = omega arith in
@@ -95,11 +95,11 @@ returns-2 c =
     let n = c.nowhere.ensures in
     record {
       few = omega (arith, n.1);
-      writes = rw n.1 (unfit (c.before.before.room_of-f.ensures.none c.before.if-f.false));
+      writes = rw n.1 (unfit (c.room_of-f.ensures.none c.if-f.false));
       found = λ i. absurd (impossible (sym n.0 ∙ i));
       small = λ i. absurd (impossible (sym n.0 ∙ i));
       none = λ i M pt. above a.r _ ((roomless a.p a.q a.cols a.ends a.scale a.cut (a.r + 1) s.requires.0.1.0.scale≥1
-          (c.before.before.room_of-f.ensures.none c.before.if-f.false)).floor M pt);
+          (c.room_of-f.ensures.none c.if-f.false)).floor M pt);
     }
 
 pub first_of_spec : {M : Type 1} → statement M

@@ -21,7 +21,7 @@ tested f = f.before.before.before
 frame : (c : tie.After-frame_of-f) → let a = (start c).args in IsFrame a.p a.q a.cols a.ends a.whole a.t c.frame_of-f.result
 frame c = c.frame_of-f.ensures
 
-off-in : (c : tie.Else-r-scale) → c.before.frame_of-f.result.scale * c.before.frame_of-f.result.less ≤ (start c.before).args.r
+off-in : (c : tie.Else-r-scale) → c.frame_of-f.result.scale * c.frame_of-f.result.less ≤ (start c.before).args.r
 off-in c = let m = c.before in let s = start m in
     still s.args.r m.frame_of-f.result.scale m.frame_of-f.result.less (frame-scale (frame m) s.requires.0.0).0 (λ h. omega (arith, c.if-r-scale.false))
 
@@ -41,7 +41,7 @@ returns c =
     let a = s.args in
     let f = m.frame_of-f.result in
     let u = c.unseen.ensures in
-    let over = past a.r f.scale f.less (frame-scale (frame m) s.requires.0.0).0 c.before.if-r-scale.true in
+    let over = past a.r f.scale f.less (frame-scale (frame m) s.requires.0.0).0 c.if-r-scale.true in
     record {
       few = omega (arith, u.1);
       writes = rw u.1 (beyond f (frame m) over);
@@ -79,7 +79,7 @@ made-requires c κs =
     let m = e.before in
     let s = start m in
     let g = f.first_of-s in
-    (frame-sized (frame m) s.requires.0.0, g.ensures.small c.before.if-s.true)
+    (frame-sized (frame m) s.requires.0.0, g.ensures.small c.if-s.true)
 
 same_length : tie.Need-shape_of-cells-then-s
 same_length c = search rules
@@ -97,7 +97,7 @@ returns-2 c =
       few = g.ensures.few;
       writes = within m.frame_of-f.result g.result.written (frame m) (off-in e) g.ensures.writes;
       found = λ i. own_first (frame m) s.requires.0.0 a.r _ (omega (arith, off-in e)) (num g.result.amounts) c.made-place.result
-          (g.ensures.found c.before.before.if-s.true) c.made-place.ensures.each;
+          (g.ensures.found c.if-s.true) c.made-place.ensures.each;
       none = λ i. absurd (impossible (sym i));
     }
 
@@ -121,7 +121,7 @@ returns-3 c =
       few = omega (arith, u.1, g.ensures.few);
       writes = rw u.1 (within m.frame_of-f.result g.result.written (frame m) (off-in e) g.ensures.writes);
       found = λ i. absurd (impossible (sym u.0 ∙ i));
-      none = λ i. own-later (frame m) s.requires.0.0 a.r (off-in e) (g.ensures.none c.before.if-s.false);
+      none = λ i. own-later (frame m) s.requires.0.0 a.r (off-in e) (g.ensures.none c.if-s.false);
     }
 
 pub first_of_frame_spec : {M : Type 1} → statement M

@@ -27,7 +27,7 @@ least-filling-requires : tie.Need-least_filling-requires
 least-filling-requires c κs =
     let s = start c.before in
     let z = s.requires.0 in
-    let ps = c.before.pieces_of-ps.ensures in
+    let ps = c.pieces_of-ps.ensures in
     let cap = s.requires.1.0 in (
       (
         pieces-fair ps z.0 z.1.0.scale_in (rooms c.before).room_of-f.ensures.small,
@@ -47,7 +47,7 @@ returns c =
     let a = s.args in
     let z = s.requires.0 in
     let m = (rooms po).room_of-f in
-    let fits = po.before.if-f.true in
+    let fits = po.if-f.true in
     let ps = po.pieces_of-ps in
     let r = l.least_filling in
     record {
@@ -72,7 +72,7 @@ returns-2 c =
     let s = m.before.before in
     let a = s.args in
     let u = c.unfilled.ensures in
-    let none = m.room_of-f.ensures.none c.before.if-f.false in
+    let none = m.room_of-f.ensures.none c.if-f.false in
     record {
       few = omega (arith, u.1);
       writes = rw u.1 (unfit none);

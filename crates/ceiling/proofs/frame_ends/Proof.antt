@@ -16,8 +16,8 @@ invariant-loop cols ends whole cut t xs n to₀ k₀ to k = (k ≤ n) × Altered
 abbrev decreases-loop : tie.decreases-loop-k
 decreases-loop cols ends whole cut t xs n to₀ k₀ to k = n - k
 
-k<16 : (c : tie.In-loop-k invariant-loop decreases-loop) → c.before.loop-k.k < 16
-k<16 c = omega (arith, c.loop-k-test.true, c.before.before.requires.columns.few)
+k<16 : (c : tie.In-loop-k invariant-loop decreases-loop) → c.loop-k.k < 16
+k<16 c = omega (arith, c.loop-k-test.true, c.requires.columns.few)
 
 loop-holds : tie.Need-loop-k-init invariant-loop decreases-loop
 loop-holds c = (omega arith, altered-first _ (search rules))
@@ -35,17 +35,17 @@ add-k : tie.Need-overflow_add-k invariant-loop decreases-loop
 add-k c = record { fits = omega (arith, k<16 c.before) }
 
 loop-less : tie.Need-loop-k-smaller invariant-loop decreases-loop
-loop-less c = omega (arith, c.before.loop-k-test.true)
+loop-less c = omega (arith, c.loop-k-test.true)
 
 loop-again : tie.Need-loop-k-preserved invariant-loop decreases-loop
 loop-again c = (
-  omega (arith, c.before.loop-k-test.true),
-  altered-step _ c.before.before.loop-k.k _ (k<16 c.before)
-      (back c.frame_end_at.result c.frame_end_at.type_inv ∙ c.frame_end_at.ensures) c.before.before.loop-k.invariant.1,
+  omega (arith, c.loop-k-test.true),
+  altered-step _ c.loop-k.k _ (k<16 c.before)
+      (back c.frame_end_at.result c.frame_end_at.type_inv ∙ c.frame_end_at.ensures) c.loop-k.invariant.1,
 )
 
 returns : tie.Need-returns invariant-loop decreases-loop
-returns c = let l = c.before.loop-k in altered-done (omega (arith, c.loop-k-test.false, l.invariant.0)) l.invariant.1
+returns c = let l = c.loop-k in altered-done (omega (arith, c.loop-k-test.false, l.invariant.0)) l.invariant.1
 
 pub frame_ends_spec : {M : Type 1} → statement M
 frame_ends_spec =

@@ -23,7 +23,7 @@ floored b = b.before.before.before.before
 frame : (c : tie.After-frame_of-f) → let a = (start c).args in IsFrame a.p a.q a.cols a.ends a.whole a.t c.frame_of-f.result
 frame c = c.frame_of-f.ensures
 
-off : (c : tie.Else-cap-scale) → c.before.frame_of-f.result.scale * c.before.frame_of-f.result.less ≤ (start c.before).args.cap
+off : (c : tie.Else-cap-scale) → c.frame_of-f.result.scale * c.frame_of-f.result.less ≤ (start c.before).args.cap
 off c = let m = c.before in let s = start m in still s.args.cap m.frame_of-f.result.scale m.frame_of-f.result.less
     (frame-scale (frame m) s.requires.0.0).0 (λ h. omega (arith, c.if-cap-scale.false))
 
@@ -43,7 +43,7 @@ returns c =
     let a = s.args in
     let f = m.frame_of-f.result in
     let u = c.capped.ensures in
-    let over = past a.cap f.scale f.less (frame-scale (frame m) s.requires.0.0).0 c.before.if-cap-scale.true in
+    let over = past a.cap f.scale f.less (frame-scale (frame m) s.requires.0.0).0 c.if-cap-scale.true in
     record {
       few = omega (arith, u.1);
       writes = rw u.1 (beyond f (frame m) over);
@@ -117,7 +117,7 @@ returns-3 c =
       few = omega (arith, u.1, r.ensures.few);
       writes = rw u.1 (within m.frame_of-f.result r.result.written (frame m) (off e) r.ensures.writes);
       capped = omega (arith, u.0);
-      floor = rw u.0 (of-floor (frame m) s.requires.0.0 r.result.least a.cap r.ensures.floor (omega (arith, off e, c.before.if-c-left.false)));
+      floor = rw u.0 (of-floor (frame m) s.requires.0.0 r.result.least a.cap r.ensures.floor (omega (arith, off e, c.if-c-left.false)));
       first = λ i. absurd (omega (arith, u.0));
     }
 

@@ -10,7 +10,7 @@ use Rattle.ceiling.proofs.frame_of.Statement.{statement}
 use Rattle.ceiling.proofs.frame_of.Tie as tie
 use Rattle.arith.proofs.magnitude.Reads as magnitude-reads
 
-wide : (c : tie.After-top_of) → let s = c.before.before.before in Within 200000000000000000 (s.before.args.top -ℤ c.top_of.result)
+wide : (c : tie.After-top_of) → let s = c.before.before.before in Within 200000000000000000 (s.args.top -ℤ c.top_of.result)
 wide c =
     let h = c.before.before.before in
     let s = h.before in
@@ -45,12 +45,12 @@ returns c =
     let h = c.before.before.before in
     let co = h.before in
     let s = co.before in
-    let t = c.before.top_of in
+    let t = c.top_of in
     let m = rw (within-back tt s.requires.1.1, within-back tt t.ensures.1, within-back tt (wide c.before)) at c.magnitude-less.ensures in
     record {
       cut-is = co.cut_of-cut.ensures;
       scale-is = h.scale_of-scale.ensures;
-      ends-are = c.before.before.framed-e.ensures;
+      ends-are = c.framed-e.ensures;
       less-is = m ∙ ap₂ (λ x y. nat_abs (x -ℤ y)) s.requires.1.0 t.ensures.0;
     }
 

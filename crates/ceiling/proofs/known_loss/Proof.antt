@@ -15,7 +15,7 @@ near-loss-requires : tie.Need-near_loss-requires
 near-loss-requires c κs = let s = c.before.before.before in
     rw (within-back tt s.requires.0, to_z-of_z s.ranges.w) (
       s.requires.0,
-      (s.requires.1.0, (rw (to_z-of_z s.ranges.w) at (c.before.is_small.ensures c.if-is_small.true), s.requires.1.1 c.before.before.if-known.true)),
+      (s.requires.1.0, (rw (to_z-of_z s.ranges.w) at (c.is_small.ensures c.if-is_small.true), s.requires.1.1 c.if-known.true)),
     )
 
 returns : tie.Need-returns-then-is_small

@@ -50,11 +50,11 @@ considered-requires c κs =
     let l = w.loop-t in
     let t = (topped w).top_of-top in
     rw (within-back tt t.ensures.1) (
-      (s.requires.0.0, (t.ensures.0, (t.ensures.1, (s.requires.0.1, c.before.loop-t-test.true)))),
+      (s.requires.0.0, (t.ensures.0, (t.ensures.1, (s.requires.0.1, c.loop-t-test.true)))),
       (
         l.invariant.1.1.counted,
         (
-          omega (arith, l.invariant.1.1.few, c.before.loop-t-test.true, s.requires.0.0.sized.columns.live-few),
+          omega (arith, l.invariant.1.1.few, c.loop-t-test.true, s.requires.0.0.sized.columns.live-few),
           omega (arith, l.invariant.1.0, s.requires.1.1.0),
         ),
       ),
@@ -78,11 +78,11 @@ loop-again c =
     let t = h.before in
     let w = t.before in
     let l = w.loop-t in
-    let r = c.before.before.considered-best in
+    let r = c.considered-best in
     (omega (arith, t.loop-t-test.true), (search rules, sofar-step l.invariant.1.1 r.result t.loop-t-test.true r.ensures))
 
 same_length : tie.Need-shape_of-cells-then-best invariant-loop decreases-loop
-same_length c = c.before.before.loop-t.invariant.1.0
+same_length c = c.loop-t.invariant.1.0
 
 returns : tie.Need-returns-then-best invariant-loop decreases-loop
 returns c =
@@ -91,8 +91,8 @@ returns c =
     let a = s.args in
     let l = w.loop-t in
     let z = s.requires.0.0 in
-    let t : l.t ≡ a.cols.live = omega (arith, c.before.loop-t-test.false, l.invariant.0) in
-    let known = ap (λ (b : Least). b.lost) w.before.unlowered-best.ensures in
+    let t : l.t ≡ a.cols.live = omega (arith, c.loop-t-test.false, l.invariant.0) in
+    let known = ap (λ (b : Least). b.lost) w.unlowered-best.ensures in
     subst (λ k. LeastLoss a.p a.q a.cols a.ends a.whole k l.best) known
     (sofar-any l.invariant.1.1 t z.sized.columns s.requires.1.1.1 z.in_order c.if-best.true)
 
@@ -125,7 +125,7 @@ returns-2 c =
     let z = s.requires.0.0 in
     let r = m.lowered in
     let t : l.t ≡ a.cols.live = omega (arith, tested.loop-t-test.false, l.invariant.0) in
-    let known = ap (λ (b : Least). b.lost) w.before.unlowered-best.ensures in
+    let known = ap (λ (b : Least). b.lost) w.unlowered-best.ensures in
     subst (λ k. LeastLoss a.p a.q a.cols a.ends a.whole k r.result) known
     (sofar-done l.invariant.1.1 r.result t z.sized.columns s.requires.1.1.1 z.in_order unused.if-best.false r.ensures)
 

@@ -13,8 +13,8 @@ invariant-loop cols p q scale cut n to₀ k₀ to k = (k ≤ n) × Listing k (le
 abbrev decreases-loop : tie.decreases-loop-k
 decreases-loop cols p q scale cut n to₀ k₀ to k = n - k
 
-k<16 : (c : tie.In-loop-k invariant-loop decreases-loop) → c.before.loop-k.k < 16
-k<16 c = omega (arith, c.loop-k-test.true, c.before.before.before.requires.0.few)
+k<16 : (c : tie.In-loop-k invariant-loop decreases-loop) → c.loop-k.k < 16
+k<16 c = omega (arith, c.loop-k-test.true, c.requires.0.few)
 
 blank-requires : tie.Need-blank-to-requires invariant-loop decreases-loop
 blank-requires c κs = search rules
@@ -35,17 +35,17 @@ add-k : tie.Need-overflow_add-k invariant-loop decreases-loop
 add-k c = record { fits = omega (arith, k<16 c.before) }
 
 loop-less : tie.Need-loop-k-smaller invariant-loop decreases-loop
-loop-less c = omega (arith, c.before.loop-k-test.true)
+loop-less c = omega (arith, c.loop-k-test.true)
 
 loop-again : tie.Need-loop-k-preserved invariant-loop decreases-loop
 loop-again c = (
-  omega (arith, c.before.loop-k-test.true),
-  listing_step _ c.before.before.loop-k.k c.left_at.result (k<16 c.before)
-      c.left_at.ensures c.before.before.loop-k.invariant.1,
+  omega (arith, c.loop-k-test.true),
+  listing_step _ c.loop-k.k c.left_at.result (k<16 c.before)
+      c.left_at.ensures c.loop-k.invariant.1,
 )
 
 returns : tie.Need-returns invariant-loop decreases-loop
-returns c = let l = c.before.loop-k in listing-done (omega (arith, c.loop-k-test.false, l.invariant.0)) l.invariant.1
+returns c = let l = c.loop-k in listing-done (omega (arith, c.loop-k-test.false, l.invariant.0)) l.invariant.1
 
 pub lefts_spec : {M : Type 1} → statement M
 lefts_spec =

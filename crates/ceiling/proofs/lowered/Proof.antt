@@ -20,32 +20,32 @@ scaled f = f.before.before
 abbrev start : tie.After-frame_floor-r → tie.Start
 start f = f.before.before.before.before
 
-scale-is : (c : tie.After-scale_of-scale) → c.scale_of-scale.result ≡ scale_of c.before.before.args.cols c.before.before.args.t
+scale-is : (c : tie.After-scale_of-scale) → c.scale_of-scale.result ≡ scale_of c.args.cols c.args.t
 scale-is c = c.scale_of-scale.ensures
 
 scale_small : (c : tie.After-scale_of-scale) → (1 ≤ c.scale_of-scale.result) × (c.scale_of-scale.result ≤ 1000)
 scale_small c = let s = c.before.before in rw (scale-is c) (scale_in s.args.cols s.args.t s.requires.0.0.sized.columns)
 
-small : (c : tie.After-scale_of-scale) → let b = c.before.before.args.best.lost in c.scale_of-scale.result * b.num + (b.den - 1) ≤ 10000000000999
+small : (c : tie.After-scale_of-scale) → let b = c.args.best.lost in c.scale_of-scale.result * b.num + (b.den - 1) ≤ 10000000000999
 small c = let s = c.before.before in cap-small c.scale_of-scale.result s.args.best.lost.num s.args.best.lost.den (scale_small c).1 s.requires.1.0
 
-capped : (c : tie.After-scale_of-scale) → let b = c.before.before.args.best.lost in (c.scale_of-scale.result * b.num + (b.den - 1)) / b.den ≤ 10000000000
+capped : (c : tie.After-scale_of-scale) → let b = c.args.best.lost in (c.scale_of-scale.result * b.num + (b.den - 1)) / b.den ≤ 10000000000
 capped c = let s = c.before.before in cap-least c.scale_of-scale.result s.args.best.lost.num s.args.best.lost.den (scale_small c).1 s.requires.1.0
 
 scale-of-requires : tie.Need-scale_of-scale-requires
-scale-of-requires c κs = c.before.requires.0.0.sized.columns
+scale-of-requires c κs = c.requires.0.0.sized.columns
 
 mul-cap : tie.Need-overflow_mul-cap
 mul-cap c = omega (arith, small c)
 
 sub-cap : tie.Need-overflow_sub-cap
-sub-cap c = c.before.before.requires.1.0.some
+sub-cap c = c.requires.1.0.some
 
 add-cap : tie.Need-overflow_add-cap
 add-cap c = omega (arith, small c)
 
 div-cap : tie.Need-nonzero_div-cap
-div-cap c = c.before.before.requires.1.0.some
+div-cap c = c.requires.1.0.some
 
 frame-floor-requires : tie.Need-frame_floor-r-requires
 frame-floor-requires c κs =
@@ -86,7 +86,7 @@ returns c =
     let f = ff.frame_floor-r in
     let i = scale-is (scaled ff) in
     let z = scale_in a.cols a.t s.requires.0.0.sized.columns in
-    let under = subst (λ x. f.result.least < (x * n + (d - 1)) / d) i c.before.if-r-cap.true in
+    let under = subst (λ x. f.result.least < (x * n + (d - 1)) / d) i c.if-r-cap.true in
     let less = below-cap a.p a.q a.cols a.ends a.whole a.t n d f.result.least s.requires.1.0 f.ensures.floor under in
     subst (λ x. Lowered a.p a.q a.cols a.ends a.whole a.t a.best
     (record {
@@ -106,9 +106,9 @@ returns c =
         found = refl;
         at-is = refl;
         den-is = refl;
-        deep = omega (arith, c.before.if-r-cap.true, capped (scaled ff));
+        deep = omega (arith, c.if-r-cap.true, capped (scaled ff));
         floor = f.ensures.floor;
-        first = f.ensures.first c.before.if-r-cap.true;
+        first = f.ensures.first c.if-r-cap.true;
       });
       any = refl;
       few = omega (arith, f.ensures.few);
@@ -133,7 +133,7 @@ returns-2 c =
       counted = s.requires.1.0;
       lower = omega arith;
       bound = lowered-old a.p a.q a.cols a.ends a.whole a.t n d f.result.least s.requires.1.0 f.ensures.floor
-          (subst (λ x. (x * n + (d - 1)) / d ≤ f.result.least) i (omega (arith, c.before.before.if-r-cap.false)));
+          (subst (λ x. (x * n + (d - 1)) / d ≤ f.result.least) i (omega (arith, c.if-r-cap.false)));
       exact = inl (refl, (refl, (refl, refl)));
       any = refl;
       few = omega (arith, f.ensures.few);

@@ -20,7 +20,7 @@ loop-holds : tie.Need-loop-k-init invariant-loop decreases-loop
 loop-holds c = (omega arith, placed_first _)
 
 made-at-requires : tie.Need-made_at-requires invariant-loop decreases-loop
-made-at-requires c κs = let s = c.before.before in (s.requires.0, (omega arith, s.requires.1 c.before.loop-k.k (omega arith)))
+made-at-requires c κs = let s = c.before.before in (s.requires.0, (omega arith, s.requires.1 c.loop-k.k (omega arith)))
 
 mul-to : tie.Need-offset_bounds-to-k invariant-loop decreases-loop
 mul-to c = omega arith
@@ -37,12 +37,12 @@ loop-less c = omega arith
 loop-again : tie.Need-loop-k-preserved invariant-loop decreases-loop
 loop-again c = (
   omega arith,
-  placed-step _ c.before.before.loop-k.k _ (omega arith) (back c.made_at.result c.made_at.type_inv ∙ c.made_at.ensures)
-      c.before.before.loop-k.invariant.1,
+  placed-step _ c.loop-k.k _ (omega arith) (back c.made_at.result c.made_at.type_inv ∙ c.made_at.ensures)
+      c.loop-k.invariant.1,
 )
 
 returns : tie.Need-returns invariant-loop decreases-loop
-returns c = placed-done (omega arith) c.before.loop-k.invariant.1
+returns c = placed-done (omega arith) c.loop-k.invariant.1
 
 pub made_spec : {M : Type 1} → statement M
 made_spec =

@@ -17,7 +17,7 @@ element-copy-out-magnitude : tie.Need-bounds-cols-u
 element-copy-out-magnitude c = search rules
 
 magnitude-requires : tie.Need-magnitude-requires
-magnitude-requires c κs = let s = c.before.before.before in let u = c.before.before.fill_up-f.result.at in
+magnitude-requires c κs = let s = c.before.before.before in let u = c.fill_up-f.result.at in
     rw (within-back tt (s.requires.columns.rates-in u)) (within_more (omega arith) (s.requires.columns.rates-in u))
 
 mul-magnitude-2 : tie.Need-offset_bounds-cols-u-then-u-n
@@ -39,24 +39,24 @@ returns c =
     let i = h.before in
     let s = i.before.before in
     let z = s.requires.columns in
-    let f = i.before.fill_up-f in
+    let f = i.fill_up-f in
     let u = f.result.at in
-    let a = rw (within-back tt (z.rates-in u)) at c.before.before.magnitude.ensures in
+    let a = rw (within-back tt (z.rates-in u)) at c.magnitude.ensures in
     let b = rw (within-back tt (z.sizes-in u)) at c.magnitude-then-u-n.ensures in
-    let t = lt-ltb u s.args.t1.live i.if-u-n.true in
+    let t = lt-ltb u s.args.cols.live i.if-u-n.true in
     record {
       p-is = rw (← f.ensures, t) a;
       q-is = rw (← f.ensures, t) b;
-      p-in = rw a (within-abs (at s.args.t1.rate u) (z.rates-in u));
-      q-in = rw b (within-abs (at s.args.t1.size u) (z.sizes-in u));
+      p-in = rw a (within-abs (at s.args.cols.rate u) (z.rates-in u));
+      q-in = rw b (within-abs (at s.args.cols.size u) (z.sizes-in u));
       q≥1 = rw b (z.live-sizes u (omega (arith, i.if-u-n.true)));
     }
 
 returns-2 : tie.Need-returns
 returns-2 c =
-    let f = c.before.fill_up-f in
+    let f = c.fill_up-f in
     let s = c.before.before in
-    let t = le-ltb f.result.at s.args.t1.live (omega arith) in
+    let t = le-ltb f.result.at s.args.cols.live (omega arith) in
     record { p-is = rw (← f.ensures, t); q-is = rw (← f.ensures, t); p-in = omega arith; q-in = omega arith; q≥1 = omega arith }
 
 pub price_of_spec : {M : Type 1} → statement M

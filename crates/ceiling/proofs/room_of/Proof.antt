@@ -19,17 +19,17 @@ use Rattle.ceiling.proofs.room_of.Statement.{statement}
 use Rattle.ceiling.proofs.room_of.Tie as tie
 use Rattle.greedy.proofs.begin.Reads as begin-reads
 
-room-is : (b : tie.After-begin-f) → b.begin-f.result.room ≡ room_by b.before.args.cols b.before.args.ends
-room-is b = ap (λ (f : Fill). f.room) b.begin-f.ensures ∙ room-begun b.before.args.cols b.before.args.ends
+room-is : (b : tie.After-begin-f) → b.begin-f.result.room ≡ room_by b.args.cols b.args.ends
+room-is b = ap (λ (f : Fill). f.room) b.begin-f.ensures ∙ room-begun b.args.cols b.args.ends
 
 small : (b : tie.After-begin-f) → Within 4800100000000 b.begin-f.result.room
 small b = subst (λ (f : Fill). Within 4800100000000 f.room) (sym b.begin-f.ensures)
-    (room_in b.before.args.cols b.before.args.ends b.before.requires)
+    (room_in b.args.cols b.args.ends b.requires)
 
 room_back : (b : tie.After-begin-f) → to_z w64 (of_z w64 b.begin-f.result.room) ≡ b.begin-f.result.room
 room_back b = within-back tt (small b)
 
-room≥0 : (c : tie.Else-room-lt0) → pos 0 ≤ℤ c.before.before.begin-f.result.room
+room≥0 : (c : tie.Else-room-lt0) → pos 0 ≤ℤ c.begin-f.result.room
 room≥0 c = no_lt (rw (room_back c.before.before) at c.if-room-lt0.false)
 
 begin-requires : tie.Need-begin-f-requires

@@ -12,11 +12,11 @@ invariant-loop n level to₀ d₀ to d = (d ≤ n) × Levelled level d to
 abbrev decreases-loop : tie.decreases-loop-d
 decreases-loop n level to₀ d₀ to d = n - d
 
-d<16 : (c : tie.In-loop-d invariant-loop decreases-loop) → c.before.loop-d.d < 16
-d<16 c = omega (arith, c.loop-d-test.true, c.before.before.requires.0)
+d<16 : (c : tie.In-loop-d invariant-loop decreases-loop) → c.loop-d.d < 16
+d<16 c = omega (arith, c.loop-d-test.true, c.requires.0)
 
 loop-holds : tie.Need-loop-d-init invariant-loop decreases-loop
-loop-holds c = (omega arith, levelled-first c.args.t1)
+loop-holds c = (omega arith, levelled-first c.args.level)
 
 mul-k : tie.Need-offset_bounds-level-d invariant-loop decreases-loop
 mul-k c = record { fits = omega (arith, d<16 c) }
@@ -25,7 +25,7 @@ array-read-k : tie.Need-bounds-level-d invariant-loop decreases-loop
 array-read-k c = d<16 c
 
 array-write-to : tie.Need-bounds-to-k invariant-loop decreases-loop
-array-write-to c = c.before.before.requires.1 c.before.loop-d.d c.loop-d-test.true
+array-write-to c = c.requires.1 c.loop-d.d c.loop-d-test.true
 
 add-d : tie.Need-overflow_add-d invariant-loop decreases-loop
 add-d c = record { fits = omega (arith, d<16 c) }
@@ -36,12 +36,12 @@ loop-less c = omega (arith, c.loop-d-test.true)
 loop-again : tie.Need-loop-d-preserved invariant-loop decreases-loop
 loop-again c = (
   omega (arith, c.loop-d-test.true),
-  levelled-step (c.before.before.requires.1 c.before.loop-d.d c.loop-d-test.true)
-      c.before.loop-d.invariant.1,
+  levelled-step (c.requires.1 c.loop-d.d c.loop-d-test.true)
+      c.loop-d.invariant.1,
 )
 
 returns : tie.Need-returns invariant-loop decreases-loop
-returns c = let l = c.before.loop-d in levelled-done (omega (arith, c.loop-d-test.false, l.invariant.0)) l.invariant.1
+returns c = let l = c.loop-d in levelled-done (omega (arith, c.loop-d-test.false, l.invariant.0)) l.invariant.1
 
 pub wholes_spec : {M : Type 1} → statement M
 wholes_spec =

@@ -23,26 +23,26 @@ abbrev entry : tie.In-loop-k invariant-loop decreases-loop → tie.Start invaria
 entry c = c.before.before
 
 abbrev item : tie.In-loop-k invariant-loop decreases-loop → ℕ
-item c = c.before.loop-k.k
+item c = c.loop-k.k
 
 item_in : (c : tie.In-loop-k invariant-loop decreases-loop) → item c < 16
 item_in c = omega (arith, c.loop-k-test.true, (entry c).requires.0)
 
 -- its amounts
-mine : (c : tie.In-loop-k invariant-loop decreases-loop) → get_or (entry c).args.t1 (item c) (record { p = pos 0; q = 0 }) ≡ amount_in (entry c).args.t1 (item c)
-mine c = let h : length (entry c).args.t1 ≡ 16 = search rules in default_free (entry c).args.t1 (item c) _ _ (omega (arith, h, item_in c))
+mine : (c : tie.In-loop-k invariant-loop decreases-loop) → get_or (entry c).args.x (item c) (record { p = pos 0; q = 0 }) ≡ amount_in (entry c).args.x (item c)
+mine c = let h : length (entry c).args.x ≡ 16 = search rules in default_free (entry c).args.x (item c) _ _ (omega (arith, h, item_in c))
 
-yours : (c : tie.In-loop-k invariant-loop decreases-loop) → get_or (entry c).args.t2 (item c) (record { p = pos 0; q = 0 }) ≡ amount_in (entry c).args.t2 (item c)
-yours c = let h : length (entry c).args.t2 ≡ 16 = search rules in default_free (entry c).args.t2 (item c) _ _ (omega (arith, h, item_in c))
+yours : (c : tie.In-loop-k invariant-loop decreases-loop) → get_or (entry c).args.y (item c) (record { p = pos 0; q = 0 }) ≡ amount_in (entry c).args.y (item c)
+yours c = let h : length (entry c).args.y ≡ 16 = search rules in default_free (entry c).args.y (item c) _ _ (omega (arith, h, item_in c))
 
-of-mine : (c : tie.In-loop-k invariant-loop decreases-loop) → 1 ≤ (amount_in (entry c).args.t1 (item c)).q
+of-mine : (c : tie.In-loop-k invariant-loop decreases-loop) → 1 ≤ (amount_in (entry c).args.x (item c)).q
 of-mine c = (entry c).requires.1.0 (item c) c.loop-k-test.true
 
-of-yours : (c : tie.In-loop-k invariant-loop decreases-loop) → 1 ≤ (amount_in (entry c).args.t2 (item c)).q
+of-yours : (c : tie.In-loop-k invariant-loop decreases-loop) → 1 ≤ (amount_in (entry c).args.y (item c)).q
 of-yours c = (entry c).requires.1.1 (item c) c.loop-k-test.true
 
 loop-holds : tie.Need-loop-k-init invariant-loop decreases-loop
-loop-holds c = (omega arith, alike-first c.args.t1 c.args.t2)
+loop-holds c = (omega arith, alike-first c.args.x c.args.y)
 
 mul-a : tie.Need-offset_bounds-x-k invariant-loop decreases-loop
 mul-a c = record { fits = omega (arith, item_in c) }
@@ -67,19 +67,19 @@ abbrev turn2 : tie.After-less_fraction-in-loop-k invariant-loop decreases-loop �
 turn2 a = turn a.before.before
 
 first-is : (a : tie.After-less_fraction invariant-loop decreases-loop) → let l = turn a in
-    a.less_fraction.result ≡ less_fraction (amount_in (entry l).args.t1 (item l)) (amount_in (entry l).args.t2 (item l))
+    a.less_fraction.result ≡ less_fraction (amount_in (entry l).args.x (item l)) (amount_in (entry l).args.y (item l))
 first-is a = a.less_fraction.ensures ∙ ap₂ less_fraction (mine (turn a)) (yours (turn a))
 
 second_is : (a : tie.After-less_fraction-in-loop-k invariant-loop decreases-loop) → let l = turn2 a in
-    a.less_fraction-in-loop-k.result ≡ less_fraction (amount_in (entry l).args.t2 (item l)) (amount_in (entry l).args.t1 (item l))
+    a.less_fraction-in-loop-k.result ≡ less_fraction (amount_in (entry l).args.y (item l)) (amount_in (entry l).args.x (item l))
 second_is a = a.less_fraction-in-loop-k.ensures ∙ ap₂ less_fraction (yours (turn2 a)) (mine (turn2 a))
 
 returns : tie.Need-returns-then-less_fraction invariant-loop decreases-loop
 returns c =
     let l = turn c.before in
     record {
-      before = λ e. earlier-made (entry l).args.t1 (entry l).args.t2 (item l) (of-mine l) (of-yours l) (entry l).args.n l.loop-k-test.true
-          l.before.loop-k.invariant.1 (yes_lt (sym (first-is c.before) ∙ c.if-less_fraction.true));
+      before = λ e. earlier-made (entry l).args.x (entry l).args.y (item l) (of-mine l) (of-yours l) (entry l).args.n l.loop-k-test.true
+          l.loop-k.invariant.1 (yes_lt (sym (first-is c.before) ∙ c.if-less_fraction.true));
       after = λ e. absurd (impossible (sym e));
     }
 
@@ -92,9 +92,9 @@ returns-2 c =
     let s = entry l in
     record {
       before = λ e. absurd (impossible e);
-      after = λ e. earlier-not s.args.n (point_in s.args.t1) (point_in s.args.t2)
-          (earlier-made s.args.t2 s.args.t1 (item l) (of-yours l) (of-mine l) s.args.n l.loop-k-test.true
-          (alike-back s.args.t1 s.args.t2 (item l) l.before.loop-k.invariant.1) (yes_lt (sym (second_is c.before) ∙ c.if-less_fraction-2.true)));
+      after = λ e. earlier-not s.args.n (point_in s.args.x) (point_in s.args.y)
+          (earlier-made s.args.y s.args.x (item l) (of-yours l) (of-mine l) s.args.n l.loop-k-test.true
+          (alike-back s.args.x s.args.y (item l) l.loop-k.invariant.1) (yes_lt (sym (second_is c.before) ∙ c.if-less_fraction-2.true)));
     }
 
 add-k : tie.Need-overflow_add-k invariant-loop decreases-loop
@@ -108,18 +108,18 @@ loop-again c =
     let l = turn2 c.before in
     let e = c.before.before in (
       omega (arith, l.loop-k-test.true),
-      alike-step (entry l).args.t1 (entry l).args.t2 (item l) (of-mine l) (of-yours l) l.before.loop-k.invariant.1
+      alike-step (entry l).args.x (entry l).args.y (item l) (of-mine l) (of-yours l) l.loop-k.invariant.1
           (no_lt (sym (first-is e.before) ∙ e.if-less_fraction.false)) (no_lt (sym (second_is c.before) ∙ c.if-less_fraction-2.false)),
     )
 
 returns-3 : tie.Need-returns invariant-loop decreases-loop
 returns-3 c =
-    let l = c.before.loop-k in
+    let l = c.loop-k in
     let s = c.before.before in
     let e : l.k ≡ s.args.n = omega (arith, c.loop-k-test.false, l.invariant.0) in
     record {
       before = λ i. absurd (impossible i);
-      after = λ i. alike-not s.args.n (point_in s.args.t1) (point_in s.args.t2) (subst (λ n. Alike s.args.t1 s.args.t2 n) e l.invariant.1);
+      after = λ i. alike-not s.args.n (point_in s.args.x) (point_in s.args.y) (subst (λ n. Alike s.args.x s.args.y n) e l.invariant.1);
     }
 
 pub comes_before_spec : {M : Type 1} → statement M

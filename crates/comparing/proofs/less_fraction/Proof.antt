@@ -25,8 +25,8 @@ start b =
     at_size.before.before.before
 
 -- the sizes
-m-is : (b : tie.After-size-n) → b.before.size-m.result ≡ nat_abs (start b).args.x.p
-m-is b = rw (back (start b).args.x.p (x_fits (start b))) at b.before.size-m.ensures
+m-is : (b : tie.After-size-n) → b.size-m.result ≡ nat_abs (start b).args.x.p
+m-is b = rw (back (start b).args.x.p (x_fits (start b))) at b.size-m.ensures
 
 n-is : (b : tie.After-size-n) → b.size-n.result ≡ nat_abs (start b).args.y.p
 n-is b = rw (back (start b).args.y.p (y-fits (start b))) at b.size-n.ensures
@@ -55,18 +55,18 @@ returns c =
     let x = s.args.x in
     let y = s.args.y in
     c.below.ensures ∙ ap₂ (λ (m n : ℕ). ltb (m * x.q) (n * y.q)) (n-is b) (m-is b)
-    ∙ both_below x.q y.q s.requires.0 s.requires.1 x.p y.p (x-sign s _ t2.before.if-p-lt0.true) (y-sign s _ t2.if-s-lt0.true)
+    ∙ both_below x.q y.q s.requires.0 s.requires.1 x.p y.p (x-sign s _ t2.if-p-lt0.true) (y-sign s _ t2.if-s-lt0.true)
 
 returns-2 : tie.Need-returns-then-p-lt0
 returns-2 c =
     let s = start c.before.before in
-    first_below s.args.x.q s.args.y.q s.requires.0 s.requires.1 s.args.x.p s.args.y.p (x-sign s _ c.before.if-p-lt0.true)
+    first_below s.args.x.q s.args.y.q s.requires.0 s.requires.1 s.args.x.p s.args.y.p (x-sign s _ c.if-p-lt0.true)
     (y-sign s _ c.if-s-lt0.false)
 
 returns-3 : tie.Need-returns-then-s-lt0-2
 returns-3 c =
     let s = start c.before.before in
-    second_below s.args.x.q s.args.y.q s.requires.0 s.requires.1 s.args.x.p s.args.y.p (x-sign s _ c.before.if-p-lt0.false)
+    second_below s.args.x.q s.args.y.q s.requires.0 s.requires.1 s.args.x.p s.args.y.p (x-sign s _ c.if-p-lt0.false)
     (y-sign s _ c.if-s-lt0-2.true)
 
 below-requires-2 : tie.Need-below-requires-2
@@ -80,7 +80,7 @@ returns-4 c =
     let x = s.args.x in
     let y = s.args.y in
     c.below-2.ensures ∙ ap₂ (λ (m n : ℕ). ltb (m * y.q) (n * x.q)) (m-is b) (n-is b)
-    ∙ none_below x.q y.q s.requires.0 s.requires.1 x.p y.p (x-sign s _ e.before.if-p-lt0.false) (y-sign s _ e.if-s-lt0-2.false)
+    ∙ none_below x.q y.q s.requires.0 s.requires.1 x.p y.p (x-sign s _ e.if-p-lt0.false) (y-sign s _ e.if-s-lt0-2.false)
 
 pub less_fraction_spec : {M : Type 1} → statement M
 less_fraction_spec =

@@ -12,30 +12,30 @@ use Rattle.comparing.proofs.Euclid.{raised-fits, turned-fits, turned-size, size_
 use Rattle.comparing.proofs.size.Statement.{statement}
 use Rattle.comparing.proofs.size.Tie as tie
 
-down : (c : tie.Then-p-lt0) → c.before.args.p <ℤ pos 0
-down c = yes_lt (rw (to_z-of_z c.before.ranges.p) at c.if-p-lt0.true)
+down : (c : tie.Then-p-lt0) → c.args.p <ℤ pos 0
+down c = yes_lt (rw (to_z-of_z c.ranges.p) at c.if-p-lt0.true)
 
-plus : (c : tie.Then-p-lt0) → SFits w64 (c.before.args.p +ℤ pos 1)
-plus c = raised-fits c.before.args.p c.before.ranges.p (down c)
+plus : (c : tie.Then-p-lt0) → SFits w64 (c.args.p +ℤ pos 1)
+plus c = raised-fits c.args.p c.ranges.p (down c)
 
-turned : (c : tie.Then-p-lt0) → (pos 0 ≤ℤ (pos 0 -ℤ (c.before.args.p +ℤ pos 1))) × SFits w64 (pos 0 -ℤ (c.before.args.p +ℤ pos 1))
-turned c = turned-fits c.before.args.p c.before.ranges.p (down c)
+turned : (c : tie.Then-p-lt0) → (pos 0 ≤ℤ (pos 0 -ℤ (c.args.p +ℤ pos 1))) × SFits w64 (pos 0 -ℤ (c.args.p +ℤ pos 1))
+turned c = turned-fits c.args.p c.ranges.p (down c)
 
 add-n : tie.Need-overflow_add-n
-add-n c = rw (to_z-of_z c.before.ranges.p) (plus c)
+add-n c = rw (to_z-of_z c.ranges.p) (plus c)
 
 sub-n : tie.Need-overflow_sub-n
-sub-n c = rw (to_z-of_z c.before.ranges.p, to_z-of_z (plus c)) (turned c).1
+sub-n c = rw (to_z-of_z c.ranges.p, to_z-of_z (plus c)) (turned c).1
 
 cast-result : tie.Need-overflow_cast-result
-cast-result c = rw (to_z-of_z c.before.ranges.p, to_z-of_z (plus c), to_z-of_z (turned c).1) (cast-in (turned c).0 (turned c).1)
+cast-result c = rw (to_z-of_z c.ranges.p, to_z-of_z (plus c), to_z-of_z (turned c).1) (cast-in (turned c).0 (turned c).1)
 
 add-result : tie.Need-overflow_add-result
-add-result c = rw (to_z-of_z c.before.ranges.p, to_z-of_z (plus c), to_z-of_z (turned c).1, turned-size c.before.args.p (down c))
-    (record { fits = size_fits c.before.args.p c.before.ranges.p })
+add-result c = rw (to_z-of_z c.ranges.p, to_z-of_z (plus c), to_z-of_z (turned c).1, turned-size c.args.p (down c))
+    (record { fits = size_fits c.args.p c.ranges.p })
 
 returns : tie.Need-returns-then-p-lt0
-returns c = rw (to_z-of_z c.before.ranges.p, to_z-of_z (plus c), to_z-of_z (turned c).1) (turned-size c.before.args.p (down c))
+returns c = rw (to_z-of_z c.ranges.p, to_z-of_z (plus c), to_z-of_z (turned c).1) (turned-size c.args.p (down c))
 
 cast-result-2 : tie.Need-overflow_cast-result-2
 cast-result-2 c =

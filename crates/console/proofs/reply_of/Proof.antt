@@ -22,13 +22,13 @@ watch-text-requires : tie.Need-watch_text-requires
 watch-text-requires c κs = search rules
 
 returns : tie.Need-returns-in-Charge
-returns c = rw c.before.enum_told-1.given.1 c.reply_to.ensures
+returns c = rw c.in-Charge.is c.reply_to.ensures
 
 returns-2 : tie.Need-returns-in-Convert
-returns-2 c = rw c.before.enum_told-in-Convert-1.given.1 c.convert_text.ensures
+returns-2 c = rw c.in-Convert.is c.convert_text.ensures
 
 returns-3 : tie.Need-returns-in-Watch
-returns-3 c = rw c.before.enum_told-in-Watch-1.given.1 c.watch_text.ensures
+returns-3 c = rw c.in-Watch.is c.watch_text.ensures
 
 pub reply_of_spec : {M : Type 1} → statement M
 reply_of_spec = tie.close (tie.spec enum_told reply-to-requires enum-told-2 convert-text-requires enum-told-3 watch-text-requires returns returns-2 returns-3)

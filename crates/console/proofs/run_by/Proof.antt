@@ -24,18 +24,18 @@ reply-of-requires : tie.Need-reply_of-text-requires
 reply-of-requires c κs = search rules
 
 write-text-requires : tie.Need-write_text-wrote-requires
-write-text-requires c κs = reply-inside c.before.before.before.before.before.before.before.before.args.program _ _ c.reply_of-text.ensures
+write-text-requires c κs = reply-inside c.args.program _ _ c.reply_of-text.ensures
 
 returns : tie.Need-returns-then-is_whole
 returns c =
     let w = c.before.before.before.before in
-    let r = w.before.before.read_sheet-read in
+    let r = w.read_sheet-read in
     let e : length r.new.0 ≡ 4097 = omega arith in
     record {
       space = e;
       carried = rw e at r.ensures.0;
-      replies = λ h. (c.before.reply_of-text.ensures, c.write_text-wrote.ensures);
-      silent = λ h. absurd (not-both (is_whole r.result 4097) (sym w.is_whole.ensures ∙ c.before.before.before.if-is_whole.true) h);
+      replies = λ h. (c.reply_of-text.ensures, c.write_text-wrote.ensures);
+      silent = λ h. absurd (not-both (is_whole r.result 4097) (sym w.is_whole.ensures ∙ c.if-is_whole.true) h);
     }
 
 tell-unread-requires : tie.Need-tell_unread-requires
@@ -50,12 +50,12 @@ begun-requires c κs = search rules
 returns-2 : tie.Need-returns
 returns-2 c =
     let w = c.before.before.before.before in
-    let r = w.before.before.read_sheet-read in
+    let r = w.read_sheet-read in
     let e : length r.new.0 ≡ 4097 = omega arith in
     record {
       space = e;
       carried = rw e at r.ensures.0;
-      replies = λ h. absurd (not-both (is_whole r.result 4097) h (sym w.is_whole.ensures ∙ c.before.before.before.if-is_whole.false));
+      replies = λ h. absurd (not-both (is_whole r.result 4097) h (sym w.is_whole.ensures ∙ c.if-is_whole.false));
       silent = λ h. c.begun-wrote.ensures;
     }
 

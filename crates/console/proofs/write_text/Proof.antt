@@ -18,12 +18,12 @@ tell-unwritten-requires c κs = search rules
 returns : tie.Need-returns-then-p-len
 returns c =
     let w = c.before.before.before in
-    subst (λ (n : ℕ). Carried n w.write_reply-p.result) (sym w.before.before.before.requires.1) w.write_reply-p.ensures
+    subst (λ (n : ℕ). Carried n w.write_reply-p.result) (sym w.requires.1) w.write_reply-p.ensures
 
 returns-2 : tie.Need-returns-else-p-len
 returns-2 c =
     let w = c.before.before in
-    subst (λ (n : ℕ). Carried n w.write_reply-p.result) (sym w.before.before.before.requires.1) w.write_reply-p.ensures
+    subst (λ (n : ℕ). Carried n w.write_reply-p.result) (sym w.requires.1) w.write_reply-p.ensures
 
 pub write_text_spec : {M : Type 1} → statement M
 write_text_spec =

@@ -9,13 +9,13 @@ use Rattle.converter.proofs.convert.Tie as tie
 
 -- the moments that are spoken of below
 abbrev reading : tie.In_default → tie.After-unblanked-r
-reading c = c.before.before.before
+reading c = c.before.before
 
 abbrev start : tie.After-unblanked-r → tie.Start
 start c = c.before.before.before
 
 free : (c : tie.In_default) → convertible (start (reading c)).args.s.now ≡ Accepted
-free c = sym (reading c).unblanked-r.ensures.told ∙ c.enum_told-1.given.1
+free c = sym (reading c).unblanked-r.ensures.told ∙ c.in_default.is
 
 unblanked-requires : tie.Need-unblanked-r-requires
 unblanked-requires c κs = search rules
@@ -25,8 +25,8 @@ enum-known-v c = search rules
 
 returns : tie.Need-returns-in-Refused
 returns c =
-    let k = c.before in
-    let e = sym k.before.before.before.unblanked-r.ensures.told ∙ k.v-1.given.1 in
+    let k = c in
+    let e = sym k.unblanked-r.ensures.told ∙ k.in-Refused.is in
     (rw e, rw e)
 
 enum_told : tie.Need-enum_told-1
@@ -42,7 +42,7 @@ returns-2 : tie.Need-returns
 returns-2 c =
     let w = c.before.before in
     let t = w.before.before in
-    let m = (reading t).unblanked-r.ensures.left t.enum_told-1.given.1 in
+    let m = (reading t).unblanked-r.ensures.left t.in_default.is in
     let f = rw (m, converted-fair (start (reading t)).args.s.now (free t)) at w.write_sheet.ensures in
     (rw (free t) f.0, rw (free t) f.1)
 

@@ -12,7 +12,7 @@ use Rattle.converter.proofs.unblanked.Tie as tie
 
 -- the moments that are spoken of below
 abbrev reading : tie.In_default → tie.After-read_by-r
-reading c = c.before.before.before
+reading c = c.before.before
 
 abbrev start : tie.After-read_by-r → tie.Start
 start c = c.before.before
@@ -23,7 +23,7 @@ taken : (c : tie.In_default) →
     kept_reading (start d).args.s.now ≡ record { verdict = Accepted; model = d.read_by-r.result.model }
 taken c =
     let r = (reading c).read_by-r in
-    sym r.ensures ∙ ap (λ v. record { verdict = v; model = r.result.model }) c.enum_told-1.given.1
+    sym r.ensures ∙ ap (λ v. record { verdict = v; model = r.result.model }) c.in_default.is
 
 read-by-requires : tie.Need-read_by-r-requires
 read-by-requires c κs = search rules
@@ -33,8 +33,8 @@ enum-known-v c = search rules
 
 returns : tie.Need-returns-in-Refused
 returns c =
-    let k = c.before in
-    let e = ap (λ (r : Reading). r.verdict) (sym k.before.before.before.read_by-r.ensures) ∙ k.v-1.given.1 in
+    let k = c in
+    let e = ap (λ (r : Reading). r.verdict) (sym k.read_by-r.ensures) ∙ k.in-Refused.is in
     record { told = rw e; left = λ h. no-refusal h }
 
 enum_told : tie.Need-enum_told-1

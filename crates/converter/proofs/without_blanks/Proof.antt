@@ -14,19 +14,19 @@ enum-known-v c = search rules
 
 returns : tie.Need-returns-in-Refused
 returns c =
-    let k = c.before in
-    record { told = sym k.v-1.given.1 ∙ k.before.before.check_blanks-v.ensures; left = λ h. no-refusal h }
+    let k = c in
+    record { told = sym k.in-Refused.is ∙ k.check_blanks-v.ensures; left = λ h. no-refusal h }
 
 enum_told : tie.Need-enum_told-1
 enum_told c = search rules
 
 drop-blanks-requires : tie.Need-drop_blanks-model-requires
-drop-blanks-requires c κs = let s = c.before.before.before in accepted s.args.m s.requires
+drop-blanks-requires c κs = let s = c.before.before in accepted s.args.m s.requires
 
 returns-2 : tie.Need-returns
 returns-2 c =
     let t = c.before in
-    record { told = sym t.enum_told-1.given.1 ∙ t.before.before.check_blanks-v.ensures; left = λ h. c.drop_blanks-model.ensures }
+    record { told = sym t.in_default.is ∙ t.check_blanks-v.ensures; left = λ h. c.drop_blanks-model.ensures }
 
 pub without_blanks_spec : {M : Type 1} → statement M
 without_blanks_spec = tie.close (tie.spec check-blanks-requires enum-known-v returns enum_told drop-blanks-requires returns-2)

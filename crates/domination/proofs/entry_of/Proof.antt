@@ -12,10 +12,10 @@ are-wrong-requires : tie.Need-are_wrong-requires
 are-wrong-requires c κs = search rules
 
 returns-2 : tie.Need-returns-then-are_wrong
-returns-2 c = let a = c.before in rw (a.before.if-named.false, sym a.are_wrong.ensures ∙ c.if-are_wrong.true)
+returns-2 c = let a = c.before in rw (a.if-named.false, sym a.are_wrong.ensures ∙ c.if-are_wrong.true)
 
 pair-items-requires : tie.Need-pair_items-q-requires
-pair-items-requires c κs = let a = c.before in a.before.before.requires ((numbers-iff _ _ _).0 (sym a.are_wrong.ensures ∙ c.if-are_wrong.false))
+pair-items-requires c κs = let a = c.before in a.requires ((numbers-iff _ _ _).0 (sym a.are_wrong.ensures ∙ c.if-are_wrong.false))
 
 or-missing-requires : tie.Need-or_missing-requires
 or-missing-requires c κs = search rules
@@ -25,7 +25,7 @@ returns-3 c =
     let p = c.before in
     let e = p.before in
     let a = e.before in
-    rw (a.before.if-named.false, sym a.are_wrong.ensures ∙ e.if-are_wrong.false) (rw p.pair_items-q.ensures at c.or_missing.ensures)
+    rw (a.if-named.false, sym a.are_wrong.ensures ∙ e.if-are_wrong.false) (rw p.pair_items-q.ensures at c.or_missing.ensures)
 
 pub entry_of_spec : {M : Type 1} → statement M
 entry_of_spec =

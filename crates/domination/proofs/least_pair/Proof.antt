@@ -24,8 +24,8 @@ plain-of-requires : tie.Need-plain_of-requires
 plain-of-requires c κs = search rules
 
 -- the record is accepted
-taken : (e : tie.In-Accepted) → verdict e.before.before.before.args.m ≡ Accepted
-taken e = sym e.before.before.check_model-v.ensures ∙ e.enum_told-1.given.1
+taken : (e : tie.In-Accepted) → verdict e.args.m ≡ Accepted
+taken e = sym e.check_model-v.ensures ∙ e.in-Accepted.is
 
 pair-numbered-requires : tie.Need-pair_numbered-requires
 pair-numbered-requires c κs = rw c.plain_of.ensures ((accepted _ (taken c.before)).figures _)
@@ -40,15 +40,15 @@ returns : tie.Need-returns-in-Accepted
 unfolding least_pair
 returns c =
     let t = c.before.before in
-    let a = t.before.before.before.args in
-    met a.sense a.m a.i a.j _ (rw (taken t, ← c.before.plain_of.ensures) c.pair_numbered.ensures)
+    let a = t.args in
+    met a.sense a.m a.i a.j _ (rw (taken t, ← c.plain_of.ensures) c.pair_numbered.ensures)
 
 returns-2 : tie.Need-returns-in-Refused
 unfolding least_pair
 returns-2 c =
-    let v = c.before.before.before in
-    let a = v.before.args in
-    met a.sense a.m a.i a.j _ (rw (sym v.check_model-v.ensures ∙ c.before.v-1.given.1))
+    let v = c.before in
+    let a = v.args in
+    met a.sense a.m a.i a.j _ (rw (sym v.check_model-v.ensures ∙ c.in-Refused.is))
 
 pub least_pair_spec : {M : Type 1} → statement M
 least_pair_spec =

@@ -31,8 +31,8 @@ start c = c.before.before.before
 pair-of-requires : tie.Need-pair_of-q-requires
 pair-of-requires c κs =
     let s = start c.before in
-    let p = sym c.before.before.before.is_eligible.ensures ∙ c.before.before.if-is_eligible.true in
-    let q = sym c.before.is_eligible-then-is_eligible.ensures ∙ c.if-is_eligible-2.true in (
+    let p = sym c.is_eligible.ensures ∙ c.if-is_eligible.true in
+    let q = sym c.is_eligible-then-is_eligible.ensures ∙ c.if-is_eligible-2.true in (
       record { in-range = s.requires.0; is-eligible = (eligible-iff s.args.x).0 p },
       record {
         in-range = s.requires.1;
@@ -45,8 +45,8 @@ unfolding paired
 returns c =
     let at-then1 = c.before.before.before in
     let at-is-eligible = at-then1.before in
-    let p = sym at-is-eligible.is_eligible.ensures ∙ c.before.before.before.if-is_eligible.true in
-    let q = sym c.before.before.is_eligible-then-is_eligible.ensures ∙ c.before.if-is_eligible-2.true in
+    let p = sym at-is-eligible.is_eligible.ensures ∙ c.if-is_eligible.true in
+    let q = sym c.is_eligible-then-is_eligible.ensures ∙ c.if-is_eligible-2.true in
     rw (p, q, c.pair_of-q.ensures)
 
 refused-requires : tie.Need-refused-requires
@@ -54,9 +54,9 @@ refused-requires c κs = search rules
 
 returns-2 : tie.Need-returns
 returns-2 c =
-    let e = sym c.before.before.is_eligible.ensures in
+    let e = sym c.is_eligible.ensures in
     c.refused.ensures ∙ ⊎_elim (λ w. second-fails _ _ (e ∙ w.0.taken) (sym w.1.ensures ∙ w.2.left)) (λ w. first-fails _ _ (e ∙ w.left))
-    c.before.if-is_eligible.branch
+    c.if-is_eligible.branch
 
 pub pair_items_spec : {M : Type 1} → statement M
 pair_items_spec =

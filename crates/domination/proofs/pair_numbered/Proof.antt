@@ -8,8 +8,8 @@ use borrow.Author.Rules.{rules}
 use Rattle.domination.proofs.pair_numbered.Statement.{statement}
 use Rattle.domination.proofs.pair_numbered.Tie as tie
 
-numbers : (c : tie.Else-are_wrong) → Numbers c.before.before.args.t1.count c.before.before.args.i c.before.before.args.j
-numbers c = (numbers-iff _ _ _).0 (sym c.before.are_wrong.ensures ∙ c.if-are_wrong.false)
+numbers : (c : tie.Else-are_wrong) → Numbers c.args.p.count c.args.i c.args.j
+numbers c = (numbers-iff _ _ _).0 (sym c.are_wrong.ensures ∙ c.if-are_wrong.false)
 
 are-wrong-requires : tie.Need-are_wrong-requires
 are-wrong-requires c κs = search rules
@@ -19,25 +19,25 @@ refused-requires c κs = search rules
 
 returns : tie.Need-returns-then-are_wrong
 unfolding numbered
-returns c = let p = sym c.before.before.are_wrong.ensures ∙ c.before.if-are_wrong.true in rw p c.refused.ensures
+returns c = let p = sym c.are_wrong.ensures ∙ c.if-are_wrong.true in rw p c.refused.ensures
 
 sub-x : tie.Need-overflow_sub-x
 sub-x c = omega (arith, numbers c)
 
 mul-x : tie.Need-offset_bounds-p-i
-mul-x c = omega (arith, numbers c, c.before.before.requires.few-items)
+mul-x c = omega (arith, numbers c, c.requires.few-items)
 
 element-copy-out-x : tie.Need-bounds-p-i
-element-copy-out-x c = omega (arith, numbers c, c.before.before.requires.few-items)
+element-copy-out-x c = omega (arith, numbers c, c.requires.few-items)
 
 sub-y : tie.Need-overflow_sub-y
 sub-y c = omega (arith, numbers c.before)
 
 mul-y : tie.Need-offset_bounds-p-j
-mul-y c = omega (arith, numbers c.before, c.before.before.before.requires.few-items)
+mul-y c = omega (arith, numbers c.before, c.requires.few-items)
 
 element-copy-out-y : tie.Need-bounds-p-j
-element-copy-out-y c = omega (arith, numbers c.before, c.before.before.before.requires.few-items)
+element-copy-out-y c = omega (arith, numbers c.before, c.requires.few-items)
 
 -- the moments that are spoken of below
 abbrev after-are-wrong : tie.After-y-1 → tie.After-are_wrong
@@ -54,7 +54,7 @@ returns-2 : tie.Need-returns
 unfolding numbered
 returns-2 c =
     let at-are-wrong = after-are-wrong c.before in
-    let p = sym at-are-wrong.are_wrong.ensures ∙ c.before.before.before.if-are_wrong.false in rw p c.pair_items.ensures
+    let p = sym at-are-wrong.are_wrong.ensures ∙ c.if-are_wrong.false in rw p c.pair_items.ensures
 
 pub pair_numbered_spec : {M : Type 1} → statement M
 pair_numbered_spec =

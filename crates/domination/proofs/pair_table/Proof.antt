@@ -56,7 +56,7 @@ is-barred-requires c κs = omega arith
 
 entry-of-requires : tie.Need-entry_of-requires invariant-loop decreases-loop
 entry-of-requires c κs =
-    let a = c.before.before.before.before.before.before.requires in
+    let a = c.requires in
     λ n. (a.items-in _ (omega (arith, n)), a.items-in _ (omega (arith, n)))
 
 mul-t : tie.Need-offset_bounds-t-k invariant-loop decreases-loop
@@ -77,7 +77,7 @@ loop-again c =
     let s = at-loop.before.before in
     let k = at-loop.loop-k.k in
     let l = at-loop.loop-k.t in
-    let e = rw c.before.is_barred.ensures at c.entry_of.ensures ∙ at_places s.args.t1 s.args.named (k / 16) (k % 16) in (
+    let e = rw c.is_barred.ensures at c.entry_of.ensures ∙ at_places s.args.p s.args.named (k / 16) (k % 16) in (
       omega arith,
       (
         simp length-set (omega arith),
@@ -91,7 +91,7 @@ returns : tie.Need-returns invariant-loop decreases-loop
 returns c = λ i j hi hj.
     let row : (16 * i + j) / 16 ≡ i = omega arith in
     let column : (16 * i + j) % 16 ≡ j = omega arith in
-    rw (row, column) at (c.before.loop-k.invariant.1.1 (16 * i + j) (omega arith))
+    rw (row, column) at (c.loop-k.invariant.1.1 (16 * i + j) (omega arith))
 
 pub pair_table_spec : {M : Type 1} → statement M
 pair_table_spec =

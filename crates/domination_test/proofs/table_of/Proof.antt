@@ -22,7 +22,7 @@ pair-table-requires : tie.Need-pair_table-requires
 pair-table-requires c κs =
     let n = c.before in
     let e = n.before in
-    rw n.plain_of.ensures ((accepted _ (sym e.before.before.check_model-v.ensures ∙ e.enum_told-1.given.1)).figures Sure)
+    rw n.plain_of.ensures ((accepted _ (sym e.check_model-v.ensures ∙ e.in-Accepted.is)).figures Sure)
 
 enum-told-2 : tie.Need-enum_told-in-Refused
 enum-told-2 c = search rules

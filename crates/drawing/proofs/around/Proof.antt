@@ -18,7 +18,7 @@ draw-requires : tie.Need-draw-requires
 draw-requires c κs = search rules
 
 sub-pick : tie.Need-overflow_sub-m
-sub-pick c = rw (to_z-of_z c.before.ranges.m, zero-less c.before.args.m) (fits c.before)
+sub-pick c = rw (to_z-of_z c.ranges.m, zero-less c.args.m) (fits c.before)
 
 pick-requires : tie.Need-pick-requires
 pick-requires c κs =
@@ -29,7 +29,7 @@ returns : tie.Need-returns
 unfolding around_at
 returns c =
     let s = c.before.before in
-    rw (back c.pick.result c.pick.type_inv) (rw (negated s, to_z-of_z s.ranges.m, c.before.draw.ensures) at c.pick.ensures)
+    rw (back c.pick.result c.pick.type_inv) (rw (negated s, to_z-of_z s.ranges.m, c.draw.ensures) at c.pick.ensures)
 
 pub around_spec : {M : Type 1} → statement M
 around_spec = tie.close (tie.spec draw-requires sub-pick pick-requires returns)

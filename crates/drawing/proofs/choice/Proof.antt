@@ -15,10 +15,10 @@ pick-requires : tie.Need-pick-requires
 pick-requires c κs = search rules
 
 number : (c : tie.After-pick)
-    → c.pick.result ≡ picked (draw_at c.before.before.args.state) c.before.before.args.lo c.before.before.args.hi
+    → c.pick.result ≡ picked (draw_at c.args.state) c.args.lo c.args.hi
 number c =
     let s = c.before.before in
-    rw (to_z-of_z s.ranges.lo, to_z-of_z s.ranges.hi, c.before.draw.ensures) at c.pick.ensures
+    rw (to_z-of_z s.ranges.lo, to_z-of_z s.ranges.hi, c.draw.ensures) at c.pick.ensures
 
 above : (c : tie.After-pick) → pos 0 ≤ℤ c.pick.result
 above c =

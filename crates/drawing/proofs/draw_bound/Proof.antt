@@ -14,8 +14,8 @@ choice-requires c κs = search rules
 returns : tie.Need-returns-then-choice-eq3
 unfolding drawn_bound
 returns c =
-    let n = c.before.before.next_state-first.ensures in
-    let e = rw n at c.before.choice.ensures in
+    let n = c.next_state-first.ensures in
+    let e = rw n at c.choice.ensures in
     rw (n, eq-eqb _ 3 (sym e ∙ c.if-choice-eq3.true))
 
 next-state-requires-2 : tie.Need-next_state-second-requires
@@ -28,12 +28,12 @@ returns-2 : tie.Need-returns
 unfolding drawn_bound
 returns-2 c =
     let d = c.before.before in
-    let n = d.before.before.next_state-first.ensures in
-    let e = rw n at d.before.choice.ensures in
+    let n = d.next_state-first.ensures in
+    let e = rw n at d.choice.ensures in
     rw (
       back c.draw_value.result c.draw_value.type_inv,
       c.draw_value.ensures,
-      c.before.next_state-second.ensures,
+      c.next_state-second.ensures,
       n,
       ne_eqb _ 3 (λ t. d.if-choice-eq3.false (e ∙ t)),
     )

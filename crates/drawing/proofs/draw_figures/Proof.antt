@@ -26,9 +26,9 @@ draw-price-requires c κs = search rules
 returns : tie.Need-returns
 unfolding drawn_figures
 returns c =
-    let w = c.before.draw_weight-weight in
+    let w = c.draw_weight-weight in
     let m = c.before.before in
-    let n = m.before.next_state-c.ensures in
+    let n = m.next_state-c.ensures in
     rw (
       back w.result w.type-inv,
       back c.draw_price.result c.draw_price.type_inv,
@@ -36,8 +36,8 @@ returns c =
       w.ensures,
       c.draw_price.ensures,
       n,
-      m.before.before.next_state-b.ensures,
-      m.before.before.before.next_state-a.ensures,
+      m.next_state-b.ensures,
+      m.next_state-a.ensures,
     )
 
 pub draw_figures_spec : {M : Type 1} → statement M

@@ -27,10 +27,10 @@ returns c =
     rw (
       c.headed-problem.ensures,
       back l.draw_limit.result l.draw_limit.type_inv,
-      c.before.draw_count.ensures,
+      c.draw_count.ensures,
       l.draw_limit.ensures,
-      l.before.next_state-b.ensures,
-      l.before.before.next_state-a.ensures,
+      l.next_state-b.ensures,
+      l.next_state-a.ensures,
     )
 
 pub draw_heading_spec : {M : Type 1} → statement M

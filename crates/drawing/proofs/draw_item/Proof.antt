@@ -12,7 +12,7 @@ mend-requires c κs = search rules
 
 returns : tie.Need-returns
 unfolding drawn_item
-returns c = rw (c.mend-item.ensures, c.before.before.draw_figures-d.ensures)
+returns c = rw (c.mend-item.ensures, c.draw_figures-d.ensures)
 
 pub draw_item_spec : {M : Type 1} → statement M
 draw_item_spec = tie.close (tie.spec draw-figures-requires mend-requires returns)

@@ -24,15 +24,15 @@ draw-side-requires-2 c κs = search rules
 
 returns : tie.Need-returns-in-Items
 unfolding drawn_line
-returns c = rw c.before.enum_told-1.given.1 c.draw_item.ensures
+returns c = rw c.in-Items.is c.draw_item.ensures
 
 returns-2 : tie.Need-returns-in-Lower
 unfolding drawn_line
-returns-2 c = rw c.before.enum_told-in-Lower-1.given.1 c.draw_side.ensures
+returns-2 c = rw c.in-Lower.is c.draw_side.ensures
 
 returns-3 : tie.Need-returns-in-Upper
 unfolding drawn_line
-returns-3 c = rw c.before.enum_told-in-Upper-1.given.1 c.draw_side-in-Upper.ensures
+returns-3 c = rw c.in-Upper.is c.draw_side-in-Upper.ensures
 
 pub draw_line_spec : {M : Type 1} → statement M
 draw_line_spec =

@@ -7,10 +7,10 @@ choice-requires : tie.Need-choice-requires
 choice-requires c κs = search rules
 
 returns : tie.Need-returns-then-choice-eq0
-returns c = rw (eq-eqb _ 0 (sym c.before.choice.ensures ∙ c.if-choice-eq0.true))
+returns c = rw (eq-eqb _ 0 (sym c.choice.ensures ∙ c.if-choice-eq0.true))
 
 returns-2 : tie.Need-returns-else-choice-eq0
-returns-2 c = rw (ne_eqb _ 0 (λ e. c.if-choice-eq0.false (c.before.choice.ensures ∙ e)))
+returns-2 c = rw (ne_eqb _ 0 (λ e. c.if-choice-eq0.false (c.choice.ensures ∙ e)))
 
 pub draw_mark_spec : {M : Type 1} → statement M
 draw_mark_spec = tie.close (tie.spec choice-requires returns returns-2)

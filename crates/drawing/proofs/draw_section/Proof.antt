@@ -25,12 +25,12 @@ loop-less c = omega arith
 
 loop-again : tie.Need-loop-k-preserved invariant-loop decreases-loop
 unfolding lines
-loop-again c = (omega arith, rw (add-one, c.with_line-r.ensures, c.before.before.loop-k.invariant.1))
+loop-again c = (omega arith, rw (add-one, c.with_line-r.ensures, c.loop-k.invariant.1))
 
 returns : tie.Need-returns invariant-loop decreases-loop
 returns c =
-    let e : c.before.loop-k.k ≡ c.before.before.before.args.d.problem.count = omega arith in
-    rw e at c.before.loop-k.invariant.1
+    let e : c.loop-k.k ≡ c.args.d.problem.count = omega arith in
+    rw e at c.loop-k.invariant.1
 
 pub draw_section_spec : {M : Type 1} → statement M
 draw_section_spec =

@@ -10,7 +10,7 @@ with-side-requires : tie.Need-with_side-bounded-requires
 with-side-requires c κs = search rules
 
 returns : tie.Need-returns
-returns c = rw (c.with_side-bounded.ensures, c.before.draw_bound-d.ensures)
+returns c = rw (c.with_side-bounded.ensures, c.draw_bound-d.ensures)
 
 pub draw_side_spec : {M : Type 1} → statement M
 draw_side_spec = tie.close (tie.spec draw-bound-requires with-side-requires returns)

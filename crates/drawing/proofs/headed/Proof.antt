@@ -15,7 +15,7 @@ with-count-requires c κs = search rules
 returns : tie.Need-returns
 returns c =
     let e = c.before.before in
-    rw (c.with_count.ensures, c.before.with_capacity-limited.ensures, e.empty_model.ensures, to_z-of_z e.before.ranges.limit)
+    rw (c.with_count.ensures, c.with_capacity-limited.ensures, e.empty_model.ensures, to_z-of_z e.ranges.limit)
 
 pub headed_spec : {M : Type 1} → statement M
 headed_spec = tie.close (tie.spec empty-model-requires with-capacity-requires with-count-requires returns)

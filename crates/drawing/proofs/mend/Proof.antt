@@ -9,11 +9,11 @@ is-blank-requires c κs = search rules
 
 returns : tie.Need-returns-then-is_blank
 unfolding mended
-returns c = rw (sym c.before.is_blank.ensures ∙ c.if-is_blank.true)
+returns c = rw (sym c.is_blank.ensures ∙ c.if-is_blank.true)
 
 returns-2 : tie.Need-returns
 unfolding mended
-returns-2 c = rw (sym c.before.is_blank.ensures ∙ c.if-is_blank.false)
+returns-2 c = rw (sym c.is_blank.ensures ∙ c.if-is_blank.false)
 
 pub mend_spec : {M : Type 1} → statement M
 mend_spec = tie.close (tie.spec is-blank-requires returns returns-2)

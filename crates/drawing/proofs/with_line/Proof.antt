@@ -18,7 +18,7 @@ with-item-requires c κs = search rules
 
 returns : tie.Need-returns
 unfolding with_line
-returns c = rw (c.with_item-problem.ensures, c.before.before.draw_line-x.ensures)
+returns c = rw (c.with_item-problem.ensures, c.draw_line-x.ensures)
 
 pub with_line_spec : {M : Type 1} → statement M
 with_line_spec =

@@ -21,7 +21,7 @@ abbrev start : tie.At-loop-j invariant-loop decreases-loop → tie.Start invaria
 start c = c.before.before.before
 
 kept-items-requires : tie.Need-kept_items-q-requires invariant-loop decreases-loop
-kept-items-requires c κs = (c.before.requires.figures Sure).few-items
+kept-items-requires c κs = (c.requires.figures Sure).few-items
 
 loop-holds : tie.Need-loop-j-init invariant-loop decreases-loop
 loop-holds c = (omega arith, c.kept_items-q.ensures)

@@ -19,13 +19,13 @@ loop-holds : tie.Need-loop-k-init invariant-loop decreases-loop
 loop-holds c = let m = c.args.m in (omega arith, ap (λ n. first_from n (hinders m) 0) (omega arith))
 
 is-hindered-requires : tie.Need-is_hindered-requires invariant-loop decreases-loop
-is-hindered-requires c κs = (omega arith, c.before.before.requires.1)
+is-hindered-requires c κs = (omega arith, c.requires.1)
 
 returns : tie.Need-returns-then-is_hindered invariant-loop decreases-loop
 returns c =
     let l = c.before.before.before in
-    let m = l.before.args.m in
-    sym (l.loop-k.invariant.1 ∙ first-here (hinders m) m.count l.loop-k.k (omega arith) (sym c.before.is_hindered.ensures ∙ c.if-is_hindered.true))
+    let m = l.args.m in
+    sym (l.loop-k.invariant.1 ∙ first-here (hinders m) m.count l.loop-k.k (omega arith) (sym c.is_hindered.ensures ∙ c.if-is_hindered.true))
 
 add-k : tie.Need-overflow_add-k invariant-loop decreases-loop
 add-k c = omega arith
@@ -36,16 +36,16 @@ loop-less c = omega arith
 loop-again : tie.Need-loop-k-preserved invariant-loop decreases-loop
 loop-again c =
     let l = c.before.before.before in
-    let m = l.before.args.m in (
+    let m = l.args.m in (
       omega arith,
       rw add-one (l.loop-k.invariant.1 ∙ first-later (hinders m) m.count l.loop-k.k (omega arith)
-          (sym c.before.is_hindered.ensures ∙ c.if-is_hindered.false)),
+          (sym c.is_hindered.ensures ∙ c.if-is_hindered.false)),
     )
 
 returns-2 : tie.Need-returns invariant-loop decreases-loop
 returns-2 c =
     let l = c.before in
-    let m = l.before.args.m in
+    let m = l.args.m in
     let e : m.count ≡ l.loop-k.k = omega arith in
     e ∙ sym (l.loop-k.invariant.1 ∙ first-none (hinders m) m.count l.loop-k.k (omega arith))
 

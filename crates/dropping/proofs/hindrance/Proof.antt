@@ -9,7 +9,7 @@ rank-of-requires : tie.Need-rank_of-requires
 rank-of-requires c κs = search rules
 
 returns : tie.Need-returns-then-rank_of-eq0
-returns c = rw (eq-eqb _ 0 (sym c.before.rank_of.ensures ∙ c.if-rank_of-eq0.true))
+returns c = rw (eq-eqb _ 0 (sym c.rank_of.ensures ∙ c.if-rank_of-eq0.true))
 
 first-hindered-requires : tie.Need-first_hindered-requires
 first-hindered-requires c κs = search rules
@@ -17,7 +17,7 @@ first-hindered-requires c κs = search rules
 returns-2 : tie.Need-returns
 returns-2 c =
     let e = c.before in
-    rw (ne_eqb _ 0 (λ h. e.if-rank_of-eq0.false (e.before.rank_of.ensures ∙ h))) c.first_hindered.ensures
+    rw (ne_eqb _ 0 (λ h. e.if-rank_of-eq0.false (e.rank_of.ensures ∙ h))) c.first_hindered.ensures
 
 pub hindrance_spec : {M : Type 1} → statement M
 hindrance_spec = tie.close (tie.spec rank-of-requires returns first-hindered-requires returns-2)

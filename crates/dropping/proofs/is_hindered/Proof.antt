@@ -27,16 +27,16 @@ returns : tie.Need-returns-then-do_bounds_cross
 returns c =
     let n = c.before.before in
     let b = n.before.before in
-    rw (sym b.before.is_blank.ensures ∙ b.if-is_blank.true, sym c.before.do_bounds_cross.ensures ∙ c.if-do_bounds_cross.true)
+    rw (sym b.is_blank.ensures ∙ b.if-is_blank.true, sym c.do_bounds_cross.ensures ∙ c.if-do_bounds_cross.true)
 
 returns-2 : tie.Need-returns-else-do_bounds_cross
 returns-2 c =
     let n = c.before.before in
     let b = n.before.before in
-    rw (sym b.before.is_blank.ensures ∙ b.if-is_blank.true, sym c.before.do_bounds_cross.ensures ∙ c.if-do_bounds_cross.false) (rw add-one at n.is_named-named.ensures)
+    rw (sym b.is_blank.ensures ∙ b.if-is_blank.true, sym c.do_bounds_cross.ensures ∙ c.if-do_bounds_cross.false) (rw add-one at n.is_named-named.ensures)
 
 returns-3 : tie.Need-returns-else-is_blank
-returns-3 c = rw (sym c.before.is_blank.ensures ∙ c.if-is_blank.false)
+returns-3 c = rw (sym c.is_blank.ensures ∙ c.if-is_blank.false)
 
 pub is_hindered_spec : {M : Type 1} → statement M
 is_hindered_spec =

@@ -37,8 +37,8 @@ does-name-requires c κs = search rules
 returns : tie.Need-returns-then-does_name invariant-loop decreases-loop
 returns c =
     let l = at-loop c.before in
-    let a = l.before.args in
-    sym (named-found a.t1.count l.loop-j.j (need_at a.t1) a.k (omega arith) (sym c.before.does_name.ensures ∙ c.if-does_name.true))
+    let a = l.args in
+    sym (named-found a.ns.count l.loop-j.j (need_at a.ns) a.k (omega arith) (sym c.does_name.ensures ∙ c.if-does_name.true))
 
 add-j : tie.Need-overflow_add-j invariant-loop decreases-loop
 add-j c = omega arith
@@ -49,13 +49,13 @@ loop-less c = omega arith
 loop-again : tie.Need-loop-j-preserved invariant-loop decreases-loop
 loop-again c =
     let l = at-loop c.before in
-    let a = l.before.args in
-    (omega arith, rw add-one (named_more l.loop-j.j (need_at a.t1) a.k l.loop-j.invariant.1 (sym c.before.does_name.ensures ∙ c.if-does_name.false)))
+    let a = l.args in
+    (omega arith, rw add-one (named_more l.loop-j.j (need_at a.ns) a.k l.loop-j.invariant.1 (sym c.does_name.ensures ∙ c.if-does_name.false)))
 
 returns-2 : tie.Need-returns invariant-loop decreases-loop
 returns-2 c =
     let l = c.before in
-    let e : l.loop-j.j ≡ l.before.args.t1.count = omega arith in
+    let e : l.loop-j.j ≡ l.args.ns.count = omega arith in
     sym (rw e at l.loop-j.invariant.1)
 
 pub is_named_spec : {M : Type 1} → statement M

@@ -33,7 +33,7 @@ element-copy-out-x c = omega arith
 append-unless-blank-requires : tie.Need-append_unless_blank-q-requires invariant-loop decreases-loop
 append-unless-blank-requires c κs =
     let l = c.before.before in
-    let m = l.before.before.args.t1 in
+    let m = l.args.m in
     let e : l.loop-k.q.count ≡ rank (kept m) l.loop-k.k = ap (λ (q : Model). q.count) l.loop-k.invariant.1 in
     omega (arith, rank_most (kept m) l.loop-k.k)
 
@@ -46,7 +46,7 @@ loop-less c = omega arith
 loop-again : tie.Need-loop-k-preserved invariant-loop decreases-loop
 loop-again c =
     let l = c.before.before.before in
-    let m = l.before.before.args.t1 in (
+    let m = l.args.m in (
       omega arith,
       rw add-one (c.append_unless_blank-q.ensures ∙ ap (λ (q : Model). appended_unless_blank q (item_at m l.loop-k.k)) l.loop-k.invariant.1
           ∙ sym (dropped-next m l.loop-k.k)),
@@ -55,7 +55,7 @@ loop-again c =
 returns : tie.Need-returns invariant-loop decreases-loop
 returns c =
     let l = c.before in
-    let m = l.before.before.args.t1 in
+    let m = l.args.m in
     let e : l.loop-k.k ≡ m.count = omega arith in
     l.loop-k.invariant.1 ∙ ap (λ k. dropped_to m k 0) e
 

@@ -15,9 +15,9 @@ with-capacity-requires c κs = search rules
 
 returns : tie.Need-returns
 returns c =
-    let m = c.before.before.before.args.m in
+    let m = c.args.m in
     let h : SFits w64 m.capacity = search rules in
-    rw (dropped-none m) (rw (to_z-of_z h, c.before.before.empty_model-empty.ensures) at c.with_capacity.ensures)
+    rw (dropped-none m) (rw (to_z-of_z h, c.empty_model-empty.ensures) at c.with_capacity.ensures)
 
 pub none_of_spec : {M : Type 1} → statement M
 none_of_spec = tie.close (tie.spec empty-model-requires with-capacity-requires returns)

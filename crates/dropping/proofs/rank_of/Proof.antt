@@ -30,7 +30,7 @@ element-copy-out-x c = omega arith
 count-unless-blank-requires : tie.Need-count_unless_blank-n-requires invariant-loop decreases-loop
 count-unless-blank-requires c κs =
     let l = c.before.before in
-    omega (arith, rank_most (kept l.before.args.t1) l.loop-i.i)
+    omega (arith, rank_most (kept l.args.m) l.loop-i.i)
 
 add-i : tie.Need-overflow_add-i invariant-loop decreases-loop
 add-i c = omega arith
@@ -41,7 +41,7 @@ loop-less c = omega arith
 loop-again : tie.Need-loop-i-preserved invariant-loop decreases-loop
 loop-again c =
     let l = c.before.before.before in
-    let m = l.before.args.t1 in (
+    let m = l.args.m in (
       omega arith,
       rw add-one (c.count_unless_blank-n.ensures ∙ ap (λ n. cond (is_blank (item_at m l.loop-i.i)) n (suc n)) l.loop-i.invariant.1
           ∙ sym (rank-next m l.loop-i.i)),
@@ -50,8 +50,8 @@ loop-again c =
 returns : tie.Need-returns invariant-loop decreases-loop
 returns c =
     let l = c.before in
-    let e : l.loop-i.i ≡ l.before.args.k = omega arith in
-    l.loop-i.invariant.1 ∙ ap (rank (kept l.before.args.t1)) e
+    let e : l.loop-i.i ≡ l.args.k = omega arith in
+    l.loop-i.invariant.1 ∙ ap (rank (kept l.args.m)) e
 
 pub rank_of_spec : {M : Type 1} → statement M
 rank_of_spec =

@@ -14,7 +14,7 @@ rank-of-requires : tie.Need-rank_of-requires
 rank-of-requires c κs = search rules
 
 add-result : tie.Need-overflow_add-result
-add-result c = let a = c.before.args in omega (arith, c.rank_of.ensures, rank_most (kept a.m) (a.k - 1))
+add-result c = let a = c.args in omega (arith, c.rank_of.ensures, rank_most (kept a.m) (a.k - 1))
 
 returns : tie.Need-returns
 returns c = search rules

@@ -10,7 +10,7 @@ renumber-requires-2 : tie.Need-renumber-cover-requires
 renumber-requires-2 c κs = search rules
 
 returns : tie.Need-returns
-returns c = rw (c.before.renumber-item.ensures, c.renumber-cover.ensures)
+returns c = rw (c.renumber-item.ensures, c.renumber-cover.ensures)
 
 pub renumber_need_spec : {M : Type 1} → statement M
 renumber_need_spec = tie.close (tie.spec renumber-requires renumber-requires-2 returns)

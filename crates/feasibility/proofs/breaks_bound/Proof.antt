@@ -25,7 +25,7 @@ returns c = search rules
 times-requires : tie.Need-times-n-requires
 times-requires c κs =
     let v = c.before.b-1.given in
-    let s = c.before.before.before in
+    let s = c.before in
     let h : SFits w64 v.0.0 = search rules in
     let r : nat_abs v.0.0 ≤ 10000 = subst BoundInRange v.1 s.requires.0 in
     let m : nat_abs v.0.0 * s.args.q ≤ 10000 * 1000 = mul-le-mul r s.requires.1 in
@@ -39,24 +39,24 @@ enum-told-3 c = search rules
 
 -- the bound times q
 scaled : (c : tie.After-times-n) →
-    let at_b = c.before.before in
-    let s = at_b.before.before in
-    to_z w64 (of_z w64 c.times-n.result) ≡ c.before.before.b-1.given.0.0 *ℤ pos s.args.q
+    let at_b = c.before in
+    let s = at_b.before in
+    to_z w64 (of_z w64 c.times-n.result) ≡ c.in-At.v *ℤ pos s.args.q
 scaled c =
-    let h : SFits w64 c.before.before.b-1.given.0.0 = search rules in
+    let h : SFits w64 c.in-At.v = search rules in
     back c.times-n.result c.times-n.type_inv ∙ (rw (to_z-of_z h) at c.times-n.ensures)
 
 returns-2 : tie.Need-returns-in-Lower
 returns-2 c =
-    let t = c.before.before in
-    let at_b = t.before.before in
-    rw (scaled t, to_z-of_z at_b.before.before.ranges.p, at_b.b-1.given.1, c.enum_told-in-Lower-1.given.1)
+    let t = c.before in
+    let at_b = t.before in
+    rw (scaled t, to_z-of_z at_b.ranges.p, at_b.in-At.is, c.in-Lower.is)
 
 returns-3 : tie.Need-returns-in-Upper
 returns-3 c =
-    let t = c.before.before in
-    let at_b = t.before.before in
-    rw (scaled t, to_z-of_z at_b.before.before.ranges.p, at_b.b-1.given.1, c.enum_told-in-Upper-1.given.1)
+    let t = c.before in
+    let at_b = t.before in
+    rw (scaled t, to_z-of_z at_b.ranges.p, at_b.in-At.is, c.in-Upper.is)
 
 pub breaks_bound_spec : {M : Type 1} → statement M
 breaks_bound_spec =

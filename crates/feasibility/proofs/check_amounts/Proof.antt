@@ -17,7 +17,7 @@ refused-requires c κs = search rules
 
 returns : tie.Need-returns-then-c-p
 unfolding amount_check
-returns c = rw (ne_eqb _ _ c.before.if-c-p.true) c.refused.ensures
+returns c = rw (ne_eqb _ _ c.if-c-p.true) c.refused.ensures
 
 common-divisor-requires : tie.Need-common_divisor-d-requires
 common-divisor-requires c κs = search rules
@@ -29,7 +29,7 @@ returns-2 : tie.Need-returns-then-d-eq0
 unfolding amount_check
 returns-2 c =
     let d = c.before.before in
-    rw (eq-eqb _ _ d.before.if-c-p.false, eq-eqb _ _ (sym d.common_divisor-d.ensures ∙ c.before.if-d-eq0.true)) c.refused-then-d-eq0.ensures
+    rw (eq-eqb _ _ d.if-c-p.false, eq-eqb _ _ (sym d.common_divisor-d.ensures ∙ c.if-d-eq0.true)) c.refused-then-d-eq0.ensures
 
 -- the moments that are spoken of below
 abbrev start : tie.Else-c-p → tie.Start
@@ -37,13 +37,13 @@ start c = c.before.before.before
 
 -- where the common divisor is not 0
 nonzero : (c : tie.Else-d-eq0) → let s = start c.before.before in common_divisor s.args.c.count (item_at s.args.p) (proposed_at s.args.c) ≡ 0 → ⊥
-nonzero c z = c.if-d-eq0.false (c.before.common_divisor-d.ensures ∙ z)
+nonzero c z = c.if-d-eq0.false (c.common_divisor-d.ensures ∙ z)
 
 judge-requires : tie.Need-judge-requires
 judge-requires c κs =
     let d = c.before in
     let s = start d.before in
-    let e = d.before.if-c-p.false in
+    let e = d.if-c-p.false in
     let n = s.args.c.count in
     let v = divided n (item_at s.args.p) (proposed_at s.args.c) (nonzero c) in
     let r : (k : ℕ) → k < n → ItemFigures (item_at s.args.p k) = λ k l. s.requires.0.items-in k (rw (← e) l) in
@@ -60,7 +60,7 @@ unfolding amount_check
 returns-3 c =
     let e = c.before in
     let d = e.before in
-    rw (eq-eqb _ _ d.before.if-c-p.false, sym d.common_divisor-d.ensures, ne_eqb _ _ e.if-d-eq0.false) c.judge.ensures
+    rw (eq-eqb _ _ d.if-c-p.false, sym d.common_divisor-d.ensures, ne_eqb _ _ e.if-d-eq0.false) c.judge.ensures
 
 pub check_amounts_spec : {M : Type 1} → statement M
 check_amounts_spec =

@@ -19,7 +19,7 @@ unfolding common_divisor
 loop-holds c = (omega arith, refl)
 
 -- an amount has a place
-few : (s : tie.Start invariant-loop decreases-loop) → s.args.t2.count ≤ 16
+few : (s : tie.Start invariant-loop decreases-loop) → s.args.c.count ≤ 16
 few s = omega (arith, s.requires.0.few-items, s.requires.1)
 
 mul-i : tie.Need-offset_bounds-p-k invariant-loop decreases-loop
@@ -38,7 +38,7 @@ join-requires : tie.Need-join-d-requires invariant-loop decreases-loop
 join-requires c κs =
     let t = c.before.before in
     let s = t.before.before in
-    s.requires.0.items-in t.before.loop-k.k (omega (arith, t.loop-k-test.true, s.requires.1))
+    s.requires.0.items-in t.loop-k.k (omega (arith, t.loop-k-test.true, s.requires.1))
 
 add-k : tie.Need-overflow_add-k invariant-loop decreases-loop
 add-k c = omega (arith, few c.before.before.before.before.before)
@@ -54,8 +54,8 @@ loop-again c =
 
 returns : tie.Need-returns invariant-loop decreases-loop
 returns c =
-    let e : c.before.loop-k.k ≡ c.before.before.args.t2.count = omega arith in
-    rw e at c.before.loop-k.invariant.1
+    let e : c.loop-k.k ≡ c.args.c.count = omega arith in
+    rw e at c.loop-k.invariant.1
 
 pub common_divisor_spec : {M : Type 1} → statement M
 common_divisor_spec =

@@ -13,7 +13,7 @@ use Rattle.feasibility.proofs.does_lack.Tie as tie
 
 -- the code's test of the item is the definition's
 some-test : (c : tie.After-breaks_bound) →
-    let a = c.before.before.args in
+    let a = c.args in
     breaks_bound Upper (At (pos 0)) a.x.p a.x.q ≡ c.breaks_bound.result
 some-test c =
     let s = c.before.before in

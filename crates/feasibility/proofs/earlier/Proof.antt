@@ -17,16 +17,16 @@ returns : tie.Need-returns-then-does_break
 returns c =
     let t = c.before.before in
     rw (
-      none_yet t.before.args.found (numbered t.before.args.k t.before.args.i t.before.args.x) t.if-found-eq0.true,
-      sym c.before.does_break.ensures ∙ c.if-does_break.true,
-    ) (add-one t.before.args.k)
+      none_yet t.args.found (numbered t.args.k t.args.i t.args.x) t.if-found-eq0.true,
+      sym c.does_break.ensures ∙ c.if-does_break.true,
+    ) (add-one t.args.k)
 
 returns-2 : tie.Need-returns-else-does_break
 returns-2 c =
     let t = c.before.before in
     rw (
-      none_yet t.before.args.found (numbered t.before.args.k t.before.args.i t.before.args.x) t.if-found-eq0.true,
-      sym c.before.does_break.ensures ∙ c.if-does_break.false,
+      none_yet t.args.found (numbered t.args.k t.args.i t.args.x) t.if-found-eq0.true,
+      sym c.does_break.ensures ∙ c.if-does_break.false,
     ) t.if-found-eq0.true
 
 returns-3 : tie.Need-returns-else-found-eq0

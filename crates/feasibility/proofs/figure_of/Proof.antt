@@ -14,13 +14,13 @@ enum-told-2 c = search rules
 
 returns : tie.Need-returns-in-Weight
 returns c =
-    let h : SFits w64 c.before.before.before.args.i.weight = search rules in
-    rw (to_z-of_z h, c.before.enum_told-1.given.1)
+    let h : SFits w64 c.args.i.weight = search rules in
+    rw (to_z-of_z h, c.in-Weight.is)
 
 returns-2 : tie.Need-returns-in-Price
 returns-2 c =
-    let h : SFits w64 c.before.before.before.args.i.price = search rules in
-    rw (to_z-of_z h, c.before.enum_told-in-Price-1.given.1)
+    let h : SFits w64 c.args.i.price = search rules in
+    rw (to_z-of_z h, c.in-Price.is)
 
 pub figure_of_spec : {M : Type 1} → statement M
 figure_of_spec = tie.close (tie.spec enum_told enum-told-2 returns returns-2)

@@ -13,7 +13,7 @@ number-or-requires : tie.Need-number_or-requires
 number-or-requires c κs = search rules
 
 returns : tie.Need-returns
-returns c = let l = c.before in rw (← l.before.first_broken-k.ensures, ← l.first_lacking.ensures) c.number_or.ensures
+returns c = let l = c.before in rw (← l.first_broken-k.ensures, ← l.first_lacking.ensures) c.number_or.ensures
 
 pub first_breach_spec : {M : Type 1} → statement M
 first_breach_spec = tie.close (tie.spec first-broken-requires first-lacking-requires number-or-requires returns)

@@ -17,7 +17,7 @@ loop-holds : tie.Need-loop-k-init invariant-loop decreases-loop
 unfolding first_broken
 loop-holds c = (omega arith, refl)
 
-few : (s : tie.Start invariant-loop decreases-loop) → s.args.t1.count ≤ 16
+few : (s : tie.Start invariant-loop decreases-loop) → s.args.p.count ≤ 16
 few s = s.requires.problem.few-items
 
 mul-i : tie.Need-offset_bounds-p-k invariant-loop decreases-loop
@@ -36,7 +36,7 @@ earlier-requires : tie.Need-earlier-found-requires invariant-loop decreases-loop
 earlier-requires c κs =
     let t = c.before.before in
     let s = t.before.before in
-    (omega (arith, few s), (s.requires.problem.items-in t.before.loop-k.k t.loop-k-test.true, s.requires.amounts t.before.loop-k.k t.loop-k-test.true))
+    (omega (arith, few s), (s.requires.problem.items-in t.loop-k.k t.loop-k-test.true, s.requires.amounts t.loop-k.k t.loop-k-test.true))
 
 -- the moments that are spoken of below
 abbrev start : tie.After-i-1 invariant-loop decreases-loop → tie.Start invariant-loop decreases-loop
@@ -59,8 +59,8 @@ loop-again c =
 
 returns : tie.Need-returns invariant-loop decreases-loop
 returns c =
-    let e : c.before.loop-k.k ≡ c.before.before.args.t1.count = omega arith in
-    rw e at c.before.loop-k.invariant.1
+    let e : c.loop-k.k ≡ c.args.p.count = omega arith in
+    rw e at c.loop-k.invariant.1
 
 pub first_broken_spec : {M : Type 1} → statement M
 first_broken_spec =

@@ -44,7 +44,7 @@ loop-again c =
 returns : tie.Need-returns invariant-loop decreases-loop
 returns c =
     let l = c.before in
-    let e : l.loop-j.j ≡ l.before.args.needs.count = omega arith in
+    let e : l.loop-j.j ≡ l.args.needs.count = omega arith in
     rw e at l.loop-j.invariant.1
 
 pub first_lacking_spec : {M : Type 1} → statement M

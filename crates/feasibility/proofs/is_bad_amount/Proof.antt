@@ -16,14 +16,14 @@ use Rattle.feasibility.proofs.is_bad_amount.Tie as tie
 
 own-divisor-requires : tie.Need-own_divisor-d-requires
 own-divisor-requires c κs =
-    let i = c.before.args.i in
+    let i = c.args.i in
     let h : SFits w64 i.weight = search rules in
-    rw (to_z-of_z h) (abs-within i.weight c.before.requires.weight-in)
+    rw (to_z-of_z h) (abs-within i.weight c.requires.weight-in)
 
 -- the item's own divisor
-own : (c : tie.After-own_divisor-d) → c.own_divisor-d.result ≡ own_divisor c.before.before.args.i
+own : (c : tie.After-own_divisor-d) → c.own_divisor-d.result ≡ own_divisor c.args.i
 own c =
-    let i = c.before.before.args.i in
+    let i = c.args.i in
     let h : SFits w64 i.weight = search rules in
     c.own_divisor-d.ensures ∙ ap (divisor_by i.mark) (to_z-of_z h)
 

@@ -16,11 +16,11 @@ times-requires : tie.Need-times-requires
 times-requires c κs = search rules
 
 -- the distance that was computed
-limit : (c : tie.After-times) → to_z w64 (of_z w64 c.times.result) ≡ pos (1000000000 * c.before.args.q)
+limit : (c : tie.After-times) → to_z w64 (of_z w64 c.times.result) ≡ pos (1000000000 * c.args.q)
 limit c = back _ c.times.type_inv ∙ c.times.ensures
 
 beyond-requires : tie.Need-beyond-requires
-beyond-requires c κs = let h = c.before.requires in rw (limit c) (omega (arith, zs), omega (arith, zs))
+beyond-requires c κs = let h = c.requires in rw (limit c) (omega (arith, zs), omega (arith, zs))
 
 returns : tie.Need-returns
 returns c = let s = c.before.before in rw (limit c.before, to_z-of_z s.ranges.p) at c.beyond.ensures

@@ -12,18 +12,18 @@ is-bad-amount-requires c κs = search rules
 
 returns : tie.Need-returns-then-is_bad_amount
 unfolding joined
-returns c = rw (sym c.before.is_bad_amount.ensures ∙ c.if-is_bad_amount.true)
+returns c = rw (sym c.is_bad_amount.ensures ∙ c.if-is_bad_amount.true)
 
 -- what is not refused
-own : (c : tie.Else-is_bad_amount) → OwnAmount c.before.before.args.i c.before.before.args.x
-own c = let s = c.before.before in (good-iff s.args.i s.args.x).0 (sym c.before.is_bad_amount.ensures ∙ c.if-is_bad_amount.false)
+own : (c : tie.Else-is_bad_amount) → OwnAmount c.args.i c.args.x
+own c = let s = c.before.before in (good-iff s.args.i s.args.x).0 (sym c.is_bad_amount.ensures ∙ c.if-is_bad_amount.false)
 
 is-whole-requires : tie.Need-is_whole-requires
 is-whole-requires c κs = let s = c.before.before in good-amount s.args.i s.args.x s.requires (own c)
 
 returns-2 : tie.Need-returns-then-is_whole
 unfolding joined
-returns-2 c = let w = c.before in let b = w.before in rw (sym b.before.is_bad_amount.ensures ∙ b.if-is_bad_amount.false, sym w.is_whole.ensures ∙ c.if-is_whole.true)
+returns-2 c = let w = c.before in let b = w.before in rw (sym b.is_bad_amount.ensures ∙ b.if-is_bad_amount.false, sym w.is_whole.ensures ∙ c.if-is_whole.true)
 
 returns-3 : tie.Need-returns-then-d-eq1
 unfolding joined
@@ -31,7 +31,7 @@ returns-3 c =
     let a = c.before in
     let w = a.before in
     let b = w.before in
-    rw (sym b.before.is_bad_amount.ensures ∙ b.if-is_bad_amount.false, sym w.is_whole.ensures ∙ a.if-is_whole.false, eq-eqb b.before.before.args.d 1 c.if-d-eq1.true)
+    rw (sym b.is_bad_amount.ensures ∙ b.if-is_bad_amount.false, sym w.is_whole.ensures ∙ a.if-is_whole.false, eq-eqb b.args.d 1 c.if-d-eq1.true)
 
 returns-4 : tie.Need-returns-else-d-eq1
 unfolding joined
@@ -39,7 +39,7 @@ returns-4 c =
     let a = c.before in
     let w = a.before in
     let b = w.before in
-    rw (sym b.before.is_bad_amount.ensures ∙ b.if-is_bad_amount.false, sym w.is_whole.ensures ∙ a.if-is_whole.false, ne_eqb b.before.before.args.d 1 c.if-d-eq1.false)
+    rw (sym b.is_bad_amount.ensures ∙ b.if-is_bad_amount.false, sym w.is_whole.ensures ∙ a.if-is_whole.false, ne_eqb b.args.d 1 c.if-d-eq1.false)
 
 pub join_spec : {M : Type 1} → statement M
 join_spec = tie.close (tie.spec is-bad-amount-requires returns is-whole-requires returns-2 returns-3 returns-4)

@@ -36,7 +36,7 @@ first-breach-requires c κs = search rules
 
 returns : tie.Need-returns-then-k-gt0
 unfolding judged
-returns c = rw (sym c.before.first_breach-k.ensures) (item-told _ _ c.if-k-gt0.true)
+returns c = rw (sym c.first_breach-k.ensures) (item-told _ _ c.if-k-gt0.true)
 
 times-requires : tie.Need-times-b-requires
 times-requires c κs =
@@ -79,7 +79,7 @@ weight_is : (c : tie.After-total-w) →
 weight_is c = back c.total-w.result c.total-w.type_inv ∙ c.total-w.ensures
 
 -- the code's test of the weight is the definition's
-compared : (c : tie.After-total-w) {b : Bool} → lt_z (to_z w64 (of_z w64 c.before.times-b.result)) (to_z w64 (of_z w64 c.total-w.result)) ≡ b →
+compared : (c : tie.After-total-w) {b : Bool} → lt_z (to_z w64 (of_z w64 c.times-b.result)) (to_z w64 (of_z w64 c.total-w.result)) ≡ b →
     let s = start-of-times c.before in
     lt_z (limit s) (sums Weight s) ≡ b
 compared c e = sym (ap₂ lt_z (limit_is c.before) (weight_is c)) ∙ e
@@ -89,7 +89,7 @@ unfolding judged
 returns-2 c =
     let t = c.before in
     let e = t.before.before.before in
-    rw (sym e.before.first_breach-k.ensures, none_told _ _ e.if-k-gt0.false, compared t c.if-b-w.true)
+    rw (sym e.first_breach-k.ensures, none_told _ _ e.if-k-gt0.false, compared t c.if-b-w.true)
 
 total-requires-2 : tie.Need-total-v-requires
 total-requires-2 c κs = search rules
@@ -115,8 +115,8 @@ unfolding judged
 returns-3 c =
     let t = c.before.before.before in
     let e = t.before.before.before in
-    rw (sym e.before.first_breach-k.ensures, none_told _ _ e.if-k-gt0.false, compared t c.before.before.if-b-w.false)
-    (ap Feasible (c.reduce.ensures ∙ ap (λ v. lowest v e.before.before.args.d) (worth-is c.before)))
+    rw (sym e.first_breach-k.ensures, none_told _ _ e.if-k-gt0.false, compared t c.if-b-w.false)
+    (ap Feasible (c.reduce.ensures ∙ ap (λ v. lowest v e.args.d) (worth-is c.before)))
 
 pub judge_spec : {M : Type 1} → statement M
 judge_spec =

@@ -20,14 +20,14 @@ parts-requires : tie.Need-parts-n-requires
 parts-requires c κs = search rules
 
 product : (c : tie.After-parts-n) →
-    to_z w64 (of_z w64 c.before.figure_of-a.result) *ℤ to_z w64 (of_z w64 c.parts-n.result) ≡ term c.before.before.args.f
-    c.before.before.args.d c.before.before.args.i c.before.before.args.x
+    to_z w64 (of_z w64 c.figure_of-a.result) *ℤ to_z w64 (of_z w64 c.parts-n.result) ≡ term c.args.f
+    c.args.d c.args.i c.args.x
 product c =
     let f = c.before in
     ap₂ ◌*ℤ◌ (back f.figure_of-a.result f.figure_of-a.type_inv ∙ f.figure_of-a.ensures) (back c.parts-n.result c.parts-n.type_inv ∙ c.parts-n.ensures)
 
 fits : (c : tie.After-parts-n) →
-    SFits w64 (term c.before.before.args.f c.before.before.args.d c.before.before.args.i c.before.before.args.x)
+    SFits w64 (term c.args.f c.args.d c.args.i c.args.x)
 fits c =
     let s = c.before.before in
     within-sfits (lit< tt) (term-within s.args.f s.args.d s.args.i s.args.x s.requires.0 s.requires.1.0 s.requires.1.1)

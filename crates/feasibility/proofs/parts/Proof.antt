@@ -25,7 +25,7 @@ cast-floor-div : tie.Need-overflow_cast-q
 cast-floor-div c = search rules
 
 -- what is divided, and by what
-product : (c : tie.After-times-n) → to_z w64 (of_z w64 c.times-n.result) ≡ c.before.before.args.x.p *ℤ pos c.before.before.args.d
+product : (c : tie.After-times-n) → to_z w64 (of_z w64 c.times-n.result) ≡ c.args.x.p *ℤ pos c.args.d
 product c =
     let s = c.before.before in
     let h : SFits w64 s.args.x.p = search rules in

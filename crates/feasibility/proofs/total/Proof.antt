@@ -24,7 +24,7 @@ decreases-loop f d p c n sum₀ k₀ sum k = n - k
 loop-holds : tie.Need-loop-k-init invariant-loop decreases-loop
 loop-holds c = (omega arith, refl)
 
-few : (s : tie.Start invariant-loop decreases-loop) → s.args.t3.count ≤ 16
+few : (s : tie.Start invariant-loop decreases-loop) → s.args.p.count ≤ 16
 few s = s.requires.1.problem.few-items
 
 mul-i : tie.Need-offset_bounds-p-k invariant-loop decreases-loop
@@ -43,15 +43,15 @@ one-term-requires : tie.Need-one_term-sum-requires invariant-loop decreases-loop
 one-term-requires c κs =
     let t = c.before.before in
     let s = t.before.before in
-    (s.requires.0, (s.requires.1.problem.items-in t.before.loop-k.k t.loop-k-test.true, s.requires.1.amounts t.before.loop-k.k t.loop-k-test.true))
+    (s.requires.0, (s.requires.1.problem.items-in t.loop-k.k t.loop-k-test.true, s.requires.1.amounts t.loop-k.k t.loop-k-test.true))
 
 -- the sum over the first k items
 abbrev S : tie.Start invariant-loop decreases-loop → ℕ → ℤ
-S s k = total_of s.args.f s.args.d k s.args.t3 s.args.t4
+S s k = total_of s.args.f s.args.d k s.args.p s.args.c
 
-fits : (s : tie.Start invariant-loop decreases-loop) (k : ℕ) → k ≤ s.args.t3.count → SFits w64 (S s k)
+fits : (s : tie.Start invariant-loop decreases-loop) (k : ℕ) → k ≤ s.args.p.count → SFits w64 (S s k)
 fits s k l =
-    let h = total-within s.args.f s.args.d k s.args.t3 s.args.t4 s.requires.0 s.requires.1 l in
+    let h = total-within s.args.f s.args.d k s.args.p s.args.c s.requires.0 s.requires.1 l in
     within-sfits {n = 160000000000000000} (lit< tt) (within_more (omega (arith, few s)) h)
 
 -- the moments that are spoken of below
@@ -87,8 +87,8 @@ loop-again c = (omega arith, ap (of_z w64) (next c))
 returns : tie.Need-returns invariant-loop decreases-loop
 returns c =
     let s = c.before.before in
-    let e : c.before.loop-k.k ≡ s.args.t3.count = omega arith in
-    ap (to_z w64) c.before.loop-k.invariant.1 ∙ to_z-of_z (fits s c.before.loop-k.k c.before.loop-k.invariant.0) ∙ rw e
+    let e : c.loop-k.k ≡ s.args.p.count = omega arith in
+    ap (to_z w64) c.loop-k.invariant.1 ∙ to_z-of_z (fits s c.loop-k.k c.loop-k.invariant.0) ∙ rw e
 
 pub total_spec : {M : Type 1} → statement M
 total_spec =

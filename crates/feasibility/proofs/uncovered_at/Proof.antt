@@ -7,8 +7,8 @@ use Rattle.feasibility.proofs.uncovered_at.Statement.{statement}
 use Rattle.feasibility.proofs.uncovered_at.Tie as tie
 
 numbers : (s : tie.Start) →
-    let n = need_at s.args.t1 s.args.j in
-    Numbers s.args.t3.count n.item n.cover
+    let n = need_at s.args.needs s.args.j in
+    Numbers s.args.c.count n.item n.cover
 numbers s = s.requires.1.lined.numbers s.args.j s.requires.0
 
 mul-need : tie.Need-offset_bounds-needs-j
@@ -21,10 +21,10 @@ sub-x : tie.Need-overflow_sub-x
 sub-x c = let n = numbers c.before in n.first-least
 
 mul-x : tie.Need-offset_bounds-c-k
-mul-x c = let n = numbers c.before in omega (arith, n.first-most, c.before.requires.1.few-amounts)
+mul-x c = let n = numbers c.before in omega (arith, n.first-most, c.requires.1.few-amounts)
 
 element-copy-out-x : tie.Need-bounds-c-k
-element-copy-out-x c = let n = numbers c.before in omega (arith, n.first-least, n.first-most, c.before.requires.1.few-amounts)
+element-copy-out-x c = let n = numbers c.before in omega (arith, n.first-least, n.first-most, c.requires.1.few-amounts)
 
 sub-y : tie.Need-overflow_sub-y
 sub-y c = let n = numbers c.before.before in n.second-least
@@ -43,10 +43,10 @@ does-lack-requires c κs =
     (a _ (omega (arith, n.first-least, n.first-most)), a _ (omega (arith, n.second-least, n.second-most)))
 
 returns : tie.Need-returns-then-does_lack
-returns c = rw (sym c.before.does_lack.ensures ∙ c.if-does_lack.true)
+returns c = rw (sym c.does_lack.ensures ∙ c.if-does_lack.true)
 
 returns-2 : tie.Need-returns-else-does_lack
-returns-2 c = rw (sym c.before.does_lack.ensures ∙ c.if-does_lack.false)
+returns-2 c = rw (sym c.does_lack.ensures ∙ c.if-does_lack.false)
 
 pub uncovered_at_spec : {M : Type 1} → statement M
 uncovered_at_spec =

@@ -7,7 +7,7 @@ use Rattle.fillings.proofs.affordable.Tie as tie
 
 mul-if3 : tie.Need-overflow_mul-cost
 mul-if3 c =
-    let s = c.before.before.args in
+    let s = c.args in
     let most = mul-le-mul {n₁ = s.cost} {m₁ = s.units} {n₂ = 4294967295} {m₂ = 4294967295} (omega arith) (omega arith) in
     omega arith
 

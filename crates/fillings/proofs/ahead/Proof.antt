@@ -20,7 +20,7 @@ shortened-requires c κs =
 
 returns : tie.Need-returns
 returns c =
-    let n = c.before.nearer-n in
+    let n = c.nearer-n in
     let s = c.before.before in
     let a = s.args in
     let x = s.requires in

@@ -12,7 +12,7 @@ abbrev start : tie.After-excess → tie.Start
 start c = c.before.before.before.before.before.before
 
 low-load-requires : tie.Need-low_load-total-requires
-low-load-requires c κs = (c.before.before.before.requires, λ j l. omega (arith, num-zeros 17 j))
+low-load-requires c κs = (c.requires, λ j l. omega (arith, num-zeros 17 j))
 
 lesser-requires : tie.Need-lesser-requires
 lesser-requires c κs = search rules
@@ -25,11 +25,11 @@ excess-requires c κs = search rules
 
 returns : tie.Need-returns
 returns c =
-    let low = c.before.before.low_load-total in
+    let low = c.low_load-total in
     let s = start c in
     let a = s.args in (
       record {
-        up = rw c.before.lesser.ensures
+        up = rw c.lesser.ensures
             (caps-taken a.p _ a.capacity low.result s.requires refl refl low.ensures.0 refl (num-zeros 17));
         down = rw c.excess.ensures (caps-left a.p _ a.capacity low.result s.requires refl refl low.ensures.0 (num-zeros 17) refl);
       },

@@ -29,13 +29,13 @@ array-read-w : tie.Need-bounds-wide-k invariant-loop decreases-loop
 array-read-w c = omega arith
 
 add-b : tie.Need-overflow_add-b invariant-loop decreases-loop
-add-b c = let l = c.before.loop-k in record { fits = left-fits l.invariant.0.1.1.0 (omega arith) (omega arith) }
+add-b c = let l = c.loop-k in record { fits = left-fits l.invariant.0.1.1.0 (omega arith) (omega arith) }
 
 div-b : tie.Need-nonzero_div-b invariant-loop decreases-loop
 div-b c = omega arith
 
 div-list : tie.Need-nonzero_div-list invariant-loop decreases-loop
-div-list c = let l = c.before.loop-k in omega (arith, left-some (left-next l.invariant.0.1.1.0 (omega arith)))
+div-list c = let l = c.loop-k in omega (arith, left-some (left-next l.invariant.0.1.1.0 (omega arith)))
 
 mul-list : tie.Need-offset_bounds-list-k invariant-loop decreases-loop
 mul-list c = omega arith
@@ -44,7 +44,7 @@ array-write-list : tie.Need-bounds-list-k invariant-loop decreases-loop
 array-write-list c = omega arith
 
 rem-rest : tie.Need-nonzero_rem-rest invariant-loop decreases-loop
-rem-rest c = let l = c.before.loop-k in omega (arith, left-some (left-next l.invariant.0.1.1.0 (omega arith)))
+rem-rest c = let l = c.loop-k in omega (arith, left-some (left-next l.invariant.0.1.1.0 (omega arith)))
 
 add-k : tie.Need-overflow_add-k invariant-loop decreases-loop
 add-k c = omega arith
@@ -54,16 +54,16 @@ loop-less c = omega arith
 
 loop-again : tie.Need-loop-k-preserved invariant-loop decreases-loop
 loop-again c =
-    let l = c.before.loop-k in
+    let l = c.loop-k in
     let n = left-next l.invariant.0.1.1.0 (omega arith) in
     let r = l.invariant.0.1.1.1 in
     ((omega arith, (omega arith, (n, read_next r (omega arith) n))), begun-step _ l.k _ (omega arith) (read_here r (omega arith) n) l.invariant.1)
 
 returns : tie.Need-returns invariant-loop decreases-loop
 returns c =
-    let s = c.before.before.args in
-    let l = c.before.loop-k in
-    begun-done (λ j h. digits-after (num s.t1) s.from (s.to - s.from) s.key j (omega arith)) l.invariant.1
+    let s = c.args in
+    let l = c.loop-k in
+    begun-done (λ j h. digits-after (num s.wide) s.from (s.to - s.from) s.key j (omega arith)) l.invariant.1
 
 pub digits_of_spec : {M : Type 1} → statement M
 digits_of_spec =

@@ -38,13 +38,13 @@ add-result-2 : tie.Need-overflow_add-result-else-f
 add-result-2 c = search rules
 
 returns : tie.Need-returns-then-f
-returns c = rw (sym c.before.before.is_in_group.ensures ∙ c.before.if-is_in_group.true, c.if-f.true)
+returns c = rw (sym c.is_in_group.ensures ∙ c.if-is_in_group.true, c.if-f.true)
 
 returns-2 : tie.Need-returns-else-f
-returns-2 c = rw (sym c.before.before.is_in_group.ensures ∙ c.before.if-is_in_group.true, c.if-f.false)
+returns-2 c = rw (sym c.is_in_group.ensures ∙ c.if-is_in_group.true, c.if-f.false)
 
 returns-3 : tie.Need-returns-else-is_in_group
-returns-3 c = rw (sym c.before.is_in_group.ensures ∙ c.if-is_in_group.false)
+returns-3 c = rw (sym c.is_in_group.ensures ∙ c.if-is_in_group.false)
 
 pub fixed_low_at_spec : {M : Type 1} → statement M
 fixed_low_at_spec =

@@ -17,7 +17,7 @@ loop-holds : tie.Need-loop-k-init invariant-loop decreases-loop
 loop-holds c = (omega arith, made-first _)
 
 fixed-low-at-requires : tie.Need-fixed_low_at-requires invariant-loop decreases-loop
-fixed-low-at-requires c κs = let s = c.before.before in (omega arith, s.requires c.before.loop-k.k (omega arith))
+fixed-low-at-requires c κs = let s = c.before.before in (omega arith, s.requires c.loop-k.k (omega arith))
 
 mul-list : tie.Need-offset_bounds-list-k invariant-loop decreases-loop
 mul-list c = omega arith
@@ -34,12 +34,12 @@ loop-less c = omega arith
 loop-again : tie.Need-loop-k-preserved invariant-loop decreases-loop
 loop-again c = (
   omega arith,
-  made-step _ c.before.before.loop-k.k c.fixed_low_at.result (omega arith) c.fixed_low_at.ensures
-      c.before.before.loop-k.invariant.1,
+  made-step _ c.loop-k.k c.fixed_low_at.result (omega arith) c.fixed_low_at.ensures
+      c.loop-k.invariant.1,
 )
 
 returns : tie.Need-returns invariant-loop decreases-loop
-returns c = made-done (omega arith) c.before.loop-k.invariant.1
+returns c = made-done (omega arith) c.loop-k.invariant.1
 
 pub fixed_lows_spec : {M : Type 1} → statement M
 fixed_lows_spec =

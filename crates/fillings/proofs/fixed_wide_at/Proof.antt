@@ -14,10 +14,10 @@ is-in-group-requires : tie.Need-is_in_group-requires
 is-in-group-requires c κs = search rules
 
 returns : tie.Need-returns-then-is_in_group
-returns c = rw (sym c.before.is_in_group.ensures ∙ c.if-is_in_group.true)
+returns c = rw (sym c.is_in_group.ensures ∙ c.if-is_in_group.true)
 
 returns-2 : tie.Need-returns-else-is_in_group
-returns-2 c = rw (sym c.before.is_in_group.ensures ∙ c.if-is_in_group.false)
+returns-2 c = rw (sym c.is_in_group.ensures ∙ c.if-is_in_group.false)
 
 pub fixed_wide_at_spec : {M : Type 1} → statement M
 fixed_wide_at_spec =

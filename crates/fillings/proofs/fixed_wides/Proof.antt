@@ -34,12 +34,12 @@ loop-less c = omega arith
 loop-again : tie.Need-loop-k-preserved invariant-loop decreases-loop
 loop-again c = (
   omega arith,
-  made-step _ c.before.before.loop-k.k c.fixed_wide_at.result (omega arith) c.fixed_wide_at.ensures
-      c.before.before.loop-k.invariant.1,
+  made-step _ c.loop-k.k c.fixed_wide_at.result (omega arith) c.fixed_wide_at.ensures
+      c.loop-k.invariant.1,
 )
 
 returns : tie.Need-returns invariant-loop decreases-loop
-returns c = made-done (omega arith) c.before.loop-k.invariant.1
+returns c = made-done (omega arith) c.loop-k.invariant.1
 
 pub fixed_wides_spec : {M : Type 1} → statement M
 fixed_wides_spec =

@@ -22,19 +22,19 @@ array-read-w : tie.Need-bounds-wide-to invariant-loop decreases-loop
 array-read-w c = omega arith
 
 mul-if1 : tie.Need-overflow_mul-left invariant-loop decreases-loop
-mul-if1 c = let g = c.before.loop-to.invariant.small in record { fits = omega (arith, g) }
+mul-if1 c = let g = c.loop-to.invariant.small in record { fits = omega (arith, g) }
 
 div-if1 : tie.Need-nonzero_div-left invariant-loop decreases-loop
-div-if1 c = let l = c.before.loop-to in omega (arith, gathered-some l.invariant c.before.before.requires.0)
+div-if1 c = let l = c.loop-to in omega (arith, gathered-some l.invariant c.requires.0)
 
 returns : tie.Need-returns-then-left-base invariant-loop decreases-loop
-returns c = let l = c.before.before.loop-to in gathered-full l.invariant c.before.before.before.requires.0 _ refl c.if-left-base.true
+returns c = let l = c.loop-to in gathered-full l.invariant c.requires.0 _ refl c.if-left-base.true
 
 add-base : tie.Need-overflow_add-base invariant-loop decreases-loop
-add-base c = let l = c.before.before.loop-to in record { fits = gathered-one l.invariant c.before.before.before.requires.0 _ refl c.if-left-base.false }
+add-base c = let l = c.loop-to in record { fits = gathered-one l.invariant c.requires.0 _ refl c.if-left-base.false }
 
 mul-base : tie.Need-overflow_mul-base invariant-loop decreases-loop
-mul-base c = let l = c.before.before.loop-to in record { fits = gathered-fits l.invariant c.before.before.before.requires.0 _ refl c.if-left-base.false }
+mul-base c = let l = c.loop-to in record { fits = gathered-fits l.invariant c.requires.0 _ refl c.if-left-base.false }
 
 add-to : tie.Need-overflow_add-to invariant-loop decreases-loop
 add-to c = omega arith
@@ -43,10 +43,10 @@ loop-less : tie.Need-loop-to-smaller invariant-loop decreases-loop
 loop-less c = omega arith
 
 loop-again : tie.Need-loop-to-preserved invariant-loop decreases-loop
-loop-again c = let l = c.before.before.loop-to in gathered-step l.invariant c.before.before.before.requires.0 _ refl c.if-left-base.false (omega arith)
+loop-again c = let l = c.loop-to in gathered-step l.invariant c.requires.0 _ refl c.if-left-base.false (omega arith)
 
 returns-2 : tie.Need-returns invariant-loop decreases-loop
-returns-2 c = let l = c.before.loop-to in gathered-done l.invariant c.before.before.requires.0 (omega arith)
+returns-2 c = let l = c.loop-to in gathered-done l.invariant c.requires.0 (omega arith)
 
 pub group_of_spec : {M : Type 1} → statement M
 group_of_spec =

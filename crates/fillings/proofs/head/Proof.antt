@@ -24,8 +24,8 @@ loop-holds c =
 
 ahead-requires : tie.Need-ahead-r-requires invariant-loop decreases-loop
 ahead-requires c κs =
-    let x = c.before.before.before.requires in
-    let l = c.before.loop-k in
+    let x = c.requires in
+    let l = c.loop-k in
     ((x.0, (x.1.0, (x.1.1.0, omega (arith, x.1.1.1, c.loop-k-test.true)))), l.invariant.1)
 
 add-k : tie.Need-overflow_add-k invariant-loop decreases-loop
@@ -39,7 +39,7 @@ loop-again c = (omega arith, c.ahead-r.ensures)
 
 returns : tie.Need-returns invariant-loop decreases-loop
 returns c =
-    let l = c.before.loop-k in
+    let l = c.loop-k in
     let s = c.before.before.before in
     let e : l.k ≡ s.args.to = omega (arith, l.invariant.0, c.loop-k-test.false) in
     subst (λ t. Heads s.args.p s.args.w.capacity (s.args.cap - 1) l.r t t) e l.invariant.1

@@ -7,11 +7,11 @@ use Prim.Native.Nat.{ℕ, ◌+◌, ◌*◌, ◌≤◌, ◌<◌, min}
 use Rattle.fillings.proofs.keyed.Statement.{statement}
 use Rattle.fillings.proofs.keyed.Tie as tie
 
-small : (c : tie.After-lesser-c) → c.lesser-c.result * c.before.args.base < 9223372036854775808
+small : (c : tie.After-lesser-c) → c.lesser-c.result * c.args.base < 9223372036854775808
 small c = omega (
   arith,
-  mul-le-mul_right c.before.args.base
-      (below c.before.args.left c.before.args.cost c.lesser-c.result c.lesser-c.ensures),
+  mul-le-mul_right c.args.base
+      (below c.args.left c.args.cost c.lesser-c.result c.lesser-c.ensures),
 )
   where
     below : (a b n : ℕ) → n ≡ min a b → n ≤ a
@@ -31,8 +31,8 @@ lesser-requires-2 c κs = search rules
 
 returns : tie.Need-returns
 returns c =
-    let s = c.before.before.args in
-    c.lesser.ensures ∙ ap (λ (n : ℕ). min s.cap (n * s.base + s.a)) c.before.lesser-c.ensures
+    let s = c.args in
+    c.lesser.ensures ∙ ap (λ (n : ℕ). min s.cap (n * s.base + s.a)) c.lesser-c.ensures
 
 pub keyed_spec : {M : Type 1} → statement M
 keyed_spec = tie.close (tie.spec lesser-requires mul-lesser add-lesser lesser-requires-2 returns)

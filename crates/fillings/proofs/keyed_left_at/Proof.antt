@@ -32,7 +32,7 @@ left-key-requires : tie.Need-left_key-requires
 left-key-requires c κs = search rules
 
 keyed-requires : tie.Need-keyed-requires
-keyed-requires c κs = let s = c.before.before.before in (s.requires.0, small (flag s.args.t1.falls s.args.k) _ _ c.left_key.ensures s.requires.1.1)
+keyed-requires c κs = let s = c.before.before.before in (s.requires.0, small (flag s.args.p.falls s.args.k) _ _ c.left_key.ensures s.requires.1.1)
 
 returns : tie.Need-returns
 returns c = search rules

@@ -17,7 +17,7 @@ loop-holds : tie.Need-loop-k-init invariant-loop decreases-loop
 loop-holds c = (omega arith, made-first _)
 
 keyed-left-at-requires : tie.Need-keyed_left_at-requires invariant-loop decreases-loop
-keyed-left-at-requires c κs = let s = c.before.before in (s.requires.0, (omega arith, s.requires.1 c.before.loop-k.k (omega arith)))
+keyed-left-at-requires c κs = let s = c.before.before in (s.requires.0, (omega arith, s.requires.1 c.loop-k.k (omega arith)))
 
 mul-to : tie.Need-offset_bounds-to-k invariant-loop decreases-loop
 mul-to c = omega arith
@@ -34,12 +34,12 @@ loop-less c = omega arith
 loop-again : tie.Need-loop-k-preserved invariant-loop decreases-loop
 loop-again c = (
   omega arith,
-  made-step _ c.before.before.loop-k.k c.keyed_left_at.result (omega arith) c.keyed_left_at.ensures
-      c.before.before.loop-k.invariant.1,
+  made-step _ c.loop-k.k c.keyed_left_at.result (omega arith) c.keyed_left_at.ensures
+      c.loop-k.invariant.1,
 )
 
 returns : tie.Need-returns invariant-loop decreases-loop
-returns c = made-done (omega arith) c.before.loop-k.invariant.1
+returns c = made-done (omega arith) c.loop-k.invariant.1
 
 pub keyed_lefts_spec : {M : Type 1} → statement M
 keyed_lefts_spec =

@@ -18,15 +18,15 @@ abbrev start : tie.After-least_keyed-c → tie.Start
 start l = start_of l.before.before
 
 -- the group ends before the part that is free
-later : (g : tie.After-group_of-g) → (start_of g).args.from + 1 ≤ g.before.before.free_after-free.result
-later g = let b = (start_of g).requires.0 in free-later b.start g.before.before.free_after-free.ensures
+later : (g : tie.After-group_of-g) → (start_of g).args.from + 1 ≤ g.free_after-free.result
+later g = let b = (start_of g).requires.0 in free-later b.start g.free_after-free.ensures
 
 grouped : (g : tie.After-group_of-g) → let a = (start_of g).args in Grouped a.r.wide a.from 16 a.left g.group_of-g.result
-grouped g = ends-sooner (start_of g).requires.0.start (later g) g.before.sooner.ensures g.group_of-g.ensures
+grouped g = ends-sooner (start_of g).requires.0.start (later g) g.sooner.ensures g.group_of-g.ensures
 
 free-after-requires : tie.Need-free_after-free-requires
 free-after-requires c κs =
-    let b = c.before.before.requires.0 in
+    let b = c.requires.0 in
     (b.fair, (b.among, (b.wide-long, b.start)))
 
 sooner-requires : tie.Need-sooner-requires
@@ -34,18 +34,18 @@ sooner-requires c κs = search rules
 
 group-of-requires : tie.Need-group_of-g-requires
 group-of-requires c κs =
-    let b = c.before.before.before.before.requires.0 in
+    let b = c.requires.0 in
     (b.left≥1, (omega (arith, b.left_is, b.cap-in), omega (arith, c.sooner.ensures)))
 
 least-keyed-requires : tie.Need-least_keyed-c-requires
 least-keyed-requires c κs =
     let g = c.before in
-    let f = g.before.before.free_after-free in
+    let f = g.free_after-free in
     let s = start_of g in
     let b = s.requires.0 in (
       (b.fair, (b.among, (b.wide-long, gathers b.left≥1 b.start (grouped g)))),
       (
-        (f.ensures, omega (arith, g.group_of-g.ensures.end (omega (arith, later g, b.start, g.before.sooner.ensures)), g.before.sooner.ensures)),
+        (f.ensures, omega (arith, g.group_of-g.ensures.end (omega (arith, later g, b.start, g.sooner.ensures)), g.sooner.ensures)),
         s.requires.1,
       ),
     )
@@ -63,7 +63,7 @@ same_length c = search rules
 written : (l : tie.After-least_keyed-c) → let a = (start l).args in ScalesWrite a.p a.r a.room a.from l.least_keyed-c.result.written
 written l =
     let k = l.least_keyed-c.ensures in
-    let f = l.before.before.before.before.free_after-free in
+    let f = l.free_after-free in
     record { free = f.result; chosen = f.ensures; top = _; ts = k.ts; ls = k.ls; takes = k.takes }
 
 returns : tie.Need-returns-then-least-left
@@ -73,7 +73,7 @@ returns c =
     let g = l.before.before in
     let s = start l in (
       subst (λ n. Runs s.args.p s.args.r s.args.capacity s.args.cap s.args.from n) (sym c.nothing.ensures)
-          (keyed-none s.requires.0 (grouped g) l.least_keyed-c.ensures c.before.if-least-left.true),
+          (keyed-none s.requires.0 (grouped g) l.least_keyed-c.ensures c.if-least-left.true),
       rw c.nothing.ensures (written l),
     )
 
@@ -118,7 +118,7 @@ returns-2 c =
     let h = c.before.before.before in
     let l = h.before in
     let g = l.before.before in
-    (keyed-made (start l).requires.0 (grouped g) l.least_keyed-c.ensures c.before.if-least-left.false c.decoded-ranges.ensures, written l)
+    (keyed-made (start l).requires.0 (grouped g) l.least_keyed-c.ensures c.if-least-left.false c.decoded-ranges.ensures, written l)
 
 pub keyed_run_spec : {M : Type 1} → statement M
 keyed_run_spec =

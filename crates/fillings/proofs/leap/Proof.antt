@@ -19,7 +19,7 @@ abbrev start : tie.After-opening-h → tie.Start
 start h = h.before.before
 
 opening-requires : tie.Need-opening-h-requires
-opening-requires c κs = let x = c.before.requires.0 in (x.0, (x.1.0, (x.1.1.0, x.1.1.1.1)))
+opening-requires c κs = let x = c.requires.0 in (x.0, (x.1.0, (x.1.1.0, x.1.1.1.1)))
 
 remaining-requires : tie.Need-remaining-spare-requires
 remaining-requires c κs =
@@ -39,7 +39,7 @@ returns c =
     let x = s.requires.0 in
     let none = heads-shut a.p a.w.down a.w.capacity (a.cap - 1) a.w.spare r a.to (a.to + 1) x.0.long x.1.0.down
     h.opening-h.ensures.heads
-    (omega (arith, c.before.before.remaining-spare.ensures, c.before.if-spare-eq0.true)) in
+    (omega (arith, c.remaining-spare.ensures, c.if-spare-eq0.true)) in
     rw c.nothing.ensures (record {
       head = r;
       opens = h.opening-h.ensures;

@@ -43,13 +43,13 @@ leaps-of : (n : tie.After-leap-n invariant-loop decreases-loop) → let w = turn
     Leaps a.p a.capacity a.cap (leap_to w.loop-i.i) (leap_share w.loop-i.i) n.leap-n.result
 leaps-of n =
     let s = shared n in
-    leaps-as (turn n).before.by_weight-w.ensures.1 s.before.leap_to.ensures s.leap_share.ensures n.leap-n.ensures
+    leaps-as (turn n).by_weight-w.ensures.1 s.leap_to.ensures s.leap_share.ensures n.leap-n.ensures
 
 tried : (n : tie.After-leap-n invariant-loop decreases-loop) → let w = turn n in let a = (start w).args in
     TriedWrite a.p a.capacity a.cap (w.loop-i.i - 1) (w.loop-i.written + n.leap-n.result.written)
 tried n =
     let l = (turn n).loop-i in
-    another l.i l.written n.leap-n.result.written (in-turn (shared n)).loop-i-test.true l.inv.1.1 (leaps-of n).writes
+    another l.i l.written n.leap-n.result.written (in-turn (shared n)).loop-i-test.true l.invariant.1.1 (leaps-of n).writes
 
 by-weight-requires : tie.Need-by_weight-w-requires invariant-loop decreases-loop
 by-weight-requires c κs = search rules
@@ -58,7 +58,7 @@ loop-holds : tie.Need-loop-i-init invariant-loop decreases-loop
 loop-holds c = ((refl, omega arith), (omega arith, untried))
 
 leap-to-requires : tie.Need-leap_to-requires invariant-loop decreases-loop
-leap-to-requires c κs = (omega arith, c.before.loop-i.invariant.0.1)
+leap-to-requires c κs = (omega arith, c.loop-i.invariant.0.1)
 
 leap-share-requires : tie.Need-leap_share-requires invariant-loop decreases-loop
 leap-share-requires c κs = search rules
@@ -69,9 +69,9 @@ leap-requires c κs =
     let w = (in-turn e).before in
     let x = (start w).requires in
     let i = w.loop-i.i in
-    let t : e.before.leap_to.result < 16 = omega (arith, leap-in i w.loop-i.invariant.0.1, e.before.leap_to.ensures) in
+    let t : e.leap_to.result < 16 = omega (arith, leap-in i w.loop-i.invariant.0.1, e.leap_to.ensures) in
     let s : 1 ≤ e.leap_share.result = omega (arith, share-some i, e.leap_share.ensures) in
-    ((x.0.0, (w.before.by_weight-w.ensures.0, (x.0.1.0, (x.0.1.1.0, (t, s))))), omega (arith, w.loop-i.invariant.0.0, x.1))
+    ((x.0.0, (w.by_weight-w.ensures.0, (x.0.1.0, (x.0.1.1.0, (t, s))))), omega (arith, w.loop-i.invariant.0.0, x.1))
 
 add-written : tie.Need-overflow_add-written invariant-loop decreases-loop
 add-written c =
@@ -90,7 +90,7 @@ returns c =
     let x = s.requires.0 in
     let e = leaps-of n in
     let t = leap_to w.loop-i.i in
-    let found : n.leap-n.result.cost ≡ a.cap → ⊥ = λ k. omega (arith, c.before.if-n-cap.true) in
+    let found : n.leap-n.result.cost ≡ a.cap → ⊥ = λ k. omega (arith, c.if-n-cap.true) in
     let more = sought-more a.p a.capacity a.cap x.0.long x.1.0 x.1.1.1.1 e.head t (t + 1) e.opens.heads n.leap-n.result
     e.runs found (leap-in w.loop-i.i w.loop-i.invariant.0.1) x.1.1.1.0 in
     record {
@@ -111,7 +111,7 @@ loop-again : tie.Need-loop-i-preserved invariant-loop decreases-loop
 loop-again c =
     let n = miss c in
     let l = (turn n).loop-i in
-    ((search rules, omega (arith, l.inv.0.1)), (omega (arith, l.inv.1.0, (leaps-of n).runs.few, (in-turn (shared n)).loop-i-test.true), tried n))
+    ((search rules, omega (arith, l.invariant.0.1)), (omega (arith, l.invariant.1.0, (leaps-of n).runs.few, (in-turn (shared n)).loop-i-test.true), tried n))
 
 whole-of-requires : tie.Need-whole_of-r-requires invariant-loop decreases-loop
 whole-of-requires c κs = search rules
@@ -120,7 +120,7 @@ nothing-requires : tie.Need-nothing-requires invariant-loop decreases-loop
 nothing-requires c κs = search rules
 
 same-length-2 : tie.Need-shape_of-cells invariant-loop decreases-loop
-same-length-2 c = c.before.before.before.loop-i.invariant.0.0
+same-length-2 c = c.loop-i.invariant.0.0
 
 returns-2 : tie.Need-returns invariant-loop decreases-loop
 returns-2 c =
@@ -128,7 +128,7 @@ returns-2 c =
     let s = start w in
     let a = s.args in
     let x = s.requires.0 in
-    let o = c.before.whole_of-r in
+    let o = c.whole_of-r in
     let l = w.loop-i in
     rw c.nothing.ensures (record {
       sought = sought-first a.p a.capacity a.cap x.0.long x.1.0 x.1.1.1.1 o.result o.ensures;

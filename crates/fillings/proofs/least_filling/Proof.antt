@@ -28,7 +28,7 @@ whole-of-requires c κs = search rules
 run-over-requires : tie.Need-run_over-n-requires
 run-over-requires c κs =
     let s = c.before.before.before in
-    let w = c.before.whole_of-r in
+    let w = c.whole_of-r in
     ((s.requires.0.0, (whole-among s.args.p w.result w.ensures, (omega arith, s.requires.0.1.0))), s.requires.1)
 
 same_length : tie.Need-shape_of-cells-then-least-cap
@@ -38,7 +38,7 @@ returns : tie.Need-returns-then-least-cap
 returns c =
     let n = c.before.before.before in
     let s = start n in
-    let w = n.before.before.whole_of-r in
+    let w = n.whole_of-r in
     let e = n.run_over-n.ensures in
     record {
       few = omega (arith, e.0.few);
@@ -56,9 +56,9 @@ onward-requires c κs =
     let n = c.before.before.before.before in
     let s = start n in
     let a = s.args in
-    let w = n.before.before.whole_of-r in
+    let w = n.whole_of-r in
     let e = n.run_over-n.ensures in
-    let below = found n c.before.if-least-cap.false in
+    let below = found n c.if-least-cap.false in
     let long = s.requires.0.0.long in (
       (
         s.requires.0.0,
@@ -89,7 +89,7 @@ returns-2 c =
     let n = t.before.before.before in
     let s = start n in
     let a = s.args in
-    let w = n.before.before.whole_of-r in
+    let w = n.whole_of-r in
     let e = n.run_over-n.ensures in
     let below = found n t.if-least-cap.false in
     let long = s.requires.0.0.long in

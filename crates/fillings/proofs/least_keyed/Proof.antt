@@ -34,8 +34,8 @@ keyed-lefts-requires c κs =
     let s = start c.before in
     let g = s.requires.0.1.1.1 in (
       g.small,
-      radices-small s.args.r.wide c.before.radices-rad.result s.args.from s.args.left s.args.g g
-          c.before.radices-rad.ensures,
+      radices-small s.args.r.wide c.radices-rad.result s.args.from s.args.left s.args.g g
+          c.radices-rad.ensures,
     )
 
 -- what is free costs nothing with keys either

@@ -27,7 +27,7 @@ less-units-requires-2 c κs = search rules
 returns : tie.Need-returns
 returns c =
     let f = c.before in
-    let s = f.before.args in
+    let s = f.args in
     join s.cap s.t s.low s.l s.range s.wide f.less_units.result c.less_units-2.result
     f.less_units.ensures c.less_units-2.ensures
 

@@ -15,10 +15,10 @@ beyond : (cap cost units n : ℕ) → 1 ≤ cost → n ≡ min units (cap / cost
 beyond cap cost units n h e k = let more : cap / cost < units = omega arith in omega (arith, lt-div-mul-add {a = cap} {b = cost} h, mul-le-mul_left cost more)
 
 -- where not all units are left out
-kept : (c : tie.Else-affordable-units) → let a = c.before.before.before.args in a.cost * a.units ≤ a.cap
+kept : (c : tie.Else-affordable-units) → let a = c.args in a.cost * a.units ≤ a.cap
 kept c =
     let f = c.before in
-    let a = f.before.before.args in
+    let a = f.args in
     within a.cap a.cost a.units f.affordable.result (omega arith) f.affordable.ensures (omega arith)
 
 returns : tie.Need-returns-then-cost-eq0
@@ -36,7 +36,7 @@ sub-result c = kept c
 returns-2 : tie.Need-returns-then-affordable-units
 returns-2 c =
     let f = c.before in
-    let a = f.before.before.args in
+    let a = f.args in
     beyond a.cap a.cost a.units f.affordable.result (omega arith) f.affordable.ensures (omega arith)
 
 returns-3 : tie.Need-returns-else-affordable-units

@@ -18,16 +18,16 @@ abbrev decreases-loop : tie.decreases-loop-k
 decreases-loop p r sum₀ k₀ sum k = 17 - k
 
 -- what a part weighs
-term : (c : tie.After-a-1 invariant-loop decreases-loop) → let l = c.before.before.before in let s = l.before.args in
-    num s.t1.weight l.loop-k.k * num s.t2.low l.loop-k.k ≤ 150000000000000000
+term : (c : tie.After-a-1 invariant-loop decreases-loop) → let l = c.before.before.before in let s = l.args in
+    num s.p.weight l.loop-k.k * num s.r.low l.loop-k.k ≤ 150000000000000000
 term c =
     let h = c.before.before.before in
     let s = h.before in
     let k = h.loop-k.k in
     let f = s.requires.0 in
-    let w = sum-part (length s.args.t1.weight) (num s.args.t1.weight) k (omega (arith, f.long)) in
-    let a : num s.args.t2.low k ≤ 8796093022208 = omega (arith, s.requires.1 k (omega arith), f.ranges_in k (omega arith)) in
-    let b : num s.args.t1.weight k ≤ 16384 = omega (arith, f.light) in
+    let w = sum-part (length s.args.p.weight) (num s.args.p.weight) k (omega (arith, f.long)) in
+    let a : num s.args.r.low k ≤ 8796093022208 = omega (arith, s.requires.1 k (omega arith), f.ranges_in k (omega arith)) in
+    let b : num s.args.p.weight k ≤ 16384 = omega (arith, f.light) in
     omega (arith, mul-le-mul b a)
 
 loop-holds : tie.Need-loop-k-init invariant-loop decreases-loop
@@ -63,14 +63,14 @@ loop-again c =
     let start = h.before in
     let s = start.args in
     let k = h.loop-k.k in
-    let e : filling.sum (k + 1) (λ j. num s.t1.weight j * num s.t2.low j) ≡ filling.sum k (λ j. num s.t1.weight j * num s.t2.low j) + num
-    s.t1.weight k * num s.t2.low k = rw add-one in
+    let e : filling.sum (k + 1) (λ j. num s.p.weight j * num s.r.low j) ≡ filling.sum k (λ j. num s.p.weight j * num s.r.low j) + num
+    s.p.weight k * num s.r.low k = rw add-one in
     ((omega arith, omega (arith, term c)), omega (arith, e))
 
 returns : tie.Need-returns invariant-loop decreases-loop
 returns c =
-    let l = c.before.loop-k in
-    let e : l.k ≡ length c.before.before.args.t1.weight = omega (arith, c.before.before.requires.0.long) in
+    let l = c.loop-k in
+    let e : l.k ≡ length c.args.p.weight = omega (arith, c.requires.0.long) in
     (rw e at l.invariant.1, omega (arith, l.invariant.0.1))
 
 pub low_load_spec : {M : Type 1} → statement M

@@ -46,7 +46,7 @@ element-copy-out-w : tie.Need-bounds-r-k-in-loop-k invariant-loop decreases-loop
 element-copy-out-w c = omega arith
 
 near-wide-requires : tie.Need-near_wide-n-requires invariant-loop decreases-loop
-near-wide-requires c κs = c.before.before.before.before.before.before.requires.0
+near-wide-requires c κs = c.requires.0
 
 near-low-requires : tie.Need-near_low-requires invariant-loop decreases-loop
 near-low-requires c κs =
@@ -54,7 +54,7 @@ near-low-requires c κs =
     let s = h.before in
     let k = h.loop-k.k in
     let n = c.near_wide-n in (
-      omega (arith, n.ensures, near_within s.args.left (num s.args.t1.taken k) (num s.args.t1.left k) (num s.args.t2.wide k)),
+      omega (arith, n.ensures, near_within s.args.left (num s.args.p.taken k) (num s.args.p.left k) (num s.args.r.wide k)),
       omega (arith, s.requires.1.0.ranges_in k (omega arith), s.requires.1.1 k (omega arith)),
     )
 
@@ -81,19 +81,19 @@ loop-again c =
     let h = turn c.before in
     let l = h.loop-k in
     let k = l.k in
-    let a = h.before.args in
-    let n = c.before.near_wide-n in
-    let low : ℕ → ℕ = λ m. low_near (num a.t1.taken k) (num a.t2.low k) (num a.t2.wide k) m in (
+    let a = h.args in
+    let n = c.near_wide-n in
+    let low : ℕ → ℕ = λ m. low_near (num a.p.taken k) (num a.r.low k) (num a.r.wide k) m in (
       omega arith,
       (
-        made-step _ k c.near_low.result (omega arith) (c.near_low.ensures ∙ ap low n.ensures) l.inv.1.0,
-        made-step _ k n.result (omega arith) n.ensures l.inv.1.1,
+        made-step _ k c.near_low.result (omega arith) (c.near_low.ensures ∙ ap low n.ensures) l.invariant.1.0,
+        made-step _ k n.result (omega arith) n.ensures l.invariant.1.1,
       ),
     )
 
 returns : tie.Need-returns invariant-loop decreases-loop
 returns c =
-    let i = c.before.loop-k.invariant.1 in
+    let i = c.loop-k.invariant.1 in
     record { lows = made-done (omega arith) i.0; wides = made-done (omega arith) i.1 }
 
 pub narrowed_spec : {M : Type 1} → statement M

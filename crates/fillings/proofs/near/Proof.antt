@@ -16,14 +16,14 @@ narrowed-requires c κs = search rules
 
 returns-2 : tie.Need-returns
 returns-2 c =
-    let m = c.before.before.remaining-left in
+    let m = c.remaining-left in
     let s = c.before.before.before in
     let a = s.args in
     let n = c.narrowed in
     record {
       inside = near-inside a.p a.r n.result m.result s.requires.0.long s.requires.1 n.ensures;
       kept = λ y i k. near-keeps a.p a.r n.result m.result s.requires.0.long s.requires.1 n.ensures y i
-          (omega (arith, m.ensures, c.before.if-left-eq0.false));
+          (omega (arith, m.ensures, c.if-left-eq0.false));
     }
 
 pub near_spec : {M : Type 1} → statement M

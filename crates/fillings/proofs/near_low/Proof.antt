@@ -11,10 +11,10 @@ add-result : tie.Need-overflow_add-result
 add-result c = search rules
 
 returns : tie.Need-returns-then-t-eq0
-returns c = rw (eq-eqb c.before.args.t 0 c.if-t-eq0.true)
+returns c = rw (eq-eqb c.args.t 0 c.if-t-eq0.true)
 
 returns-2 : tie.Need-returns-else-t-eq0
-returns-2 c = rw (ne_eqb c.before.args.t 0 c.if-t-eq0.false)
+returns-2 c = rw (ne_eqb c.args.t 0 c.if-t-eq0.false)
 
 pub near_low_spec : {M : Type 1} → statement M
 near_low_spec = tie.close (tie.spec sub-result add-result returns returns-2)

@@ -17,22 +17,22 @@ affordable-requires-2 : tie.Need-affordable-requires-then-t-eq0-2
 affordable-requires-2 c κs = search rules
 
 returns : tie.Need-returns-then-t-eq0
-returns c = let s = c.before.before.args in rw (eq-eqb s.l 0 c.before.if-l-eq0.true, eq-eqb s.t 0 c.if-t-eq0.true)
+returns c = let s = c.args in rw (eq-eqb s.l 0 c.if-l-eq0.true, eq-eqb s.t 0 c.if-t-eq0.true)
 
 returns-2 : tie.Need-returns-else-t-eq0
-returns-2 c = let s = c.before.before.before.args in rw (
-  eq-eqb s.l 0 c.before.before.if-l-eq0.true,
-  ne_eqb s.t 0 c.before.if-t-eq0.false,
+returns-2 c = let s = c.args in rw (
+  eq-eqb s.l 0 c.if-l-eq0.true,
+  ne_eqb s.t 0 c.if-t-eq0.false,
 ) c.affordable.ensures
 
 returns-3 : tie.Need-returns-then-t-eq0-2
-returns-3 c = let s = c.before.before.before.args in rw (
-  ne_eqb s.l 0 c.before.before.if-l-eq0.false,
-  eq-eqb s.t 0 c.before.if-t-eq0-2.true,
+returns-3 c = let s = c.args in rw (
+  ne_eqb s.l 0 c.if-l-eq0.false,
+  eq-eqb s.t 0 c.if-t-eq0-2.true,
 ) c.affordable-then-t-eq0-2.ensures
 
 returns-4 : tie.Need-returns-else-t-eq0-2
-returns-4 c = let s = c.before.before.args in rw (ne_eqb s.l 0 c.before.if-l-eq0.false, ne_eqb s.t 0 c.if-t-eq0-2.false)
+returns-4 c = let s = c.args in rw (ne_eqb s.l 0 c.if-l-eq0.false, ne_eqb s.t 0 c.if-t-eq0-2.false)
 
 pub near_wide_spec : {M : Type 1} → statement M
 near_wide_spec =

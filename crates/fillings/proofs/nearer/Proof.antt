@@ -20,7 +20,7 @@ near-requires-3 c κs =
     let s = c.before.before.before.before in
     let x = s.requires in
     let a = s.args in
-    let e = c.before.near-a in (
+    let e = c.near-a in (
       x.1.1.down.fair,
       caps-among c.near-b.result x.1.1.down
           (among-less a.p a.r c.near-b.result x.1.0 (λ y i. e.ensures.inside y (c.near-b.ensures.inside y i))),
@@ -31,8 +31,8 @@ returns c =
     let s = c.before.before.before.before.before in
     let x = s.requires in
     let a = s.args in
-    let f = c.before.near-b in
-    let e = c.before.before.near-a in
+    let f = c.near-b in
+    let e = c.near-a in
     nears-kept a.p a.w.up a.w.down a.w.capacity a.cap a.w.most a.w.spare a.r e.result f.result c.near.result
     x.0.long x.1.0 x.1.1.up x.1.1.down e.ensures f.ensures c.near.ensures
 

@@ -45,9 +45,9 @@ run-over-requires c κs =
 add-written : tie.Need-overflow_add-written invariant-loop decreases-loop
 add-written c =
     let ro = c.before.before.before in
-    let l = (turn ro).before.loop-from in
+    let l = (turn ro).loop-from in
     let n = ro.run_over-n in
-    omega (arith, l.inv.0.1.0, n.ensures.0.few, l.inv.1.heads.inside, (start (turn ro).before).requires.1.1.0)
+    omega (arith, l.invariant.0.1.0, n.ensures.0.few, l.invariant.1.heads.inside, (start (turn ro).before).requires.1.1.0)
 
 same_length : tie.Need-shape_of-cells-then-n-cap invariant-loop decreases-loop
 same_length c = search rules
@@ -63,19 +63,19 @@ returns c =
     let n = ro.run_over-n in
     let x = s.requires.0 in
     record {
-      few = omega (arith, l.inv.0.1.0, n.ensures.0.few, t.loop-from-test.true);
-      writes = lacking l.r l.from l.written n.result l.inv.0.1.1 (omega (arith, t.loop-from-test.true)) n.ensures.0 n.ensures.1
-          c.before.if-n-cap.true;
+      few = omega (arith, l.invariant.0.1.0, n.ensures.0.few, t.loop-from-test.true);
+      writes = lacking l.r l.from l.written n.result l.invariant.0.1.1 (omega (arith, t.loop-from-test.true)) n.ensures.0 n.ensures.1
+          c.if-n-cap.true;
       found = λ e. absurd (never e);
-      none = λ e. sought-none s.args.p s.args.capacity s.args.cap x.0.long x.1.0 x.1.1.1.1 l.r l.from l.inv.1 n.result
-          n.ensures.0 c.before.if-n-cap.true;
+      none = λ e. sought-none s.args.p s.args.capacity s.args.cap x.0.long x.1.0 x.1.1.1.1 l.r l.from l.invariant.1 n.result
+          n.ensures.0 c.if-n-cap.true;
     }
 
 -- from where the loop goes on, back to its run, which has fixed one part more
 abbrev ran : tie.After-ranges-1 invariant-loop decreases-loop → tie.After-run_over-n invariant-loop decreases-loop
 ran c = c.before.before
 
-more : (c : tie.After-ranges-1 invariant-loop decreases-loop) → let ro = ran c in (turn ro).before.loop-from.from < ro.run_over-n.result.to
+more : (c : tie.After-ranges-1 invariant-loop decreases-loop) → let ro = ran c in (turn ro).loop-from.from < ro.run_over-n.result.to
 more c =
     let ro = ran c in
     let t = turn ro in
@@ -84,7 +84,7 @@ more c =
     let l = w.loop-from in
     let n = ro.run_over-n in
     let x = s.requires.0 in
-    sought-more s.args.p s.args.capacity s.args.cap x.0.long x.1.0 x.1.1.1.1 l.r l.from l.from l.inv.1.heads
+    sought-more s.args.p s.args.capacity s.args.cap x.0.long x.1.0 x.1.1.1.1 l.r l.from l.from l.invariant.1.heads
     n.result n.ensures.0 c.before.if-n-cap.false (omega (arith, t.loop-from-test.true)) x.1.1.1.0
 
 loop-less : tie.Need-loop-from-smaller invariant-loop decreases-loop
@@ -103,13 +103,13 @@ loop-again c =
       (
         search rules,
         (
-          omega (arith, l.inv.0.1.0, n.ensures.0.few, more c),
-          onward l.r l.from l.written n.result l.inv.0.1.1 (omega (arith, t.loop-from-test.true)) n.ensures.0 n.ensures.1
-              c.before.if-n-cap.false,
+          omega (arith, l.invariant.0.1.0, n.ensures.0.few, more c),
+          onward l.r l.from l.written n.result l.invariant.0.1.1 (omega (arith, t.loop-from-test.true)) n.ensures.0 n.ensures.1
+              c.if-n-cap.false,
         ),
       ),
-      sought-step s.args.p s.args.capacity s.args.cap x.0.long x.1.0 x.1.1.1.1 l.r l.from l.from l.inv.1.heads n.result
-          n.ensures.0 c.before.if-n-cap.false (omega (arith, more c)) (omega (arith, more c)),
+      sought-step s.args.p s.args.capacity s.args.cap x.0.long x.1.0 x.1.1.1.1 l.r l.from l.from l.invariant.1.heads n.result
+          n.ensures.0 c.if-n-cap.false (omega (arith, more c)) (omega (arith, more c)),
     )
 
 same-length-2 : tie.Need-shape_of-cells invariant-loop decreases-loop
@@ -123,9 +123,9 @@ returns-2 c =
     let x = s.requires.0 in
     record {
       few = omega (arith, l.invariant.0.1.0, l.invariant.1.heads.inside);
-      writes = found l.r l.from l.written l.invariant.0.1.1 (omega (arith, c.before.loop-from-test.false));
+      writes = found l.r l.from l.written l.invariant.0.1.1 (omega (arith, c.loop-from-test.false));
       found = λ e. sought-done s.args.p s.args.capacity s.args.cap x.0.long x.1.0 x.1.1.1.1 l.r l.from
-          (omega (arith, c.before.loop-from-test.false)) l.invariant.1;
+          (omega (arith, c.loop-from-test.false)) l.invariant.1;
       none = λ e. absurd (never (sym e));
     }
 

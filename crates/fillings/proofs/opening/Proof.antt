@@ -18,7 +18,7 @@ heads : (g : tie.After-nearer-g) → let a = (start g).args in Heads a.p a.w.cap
 heads g =
     let s = start g in
     let a = s.args in
-    let f = g.before.head-f in
+    let f = g.head-f in
     heads-kept a.p a.w.capacity a.cap f.result g.nearer-g.result a.to a.to s.requires.1.1.0 g.nearer-g.ensures f.ensures
 
 head-requires : tie.Need-head-f-requires
@@ -61,7 +61,7 @@ nearer-requires-2 c κs =
 
 returns : tie.Need-returns
 returns c =
-    let n = c.before.shortened-s in
+    let n = c.shortened-s in
     let g = c.before.before.before in
     let s = start g in
     let a = s.args in

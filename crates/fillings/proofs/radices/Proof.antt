@@ -29,7 +29,7 @@ array-read-w : tie.Need-bounds-wide-k invariant-loop decreases-loop
 array-read-w c = omega arith
 
 add-b : tie.Need-overflow_add-b invariant-loop decreases-loop
-add-b c = let l = c.before.loop-k in record { fits = left-fits l.invariant.0.1.1 (omega arith) (omega arith) }
+add-b c = let l = c.loop-k in record { fits = left-fits l.invariant.0.1.1 (omega arith) (omega arith) }
 
 div-b : tie.Need-nonzero_div-b invariant-loop decreases-loop
 div-b c = omega arith
@@ -48,19 +48,19 @@ loop-less c = omega arith
 
 loop-again : tie.Need-loop-k-preserved invariant-loop decreases-loop
 loop-again c =
-    let s = c.before.before.args in
-    let l = c.before.loop-k in
+    let s = c.args in
+    let l = c.loop-k in
     let q = left-next l.invariant.0.1.1 (omega arith) in (
       (omega arith, (omega arith, q)),
       begun-step _ l.k _ (omega arith)
-          (q.is ∙ sym (radix-at (num s.t1) s.from s.to l.k l.invariant.0.0 (omega arith))) l.invariant.1,
+          (q.is ∙ sym (radix-at (num s.wide) s.from s.to l.k l.invariant.0.0 (omega arith))) l.invariant.1,
     )
 
 returns : tie.Need-returns invariant-loop decreases-loop
 returns c =
-    let s = c.before.before.args in
-    let l = c.before.loop-k in
-    begun-done (λ j h. radix-after (num s.t1) s.from s.to j (omega arith)) l.invariant.1
+    let s = c.args in
+    let l = c.loop-k in
+    begun-done (λ j h. radix-after (num s.wide) s.from s.to j (omega arith)) l.invariant.1
 
 pub radices_spec : {M : Type 1} → statement M
 radices_spec =

@@ -53,7 +53,7 @@ element-copy-out-u : tie.Need-bounds-p-k-in-loop-k-2 invariant-loop decreases-lo
 element-copy-out-u c = omega arith
 
 less-part-requires : tie.Need-less_part-left-requires invariant-loop decreases-loop
-less-part-requires c κs = let h = turn c in h.before.requires.1 h.loop-k.k (omega arith)
+less-part-requires c κs = let h = turn c in h.requires.1 h.loop-k.k (omega arith)
 
 add-k : tie.Need-overflow_add-k invariant-loop decreases-loop
 add-k c = omega arith
@@ -64,17 +64,17 @@ loop-less c = omega arith
 loop-again : tie.Need-loop-k-preserved invariant-loop decreases-loop
 loop-again c =
     let h = turn c.before in
-    let s = h.before.args in
+    let s = h.args in
     let k = h.loop-k.k in
-    let e : sum (k + 1) (offset_at s.t1 s.t2) ≡ sum k (offset_at s.t1 s.t2) + offset_at s.t1 s.t2 k = rw add-one in
+    let e : sum (k + 1) (offset_at s.p s.r) ≡ sum k (offset_at s.p s.r) + offset_at s.p s.r k = rw add-one in
     (omega arith, omega (arith, c.less_part-left.ensures, e, h.loop-k.invariant.1))
 
 returns : tie.Need-returns invariant-loop decreases-loop
 unfolding offset_of
 returns c =
-    let l = c.before.loop-k in
+    let l = c.loop-k in
     let s = c.before.before in
-    let e : l.k ≡ length s.args.t1.weight = omega (arith, s.requires.0.long) in
+    let e : l.k ≡ length s.args.p.weight = omega (arith, s.requires.0.long) in
     rw e at l.invariant.1
 
 pub remaining_spec : {M : Type 1} → statement M

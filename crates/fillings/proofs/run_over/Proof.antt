@@ -37,8 +37,8 @@ near : (n : tie.After-narrowed-n) → let a = (start n).args in
     (offset_of a.p a.r < a.cap) × Narrows a.p (a.cap - offset_of a.p a.r) a.r n.narrowed-n.result
 near n =
     let a = (start n).args in
-    let m = n.before.before.remaining-left in
-    (omega (arith, m.ensures, n.before.if-left-eq0.false), subst (λ d. Narrows a.p d a.r n.narrowed-n.result) m.ensures n.narrowed-n.ensures)
+    let m = n.remaining-left in
+    (omega (arith, m.ensures, n.if-left-eq0.false), subst (λ d. Narrows a.p d a.r n.narrowed-n.result) m.ensures n.narrowed-n.ensures)
 
 remaining-requires : tie.Need-remaining-left-requires
 remaining-requires c κs = search rules
@@ -54,8 +54,8 @@ returns c =
     let x = s.requires.0 in
     rw c.nothing.ensures (
       runs_none a.p a.r a.capacity a.cap a.from 0 (omega arith)
-          (λ y i f. omega (arith, offset-least a.p a.r x.0.long x.1.0 y i, c.before.before.remaining-left.ensures)),
-      costly (omega (arith, c.before.before.remaining-left.ensures)),
+          (λ y i f. omega (arith, offset-least a.p a.r x.0.long x.1.0 y i, c.remaining-left.ensures)),
+      costly (omega (arith, c.remaining-left.ensures)),
     )
 
 narrowed-requires : tie.Need-narrowed-n-requires
@@ -79,7 +79,7 @@ returns-2 c =
     let x = s.requires.0 in
     let m = g.remaining-left in
     let n = h.narrowed-n in
-    let over : a.capacity < load (items_in a.p) (num n.result.low) = omega (arith, c.before.before.low_load-low.ensures.0) in
+    let over : a.capacity < load (items_in a.p) (num n.result.low) = omega (arith, c.low_load-low.ensures.0) in
     rw c.nothing-then-capacity-low.ensures (
       runs_none a.p a.r a.capacity a.cap a.from 0 (omega arith)
           (too-heavy a.p a.r n.result a.capacity a.cap m.result x.0.long x.1.0 m.ensures (omega arith) n.ensures over),
@@ -103,7 +103,7 @@ keyed-run-requires c κs =
         cap-in = x.1.1.1;
         left_is = omega (arith, m.ensures, near-offset a.p a.r n.result _ x.0.long x.1.0 n.ensures);
         left≥1 = omega arith;
-        room-is = omega (arith, c.before.before.low_load-low.ensures.0);
+        room-is = omega (arith, c.low_load-low.ensures.0);
       },
       s.requires.1,
     )
@@ -122,8 +122,8 @@ returns-3 c =
     let x = s.requires.0 in
     let m = e.remaining-left in
     let n = g.narrowed-n in
-    let low = h.before.before.low_load-low in
-    let k = c.before.before.keyed_run in (
+    let low = h.low_load-low in
+    let k = c.keyed_run in (
       runs-wider a.p a.r n.result a.capacity a.cap a.from m.result k.result x.0.long x.1.0
           m.ensures (omega (arith, i.if-left-eq0.false)) n.ensures k.ensures.0,
       scaled n.result (a.capacity - low.result) k.result.written (near g).0 (near g).1 (omega (arith, low.ensures.0)) k.ensures.1,

@@ -35,7 +35,7 @@ next F j old new k i = go (ℕ_discrete k j)
     go (no q) = old k (omega arith)
 
 wholes-requires : tie.Need-wholes-whole-requires invariant-loop decreases-loop
-wholes-requires c κs = let r = c.before.requires in (r.few, λ d l. omega (arith, r.level_in d l, r.sized.columns.few))
+wholes-requires c κs = let r = c.requires in (r.few, λ d l. omega (arith, r.level_in d l, r.sized.columns.few))
 
 loop-holds : tie.Need-loop-j-init invariant-loop decreases-loop
 loop-holds c = (omega arith, λ k l. absurd (omega arith))
@@ -43,7 +43,7 @@ loop-holds c = (omega arith, λ k l. absurd (omega arith))
 is-loose-requires : tie.Need-is_loose-requires invariant-loop decreases-loop
 is-loose-requires c κs =
     let r = (start (wholed c)).requires in
-    (r.sized.ends, (omega (arith, c.loop-j-test.true, r.sized.columns.few), r.in_order c.before.loop-j.j c.loop-j-test.true))
+    (r.sized.ends, (omega (arith, c.loop-j-test.true, r.sized.columns.few), r.in_order c.loop-j.j c.loop-j-test.true))
 
 returns : tie.Need-returns-then-is_loose invariant-loop decreases-loop
 returns c =
@@ -51,8 +51,8 @@ returns c =
     let w = wholed t in
     record {
       all = λ e. absurd (impossible e);
-      some = λ e. still-not (start w).args.s w.wholes-whole.result w.wholes-whole.ensures t.before.loop-j.j t.loop-j-test.true
-          (c.before.is_loose.ensures.1 c.if-is_loose.true);
+      some = λ e. still-not (start w).args.s w.wholes-whole.result w.wholes-whole.ensures t.loop-j.j t.loop-j-test.true
+          (c.is_loose.ensures.1 c.if-is_loose.true);
     }
 
 add-j : tie.Need-overflow_add-j invariant-loop decreases-loop
@@ -67,15 +67,15 @@ loop-again : tie.Need-loop-j-preserved invariant-loop decreases-loop
 loop-again c =
     let t = turn c.before in
     let w = wholed t in
-    let l = t.before.loop-j in (
+    let l = t.loop-j in (
       omega (arith, t.loop-j-test.true),
-      next (λ k. Held (start w).args.s.ends w.wholes-whole.result k) l.j l.inv.1 (c.before.is_loose.ensures.0 c.if-is_loose.false),
+      next (λ k. Held (start w).args.s.ends w.wholes-whole.result k) l.j l.invariant.1 (c.is_loose.ensures.0 c.if-is_loose.false),
     )
 
 returns-2 : tie.Need-returns invariant-loop decreases-loop
 returns-2 c =
     let w = c.before.before.before in
-    let l = c.before.loop-j in
+    let l = c.loop-j in
     record {
       all = λ e. still-made (start w).args.s w.wholes-whole.result w.wholes-whole.ensures (λ k i. l.invariant.1 k (omega (arith, i, c.loop-j-test.false)));
       some = λ e. absurd (impossible (sym e));

@@ -5,7 +5,7 @@ use Rattle.firsts.proofs.amounts_of.Statement.{statement}
 use Rattle.firsts.proofs.amounts_of.Tie as tie
 
 wholes-requires : tie.Need-wholes-whole-requires
-wholes-requires c κs = let r = c.before.requires.0 in (r.few, λ d l. omega (arith, r.level_in d l, r.sized.columns.few))
+wholes-requires c κs = let r = c.requires.0 in (r.few, λ d l. omega (arith, r.level_in d l, r.sized.columns.few))
 
 amounts-requires : tie.Need-amounts-requires
 amounts-requires c κs = search rules

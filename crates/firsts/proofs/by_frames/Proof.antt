@@ -23,33 +23,33 @@ long : (s : tie.Start invariant-loop decreases-loop) → Long s.args.s.ends
 long s = record { lo-long = search rules; hi-long = search rules }
 
 tied-requires : tie.Need-tied-c-requires invariant-loop decreases-loop
-tied-requires c κs = c.before.before.requires.0.0.sized.columns
+tied-requires c κs = c.requires.0.0.sized.columns
 
 -- the columns in the order of filling
-tying : (c : tie.After-tied-c invariant-loop decreases-loop) → Tying c.before.before.before.args.s c.tied-c.result
-tying c = let s = c.before.before in record { ready = s.before.requires.0.0; long = long s; spanned = s.before.requires.0.1.0; tied = c.tied-c.ensures }
+tying : (c : tie.After-tied-c invariant-loop decreases-loop) → Tying c.args.s c.tied-c.result
+tying c = let s = c.before.before in record { ready = s.requires.0.0; long = long s; spanned = s.requires.0.1.0; tied = c.tied-c.ensures }
 
 filling-at-requires : tie.Need-filling_at-z-requires invariant-loop decreases-loop
-filling-at-requires c κs = (tying c, c.before.before.before.requires.0.1.1.inside)
+filling-at-requires c κs = (tying c, c.requires.0.1.1.inside)
 
 loss-of-requires : tie.Need-loss_of-l-requires invariant-loop decreases-loop
 loss-of-requires c κs =
     let t = c.before in
     let s = t.before.before in (
       tying t,
-      subst (λ v. IsWorth s.before.before.args.s t.before.tied-c.result v) (sym c.before.filling_at-z.ensures.value-is)
-          (worth-made s.before.before.args.s t.before.tied-c.result (tying t) (at s.before.before.args.x) s.before.before.requires.0.1.1),
+      subst (λ v. IsWorth s.args.s t.tied-c.result v) (sym c.filling_at-z.ensures.value-is)
+          (worth-made s.args.s t.tied-c.result (tying t) (at s.args.x) s.requires.0.1.1),
     )
 
 wholes-requires : tie.Need-wholes-whole-requires invariant-loop decreases-loop
 wholes-requires c κs =
     let t = c.before.before.before in
-    let r = t.before.before.before.before.requires.0.0 in (r.few, λ d l. omega (arith, r.level_in d l, r.sized.columns.few))
+    let r = t.requires.0.0 in (r.few, λ d l. omega (arith, r.level_in d l, r.sized.columns.few))
 
 -- the loss is that of the filling at the place
-loss-is : (o : tie.After-loss_of-l invariant-loop decreases-loop) → let t = o.before.before in let a = t.before.before.before.before.args in
-    LossOf (bound t.before.tied-c.result (fill t.before.tied-c.result (ends_at a.s (at a.x)))) o.loss_of-l.result
-loss-is o = subst (λ v. LossOf v o.loss_of-l.result) o.before.before.filling_at-z.ensures.value-is o.loss_of-l.ensures.1
+loss-is : (o : tie.After-loss_of-l invariant-loop decreases-loop) → let t = o.before.before in let a = t.args in
+    LossOf (bound t.tied-c.result (fill t.tied-c.result (ends_at a.s (at a.x)))) o.loss_of-l.result
+loss-is o = subst (λ v. LossOf v o.loss_of-l.result) o.filling_at-z.ensures.value-is o.loss_of-l.ensures.1
 
 -- from the first lead, back to the whole items, the loss, the order of filling and the start
 abbrev wholed : tie.After-lead_of-b invariant-loop decreases-loop → tie.After-wholes-whole invariant-loop decreases-loop
@@ -79,7 +79,7 @@ loop-holds c =
         refl,
         rw c.lead_of-b.ensures (
           led-first a.s t.tied-c.result (tying t) (at a.x) s.requires.0.1.1 o.loss_of-l.result (loss-is o)
-              (record { point = f.before.filling_at-z.result.point; written = 0 }) f.before.filling_at-z.ensures.shows refl,
+              (record { point = f.filling_at-z.result.point; written = 0 }) f.filling_at-z.ensures.shows refl,
           begun,
         ),
       ),
@@ -94,7 +94,7 @@ considered-requires c κs =
     let l = c.before.before in
     let k = l.before in (
       (tying (ordered k), ((lossed k).loss_of-l.ensures.0, ((wholed k).wholes-whole.ensures, l.loop-t.invariant.1.1.0))),
-      (c.before.loop-t-test.true, omega (arith, l.loop-t.invariant.1.0, (start k).requires.1)),
+      (c.loop-t-test.true, omega (arith, l.loop-t.invariant.1.0, (start k).requires.1)),
     )
 
 add-t : tie.Need-overflow_add-t invariant-loop decreases-loop
@@ -107,25 +107,25 @@ loop-less c = omega (arith, (turn c.before.before).loop-t-test.true)
 
 loop-again : tie.Need-loop-t-preserved invariant-loop decreases-loop
 loop-again c =
-    let r = c.before.before.considered-b.ensures in
+    let r = c.considered-b.ensures in
     let l = turn c.before.before in
-    (omega (arith, l.loop-t-test.true), (search rules, (r.0, onward _ _ _ l.before.loop-t.invariant.1.1.1 r.1)))
+    (omega (arith, l.loop-t-test.true), (search rules, (r.0, onward _ _ _ l.loop-t.invariant.1.1.1 r.1)))
 
 -- at the end of the loop
-all-frames : (e : tie.After-loop-t invariant-loop decreases-loop) → e.before.loop-t.t ≡ (ordered e.before.before).tied-c.result.live
-all-frames e = omega (arith, e.loop-t-test.false, e.before.loop-t.invariant.0)
+all-frames : (e : tie.After-loop-t invariant-loop decreases-loop) → e.loop-t.t ≡ (ordered e.before.before).tied-c.result.live
+all-frames e = omega (arith, e.loop-t-test.false, e.loop-t.invariant.0)
 
 -- the lead there
 led : (e : tie.After-loop-t invariant-loop decreases-loop) → let k = e.before.before in let c = (ordered k).tied-c.result in
-    Led (start k).args.s c (lossed k).loss_of-l.result c.live e.before.loop-t.b
+    Led (start k).args.s c (lossed k).loss_of-l.result c.live e.loop-t.b
 led e =
     let k = e.before.before in
-    subst (λ u. Led (start k).args.s (ordered k).tied-c.result (lossed k).loss_of-l.result u e.before.loop-t.b) (all-frames e)
-    e.before.loop-t.invariant.1.1.0
+    subst (λ u. Led (start k).args.s (ordered k).tied-c.result (lossed k).loss_of-l.result u e.loop-t.b) (all-frames e)
+    e.loop-t.invariant.1.1.0
 
 -- what is written, by what is written for the last frame
 told : (e : tie.After-loop-t invariant-loop decreases-loop) (n : ℕ) → let k = e.before.before in let a = (start k).args in
-    LastWrites (ordered k).tied-c.result a.s.ends (wholed k).wholes-whole.result (lossed k).loss_of-l.result e.before.loop-t.b.written n
+    LastWrites (ordered k).tied-c.result a.s.ends (wholed k).wholes-whole.result (lossed k).loss_of-l.result e.loop-t.b.written n
     → FramesWrite a.s (at a.x) n
 told e n h =
     let k = e.before.before in
@@ -140,9 +140,9 @@ told e n h =
       loss-is = loss-is o;
       whole = (wholed k).wholes-whole.result;
       levelled = (wholed k).wholes-whole.ensures;
-      sofar = e.before.loop-t.b.written;
-      frames = subst (λ u. LeadWrites t.tied-c.result s.ends (wholed k).wholes-whole.result o.loss_of-l.result u e.before.loop-t.b.written)
-          (all-frames e) e.before.loop-t.invariant.1.1.1;
+      sofar = e.loop-t.b.written;
+      frames = subst (λ u. LeadWrites t.tied-c.result s.ends (wholed k).wholes-whole.result o.loss_of-l.result u e.loop-t.b.written)
+          (all-frames e) e.loop-t.invariant.1.1.1;
       last = h;
     }
 
@@ -157,10 +157,10 @@ returns c =
     let e = c.before.before in
     let k = e.before.before in
     let t = ordered k in
-    let some = c.before.cuts_some.ensures.some c.if-cuts_some.true in (
-      led-short (start k).args.s t.tied-c.result (tying t) (lossed k).loss_of-l.result e.before.loop-t.b t.tied-c.result.live (led e)
+    let some = c.cuts_some.ensures.some c.if-cuts_some.true in (
+      led-short (start k).args.s t.tied-c.result (tying t) (lossed k).loss_of-l.result e.loop-t.b t.tied-c.result.live (led e)
           (wholed k).wholes-whole.result (wholed k).wholes-whole.ensures refl some,
-      told e e.before.loop-t.b.written (inl (some, refl)),
+      told e e.loop-t.b.written (inl (some, refl)),
     )
 
 tried-requires : tie.Need-tried-requires invariant-loop decreases-loop
@@ -188,7 +188,7 @@ returns-2 c =
     let t = ordered k in (
       led-done (start k).args.s t.tied-c.result (tying t) (lossed k).loss_of-l.result r.tried.result (t.tied-c.result.live + 1)
           r.tried.ensures.0 refl,
-      told e r.tried.result.written (inr (d.before.cuts_some.ensures.none d.if-cuts_some.false, r.tried.ensures.1)),
+      told e r.tried.result.written (inr (d.cuts_some.ensures.none d.if-cuts_some.false, r.tried.ensures.1)),
     )
 
 pub by_frames_spec : {M : Type 1} → statement M

@@ -13,14 +13,14 @@ long : (s : tie.Start) → Long s.args.s.ends
 long s = record { lo-long = search rules; hi-long = search rules }
 
 tied-requires : tie.Need-tied-c-requires
-tied-requires c κs = c.before.requires.0.0.sized.columns
+tied-requires c κs = c.requires.0.0.sized.columns
 
 -- the columns in the order of filling
-tying : (c : tie.After-tied-c) → Tying c.before.before.args.s c.tied-c.result
-tying c = let s = c.before in record { ready = s.before.requires.0.0; long = long s; spanned = s.before.requires.0.1.0; tied = c.tied-c.ensures }
+tying : (c : tie.After-tied-c) → Tying c.args.s c.tied-c.result
+tying c = let s = c.before in record { ready = s.requires.0.0; long = long s; spanned = s.requires.0.1.0; tied = c.tied-c.ensures }
 
 filling-at-requires : tie.Need-filling_at-z-requires
-filling-at-requires c κs = (tying c, c.before.before.requires.0.1.1.inside)
+filling-at-requires c κs = (tying c, c.requires.0.1.1.inside)
 
 lead-of-requires : tie.Need-lead_of-requires
 lead-of-requires c κs = tt
@@ -30,9 +30,9 @@ returns c =
     let f = c.before.before in
     let t = f.before in
     let s = t.before in
-    let p = s.before.requires in
+    let p = s.requires in
     rw c.lead_of.ensures (
-      known-best s.before.args.s t.tied-c.result (tying t) (at s.before.args.x) p.0.1.1 p.1.0 p.1.1
+      known-best s.args.s t.tied-c.result (tying t) (at s.args.x) p.0.1.1 p.1.0 p.1.1
           (record { point = f.filling_at-z.result.point; written = 0 }) f.filling_at-z.ensures.shows,
       refl,
     )

@@ -26,26 +26,26 @@ abbrev entry : tie.In-loop-k invariant-loop decreases-loop → tie.Start invaria
 entry c = c.before.before
 
 abbrev item : tie.In-loop-k invariant-loop decreases-loop → ℕ
-item c = c.before.loop-k.k
+item c = c.loop-k.k
 
 item_in : (c : tie.In-loop-k invariant-loop decreases-loop) → item c < 16
 item_in c = omega (arith, c.loop-k-test.true, (entry c).requires.0)
 
 -- its amounts
-mine : (c : tie.In-loop-k invariant-loop decreases-loop) → get_or (entry c).args.t1 (item c) (record { p = pos 0; q = 0 }) ≡ amount_in (entry c).args.t1 (item c)
-mine c = let h : length (entry c).args.t1 ≡ 16 = search rules in default_free (entry c).args.t1 (item c) _ _ (omega (arith, h, item_in c))
+mine : (c : tie.In-loop-k invariant-loop decreases-loop) → get_or (entry c).args.x (item c) (record { p = pos 0; q = 0 }) ≡ amount_in (entry c).args.x (item c)
+mine c = let h : length (entry c).args.x ≡ 16 = search rules in default_free (entry c).args.x (item c) _ _ (omega (arith, h, item_in c))
 
-yours : (c : tie.In-loop-k invariant-loop decreases-loop) → get_or (entry c).args.t2 (item c) (record { p = pos 0; q = 0 }) ≡ amount_in (entry c).args.t2 (item c)
-yours c = let h : length (entry c).args.t2 ≡ 16 = search rules in default_free (entry c).args.t2 (item c) _ _ (omega (arith, h, item_in c))
+yours : (c : tie.In-loop-k invariant-loop decreases-loop) → get_or (entry c).args.y (item c) (record { p = pos 0; q = 0 }) ≡ amount_in (entry c).args.y (item c)
+yours c = let h : length (entry c).args.y ≡ 16 = search rules in default_free (entry c).args.y (item c) _ _ (omega (arith, h, item_in c))
 
-small-mine : (c : tie.In-loop-k invariant-loop decreases-loop) → SmallFraction (amount_in (entry c).args.t1 (item c))
+small-mine : (c : tie.In-loop-k invariant-loop decreases-loop) → SmallFraction (amount_in (entry c).args.x (item c))
 small-mine c = (entry c).requires.1.0 (item c) c.loop-k-test.true
 
-small-yours : (c : tie.In-loop-k invariant-loop decreases-loop) → SmallFraction (amount_in (entry c).args.t2 (item c))
+small-yours : (c : tie.In-loop-k invariant-loop decreases-loop) → SmallFraction (amount_in (entry c).args.y (item c))
 small-yours c = (entry c).requires.1.1 (item c) c.loop-k-test.true
 
 loop-holds : tie.Need-loop-k-init invariant-loop decreases-loop
-loop-holds c = (omega arith, alike-first c.args.t1 c.args.t2)
+loop-holds c = (omega arith, alike-first c.args.x c.args.y)
 
 mul-a : tie.Need-offset_bounds-x-k invariant-loop decreases-loop
 mul-a c = record { fits = omega (arith, item_in c) }
@@ -70,11 +70,11 @@ abbrev start : tie.After-crossed-w invariant-loop decreases-loop → tie.In-loop
 start c = c.before.before.before.before
 
 v-is : (c : tie.After-crossed-w invariant-loop decreases-loop) → let l = start c in
-    c.before.crossed-v.result ≡ (amount_in (entry l).args.t1 (item l)).p *ℤ pos (amount_in (entry l).args.t2 (item l)).q
-v-is c = c.before.crossed-v.ensures ∙ ap₂ (λ (x y : Fraction). x.p *ℤ pos y.q) (mine (start c)) (yours (start c))
+    c.crossed-v.result ≡ (amount_in (entry l).args.x (item l)).p *ℤ pos (amount_in (entry l).args.y (item l)).q
+v-is c = c.crossed-v.ensures ∙ ap₂ (λ (x y : Fraction). x.p *ℤ pos y.q) (mine (start c)) (yours (start c))
 
 w-is : (c : tie.After-crossed-w invariant-loop decreases-loop) → let l = start c in
-    c.crossed-w.result ≡ (amount_in (entry l).args.t2 (item l)).p *ℤ pos (amount_in (entry l).args.t1 (item l)).q
+    c.crossed-w.result ≡ (amount_in (entry l).args.y (item l)).p *ℤ pos (amount_in (entry l).args.x (item l)).q
 w-is c = c.crossed-w.ensures ∙ ap₂ (λ (x y : Fraction). x.p *ℤ pos y.q) (yours (start c)) (mine (start c))
 
 returns : tie.Need-returns-then-v-w invariant-loop decreases-loop
@@ -82,10 +82,10 @@ returns c =
     let m = c.before in
     let l = start m in
     record {
-      before = λ e. earlier-made (entry l).args.t1 (entry l).args.t2 (item l) (small-mine l) (small-yours l) (entry l).args.n l.loop-k-test.true
-          l.before.loop-k.invariant.1
+      before = λ e. earlier-made (entry l).args.x (entry l).args.y (item l) (small-mine l) (small-yours l) (entry l).args.n l.loop-k-test.true
+          l.loop-k.invariant.1
           (subst₂ ◌<ℤ◌ (v-is m) (w-is m) (yes_lt (rw (
-            back m.before.crossed-v.result m.before.crossed-v.type_inv,
+            back m.crossed-v.result m.crossed-v.type_inv,
             back m.crossed-w.result m.crossed-w.type_inv,
           ) at c.if-v-w.true)));
       after = λ e. absurd (impossible (sym e));
@@ -97,10 +97,10 @@ returns-2 c =
     let l = start m in
     record {
       before = λ e. absurd (impossible e);
-      after = λ e. inr (earlier-made (entry l).args.t2 (entry l).args.t1 (item l) (small-yours l) (small-mine l) (entry l).args.n l.loop-k-test.true
-          (alike-back (entry l).args.t1 (entry l).args.t2 (item l) l.before.loop-k.invariant.1)
+      after = λ e. inr (earlier-made (entry l).args.y (entry l).args.x (item l) (small-yours l) (small-mine l) (entry l).args.n l.loop-k-test.true
+          (alike-back (entry l).args.x (entry l).args.y (item l) l.loop-k.invariant.1)
           (subst₂ ◌<ℤ◌ (w-is m) (v-is m) (yes_lt (rw (
-            back m.before.crossed-v.result m.before.crossed-v.type_inv,
+            back m.crossed-v.result m.crossed-v.type_inv,
             back m.crossed-w.result m.crossed-w.type_inv,
           ) at c.if-w-v.true))));
     }
@@ -116,25 +116,25 @@ loop-again c =
     let m = c.before.before in
     let l = start m in (
       omega (arith, l.loop-k-test.true),
-      alike-step (entry l).args.t1 (entry l).args.t2 (item l) (small-mine l) (small-yours l) l.before.loop-k.invariant.1
+      alike-step (entry l).args.x (entry l).args.y (item l) (small-mine l) (small-yours l) l.loop-k.invariant.1
           (subst₂ ◌≤ℤ◌ (w-is m) (v-is m) (no_lt (rw (
-            back m.before.crossed-v.result m.before.crossed-v.type_inv,
+            back m.crossed-v.result m.crossed-v.type_inv,
             back m.crossed-w.result m.crossed-w.type_inv,
-          ) at c.before.if-v-w.false)))
+          ) at c.if-v-w.false)))
           (subst₂ ◌≤ℤ◌ (v-is m) (w-is m) (no_lt (rw (
-            back m.before.crossed-v.result m.before.crossed-v.type_inv,
+            back m.crossed-v.result m.crossed-v.type_inv,
             back m.crossed-w.result m.crossed-w.type_inv,
           ) at c.if-w-v.false))),
     )
 
 returns-3 : tie.Need-returns invariant-loop decreases-loop
 returns-3 c =
-    let l = c.before.loop-k in
+    let l = c.loop-k in
     let s = c.before.before in
     let e : l.k ≡ s.args.n = omega (arith, c.loop-k-test.false, l.invariant.0) in
     record {
       before = λ i. absurd (impossible i);
-      after = λ i. inl (subst (λ n. Alike s.args.t2 s.args.t1 n) e (alike-back s.args.t1 s.args.t2 l.k l.invariant.1));
+      after = λ i. inl (subst (λ n. Alike s.args.y s.args.x n) e (alike-back s.args.x s.args.y l.k l.invariant.1));
     }
 
 pub comes_before_spec : {M : Type 1} → statement M

@@ -22,7 +22,7 @@ tried-requires : tie.Need-tried-requires
 tried-requires c κs =
     let t = c.before in
     let s = start t.before in
-    (s.requires.0, (omega (arith, s.requires.1.0), ((λ l. t.before.is_usable.ensures.1 t.if-is_usable.true), search rules)))
+    (s.requires.0, (omega (arith, s.requires.1.0), ((λ l. t.is_usable.ensures.1 t.if-is_usable.true), search rules)))
 
 same_length : tie.Need-shape_of-cells-then-is_usable
 same_length c = search rules
@@ -31,14 +31,14 @@ returns : tie.Need-returns-then-is_usable
 returns c =
     let r = c.before.before in
     let t = r.before.before in
-    (r.tried.ensures.0, inl (t.before.is_usable.ensures.1 t.if-is_usable.true, r.tried.ensures.1))
+    (r.tried.ensures.0, inl (t.is_usable.ensures.1 t.if-is_usable.true, r.tried.ensures.1))
 
 returns-2 : tie.Need-returns
 returns-2 c =
     let s = start c.before in
     let a = s.args in
     let p = s.requires.0 in
-    let no = c.before.is_usable.ensures.0 c.if-is_usable.false in
+    let no = c.is_usable.ensures.0 c.if-is_usable.false in
     (led-skip a.s a.c p.0 a.l p.1.0 a.t a.b p.1.1.1 a.whole p.1.1.0 s.requires.1.0 no, inr (no, refl))
 
 pub considered_spec : {M : Type 1} → statement M

@@ -45,7 +45,7 @@ returns : tie.Need-returns-then-is_usable invariant-loop decreases-loop
 returns c =
     let t = turn c.before in
     record {
-      some = λ e. record { frame = t.before.loop-u.u; below = t.loop-u-test.true; usable = c.before.is_usable.ensures.1 c.if-is_usable.true };
+      some = λ e. record { frame = t.loop-u.u; below = t.loop-u-test.true; usable = c.is_usable.ensures.1 c.if-is_usable.true };
       none = λ e. absurd (impossible (sym e));
     }
 
@@ -60,14 +60,14 @@ loop-less c = omega arith
 loop-again : tie.Need-loop-u-preserved invariant-loop decreases-loop
 loop-again c =
     let t = turn c.before in
-    let l = t.before.loop-u in
+    let l = t.loop-u in
     let a = (start t).args in
-    let no = c.before.is_usable.ensures.0 c.if-is_usable.false in
-    (omega (arith, t.loop-u-test.true), next (λ u. Usable a.c a.s.ends a.whole u → ⊥) l.u l.inv.1 no)
+    let no = c.is_usable.ensures.0 c.if-is_usable.false in
+    (omega (arith, t.loop-u-test.true), next (λ u. Usable a.c a.s.ends a.whole u → ⊥) l.u l.invariant.1 no)
 
 returns-2 : tie.Need-returns invariant-loop decreases-loop
 returns-2 c =
-    let l = c.before.loop-u in
+    let l = c.loop-u in
     record { some = λ e. absurd (impossible e); none = λ e k. l.invariant.1 k.frame (omega (arith, k.below, c.loop-u-test.false)) k.usable }
 
 pub cuts_some_spec : {M : Type 1} → statement M

@@ -23,26 +23,26 @@ fill-up-requires c κs = rw c.fixed-e.ensures (sized c.before)
 
 -- the filling as the code has it
 fill_is : (c : tie.After-fill_up-f) → let s = c.before.before in c.fill_up-f.result ≡ fill s.args.c (ends_at s.args.s (at s.args.x))
-fill_is c = c.fill_up-f.ensures ∙ ap (fill c.before.before.args.c) c.before.fixed-e.ensures
+fill_is c = c.fill_up-f.ensures ∙ ap (fill c.args.c) c.fixed-e.ensures
 
 bound-of-requires : tie.Need-bound_of-v-requires
 bound-of-requires c κs = rw (fill_is c) (filled c.before.before)
 
 value-is : (c : tie.After-bound_of-v) → let s = c.before.before.before in
     c.bound_of-v.result ≡ bound s.args.c (fill s.args.c (ends_at s.args.s (at s.args.x)))
-value-is c = c.bound_of-v.ensures ∙ ap (bound c.before.before.before.args.c) (fill_is c.before)
+value-is c = c.bound_of-v.ensures ∙ ap (bound c.args.c) (fill_is c.before)
 
 amounts-of-requires : tie.Need-amounts_of-y-requires
 amounts-of-requires c κs =
     let s = c.before.before.before in
-    rw (c.before.before.fixed-e.ensures, fill_is c.before) (s.requires.0.ready, (sized s, filled s))
+    rw (c.fixed-e.ensures, fill_is c.before) (s.requires.0.ready, (sized s, filled s))
 
 returns : tie.Need-returns
 returns c =
     let a = c.before in
     let m = a.before in
     record {
-      shows = rw (m.before.before.fixed-e.ensures, fill_is m.before) at a.amounts_of-y.ensures;
+      shows = rw (m.fixed-e.ensures, fill_is m.before) at a.amounts_of-y.ensures;
       value-is = value-is m;
     }
 

@@ -14,14 +14,14 @@ by-place-requires : tie.Need-by_place-requires
 by-place-requires c κs =
     let s = c.before.before.before in
     let p = s.requires.0 in
-    let k = c.before.is_known.ensures.0 c.if-is_known.true in
+    let k = c.is_known.ensures.0 c.if-is_known.true in
     (p, (k.1, s.requires.1.0 k.0))
 
 returns : tie.Need-returns-then-is_known
 returns c =
     let t = c.before in
     let u = t.before in
-    let a = u.before.before.args in (
+    let a = u.args in (
       c.by_place.ensures.0,
       subst (λ n. PointWrites a.s (at a.x) a.first n) (sym c.by_place.ensures.1) (known (u.is_known.ensures.0 t.if-is_known.true)),
     )
@@ -36,7 +36,7 @@ returns-2 : tie.Need-returns
 returns-2 c =
     let f = c.before.before in
     let e = f.before.before in
-    (f.by_frames.ensures.0, unknown f.by_frames.result.written (e.before.is_known.ensures.1 e.if-is_known.false) f.by_frames.ensures.1)
+    (f.by_frames.ensures.0, unknown f.by_frames.result.written (e.is_known.ensures.1 e.if-is_known.false) f.by_frames.ensures.1)
 
 pub first_point_spec : {M : Type 1} → statement M
 first_point_spec =

@@ -9,7 +9,7 @@ all-still-requires : tie.Need-all_still-requires
 all-still-requires c κs = search rules
 
 returns : tie.Need-returns-then-first
-returns c = let a = c.all_still.ensures in (λ i. (c.before.if-first.true, a.all i), λ i k. a.some i k.1)
+returns c = let a = c.all_still.ensures in (λ i. (c.if-first.true, a.all i), λ i k. a.some i k.1)
 
 returns-2 : tie.Need-returns
 returns-2 c = (λ i. absurd (impossible i), λ i k. impossible (sym c.if-first.false ∙ k.0))

@@ -36,8 +36,8 @@ returns-2 c =
     let k = s.args.k in
     let z = s.requires.0 in (
       λ i. absurd (impossible (sym i)),
-      λ i g. apart (at s.args.t1.lo k) (at s.args.t1.hi k)
-          (yes_lt (rw (within-back tt (z.lo-in k), within-back tt (z.hi-in k)) at c.if-l-u.true)) (g c.before.if-w.false),
+      λ i g. apart (at s.args.ends.lo k) (at s.args.ends.hi k)
+          (yes_lt (rw (within-back tt (z.lo-in k), within-back tt (z.hi-in k)) at c.if-l-u.true)) (g c.if-w.false),
     )
   where
     apart : (x y : ℤ) → x <ℤ y → x ≡ y → ⊥

@@ -14,27 +14,27 @@ price-of-requires c κs = search rules
 
 top-of-requires : tie.Need-top_of-top-requires
 top-of-requires c κs = let s = c.before in
-    (tied-sized s.before.before.before.args.s s.before.before.before.args.c s.before.before.before.requires.0, (c.before.price_of-price.ensures.p-in, c.before.price_of-price.ensures.q-in))
+    (tied-sized s.args.s s.args.c s.requires.0, (c.price_of-price.ensures.p-in, c.price_of-price.ensures.q-in))
 
-counted : (c : tie.After-top_of-top) → Fair c.top_of-top.result c.before.before.price_of-price.result.q c.before.before.before.before.before.args.v
+counted : (c : tie.After-top_of-top) → Fair c.top_of-top.result c.price_of-price.result.q c.args.v
 counted c =
     let s = c.before.before in
-    let r = c.before.before.price_of-price in
-    fair s.before.before.before.args.s s.before.before.before.args.c s.before.before.before.requires.0 s.before.before.before.args.v s.before.before.before.requires.1 r.result r.ensures c.top_of-top.result c.top_of-top.ensures.0
+    let r = c.price_of-price in
+    fair s.args.s s.args.c s.requires.0 s.args.v s.requires.1 r.result r.ensures c.top_of-top.result c.top_of-top.ensures.0
 
 lost-requires : tie.Need-lost-num-requires
 lost-requires c κs =
     let s = c.before.before in
-    rw (within-back tt c.top_of-top.ensures.1) (c.before.before.price_of-price.ensures.q-in, (c.top_of-top.ensures.1, (s.before.before.before.requires.1.proper, counted c)))
+    rw (within-back tt c.top_of-top.ensures.1) (c.price_of-price.ensures.q-in, (c.top_of-top.ensures.1, (s.requires.1.proper, counted c)))
 
 returns : tie.Need-returns
 returns c =
     let t = c.before in
-    let r = t.before.before.price_of-price in
+    let r = t.price_of-price in
     let s = t.before.before in
     let e = rw (within-back tt t.top_of-top.ensures.1) at c.lost-num.ensures in
     rw (within-back tt t.top_of-top.ensures.1) (
-      losing-made s.before.before.before.args.s s.before.before.before.args.c s.before.before.before.requires.0 s.before.before.before.args.v s.before.before.before.requires.1 _ r.ensures
+      losing-made s.args.s s.args.c s.requires.0 s.args.v s.requires.1 _ r.ensures
           t.top_of-top.ensures.0
           t.top_of-top.ensures.1 (record { den-is = refl; num-is = e.0 }) e.1,
       record { den-is = refl; num-is = e.0 },

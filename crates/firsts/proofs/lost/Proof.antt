@@ -22,13 +22,13 @@ fit s = fits-made s.args.top s.args.q s.args.v s.requires.0 s.requires.1.0 s.req
 q-is : (s : tie.Start) → to_z w64 s.args.q ≡ pos s.args.q
 q-is s = to_z_pos w64 (omega (arith, s.requires.0))
 
-w-is : (c : tie.After-struct_told-1) → to_z w64 (of_z w64 c.before.args.v.whole) ≡ c.before.args.v.whole
-w-is c = back c.before.args.v.whole c.struct_told-1.given.0.1
+w-is : (c : tie.After-struct_told-1) → to_z w64 (of_z w64 c.args.v.whole) ≡ c.args.v.whole
+w-is c = back c.args.v.whole c.struct_told-1.given.0.1
 
 whole_in : (s : tie.Start) → Within 10001000 (s.args.top -ℤ pos s.args.q *ℤ s.args.v.whole)
 whole_in s = subst (Within 10001000) (fit s).whole_is (abs-within (pos (fit s).whole) (fit s).small)
 
-n-is : (c : tie.After-struct_told-1) → let a = c.before.args in
+n-is : (c : tie.After-struct_told-1) → let a = c.args in
     to_z w64 (of_z w64 (to_z w64 (of_z w64 a.top) -ℤ to_z w64 (of_z w64 (to_z w64 a.q *ℤ to_z w64 (of_z w64 a.v.whole))))) ≡ pos (fit c.before).whole
 n-is c = let s = c.before in
     rw (within-back tt s.requires.1.0, q-is s, w-is c, within-back tt (fit s).product) (within-back tt (whole_in s) ∙ sym (fit s).whole_is)

@@ -12,15 +12,15 @@ use Rattle.firsts.proofs.sooner.Statement.{statement}
 use Rattle.firsts.proofs.sooner.Tie as tie
 
 by-level-requires : tie.Need-by_level-y-requires
-by-level-requires c κs = let y = c.before.requires.0 in (y.ready.few, λ d l. omega (arith, y.ready.level_in d l, y.ready.sized.columns.few))
+by-level-requires c κs = let y = c.requires.0 in (y.ready.few, λ d l. omega (arith, y.ready.level_in d l, y.ready.sized.columns.few))
 
 -- the place
-inside : (c : tie.After-by_level-y) → Inside c.before.before.args.s (at c.by_level-y.result)
+inside : (c : tie.After-by_level-y) → Inside c.args.s (at c.by_level-y.result)
 inside c d l = let s = c.before.before in
     subst (λ x. (at s.args.s.low d ≤ℤ x) × (x ≤ℤ at s.args.s.high d)) (sym (c.by_level-y.ensures.each d l)) (s.requires.1.1 d l)
 
 filling-at-requires : tie.Need-filling_at-z-requires
-filling-at-requires c κs = (c.before.before.requires.0, inside c)
+filling-at-requires c κs = (c.requires.0, inside c)
 
 comes-before-requires : tie.Need-comes_before-requires
 comes-before-requires c κs =

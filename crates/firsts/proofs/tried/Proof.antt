@@ -50,7 +50,7 @@ div-first-of-frame c = search rules
 
 -- what the frame is asked for
 over : (c : tie.Else-m-d-gt0) → let s = start c.before in
-    s.args.l.den * ((c.before.before.scale_of-scale.result * s.args.l.num) / s.args.l.den) ≡ s.args.l.num * scale_of s.args.c s.args.t
+    s.args.l.den * ((c.scale_of-scale.result * s.args.l.num) / s.args.l.den) ≡ s.args.l.num * scale_of s.args.c s.args.t
 over c =
     let s = start c.before in
     let m = c.before.before in
@@ -113,7 +113,7 @@ told m =
     let n = a.l.num in
     let d = a.l.den in
     let f = subst (λ e. ((e * n) % d ≡ 0) × FrameFirst a.l.p a.l.q a.c a.s.ends a.whole a.t ((e * n) / d) x)
-    (test m).before.before.scale_of-scale.ensures (omega (arith, (test m).if-m-d-gt0.false), m.first_of_frame-seen.ensures) in
+    (test m).scale_of-scale.ensures (omega (arith, (test m).if-m-d-gt0.false), m.first_of_frame-seen.ensures) in
     asked x f.0 f.1
 
 sooner-requires : tie.Need-sooner-point-requires
@@ -128,7 +128,7 @@ sooner-requires c κs =
         shown-small a.c (ends_at a.s h.place) (place-sized a.s a.c y h.place h.inside) a.s a.b.point h.shows,
         seen-inside a.s a.c y a.l s.requires.0.1.0 a.t a.b h a.whole s.requires.0.1.1.0 s.requires.1.0 s.requires.1.1.0 _
             (over (test m))
-            m.first_of_frame-seen.result m.first_of_frame-seen.ensures c.before.if-seen.true,
+            m.first_of_frame-seen.result m.first_of_frame-seen.ensures c.if-seen.true,
       ),
     )
 
@@ -142,7 +142,7 @@ returns-2 c =
     let a = s.args in
     let g = m.first_of_frame-seen in (
       led-sooner a.s a.c s.requires.0.0 a.l s.requires.0.1.0 a.t a.b s.requires.0.1.1.1 a.whole s.requires.0.1.1.0 s.requires.1.0
-          s.requires.1.1.0 _ (over (test m)) g.result g.ensures c.before.before.if-seen.true _ c.sooner-point.ensures refl,
+          s.requires.1.1.0 _ (over (test m)) g.result g.ensures c.if-seen.true _ c.sooner-point.ensures refl,
       told m,
     )
 

@@ -7,7 +7,7 @@ use Rattle.greedy.proofs.begin.Tie as tie
 begin-in-requires : tie.Need-begin_in-requires
 begin-in-requires c κs =
     let s = c.before.before.before.before.before in
-    rw (within-back tt s.requires.columns.capacity-in) (by-item-sized s.args.t1 s.args.t2 s.requires)
+    rw (within-back tt s.requires.columns.capacity-in) (by-item-sized s.args.cols s.args.ends s.requires)
 
 returns : tie.Need-returns
 returns c =

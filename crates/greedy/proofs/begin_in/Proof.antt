@@ -56,10 +56,10 @@ loop-holds c = (
     nothing = split _ (λ a b. simp zed (omega arith))
 
 mul-a : tie.Need-offset_bounds-weight-k invariant-loop decreases-loop
-mul-a c = omega (arith, c.before.before.requires.columns.few)
+mul-a c = omega (arith, c.requires.columns.few)
 
 element-copy-out-a : tie.Need-bounds-weight-k invariant-loop decreases-loop
-element-copy-out-a c = omega (arith, c.before.before.requires.columns.few)
+element-copy-out-a c = omega (arith, c.requires.columns.few)
 
 -- the moments that are spoken of below
 abbrev start-of-in-loop : tie.In-loop-k invariant-loop decreases-loop → tie.Start invariant-loop decreases-loop
@@ -161,8 +161,8 @@ loop-again c =
 returns : tie.Need-returns invariant-loop decreases-loop
 returns c =
     let s = c.before.before in
-    let e : c.before.loop-k.k ≡ s.args.n = omega arith in
-    rw (e, within-back tt s.requires.columns.capacity-in) at c.before.loop-k.invariant.1
+    let e : c.loop-k.k ≡ s.args.n = omega arith in
+    rw (e, within-back tt s.requires.columns.capacity-in) at c.loop-k.invariant.1
 
 pub begin_in_spec : {M : Type 1} → statement M
 begin_in_spec =

@@ -63,11 +63,11 @@ unfolding bound
 returns c =
     let d = c.before in
     let t = then1 d.before in
-    rw (lt-ltb _ _ t.if-u-live.true) (c.share.ensures ∙ ap₂ (shared_by t.before.args.f) (size_is d.before) (rate-is d))
+    rw (lt-ltb _ _ t.if-u-live.true) (c.share.ensures ∙ ap₂ (shared_by t.args.f) (size_is d.before) (rate-is d))
 
 returns-2 : tie.Need-returns
 unfolding bound
-returns-2 c = rw (le-ltb _ _ c.before.if-u-live.false, within-back tt c.before.before.requires.worth-in)
+returns-2 c = rw (le-ltb _ _ c.if-u-live.false, within-back tt c.requires.worth-in)
 
 pub bound_in_spec : {M : Type 1} → statement M
 bound_in_spec =

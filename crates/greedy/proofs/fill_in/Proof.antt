@@ -123,20 +123,20 @@ returns : tie.Need-returns-then-f-lt0 invariant-loop decreases-loop
 unfolding fill
 returns c =
     let s = start-of-told c.before in
-    let e = c.before.before.before.begin_in-f.ensures in
+    let e = c.begin_in-f.ensures in
     let w = within-back tt s.requires.columns.capacity-in in
     let t = rw (e, within-back tt (begun-room s)) at c.if-f-lt0.true in
     rw (e, w, rw w at t)
 
 loop-holds : tie.Need-loop-f-init invariant-loop decreases-loop
-loop-holds c = let s = start-of-told c.before in rw c.before.before.before.begin_in-f.ensures (begin-filling (cols s) (ends s) (sized s))
+loop-holds c = let s = start-of-told c.before in rw c.begin_in-f.ensures (begin-filling (cols s) (ends s) (sized s))
 
 -- the rank of the turn
-rank<16 : (c : tie.In-loop-f invariant-loop decreases-loop) → c.before.before.loop-f.f.at < 16
+rank<16 : (c : tie.In-loop-f invariant-loop decreases-loop) → c.loop-f.f.at < 16
 rank<16 c = let l = c.before.before in omega (arith, l.loop-f.invariant.rank-in, (sized (start-of-at-loop l)).columns.live-few, c.loop-f-test.true)
 
-item<16 : (c : tie.In-loop-f invariant-loop decreases-loop) → item_of (cols (start-of-at-loop c.before.before)) c.before.before.loop-f.f.at < 16
-item<16 c = (sized (start-of-at-loop c.before.before)).columns.items-in c.before.before.loop-f.f.at
+item<16 : (c : tie.In-loop-f invariant-loop decreases-loop) → item_of (cols (start-of-at-loop c.before.before)) c.loop-f.f.at < 16
+item<16 c = (sized (start-of-at-loop c.before.before)).columns.items-in c.loop-f.f.at
 
 mul-k : tie.Need-offset_bounds-order-u invariant-loop decreases-loop
 mul-k c = omega (arith, rank<16 c)
@@ -251,7 +251,7 @@ more-filling c e f z l h i = record {
 
 -- after a turn that fits
 module _ (c : tie.Then-t invariant-loop decreases-loop) where
-  raised-to : (c.before.raise-t.result.fill ≡ raised (cols (start-of-then3 c)) (ends (start-of-then3 c)) (at-loop-of-then3 c).loop-f.f)
+  raised-to : (c.raise-t.result.fill ≡ raised (cols (start-of-then3 c)) (ends (start-of-then3 c)) (at-loop-of-then3 c).loop-f.f)
       × (lt_z (at-loop-of-then3 c).loop-f.f.room (at (cols (start-of-then3 c)).size (at-loop-of-then3 c).loop-f.f.at *ℤ width (cols (start-of-then3 c))
       (ends (start-of-then3 c)) (at-loop-of-then3 c).loop-f.f.at) ≡ false)
   raised-to =
@@ -288,7 +288,7 @@ unfolding fill
 entered l =
     let b = l.before in
     let s = start-of-told b.before in
-    let t = rw (b.before.before.before.begin_in-f.ensures, within-back tt (begun-room s)) at b.if-f-lt0.false in
+    let t = rw (b.begin_in-f.ensures, within-back tt (begun-room s)) at b.if-f-lt0.false in
     rw t
 
 -- the capacity as it was lent

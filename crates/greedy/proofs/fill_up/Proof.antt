@@ -8,12 +8,12 @@ use Rattle.greedy.proofs.fill_up.Tie as tie
 fill-in-requires : tie.Need-fill_in-requires
 fill-in-requires c κs =
     let s = c.before.before.before.before.before.before.before.before in
-    rw (within-back tt s.requires.columns.capacity-in) (unranked-sized s.args.t1 s.args.t2 s.requires)
+    rw (within-back tt s.requires.columns.capacity-in) (unranked-sized s.args.cols s.args.ends s.requires)
 
 returns : tie.Need-returns
 returns c =
     let s = c.before.before.before.before.before.before.before.before.before in
-    rw (within-back tt s.requires.columns.capacity-in) at c.fill_in.ensures ∙ unranked-fill s.args.t1 s.args.t2
+    rw (within-back tt s.requires.columns.capacity-in) at c.fill_in.ensures ∙ unranked-fill s.args.cols s.args.ends
 
 pub fill_up_spec : {M : Type 1} → statement M
 fill_up_spec = tie.close (tie.spec fill-in-requires returns)

@@ -33,7 +33,7 @@ ceil-div-requires c κs =
     let t = rw (to_z-of_z s.ranges.a) at c.if-a-lt0.true in
     rw (to_z-of_z s.ranges.a, to_z-of_z s.ranges.room) (within_more (omega arith) s.requires.room_in, below s.args.a (yes_lt t))
 
-up : (c : tie.After-ceil_div) → to_z w64 (of_z w64 c.ceil_div.result) ≡ ceil_div c.before.before.args.room c.before.before.args.a
+up : (c : tie.After-ceil_div) → to_z w64 (of_z w64 c.ceil_div.result) ≡ ceil_div c.args.room c.args.a
 up c = let s = c.before.before in rw (back c.ceil_div.result c.ceil_div.type_inv)
     (rw (to_z-of_z s.ranges.a, to_z-of_z s.ranges.room) at c.ceil_div.ensures)
 
@@ -43,7 +43,7 @@ add-result c = let s = c.before.before in rw (up c, to_z-of_z s.ranges.u) (withi
 returns : tie.Need-returns-then-a-lt0
 returns c =
     let s = c.before.before in
-    let t = rw (to_z-of_z s.ranges.a) at c.before.if-a-lt0.true in
+    let t = rw (to_z-of_z s.ranges.a) at c.if-a-lt0.true in
     rw (up c, to_z-of_z s.ranges.u, within-back tt (sunk s), t)
 
 -- ---- a weight above 0: rounded down, from the lower end
@@ -57,8 +57,8 @@ floor-div-requires c κs =
     let t = rw (to_z-of_z s.ranges.a) at c.if-a-gt0.true in
     rw (to_z-of_z s.ranges.a, to_z-of_z s.ranges.room) (within_more (omega arith) s.requires.room_in, above s.args.a (yes_lt t))
 
-down : (c : tie.After-floor_div) → to_z w64 (of_z w64 c.floor_div.result) ≡ floor_div c.before.before.before.args.room
-    c.before.before.before.args.a
+down : (c : tie.After-floor_div) → to_z w64 (of_z w64 c.floor_div.result) ≡ floor_div c.args.room
+    c.args.a
 down c = let s = c.before.before.before in rw (back c.floor_div.result c.floor_div.type_inv)
     (rw (to_z-of_z s.ranges.a, to_z-of_z s.ranges.room) at c.floor_div.ensures)
 
@@ -68,14 +68,14 @@ add-result-2 c = let s = c.before.before.before in rw (down c, to_z-of_z s.range
 returns-2 : tie.Need-returns-then-a-gt0
 returns-2 c =
     let s = c.before.before.before in
-    let t = rw (to_z-of_z s.ranges.a) at c.before.before.if-a-lt0.false in
-    let u = rw (to_z-of_z s.ranges.a) at c.before.if-a-gt0.true in
+    let t = rw (to_z-of_z s.ranges.a) at c.if-a-lt0.false in
+    let u = rw (to_z-of_z s.ranges.a) at c.if-a-gt0.true in
     rw (down c, to_z-of_z s.ranges.l, within-back tt (risen s), t, u)
 
 returns-3 : tie.Need-returns
 returns-3 c =
     let s = c.before.before in
-    let t = rw (to_z-of_z s.ranges.a) at c.before.if-a-lt0.false in
+    let t = rw (to_z-of_z s.ranges.a) at c.if-a-lt0.false in
     let u = rw (to_z-of_z s.ranges.a) at c.if-a-gt0.false in
     rw (to_z-of_z s.ranges.l, t, u)
 

@@ -12,23 +12,23 @@ returns c =
 returns-2 : tie.Need-returns-then-a-lt0
 returns-2 c =
     let s = c.before.before in
-    let t = rw (to_z-of_z s.ranges.a) at c.before.if-a-gt0.false in
+    let t = rw (to_z-of_z s.ranges.a) at c.if-a-gt0.false in
     let v = rw (to_z-of_z s.ranges.a) at c.if-a-lt0.true in
     rw (to_z-of_z s.ranges.u, t, v)
 
 returns-3 : tie.Need-returns-then-c-gt0
 returns-3 c =
     let s = c.before.before.before in
-    let t = rw (to_z-of_z s.ranges.a) at c.before.before.if-a-gt0.false in
-    let v = rw (to_z-of_z s.ranges.a) at c.before.if-a-lt0.false in
+    let t = rw (to_z-of_z s.ranges.a) at c.if-a-gt0.false in
+    let v = rw (to_z-of_z s.ranges.a) at c.if-a-lt0.false in
     let w = rw (to_z-of_z s.ranges.c) at c.if-c-gt0.true in
     rw (to_z-of_z s.ranges.u, t, v, w)
 
 returns-4 : tie.Need-returns-else-c-gt0
 returns-4 c =
     let s = c.before.before.before in
-    let t = rw (to_z-of_z s.ranges.a) at c.before.before.if-a-gt0.false in
-    let v = rw (to_z-of_z s.ranges.a) at c.before.if-a-lt0.false in
+    let t = rw (to_z-of_z s.ranges.a) at c.if-a-gt0.false in
+    let v = rw (to_z-of_z s.ranges.a) at c.if-a-lt0.false in
     let w = rw (to_z-of_z s.ranges.c) at c.if-c-gt0.false in
     rw (to_z-of_z s.ranges.l, t, v, w)
 

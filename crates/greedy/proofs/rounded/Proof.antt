@@ -60,17 +60,17 @@ returns-3 c =
     let t = c.before in
     let s = start-of-then3 t.before in
     let e = rw (to_z-of_z s.ranges.a, to_z-of_z s.ranges.l, to_z-of_z s.ranges.u, within-back tt s.requires.room_in) at c.fitting.ensures in
-    rw (not-empty t.before.before.before, le-ltb _ _ t.before.before.if-v-t.false, eq-eqb _ _ t.before.if-v-t-2.true, lt-ltb _ _ t.if-t-n.true)
+    rw (not-empty t.before.before.before, le-ltb _ _ t.if-v-t.false, eq-eqb _ _ t.if-v-t-2.true, lt-ltb _ _ t.if-t-n.true)
     (back c.fitting.result c.fitting.type_inv ∙ e)
 
 returns-4 : tie.Need-returns-else-t-n
 returns-4 c =
     let t = c.before in
-    rw (not-empty t.before.before, le-ltb _ _ t.before.if-v-t.false, eq-eqb _ _ t.if-v-t-2.true, le-ltb _ _ c.if-t-n.false)
+    rw (not-empty t.before.before, le-ltb _ _ t.if-v-t.false, eq-eqb _ _ t.if-v-t-2.true, le-ltb _ _ c.if-t-n.false)
     (light-is t.before.before.before)
 
 returns-5 : tie.Need-returns-else-v-t-2
-returns-5 c = rw (not-empty c.before.before, le-ltb _ _ c.before.if-v-t.false, ne_eqb _ _ c.if-v-t-2.false) (light-is c.before.before.before)
+returns-5 c = rw (not-empty c.before.before, le-ltb _ _ c.if-v-t.false, ne_eqb _ _ c.if-v-t-2.false) (light-is c.before.before.before)
 
 pub rounded_spec : {M : Type 1} → statement M
 rounded_spec =

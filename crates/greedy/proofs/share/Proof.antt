@@ -15,40 +15,40 @@ use Rattle.greedy.proofs.share.Statement.{statement}
 use Rattle.greedy.proofs.share.Tie as tie
 
 magnitude-requires : tie.Need-magnitude-requires
-magnitude-requires c κs = rw (within-back tt c.before.requires.room_in) (within_more (omega arith) c.before.requires.room_in)
+magnitude-requires c κs = rw (within-back tt c.requires.room_in) (within_more (omega arith) c.requires.room_in)
 
-room-is : (c : tie.After-magnitude) → c.magnitude.result ≡ nat_abs c.before.before.args.f.room
-room-is c = rw (within-back tt c.before.before.requires.room_in) at c.magnitude.ensures
+room-is : (c : tie.After-magnitude) → c.magnitude.result ≡ nat_abs c.args.f.room
+room-is c = rw (within-back tt c.requires.room_in) at c.magnitude.ensures
 
-product : (c : tie.After-magnitude) → c.before.before.args.p * c.magnitude.result ≤ 200000000000000000
+product : (c : tie.After-magnitude) → c.args.p * c.magnitude.result ≤ 200000000000000000
 product c =
     let s = c.before.before in
     let r : c.magnitude.result ≤ most_room = omega (arith, room-is c, within-abs s.args.f.room s.requires.room_in) in
     mul-le-mul s.requires.rate-in r
 
-quotient : (c : tie.After-magnitude) → (c.before.before.args.p * c.magnitude.result) / c.before.before.args.s ≤ 200000000000000000
-quotient c = omega (arith, div-le_self (c.before.before.args.p * c.magnitude.result) c.before.before.args.s, product c)
+quotient : (c : tie.After-magnitude) → (c.args.p * c.magnitude.result) / c.args.s ≤ 200000000000000000
+quotient c = omega (arith, div-le_self (c.args.p * c.magnitude.result) c.args.s, product c)
 
-whole-within : (c : tie.After-magnitude) → Within 500000000000000000 (c.before.before.args.f.worth +ℤ pos
-    ((c.before.before.args.p * c.magnitude.result) / c.before.before.args.s))
-whole-within c = within-add c.before.before.requires.worth-in (record { above = quotient c; below = omega arith })
+whole-within : (c : tie.After-magnitude) → Within 500000000000000000 (c.args.f.worth +ℤ pos
+    ((c.args.p * c.magnitude.result) / c.args.s))
+whole-within c = within-add c.requires.worth-in (record { above = quotient c; below = omega arith })
 
 mul-x : tie.Need-overflow_mul-x
 mul-x c = record { fits = omega (arith, product c) }
 
 div-t6 : tie.Need-nonzero_div-result
-div-t6 c = c.before.before.requires.size_in
+div-t6 c = c.requires.size_in
 
 cast-t7 : tie.Need-overflow_cast-result
 cast-t7 c = record { sfits = omega (arith, quotient c) }
 
 -- the sum's two terms, as the code holds them
-terms : (c : tie.After-magnitude) → to_z w64 ((c.before.before.args.p * c.magnitude.result) / c.before.before.args.s) ≡ pos
-    ((c.before.before.args.p * c.magnitude.result) / c.before.before.args.s)
+terms : (c : tie.After-magnitude) → to_z w64 ((c.args.p * c.magnitude.result) / c.args.s) ≡ pos
+    ((c.args.p * c.magnitude.result) / c.args.s)
 terms c = to_z_pos w64 (omega (arith, quotient c))
 
 add-t8 : tie.Need-overflow_add-result
-add-t8 c = let d = c.before.before in rw (within-back tt d.before.before.requires.worth-in, terms d) (within-sfits (lit< tt) (whole-within d))
+add-t8 c = let d = c.before.before in rw (within-back tt d.requires.worth-in, terms d) (within-sfits (lit< tt) (whole-within d))
 
 -- the moments that are spoken of below
 abbrev start : tie.After-magnitude → tie.Start
@@ -60,7 +60,7 @@ rem-t9 c =
     s.requires.size_in
 
 returns : tie.Need-returns
-returns c = let d = c.before.before in rw (within-back tt d.before.before.requires.worth-in, terms d, within-back tt (whole-within d), room-is d)
+returns c = let d = c.before.before in rw (within-back tt d.requires.worth-in, terms d, within-back tt (whole-within d), room-is d)
 
 pub share_spec : {M : Type 1} → statement M
 share_spec = tie.close (tie.spec magnitude-requires mul-x div-t6 cast-t7 add-t8 rem-t9 returns)

@@ -63,10 +63,10 @@ rounded-requires c κs =
     let at_c = c.before.before.before in
     let at-fill-in = at_c.before.before in
     let s = at-fill-in.before in
-    let k = s.before.args.k in
-    let z = s.before.requires.0.ends in
+    let k = s.args.k in
+    let z = s.requires.0.ends in
     rw (within-back tt (z.lo-in k), within-back tt (z.hi-in k), filled at-fill-in)
-    (record { low-in = z.lo-in k; high-in = z.hi-in k; room_in = (fill-sized (cols s) (ends s) s.before.requires.0).room_in })
+    (record { low-in = z.lo-in k; high-in = z.hi-in k; room_in = (fill-sized (cols s) (ends s) s.requires.0).room_in })
 
 returns : tie.Need-returns
 unfolding start
@@ -74,8 +74,8 @@ returns c =
     let at-l = c.before.before.before in
     let at-fill-in = at-l.before.before.before in
     let s = at-fill-in.before in
-    let k = s.before.args.k in
-    let z = s.before.requires.0 in
+    let k = s.args.k in
+    let z = s.requires.0 in
     let e = rw (
       within-back tt (z.columns.weights-in k),
       within-back tt (z.columns.prices-in k),

@@ -20,8 +20,8 @@ returns c = search rules
 
 returns-2 : tie.Need-returns-in-Continuous
 returns-2 c =
-    let s = c.before.before.before in
-    rw c.before.enum_told-in-Continuous-1.given.1 (c.weight_divisor.ensures ∙ ap weight_divisor (within-back tt s.requires))
+    let s = c.before.before in
+    rw c.in-Continuous.is (c.weight_divisor.ensures ∙ ap weight_divisor (within-back tt s.requires))
 
 pub own_divisor_spec : {M : Type 1} → statement M
 own_divisor_spec = tie.close (tie.spec enum_told enum-told-2 weight-divisor-requires returns returns-2)

@@ -10,8 +10,8 @@ magnitude-requires : tie.Need-magnitude-m-requires
 magnitude-requires c κs = rw (within-back tt c.requires) (within_more (omega arith) c.requires)
 
 -- the weight without its sign
-size : (c : tie.After-magnitude-m) → c.magnitude-m.result ≡ nat_abs c.before.args.a
-size c = c.magnitude-m.ensures ∙ ap nat_abs (within-back tt c.before.requires)
+size : (c : tie.After-magnitude-m) → c.magnitude-m.result ≡ nat_abs c.args.a
+size c = c.magnitude-m.ensures ∙ ap nat_abs (within-back tt c.requires)
 
 returns : tie.Need-returns-then-m-eq0
 returns c = omega (arith, size c.before, c.if-m-eq0.true)

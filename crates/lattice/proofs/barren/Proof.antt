@@ -27,22 +27,22 @@ invariant-loop l f room b r₀ n₀ r n =
 abbrev decreases-loop : tie.decreases-loop-n
 decreases-loop l f room b r₀ n₀ r n = n
 
-test : (c : tie.Then-l-gt0 invariant-loop decreases-loop) → lt_z (pos 0) c.before.before.before.args.l.stride ≡ true
-test c = rw (within-back tt c.before.before.before.requires.0.stride-in) at c.if-l-gt0.true
+test : (c : tie.Then-l-gt0 invariant-loop decreases-loop) → lt_z (pos 0) c.args.l.stride ≡ true
+test c = rw (within-back tt c.requires.0.stride-in) at c.if-l-gt0.true
 
-starts : (c : tie.Then-l-gt0 invariant-loop decreases-loop) → Starts c.before.before.before.args.l c.before.before.before.args.room
+starts : (c : tie.Then-l-gt0 invariant-loop decreases-loop) → Starts c.args.l c.args.room
 starts c = let s = c.before.before.before in record { tame = s.requires.0; stride≥1 = yes_lt (test c); room_in = s.requires.1.1 }
 
 -- the whole descent
-whole : (c : tie.Then-l-gt0 invariant-loop decreases-loop) → barren_by c.before.before.before.args.l c.before.before.before.args.f
-    c.before.before.before.args.room c.before.before.before.args.b ≡ barren_from tries c.before.before.before.args.l
-    c.before.before.before.args.f (to_z w64 (of_z w64 c.before.before.before.args.b))
-    (first_rung c.before.before.before.args.l (to_z w64 (of_z w64 c.before.before.before.args.room)))
+whole : (c : tie.Then-l-gt0 invariant-loop decreases-loop) → barren_by c.args.l c.args.f
+    c.args.room c.args.b ≡ barren_from tries c.args.l
+    c.args.f (to_z w64 (of_z w64 c.args.b))
+    (first_rung c.args.l (to_z w64 (of_z w64 c.args.room)))
 unfolding barren_by
 whole c = let s = c.before.before.before in rw (test c, to_z-of_z s.ranges.b, to_z-of_z s.ranges.room)
 
 first-rung-requires : tie.Need-first_rung-r-requires invariant-loop decreases-loop
-first-rung-requires c κs = rw (within-back tt c.before.before.before.requires.1.1) (starts c)
+first-rung-requires c κs = rw (within-back tt c.requires.1.1) (starts c)
 
 -- the moments that are spoken of below
 abbrev start-of-then1 : tie.Then-l-gt0 invariant-loop decreases-loop → tie.Start invariant-loop decreases-loop
@@ -54,7 +54,7 @@ start-of-at-loop c = start-of-then1 c.before.before
 abbrev start-of-judge : tie.After-judge-y invariant-loop decreases-loop → tie.Start invariant-loop decreases-loop
 start-of-judge c = start-of-at-loop c.before.before
 
-abbrev at-loop : tie.In-Unknown-1 invariant-loop decreases-loop → tie.At-loop-n invariant-loop decreases-loop
+abbrev at-loop : tie.In-Unknown invariant-loop decreases-loop → tie.At-loop-n invariant-loop decreases-loop
 at-loop c = c.before.before.before
 
 loop-holds : tie.Need-loop-n-init invariant-loop decreases-loop
@@ -85,15 +85,15 @@ judge-requires c κs =
 
 -- what is judged here, and what is below
 rest : (c : tie.After-judge-y invariant-loop decreases-loop) → verdict c.judge-y.result
-    (barren_from (c.before.before.loop-n.n - 1) (start-of-judge c).args.l (start-of-judge c).args.f (to_z w64 (of_z w64 (start-of-judge c).args.b))
-    (lower (start-of-judge c).args.l c.before.before.loop-n.r)) ≡ barren_from tries (start-of-judge c).args.l (start-of-judge c).args.f
+    (barren_from (c.loop-n.n - 1) (start-of-judge c).args.l (start-of-judge c).args.f (to_z w64 (of_z w64 (start-of-judge c).args.b))
+    (lower (start-of-judge c).args.l c.loop-n.r)) ≡ barren_from tries (start-of-judge c).args.l (start-of-judge c).args.f
     (to_z w64 (of_z w64 (start-of-judge c).args.b)) (first_rung (start-of-judge c).args.l (to_z w64 (of_z w64 (start-of-judge c).args.room)))
 rest c =
     let a = c.before.before in
     let s = start-of-at-loop a in
     ap (λ y. verdict y (barren_from (a.loop-n.n - 1) s.args.l s.args.f (to_z w64 (of_z w64 s.args.b)) (lower s.args.l a.loop-n.r)))
     c.judge-y.ensures
-    ∙ sym (step_of a.loop-n.n s.args.l s.args.f (to_z w64 (of_z w64 s.args.b)) a.loop-n.r c.before.loop-n-test.true)
+    ∙ sym (step_of a.loop-n.n s.args.l s.args.f (to_z w64 (of_z w64 s.args.b)) a.loop-n.r c.loop-n-test.true)
     ∙ a.loop-n.invariant.1.0
 
 enum_told : tie.Need-enum_told-1 invariant-loop decreases-loop
@@ -101,29 +101,29 @@ enum_told c = search rules
 
 returns : tie.Need-returns-in-Nothing invariant-loop decreases-loop
 returns c =
-    let j = c.before.before in
+    let j = c.before in
     let a = j.before.before in
     let s = start-of-at-loop a in
     let below = barren_from (a.loop-n.n - 1) s.args.l s.args.f (to_z w64 (of_z w64 s.args.b)) (lower s.args.l a.loop-n.r) in
-    sym (whole a.before.before ∙ sym (rest j) ∙ ap (λ y. verdict y below) c.enum_told-1.given.1)
+    sym (whole a.before.before ∙ sym (rest j) ∙ ap (λ y. verdict y below) c.in-Nothing.is)
 
 enum-told-2 : tie.Need-enum_told-in-Better invariant-loop decreases-loop
 enum-told-2 c = search rules
 
 returns-2 : tie.Need-returns-in-Better invariant-loop decreases-loop
 returns-2 c =
-    let j = c.before.before in
+    let j = c.before in
     let a = j.before.before in
     let s = start-of-at-loop a in
     let below = barren_from (a.loop-n.n - 1) s.args.l s.args.f (to_z w64 (of_z w64 s.args.b)) (lower s.args.l a.loop-n.r) in
-    sym (whole a.before.before ∙ sym (rest j) ∙ ap (λ y. verdict y below) c.enum_told-in-Better-1.given.1)
+    sym (whole a.before.before ∙ sym (rest j) ∙ ap (λ y. verdict y below) c.in-Better.is)
 
 enum-told-3 : tie.Need-enum_told-in-Unknown invariant-loop decreases-loop
 enum-told-3 c = search rules
 
 less-stride-requires : tie.Need-less_stride-r-requires invariant-loop decreases-loop
 less-stride-requires c κs =
-    let a = at-loop c.before in
+    let a = at-loop c in
     let s = start-of-at-loop a in
     record { tame = s.requires.0; weight-in = within_more (omega arith) a.loop-n.invariant.1.1.0; worth-in = within_more (omega arith) a.loop-n.invariant.1.1.1 }
 
@@ -133,7 +133,7 @@ loop-less c = search rules
 loop-again : tie.Need-loop-n-preserved invariant-loop decreases-loop
 loop-again c =
     let t = c.before in
-    let j = t.before.before in
+    let j = t.before in
     let i = j.before in
     let a = i.before in
     let s = start-of-at-loop a in
@@ -143,7 +143,7 @@ loop-again c =
       omega (arith, a.loop-n.invariant.0),
       (
         ap (λ r. barren_from (n - 1) s.args.l s.args.f (to_z w64 (of_z w64 s.args.b)) r) c.less_stride-r.ensures
-            ∙ (sym (ap (λ y. verdict y below) t.enum_told-in-Unknown-1.given.1) ∙ rest j),
+            ∙ (sym (ap (λ y. verdict y below) t.in-Unknown.is) ∙ rest j),
         (
           rw c.less_stride-r.ensures (within_more (omega (arith, less)) (within-sub a.loop-n.invariant.1.1.0 s.requires.0.stride-in)),
           rw c.less_stride-r.ensures (within_more (omega (arith, less)) (within-sub a.loop-n.invariant.1.1.1 s.requires.0.slant-in)),
@@ -163,7 +163,7 @@ returns-3 c =
 returns-4 : tie.Need-returns-else-l-gt0 invariant-loop decreases-loop
 unfolding barren_by
 returns-4 c =
-    let t = rw (within-back tt c.before.before.before.requires.0.stride-in) at c.if-l-gt0.false in
+    let t = rw (within-back tt c.requires.0.stride-in) at c.if-l-gt0.false in
     rw t
 
 pub barren_spec : {M : Type 1} → statement M

@@ -22,11 +22,11 @@ floor-div-requires : tie.Need-floor_div-s-requires
 floor-div-requires c κs = let s = c.before.before in rw (within-back tt s.requires.room_in, within-back tt s.requires.tame.stride-in)
     (within_more (omega arith) s.requires.room_in, nonzero s.args.l.stride s.requires.stride≥1)
 
-strides-is : (c : tie.After-floor_div-s) → c.floor_div-s.result ≡ floor_div c.before.before.before.args.room c.before.before.before.args.l.stride
+strides-is : (c : tie.After-floor_div-s) → c.floor_div-s.result ≡ floor_div c.args.room c.args.l.stride
 strides-is c = let s = c.before.before.before in rw (within-back tt s.requires.room_in, within-back tt s.requires.tame.stride-in) at c.floor_div-s.ensures
 
-held : (c : tie.After-floor_div-s) → to_z w64 (of_z w64 c.floor_div-s.result) ≡ floor_div c.before.before.before.args.room
-    c.before.before.before.args.l.stride
+held : (c : tie.After-floor_div-s) → to_z w64 (of_z w64 c.floor_div-s.result) ≡ floor_div c.args.room
+    c.args.l.stride
 held c = rw (back c.floor_div-s.result c.floor_div-s.type_inv) (strides-is c)
 
 floor-div-requires-2 : tie.Need-floor_div-requires

@@ -28,16 +28,16 @@ floor-div-requires c κs =
     rw (within-back tt s.requires.height-in, within-back tt s.requires.base-in, within-back tt (over s), within-back tt s.requires.tame.gap-in)
     (within_more (omega arith) (over s), nonzero s.args.l.gap s.requires.tame.gap≥1)
 
-quotient : (c : tie.After-floor_div) → c.floor_div.result ≡ floor_div (c.before.before.args.h -ℤ c.before.before.args.base)
-    c.before.before.args.l.gap
+quotient : (c : tie.After-floor_div) → c.floor_div.result ≡ floor_div (c.args.h -ℤ c.args.base)
+    c.args.l.gap
 quotient c =
     let s = c.before.before in
     rw (within-back tt s.requires.height-in, within-back tt s.requires.base-in, within-back tt (over s), within-back tt s.requires.tame.gap-in) at
     c.floor_div.ensures
 
 -- the gap times the quotient, as the local holds it
-multiple : (c : tie.After-floor_div) → to_z w64 (of_z w64 c.before.before.args.l.gap) *ℤ to_z w64 (of_z w64 c.floor_div.result)
-    ≡ c.before.before.args.l.gap *ℤ floor_div (c.before.before.args.h -ℤ c.before.before.args.base) c.before.before.args.l.gap
+multiple : (c : tie.After-floor_div) → to_z w64 (of_z w64 c.args.l.gap) *ℤ to_z w64 (of_z w64 c.floor_div.result)
+    ≡ c.args.l.gap *ℤ floor_div (c.args.h -ℤ c.args.base) c.args.l.gap
 multiple c = let s = c.before.before in rw (within-back tt s.requires.tame.gap-in, back c.floor_div.result c.floor_div.type_inv, quotient c)
 
 mul-result : tie.Need-overflow_mul-result

@@ -11,7 +11,7 @@ cast-due : tie.Need-overflow_cast-due
 cast-due c = search rules
 
 closed-number-requires : tie.Need-closed_number-f-requires
-closed-number-requires c κs = rw (to_z_pos w64 {n = c.before.args.k} (omega arith)) (omega arith)
+closed-number-requires c κs = rw (to_z_pos w64 {n = c.args.k} (omega arith)) (omega arith)
 
 enum-known-f : tie.Need-enum_known-f
 enum-known-f c = search rules
@@ -28,19 +28,19 @@ bound-of-requires c κs = search rules
 returns : tie.Need-returns-in-Fault
 unfolding bound_read
 returns c =
-    let f = c.before in
-    let n = f.before.before in
-    let e = to_z_pos w64 {n = n.before.before.args.k} (omega arith) in
-    rw (sym (rw e at n.closed_number-f.ensures) ∙ f.f-1.given.1)
+    let f = c in
+    let n = f.before in
+    let e = to_z_pos w64 {n = n.args.k} (omega arith) in
+    rw (sym (rw e at n.closed_number-f.ensures) ∙ f.in-Fault.is)
 
 returns-2 : tie.Need-returns-in-Number
 unfolding bound_read
 returns-2 c =
     let b = c.before in
-    let f = b.before.before in
-    let n = f.before.before in
-    let e = to_z_pos w64 {n = n.before.before.args.k} (omega arith) in
-    rw (sym (rw e at n.closed_number-f.ensures) ∙ f.f-in-Number-1.given.1, ← b.bound_field.ensures) c.bound_of.ensures
+    let f = b.before in
+    let n = f.before in
+    let e = to_z_pos w64 {n = n.args.k} (omega arith) in
+    rw (sym (rw e at n.closed_number-f.ensures) ∙ f.in-Number.is, ← b.bound_field.ensures) c.bound_of.ensures
 
 pub bound_at_spec : {M : Type 1} → statement M
 bound_at_spec =

@@ -31,27 +31,27 @@ enum-known-p c = search rules
 
 returns : tie.Need-returns-in-Nothing
 unfolding bound_field
-returns c = let t = c.before in rw (sym t.before.before.after_word-w.ensures ∙ t.enum_told-1.given.1) c.number_bound.ensures
+returns c = let t = c.before in rw (sym t.after_word-w.ensures ∙ t.in-Nothing.is) c.number_bound.ensures
 
 returns-2 : tie.Need-returns-in-Nothing-p
 unfolding bound_field
 returns-2 c =
     let t = c.before in
-    let k = t.before.before.before in
+    let k = t.before.before in
     rw (
-      sym k.before.before.before.after_word-w.ensures ∙ k.before.w-1.given.1,
-      sym t.before.before.after_byte-p.ensures ∙ t.enum_told-in-Nothing-p-1.given.1,
+      sym k.after_word-w.ensures ∙ k.in-At.is,
+      sym t.after_byte-p.ensures ∙ t.in-Nothing-p.is,
     )
     (ap (λ n. Fault n) c.fault_at.ensures)
 
 returns-3 : tie.Need-returns-in-At-p
 unfolding bound_field
 returns-3 c =
-    let p = c.before in
-    let k = p.before.before.before in
+    let p = c in
+    let k = p.before.before in
     rw (
-      sym k.before.before.before.after_word-w.ensures ∙ k.before.w-1.given.1,
-      sym p.before.before.after_byte-p.ensures ∙ p.p-1.given.1,
+      sym k.after_word-w.ensures ∙ k.in-At.is,
+      sym p.after_byte-p.ensures ∙ p.in-At-p.is,
     )
 
 pub bound_field_spec : {M : Type 1} → statement M

@@ -18,13 +18,13 @@ in-turn-requires-2 : tie.Need-in_turn-requires-in-In
 in-turn-requires-2 c κs = search rules
 
 returns : tie.Need-returns-in-Fault
-returns c = rw c.before.bound-1.given.1
+returns c = rw c.in-Fault.is
 
 returns-2 : tie.Need-returns-in-Out
-returns-2 c = rw c.before.enum_told-1.given.1 c.in_turn.ensures
+returns-2 c = rw c.in-Out.is c.in_turn.ensures
 
 returns-3 : tie.Need-returns-in-In
-returns-3 c = rw c.before.before.bound-in-In-1.given.1 c.in_turn-in-In.ensures
+returns-3 c = rw c.in-In.is c.in_turn-in-In.ensures
 
 pub bound_of_spec : {M : Type 1} → statement M
 bound_of_spec =

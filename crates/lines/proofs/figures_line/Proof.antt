@@ -22,14 +22,14 @@ behind-requires c κs = search rules
 
 returns : tie.Need-returns-in-Fault
 unfolding figures_line
-returns c = rw (sym c.before.before.before.closed_number-f.ensures ∙ c.before.f-1.given.1)
+returns c = rw (sym c.closed_number-f.ensures ∙ c.in-Fault.is)
 
 returns-2 : tie.Need-returns-in-Number
 unfolding figures_line
 returns-2 c =
     let n = c.before in
-    let k = n.before.before in
-    rw (sym k.before.before.closed_number-f.ensures ∙ k.f-in-Number-1.given.1, ← n.numbers_line.ensures) c.behind.ensures
+    let k = n.before in
+    rw (sym k.closed_number-f.ensures ∙ k.in-Number.is, ← n.numbers_line.ensures) c.behind.ensures
 
 pub figures_line_spec : {M : Type 1} → statement M
 figures_line_spec =

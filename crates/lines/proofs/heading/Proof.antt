@@ -29,35 +29,35 @@ enum-known-g : tie.Need-enum_known-g
 enum-known-g c = search rules
 
 -- where the field was known, and where all began
-abbrev known : tie.In-In → tie.In-Number-2
-known c = let g = c.before.before in g.before.before
+abbrev known : tie.In-In → tie.In-Number
+known c = let g = c in g.before
 
 abbrev start : tie.In-In → tie.Start
-start c = let h = (known c).before.before in h.before.before.before
+start c = let h = (known c).before in h.before.before.before
 
-back-z : (c : tie.In-In) → to_z w64 (of_z w64 c.before.g-1.given.0.0) ≡ c.before.g-1.given.0.0
-back-z c = back _ c.known_told-in-Number-2.given.0.1
+back-z : (c : tie.In-In) → to_z w64 (of_z w64 c.in-In.n) ≡ c.in-In.n
+back-z c = back _ c.in-In.known_told-in-Number-1-own.given.0.1
 
 -- the heading that was read
 read : (c : tie.In-In) →
     let a = (start c).args in
-    heading_line a.word.now a.range a.s.now a.at ≡ Number (In c.before.g-1.given.0.0) (known c).f-in-Number-1.given.0.1.0
+    heading_line a.word.now a.range a.s.now a.at ≡ Number (In c.in-In.n) (known c).in-Number.next
 read c =
     let k = known c in
-    sym k.before.before.heading_line-f.ensures ∙ k.f-in-Number-1.given.1 ∙ ap (λ x. Number x k.f-in-Number-1.given.0.1.0) c.before.g-1.given.1
+    sym k.heading_line-f.ensures ∙ k.in-Number.is ∙ ap (λ x. Number x k.in-Number.next) c.in-In.is
 
 cast-t12 : tie.Need-overflow_cast-result
 cast-t12 c =
-    rw (back-z c) (cast-in (≤ℤ-trans (start c).requires.1 (heading-range _ _ _ _ _ _ (read c)).0) (record { sfits = c.known_told-in-Number-2.given.0.1 }))
+    rw (back-z c) (cast-in (≤ℤ-trans (start c).requires.1 (heading-range _ _ _ _ _ _ (read c)).0) (record { sfits = c.in-In.known_told-in-Number-1-own.given.0.1 }))
 
 returns : tie.Need-returns-in-Fault
 unfolding count_at
-returns c = rw (sym c.before.before.before.heading_line-f.ensures ∙ c.before.f-1.given.1)
+returns c = rw (sym c.heading_line-f.ensures ∙ c.in-Fault.is)
 
 returns-2 : tie.Need-returns-in-Out
 unfolding count_at
 returns-2 c =
-    let k = c.before.before in rw (sym k.before.before.before.heading_line-f.ensures ∙ k.before.f-in-Number-1.given.1, c.enum_told-1.given.1)
+    let k = c.before in rw (sym k.heading_line-f.ensures ∙ k.in-Number.is, c.in-Out.is)
 
 returns-3 : tie.Need-returns-in-In
 unfolding count_at

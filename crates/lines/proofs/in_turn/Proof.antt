@@ -9,7 +9,7 @@ enum-told-2 : tie.Need-enum_told-in-In
 enum-told-2 c = search rules
 
 returns : tie.Need-returns-in-Out
-returns c = rw c.enum_told-1.given.1
+returns c = rw c.in-Out.is
 
 returns-2 : tie.Need-returns-in-In
 returns-2 c = search rules

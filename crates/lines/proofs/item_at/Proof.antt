@@ -18,11 +18,11 @@ item-of-requires c κs = search rules
 
 returns : tie.Need-returns-in-Fault
 unfolding item_read
-returns c = rw (sym c.before.before.before.item_form-l.ensures ∙ c.before.l-1.given.1)
+returns c = rw (sym c.item_form-l.ensures ∙ c.in-Fault.is)
 
 returns-2 : tie.Need-returns-in-Item
 unfolding item_read
-returns-2 c = let l = c.before.before in rw (sym l.before.before.item_form-l.ensures ∙ l.l-in-Item-1.given.1) c.item_of.ensures
+returns-2 c = let l = c.before in rw (sym l.item_form-l.ensures ∙ l.in-Item.is) c.item_of.ensures
 
 pub item_at_spec : {M : Type 1} → statement M
 item_at_spec =

@@ -24,26 +24,26 @@ enum-known-p-2 c = search rules
 
 returns : tie.Need-returns-in-Nothing
 unfolding item_line
-returns c = rw (sym c.before.before.mark_field-m.ensures ∙ c.enum_told-1.given.1)
+returns c = rw (sym c.mark_field-m.ensures ∙ c.in-Nothing.is)
 
 returns-2 : tie.Need-returns-in-Fault
 unfolding item_line
 returns-2 c =
-    let p = c.before in
-    let k = p.before.before.before in
+    let p = c in
+    let k = p.before.before in
     rw (
-      sym k.before.before.before.mark_field-m.ensures ∙ k.before.m-1.given.1,
-      sym p.before.before.figures_line-p.ensures ∙ p.p-1.given.1,
+      sym k.mark_field-m.ensures ∙ k.in-Mark.is,
+      sym p.figures_line-p.ensures ∙ p.in-Fault.is,
     )
 
 returns-3 : tie.Need-returns-in-All
 unfolding item_line
 returns-3 c =
-    let p = c.before in
-    let k = p.before.before.before in
+    let p = c in
+    let k = p.before.before in
     rw (
-      sym k.before.before.before.mark_field-m.ensures ∙ k.before.m-1.given.1,
-      sym p.before.before.figures_line-p.ensures ∙ p.p-in-All-1.given.1,
+      sym k.mark_field-m.ensures ∙ k.in-Mark.is,
+      sym p.figures_line-p.ensures ∙ p.in-All.is,
     )
 
 pub item_form_spec : {M : Type 1} → statement M

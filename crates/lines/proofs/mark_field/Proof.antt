@@ -24,26 +24,26 @@ enum-told-2 c = search rules
 
 returns : tie.Need-returns-in-At
 unfolding mark_at
-returns c = rw (sym c.before.before.before.after_word-w.ensures ∙ c.before.w-1.given.1)
+returns c = rw (sym c.after_word-w.ensures ∙ c.in-At.is)
 
 returns-2 : tie.Need-returns-in-At-l
 unfolding mark_at
 returns-2 c =
-    let at-after-word2 = c.before.before.before in
+    let at-after-word2 = c.before in
     let k = at-after-word2.before.before in
     rw (
-      sym k.before.before.before.after_word-w.ensures ∙ k.before.enum_told-1.given.1,
-      sym c.before.before.before.after_word-l.ensures ∙ c.before.l-1.given.1,
+      sym k.after_word-w.ensures ∙ k.in-Nothing.is,
+      sym c.after_word-l.ensures ∙ c.in-At-l.is,
     )
 
 returns-3 : tie.Need-returns-in-Nothing-l
 unfolding mark_at
 returns-3 c =
-    let at-after-word-arg2 = c.before.before.before in
+    let at-after-word-arg2 = c.before.before in
     let k = at-after-word-arg2.before in
     rw (
-      sym k.before.before.before.after_word-w.ensures ∙ k.before.enum_told-1.given.1,
-      sym c.before.before.after_word-l.ensures ∙ c.enum_told-in-Nothing-l-1.given.1,
+      sym k.after_word-w.ensures ∙ k.in-Nothing.is,
+      sym c.after_word-l.ensures ∙ c.in-Nothing-l.is,
     )
 
 pub mark_field_spec : {M : Type 1} → statement M

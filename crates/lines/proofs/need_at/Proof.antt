@@ -23,13 +23,13 @@ abbrev start : tie.After-numbers_line-p → tie.Start
 start c = c.before.before
 
 abbrev form : tie.In-Both → tie.After-numbers_line-p
-form c = c.before.before.before
+form c = c.before
 
 abbrev fields : tie.In-In → tie.In-Both
-fields c = c.before.before.before
+fields c = c.before
 
 abbrev first : tie.In-In-y → tie.In-In
-first c = c.before.before.before
+first c = c.before
 
 -- ---- the line that was read
 
@@ -39,20 +39,20 @@ line c = rw (to_z_pos w64 {n = (start c).args.n} (omega arith)) at c.numbers_lin
 
 both : (c : tie.In-Both) → let a = (start (form c)).args in let p = c.before.p-in-Both-1.given.0 in
     numbers_line (from_to 1 a.n) (from_to 1 a.n) a.s.now a.at ≡ Both p.0 p.1.0 p.1.1.0
-both c = sym (line (form c)) ∙ c.before.p-in-Both-1.given.1
+both c = sym (line (form c)) ∙ c.in-Both.is
 
 numbers : (c : tie.In-In-y) → let f = fields (first c) in let a = (start (form f)).args in
     numbers_line (from_to 1 a.n) (from_to 1 a.n) a.s.now a.at
-    ≡ Both (In (first c).before.x-1.given.0.0) (In c.before.y-1.given.0.0) f.before.p-in-Both-1.given.0.1.1.0
+    ≡ Both (In (first c).in-In.k) (In c.in-In-y.m) f.in-Both.next
 numbers c =
     let f = fields (first c) in
-    both f ∙ ap₂ (λ x y. Both x y f.before.p-in-Both-1.given.0.1.1.0) (first c).before.x-1.given.1 c.before.y-1.given.1
+    both f ∙ ap₂ (λ x y. Both x y f.in-Both.next) (first c).in-In.is c.in-In-y.is
 
-back-item : (c : tie.In-In-y) → let z = (first c).before.x-1.given.0.0 in to_z w64 (of_z w64 z) ≡ z
-back-item c = back _ (first c).known_told-in-Both-2.given.0.1
+back-item : (c : tie.In-In-y) → let z = (first c).in-In.k in to_z w64 (of_z w64 z) ≡ z
+back-item c = back _ (first c).in-In.known_told-in-Both-1-own.given.0.1
 
-back-cover : (c : tie.In-In-y) → let z = c.before.y-1.given.0.0 in to_z w64 (of_z w64 z) ≡ z
-back-cover c = back _ c.known_told-in-In-1.given.0.1
+back-cover : (c : tie.In-In-y) → let z = c.in-In-y.m in to_z w64 (of_z w64 z) ≡ z
+back-cover c = back _ c.in-In-y.known_told-in-In-1-own.given.0.1
 
 above : pos 0 ≤ℤ pos 1
 above = record { le = tt }
@@ -63,7 +63,7 @@ cast-most : tie.Need-overflow_cast-most
 cast-most c = search rules
 
 numbers-line-requires : tie.Need-numbers_line-p-requires
-numbers-line-requires c κs = rw (to_z_pos w64 {n = c.before.args.n} (omega arith)) (omega arith, omega arith)
+numbers-line-requires c κs = rw (to_z_pos w64 {n = c.args.n} (omega arith)) (omega arith, omega arith)
 
 enum-known-p : tie.Need-enum_known-p
 enum-known-p c = search rules
@@ -86,29 +86,29 @@ enum-known-y c = search rules
 cast-t19 : tie.Need-overflow_cast-need
 cast-t19 c =
     let r = numbers-range _ _ _ _ _ _ _ (numbers c) in
-    rw (back-item c) (cast-in (≤ℤ-trans above r.0.0) (record { sfits = (first c).known_told-in-Both-2.given.0.1 }))
+    rw (back-item c) (cast-in (≤ℤ-trans above r.0.0) (record { sfits = (first c).in-In.known_told-in-Both-1-own.given.0.1 }))
 
 cast-t20 : tie.Need-overflow_cast-need-in-In-y
 cast-t20 c =
     let r = numbers-range _ _ _ _ _ _ _ (numbers c) in
-    rw (back-cover c) (cast-in (≤ℤ-trans above r.1.0) (record { sfits = c.known_told-in-In-1.given.0.1 }))
+    rw (back-cover c) (cast-in (≤ℤ-trans above r.1.0) (record { sfits = c.in-In-y.known_told-in-In-1-own.given.0.1 }))
 
 in-order-requires : tie.Need-in_order-requires
 in-order-requires c κs = search rules
 
 returns : tie.Need-returns-in-Fault
 unfolding need_read
-returns c = rw (sym (line c.before.before.before) ∙ c.before.p-1.given.1)
+returns c = rw (sym (line c.before) ∙ c.in-Fault.is)
 
 returns-2 : tie.Need-returns-in-Out
 unfolding need_read
-returns-2 c = rw (both c.before.before, c.enum_told-1.given.1)
+returns-2 c = rw (both c.before, c.in-Out.is)
 
 returns-3 : tie.Need-returns-in-Out-y
 unfolding need_read
 returns-3 c =
-    let k = c.before.before in
-    let e = ap₂ (λ x y. Both x y (fields k).before.p-in-Both-1.given.0.1.1.0) k.before.x-1.given.1 c.enum_told-in-Out-y-1.given.1 in
+    let k = c.before in
+    let e = ap₂ (λ x y. Both x y (fields k).in-Both.next) k.in-In.is c.in-Out-y.is in
     rw (both (fields k) ∙ e)
 
 returns-4 : tie.Need-returns-in-In-y

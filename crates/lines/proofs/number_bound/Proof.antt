@@ -20,17 +20,17 @@ enum-known-g : tie.Need-enum_known-g
 enum-known-g c = search rules
 
 returns : tie.Need-returns-in-Fault
-returns c = let f = c.before in rw (sym f.before.before.closed_number-f.ensures ∙ f.f-1.given.1)
+returns c = let f = c in rw (sym f.closed_number-f.ensures ∙ f.in-Fault.is)
 
 returns-2 : tie.Need-returns-in-Out
 returns-2 c =
-    let f = c.before.before.before in rw (sym f.before.before.closed_number-f.ensures ∙ f.f-in-Number-1.given.1, c.enum_told-1.given.1)
+    let f = c.before in rw (sym f.closed_number-f.ensures ∙ f.in-Number.is, c.in-Out.is)
 
 returns-3 : tie.Need-returns-in-In
 returns-3 c =
-    let g = c.before in
-    let f = g.before.before.before in
-    rw (back g.g-1.given.0.0 c.known_told-in-Number-2.given.0.1, sym f.before.before.closed_number-f.ensures ∙ f.f-in-Number-1.given.1, g.g-1.given.1)
+    let g = c in
+    let f = g.before in
+    rw (back g.in-In.v c.in-In.known_told-in-Number-1-own.given.0.1, sym f.closed_number-f.ensures ∙ f.in-Number.is, g.in-In.is)
 
 pub number_bound_spec : {M : Type 1} → statement M
 number_bound_spec =

@@ -24,26 +24,26 @@ enum-known-g-2 c = search rules
 
 returns : tie.Need-returns-in-Fault
 unfolding numbers_line
-returns c = rw (sym c.before.before.before.closed_number-f.ensures ∙ c.before.f-1.given.1)
+returns c = rw (sym c.closed_number-f.ensures ∙ c.in-Fault.is)
 
 returns-2 : tie.Need-returns-in-Fault-g
 unfolding numbers_line
 returns-2 c =
-    let g = c.before in
-    let k = g.before.before.before in
+    let g = c in
+    let k = g.before.before in
     rw (
-      sym k.before.before.before.closed_number-f.ensures ∙ k.before.f-in-Number-1.given.1,
-      sym g.before.before.closed_number-g.ensures ∙ g.g-1.given.1,
+      sym k.closed_number-f.ensures ∙ k.in-Number.is,
+      sym g.closed_number-g.ensures ∙ g.in-Fault-g.is,
     )
 
 returns-3 : tie.Need-returns-in-Number-g
 unfolding numbers_line
 returns-3 c =
-    let g = c.before in
-    let k = g.before.before.before in
+    let g = c in
+    let k = g.before.before in
     rw (
-      sym k.before.before.before.closed_number-f.ensures ∙ k.before.f-in-Number-1.given.1,
-      sym g.before.before.closed_number-g.ensures ∙ g.g-in-Number-g-1.given.1,
+      sym k.closed_number-f.ensures ∙ k.in-Number.is,
+      sym g.closed_number-g.ensures ∙ g.in-Number-g.is,
     )
 
 pub numbers_line_spec : {M : Type 1} → statement M

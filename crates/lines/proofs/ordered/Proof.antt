@@ -8,10 +8,10 @@ is-reversed-requires : tie.Need-is_reversed-requires
 is-reversed-requires c κs = search rules
 
 returns : tie.Need-returns-then-is_reversed
-returns c = rw (sym c.before.is_reversed.ensures ∙ c.if-is_reversed.true)
+returns c = rw (sym c.is_reversed.ensures ∙ c.if-is_reversed.true)
 
 returns-2 : tie.Need-returns
-returns-2 c = rw (sym c.before.is_reversed.ensures ∙ c.if-is_reversed.false)
+returns-2 c = rw (sym c.is_reversed.ensures ∙ c.if-is_reversed.false)
 
 pub ordered_spec : {M : Type 1} → statement M
 ordered_spec = tie.close (tie.spec is-reversed-requires returns returns-2)

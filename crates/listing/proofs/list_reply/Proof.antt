@@ -9,7 +9,7 @@ enum-known-kind : tie.Need-enum_known-kind
 enum-known-kind c = search rules
 
 returns : tie.Need-returns-in-Refused
-returns c = let e = c.before.kind-1.given.1 in (rw e, rw e)
+returns c = let e = c.in-Refused.is in (rw e, rw e)
 
 list-answers-requires : tie.Need-list_answers-requires
 list-answers-requires c κs = search rules
@@ -21,8 +21,8 @@ returns-2 : tie.Need-returns
 returns-2 c =
     let l = c.before.before in
     let k = l.before.before in
-    let h = k.in_default.keys2 in
-    let a = k.before.before.before.args in
+    let h = k.in_default.in_default-own.keys2 in
+    let a = k.args in
     (l.list_answers.ensures.0 ∙ sym (not-refused a.s.sure.kind _ _ h), l.list_answers.ensures.1 ∙ sym (not-refused a.s.sure.kind _ _ h))
 
 pub list_reply_spec : {M : Type 1} → statement M

@@ -56,11 +56,11 @@ returns c =
     let at_out = i.before.before.before in
     let b = at_out.before in
     let t = b.before.before.before in
-    let m = t.before.before in
-    let s = m.before.before.args in
+    let m = t.before in
+    let s = m.args in
     let h : m.listed_items-m.result ≤ 16 = omega arith in
     let p = roomier {n = 1440} (omega arith) (puts (omega arith) b.put_best-next.ensures i.put_items.ensures) in
-    rw (as-kind s.n s.a t.enum_told-1.given.1) (rw m.listed_items-m.ensures at p)
+    rw (as-kind s.n s.a t.in-Optimal.is) (rw m.listed_items-m.ensures at p)
 
 same-length-2 : tie.Need-shape_of-out-in-Infeasible
 same-length-2 c = search rules
@@ -73,8 +73,8 @@ returns-2 : tie.Need-returns-in-Infeasible
 returns-2 c =
     let w = c.before.before in
     let t = w.before.before.before in
-    let s = (start t.before.before).args in
-    rw (as-kind s.n s.a t.before.enum_told-in-Infeasible-1.given.1) (roomier (omega arith) w.put_word.ensures)
+    let s = (start t.before).args in
+    rw (as-kind s.n s.a t.in-Infeasible.is) (roomier (omega arith) w.put_word.ensures)
 
 same-length-3 : tie.Need-shape_of-out-in-Unbounded
 same-length-3 c = search rules
@@ -85,11 +85,11 @@ returns-3 c =
     let at-out4 = i.before.before.before in
     let w = at-out4.before in
     let t = w.before.before.before in
-    let m = t.before.before in
-    let s = m.before.before.before.args in
-    let h : m.before.listed_items-m.result ≤ 16 = omega arith in
+    let m = t.before in
+    let s = m.args in
+    let h : m.listed_items-m.result ≤ 16 = omega arith in
     let p = roomier {n = 1440} (omega arith) (puts (omega arith) w.put_word-next.ensures i.put_items-in-Unbounded.ensures) in
-    rw (as-kind s.n s.a t.before.enum_told-in-Unbounded-1.given.1) (rw m.before.listed_items-m.ensures at p)
+    rw (as-kind s.n s.a t.in-Unbounded.is) (rw m.listed_items-m.ensures at p)
 
 same-length-4 : tie.Need-shape_of-out-in-Refused
 same-length-4 c = search rules
@@ -97,9 +97,9 @@ same-length-4 c = search rules
 returns-4 : tie.Need-returns-in-Refused
 returns-4 c =
     let f = c.before.before in
-    let t = f.before.before.before in
-    let s = (start t.before.before).args in
-    rw (as-kind s.n s.a t.kind-1.given.1) (roomier (omega arith) f.put_refused.ensures)
+    let t = f.before.before in
+    let s = (start t.before).args in
+    rw (as-kind s.n s.a t.in-Refused.is) (roomier (omega arith) f.put_refused.ensures)
 
 pub put_answer_spec : {M : Type 1} → statement M
 put_answer_spec =

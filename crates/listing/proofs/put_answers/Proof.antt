@@ -37,7 +37,7 @@ returns : tie.Need-returns-then-is_refused
 returns c =
     let p = first c.before in
     let a = (start p).args in
-    rw (alone a.n a.s (sym c.before.is_refused.ensures ∙ c.if-is_refused.true)) (roomier (omega arith) p.put_answer-next.ensures)
+    rw (alone a.n a.s (sym c.is_refused.ensures ∙ c.if-is_refused.true)) (roomier (omega arith) p.put_answer-next.ensures)
 
 put-answer-requires-2 : tie.Need-put_answer-requires
 put-answer-requires-2 c κs = search rules
@@ -51,7 +51,7 @@ returns-2 c =
     let e = q.before.before in
     let p = first e.before in
     let a = (start p).args in
-    rw (both a.n a.s (sym e.before.is_refused.ensures ∙ e.if-is_refused.false)) (puts (omega arith) p.put_answer-next.ensures q.put_answer.ensures)
+    rw (both a.n a.s (sym e.is_refused.ensures ∙ e.if-is_refused.false)) (puts (omega arith) p.put_answer-next.ensures q.put_answer.ensures)
 
 pub put_answers_spec : {M : Type 1} → statement M
 put_answers_spec =

@@ -20,7 +20,7 @@ decreases-loop out₀ at steps n a next₀ k₀ out next k = n - k
 loop-holds : tie.Need-loop-k-init invariant-loop decreases-loop
 unfolding item_lines
 loop-holds c =
-    let a = c.before.args in
+    let a = c.args in
     (omega arith, (refl, record { short = omega arith; next = omega arith; bytes = sym (put-nothing a.at a.out.now) }))
 
 mul-x : tie.Need-offset_bounds-a-k invariant-loop decreases-loop
@@ -53,8 +53,8 @@ unfolding item_lines
 loop-again c =
     let p = c.before.before in
     let l = at-loop p.before.before in
-    let z = step_at l.before.before.args.t4 l.loop-k.k in
-    let e = rw (back z p.before.before.s-1.given) at p.put_item-next.ensures in
+    let z = step_at l.args.a l.loop-k.k in
+    let e = rw (back z p.s-1.given) at p.put_item-next.ensures in
     (omega arith, (omega arith, rw add-one (roomier (omega arith) (puts (omega arith) l.loop-k.invariant.1.1 e))))
 
 same_length : tie.Need-shape_of-out invariant-loop decreases-loop
@@ -63,8 +63,8 @@ same_length c = omega arith
 returns : tie.Need-returns invariant-loop decreases-loop
 returns c =
     let s = c.before.before.before in
-    let e : c.before.loop-k.k ≡ s.args.n = omega arith in
-    rw e at c.before.loop-k.invariant.1.1
+    let e : c.loop-k.k ≡ s.args.n = omega arith in
+    rw e at c.loop-k.invariant.1.1
 
 pub put_items_spec : {M : Type 1} → statement M
 put_items_spec =

@@ -18,9 +18,9 @@ put-refused-requires c κs = search rules
 
 returns : tie.Need-returns
 returns c =
-    let p = c.before.put_refused-len in
+    let p = c.put_refused-len in
     let b = c.before.before in
-    let a = b.before.before.args in
+    let a = b.args in
     let e : p.result ≡ length (refused_line a.f) = omega arith in
     let h : p.result ≤ length p.new.0 = omega arith in
     record {

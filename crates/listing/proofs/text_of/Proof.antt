@@ -20,7 +20,7 @@ returns : tie.Need-returns
 returns c =
     let at-space = c.before.before.before in
     let s = at-space.before in
-    let p = c.before.put_answers-len in
+    let p = c.put_answers-len in
     let a = s.args in
     let e : p.result ≡ length (printed_both a.n a.s) = omega arith in
     let h : p.result ≤ length p.new.0 = omega arith in

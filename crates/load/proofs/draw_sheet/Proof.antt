@@ -14,11 +14,11 @@ draw-problem-requires c κs = search rules
 sheet-text-requires : tie.Need-sheet_text-sheet-requires
 sheet-text-requires c κs =
     let d = c.before in
-    rw d.draw_problem-d.ensures (admitted (drawn_problem d.before.args.state).problem (drawn-admissible d.before.args.state))
+    rw d.draw_problem-d.ensures (admitted (drawn_problem d.args.state).problem (drawn-admissible d.args.state))
 
 returns : tie.Need-returns
 returns c =
-    let e = c.before.before.draw_problem-d.ensures in
+    let e = c.draw_problem-d.ensures in
     (rw e at c.sheet_text-sheet.ensures, ap (λ (d : DrawnProblem). d.state) e)
 
 pub draw_sheet_spec : {M : Type 1} → statement M

@@ -24,7 +24,7 @@ returns c =
     let k = i.before in
     let s = k.before.before.before in
     let h : SFits w64 s.args.m.capacity = search rules in
-    rw (c.first_of.ensures, i.check_items-items.ensures, k.refused_if-capacity.ensures, k.before.beyond.ensures, to_z-of_z h)
+    rw (c.first_of.ensures, i.check_items-items.ensures, k.refused_if-capacity.ensures, k.beyond.ensures, to_z-of_z h)
 
 pub check_figures_spec : {M : Type 1} → statement M
 check_figures_spec = tie.close (tie.spec beyond-requires refused-if-requires check-items-requires first-of-requires returns)

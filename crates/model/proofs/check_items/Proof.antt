@@ -10,7 +10,7 @@ refused-if-requires : tie.Need-refused_if-requires
 refused-if-requires c κs = search rules
 
 returns : tie.Need-returns
-returns c = rw (c.refused_if.ensures, c.before.some_faulty.ensures)
+returns c = rw (c.refused_if.ensures, c.some_faulty.ensures)
 
 pub check_items_spec : {M : Type 1} → statement M
 check_items_spec = tie.close (tie.spec some-faulty-requires refused-if-requires returns)

@@ -13,7 +13,7 @@ first-of-requires : tie.Need-first_of-requires
 first-of-requires c κs = search rules
 
 returns : tie.Need-returns
-returns c = rw (c.first_of.ensures, c.before.check_items.ensures, c.before.before.check_items-v.ensures)
+returns c = rw (c.first_of.ensures, c.check_items.ensures, c.check_items-v.ensures)
 
 pub check_kinds_spec : {M : Type 1} → statement M
 check_kinds_spec = tie.close (tie.spec check-items-requires check-items-requires-2 first-of-requires returns)

@@ -50,7 +50,7 @@ returns c =
       k.check_kinds.ensures,
       w.first_of-w.ensures,
       f.check_figures.ensures,
-      f.before.check_counts-v.ensures,
+      f.check_counts-v.ensures,
     )
 
 pub check_model_spec : {M : Type 1} → statement M

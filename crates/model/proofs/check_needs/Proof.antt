@@ -43,8 +43,8 @@ loop-again c =
 returns : tie.Need-returns invariant-loop decreases-loop
 returns c =
     let l = c.before in
-    let e : l.loop-j.j ≡ l.before.held_of-t.result = omega arith in
-    rw (e, l.before.held_of-t.ensures.0) at l.loop-j.invariant.1
+    let e : l.loop-j.j ≡ l.held_of-t.result = omega arith in
+    rw (e, l.held_of-t.ensures.0) at l.loop-j.invariant.1
 
 pub check_needs_spec : {M : Type 1} → statement M
 check_needs_spec =

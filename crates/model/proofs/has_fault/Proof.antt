@@ -34,19 +34,19 @@ is-range-requires : tie.Need-is_range-requires
 is-range-requires c κs = search rules
 
 returns : tie.Need-returns-in-Figure
-returns c = rw c.before.enum_told-1.given.1 c.bad_figure.ensures
+returns c = rw c.in-Figure.is c.bad_figure.ensures
 
 returns-2 : tie.Need-returns-in-Reversed
-returns-2 c = rw c.before.enum_told-in-Reversed-1.given.1 c.is_reversed.ensures
+returns-2 c = rw c.in-Reversed.is c.is_reversed.ensures
 
 returns-3 : tie.Need-returns-in-Blank
-returns-3 c = rw c.before.enum_told-in-Blank-1.given.1 c.is_blank.ensures
+returns-3 c = rw c.in-Blank.is c.is_blank.ensures
 
 returns-4 : tie.Need-returns-in-RangedBelow
-returns-4 c = rw c.before.enum_told-in-RangedBelow-1.given.1 c.is_ranged_below.ensures
+returns-4 c = rw c.in-RangedBelow.is c.is_ranged_below.ensures
 
 returns-5 : tie.Need-returns-in-Ranged
-returns-5 c = rw c.before.enum_told-in-Ranged-1.given.1 c.is_range.ensures
+returns-5 c = rw c.in-Ranged.is c.is_range.ensures
 
 pub has_fault_spec : {M : Type 1} → statement M
 has_fault_spec =

@@ -8,7 +8,7 @@ use Rattle.model.proofs.is_range.Tie as tie
 
 returns : tie.Need-returns-then-low-high
 returns c =
-    let i = c.before.before.before.args.i in
+    let i = c.args.i in
     let f : SFits w64 i.low = search rules in
     let g : SFits w64 i.high = search rules in
     rw (on_values f g c.if-low-high.true)
@@ -19,7 +19,7 @@ is-reversed-requires c κs = search rules
 returns-2 : tie.Need-returns
 returns-2 c =
     let t = c.before in
-    let i = t.before.before.before.args.i in
+    let i = t.args.i in
     let f : SFits w64 i.low = search rules in
     let g : SFits w64 i.high = search rules in
     rw (on_values f g t.if-low-high.false) c.is_reversed.ensures

@@ -12,14 +12,14 @@ is-below-zero-requires c κs = search rules
 returns : tie.Need-returns-then-a-b
 returns c =
     let t = c.before in
-    let i = t.before.before.before.args.i in
+    let i = t.args.i in
     let f : SFits w64 i.low = search rules in
     let g : SFits w64 i.high = search rules in
     rw (on_values f g t.if-a-b.true) c.is_below_zero.ensures
 
 returns-2 : tie.Need-returns
 returns-2 c =
-    let i = c.before.before.before.args.i in
+    let i = c.args.i in
     let f : SFits w64 i.low = search rules in
     let g : SFits w64 i.high = search rules in
     rw (on_values f g c.if-a-b.false)

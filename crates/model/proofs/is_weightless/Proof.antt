@@ -9,9 +9,9 @@ use mir.Val.{SFits}
 use Rattle.model.proofs.is_weightless.Statement.{statement}
 use Rattle.model.proofs.is_weightless.Tie as tie
 
-low-test : (c : tie.After-is_zero) → eqb (nat_abs c.before.before.args.i.low) 0 ≡ c.is_zero.result
+low-test : (c : tie.After-is_zero) → eqb (nat_abs c.args.i.low) 0 ≡ c.is_zero.result
 low-test c =
-    let h : SFits w64 c.before.before.args.i.low = search rules in
+    let h : SFits w64 c.args.i.low = search rules in
     sym (rw (to_z-of_z h) at c.is_zero.ensures)
 
 is-zero-requires : tie.Need-is_zero-requires
@@ -23,7 +23,7 @@ is-zero-requires-2 c κs = search rules
 returns : tie.Need-returns-then-is_zero
 returns c =
     let e = c.before.before in
-    let h : SFits w64 e.before.before.before.args.i.high = search rules in
+    let h : SFits w64 e.args.i.high = search rules in
     rw (low-test e.before ∙ e.if-is_zero.true) (rw (to_z-of_z h) at c.is_zero-then-is_zero.ensures)
 
 returns-2 : tie.Need-returns

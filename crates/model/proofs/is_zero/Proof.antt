@@ -10,10 +10,10 @@ use Rattle.model.proofs.is_zero.Statement.{statement}
 use Rattle.model.proofs.is_zero.Tie as tie
 
 returns : tie.Need-returns-then-z-eq0
-returns c = rw (bits-zero c.before.args.z c.before.ranges.z c.if-z-eq0.true)
+returns c = rw (bits-zero c.args.z c.ranges.z c.if-z-eq0.true)
 
 returns-2 : tie.Need-returns
-returns-2 c = sym (ne_eqb (nat_abs c.before.args.z) 0 (λ e. c.if-z-eq0.false (ap (of_z w64) (is_zero c.before.args.z e))))
+returns-2 c = sym (ne_eqb (nat_abs c.args.z) 0 (λ e. c.if-z-eq0.false (ap (of_z w64) (is_zero c.args.z e))))
 
 pub is_zero_spec : {M : Type 1} → statement M
 is_zero_spec = tie.close (tie.spec returns returns-2)

@@ -12,9 +12,9 @@ weight-in-requires c κs = search rules
 
 returns : tie.Need-returns
 returns c =
-    let i = c.before.before.args.i in
+    let i = c.args.i in
     let g : SFits w64 i.price = search rules in
-    rw (back c.before.weight_in-weight.result c.before.weight_in-weight.type_inv, to_z-of_z g, c.before.weight_in-weight.ensures)
+    rw (back c.weight_in-weight.result c.weight_in-weight.type_inv, to_z-of_z g, c.weight_in-weight.ensures)
 
 pub item_in_spec : {M : Type 1} → statement M
 item_in_spec = tie.close (tie.spec weight-in-requires returns)

@@ -29,8 +29,8 @@ unfilled-requires c κs = search rules
 
 loop-holds : tie.Need-loop-k-init invariant-loop decreases-loop
 loop-holds c =
-    let size : length c.before.args.t1.items ≡ 16 = simp length-map at c.before.well_formed.0.1.1.0.1.0.1 in
-    (omega arith, (size, rw (filled_none c.before.args.sense 16 c.before.args.t1.items) c.unfilled-p.ensures))
+    let size : length c.args.m.items ≡ 16 = simp length-map at c.well_formed.0.1.1.0.1.0.1 in
+    (omega arith, (size, rw (filled_none c.args.sense 16 c.args.m.items) c.unfilled-p.ensures))
 
 mul-i : tie.Need-offset_bounds-m-k invariant-loop decreases-loop
 mul-i c = omega arith
@@ -53,26 +53,26 @@ loop-less c = omega arith
 loop-again : tie.Need-loop-k-preserved invariant-loop decreases-loop
 loop-again c =
     let l = c.before.before.before.before in
-    let a = l.before.before.args in
+    let a = l.args in
     let k = l.loop-k.k in
     let size = l.loop-k.invariant.1.0 in
-    let p : l.loop-k.p ≡ partly a.sense a.t1 k = l.loop-k.invariant.1.1 in
-    let x : c.before.item_in.result ≡ item_in a.sense (item_at a.t1 k) = c.before.item_in.ensures in (
+    let p : l.loop-k.p ≡ partly a.sense a.m k = l.loop-k.invariant.1.1 in
+    let x : c.item_in.result ≡ item_in a.sense (item_at a.m k) = c.item_in.ensures in (
       omega arith,
       (
         size,
         rw add-one
-            (c.with_item-p.ensures ∙ ap (with_item l.loop-k.p k) x ∙ ap (λ (p : Problem). with_item p k (item_in a.sense (item_at a.t1 k))) p
-            ∙ ap (λ t. record { items = t; count = a.t1.count; capacity = a.t1.capacity }) (filled_more a.sense 16 a.t1.items k (omega arith) (omega (arith, size)))),
+            (c.with_item-p.ensures ∙ ap (with_item l.loop-k.p k) x ∙ ap (λ (p : Problem). with_item p k (item_in a.sense (item_at a.m k))) p
+            ∙ ap (λ t. record { items = t; count = a.m.count; capacity = a.m.capacity }) (filled_more a.sense 16 a.m.items k (omega arith) (omega (arith, size)))),
       ),
     )
 
 returns : tie.Need-returns invariant-loop decreases-loop
 returns c =
     let l = c.before in
-    let a = l.before.before.args in
+    let a = l.args in
     let e : l.loop-k.k ≡ 16 = omega arith in
-    l.loop-k.invariant.1.1 ∙ rw (e, filled-all a.sense 16 a.t1.items l.loop-k.invariant.1.0)
+    l.loop-k.invariant.1.1 ∙ rw (e, filled-all a.sense 16 a.m.items l.loop-k.invariant.1.0)
 
 pub plain_of_spec : {M : Type 1} → statement M
 plain_of_spec =

@@ -7,7 +7,7 @@ refusal-of-requires : tie.Need-refusal_of-requires
 refusal-of-requires c κs = search rules
 
 returns : tie.Need-returns-then-test
-returns c = rw (c.before.if-test.true, c.refusal_of.ensures)
+returns c = rw (c.if-test.true, c.refusal_of.ensures)
 
 returns-2 : tie.Need-returns
 returns-2 c = rw c.if-test.false

@@ -37,8 +37,8 @@ at-loop c = c.before.before.before
 returns : tie.Need-returns-then-does_cross invariant-loop decreases-loop
 returns c =
     let l = at-loop c.before in
-    let a = l.before.args in
-    sym (some-found a.t1.count l.loop-k.k (item_at a.t1) crosses (omega arith) (sym c.before.does_cross.ensures ∙ c.if-does_cross.true))
+    let a = l.args in
+    sym (some-found a.p.count l.loop-k.k (item_at a.p) crosses (omega arith) (sym c.does_cross.ensures ∙ c.if-does_cross.true))
 
 add-k : tie.Need-overflow_add-k invariant-loop decreases-loop
 add-k c = omega arith
@@ -49,13 +49,13 @@ loop-less c = omega arith
 loop-again : tie.Need-loop-k-preserved invariant-loop decreases-loop
 loop-again c =
     let l = at-loop c.before in
-    let a = l.before.args in
-    (omega arith, rw add-one (some_more l.loop-k.k (item_at a.t1) crosses l.loop-k.invariant.1 (sym c.before.does_cross.ensures ∙ c.if-does_cross.false)))
+    let a = l.args in
+    (omega arith, rw add-one (some_more l.loop-k.k (item_at a.p) crosses l.loop-k.invariant.1 (sym c.does_cross.ensures ∙ c.if-does_cross.false)))
 
 returns-2 : tie.Need-returns invariant-loop decreases-loop
 returns-2 c =
     let l = c.before in
-    let e : l.loop-k.k ≡ l.before.args.t1.count = omega arith in
+    let e : l.loop-k.k ≡ l.args.p.count = omega arith in
     sym (rw e at l.loop-k.invariant.1)
 
 pub some_crosses_spec : {M : Type 1} → statement M

@@ -37,9 +37,9 @@ returns c =
     let at-in-loop = c.before.before.before in
     let l = at-in-loop.before in
     let h = l.before in
-    let a = h.before.args in
-    let found = some-found h.held_of-n.result l.loop-k.k (item_at a.t1) (has_fault a.fault) (omega arith)
-    (sym c.before.has_fault.ensures ∙ c.if-has_fault.true) in
+    let a = h.args in
+    let found = some-found h.held_of-n.result l.loop-k.k (item_at a.m) (has_fault a.fault) (omega arith)
+    (sym c.has_fault.ensures ∙ c.if-has_fault.true) in
     sym (rw h.held_of-n.ensures.0 at found)
 
 add-k : tie.Need-overflow_add-k invariant-loop decreases-loop
@@ -55,17 +55,17 @@ at-loop c = c.before.before.before
 loop-again : tie.Need-loop-k-preserved invariant-loop decreases-loop
 loop-again c =
     let l = at-loop c.before in
-    let a = l.before.before.args in (
+    let a = l.args in (
       omega arith,
       rw add-one
-          (some_more l.loop-k.k (item_at a.t1) (has_fault a.fault) l.loop-k.invariant.1 (sym c.before.has_fault.ensures ∙ c.if-has_fault.false)),
+          (some_more l.loop-k.k (item_at a.m) (has_fault a.fault) l.loop-k.invariant.1 (sym c.has_fault.ensures ∙ c.if-has_fault.false)),
     )
 
 returns-2 : tie.Need-returns invariant-loop decreases-loop
 returns-2 c =
     let l = c.before in
-    let e : l.loop-k.k ≡ l.before.held_of-n.result = omega arith in
-    sym (rw (e, l.before.held_of-n.ensures.0) at l.loop-k.invariant.1)
+    let e : l.loop-k.k ≡ l.held_of-n.result = omega arith in
+    sym (rw (e, l.held_of-n.ensures.0) at l.loop-k.invariant.1)
 
 pub some_faulty_spec : {M : Type 1} → statement M
 some_faulty_spec =

@@ -11,8 +11,8 @@ blank-item-requires c κs = search rules
 
 returns : tie.Need-returns
 returns c =
-    let h : SFits w64 c.before.before.args.m.capacity = search rules in
-    rw (c.before.blank_item-item.ensures, to_z-of_z h)
+    let h : SFits w64 c.args.m.capacity = search rules in
+    rw (c.blank_item-item.ensures, to_z-of_z h)
 
 pub unfilled_spec : {M : Type 1} → statement M
 unfilled_spec = tie.close (tie.spec blank-item-requires returns)

@@ -14,13 +14,13 @@ enum-told-2 c = search rules
 
 returns : tie.Need-returns-in-Sure
 returns c =
-    let h : SFits w64 c.before.before.before.args.i.high = search rules in
-    rw c.before.enum_told-1.given.1 (to_z-of_z h)
+    let h : SFits w64 c.args.i.high = search rules in
+    rw c.in-Sure.is (to_z-of_z h)
 
 returns-2 : tie.Need-returns-in-Possible
 returns-2 c =
-    let h : SFits w64 c.before.before.before.args.i.low = search rules in
-    rw c.before.enum_told-in-Possible-1.given.1 (to_z-of_z h)
+    let h : SFits w64 c.args.i.low = search rules in
+    rw c.in-Possible.is (to_z-of_z h)
 
 pub weight_in_spec : {M : Type 1} → statement M
 weight_in_spec = tie.close (tie.spec enum_told enum-told-2 returns returns-2)

@@ -15,7 +15,7 @@ abbrev decreases-loop : tie.decreases-loop-k
 decreases-loop p n k₀ k = n - k
 
 loop-holds : tie.Need-loop-k-init invariant-loop decreases-loop
-loop-holds c = (omega arith, lower-first c.args.t1)
+loop-holds c = (omega arith, lower-first c.args.p)
 
 mul-i : tie.Need-offset_bounds-p-k invariant-loop decreases-loop
 mul-i c = omega arith
@@ -32,8 +32,8 @@ returns c =
     let l = t.before in
     record {
       all = λ e. absurd (impossible e);
-      some = λ e. lower-found l.before.args.t1 l.loop-k.k (omega (arith, t.loop-k-test.true))
-          (sym c.before.is_absent.ensures ∙ c.if-is_absent.true);
+      some = λ e. lower-found l.args.p l.loop-k.k (omega (arith, t.loop-k-test.true))
+          (sym c.is_absent.ensures ∙ c.if-is_absent.true);
     }
 
 add-k : tie.Need-overflow_add-k invariant-loop decreases-loop
@@ -46,14 +46,14 @@ loop-again : tie.Need-loop-k-preserved invariant-loop decreases-loop
 loop-again c =
     let t = c.before.before.before in
     let l = t.before in
-    (omega arith, lower-step l.before.args.t1 l.loop-k.k l.loop-k.invariant.1 (sym c.before.is_absent.ensures ∙ c.if-is_absent.false))
+    (omega arith, lower-step l.args.p l.loop-k.k l.loop-k.invariant.1 (sym c.is_absent.ensures ∙ c.if-is_absent.false))
 
 returns-2 : tie.Need-returns invariant-loop decreases-loop
 returns-2 c =
     let l = c.before in
-    let e : l.loop-k.k ≡ l.before.args.t1.count = omega arith in
+    let e : l.loop-k.k ≡ l.args.p.count = omega arith in
     record {
-      all = λ i. subst (λ n. LowerTo l.before.args.t1 n) e l.loop-k.invariant.1;
+      all = λ i. subst (λ n. LowerTo l.args.p n) e l.loop-k.invariant.1;
       some = λ i. absurd (impossible (sym i));
     }
 

@@ -47,7 +47,7 @@ returns-2 : tie.Need-returns
 returns-2 c =
     let e = c.before in
     let l = e.before in
-    let h = l.before.requires.0 in
+    let h = l.requires.0 in
     rw c.placed_at-2.ensures (record {
       kind-is = h.kind-is;
       shown = h.shown;

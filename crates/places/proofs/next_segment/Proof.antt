@@ -17,12 +17,12 @@ returns-2 : tie.Need-returns-then-lo-s
 unfolding next_segment below_start
 returns-2 c = let s = c.before.before in
     let l = on_values s.ranges.lo s.ranges.s c.if-lo-s.true in
-    simp (to_z-of_z s.ranges.s, to_z-of_z (less-fits s.ranges.lo s.ranges.s (yes_lt l)), on_values s.ranges.x s.ranges.s c.before.if-x-s.false, l)
+    simp (to_z-of_z s.ranges.s, to_z-of_z (less-fits s.ranges.lo s.ranges.s (yes_lt l)), on_values s.ranges.x s.ranges.s c.if-x-s.false, l)
 
 returns-3 : tie.Need-returns
 unfolding next_segment below_start
 returns-3 c = let s = c.before.before in
-    simp (on_values s.ranges.x s.ranges.s c.before.if-x-s.false, on_values s.ranges.lo s.ranges.s c.if-lo-s.false)
+    simp (on_values s.ranges.x s.ranges.s c.if-x-s.false, on_values s.ranges.lo s.ranges.s c.if-lo-s.false)
 
 pub next_segment_spec : {M : Type 1} → statement M
 next_segment_spec = tie.close (tie.spec returns sub-t5 returns-2 returns-3)

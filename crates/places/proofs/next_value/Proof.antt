@@ -12,7 +12,7 @@ sub-t7 c = let s = c.before.before in
 returns : tie.Need-returns-then-lo-x
 unfolding next_value
 returns c = let s = c.before.before in
-    let h = on_values s.ranges.x s.ranges.s c.before.if-x-s.true in
+    let h = on_values s.ranges.x s.ranges.s c.if-x-s.true in
     let k = on_values s.ranges.lo s.ranges.x c.if-lo-x.true in
     let f = less-fits s.ranges.lo s.ranges.x (yes_lt k) in
     simp (to_z-of_z s.ranges.x, to_z-of_z f, h, k)
@@ -20,7 +20,7 @@ returns c = let s = c.before.before in
 returns-2 : tie.Need-returns-then-x-s
 unfolding next_value
 returns-2 c = let s = c.before.before in
-    simp (on_values s.ranges.x s.ranges.s c.before.if-x-s.true, on_values s.ranges.lo s.ranges.x c.if-lo-x.false)
+    simp (on_values s.ranges.x s.ranges.s c.if-x-s.true, on_values s.ranges.lo s.ranges.x c.if-lo-x.false)
 
 add-t8 : tie.Need-overflow_add-result
 add-t8 c = let s = c.before.before in
@@ -29,7 +29,7 @@ add-t8 c = let s = c.before.before in
 returns-3 : tie.Need-returns-then-x-hi
 unfolding next_value
 returns-3 c = let s = c.before.before in
-    let h = on_values s.ranges.x s.ranges.s c.before.if-x-s.false in
+    let h = on_values s.ranges.x s.ranges.s c.if-x-s.false in
     let k = on_values s.ranges.x s.ranges.hi c.if-x-hi.true in
     let f = more-fits s.ranges.hi s.ranges.x (yes_lt k) in
     simp (to_z-of_z s.ranges.x, to_z-of_z f, h, k)
@@ -41,8 +41,8 @@ sub-t9 c = let s = c.before.before.before in
 returns-4 : tie.Need-returns-then-lo-s
 unfolding next_value below_start
 returns-4 c = let s = c.before.before.before in
-    let h = on_values s.ranges.x s.ranges.s c.before.before.if-x-s.false in
-    let k = on_values s.ranges.x s.ranges.hi c.before.if-x-hi.false in
+    let h = on_values s.ranges.x s.ranges.s c.if-x-s.false in
+    let k = on_values s.ranges.x s.ranges.hi c.if-x-hi.false in
     let l = on_values s.ranges.lo s.ranges.s c.if-lo-s.true in
     let f = less-fits s.ranges.lo s.ranges.s (yes_lt l) in
     simp (to_z-of_z s.ranges.s, to_z-of_z f, h, k, l)
@@ -51,8 +51,8 @@ returns-5 : tie.Need-returns
 unfolding next_value below_start
 returns-5 c = let s = c.before.before.before in
     simp (
-      on_values s.ranges.x s.ranges.s c.before.before.if-x-s.false,
-      on_values s.ranges.x s.ranges.hi c.before.if-x-hi.false,
+      on_values s.ranges.x s.ranges.s c.if-x-s.false,
+      on_values s.ranges.x s.ranges.hi c.if-x-hi.false,
       on_values s.ranges.lo s.ranges.s c.if-lo-s.false,
     )
 

@@ -56,24 +56,24 @@ enum-known-o c = search rules
 abbrev at-loop : tie.After-next_value-arg-in-loop-j-1 invariant-loop decreases-loop → tie.At-loop-j invariant-loop decreases-loop
 at-loop c = c.before.before.before
 
-abbrev after-next-value-arg4 : tie.In-Amount-2 invariant-loop decreases-loop → tie.After-next_value-arg-in-loop-j-3-1 invariant-loop decreases-loop
-after-next-value-arg4 c = c.before.before.before
+abbrev after-next-value-arg4 : tie.In-Amount invariant-loop decreases-loop → tie.After-next_value-arg-in-loop-j-3-1 invariant-loop decreases-loop
+after-next-value-arg4 c = c.before.before
 
 returns : tie.Need-returns-in-Amount invariant-loop decreases-loop
 returns c =
-    let p = after-next-value-arg4 c.before in
+    let p = after-next-value-arg4 c in
     let l = at-loop p.before.before in
-    let a = l.before.args in
+    let a = l.args in
     let i = l.loop-j.j - 1 in
-    rw (back c.before.o-1.given.0.0 c.known_told-1.given.0.1, l.loop-j.invariant.1)
-    (carry-here (at a.t3) (at a.t4) (at a.t5) (at a.t1) l.loop-j.j c.before.o-1.given.0.0 (omega arith)
+    rw (back c.in-Amount.v c.in-Amount.known_told-1-own.given.0.1, l.loop-j.invariant.1)
+    (carry-here (at a.lo) (at a.hi) (at a.s) (at a.x) l.loop-j.j c.in-Amount.v (omega arith)
     (simp (
-      back (at a.t3 i) p.before.before.before.next_value-arg-1.given,
-      back (at a.t4 i) p.before.before.next_value-arg-in-loop-j-1.given,
-      back (at a.t5 i) p.before.next_value-arg-in-loop-j-2-1.given,
-      back (at a.t1 i) p.next_value-arg-in-loop-j-3-1.given,
+      back (at a.lo i) p.next_value-arg-1.given,
+      back (at a.hi i) p.next_value-arg-in-loop-j-1.given,
+      back (at a.s i) p.next_value-arg-in-loop-j-2-1.given,
+      back (at a.x i) p.next_value-arg-in-loop-j-3-1.given,
     )
-    at (sym c.before.o-1.given.1 ∙ c.before.before.before.next_value-o.ensures)))
+    at (sym c.in-Amount.is ∙ c.next_value-o.ensures)))
 
 enum_told : tie.Need-enum_told-1 invariant-loop decreases-loop
 enum_told c = search rules
@@ -83,26 +83,26 @@ loop-less c = search rules
 
 loop-again : tie.Need-loop-j-preserved invariant-loop decreases-loop
 loop-again c =
-    let p = c.before.before.before in
+    let p = c.before.before in
     let l = at-loop p.before.before in
-    let a = l.before.args in
+    let a = l.args in
     let i = l.loop-j.j - 1 in (
       omega arith,
-      l.loop-j.invariant.1 ∙ carry-on (at a.t3) (at a.t4) (at a.t5) (at a.t1) l.loop-j.j (omega arith)
+      l.loop-j.invariant.1 ∙ carry-on (at a.lo) (at a.hi) (at a.s) (at a.x) l.loop-j.j (omega arith)
           (simp (
-            back (at a.t3 i) p.before.before.before.next_value-arg-1.given,
-            back (at a.t4 i) p.before.before.next_value-arg-in-loop-j-1.given,
-            back (at a.t5 i) p.before.next_value-arg-in-loop-j-2-1.given,
-            back (at a.t1 i) p.next_value-arg-in-loop-j-3-1.given,
+            back (at a.lo i) p.next_value-arg-1.given,
+            back (at a.hi i) p.next_value-arg-in-loop-j-1.given,
+            back (at a.s i) p.next_value-arg-in-loop-j-2-1.given,
+            back (at a.x i) p.next_value-arg-in-loop-j-3-1.given,
           )
-          at (sym c.enum_told-1.given.1 ∙ c.before.before.next_value-o.ensures)),
+          at (sym c.in-Nothing.is ∙ c.next_value-o.ensures)),
     )
 
 returns-2 : tie.Need-returns invariant-loop decreases-loop
 returns-2 c =
-    let a = c.before.before.args in
-    let z : c.before.loop-j.j ≡ 0 = omega arith in
-    rw (c.before.loop-j.invariant.1, z) (carry-end (at a.t3) (at a.t4) (at a.t5) (at a.t1))
+    let a = c.args in
+    let z : c.loop-j.j ≡ 0 = omega arith in
+    rw (c.loop-j.invariant.1, z) (carry-end (at a.lo) (at a.hi) (at a.s) (at a.x))
 
 pub past_prefix_spec : {M : Type 1} → statement M
 past_prefix_spec =

@@ -38,36 +38,36 @@ past-prefix-requires : tie.Need-past_prefix-requires
 past-prefix-requires c κs = search rules
 
 -- the moments that are spoken of below
-abbrev after-next-segment-arg3-of-at-match-keys2 : tie.In-Nothing-1 → tie.After-next_segment-arg-3-1
+abbrev after-next-segment-arg3-of-at-match-keys2 : tie.In-Nothing → tie.After-next_segment-arg-3-1
 after-next-segment-arg3-of-at-match-keys2 c = c.before.before
 
-abbrev after-next-segment-arg3-of-o : tie.In-Amount-2 → tie.After-next_segment-arg-3-1
-after-next-segment-arg3-of-o c = c.before.before.before
+abbrev after-next-segment-arg3-of-o : tie.In-Amount → tie.After-next_segment-arg-3-1
+after-next-segment-arg3-of-o c = c.before.before
 
 returns : tie.Need-returns-in-Amount
 returns c =
-    let p = after-next-segment-arg3-of-o c.before in
-    let a = p.before.before.before.args in
-    rw (back c.before.o-1.given.0.0 c.known_told-1.given.0.1)
-    (segment-here (at a.t3) (at a.hi) (at a.t5) (at a.t1) a.d c.before.o-1.given.0.0
+    let p = after-next-segment-arg3-of-o c in
+    let a = p.args in
+    rw (back c.in-Amount.v c.in-Amount.known_told-1-own.given.0.1)
+    (segment-here (at a.lo) (at a.hi) (at a.s) (at a.x) a.d c.in-Amount.v
     (simp (
-      back (at a.t3 a.d) p.before.before.next_segment-arg-1.given,
-      back (at a.t5 a.d) p.before.next_segment-arg-2-1.given,
-      back (at a.t1 a.d) p.next_segment-arg-3-1.given,
+      back (at a.lo a.d) p.next_segment-arg-1.given,
+      back (at a.s a.d) p.next_segment-arg-2-1.given,
+      back (at a.x a.d) p.next_segment-arg-3-1.given,
     )
-    at (sym c.before.o-1.given.1 ∙ c.before.before.before.next_segment-o.ensures)))
+    at (sym c.in-Amount.is ∙ c.next_segment-o.ensures)))
 
 returns-2 : tie.Need-returns-in-Nothing
 returns-2 c =
-    let p = after-next-segment-arg3-of-at-match-keys2 c.before.before in
-    let a = p.before.before.before.args in
-    rw (← segment-on (at a.t3) (at a.hi) (at a.t5) (at a.t1) a.d
+    let p = after-next-segment-arg3-of-at-match-keys2 c.before in
+    let a = p.args in
+    rw (← segment-on (at a.lo) (at a.hi) (at a.s) (at a.x) a.d
     (simp (
-      back (at a.t3 a.d) p.before.before.next_segment-arg-1.given,
-      back (at a.t5 a.d) p.before.next_segment-arg-2-1.given,
-      back (at a.t1 a.d) p.next_segment-arg-3-1.given,
+      back (at a.lo a.d) p.next_segment-arg-1.given,
+      back (at a.s a.d) p.next_segment-arg-2-1.given,
+      back (at a.x a.d) p.next_segment-arg-3-1.given,
     )
-    at (sym c.before.enum_told-1.given.1 ∙ c.before.before.before.next_segment-o.ensures)))
+    at (sym c.in-Nothing.is ∙ c.next_segment-o.ensures)))
     c.past_prefix.ensures
 
 pub past_run_spec : {M : Type 1} → statement M

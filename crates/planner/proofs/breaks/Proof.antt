@@ -23,14 +23,14 @@ tested : (l : List Fraction) (k : ℕ) (t : Bool) → k < length l → mag (get_
 tested l k t h f e = subst (λ (x : Fraction). lt_z (pos 0) x.p ≡ t) (default_free l k _ _ h)
     (subst (λ z. lt_z (pos 0) z ≡ t) (back (get_or l k (record { p = pos 0; q = 0 })).p f) e)
 
-long : (s : tie.Start) → length s.args.t1 ≡ 16
+long : (s : tie.Start) → length s.args.x ≡ 16
 long s = search rules
 
 -- the start, from the test of the item's amount
 abbrev start : tie.After-struct_told-1 → tie.Start
 start c = c.before.before.before.before
 
-item-fits : (c : tie.Then-a-gt0) → let s = start c.before in mag (get_or s.args.t1 s.args.n.item (record { p = pos 0; q = 0 })).p < 2 ^ 63
+item-fits : (c : tie.Then-a-gt0) → let s = start c.before in mag (get_or s.args.x s.args.n.item (record { p = pos 0; q = 0 })).p < 2 ^ 63
 item-fits c = search rules
 
 mul-a : tie.Need-offset_bounds-x-k
@@ -49,26 +49,26 @@ returns : tie.Need-returns-then-b-gt0
 returns c =
     let y = c.before.before.before in
     let s = start y.before in
-    let f : mag (get_or s.args.t1 s.args.n.cover (record { p = pos 0; q = 0 })).p < 2 ^ 63 = search rules in
-    let a = tested s.args.t1 s.args.n.item _ (omega (arith, long s, s.requires.0)) (item-fits y) y.if-a-gt0.true in
-    let b = tested s.args.t1 s.args.n.cover _ (omega (arith, long s, s.requires.1)) f c.if-b-gt0.true in
+    let f : mag (get_or s.args.x s.args.n.cover (record { p = pos 0; q = 0 })).p < 2 ^ 63 = search rules in
+    let a = tested s.args.x s.args.n.item _ (omega (arith, long s, s.requires.0)) (item-fits y) y.if-a-gt0.true in
+    let b = tested s.args.x s.args.n.cover _ (omega (arith, long s, s.requires.1)) f c.if-b-gt0.true in
     sym (ap₂ (λ (u v : Bool). cond u (not v) false) a b)
 
 returns-2 : tie.Need-returns-then-a-gt0
 returns-2 c =
     let y = c.before.before.before in
     let s = start y.before in
-    let f : mag (get_or s.args.t1 s.args.n.cover (record { p = pos 0; q = 0 })).p < 2 ^ 63 = search rules in
-    let a = tested s.args.t1 s.args.n.item _ (omega (arith, long s, s.requires.0)) (item-fits y) y.if-a-gt0.true in
-    let b = tested s.args.t1 s.args.n.cover _ (omega (arith, long s, s.requires.1)) f c.if-b-gt0.false in
+    let f : mag (get_or s.args.x s.args.n.cover (record { p = pos 0; q = 0 })).p < 2 ^ 63 = search rules in
+    let a = tested s.args.x s.args.n.item _ (omega (arith, long s, s.requires.0)) (item-fits y) y.if-a-gt0.true in
+    let b = tested s.args.x s.args.n.cover _ (omega (arith, long s, s.requires.1)) f c.if-b-gt0.false in
     sym (ap₂ (λ (u v : Bool). cond u (not v) false) a b)
 
 returns-3 : tie.Need-returns
 returns-3 c =
     let s = start c.before in
-    let f : mag (get_or s.args.t1 s.args.n.item (record { p = pos 0; q = 0 })).p < 2 ^ 63 = search rules in
-    let a = tested s.args.t1 s.args.n.item _ (omega (arith, long s, s.requires.0)) f c.if-a-gt0.false in
-    sym (ap (λ (u : Bool). cond u (not (lt_z (pos 0) (amount_in s.args.t1 s.args.n.cover).p)) false) a)
+    let f : mag (get_or s.args.x s.args.n.item (record { p = pos 0; q = 0 })).p < 2 ^ 63 = search rules in
+    let a = tested s.args.x s.args.n.item _ (omega (arith, long s, s.requires.0)) f c.if-a-gt0.false in
+    sym (ap (λ (u : Bool). cond u (not (lt_z (pos 0) (amount_in s.args.x s.args.n.cover).p)) false) a)
 
 pub breaks_spec : {M : Type 1} → statement M
 breaks_spec =

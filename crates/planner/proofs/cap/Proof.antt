@@ -23,21 +23,21 @@ enum-known-b : tie.Need-enum_known-b
 enum-known-b c = search rules
 
 returns : tie.Need-returns-in-Absent
-returns c = sym (ap cap c.enum_told-1.given.1)
+returns c = sym (ap cap c.in-Absent.is)
 
 returns-2 : tie.Need-returns-then-u-gt0
 returns-2 c =
-    let b = c.before.before in
-    let v = b.b-1.given.0.0 in
-    let e = back v c.before.known_told-1.given.0.1 in
-    held v _ (rw e at c.if-u-gt0.true) ∙ ap cap (sym b.b-1.given.1)
+    let b = c.before in
+    let v = b.in-At.u in
+    let e = back v c.in-At.known_told-1-own.given.0.1 in
+    held v _ (rw e at c.if-u-gt0.true) ∙ ap cap (sym b.in-At.is)
 
 returns-3 : tie.Need-returns-else-u-gt0
 returns-3 c =
-    let b = c.before.before in
-    let v = b.b-1.given.0.0 in
-    let e = back v c.before.known_told-1.given.0.1 in
-    rw e (held v _ (rw e at c.if-u-gt0.false) ∙ ap cap (sym b.b-1.given.1))
+    let b = c.before in
+    let v = b.in-At.u in
+    let e = back v c.in-At.known_told-1-own.given.0.1 in
+    rw e (held v _ (rw e at c.if-u-gt0.false) ∙ ap cap (sym b.in-At.is))
 
 pub cap_spec : {M : Type 1} → statement M
 cap_spec = tie.close (tie.spec enum_told enum-known-b returns returns-2 returns-3)

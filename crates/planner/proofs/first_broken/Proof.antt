@@ -20,47 +20,47 @@ loop-holds : tie.Need-loop-i-init invariant-loop decreases-loop
 loop-holds c = (omega arith, λ j h. absurd (omega arith))
 
 need-at-requires : tie.Need-need_at-n-requires invariant-loop decreases-loop
-need-at-requires c κs = omega (arith, c.loop-i-test.true, c.before.before.requires.few)
+need-at-requires c κs = omega (arith, c.loop-i-test.true, c.requires.few)
 
 breaks-requires : tie.Need-breaks-requires invariant-loop decreases-loop
 breaks-requires c κs =
     let l = c.before in
     let s = l.before.before in
     s.requires.places c.need_at-n.result
-    (rw c.need_at-n.ensures (need-in s.args.ns l.before.loop-i.i l.loop-i-test.true))
+    (rw c.need_at-n.ensures (need-in s.args.ns l.loop-i.i l.loop-i-test.true))
 
 -- what the test says of the need of the line
 tested : (c : tie.After-breaks invariant-loop decreases-loop) {b : Bool} → c.breaks.result ≡ b →
     let l = c.before.before in
-    breaks l.before.before.args.x (placed (need_at l.before.before.args.ns l.before.loop-i.i)) ≡ b
-tested c e = sym (rw c.before.need_at-n.ensures at c.breaks.ensures) ∙ e
+    breaks l.args.x (placed (need_at l.args.ns l.loop-i.i)) ≡ b
+tested c e = sym (rw c.need_at-n.ensures at c.breaks.ensures) ∙ e
 
 returns : tie.Need-returns-then-breaks invariant-loop decreases-loop
 returns c =
     let a = c.before in
     let l = a.before.before in
-    record { most = omega (arith, l.loop-i-test.true); kept = l.before.loop-i.invariant.1; broken = λ h. tested a c.if-breaks.true }
+    record { most = omega (arith, l.loop-i-test.true); kept = l.loop-i.invariant.1; broken = λ h. tested a c.if-breaks.true }
 
 add-i : tie.Need-overflow_add-i invariant-loop decreases-loop
-add-i c = let l = c.before.before.before in record { fits = omega (arith, l.loop-i-test.true, l.before.before.requires.few) }
+add-i c = let l = c.before.before.before in record { fits = omega (arith, l.loop-i-test.true, l.requires.few) }
 
 loop-less : tie.Need-loop-i-smaller invariant-loop decreases-loop
-loop-less c = omega (arith, c.before.before.before.loop-i-test.true)
+loop-less c = omega (arith, c.loop-i-test.true)
 
 loop-again : tie.Need-loop-i-preserved invariant-loop decreases-loop
 loop-again c =
     let l = c.before.before.before in
-    (omega (arith, l.loop-i-test.true), λ j h. go c j h (ℕ_discrete j l.before.loop-i.i))
+    (omega (arith, l.loop-i-test.true), λ j h. go c j h (ℕ_discrete j l.loop-i.i))
   where
-    go : (c : tie.Else-breaks invariant-loop decreases-loop) (j : ℕ) → let l = c.before.before.before in j < l.before.loop-i.i + 1 → Dec (j ≡ l.before.loop-i.i)
-        → breaks l.before.before.args.x (placed (need_at l.before.before.args.ns j)) ≡ false
+    go : (c : tie.Else-breaks invariant-loop decreases-loop) (j : ℕ) → let l = c.before.before.before in j < l.loop-i.i + 1 → Dec (j ≡ l.loop-i.i)
+        → breaks l.args.x (placed (need_at l.args.ns j)) ≡ false
     go c j h (yes e) = rw e (tested c.before c.if-breaks.false)
-    go c j h (no e) = let l = c.before.before.before in l.before.loop-i.invariant.1 j (omega arith)
+    go c j h (no e) = let l = c.before.before.before in l.loop-i.invariant.1 j (omega arith)
 
 returns-2 : tie.Need-returns invariant-loop decreases-loop
 returns-2 c =
-    let l = c.before.loop-i in
-    let e : l.i ≡ c.before.before.args.ns.count = omega (arith, c.loop-i-test.false, l.invariant.0) in
+    let l = c.loop-i in
+    let e : l.i ≡ c.args.ns.count = omega (arith, c.loop-i-test.false, l.invariant.0) in
     record { most = omega arith; kept = λ j h. l.invariant.1 j (omega (arith, e)); broken = λ h. absurd (omega arith) }
 
 pub first_broken_spec : {M : Type 1} → statement M

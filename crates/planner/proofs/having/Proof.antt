@@ -10,10 +10,10 @@ use Rattle.planner.proofs.having.Tie as tie
 abbrev start : tie.After-with_item → tie.Start
 start c = c.before.before.before.before
 
-weighs : (c : tie.After-with_item) → mag (item_at (start c).args.t1 (start c).args.m).weight < 2 ^ 63
+weighs : (c : tie.After-with_item) → mag (item_at (start c).args.p (start c).args.m).weight < 2 ^ 63
 weighs c = search rules
 
-costs : (c : tie.After-with_item) → mag (item_at (start c).args.t1 (start c).args.m).price < 2 ^ 63
+costs : (c : tie.After-with_item) → mag (item_at (start c).args.p (start c).args.m).price < 2 ^ 63
 costs c = search rules
 
 mul-i : tie.Need-offset_bounds-p-m
@@ -32,7 +32,7 @@ returns : tie.Need-returns
 returns c =
     let b = c.before.before in
     let s = b.before.before in
-    let i = item_at s.args.t1 s.args.m in
+    let i = item_at s.args.p s.args.m in
     rw (back i.weight (weighs c), back i.price (costs c), b.raise-high.ensures) at c.with_item.ensures
 
 pub having_spec : {M : Type 1} → statement M

@@ -17,7 +17,7 @@ place-of-requires-2 : tie.Need-place_of-requires-2
 place-of-requires-2 c κs = search rules
 
 returns : tie.Need-returns
-returns c = rw (c.before.place_of.ensures, c.place_of-2.ensures) refl
+returns c = rw (c.place_of.ensures, c.place_of-2.ensures) refl
 
 pub need_at_spec : {M : Type 1} → statement M
 need_at_spec = tie.close (tie.spec mul-n element-copy-out-n place-of-requires place-of-requires-2 returns)

@@ -16,19 +16,19 @@ leads-requires c κs =
     let t = c.before in
     let o = t.before.before in
     let s = o.before in
-    (s.requires.0, (s.requires.1.0 (kind-of s.args.a.kind (sym o.is_optimal.ensures ∙ t.before.if-is_optimal.true)), s.requires.1.1 t.if-b.true))
+    (s.requires.0, (s.requires.1.0 (kind-of s.args.a.kind (sym o.is_optimal.ensures ∙ t.if-is_optimal.true)), s.requires.1.1 t.if-b.true))
 
 returns : tie.Need-returns-then-b
 returns c =
     let t = c.before.before in
     let o = t.before.before in
-    let k = kind-of o.before.args.a.kind (sym o.is_optimal.ensures ∙ t.before.if-is_optimal.true) in
+    let k = kind-of o.args.a.kind (sym o.is_optimal.ensures ∙ t.if-is_optimal.true) in
     record { ahead = λ e. (k, λ f. c.leads.ensures.ahead e); behind = λ e. inr (t.if-b.true, (k, c.leads.ensures.behind e)) }
 
 returns-2 : tie.Need-returns-then-is_optimal
 returns-2 c =
     let o = c.before.before in
-    let k = kind-of o.before.args.a.kind (sym o.is_optimal.ensures ∙ c.before.if-is_optimal.true) in
+    let k = kind-of o.args.a.kind (sym o.is_optimal.ensures ∙ c.if-is_optimal.true) in
     record {
       ahead = λ e. (k, λ f. absurd (impossible (sym c.if-b.false ∙ f)));
       behind = λ e. absurd (impossible (sym e));

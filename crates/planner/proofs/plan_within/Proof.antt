@@ -23,8 +23,8 @@ plain-of-requires : tie.Need-plain_of-requires
 plain-of-requires c κs = search rules
 
 -- the record is accepted
-taken : (e : tie.In-Accepted) → verdict e.before.before.before.args.m ≡ Accepted
-taken e = sym e.before.before.check_model-v.ensures ∙ e.enum_told-1.given.1
+taken : (e : tie.In-Accepted) → verdict e.args.m ≡ Accepted
+taken e = sym e.check_model-v.ensures ∙ e.in-Accepted.is
 
 solve-needs-requires : tie.Need-solve_needs-r-requires
 solve-needs-requires c κs = rw c.plain_of.ensures (needed _ _ (accepted _ (taken c.before.before)))
@@ -40,7 +40,7 @@ returns c =
     let r = c.before in
     let p = r.before in
     let e = p.before.before in
-    let given = e.before.before.before.args in
+    let given = e.args in
     let m = given.m in
     let s = instance_of (plain_of given.sense m) in
     let ns = needs_of m.needs in
@@ -53,11 +53,11 @@ returns c =
 
 returns-2 : tie.Need-returns-in-Refused
 returns-2 c =
-    let v = c.before.before in
-    let k = v.before.before in
-    let given = k.before.args in
+    let v = c.before in
+    let k = v.before in
+    let given = k.args in
     let m = given.m in
-    let is = sym k.check_model-v.ensures ∙ v.v-1.given.1 in
+    let is = sym k.check_model-v.ensures ∙ v.in-Refused.is in
     record {
       replies = subst (RepliesAs (instance_of (plain_of given.sense m)) (needs_of m.needs) c.no_point.result) (sym is) c.no_point.ensures;
       first = λ low e. absurd (not-refused c.no_point.result.kind _ (ap (λ (a : Answer). a.kind) c.no_point.ensures) e);

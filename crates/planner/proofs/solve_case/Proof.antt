@@ -11,7 +11,7 @@ solve-within-requires c κs = search rules
 
 returns : tie.Need-returns
 returns c =
-    let n = c.before.named_of-named in
+    let n = c.named_of-named in
     let s = c.solve_within.ensures in
     (s.0, (n.result, (n.ensures, s.1)))
 

@@ -23,14 +23,14 @@ start o = (solved o).before.before
 
 -- the steps of a case are few
 few : (v : tie.After-solve_case-r) → let s = v.before.before in
-    (v.before.few_steps-few.result ≤ s.args.most) × (v.before.few_steps-few.result ≤ case_steps)
-few v = rw v.before.few_steps-few.ensures (few-most v.before.before.args.most)
+    (v.few_steps-few.result ≤ s.args.most) × (v.few_steps-few.result ≤ case_steps)
+few v = rw v.few_steps-few.ensures (few-most v.args.most)
 
 plain-case : (v : tie.After-solve_case-r) → let s = v.before.before in
     SolvesCase (few_of s.args.most) s.args.p (needs_of s.args.ns) v.solve_case-r.result
 plain-case v =
     let s = v.before.before in
-    subst (λ m. SolvesCase m s.args.p (needs_of s.args.ns) v.solve_case-r.result) v.before.few_steps-few.ensures v.solve_case-r.ensures
+    subst (λ m. SolvesCase m s.args.p (needs_of s.args.ns) v.solve_case-r.result) v.few_steps-few.ensures v.solve_case-r.ensures
 
 few-steps-requires : tie.Need-few_steps-few-requires
 few-steps-requires c κs = search rules
@@ -48,7 +48,7 @@ solve-ray-requires c κs =
       needed = (start c.before).requires;
       solved = v.solve_case-r.ensures.0;
       short = (few v).1;
-      kind-is = ray-kind v.solve_case-r.result.answer.kind (sym c.before.is_unbounded.ensures ∙ c.if-is_unbounded.true);
+      kind-is = ray-kind v.solve_case-r.result.answer.kind (sym c.is_unbounded.ensures ∙ c.if-is_unbounded.true);
     }
 
 returns : tie.Need-returns-then-is_unbounded
@@ -58,8 +58,8 @@ returns c =
     let s = start e.before in
     let z = c.solve_ray in (
       more-steps (few v).0 z.ensures.0,
-      by-ray v.solve_case-r.result z.result (plain-case v) (sym e.before.is_unbounded.ensures ∙ e.if-is_unbounded.true)
-          (subst (λ m. RayTakes s.args.ns m s.args.p v.solve_case-r.result z.result) v.before.few_steps-few.ensures z.ensures.1),
+      by-ray v.solve_case-r.result z.result (plain-case v) (sym e.is_unbounded.ensures ∙ e.if-is_unbounded.true)
+          (subst (λ m. RayTakes s.args.ns m s.args.p v.solve_case-r.result z.result) v.few_steps-few.ensures z.ensures.1),
     )
 
 nothing-yet-requires : tie.Need-nothing_yet-none-requires
@@ -77,9 +77,9 @@ branch-requires c κs =
       short = (few v).1;
       few = s.requires.few;
       allowed = s.requires.allowed;
-      limited = limited-by i v.solve_case-r.result.answer v.solve_case-r.ensures.0.answers (sym e.before.is_unbounded.ensures ∙ e.if-is_unbounded.false);
+      limited = limited-by i v.solve_case-r.result.answer v.solve_case-r.ensures.0.answers (sym e.is_unbounded.ensures ∙ e.if-is_unbounded.false);
       holds = λ h. absurd (impossible h);
-      worked = none-worked v.before.few_steps-few.result;
+      worked = none-worked v.few_steps-few.result;
       room = omega (arith, few-twigs s.args.ns s.requires.few i);
     })
 
@@ -94,7 +94,7 @@ returns-2 c =
     let s = start n.before.before in
     let i = instance_of s.args.p in
     let ns = needs_of s.args.ns in
-    let f = v.before.few_steps-few in
+    let f = v.few_steps-few in
     let e = n.before in
     let th : Through i ns f.result nothing_yet b.branch-p.result =
     subst (λ x. Through i ns f.result x b.branch-p.result) n.nothing_yet-none.ensures b.branch-p.ensures.0 in
@@ -109,7 +109,7 @@ returns-2 c =
         few-steps = omega (arith, t.steps, w.0);
         few-cells = omega (arith, t.cells, w.1);
       }),
-      by_cases v.solve_case-r.result c.told.result b.branch-p.result (plain-case v) (sym e.before.is_unbounded.ensures ∙ e.if-is_unbounded.false)
+      by_cases v.solve_case-r.result c.told.result b.branch-p.result (plain-case v) (sym e.is_unbounded.ensures ∙ e.if-is_unbounded.false)
           (subst (λ m. CasesTake s.args.ns m s.args.p v.solve_case-r.result nothing_yet b.branch-p.result) f.ensures take) t,
     )
 

@@ -34,7 +34,7 @@ shown : (s : tie.Start) → ShownUnbounded (instance_of s.args.p) s.args.r.answe
 shown s = subst (AnswersAs (instance_of s.args.p) s.args.r.answer) s.requires.kind-is s.requires.solved.answers
 
 one-case : (c : tie.After-counted-c) → c.counted-c.result ≡ counted_of nothing_yet (start c.before).args.r
-one-case c = c.counted-c.ensures ∙ ap (λ b. counted_of b (start c.before).args.r) c.before.nothing_yet-none.ensures
+one-case c = c.counted-c.ensures ∙ ap (λ b. counted_of b (start c.before).args.r) c.nothing_yet-none.ensures
 
 -- the problem at price 0
 q-is : (u : tie.After-unpriced-q) → let s = start u.before.before in instance_of u.unpriced-q.result ≡ worthless (instance_of s.args.p)
@@ -104,8 +104,8 @@ returns c =
     let t = c.from_ray.ensures in
     let n = u.before.before in
     let f = (asked n).first_broken-broken in
-    let v = b.before.solve_case in
-    let some : 1 ≤ s.args.ns.count = omega (arith, n.before.before.if-broken-ns.true) in
+    let v = b.solve_case in
+    let some : 1 ≤ s.args.ns.count = omega (arith, n.if-broken-ns.true) in
     let w = few-work {n = most_cases ns} (omega (arith, cases-ray (worthless i) s.args.ns some)) th.worked in (
       record {
         answers = ray-answers i ns b.branch-b.result c.from_ray.result.answer s.requires.needed.allowed a (shown s) th.worth th.holds
@@ -114,7 +114,7 @@ returns c =
         few-steps = omega (arith, t.steps, w.0);
         few-cells = omega (arith, t.cells, w.1);
       },
-      moves f.result u.unpriced-q.result v.result c.from_ray.result b.branch-b.result f.ensures n.before.before.if-broken-ns.true
+      moves f.result u.unpriced-q.result v.result c.from_ray.result b.branch-b.result f.ensures n.if-broken-ns.true
           u.unpriced-q.ensures v.ensures
           (subst (λ x. CasesTake s.args.ns most u.unpriced-q.result v.result x b.branch-b.result) (one-case u.before) b.branch-b.ensures.1) t,
     )

@@ -19,8 +19,8 @@ decreases-loop p q₀ k₀ q k = 16 - k
 
 loop-holds : tie.Need-loop-k-init invariant-loop decreases-loop
 loop-holds c =
-    let size : length c.args.t1.items ≡ 16 = simp length-map at c.well_formed.0.1.1.0.1.0.1 in
-    (omega arith, unpriced-none c.args.t1 size)
+    let size : length c.args.p.items ≡ 16 = simp length-map at c.well_formed.0.1.1.0.1.0.1 in
+    (omega arith, unpriced-none c.args.p size)
 
 mul-i : tie.Need-offset_bounds-p-k invariant-loop decreases-loop
 mul-i c = omega arith
@@ -44,14 +44,14 @@ loop-again : tie.Need-loop-k-preserved invariant-loop decreases-loop
 loop-again c =
     let i = c.before.before in
     let b = i.before.before in
-    let p = b.before.args.t1 in
-    let x : c.before.unpriced_item.result ≡ unpriced_item (item_at p b.loop-k.k) = c.before.unpriced_item.ensures in
+    let p = b.args.p in
+    let x : c.unpriced_item.result ≡ unpriced_item (item_at p b.loop-k.k) = c.unpriced_item.ensures in
     let q : c.with_item-q.result ≡ with_item b.loop-k.q b.loop-k.k (unpriced_item (item_at p b.loop-k.k)) =
     c.with_item-q.ensures ∙ ap (with_item b.loop-k.q b.loop-k.k) x in
     (omega arith, rw q (unpriced-more p b.loop-k.q b.loop-k.k (omega arith) b.loop-k.invariant.1))
 
 returns : tie.Need-returns invariant-loop decreases-loop
-returns c = let b = c.before in subst (λ k. Unpriced b.before.args.t1 k b.loop-k.q) (omega arith) b.loop-k.invariant.1
+returns c = let b = c.before in subst (λ k. Unpriced b.args.p k b.loop-k.q) (omega arith) b.loop-k.invariant.1
 
 pub unpriced_spec : {M : Type 1} → statement M
 unpriced_spec =

@@ -10,10 +10,10 @@ use Rattle.planner.proofs.without.Tie as tie
 abbrev start : tie.After-with_item → tie.Start
 start c = c.before.before.before.before
 
-weighs : (c : tie.After-with_item) → mag (item_at (start c).args.t1 (start c).args.k).weight < 2 ^ 63
+weighs : (c : tie.After-with_item) → mag (item_at (start c).args.p (start c).args.k).weight < 2 ^ 63
 weighs c = search rules
 
-costs : (c : tie.After-with_item) → mag (item_at (start c).args.t1 (start c).args.k).price < 2 ^ 63
+costs : (c : tie.After-with_item) → mag (item_at (start c).args.p (start c).args.k).price < 2 ^ 63
 costs c = search rules
 
 mul-i : tie.Need-offset_bounds-p-k
@@ -32,7 +32,7 @@ returns : tie.Need-returns
 returns c =
     let b = c.before.before in
     let s = b.before.before in
-    let i = item_at s.args.t1 s.args.k in
+    let i = item_at s.args.p s.args.k in
     rw (back i.weight (weighs c), back i.price (costs c), b.cap-low.ensures) at c.with_item.ensures
 
 pub without_spec : {M : Type 1} → statement M

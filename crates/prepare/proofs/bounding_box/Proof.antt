@@ -12,14 +12,14 @@ table-requires : tie.Need-table-lo-requires
 table-requires c κs = let s = c.before in places-listing s.args.p s.requires c.all_places-items.result c.all_places-items.ensures
 
 table-requires-2 : tie.Need-table-hi-requires
-table-requires-2 c κs = let s = c.before.before in places-listing s.args.p s.requires c.before.all_places-items.result c.before.all_places-items.ensures
+table-requires-2 c κs = let s = c.before.before in places-listing s.args.p s.requires c.all_places-items.result c.all_places-items.ensures
 
 returns : tie.Need-returns
 returns c =
     let a = c.before.before in
     let s = a.before in
     record {
-      lows = tabled-places s.args.p s.requires a.all_places-items.result a.all_places-items.ensures Low c.before.table-lo.result c.before.table-lo.ensures;
+      lows = tabled-places s.args.p s.requires a.all_places-items.result a.all_places-items.ensures Low c.table-lo.result c.table-lo.ensures;
       highs = tabled-places s.args.p s.requires a.all_places-items.result a.all_places-items.ensures High c.table-hi.result c.table-hi.ensures;
     }
 

@@ -37,16 +37,16 @@ returns-2 : tie.Need-returns-then-u-n
 returns-2 c =
     let at-else1 = c.before.before.before in
     let f = at-else1.before.before.before in
-    let z = f.before.requires.columns in
+    let z = f.requires.columns in
     let u = f.fill_up-f.result.at in
-    let t = rw (to_z-of_z (room_fits f)) at c.before.before.before.if-f-lt0.false in
-    rw (sym f.fill_up-f.ensures, t, lt-ltb _ _ c.before.before.if-u-n.true, within-back tt (z.rates-in u), within-back tt (z.sizes-in u))
+    let t = rw (to_z-of_z (room_fits f)) at c.if-f-lt0.false in
+    rw (sym f.fill_up-f.ensures, t, lt-ltb _ _ c.if-u-n.true, within-back tt (z.rates-in u), within-back tt (z.sizes-in u))
 
 returns-3 : tie.Need-returns
 returns-3 c =
     let at-else1 = c.before in
     let f = at-else1.before.before.before in
-    let t = rw (to_z-of_z (room_fits f)) at c.before.if-f-lt0.false in
+    let t = rw (to_z-of_z (room_fits f)) at c.if-f-lt0.false in
     rw (sym f.fill_up-f.ensures, t, le-ltb _ _ c.if-u-n.false)
 
 pub branching_spec : {M : Type 1} → statement M

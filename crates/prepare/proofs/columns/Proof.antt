@@ -15,14 +15,14 @@ use Rattle.prepare.proofs.columns.Tie as tie
 
 -- the two lists by which tables are made
 module _ (c : tie.After-ranking_by-order) where
-  all_listed : Listing c.before.before.args.p c.before.all_places-items.result c.before.before.args.p.count
-  all_listed = let s = c.before.before in places-listing s.args.p s.requires c.before.all_places-items.result c.before.all_places-items.ensures
+  all_listed : Listing c.args.p c.all_places-items.result c.args.p.count
+  all_listed = let s = c.before.before in places-listing s.args.p s.requires c.all_places-items.result c.all_places-items.ensures
 
-  in_order : Listing c.before.before.args.p c.ranking_by-order.result c.before.before.args.p.count
+  in_order : Listing c.args.p c.ranking_by-order.result c.args.p.count
   in_order = let s = c.before.before in sorted-listing s.args.p s.requires (λ k. key_of Filling (item_at s.args.p k)) c.ranking_by-order.result
       c.ranking_by-order.ensures
 
-  permuted : Permuted c.before.before.args.p.count c.ranking_by-order.result
+  permuted : Permuted c.args.p.count c.ranking_by-order.result
   permuted = let s = c.before.before in sorted-permuted s.args.p s.requires (λ k. key_of Filling (item_at s.args.p k)) c.ranking_by-order.result
       c.ranking_by-order.ensures
 
@@ -69,7 +69,7 @@ returns c =
     let at-inverse = after-inverse c.before in
     let o = at-inverse.before.before.before in
     let s = o.before.before in
-    let items = o.before.all_places-items in
+    let items = o.all_places-items in
     let fits : SFits w64 s.args.p.capacity = search rules in
     let t = at-inverse.before.before in
     record {
@@ -79,9 +79,9 @@ returns c =
       prices = tabled-places s.args.p s.requires items.result items.ensures Price (after-table2 c).table-price.result (after-table2 c).table-price.ensures;
       order = o.ranking_by-order.ensures;
       rank = at-inverse.inverse-rank.ensures;
-      sizes = c.before.before.before.table-size.ensures;
-      rates = c.before.before.table-rate.ensures;
-      live = c.before.leading-live.ensures;
+      sizes = c.table-size.ensures;
+      rates = c.table-rate.ensures;
+      live = c.leading-live.ensures;
     }
 
 pub columns_spec : {M : Type 1} → statement M

@@ -31,7 +31,7 @@ returns c =
     record {
       first = l.leading-fixed.result;
       leads = leading-places p s.requires.accepted.few-items a.all_places-items.result a.all_places-items.ensures l.leading-fixed.result l.leading-fixed.ensures;
-      are = λ d h. rw (c.unknown_lattices.ensures, lt-ltb l.leading-fixed.result p.count c.before.if-fixed-p.true) (unknown-at 16 d h);
+      are = λ d h. rw (c.unknown_lattices.ensures, lt-ltb l.leading-fixed.result p.count c.if-fixed-p.true) (unknown-at 16 d h);
     }
 
 table-requires : tie.Need-table-weight-requires
@@ -77,7 +77,7 @@ returns-2 c =
     record {
       first = l.leading-fixed.result;
       leads = leading-places p s.requires.accepted.few-items a.all_places-items.result a.all_places-items.ensures l.leading-fixed.result l.leading-fixed.ensures;
-      are = λ d h. rw (le-ltb l.leading-fixed.result p.count w.before.if-fixed-p.false) (rw (weights w, prices t) at (c.lattices.ensures d h));
+      are = λ d h. rw (le-ltb l.leading-fixed.result p.count w.if-fixed-p.false) (rw (weights w, prices t) at (c.lattices.ensures d h));
     }
 
 pub lattices_of_spec : {M : Type 1} → statement M

@@ -22,12 +22,12 @@ start c = start-of-bounding-box c.before.before
 in_order : (c : tie.After-ranking_by-level) → Listing (start c).args.p c.ranking_by-level.result (start c).args.p.count
 in_order c =
     let s = start c in
-    sorted-listing s.args.p s.requires (λ k. key_of c.before.branching-by.result (item_at s.args.p k)) c.ranking_by-level.result c.ranking_by-level.ensures
+    sorted-listing s.args.p s.requires (λ k. key_of c.branching-by.result (item_at s.args.p k)) c.ranking_by-level.result c.ranking_by-level.ensures
 
-by_level : (c : tie.After-leading-levels) → Listing (start c.before).args.p c.before.ranking_by-level.result c.leading-levels.result
+by_level : (c : tie.After-leading-levels) → Listing (start c.before).args.p c.ranking_by-level.result c.leading-levels.result
 by_level c =
     let s = start c.before in
-    shorter-listing s.args.p c.before.ranking_by-level.result c.leading-levels.result s.args.p.count c.leading-levels.ensures.most (in_order c.before)
+    shorter-listing s.args.p c.ranking_by-level.result c.leading-levels.result s.args.p.count c.leading-levels.ensures.most (in_order c.before)
 
 columns-requires : tie.Need-columns-cols-requires
 columns-requires c κs = search rules
@@ -49,7 +49,7 @@ ranking-by-requires c κs =
     let k = c.before.before in
     let s = k.before in (
       s.requires,
-      subst SmallKey (sym c.branching-by.ensures) (critical-small k.columns-cols.result (fill k.columns-cols.result c.before.bounding_box-ends.result)
+      subst SmallKey (sym c.branching-by.ensures) (critical-small k.columns-cols.result (fill k.columns-cols.result c.bounding_box-ends.result)
           (columns-sized s.args.p k.columns-cols.result s.requires k.columns-cols.ensures)),
     )
 
@@ -79,8 +79,8 @@ returns c =
       by-is = b.branching-by.ensures;
       sorted = o.ranking_by-level.ensures;
       leading = l.leading-levels.ensures;
-      lows = c.before.before.table-low.ensures;
-      highs = c.before.table-high.ensures;
+      lows = c.table-low.ensures;
+      highs = c.table-high.ensures;
       latticing = c.lattices_of-lattice.ensures;
     })
 

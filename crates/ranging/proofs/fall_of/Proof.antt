@@ -41,7 +41,7 @@ stands-low-requires c κs =
       omega (arith, s.requires.1, f.few-items),
       (
         (f.items-in s.args.k s.requires.1).lower_in,
-        shown-good s.args.t1 (amount_at s.args.a) s.args.k f h.best.shown s.requires.1,
+        shown-good s.args.p (amount_at s.args.a) s.args.k f h.best.shown s.requires.1,
       ),
     )
 
@@ -50,26 +50,26 @@ returns c =
     let l = c.before in
     let s = l.before.before.before in
     let a = s.args in
-    low-stays a.t1 a.ns a.a a.k s.requires.0 s.requires.1 (l.stands_low.ensures c.if-stands_low.true)
+    low-stays a.p a.ns a.a a.k s.requires.0 s.requires.1 (l.stands_low.ensures c.if-stands_low.true)
 
 deepest-requires : tie.Need-deepest-most-requires invariant-loop decreases-loop
 deepest-requires c κs =
     let s = start c in
-    let i = item_at s.args.t1 s.args.k in
+    let i = item_at s.args.p s.args.k in
     let h : mag i.price < 2 ^ 63 = search rules in
     rw (back i.price h) (s.requires.0.needed.figures.items-in s.args.k s.requires.1).price-in
 
-deep_is : (c : tie.After-deepest-most invariant-loop decreases-loop) → let s = told c in c.deepest-most.result ≡ deepest (item_at s.args.t1 s.args.k).price
+deep_is : (c : tie.After-deepest-most invariant-loop decreases-loop) → let s = told c in c.deepest-most.result ≡ deepest (item_at s.args.p s.args.k).price
 deep_is c =
     let s = told c in
-    let i = item_at s.args.t1 s.args.k in
+    let i = item_at s.args.p s.args.k in
     let h : mag i.price < 2 ^ 63 = search rules in
     rw (back i.price h) at c.deepest-most.ensures
 
-few : (c : tie.After-deepest-most invariant-loop decreases-loop) → let s = told c in deepest (item_at s.args.t1 s.args.k).price ≤ 20000
+few : (c : tie.After-deepest-most invariant-loop decreases-loop) → let s = told c in deepest (item_at s.args.p s.args.k).price ≤ 20000
 few c =
     let s = told c in
-    deepest-most (item_at s.args.t1 s.args.k).price (s.requires.0.needed.figures.items-in s.args.k s.requires.1).price-in
+    deepest-most (item_at s.args.p s.args.k).price (s.requires.0.needed.figures.items-in s.args.k s.requires.1).price-in
 
 add-t16 : tie.Need-overflow_add-s invariant-loop decreases-loop
 add-t16 c = record { fits = omega (arith, few c, deep_is c) }
@@ -79,8 +79,8 @@ loop-holds c =
     let a = (told c).args in
     let h = (told c).requires in (
       deep_is c,
-      subst (λ n. Spans a.t1 a.ns a.a a.k (record { low = 0; high = n + 1; leaps = 6 })) (sym (deep_is c))
-          (span-first a.t1 a.ns a.a a.k h.0 h.1 6),
+      subst (λ n. Spans a.p a.ns a.a a.k (record { low = 0; high = n + 1; leaps = 6 })) (sym (deep_is c))
+          (span-first a.p a.ns a.a a.k h.0 h.1 6),
     )
 
 add-if2 : tie.Need-overflow_add-s-in-loop-s invariant-loop decreases-loop
@@ -97,21 +97,21 @@ loop-less : tie.Need-loop-s-smaller invariant-loop decreases-loop
 loop-less c = omega (arith, c.narrowed-s.ensures.less)
 
 loop-again : tie.Need-loop-s-preserved invariant-loop decreases-loop
-loop-again c = (c.before.before.before.before.loop-s.invariant.0, c.narrowed-s.ensures.spans)
+loop-again c = (c.loop-s.invariant.0, c.narrowed-s.ensures.spans)
 
 returns-2 : tie.Need-returns-then-most-s invariant-loop decreases-loop
 returns-2 c =
     let l = c.before.before.before.before.before in
     let s = told l.before in
     let a = s.args in
-    span_none a.t1 a.ns a.a a.k s.requires.0 s.requires.1 l.loop-s.s l.loop-s.invariant.1 (omega arith) (omega (arith, l.loop-s.invariant.0))
+    span_none a.p a.ns a.a a.k s.requires.0 s.requires.1 l.loop-s.s l.loop-s.invariant.1 (omega arith) (omega (arith, l.loop-s.invariant.0))
 
 returns-3 : tie.Need-returns-else-most-s invariant-loop decreases-loop
 returns-3 c =
     let l = c.before.before.before.before.before in
     let s = told l.before in
     let a = s.args in
-    span-found a.t1 a.ns a.a a.k s.requires.0 s.requires.1 l.loop-s.s l.loop-s.invariant.1 (omega arith) (omega (arith, l.loop-s.invariant.0))
+    span-found a.p a.ns a.a a.k s.requires.0 s.requires.1 l.loop-s.s l.loop-s.invariant.1 (omega arith) (omega (arith, l.loop-s.invariant.0))
 
 pub fall_of_spec : {M : Type 1} → statement M
 fall_of_spec =

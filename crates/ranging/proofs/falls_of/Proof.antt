@@ -18,11 +18,11 @@ decreases-loop p ns a n of₀ k₀ of k = n - k
 loop-holds : tie.Need-loop-k-init invariant-loop decreases-loop
 loop-holds c = (omega arith, falls-none c.args.p c.args.ns c.args.a)
 
-inside : (c : tie.In-loop-k invariant-loop decreases-loop) → c.before.loop-k.k < 16
-inside c = omega (arith, c.loop-k-test.true, c.before.before.requires.needed.figures.few-items)
+inside : (c : tie.In-loop-k invariant-loop decreases-loop) → c.loop-k.k < 16
+inside c = omega (arith, c.loop-k-test.true, c.requires.needed.figures.few-items)
 
 fall-of-requires : tie.Need-fall_of-requires invariant-loop decreases-loop
-fall-of-requires c κs = (c.before.before.requires, c.loop-k-test.true)
+fall-of-requires c κs = (c.requires, c.loop-k-test.true)
 
 mul-of : tie.Need-offset_bounds-of-k invariant-loop decreases-loop
 mul-of c = omega (arith, inside c.before)
@@ -34,7 +34,7 @@ add-k : tie.Need-overflow_add-k invariant-loop decreases-loop
 add-k c = record { fits = omega (arith, inside c.before) }
 
 loop-less : tie.Need-loop-k-smaller invariant-loop decreases-loop
-loop-less c = omega (arith, c.before.loop-k-test.true)
+loop-less c = omega (arith, c.loop-k-test.true)
 
 loop-again : tie.Need-loop-k-preserved invariant-loop decreases-loop
 loop-again c =
@@ -51,8 +51,8 @@ loop-again c =
 
 returns : tie.Need-returns invariant-loop decreases-loop
 returns c =
-    let l = c.before.loop-k in
-    let a = c.before.before.args in
+    let l = c.loop-k in
+    let a = c.args in
     let e : l.k ≡ a.p.count = omega (arith, c.loop-k-test.false, l.invariant.0) in
     subst (λ (n : ℕ). FallsAre a.p a.ns a.a n l.of) e l.invariant.1
 

@@ -27,26 +27,26 @@ is-passed-requires : tie.Need-is_passed-requires invariant-loop decreases-loop
 is-passed-requires c κs =
     let s = c.before.before in
     let h = s.requires.0.0 in
-    (record { figures = h.figures; inside = h.inside; most = omega (arith, h.most, c.before.loop-from.invariant.1.1.0, c.loop-from-test.true) }, s.requires.0.1)
+    (record { figures = h.figures; inside = h.inside; most = omega (arith, h.most, c.loop-from.invariant.1.1.0, c.loop-from-test.true) }, s.requires.0.1)
 
 loop-less : tie.Need-loop-from-smaller-then-is_passed invariant-loop decreases-loop
 loop-less c = omega arith
 
 loop-again : tie.Need-loop-from-preserved-then-is_passed invariant-loop decreases-loop
 loop-again c =
-    let l = c.before.before.before.loop-from in
-    (l.invariant.0, (omega arith, (omega arith, record { above = omega arith; ahead = c.before.is_passed.ensures.ahead c.if-is_passed.true })))
+    let l = c.loop-from in
+    (l.invariant.0, (omega arith, (omega arith, record { above = omega arith; ahead = c.is_passed.ensures.ahead c.if-is_passed.true })))
 
 loop-less-2 : tie.Need-loop-from-smaller invariant-loop decreases-loop
 loop-less-2 c = omega arith
 
 loop-again-2 : tie.Need-loop-from-preserved invariant-loop decreases-loop
 loop-again-2 c =
-    let l = c.before.before.before.loop-from in
+    let l = c.loop-from in
     (omega arith, (omega arith, (l.invariant.1.1.0, l.invariant.1.1.1)))
 
 returns : tie.Need-returns invariant-loop decreases-loop
-returns c = let l = c.before.loop-from in (l.invariant.1.1.1, l.invariant.1.1.0)
+returns c = let l = c.loop-from in (l.invariant.1.1.1, l.invariant.1.1.0)
 
 pub first_passed_spec : {M : Type 1} → statement M
 first_passed_spec =

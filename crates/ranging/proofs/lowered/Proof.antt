@@ -15,17 +15,17 @@ use borrow.Author.Rules.{rules}
 use Rattle.ranging.proofs.lowered.Statement.{statement}
 use Rattle.ranging.proofs.lowered.Tie as tie
 
-fits : (s : tie.Start) → SFits w64 ((item_at s.args.t1 s.args.k).price -ℤ pos s.args.d)
+fits : (s : tie.Start) → SFits w64 ((item_at s.args.p s.args.k).price -ℤ pos s.args.d)
 fits s = within-sfits {n = 30000} (lit< tt)
-    (within-sub {m = 10000} {n = 20000} (abs-within (item_at s.args.t1 s.args.k).price s.requires.1.0) (abs-within (pos s.args.d) s.requires.1.1))
+    (within-sub {m = 10000} {n = 20000} (abs-within (item_at s.args.p s.args.k).price s.requires.1.0) (abs-within (pos s.args.d) s.requires.1.1))
 
 is-n : (s : tie.Start) → to_z w64 s.args.d ≡ pos s.args.d
 is-n s = to_z_pos w64 (omega (arith, s.requires.1.1))
 
-costs : (c : tie.After-struct_told-1) → let s = c.before.before.before in mag (item_at s.args.t1 s.args.k).price < 2 ^ 63
+costs : (c : tie.After-struct_told-1) → let s = c.before.before.before in mag (item_at s.args.p s.args.k).price < 2 ^ 63
 costs c = search rules
 
-weighs : (c : tie.After-struct_told-1) → let s = c.before.before.before in mag (item_at s.args.t1 s.args.k).weight < 2 ^ 63
+weighs : (c : tie.After-struct_told-1) → let s = c.before.before.before in mag (item_at s.args.p s.args.k).weight < 2 ^ 63
 weighs c = search rules
 
 mul-i : tie.Need-offset_bounds-p-k
@@ -40,7 +40,7 @@ cast-n c = search rules
 sub-t15 : tie.Need-overflow_sub-x
 sub-t15 c =
     let s = c.before.before.before in
-    rw (back (item_at s.args.t1 s.args.k).price (costs c), is-n s) (fits s)
+    rw (back (item_at s.args.p s.args.k).price (costs c), is-n s) (fits s)
 
 with-item-requires : tie.Need-with_item-requires
 with-item-requires c κs = search rules
@@ -49,7 +49,7 @@ returns : tie.Need-returns
 returns c =
     let t = c.before.before in
     let s = t.before.before.before in
-    let i = item_at s.args.t1 s.args.k in
+    let i = item_at s.args.p s.args.k in
     rw (back i.weight (weighs t), back i.price (costs t), is-n s, to_z-of_z (fits s)) at c.with_item.ensures
 
 pub lowered_spec : {M : Type 1} → statement M

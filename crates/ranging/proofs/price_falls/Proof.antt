@@ -17,8 +17,8 @@ abbrev testing : tie.After-plain_of → tie.Then-is_optimal
 testing c = c.before.before
 
 -- the planner shows a best point
-best-kind : (c : tie.Then-is_optimal) → c.before.before.plan-a.result.kind ≡ kind.Optimal
-best-kind c = kind-of c.before.before.plan-a.result.kind (sym c.before.is_optimal.ensures ∙ c.if-is_optimal.true)
+best-kind : (c : tie.Then-is_optimal) → c.plan-a.result.kind ≡ kind.Optimal
+best-kind c = kind-of c.plan-a.result.kind (sym c.is_optimal.ensures ∙ c.if-is_optimal.true)
 
 plan-requires : tie.Need-plan-a-requires
 plan-requires c κs = search rules
@@ -33,7 +33,7 @@ falls-of-requires : tie.Need-falls_of-of-requires
 falls-of-requires c κs =
     let t = testing c in
     let a = t.before.before in
-    let m = a.before.args.m in
+    let m = a.args.m in
     rw c.plain_of.ensures (planned-watched m a.plan-a.result a.plan-a.ensures (best-kind t))
 
 returns : tie.Need-returns-then-is_optimal
@@ -41,7 +41,7 @@ returns c =
     let p = c.before in
     let t = testing p in
     let a = t.before.before in
-    let m = a.before.args.m in
+    let m = a.args.m in
     let f : FallsAre (plain_of Sure m) m.needs a.plan-a.result m.count c.falls_of-of.result = rw p.plain_of.ensures at c.falls_of-of.ensures in
     record { planned = a.plan-a.ensures; falls = λ e k l. f.falls k l; others = λ n. absurd (n (best-kind t)); small = f.small }
 
@@ -53,7 +53,7 @@ returns-2 c =
     let t = c.before in
     let o = t.before in
     let a = o.before in
-    subst (FallsOf a.before.args.m) (sym c.no_falls.ensures)
+    subst (FallsOf a.args.m) (sym c.no_falls.ensures)
     (record {
       planned = a.plan-a.ensures;
       falls = λ e k l. absurd (impossible (sym (sym o.is_optimal.ensures ∙ t.if-is_optimal.false) ∙ ap is_optimal e));

@@ -30,21 +30,21 @@ read_at l k = get_or l k (record { p = pos 0; q = 0 })
 abbrev start : tie.After-struct_told-1 → tie.Start
 start c = c.before.before.before.before
 
-same : (s : tie.Start) → amount_in s.args.t2 s.args.k ≡ read_at s.args.t2 s.args.k
+same : (s : tie.Start) → amount_in s.args.x s.args.k ≡ read_at s.args.x s.args.k
 same s =
-    let size : length s.args.t2 ≡ 16 = search rules in
-    default s.args.t2 s.args.k nought (record { p = pos 0; q = 0 }) (omega (arith, s.requires.0, size))
+    let size : length s.args.x ≡ 16 = search rules in
+    default s.args.x s.args.k nought (record { p = pos 0; q = 0 }) (omega (arith, s.requires.0, size))
 
-good : (s : tie.Start) → GoodAmount (read_at s.args.t2 s.args.k)
+good : (s : tie.Start) → GoodAmount (read_at s.args.x s.args.k)
 good s = subst GoodAmount (same s) s.requires.1.1
 
 -- the code's test is the definition's
 past : (c : tie.After-breaks_bound) → let a = (start c.before).args in
-    breaks_bound Upper a.b (read_at a.t2 a.k).p (read_at a.t2 a.k).q ≡ c.breaks_bound.result
+    breaks_bound Upper a.b (read_at a.x a.k).p (read_at a.x a.k).q ≡ c.breaks_bound.result
 past c =
     let s = start c.before in
-    let h : mag (read_at s.args.t2 s.args.k).p < 2 ^ 63 = search rules in
-    sym (rw (back (read_at s.args.t2 s.args.k).p h) at c.breaks_bound.ensures)
+    let h : mag (read_at s.args.x s.args.k).p < 2 ^ 63 = search rules in
+    sym (rw (back (read_at s.args.x s.args.k).p h) at c.breaks_bound.ensures)
 
 denied : (b : Bool) → not b ≡ true → b ≡ false
 denied true e = absurd (impossible e)
@@ -71,7 +71,7 @@ returns-2 c =
     let o = t.before in
     let s = o.before in
     λ e. subst (λ (z : Fraction). StandsLow s.args.b (frac z.p z.q)) (sym (same s))
-    (stands_by s.args.b (read_at s.args.t2 s.args.k) (good s) (sym o.is_absent.ensures ∙ t.if-is_absent.false)
+    (stands_by s.args.b (read_at s.args.x s.args.k) (good s) (sym o.is_absent.ensures ∙ t.if-is_absent.false)
     (past c ∙ denied c.breaks_bound.result e))
 
 pub stands_low_spec : {M : Type 1} → statement M

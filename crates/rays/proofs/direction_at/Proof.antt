@@ -12,7 +12,7 @@ use borrow.Author.Rules.{rules}
 use Rattle.rays.proofs.direction_at.Statement.{statement}
 use Rattle.rays.proofs.direction_at.Tie as tie
 
-item_in : (s : tie.Start) → ItemInRange (item_at s.args.t1 (s.args.u / 2))
+item_in : (s : tie.Start) → ItemInRange (item_at s.args.p (s.args.u / 2))
 item_in s = s.requires.0.items-in (s.args.u / 2) (omega arith)
 
 mul-i : tie.Need-offset_bounds-p-k
@@ -31,13 +31,13 @@ is-absent-requires c κs = search rules
 weight-fits : (c : tie.After-struct_told-1) →
     let at-is-absent = c.before in
     let s = at-is-absent.before.before.before in
-    SFits w64 (item_at s.args.t1 (s.args.u / 2)).weight
+    SFits w64 (item_at s.args.p (s.args.u / 2)).weight
 weight-fits c = search rules
 
 price-fits : (c : tie.After-struct_told-2-1) →
     let at-is-absent = c.before.before.before in
     let s = at-is-absent.before.before.before in
-    SFits w64 (item_at s.args.t1 (s.args.u / 2)).price
+    SFits w64 (item_at s.args.p (s.args.u / 2)).price
 price-fits c = search rules
 
 -- the moments that are spoken of below
@@ -47,12 +47,12 @@ start c = c.before.before.before
 turned-requires : tie.Need-turned-requires
 turned-requires c κs =
     let s = start c.before in
-    rw (to_z-of_z (weight-fits c)) (abs-within (item_at s.args.t1 (s.args.u / 2)).weight (omega (arith, (item_in s).weight-in)))
+    rw (to_z-of_z (weight-fits c)) (abs-within (item_at s.args.p (s.args.u / 2)).weight (omega (arith, (item_in s).weight-in)))
 
 turned-requires-2 : tie.Need-turned-requires-2
 turned-requires-2 c κs =
     let s = start c.before.before.before in
-    rw (to_z-of_z (price-fits c)) (abs-within (item_at s.args.t1 (s.args.u / 2)).price (item_in s).price-in)
+    rw (to_z-of_z (price-fits c)) (abs-within (item_at s.args.p (s.args.u / 2)).price (item_in s).price-in)
 
 returns : tie.Need-returns
 unfolding direction_of
@@ -61,9 +61,9 @@ returns c =
     let at-is-absent = at-turned.before.before in
     let at-stop-of = at-is-absent.before in
     rw (
-      back c.before.before.turned.result c.before.before.turned.type_inv,
+      back c.turned.result c.turned.type_inv,
       back c.turned-2.result c.turned-2.type_inv,
-      c.before.before.turned.ensures,
+      c.turned.ensures,
       c.turned-2.ensures,
       to_z-of_z (weight-fits at-turned.before),
       to_z-of_z (price-fits c.before),

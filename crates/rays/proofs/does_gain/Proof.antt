@@ -10,8 +10,8 @@ use Rattle.rays.proofs.does_gain.Tie as tie
 returns : tie.Need-returns-then-d
 unfolding gains
 returns c =
-    let h : SFits w64 c.before.before.before.args.d.price = search rules in
-    rw (to_z-of_z h, c.before.before.if-d.true)
+    let h : SFits w64 c.args.d.price = search rules in
+    rw (to_z-of_z h, c.if-d.true)
 
 returns-2 : tie.Need-returns-else-d
 unfolding gains

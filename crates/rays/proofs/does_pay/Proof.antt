@@ -28,14 +28,14 @@ returns c =
     let at-if1 = then1 c.before in
     let s = at-if1.before in
     let h : SFits w64 s.args.e.weight = search rules in
-    rw (back _ c.gain_of.type_inv, c.gain_of.ensures, at-if1.if-e.true, on_values h zero-fits c.before.if-e-lt0.true)
+    rw (back _ c.gain_of.type_inv, c.gain_of.ensures, at-if1.if-e.true, on_values h zero-fits c.if-e-lt0.true)
 
 returns-2 : tie.Need-returns-else-e-lt0
 unfolding pays
 returns-2 c =
     let s = start c.before in
     let h : SFits w64 s.args.e.weight = search rules in
-    rw (c.before.before.before.if-e.true, on_values h zero-fits c.if-e-lt0.false)
+    rw (c.if-e.true, on_values h zero-fits c.if-e-lt0.false)
 
 returns-3 : tie.Need-returns-else-e
 unfolding pays

@@ -37,7 +37,7 @@ unfolding ray_of
 returns c =
     let at-loop = at-loop-of-is-ray c.before in
     let l = at-loop.loop-u in
-    first-here _ l.u _ _ _ (omega arith) l.inv.1 c.before.before.ray_from-r.ensures c.before.is_ray.ensures c.if-is_ray.true
+    first-here _ l.u _ _ _ (omega arith) l.invariant.1 c.ray_from-r.ensures c.is_ray.ensures c.if-is_ray.true
 
 add-u : tie.Need-overflow_add-u invariant-loop decreases-loop
 add-u c = omega arith
@@ -49,13 +49,13 @@ loop-again : tie.Need-loop-u-preserved invariant-loop decreases-loop
 loop-again c =
     let at-loop = at-loop-of-is-ray c.before in
     let l = at-loop.loop-u in
-    (omega arith, first_past l.u _ _ _ l.inv.1 c.before.before.ray_from-r.ensures c.before.is_ray.ensures c.if-is_ray.false)
+    (omega arith, first_past l.u _ _ _ l.invariant.1 c.ray_from-r.ensures c.is_ray.ensures c.if-is_ray.false)
 
 returns-2 : tie.Need-returns invariant-loop decreases-loop
 unfolding ray_of
 returns-2 c =
-    let e : c.before.loop-u.u ≡ 2 * c.before.before.before.args.p.count = omega arith in
-    sym (rw e at c.before.loop-u.invariant.1)
+    let e : c.loop-u.u ≡ 2 * c.args.p.count = omega arith in
+    sym (rw e at c.loop-u.invariant.1)
 
 pub first_ray_spec : {M : Type 1} → statement M
 first_ray_spec =

@@ -15,7 +15,7 @@ array-set-from-l : tie.Need-bounds-l-u
 array-set-from-l c = search rules
 
 returns : tie.Need-returns
-returns c = rw (back _ c.turned.type_inv, c.turned.ensures, to_z-of_z c.before.ranges.n)
+returns c = rw (back _ c.turned.type_inv, c.turned.ensures, to_z-of_z c.ranges.n)
 
 pub moved_spec : {M : Type 1} → statement M
 moved_spec = tie.close (tie.spec turned-requires mul-l array-set-from-l returns)

@@ -12,10 +12,10 @@ use Rattle.rays.proofs.pair_steps.Statement.{statement}
 use Rattle.rays.proofs.pair_steps.Tie as tie
 
 module _ (c : tie.After-direction_at-e) where
-  d-weight : Within 10000 c.before.direction_at-d.result.weight
+  d-weight : Within 10000 c.direction_at-d.result.weight
   d-weight =
       let s = c.before.before in
-      rw c.before.direction_at-d.ensures (abs-within _ (omega (arith, (direction-in s.args.p s.args.u s.requires.0 s.requires.1.0).weight-in)))
+      rw c.direction_at-d.ensures (abs-within _ (omega (arith, (direction-in s.args.p s.args.u s.requires.0 s.requires.1.0).weight-in)))
 
   e-weight : Within 10000 c.direction_at-e.result.weight
   e-weight =
@@ -59,13 +59,13 @@ returns c =
     let e = at-no-steps.before in
     rw (
       c.moved.ensures,
-      c.before.before.moved-l.ensures,
+      c.moved-l.ensures,
       at-no-steps.no_steps-still.ensures,
       negated (lit< tt) (e-weight e),
       read_back (lit< tt) (e-negated e),
       read_back (lit< tt) (d-weight e),
       e.direction_at-e.ensures,
-      e.before.direction_at-d.ensures,
+      e.direction_at-d.ensures,
     )
 
 pub pair_steps_spec : {M : Type 1} → statement M

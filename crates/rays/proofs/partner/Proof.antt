@@ -36,7 +36,7 @@ returns : tie.Need-returns-then-is_ray invariant-loop decreases-loop
 returns c =
     let at-loop = at-loop-of-is-ray c.before in
     let l = at-loop.loop-w in
-    first-here _ l.w _ _ _ (omega arith) l.inv.1 c.before.before.partner_at-r.ensures c.before.is_ray.ensures c.if-is_ray.true
+    first-here _ l.w _ _ _ (omega arith) l.invariant.1 c.partner_at-r.ensures c.is_ray.ensures c.if-is_ray.true
 
 add-w : tie.Need-overflow_add-w invariant-loop decreases-loop
 add-w c = omega arith
@@ -48,12 +48,12 @@ loop-again : tie.Need-loop-w-preserved invariant-loop decreases-loop
 loop-again c =
     let at-loop = at-loop-of-is-ray c.before in
     let l = at-loop.loop-w in
-    (omega arith, first_past l.w _ _ _ l.inv.1 c.before.before.partner_at-r.ensures c.before.is_ray.ensures c.if-is_ray.false)
+    (omega arith, first_past l.w _ _ _ l.invariant.1 c.partner_at-r.ensures c.is_ray.ensures c.if-is_ray.false)
 
 returns-2 : tie.Need-returns invariant-loop decreases-loop
 returns-2 c =
-    let e : c.before.loop-w.w ≡ 2 * c.before.before.before.args.p.count = omega arith in
-    sym (rw e at c.before.loop-w.invariant.1)
+    let e : c.loop-w.w ≡ 2 * c.args.p.count = omega arith in
+    sym (rw e at c.loop-w.invariant.1)
 
 pub partner_spec : {M : Type 1} → statement M
 partner_spec =

@@ -15,9 +15,9 @@ does-pay-requires c κs =
     (s.requires.1.0, rw c.direction_at-e.ensures (direction-in s.args.p s.args.w s.requires.0 s.requires.1.1))
 
 -- the answer of the test is the definition's
-test : (c : tie.After-does_pay) → pays c.before.before.args.d (direction_of c.before.before.args.p c.before.before.args.w)
+test : (c : tie.After-does_pay) → pays c.args.d (direction_of c.args.p c.args.w)
     ≡ c.does_pay.result
-test c = sym (c.does_pay.ensures ∙ ap (pays c.before.before.args.d) c.before.direction_at-e.ensures)
+test c = sym (c.does_pay.ensures ∙ ap (pays c.args.d) c.direction_at-e.ensures)
 
 returns : tie.Need-returns-then-does_pay
 returns c = rw (test c.before ∙ c.if-does_pay.true)

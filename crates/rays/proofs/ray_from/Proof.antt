@@ -36,11 +36,11 @@ unfolding ray_from
 returns c =
     let at-if1 = then1 c.before in
     let g = at-if1.before in
-    let h : SFits w64 g.before.direction_at-d.result.weight = search rules in
+    let h : SFits w64 g.direction_at-d.result.weight = search rules in
     rw (
-      ← g.before.direction_at-d.ensures,
+      ← g.direction_at-d.ensures,
       sym g.does_gain.ensures ∙ at-if1.if-does_gain.true,
-      on_values zero-fits h c.before.if-d-gt0.true,
+      on_values zero-fits h c.if-d-gt0.true,
     ) c.partner.ensures
 
 returns-2 : tie.Need-returns-then-does_gain
@@ -48,14 +48,14 @@ unfolding ray_from
 returns-2 c =
     let at-then1 = c.before.before.before in
     let g = at-then1.before in
-    let h : SFits w64 g.before.direction_at-d.result.weight = search rules in
-    rw (← g.before.direction_at-d.ensures, sym g.does_gain.ensures ∙ c.before.before.before.if-does_gain.true, on_values zero-fits h c.if-d-gt0.false)
+    let h : SFits w64 g.direction_at-d.result.weight = search rules in
+    rw (← g.direction_at-d.ensures, sym g.does_gain.ensures ∙ c.if-does_gain.true, on_values zero-fits h c.if-d-gt0.false)
 
 returns-3 : tie.Need-returns
 unfolding ray_from
 returns-3 c =
     let g = c.before in
-    rw (← g.before.direction_at-d.ensures, sym g.does_gain.ensures ∙ c.if-does_gain.false)
+    rw (← g.direction_at-d.ensures, sym g.does_gain.ensures ∙ c.if-does_gain.false)
 
 pub ray_from_spec : {M : Type 1} → statement M
 ray_from_spec =

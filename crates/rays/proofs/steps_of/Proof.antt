@@ -20,9 +20,9 @@ no-steps-requires-2 c κs = search rules
 
 moved-requires : tie.Need-moved-requires
 moved-requires c κs =
-    let r = c.before.before in
-    let s = r.before.before in
-    let h : r.r-1.given.0.0 < 2 * s.args.p.count = rw r.r-1.given.1 at s.requires.1 in
+    let r = c.before in
+    let s = r.before in
+    let h : r.in-Single.u < 2 * s.args.p.count = rw r.in-Single.is at s.requires.1 in
     (omega arith, search rules)
 
 enum-known-r-2 : tie.Need-enum_known-r-in-Pair-1
@@ -30,20 +30,20 @@ enum-known-r-2 c = search rules
 
 pair-steps-requires : tie.Need-pair_steps-requires
 pair-steps-requires c κs =
-    let r = c.before in
-    let s = r.before.before in
-    (s.requires.0, rw r.r-in-Pair-1.given.1 at s.requires.1)
+    let r = c in
+    let s = r.before in
+    (s.requires.0, rw r.in-Pair.is at s.requires.1)
 
 returns : tie.Need-returns-in-None
 unfolding steps_by
-returns c = rw c.before.enum_told-1.given.1 c.no_steps.ensures
+returns c = rw c.in-None.is c.no_steps.ensures
 
 returns-2 : tie.Need-returns-in-Single
 unfolding steps_by
-returns-2 c = rw (c.before.before.before.r-1.given.1, c.moved.ensures, c.before.no_steps-in-Single.ensures)
+returns-2 c = rw (c.in-Single.is, c.moved.ensures, c.no_steps-in-Single.ensures)
 
 returns-3 : tie.Need-returns-in-Pair
-returns-3 c = rw c.before.before.r-in-Pair-1.given.1 c.pair_steps.ensures
+returns-3 c = rw c.in-Pair.is c.pair_steps.ensures
 
 pub steps_of_spec : {M : Type 1} → statement M
 steps_of_spec =

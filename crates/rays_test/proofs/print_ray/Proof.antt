@@ -18,7 +18,7 @@ plain-of-requires c κs = search rules
 scanned-requires : tie.Need-scanned-requires
 scanned-requires c κs =
     let e = c.before in
-    rw c.plain_of.ensures ((accepted _ (sym e.before.before.check_model-v.ensures ∙ e.enum_told-1.given.1)).figures Sure)
+    rw c.plain_of.ensures ((accepted _ (sym e.check_model-v.ensures ∙ e.in-Accepted.is)).figures Sure)
 
 enum-told-2 : tie.Need-enum_told-in-Refused
 enum-told-2 c = search rules

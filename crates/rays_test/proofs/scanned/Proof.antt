@@ -15,10 +15,10 @@ print-requires c κs = search rules
 find-ray-requires : tie.Need-find_ray-r-requires
 find-ray-requires c κs =
     let s = c.before.before in
-    plain-in-range s.args.p s.requires (uncrossed s.args.p (sym c.before.some_crosses.ensures ∙ c.if-some_crosses.false))
+    plain-in-range s.args.p s.requires (uncrossed s.args.p (sym c.some_crosses.ensures ∙ c.if-some_crosses.false))
 
 print-reply-requires : tie.Need-print_reply-requires
-print-reply-requires c κs = c.before.before.before.requires.few-items
+print-reply-requires c κs = c.requires.few-items
 
 returns : tie.Need-returns-then-some_crosses
 returns c = search rules

@@ -56,7 +56,7 @@ plain-of-requires : tie.Need-plain_of-requires invariant-loop decreases-loop
 plain-of-requires c κs = search rules
 
 rank-requires : tie.Need-rank-ranking-requires invariant-loop decreases-loop
-rank-requires c κs = rw c.plain_of.ensures (ranged _ c.before.requires)
+rank-requires c κs = rw c.plain_of.ensures (ranged _ c.requires)
 
 -- the moments that are spoken of below
 abbrev ranked : tie.At-loop-u invariant-loop decreases-loop → tie.After-rank-ranking invariant-loop decreases-loop
@@ -68,17 +68,17 @@ start c = (ranked c).before.before
 -- the ranking is of the record's items in the sense
 sorted : (c : tie.At-loop-u invariant-loop decreases-loop) →
     let a = (start c).args in
-    Sorted (plain_item (plain_of a.sense a.t1)) a.t1.count (ranked c).rank-ranking.result.at
-sorted c = subst (λ (p : Problem). Sorted (plain_item p) p.count (ranked c).rank-ranking.result.at) (ranked c).before.plain_of.ensures (ranked c).rank-ranking.ensures
+    Sorted (plain_item (plain_of a.sense a.m)) a.m.count (ranked c).rank-ranking.result.at
+sorted c = subst (λ (p : Problem). Sorted (plain_item p) p.count (ranked c).rank-ranking.result.at) (ranked c).plain_of.ensures (ranked c).rank-ranking.ensures
 
-few : (c : tie.At-loop-u invariant-loop decreases-loop) → (start c).args.t1.count ≤ 16
+few : (c : tie.At-loop-u invariant-loop decreases-loop) → (start c).args.m.count ≤ 16
 few c = (start c).requires.few-items
 
 loop-holds : tie.Need-loop-u-init invariant-loop decreases-loop
 loop-holds c =
     let s = c.before.before.before in
-    let size : length s.args.t1.items ≡ 16 = simp length-map at s.well_formed.0.1.1.0.1.0.1 in
-    let long : length c.before.rank-ranking.result.at ≡ 16 = search rules in
+    let size : length s.args.m.items ≡ 16 = simp length-map at s.well_formed.0.1.1.0.1.0.1 in
+    let long : length c.rank-ranking.result.at ≡ 16 = search rules in
     (omega arith, (size, (long, refl)))
 
 mul-k : tie.Need-offset_bounds-at-u invariant-loop decreases-loop
@@ -88,10 +88,10 @@ array-read-k : tie.Need-bounds-at-u invariant-loop decreases-loop
 array-read-k c = omega (arith, few c.before)
 
 mul-x : tie.Need-offset_bounds-m-k invariant-loop decreases-loop
-mul-x c = omega (arith, (sorted c.before).below c.before.loop-u.u)
+mul-x c = omega (arith, (sorted c.before).below c.loop-u.u)
 
 element-copy-out-x : tie.Need-bounds-m-k invariant-loop decreases-loop
-element-copy-out-x c = (sorted c.before).below c.before.loop-u.u
+element-copy-out-x c = (sorted c.before).below c.loop-u.u
 
 with-item-requires : tie.Need-with_item-q-requires invariant-loop decreases-loop
 with-item-requires c κs = omega (arith, few c.before.before)
@@ -105,7 +105,7 @@ loop-less c = omega arith
 loop-again : tie.Need-loop-u-preserved invariant-loop decreases-loop
 loop-again c =
     let l = c.before.before.before in
-    let m = (start l).args.t1 in
+    let m = (start l).args.m in
     let at = (ranked l).rank-ranking.result.at in
     let i = l.loop-u.invariant.1 in
     let u = l.loop-u.u in
@@ -126,8 +126,8 @@ returns c =
     let l = c.before in
     let a = (start l).args in
     let at = (ranked l).rank-ranking.result.at in
-    let e : l.loop-u.u ≡ a.t1.count = omega arith in
-    l.loop-u.invariant.1.1.1 ∙ ap (placed a.t1 at) e ∙ place-all a.sense a.t1 at (sorted l)
+    let e : l.loop-u.u ≡ a.m.count = omega arith in
+    l.loop-u.invariant.1.1.1 ∙ ap (placed a.m at) e ∙ place-all a.sense a.m at (sorted l)
 
 pub arranged_spec : {M : Type 1} → statement M
 arranged_spec =

@@ -19,15 +19,15 @@ enum_told : tie.Need-enum_told-1
 enum_told c = search rules
 
 abbrev asked : tie.After-check_model-v → Query
-asked k = k.before.before.args.q
+asked k = k.args.q
 
 -- the problem that is answered
 abbrev relaxation : Query → Instance
 relaxation q = relaxed_but (needs_of q.model.needs) (instance_of (plain_of q.sense q.model))
 
 -- the record is accepted
-taken : (t : tie.In-Accepted) → verdict (asked t.before.before).model ≡ Accepted
-taken t = sym t.before.before.check_model-v.ensures ∙ t.enum_told-1.given.1
+taken : (t : tie.In-Accepted) → verdict (asked t.before).model ≡ Accepted
+taken t = sym t.check_model-v.ensures ∙ t.in-Accepted.is
 
 relaxed-answer-requires : tie.Need-relaxed_answer-a-requires
 relaxed-answer-requires c κs = accepted _ (taken c)
@@ -44,7 +44,7 @@ no-point-requires c κs = search rules
 returns : tie.Need-returns-in-Accepted
 returns c =
     let a = c.before in
-    let k = a.before.before.before in
+    let k = a.before.before in
     let q = asked k in
     record {
       reply = subst (RepliesAs (relaxation q) (needs_of q.model.needs) a.relaxed_answer-a.result) (sym (taken a.before)) a.relaxed_answer-a.ensures;
@@ -53,10 +53,10 @@ returns c =
 
 returns-2 : tie.Need-returns-in-Refused
 returns-2 c =
-    let v = c.before.before in
-    let k = v.before.before in
+    let v = c.before in
+    let k = v.before in
     let q = asked k in
-    let is = sym k.check_model-v.ensures ∙ v.v-1.given.1 in
+    let is = sym k.check_model-v.ensures ∙ v.in-Refused.is in
     record {
       reply = subst (RepliesAs (relaxation q) (needs_of q.model.needs) c.no_point-a.result) (sym is) c.no_point-a.ensures;
       model = sym (settled-refused q _ is);

@@ -7,7 +7,7 @@ loose-mark-requires : tie.Need-loose_mark-mark-requires
 loose-mark-requires c κs = search rules
 
 returns : tie.Need-returns
-returns c = rw c.before.loose_mark-mark.ensures (search rules)
+returns c = rw c.loose_mark-mark.ensures (search rules)
 
 pub loose_item_spec : {M : Type 1} → statement M
 loose_item_spec = tie.close (tie.spec loose-mark-requires returns)

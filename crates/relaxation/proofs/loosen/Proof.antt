@@ -19,8 +19,8 @@ decreases-loop p named n q₀ k₀ q k = n - k
 
 loop-holds : tie.Need-loop-k-init invariant-loop decreases-loop
 loop-holds c =
-    let size : length c.args.t1.items ≡ 16 = simp length-map at c.well_formed.0.1.1.0.1.0.1 in
-    (omega arith, (size, loosened-none c.args.t1 c.args.t2))
+    let size : length c.args.p.items ≡ 16 = simp length-map at c.well_formed.0.1.1.0.1.0.1 in
+    (omega arith, (size, loosened-none c.args.p c.args.named))
 
 array-read-kept : tie.Need-bounds-named-k invariant-loop decreases-loop
 array-read-kept c = omega arith
@@ -47,10 +47,10 @@ loop-again : tie.Need-loop-k-preserved invariant-loop decreases-loop
 loop-again c =
     let t = c.before.before.before in
     let b = t.before in
-    let p = b.before.args.t1 in
-    let named = b.before.args.t2 in
+    let p = b.args.p in
+    let named = b.args.named in
     let k = b.loop-k.k in
-    let x : c.before.loose_item-x.result ≡ loose (get_or named k false) (item_at p k) = c.before.loose_item-x.ensures in
+    let x : c.loose_item-x.result ≡ loose (get_or named k false) (item_at p k) = c.loose_item-x.ensures in
     let q : c.with_item-q.result ≡ with_item b.loop-k.q k (loose (get_or named k false) (item_at p k)) = c.with_item-q.ensures ∙
     ap (with_item b.loop-k.q k) x in (
       omega arith,
@@ -64,7 +64,7 @@ loop-again c =
 returns : tie.Need-returns invariant-loop decreases-loop
 returns c =
     let b = c.before in
-    subst (λ k. Loosened b.before.args.t1 b.before.args.t2 k b.loop-k.q) (omega arith) b.loop-k.invariant.1.1
+    subst (λ k. Loosened b.args.p b.args.named k b.loop-k.q) (omega arith) b.loop-k.invariant.1.1
 
 pub loosen_spec : {M : Type 1} → statement M
 loosen_spec =

@@ -27,14 +27,14 @@ loosen-requires : tie.Need-loosen-q-requires
 loosen-requires c κs = let a = c.before in let s = a.before.before in rw a.plain_of.ensures (s.requires.figures s.args.sense).few-items
 
 -- the record's own items are made continuous
-loosened : (c : tie.After-loosen-q) → Loosened (plain_of (start c).args.sense (start c).args.m) c.before.named_of.result (start c).args.m.count c.loosen-q.result
-loosened c = subst (λ (p : Problem). Loosened p c.before.named_of.result p.count c.loosen-q.result) c.before.before.plain_of.ensures
+loosened : (c : tie.After-loosen-q) → Loosened (plain_of (start c).args.sense (start c).args.m) c.named_of.result (start c).args.m.count c.loosen-q.result
+loosened c = subst (λ (p : Problem). Loosened p c.named_of.result p.count c.loosen-q.result) c.plain_of.ensures
     c.loosen-q.ensures
 
 solve-needs-requires : tie.Need-solve_needs-r-requires
 solve-needs-requires c κs =
     let s = start c in
-    let n = c.before.named_of in
+    let n = c.named_of in
     loosened-needed s.args.sense s.args.m s.requires n.result n.ensures c.loosen-q.result (loosened c)
 
 returns : tie.Need-returns
@@ -43,7 +43,7 @@ returns c =
     let l = r.before in
     let s = start l in
     let m = s.args.m in
-    let n = l.before.named_of in
+    let n = l.named_of in
     same-answers-needs (instance_of l.loosen-q.result) (relaxed_but (needs_of m.needs) (instance_of (plain_of s.args.sense m)))
     (loosened-same s.args.sense m s.requires n.result n.ensures l.loosen-q.result (loosened l)) (needs_of m.needs) r.solve_needs-r.result.answer
     r.solve_needs-r.ensures.0.answers

@@ -16,10 +16,10 @@ both-refused-requires : tie.Need-both_refused-requires
 both-refused-requires c κs = search rules
 
 returns : tie.Need-returns-in-Accepted
-returns c = rw c.before.enum_told-1.given.1 c.plan_both.ensures
+returns c = rw c.in-Accepted.is c.plan_both.ensures
 
 returns-2 : tie.Need-returns-in-Refused
-returns-2 c = rw c.before.before.v-1.given.1 c.both_refused.ensures
+returns-2 c = rw c.in-Refused.is c.both_refused.ensures
 
 pub answered_spec : {M : Type 1} → statement M
 answered_spec =

@@ -10,7 +10,7 @@ no-point-requires-2 : tie.Need-no_point-possible-requires
 no-point-requires-2 c κs = search rules
 
 returns : tie.Need-returns
-returns c = rw (c.no_point-possible.ensures, c.before.no_point-sure.ensures)
+returns c = rw (c.no_point-possible.ensures, c.no_point-sure.ensures)
 
 pub both_refused_spec : {M : Type 1} → statement M
 both_refused_spec = tie.close (tie.spec no-point-requires no-point-requires-2 returns)

@@ -23,7 +23,7 @@ returns c =
     let h = c.before.before in
     let t = h.before.before.before in
     let a = t.answered-a.result in
-    let is = t.before.read-r.ensures in
+    let is = t.read-r.ensures in
     record {
       answers = a;
       is_true = subst (λ (r : Reading). Answered r a) is t.answered-a.ensures;

@@ -21,7 +21,7 @@ returns : tie.Need-returns
 returns c =
     let t = c.before.before in
     let a = t.answered-a.result in
-    let is = t.before.read-r.ensures in
+    let is = t.read-r.ensures in
     record {
       answers = a;
       is_true = subst (λ (r : Reading). Answered r a) is t.answered-a.ensures;

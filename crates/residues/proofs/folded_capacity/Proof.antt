@@ -43,8 +43,8 @@ offset-of-requires : tie.Need-offset_of-sum-requires invariant-loop decreases-lo
 offset-of-requires c κs =
     let l = c.before in
     let s = l.before in
-    let ws = s.args.t1 in
-    let us = s.args.t2 in (
+    let ws = s.args.ws in
+    let us = s.args.us in (
       s.requires.1.0,
       omega (
         arith,
@@ -57,8 +57,8 @@ add-sum : tie.Need-overflow_add-sum invariant-loop decreases-loop
 add-sum c =
     let l = c.before.before in
     let s = l.before in
-    let ws = s.args.t1 in
-    let us = s.args.t2 in
+    let ws = s.args.ws in
+    let us = s.args.us in
     let f = s.args.f in
     omega (
       arith,
@@ -76,11 +76,11 @@ loop-less : tie.Need-loop-k-smaller invariant-loop decreases-loop
 loop-less c = omega arith
 
 loop-again : tie.Need-loop-k-preserved invariant-loop decreases-loop
-loop-again c = (omega arith, rw add-one (omega (arith, c.before.before.loop-k.invariant.1, c.offset_of-sum.ensures)))
+loop-again c = (omega arith, rw add-one (omega (arith, c.loop-k.invariant.1, c.offset_of-sum.ensures)))
 
 returns : tie.Need-returns invariant-loop decreases-loop
-returns c = let l = c.before.loop-k in
-    let e : l.k ≡ length c.before.before.args.t1 = omega (arith, c.before.before.requires.0.long) in
+returns c = let l = c.loop-k in
+    let e : l.k ≡ length c.args.ws = omega (arith, c.requires.0.long) in
     rw e at l.invariant.1
 
 pub folded_capacity_spec : {M : Type 1} → statement M

@@ -32,11 +32,11 @@ loop-less : tie.Need-loop-k-smaller invariant-loop decreases-loop
 loop-less c = omega arith
 
 loop-again : tie.Need-loop-k-preserved invariant-loop decreases-loop
-loop-again c = let l = c.before.before.loop-k in
+loop-again c = let l = c.loop-k in
     (omega arith, made-step _ l.k c.weight_at.result (omega arith) c.weight_at.ensures l.invariant.1)
 
 returns : tie.Need-returns invariant-loop decreases-loop
-returns c = made-done (omega arith) c.before.loop-k.invariant.1
+returns c = made-done (omega arith) c.loop-k.invariant.1
 
 pub folded_weights_spec : {M : Type 1} → statement M
 folded_weights_spec =

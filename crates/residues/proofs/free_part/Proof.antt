@@ -23,18 +23,18 @@ start h = h.before.before.before
 
 -- what all units weigh is the heft
 by-heft : (l : tie.At-loop-k invariant-loop decreases-loop) {m u t n C : ℕ} → let g = (start l.before).args in
-    AbsorbsBy m u t n (heft (items_of g.t1 g.t2 g.t3 g.t4)) C → AbsorbsBy m u t n l.before.heft_of-whole.result C
-by-heft l {m} {u} {t} {n} {C} a = subst (λ H. AbsorbsBy m u t n H C) (sym l.before.heft_of-whole.ensures) a
+    AbsorbsBy m u t n (heft (items_of g.ws g.us g.ts g.ls)) C → AbsorbsBy m u t n l.heft_of-whole.result C
+by-heft l {m} {u} {t} {n} {C} a = subst (λ H. AbsorbsBy m u t n H C) (sym l.heft_of-whole.ensures) a
 
-chosen : (l : tie.At-loop-k invariant-loop decreases-loop) → let g = (start l.before).args in let I = items_of g.t1 g.t2 g.t3 g.t4 in let k = l.loop-k.k in
-    k < 17 → AbsorbsBy (I.weight k) (I.range k) (I.taken k) (I.left k) l.before.heft_of-whole.result g.capacity → Absorbs I k g.capacity
+chosen : (l : tie.At-loop-k invariant-loop decreases-loop) → let g = (start l.before).args in let I = items_of g.ws g.us g.ts g.ls in let k = l.loop-k.k in
+    k < 17 → AbsorbsBy (I.weight k) (I.range k) (I.taken k) (I.left k) l.heft_of-whole.result g.capacity → Absorbs I k g.capacity
 chosen l in-17 a = record {
   inside = omega (arith, in-17, (start l.before).requires.long);
   by =
       let g = (start l.before).args in
-      let I = items_of g.t1 g.t2 g.t3 g.t4 in
+      let I = items_of g.ws g.us g.ts g.ls in
       let k = l.loop-k.k in
-      subst (λ H. AbsorbsBy (I.weight k) (I.range k) (I.taken k) (I.left k) H g.capacity) l.before.heft_of-whole.ensures a;
+      subst (λ H. AbsorbsBy (I.weight k) (I.range k) (I.taken k) (I.left k) H g.capacity) l.heft_of-whole.ensures a;
 }
 
 slice-aggregate-heft-of : tie.Need-slice_bounds-heft_of-end invariant-loop decreases-loop
@@ -46,8 +46,8 @@ slice-aggregate-heft-of-2 c = search rules
 heft-of-requires : tie.Need-heft_of-whole-requires invariant-loop decreases-loop
 heft-of-requires c κs =
     let s = c.before.before in
-    let long : length s.args.t2 ≡ 17 = search rules in
-    (omega (arith, long, s.requires.long), omega (arith, heft-small s.args.t1 s.args.t2 s.requires))
+    let long : length s.args.us ≡ 17 = search rules in
+    (omega (arith, long, s.requires.long), omega (arith, heft-small s.args.ws s.args.us s.requires))
 
 loop-holds : tie.Need-loop-k-init invariant-loop decreases-loop
 loop-holds c = (omega arith, barren-first _ _)
@@ -80,11 +80,11 @@ is-absorbing-requires : tie.Need-is_absorbing-requires invariant-loop decreases-
 is-absorbing-requires c κs =
     let h = c.before.before in
     let s = start h in
-    let k = c.before.loop-k.k in (
+    let k = c.loop-k.k in (
       s.requires.ranges_in k (omega arith),
       (
-        beyond-small s.args.t1 s.args.t2 k s.requires (omega arith),
-        omega (arith, h.heft_of-whole.ensures, heft-small s.args.t1 s.args.t2 s.requires),
+        beyond-small s.args.ws s.args.us k s.requires (omega arith),
+        omega (arith, h.heft_of-whole.ensures, heft-small s.args.ws s.args.us s.requires),
       ),
     )
 
@@ -94,7 +94,7 @@ returns c =
     record {
       among = omega arith;
       onward = λ h. l.loop-k.invariant.0;
-      absorbs = λ h. chosen l (omega arith) (c.before.is_absorbing.ensures.does c.if-is_absorbing.true);
+      absorbs = λ h. chosen l (omega arith) (c.is_absorbing.ensures.does c.if-is_absorbing.true);
       first = l.loop-k.invariant.1;
     }
 
@@ -107,14 +107,14 @@ loop-less c = omega arith
 loop-again : tie.Need-loop-k-preserved invariant-loop decreases-loop
 loop-again c =
     let l = c.before.before.before in
-    (omega arith, barren-next l.loop-k.invariant.1 (λ a. c.before.is_absorbing.ensures.does_not c.if-is_absorbing.false (by-heft l a.by)))
+    (omega arith, barren-next l.loop-k.invariant.1 (λ a. c.is_absorbing.ensures.does_not c.if-is_absorbing.false (by-heft l a.by)))
 
 returns-2 : tie.Need-returns invariant-loop decreases-loop
 returns-2 c = record {
   among = omega arith;
   onward = λ h. absurd (omega arith);
   absorbs = λ h. absurd (omega arith);
-  first = λ k h l. c.before.loop-k.invariant.1 k h (omega arith);
+  first = λ k h l. c.loop-k.invariant.1 k h (omega arith);
 }
 
 pub free_part_spec : {M : Type 1} → statement M

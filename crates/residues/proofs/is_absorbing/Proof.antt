@@ -35,7 +35,7 @@ add-result c = search rules
 
 returns-6 : tie.Need-returns
 returns-6 c =
-    let a = c.before.before.before.before.before.args in
+    let a = c.args in
     tells-by a.whole (a.capacity + (a.m * a.u + a.m)) (λ h. record {
       some = omega arith;
       free-taken = omega arith;

@@ -12,7 +12,7 @@ least-modulo-requires : tie.Need-least_modulo-requires
 least-modulo-requires c κs =
     let s = c.before.before.before in
     let x = s.requires.0 in
-    ((x.0, (x.1.0, x.1.1 c.before.if-f-lt17.true)), s.requires.1)
+    ((x.0, (x.1.0, x.1.1 c.if-f-lt17.true)), s.requires.1)
 
 same_length : tie.Need-shape_of-cells-then-f-lt17
 same_length c = search rules
@@ -21,7 +21,7 @@ returns : tie.Need-returns-then-f-lt17
 returns c =
     let m = c.before.before in
     let l = m.least_modulo.ensures in
-    (l.0, record { plainly = λ h. absurd (omega (arith, m.before.before.if-f-lt17.true)); modulo = λ h. l.1 })
+    (l.0, record { plainly = λ h. absurd (omega (arith, m.if-f-lt17.true)); modulo = λ h. l.1 })
 
 least-cost-requires : tie.Need-least_cost-requires
 least-cost-requires c κs = search rules
@@ -33,7 +33,7 @@ returns-2 : tie.Need-returns
 returns-2 c =
     let b = c.before.before in
     let l = b.least_cost.ensures in
-    (l.0, record { plainly = λ h. l.1; modulo = λ h. absurd (omega (arith, b.before.before.before.before.before.before.if-f-lt17.false)) })
+    (l.0, record { plainly = λ h. l.1; modulo = λ h. absurd (omega (arith, b.if-f-lt17.false)) })
 
 pub least_beside_spec : {M : Type 1} → statement M
 least_beside_spec =

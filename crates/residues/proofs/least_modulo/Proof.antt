@@ -47,7 +47,7 @@ start l = l.before.before.before.before.before.before
 -- the lists show the folded parts
 same : (l : tie.After-swapped_costs-lefts) → let t = l.before in let r = t.before in let w = r.before in let g = (start l).args in
     items_of w.folded_weights-weights.result r.folded_ranges-ranges.result t.swapped_costs-takens.result l.swapped_costs-lefts.result
-    ≡ folded g.f g.capacity (items_of g.t1 g.us g.ts g.ls)
+    ≡ folded g.f g.capacity (items_of g.ws g.us g.ts g.ls)
 same l =
     let t = l.before in
     let r = t.before in
@@ -56,7 +56,7 @@ same l =
     let s = start l in
     let g = s.args in
     let x = s.requires.0 in
-    items-folded g.cap g.t1 g.us g.ts g.ls g.f g.capacity q.folded_capacity-whole.result _ _ _ _ x.1.0 x.0 x.1.1.inside
+    items-folded g.cap g.ws g.us g.ts g.ls g.f g.capacity q.folded_capacity-whole.result _ _ _ _ x.1.0 x.0 x.1.1.inside
     q.folded_capacity-whole.ensures w.folded_weights-weights.ensures r.folded_ranges-ranges.ensures t.swapped_costs-takens.ensures l.swapped_costs-lefts.ensures
 
 least-cost-requires : tie.Need-least_cost-requires
@@ -67,7 +67,7 @@ least-cost-requires c κs =
     let s = start l in
     let g = s.args in
     let x = s.requires.0 in
-    let h = listed-folded g.cap g.t1 g.us g.ts g.ls g.f g.capacity _ _ _ _ x.1.0 x.1.1 x.0 (same l)
+    let h = listed-folded g.cap g.ws g.us g.ts g.ls g.f g.capacity _ _ _ _ x.1.0 x.1.1 x.0 (same l)
     r.folded_ranges-ranges.ensures.long t.swapped_costs-takens.ensures.long l.swapped_costs-lefts.ensures.long in
     (h.0, omega (arith, h.1, s.requires.1))
 
@@ -80,8 +80,8 @@ returns c =
     let l = b.before.before.before.before.before.before in
     let s = start l in
     let g = s.args in
-    answer-folded g.cap (items_of g.t1 g.us g.ts g.ls) _ g.f g.capacity _ _ _ s.requires.0.1.1 (same l)
-    l.before.before.before.before.folded_capacity-whole.ensures b.least_cost.ensures.0 b.least_cost.ensures.1
+    answer-folded g.cap (items_of g.ws g.us g.ts g.ls) _ g.f g.capacity _ _ _ s.requires.0.1.1 (same l)
+    l.folded_capacity-whole.ensures b.least_cost.ensures.0 b.least_cost.ensures.1
 
 pub least_modulo_spec : {M : Type 1} → statement M
 least_modulo_spec =

@@ -23,15 +23,15 @@ mul-result : tie.Need-overflow_mul-result
 mul-result c =
     let s = c.before.before in
     let a = s.args in
-    let t : turned a.m a.w ≡ true = sym c.before.is_turned.ensures ∙ c.if-is_turned.true in
+    let t : turned a.m a.w ≡ true = sym c.is_turned.ensures ∙ c.if-is_turned.true in
     let e : offset a.m a.w a.u ≡ (a.m - a.w % a.m) * a.u = rw t in
     omega (arith, offset-most a.m a.w a.u, e, s.requires.1)
 
 returns : tie.Need-returns-then-is_turned
-returns c = rw (sym c.before.is_turned.ensures ∙ c.if-is_turned.true)
+returns c = rw (sym c.is_turned.ensures ∙ c.if-is_turned.true)
 
 returns-2 : tie.Need-returns-else-is_turned
-returns-2 c = rw (sym c.before.is_turned.ensures ∙ c.if-is_turned.false)
+returns-2 c = rw (sym c.is_turned.ensures ∙ c.if-is_turned.false)
 
 pub offset_of_spec : {M : Type 1} → statement M
 offset_of_spec = tie.close (tie.spec is-turned-requires rem-result sub-result mul-result returns returns-2)

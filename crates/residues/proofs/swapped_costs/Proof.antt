@@ -41,7 +41,7 @@ array-read-l : tie.Need-bounds-ls-k invariant-loop decreases-loop
 array-read-l c = omega arith
 
 swapped-by-requires : tie.Need-swapped_by-requires invariant-loop decreases-loop
-swapped-by-requires c κs = c.before.before.requires.0
+swapped-by-requires c κs = c.requires.0
 
 mul-to : tie.Need-offset_bounds-to-k invariant-loop decreases-loop
 mul-to c = omega arith
@@ -56,11 +56,11 @@ loop-less : tie.Need-loop-k-smaller invariant-loop decreases-loop
 loop-less c = omega arith
 
 loop-again : tie.Need-loop-k-preserved invariant-loop decreases-loop
-loop-again c = let l = c.before.before.loop-k in
+loop-again c = let l = c.loop-k in
     (omega arith, made-step _ l.k c.swapped_by.result (omega arith) c.swapped_by.ensures l.invariant.1)
 
 returns : tie.Need-returns invariant-loop decreases-loop
-returns c = made-done (omega arith) c.before.loop-k.invariant.1
+returns c = made-done (omega arith) c.loop-k.invariant.1
 
 pub swapped_costs_spec : {M : Type 1} → statement M
 swapped_costs_spec =

@@ -20,10 +20,10 @@ folded-weight-requires : tie.Need-folded_weight-requires
 folded-weight-requires c κs = search rules
 
 returns : tie.Need-returns-then-k-f
-returns c = let s = c.before.args in rw (eq-eqb s.k s.f c.if-k-f.true)
+returns c = let s = c.args in rw (eq-eqb s.k s.f c.if-k-f.true)
 
 returns-2 : tie.Need-returns-else-k-f
-returns-2 c = let s = c.before.before.args in rw (ne_eqb s.k s.f c.before.if-k-f.false) c.folded_weight.ensures
+returns-2 c = let s = c.args in rw (ne_eqb s.k s.f c.if-k-f.false) c.folded_weight.ensures
 
 pub weight_at_spec : {M : Type 1} → statement M
 weight_at_spec = tie.close (tie.spec mul-m array-read-m mul-w array-read-w folded-weight-requires returns returns-2)

@@ -18,7 +18,7 @@ told-number-requires c κs = search rules
 returns : tie.Need-returns
 returns c =
     let l = c.before in
-    let r = l.before.read-r.ensures in
+    let r = l.read-r.ensures in
     (c.told_number.ensures ∙ ap (λ (x : Reading). told_number x.verdict) r, l.told_line.ensures ∙ ap (λ (x : Reading). told_line x.verdict) r)
 
 pub charge_read_spec : {M : Type 1} → statement M

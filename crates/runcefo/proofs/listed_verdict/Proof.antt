@@ -14,7 +14,7 @@ returns : tie.Need-returns-in-Written
 returns c = search rules
 
 returns-2 : tie.Need-returns-in-Refused
-returns-2 c = rw c.before.w-1.given.1 refl
+returns-2 c = rw c.in-Refused.is refl
 
 pub listed_verdict_spec : {M : Type 1} → statement M
 listed_verdict_spec = tie.close (tie.spec enum_told enum-known-w returns returns-2)

@@ -12,7 +12,7 @@ solve-needs-requires c κs = let s = c.before.before in rw c.plain_of.ensures (n
 
 returns : tie.Need-returns
 returns c =
-    let h = rw c.before.plain_of.ensures at c.solve_needs.ensures in
+    let h = rw c.plain_of.ensures at c.solve_needs.ensures in
     record { answers = h.0; work = h.1 }
 
 pub solved_in_spec : {M : Type 1} → statement M

@@ -14,11 +14,11 @@ returns : tie.Need-returns-then-some_range
 returns c =
     let t = c.before in
     let b = c.solved_in-b in
-    rw (sym t.before.some_range.ensures ∙ t.if-some_range.true)
+    rw (sym t.some_range.ensures ∙ t.if-some_range.true)
     ((b.result, (b.ensures, refl)), (b.result, (b.ensures, refl)))
 
 returns-2 : tie.Need-returns
-returns-2 c = rw (sym c.before.some_range.ensures ∙ c.if-some_range.false) (refl, refl)
+returns-2 c = rw (sym c.some_range.ensures ∙ c.if-some_range.false) (refl, refl)
 
 pub work_besides_spec : {M : Type 1} → statement M
 work_besides_spec = tie.close (tie.spec some-range-requires solved-in-requires returns returns-2)

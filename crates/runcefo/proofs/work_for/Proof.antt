@@ -24,7 +24,7 @@ work-of-requires : tie.Need-work_of-requires
 work-of-requires c κs = rw c.read-r.ensures (fit _)
 
 returns : tie.Need-returns
-returns c = subst (λ (x : Reading). Steps x c.work_of.result.steps × Cells x c.work_of.result.cells) c.before.read-r.ensures c.work_of.ensures
+returns c = subst (λ (x : Reading). Steps x c.work_of.result.steps × Cells x c.work_of.result.cells) c.read-r.ensures c.work_of.ensures
 
 pub work_for_spec : {M : Type 1} → statement M
 work_for_spec = tie.close (tie.spec read-requires work-of-requires returns)

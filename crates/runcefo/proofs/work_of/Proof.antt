@@ -32,27 +32,27 @@ few-cells sense m r a h = omega (arith, h.answers.few-cells, mul-le-mul_right mo
 
 -- the moments that are spoken of below
 abbrev start : tie.In-Accepted → tie.Start
-start t = t.before.before.before
+start t = t.before.before
 
 abbrev taken : tie.After-work_besides-b → tie.In-Accepted
 taken c = c.before.before
 
 fair : (t : tie.In-Accepted) → Admissible (start t).args.r.model
-fair t = (start t).requires t.enum_told-1.given.1
+fair t = (start t).requires t.in-Accepted.is
 
-both-steps : (c : tie.After-work_besides-b) → c.before.solved_in-a.result.steps + c.work_besides-b.result.steps ≤ 262144000
+both-steps : (c : tie.After-work_besides-b) → c.solved_in-a.result.steps + c.work_besides-b.result.steps ≤ 262144000
 both-steps c =
     let t = taken c in
     let m = (start t).args.r.model in
-    let a = c.before.solved_in-a in
+    let a = c.solved_in-a in
     let b = c.work_besides-b in
     omega (arith, few-steps Sure m a.result (fair t) a.ensures, few-besides (λ r. r.steps) 65536000 m (some_range m) b.result.steps (λ r. few-steps Possible m r (fair t)) b.ensures.0)
 
-both-cells : (c : tie.After-work_besides-b) → c.before.solved_in-a.result.cells + c.work_besides-b.result.cells ≤ 17713094669107200
+both-cells : (c : tie.After-work_besides-b) → c.solved_in-a.result.cells + c.work_besides-b.result.cells ≤ 17713094669107200
 both-cells c =
     let t = taken c in
     let m = (start t).args.r.model in
-    let a = c.before.solved_in-a in
+    let a = c.solved_in-a in
     let b = c.work_besides-b in
     omega (arith, few-cells Sure m a.result (fair t) a.ensures, few-besides (λ r. r.cells) (131072 * most_work) m (some_range m) b.result.cells (λ r. few-cells Possible m r (fair t)) b.ensures.1)
 
@@ -81,13 +81,13 @@ enum-told-2 c = search rules
 returns : tie.Need-returns-in-Accepted
 returns c =
     let d = behind c in
-    let a = d.before.solved_in-a in
+    let a = d.solved_in-a in
     let b = d.work_besides-b in
-    rw (taken d).enum_told-1.given.1
+    rw (taken d).in-Accepted.is
     ((a.result, b.result.steps, (a.ensures, (b.ensures.0, refl))), (a.result, b.result.cells, (a.ensures, (b.ensures.1, refl))))
 
 returns-2 : tie.Need-returns-in-Refused
-returns-2 c = rw c.enum_told-in-Refused-1.given.1 (refl, refl)
+returns-2 c = rw c.in-Refused.is (refl, refl)
 
 pub work_of_spec : {M : Type 1} → statement M
 work_of_spec =

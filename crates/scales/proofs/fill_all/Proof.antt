@@ -76,7 +76,7 @@ add-written c =
     let one = pass-most (digit (I.range l.j)) (I.weight l.j) l.live a.s.rest l.left (omega arith) in
     let light = div-le_self (ws l.j) a.s.divisor in
     let few = s.requires.0.0.few in
-    omega (arith, l.inv.counted, f.fill_item-f.ensures.written, lives w)
+    omega (arith, l.invariant.counted, f.fill_item-f.ensures.written, lives w)
 
 add-j : tie.Need-overflow_add-j invariant-loop decreases-loop
 add-j c = omega arith
@@ -90,11 +90,11 @@ loop-again c =
     let w = turn f in
     let l = w.loop-j in
     let s = start w in
-    itemwise-step s.args.s f.fill_item-f.result refl refl (omega arith) (itemwise-heavy (omega arith) s.requires.1.1.0 l.inv) f.fill_item-f.ensures
-    l.inv
+    itemwise-step s.args.s f.fill_item-f.result refl refl (omega arith) (itemwise-heavy (omega arith) s.requires.1.1.0 l.invariant) f.fill_item-f.ensures
+    l.invariant
 
 same_length : tie.Need-shape_of-cells invariant-loop decreases-loop
-same_length c = c.before.loop-j.invariant.shows.same
+same_length c = c.loop-j.invariant.shows.same
 
 returns : tie.Need-returns invariant-loop decreases-loop
 returns c =

@@ -72,7 +72,7 @@ pass-times-requires c κs =
     let a = s.args in
     let l = s.requires.0.0 in
     let j-in = s.requires.1.0 in
-    let d = e.digit_of-d.ensures ∙ ap digit e.before.rest_at.ensures in
+    let d = e.digit_of-d.ensures ∙ ap digit e.rest_at.ensures in
     let w = i.index-w.ensures in
     let D = a.s.divisor in
     let x = get_or a.ws.now a.j 0 in
@@ -80,7 +80,7 @@ pass-times-requires c κs =
     let two : digit (rest_at a.s.i (get_or a.us.now a.j 0)) * (x / D) ≤ 2 * (x / D) = mul-le-mul_right (x / D) (omega arith) in
     let ta = cost-below a.s.cap a.s.i (get_or a.ts.now a.j 0) (l.taken a.j j-in) in
     let le = cost-below a.s.cap a.s.i (get_or a.ls.now a.j 0) (l.left a.j j-in) in (
-      record { small = l.small; taken = rw k.cost_at-a.ensures ta; left = rw c.before.cost_at-b.ensures le },
+      record { small = l.small; taken = rw k.cost_at-a.ensures ta; left = rw c.cost_at-b.ensures le },
       (s.requires.1.1.0, rw (d, w) (omega arith, (s.requires.1.1.1.0, (omega arith, omega arith)))),
     )
 
@@ -93,7 +93,7 @@ returns c =
     let l-at = o.before.before in
     let a_at = l-at.before.before in
     let e = a_at.before.before in
-    let d = e.digit_of-d.ensures ∙ ap digit e.before.rest_at.ensures in
+    let d = e.digit_of-d.ensures ∙ ap digit e.rest_at.ensures in
     let w = (indexed e).index-w.ensures in
     let a = a_at.cost_at-a.ensures in
     let l = l-at.cost_at-b.ensures in

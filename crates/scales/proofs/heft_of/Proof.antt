@@ -38,7 +38,7 @@ shared-slice-read-sum-2 c = omega arith
 mul-sum-3 : tie.Need-overflow_mul-sum invariant-loop decreases-loop
 mul-sum-3 c =
     let s = start c in
-    let l = c.before.before.before.loop-j in
+    let l = c.loop-j in
     let ws = s.args.ws.now in
     let us = s.args.us.now in
     omega (arith, sum_more (suc l.j) (length ws) (λ k. get_or ws k 0 * get_or us k 0) (omega arith), l.invariant.1)
@@ -46,7 +46,7 @@ mul-sum-3 c =
 add-sum : tie.Need-overflow_add-sum invariant-loop decreases-loop
 add-sum c =
     let s = start c in
-    let l = c.before.before.before.loop-j in
+    let l = c.loop-j in
     let ws = s.args.ws.now in
     let us = s.args.us.now in
     omega (arith, sum_more (suc l.j) (length ws) (λ k. get_or ws k 0 * get_or us k 0) (omega arith), l.invariant.1)
@@ -58,12 +58,12 @@ loop-less : tie.Need-loop-j-smaller invariant-loop decreases-loop
 loop-less c = omega arith
 
 loop-again : tie.Need-loop-j-preserved invariant-loop decreases-loop
-loop-again c = (omega arith, rw add-one (omega (arith, c.before.before.before.loop-j.invariant.1)))
+loop-again c = (omega arith, rw add-one (omega (arith, c.loop-j.invariant.1)))
 
 returns : tie.Need-returns invariant-loop decreases-loop
 returns c =
-    let l = c.before.loop-j in
-    let e : l.j ≡ length c.before.before.args.ws.now = omega arith in
+    let l = c.loop-j in
+    let e : l.j ≡ length c.args.ws.now = omega arith in
     rw e at l.invariant.1
 
 pub heft_of_spec : {M : Type 1} → statement M

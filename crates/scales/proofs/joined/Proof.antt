@@ -9,10 +9,10 @@ gcd-requires : tie.Need-gcd-requires
 gcd-requires c κs = search rules
 
 returns : tie.Need-returns-then-rest-gt0
-returns c = let a = c.before.before.args in rw (lt-ltb 0 a.rest c.before.if-rest-gt0.true) c.gcd.ensures
+returns c = let a = c.args in rw (lt-ltb 0 a.rest c.if-rest-gt0.true) c.gcd.ensures
 
 returns-2 : tie.Need-returns-else-rest-gt0
-returns-2 c = let a = c.before.args in rw (le-ltb 0 a.rest (omega (arith, c.if-rest-gt0.false)))
+returns-2 c = let a = c.args in rw (le-ltb 0 a.rest (omega (arith, c.if-rest-gt0.false)))
 
 pub joined_spec : {M : Type 1} → statement M
 joined_spec = tie.close (tie.spec gcd-requires returns returns-2)

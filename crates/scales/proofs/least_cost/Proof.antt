@@ -16,7 +16,7 @@ solve-requires c κs =
     let h = c.before.before.before in
     let g = h.before.before.before in
     let s = g.before in
-    ((s.requires.0, c.before.scales_of_all-scales.ensures.few), s.requires.1)
+    ((s.requires.0, c.scales_of_all-scales.ensures.few), s.requires.1)
 
 same_length : tie.Need-shape_of-cells
 same_length c = search rules
@@ -32,7 +32,7 @@ returns c =
     let n = soa.scales_of_all-scales in
     let I = items_of s.args.ws.now s.args.us.now s.args.ts.now s.args.ls.now in
     let done : Done n.result I = λ j l. n.ensures.done j (omega (arith, s.requires.0.ranges)) in
-    let r = c.before.before.solve.ensures in (
+    let r = c.solve.ensures in (
       rw r.0 (record {
         capped = least-below cap n.result I (start cap) C (start-below cap);
         bounds = bounds cap n.result I C done;

@@ -22,8 +22,8 @@ sub-x c = omega arith
 passed-inside-requires : tie.Need-passed_inside-v-requires invariant-loop decreases-loop
 passed-inside-requires c κs =
     let h = c.before.before.before in
-    let s = h. in
-    let p = c.before.loop-x.invariant.1 in
+    let s = h in
+    let p = c.loop-x.invariant.1 in
     (s.requires.0, (record { room = omega arith; below = passed-below s.requires.1.0.below p }, (omega arith, omega arith)))
 
 mul-cells : tie.Need-offset_bounds-cells-x invariant-loop decreases-loop
@@ -37,16 +37,16 @@ loop-less c = omega arith
 
 loop-again : tie.Need-loop-x-preserved invariant-loop decreases-loop
 loop-again c =
-    let l = c.before.before.loop-x in
+    let l = c.loop-x in
     (omega arith, passed-step (l.x - 1) c.passed_inside-v.result (omega arith) (omega arith) (omega arith) c.passed_inside-v.ensures l.invariant.1)
 
 same_length : tie.Need-shape_of-cells invariant-loop decreases-loop
-same_length c = c.before.loop-x.invariant.1.same
+same_length c = c.loop-x.invariant.1.same
 
 returns : tie.Need-returns invariant-loop decreases-loop
 returns c =
-    let l = c.before.loop-x in
-    let e : l.x ≡ c.before.before.before.args.lo = omega arith in
+    let l = c.loop-x in
+    let e : l.x ≡ c.args.lo = omega arith in
     rw e at l.invariant.1
 
 pub pass_inside_spec : {M : Type 1} → statement M

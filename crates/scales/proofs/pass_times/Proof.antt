@@ -23,16 +23,16 @@ abbrev start : tie.In-loop-k invariant-loop decreases-loop → tie.Start invaria
 start t = t.before.before.before
 
 -- one more pass has room
-roomy : (t : tie.In-loop-k invariant-loop decreases-loop) → let a = (start t).args in let l = t.before.loop-k in
+roomy : (t : tie.In-loop-k invariant-loop decreases-loop) → let a = (start t).args in let l = t.loop-k in
     Roomy a.d a.w a.n l.live l.left l.written
-roomy t = timing-room (omega arith) (start t).requires.1.1.1.0 t.before.loop-k.invariant
+roomy t = timing-room (omega arith) (start t).requires.1.1.1.0 t.loop-k.invariant
 
 -- what is written lies in order
-ordered : (c : tie.After-down_to-from invariant-loop decreases-loop) → c.down_to-from.result ≤ c.before.up_to-to.result
-ordered c = omega (arith, c.down_to-from.ensures, c.before.up_to-to.ensures)
+ordered : (c : tie.After-down_to-from invariant-loop decreases-loop) → c.down_to-from.result ≤ c.up_to-to.result
+ordered c = omega (arith, c.down_to-from.ensures, c.up_to-to.ensures)
 
 loop-holds : tie.Need-loop-k-init invariant-loop decreases-loop
-loop-holds c = timing-first c.before.requires.1.0.below
+loop-holds c = timing-first c.requires.1.0.below
 
 sub-left : tie.Need-overflow_sub-left invariant-loop decreases-loop
 sub-left c = (roomy c).heavy
@@ -51,8 +51,8 @@ pass-over-requires c κs =
     let e = c.before in
     let t = e.before.before in
     let s = start t in
-    let i = t.before.loop-k.invariant in
-    let u = e.before.up_to-to.ensures in
+    let i = t.loop-k.invariant in
+    let u = e.up_to-to.ensures in
     let r = (roomy t).room in (
       s.requires.0,
       (
@@ -71,7 +71,7 @@ add-written c =
     let a = (start t).args in
     let r = roomy t in
     let most : a.d * (a.n + a.d * a.w) ≤ 2 * (a.n + a.d * a.w) = mul-le-mul_right (a.n + a.d * a.w) (omega arith) in
-    omega (arith, r.few, d.before.up_to-to.ensures, r.room)
+    omega (arith, r.few, d.up_to-to.ensures, r.room)
 
 add-k : tie.Need-overflow_add-k invariant-loop decreases-loop
 add-k c = omega arith
@@ -83,17 +83,17 @@ loop-again : tie.Need-loop-k-preserved invariant-loop decreases-loop
 loop-again c =
     let d = told c in
     let t = d.before.before in
-    timing-step d.down_to-from.result d.before.up_to-to.result (omega arith) (roomy t).heavy d.down_to-from.ensures d.before.up_to-to.ensures
-    c.before.before.pass_over.ensures t.before.loop-k.invariant
+    timing-step d.down_to-from.result d.up_to-to.result (omega arith) (roomy t).heavy d.down_to-from.ensures d.up_to-to.ensures
+    c.pass_over.ensures t.loop-k.invariant
 
 same_length : tie.Need-shape_of-cells invariant-loop decreases-loop
-same_length c = c.before.loop-k.invariant.shows.same
+same_length c = c.loop-k.invariant.shows.same
 
 returns : tie.Need-returns invariant-loop decreases-loop
 returns c =
-    let l = c.before.loop-k in
+    let l = c.loop-k in
     let i = l.invariant in
-    let e : l.k ≡ c.before.before.before.args.d = omega (arith, i.inside) in
+    let e : l.k ≡ c.args.d = omega (arith, i.inside) in
     ((rw e at i.lives, (rw e at i.counted, let h = rw e at i.hefts in omega arith)), rw e at i.shows)
 
 pub pass_times_spec : {M : Type 1} → statement M

@@ -56,7 +56,7 @@ returns c =
     let s = start c.before in
     let a = s.args in
     let h = pass-free a.cap a.w a.a a.b (at a.cap a.n a.cells.now) a.x s.requires.1.1.0
-    s.requires.1.0.below c.before.if-b-eq0.true in
+    s.requires.1.0.below c.if-b-eq0.true in
     let l = left-shown s in
     let t = taken-shown s in
     cc
@@ -72,7 +72,7 @@ returns-2 c =
     let s = start-on c.before.before in
     let a = s.args in
     let h = pass-given a.cap a.w a.a a.b (at a.cap a.n a.cells.now) a.x s.requires.1.1.0
-    s.requires.1.0.below c.before.if-a-eq0.true in
+    s.requires.1.0.below c.if-a-eq0.true in
     let l = left-shown s in
     let t = taken-shown s in
     cc

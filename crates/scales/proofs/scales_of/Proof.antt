@@ -33,13 +33,13 @@ loop-less c = omega arith
 loop-again : tie.Need-loop-r-preserved invariant-loop decreases-loop
 unfolding rest_at
 loop-again c =
-    let l = c.before.before.loop-r in
+    let l = c.loop-r in
     ((rw add-one (c.rest_of-r.ensures ∙ ap rest l.invariant.0.0), omega arith), below_more _ _ l.invariant.1 (λ e. omega (arith, l.invariant.0.0)))
 
 returns : tie.Need-returns invariant-loop decreases-loop
 returns c =
-    let l = c.before.loop-r in
-    let u = c.before.before.args.u in
+    let l = c.loop-r in
+    let u = c.args.u in
     record { done = omega (arith, l.invariant.0.0); soonest = λ k e. later (l.invariant.1 k) e; few = later (l.invariant.1 64) (rest-small 64 u (omega arith)) }
   where
     later : {k n : ℕ} {P : Type 0} → (k < n → P → ⊥) → P → n ≤ k

@@ -47,7 +47,7 @@ loop-again c =
     let l = w.loop-j in
     let us = start.args.us.now in
     let g = c.greater-most in
-    let o = c.before.scales_of in (
+    let o = c.scales_of in (
       (
         omega arith,
         (
@@ -62,7 +62,7 @@ loop-again c =
 
 returns : tie.Need-returns invariant-loop decreases-loop
 returns c =
-    let l = c.before.loop-j in
+    let l = c.loop-j in
     record { done = λ j h. l.invariant.0.1.1 j (omega arith); soonest = λ s h. l.invariant.1 s (λ k m. h k (omega arith)); few = l.invariant.0.1.0 }
 
 pub scales_of_all_spec : {M : Type 1} → statement M

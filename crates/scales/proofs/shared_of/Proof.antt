@@ -27,7 +27,7 @@ turn o = o.before.before.before.before.before
 -- what goes on of a range
 rested : (o : tie.After-rest_of invariant-loop decreases-loop) → let a = (start (turn o)).args in
     o.rest_of.result ≡ rest (rest_at a.i (get_or a.us.now (turn o).loop-j.j 0))
-rested o = o.rest_of.ensures ∙ ap rest o.before.rest_at.ensures
+rested o = o.rest_of.ensures ∙ ap rest o.rest_at.ensures
 
 loop-holds : tie.Need-loop-j-init invariant-loop decreases-loop
 unfolding common
@@ -68,7 +68,7 @@ unfolding common
 loop-again c =
     let o = c.before in
     let l = (turn o).loop-j in
-    (omega arith, λ cap ts ls. rw (add-one, ← l.inv.1 cap ts ls, ← rested o) c.joined-g.ensures)
+    (omega arith, λ cap ts ls. rw (add-one, ← l.invariant.1 cap ts ls, ← rested o) c.joined-g.ensures)
 
 at-least-one-requires : tie.Need-at_least_one-requires invariant-loop decreases-loop
 at-least-one-requires c κs = search rules

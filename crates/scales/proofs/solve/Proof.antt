@@ -83,7 +83,7 @@ alone h = omega (arith, most h, mul-le-mul_right h.shared_of-g.result (turn h).l
 
 -- what is written so far and at this scale
 fits : (c : tie.After-struct_known-1 invariant-loop decreases-loop) → let h = shared_at c in
-    (turn h).loop-i.written + ((filled h).fill_all-f.result.written + c.before.before.before.thin_cells-n.result) ≤ 20000000000
+    (turn h).loop-i.written + ((filled h).fill_all-f.result.written + c.thin_cells-n.result) ≤ 20000000000
 fits c =
     let h = shared_at c in
     let w = turn h in
@@ -95,20 +95,20 @@ fits c =
     let light : 4 * total ws < 65536 = s.requires.0.0.light in
     let few : length ws ≤ 17 = s.requires.0.0.few in
     let lighter = sum_mono (length ws) I.weight (λ j. get_or ws j 0) (λ j k. div-le_self (get_or ws j 0) l.divisor) in
-    let here = fill-most I (length ws) l.n l.rest l.left 65536 (omega (arith, l.inv.few)) in
+    let here = fill-most I (length ws) l.n l.rest l.left 65536 (omega (arith, l.invariant.few)) in
     let t = c.before.before.before in
     let x = t.before in
     let y = x.before in
     let kept = thin-most f.result.n (total ws) y.index.result x.index-in-loop-i.result (omega (arith, some h, y.index.ensures))
     (live w f.result.n f.ensures.live) in
-    let so_far = written_small s.requires.0.1 few light (omega arith) l.inv in
+    let so_far = written_small s.requires.0.1 few light (omega arith) l.invariant in
     omega (arith, f.ensures.written, t.thin_cells-n.ensures.0, kept)
 
 slice-write-cells : tie.Need-bounds-cells-0 invariant-loop decreases-loop
 slice-write-cells c = omega arith
 
 heft-of-requires : tie.Need-heft_of-left-requires invariant-loop decreases-loop
-heft-of-requires c κs = let s = c.before.before.before in let x = s.before.before.requires.0.0 in (x.ranges, x.fits)
+heft-of-requires c κs = let s = c.before.before.before in let x = s.requires.0.0 in (x.ranges, x.fits)
 
 loop-holds : tie.Need-loop-i-init invariant-loop decreases-loop
 loop-holds c =
@@ -151,11 +151,11 @@ thin-cells-requires c κs =
     let f = (filled h).fill_all-f in
     let g = 2 * h.shared_of-g.result in
     let light = s.requires.0.0.light in
-    let r : length l.cells ≡ length s.args.cells.now = l.inv.same ∙ length-set s.args.cells.now 0 0 in
+    let r : length l.cells ≡ length s.args.cells.now = l.invariant.same ∙ length-set s.args.cells.now 0 0 in
     let lives = live w f.result.n f.ensures.live in
     let part : l.rest % g < g = mod-lt l.rest (omega (arith, some h)) in (
       omega (arith, f.ensures.shows.same),
-      (omega (arith, c.index-in-loop-i.ensures, c.before.index.ensures), omega (arith, c.before.index.ensures, alone h)),
+      (omega (arith, c.index-in-loop-i.ensures, c.index.ensures), omega (arith, c.index.ensures, alone h)),
     )
 
 add-written : tie.Need-overflow_add-written invariant-loop decreases-loop
@@ -186,8 +186,8 @@ loop-again c =
     let f = (filled h).fill_all-f in
     let k = c.before.before.before.before in
     let t = k.thin_cells-n in
-    let x = k.before.index-in-loop-i.ensures in
-    let y = k.before.before.index.ensures in
+    let x = k.index-in-loop-i.ensures in
+    let y = k.index.ensures in
     let s : Stage = record { i = w.loop-i.i; divisor = w.loop-i.divisor; cap = (start w).args.cap; rest = w.loop-i.rest } in
     scaling-step s f.result h.shared_of-g.result t.result refl refl (omega (arith, (in-turn h).loop-i-test.true)) (omega arith)
     (shares h) (rw (x, y) at t.ensures.0) f.ensures
@@ -214,7 +214,7 @@ returns : tie.Need-returns invariant-loop decreases-loop
 returns c =
     let w = after c in
     let l = w.loop-i in
-    (c.look.ensures ∙ rw c.before.index-x.ensures (scaling-done (omega arith) l.inv), written-done (omega arith) l.inv)
+    (c.look.ensures ∙ rw c.index-x.ensures (scaling-done (omega arith) l.invariant), written-done (omega arith) l.invariant)
 
 pub solve_spec : {M : Type 1} → statement M
 solve_spec =

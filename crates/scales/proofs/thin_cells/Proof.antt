@@ -14,11 +14,11 @@ abbrev decreases-loop : tie.decreases-loop-x
 decreases-loop cells₀ n s bit kept x₀ cells x = kept - x
 
 -- what a turn reads
-read : (c : tie.In-loop-x invariant-loop decreases-loop) → let a = c.before.before.args in let x = c.before.loop-x.x in
+read : (c : tie.In-loop-x invariant-loop decreases-loop) → let a = c.args in let x = c.loop-x.x in
     (x ≤ a.s * x + a.bit) × (a.s * x + a.bit < a.n)
 read c =
-    let a = c.before.before.args in
-    let l = c.before.loop-x in
+    let a = c.args in
+    let l = c.loop-x in
     thin_reads a.n a.s a.bit l.x (omega arith) (omega (arith, l.invariant.0.1))
 
 sub-kept : tie.Need-overflow_sub-kept invariant-loop decreases-loop
@@ -46,16 +46,16 @@ mul-cells-2 : tie.Need-offset_bounds-cells-s invariant-loop decreases-loop
 mul-cells-2 c = omega (arith, (read c).1)
 
 slice-read-cells : tie.Need-bounds-cells-s invariant-loop decreases-loop
-slice-read-cells c = let r = read c.before in omega (arith, r.0, r.1, c.before.before.loop-x.invariant.1.same)
+slice-read-cells c = let r = read c.before in omega (arith, r.0, r.1, c.loop-x.invariant.1.same)
 
 mul-cells-3 : tie.Need-offset_bounds-cells-x invariant-loop decreases-loop
-mul-cells-3 c = let r = read c.before in omega (arith, r.0, r.1, c.before.before.loop-x.invariant.1.same)
+mul-cells-3 c = let r = read c.before in omega (arith, r.0, r.1, c.loop-x.invariant.1.same)
 
 slice-write-cells : tie.Need-bounds-cells-x invariant-loop decreases-loop
-slice-write-cells c = let r = read c.before in omega (arith, r.0, r.1, c.before.before.loop-x.invariant.1.same)
+slice-write-cells c = let r = read c.before in omega (arith, r.0, r.1, c.loop-x.invariant.1.same)
 
 add-x : tie.Need-overflow_add-x invariant-loop decreases-loop
-add-x c = let r = read c.before in omega (arith, r.0, r.1, c.before.before.loop-x.invariant.1.same)
+add-x c = let r = read c.before in omega (arith, r.0, r.1, c.loop-x.invariant.1.same)
 
 loop-less : tie.Need-loop-x-smaller invariant-loop decreases-loop
 loop-less c = omega arith
@@ -63,16 +63,16 @@ loop-less c = omega arith
 loop-again : tie.Need-loop-x-preserved invariant-loop decreases-loop
 loop-again c =
     let r = read c.before in
-    let l = c.before.before.loop-x in
+    let l = c.loop-x in
     ((omega arith, l.invariant.0.1), thinning-step l.x (omega (arith, r.0, r.1)) r.0 l.invariant.1)
 
 same_length : tie.Need-shape_of-cells invariant-loop decreases-loop
-same_length c = c.before.loop-x.invariant.1.same
+same_length c = c.loop-x.invariant.1.same
 
 returns : tie.Need-returns invariant-loop decreases-loop
 returns c =
-    let l = c.before.loop-x in
-    let a = c.before.before.args in
+    let l = c.loop-x in
+    let a = c.args in
     let e : l.x ≡ thin_of a.n a.s a.bit = omega (arith, l.invariant.0.1) in
     (l.invariant.0.1, (l.invariant.1.same, λ cap. thinning-done cap a.n (omega arith) refl (rw e at l.invariant.1)))
 

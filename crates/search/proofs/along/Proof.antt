@@ -23,7 +23,7 @@ abbrev decreases-loop : tie.decreases-loop-k
 decreases-loop s x n y₀ e₀ k₀ y e k = n - k
 
 -- arrays have a place for each item
-long : (s : tie.Start invariant-loop decreases-loop) → Long s.args.t1.ends
+long : (s : tie.Start invariant-loop decreases-loop) → Long s.args.s.ends
 long s = record { lo-long = search rules; hi-long = search rules }
 
 -- what the function was given, at the loop
@@ -31,14 +31,14 @@ abbrev Of : tie.At-loop-k invariant-loop decreases-loop → tie.Start invariant-
 Of l = l.before.before
 
 loop-holds : tie.Need-loop-k-init invariant-loop decreases-loop
-loop-holds c = let s = c.before in passing-first s.args.t1 s.requires.0 (long s) s.args.t2 s.requires.1
+loop-holds c = let s = c.before in passing-first s.args.s s.requires.0 (long s) s.args.x s.requires.1
 
-k<16 : (c : tie.In-loop-k invariant-loop decreases-loop) → c.before.loop-k.k < 16
+k<16 : (c : tie.In-loop-k invariant-loop decreases-loop) → c.loop-k.k < 16
 k<16 c = omega (arith, c.loop-k-test.true, (Of c.before).requires.0.ready.few)
 
 -- the level's item has a place
-item : (c : tie.In-loop-k invariant-loop decreases-loop) → level_at (Of c.before).args.t1 c.before.loop-k.k < 16
-item c = let s = Of c.before in item<16 s.args.t1 s.requires.0 (long s) c.before.loop-k.k c.loop-k-test.true
+item : (c : tie.In-loop-k invariant-loop decreases-loop) → level_at (Of c.before).args.s c.loop-k.k < 16
+item c = let s = Of c.before in item<16 s.args.s s.requires.0 (long s) c.loop-k.k c.loop-k-test.true
 
 mul-i : tie.Need-offset_bounds-s-k invariant-loop decreases-loop
 mul-i c = record { fits = omega (arith, k<16 c) }
@@ -53,9 +53,9 @@ Lending c = c.before.before.before.before.before.before.before.before.before.bef
 abbrev Round : tie.After-start_of-v invariant-loop decreases-loop → tie.In-loop-k invariant-loop decreases-loop
 Round c = Lending c.before
 
-sized : (l : tie.At-loop-k invariant-loop decreases-loop) → Sized (Of l).args.t1.cols l.loop-k.e
+sized : (l : tie.At-loop-k invariant-loop decreases-loop) → Sized (Of l).args.s.cols l.loop-k.e
 sized l =
-    let s = Of l in passing-sized s.args.t1 s.requires.0 (long s) s.args.t2 s.requires.1 l.loop-k.y l.loop-k.e l.loop-k.k l.loop-k.invariant
+    let s = Of l in passing-sized s.args.s s.requires.0 (long s) s.args.x s.requires.1 l.loop-k.y l.loop-k.e l.loop-k.k l.loop-k.invariant
 
 start-of-requires : tie.Need-start_of-v-requires invariant-loop decreases-loop
 start-of-requires c κs =
@@ -99,17 +99,17 @@ loop-again c =
     let i = Round b in
     let l = i.before in
     let s = Of l in
-    let v : b.start_of-v.result ≡ start_in s.args.t1 l.loop-k.e l.loop-k.k = rw (within-back tt (sized l).columns.capacity-in) at b.start_of-v.ensures in
+    let v : b.start_of-v.result ≡ start_in s.args.s l.loop-k.e l.loop-k.k = rw (within-back tt (sized l).columns.capacity-in) at b.start_of-v.ensures in
     let k = l.loop-k.k in
-    subst₂ (λ (z w : ℤ). Passing s.args.t1 s.args.t2 (set l.loop-k.y k z) (spanned l.loop-k.e (level_at s.args.t1 k) w w) (k + 1))
-    (sym (back b.start_of-v.result b.start_of-v.type_inv ∙ v)) (sym (back (at s.args.t2 k) c.a-1.given))
-    (passing_step s.args.t1 s.requires.0 (long s) s.args.t2 s.requires.1 l.loop-k.y l.loop-k.e l.loop-k.k i.loop-k-test.true l.loop-k.invariant)
+    subst₂ (λ (z w : ℤ). Passing s.args.s s.args.x (set l.loop-k.y k z) (spanned l.loop-k.e (level_at s.args.s k) w w) (k + 1))
+    (sym (back b.start_of-v.result b.start_of-v.type_inv ∙ v)) (sym (back (at s.args.x k) c.a-1.given))
+    (passing_step s.args.s s.requires.0 (long s) s.args.x s.requires.1 l.loop-k.y l.loop-k.e l.loop-k.k i.loop-k-test.true l.loop-k.invariant)
 
 returns : tie.Need-returns invariant-loop decreases-loop
 returns c =
     let l = c.before in
     let s = Of l in
-    passing-done s.args.t1 s.requires.0 (long s) s.args.t2 s.requires.1 l.loop-k.y l.loop-k.e l.loop-k.k c.loop-k-test.false l.loop-k.invariant
+    passing-done s.args.s s.requires.0 (long s) s.args.x s.requires.1 l.loop-k.y l.loop-k.e l.loop-k.k c.loop-k-test.false l.loop-k.invariant
 
 pub along_spec : {M : Type 1} → statement M
 along_spec =

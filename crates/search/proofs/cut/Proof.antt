@@ -23,8 +23,8 @@ use Rattle.search.proofs.cut.Tie as tie
 fill-up-requires : tie.Need-fill_up-f-requires
 fill-up-requires c κs = search rules
 
-sized : (s : tie.Start) → SizedFill s.args.t1 (fill s.args.t1 s.args.t3)
-sized s = fill-sized s.args.t1 s.args.t3 s.requires.0.sized
+sized : (s : tie.Start) → SizedFill s.args.c (fill s.args.c s.args.e)
+sized s = fill-sized s.args.c s.args.e s.requires.0.sized
 
 -- the moments that are spoken of below
 abbrev after-fill-up : tie.Else-f-lt0 → tie.After-fill_up-f
@@ -40,7 +40,7 @@ returns c =
     let t = rw (a.fill_up-f.ensures, within-back tt (sized a.before).room_in) at c.if-f-lt0.true in
     rw t
 
-not-empty : (c : tie.Else-f-lt0) → lt_z (fill (start-of-else1 c).args.t1 (start-of-else1 c).args.t3).room (pos 0) ≡ false
+not-empty : (c : tie.Else-f-lt0) → lt_z (fill (start-of-else1 c).args.c (start-of-else1 c).args.e).room (pos 0) ≡ false
 not-empty c = rw ((after-fill-up c).fill_up-f.ensures, within-back tt (sized (start-of-else1 c)).room_in) at c.if-f-lt0.false
 
 is-ahead-requires : tie.Need-is_ahead-requires
@@ -59,9 +59,9 @@ Else1-of c = (compared c).before
 abbrev Start-of : tie.After-is_ahead → tie.Start
 Start-of c = start-of-else1 (Else1-of c)
 
-ahead-is : (c : tie.After-is_ahead) → c.is_ahead.result ≡ ahead_by (Start-of c).args.t1 (Start-of c).args.t3
-    (fill (Start-of c).args.t1 (Start-of c).args.t3)
-    (Start-of c).args.t4
+ahead-is : (c : tie.After-is_ahead) → c.is_ahead.result ≡ ahead_by (Start-of c).args.c (Start-of c).args.e
+    (fill (Start-of c).args.c (Start-of c).args.e)
+    (Start-of c).args.best
 ahead-is c = rw (after-fill-up (Else1-of c)).fill_up-f.ensures at c.is_ahead.ensures
 
 -- the filling ended at a live rank
@@ -91,7 +91,7 @@ abbrev start-of-lent : tie.After-struct_told-then-u-n-1 → tie.Start
 start-of-lent c = Start-of (asked (lent c))
 
 -- the incumbent can be compared
-own : (c : tie.After-struct_told-then-u-n-1) → Comparable (start-of-lent c).args.t4
+own : (c : tie.After-struct_told-then-u-n-1) → Comparable (start-of-lent c).args.best
 own c = (start-of-lent c).requires.0.proper (compared (asked (lent c))).if-best.true
 
 threshold-requires : tie.Need-threshold-w-requires
@@ -102,7 +102,7 @@ threshold-requires c κs =
 
 -- what the lattice is asked for
 abbrev W : tie.After-threshold-w → ℤ
-W c = let s = start-of-lent c.before in threshold_by s.args.t1 s.args.t3 s.args.t4
+W c = let s = start-of-lent c.before in threshold_by s.args.c s.args.e s.args.best
 
 threshold-is : (c : tie.After-threshold-w) → c.threshold-w.result ≡ W c
 threshold-is c = rw (within-back tt (own c.before).whole_in) at c.threshold-w.ensures
@@ -112,7 +112,7 @@ unfolding threshold_at
 threshold-in c =
     let w = (own c.before).whole_in in
     let s = start-of-lent c.before in
-    cond-within (corner_sooner s.args.t3.lo s.args.t4.point s.args.t1.count s.args.t4.value.parts)
+    cond-within (corner_sooner s.args.e.lo s.args.best.point s.args.c.count s.args.best.value.parts)
     (within-sub w one) (within_more (omega arith) w)
   where
     one : Within 1 (pos 1)
@@ -123,11 +123,11 @@ sparse-requires c κs =
     let h = lent c.before in
     let g = after-fill-up (Else1-of (asked h)) in
     let s = g.before in
-    let z : SizedFill s.args.t1 g.fill_up-f.result = subst (λ f. SizedFill s.args.t1 f) (sym g.fill_up-f.ensures) (sized s) in
+    let z : SizedFill s.args.c g.fill_up-f.result = subst (λ f. SizedFill s.args.c f) (sym g.fill_up-f.ensures) (sized s) in
     let u = g.fill_up-f.result.at in
     rw (within-back tt (z.columns.sizes-in u), within-back tt (z.columns.rates-in u), threshold-is c, within-back tt (threshold-in c))
     (record {
-      steep = steep s.args.t1 g.fill_up-f.result s.requires.0.tied s.requires.0.rated z h.if-u-n.true;
+      steep = steep s.args.c g.fill_up-f.result s.requires.0.tied s.requires.0.rated z h.if-u-n.true;
       room_in = z.room_in;
       tame = s.requires.1;
       whole_in = threshold-in c;
@@ -143,11 +143,11 @@ returns-2 c =
     let s = g.before in
     let u = g.fill_up-f.result.at in
     let z = s.requires.0.sized.columns in
-    let l = subst (λ (f : Fill). f.at < s.args.t1.live) g.fill_up-f.ensures h.if-u-n.true in
-    let t = sym (ahead-is a) ∙ h.before.before.if-is_ahead.true in
+    let l = subst (λ (f : Fill). f.at < s.args.c.live) g.fill_up-f.ensures h.if-u-n.true in
+    let t = sym (ahead-is a) ∙ h.if-is_ahead.true in
     let e = rw (within-back tt (z.sizes-in u), within-back tt (z.rates-in u), threshold-is w, within-back tt (threshold-in w)) at c.sparse.ensures in
     rw (not-empty (Else1-of a), t, (compared a).if-best.true, lt-ltb _ _ l)
-    (e ∙ ap (λ (f : Fill). barren_by s.args.l (slope_of s.args.t1 f) f.room (W w)) g.fill_up-f.ensures)
+    (e ∙ ap (λ (f : Fill). barren_by s.args.l (slope_of s.args.c f) f.room (W w)) g.fill_up-f.ensures)
 
 returns-3 : tie.Need-returns-then-is_ahead
 unfolding cut_by sparse_by
@@ -155,7 +155,7 @@ returns-3 c =
     let a = c.before.before.before in
     let g = after-fill-up (Else1-of a) in
     let l = rw g.fill_up-f.ensures at c.if-u-n.false in
-    let t = sym (ahead-is a) ∙ c.before.before.if-is_ahead.true in
+    let t = sym (ahead-is a) ∙ c.if-is_ahead.true in
     rw (not-empty (Else1-of a), t, (compared a).if-best.true, le-ltb _ _ l)
 
 returns-4 : tie.Need-returns-then-best

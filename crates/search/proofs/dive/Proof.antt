@@ -20,7 +20,7 @@ abbrev decreases-loop : tie.decreases-loop-k
 decreases-loop j s n x₀ y₀ e₀ k₀ x y e k = n - k
 
 -- arrays have a place for each item
-long : (s : tie.Start invariant-loop decreases-loop) → Long s.args.t1.ends
+long : (s : tie.Start invariant-loop decreases-loop) → Long s.args.s.ends
 long s = record { lo-long = search rules; hi-long = search rules }
 
 long_path : (s : tie.Start invariant-loop decreases-loop) → LongPath s.args.p
@@ -34,21 +34,21 @@ start-of-ends c = c.before.before.before
 abbrev Of : tie.At-loop-k invariant-loop decreases-loop → tie.Start invariant-loop decreases-loop
 Of l = start-of-ends l.before.before.before
 
-k<16 : (c : tie.In-loop-k invariant-loop decreases-loop) → c.before.loop-k.k < 16
+k<16 : (c : tie.In-loop-k invariant-loop decreases-loop) → c.loop-k.k < 16
 k<16 c = omega (arith, c.loop-k-test.true, (Of c.before).requires.0.ready.few)
 
 -- the level's item has a place
-item : (c : tie.In-loop-k invariant-loop decreases-loop) → level_at (Of c.before).args.t1 c.before.loop-k.k < 16
-item c = let s = Of c.before in item<16 s.args.t1 s.requires.0 (long s) c.before.loop-k.k c.loop-k-test.true
+item : (c : tie.In-loop-k invariant-loop decreases-loop) → level_at (Of c.before).args.s c.loop-k.k < 16
+item c = let s = Of c.before in item<16 s.args.s s.requires.0 (long s) c.loop-k.k c.loop-k-test.true
 
 fixed-in-requires : tie.Need-fixed_in-e-requires invariant-loop decreases-loop
 fixed-in-requires c κs =
     let s = start-of-ends c.before in
     let r = s.requires.0 in
-    (omega (arith, s.requires.1.0, r.ready.few), λ k h. item<16 s.args.t1 r (long s) k (omega (arith, s.requires.1.0)))
+    (omega (arith, s.requires.1.0, r.ready.few), λ k h. item<16 s.args.s r (long s) k (omega (arith, s.requires.1.0)))
 
 loop-holds : tie.Need-loop-k-init invariant-loop decreases-loop
-loop-holds c = let s = start-of-ends c.before.before in diving-first s.args.t1 s.args.j s.args.p c.fixed_in-e.result s.requires.1.0
+loop-holds c = let s = start-of-ends c.before.before in diving-first s.args.s s.args.j s.args.p c.fixed_in-e.result s.requires.1.0
     (long_path s) c.fixed_in-e.ensures s.requires.1.1
 
 mul-i : tie.Need-offset_bounds-s-k invariant-loop decreases-loop
@@ -64,8 +64,8 @@ Lending c = c.before.before.before.before.before.before.before.before.before.bef
 abbrev Round : tie.After-start_of-v invariant-loop decreases-loop → tie.In-loop-k invariant-loop decreases-loop
 Round c = Lending c.before
 
-sized : (l : tie.At-loop-k invariant-loop decreases-loop) → Sized (Of l).args.t1.cols l.loop-k.e
-sized l = let s = Of l in diving-sized s.args.t1 s.requires.0 (long s) s.args.j s.args.p _ l.loop-k.e l.loop-k.k l.loop-k.invariant
+sized : (l : tie.At-loop-k invariant-loop decreases-loop) → Sized (Of l).args.s.cols l.loop-k.e
+sized l = let s = Of l in diving-sized s.args.s s.requires.0 (long s) s.args.j s.args.p _ l.loop-k.e l.loop-k.k l.loop-k.invariant
 
 start-of-requires : tie.Need-start_of-v-requires invariant-loop decreases-loop
 start-of-requires c κs =
@@ -108,15 +108,15 @@ loop-again c =
     let i = Round c in
     let l = i.before in
     let s = Of l in
-    let v : c.start_of-v.result ≡ start_in s.args.t1 l.loop-k.e l.loop-k.k = rw (within-back tt (sized l).columns.capacity-in) at c.start_of-v.ensures in
-    rw (back c.start_of-v.result c.start_of-v.type_inv, v) (diving-step s.args.t1 s.requires.0 (long s) s.args.j s.args.p _ l.loop-k.e l.loop-k.k
+    let v : c.start_of-v.result ≡ start_in s.args.s l.loop-k.e l.loop-k.k = rw (within-back tt (sized l).columns.capacity-in) at c.start_of-v.ensures in
+    rw (back c.start_of-v.result c.start_of-v.type_inv, v) (diving-step s.args.s s.requires.0 (long s) s.args.j s.args.p _ l.loop-k.e l.loop-k.k
     i.loop-k-test.true l.loop-k.invariant)
 
 returns : tie.Need-returns invariant-loop decreases-loop
 returns c =
     let l = c.before in
     let s = Of l in
-    diving-done s.args.t1 s.requires.0 (long s) s.args.j s.args.p _ l.loop-k.e l.loop-k.k c.loop-k-test.false l.loop-k.invariant
+    diving-done s.args.s s.requires.0 (long s) s.args.j s.args.p _ l.loop-k.e l.loop-k.k c.loop-k-test.false l.loop-k.invariant
 
 pub dive_spec : {M : Type 1} → statement M
 dive_spec =

@@ -28,28 +28,28 @@ decreases-loop from s p x n d₀ j₀ d j = (n - d) * 17 + (17 - j)
 
 -- what the function was given
 module _ (s : tie.Start invariant-loop decreases-loop) where
-  item<16 : (d : ℕ) → d < s.args.t1.levels → level_at s.args.t1 d < 16
+  item<16 : (d : ℕ) → d < s.args.s.levels → level_at s.args.s d < 16
   item<16 d l = omega (arith, s.requires.ready.setting.ready.level_in d l, s.requires.ready.setting.ready.sized.columns.few)
 
-  amount-within : (d : ℕ) → d < s.args.t1.levels → Within farthest (at s.args.t3 d)
+  amount-within : (d : ℕ) → d < s.args.s.levels → Within farthest (at s.args.x d)
   amount-within d l =
       let r = s.requires.ready.setting in
       let i = s.requires.inside d l in
-      between (at s.args.t1.low d) (at s.args.t1.high d) (at s.args.t3 d)
-      (rw (r.ready.low-is d l) (r.ready.sized.ends.lo-in (level_at s.args.t1 d)))
-      (rw (r.ready.high_is d l) (r.ready.sized.ends.hi-in (level_at s.args.t1 d))) i.0 i.1
+      between (at s.args.s.low d) (at s.args.s.high d) (at s.args.x d)
+      (rw (r.ready.low-is d l) (r.ready.sized.ends.lo-in (level_at s.args.s d)))
+      (rw (r.ready.high_is d l) (r.ready.sized.ends.hi-in (level_at s.args.s d))) i.0 i.1
 
-  first-within : (k : ℕ) → Within 1000 (at s.args.t2.first k)
+  first-within : (k : ℕ) → Within 1000 (at s.args.p.first k)
   first-within k = abs-within _ (s.requires.ready.true-pairs.steps-in k).0
 
-  second-within : (k : ℕ) → Within 1000 (at s.args.t2.second k)
+  second-within : (k : ℕ) → Within 1000 (at s.args.p.second k)
   second-within k = abs-within _ (s.requires.ready.true-pairs.steps-in k).1
 
   -- a step is read back from its few bits
-  first_back : (k : ℕ) → to_z w16 (of_z w16 (at s.args.t2.first k)) ≡ at s.args.t2.first k
+  first_back : (k : ℕ) → to_z w16 (of_z w16 (at s.args.p.first k)) ≡ at s.args.p.first k
   first_back k = to_z-of_z (within-width w16 (lit< tt) (first-within k))
 
-  second_back : (k : ℕ) → to_z w16 (of_z w16 (at s.args.t2.second k)) ≡ at s.args.t2.second k
+  second_back : (k : ℕ) → to_z w16 (of_z w16 (at s.args.p.second k)) ≡ at s.args.p.second k
   second_back k = to_z-of_z (within-width w16 (lit< tt) (second-within k))
 
 loop-holds : tie.Need-loop-d-init invariant-loop decreases-loop
@@ -57,21 +57,21 @@ loop-holds c = (c.requires.from_in, (omega arith, (c.requires.unpaired, λ i h. 
 
 -- both levels are levels, and have a place
 module _ (c : tie.Then-j-d invariant-loop decreases-loop) where
-  d-in : c.before.before.loop-d.d < c.before.before.before.args.t1.levels
-  d-in = c.before.loop-d-test.true
+  d-in : c.loop-d.d < c.args.s.levels
+  d-in = c.loop-d-test.true
 
-  j-in : c.before.before.loop-d.j < c.before.before.before.args.t1.levels
-  j-in = omega (arith, c.before.loop-d-test.true, c.if-j-d.true)
+  j-in : c.loop-d.j < c.args.s.levels
+  j-in = omega (arith, c.loop-d-test.true, c.if-j-d.true)
 
-  d<16 : c.before.before.loop-d.d < 16
-  d<16 = omega (arith, d-in, c.before.before.before.requires.ready.setting.ready.few)
+  d<16 : c.loop-d.d < 16
+  d<16 = omega (arith, d-in, c.requires.ready.setting.ready.few)
 
-  j<16 : c.before.before.loop-d.j < 16
-  j<16 = omega (arith, j-in, c.before.before.before.requires.ready.setting.ready.few)
+  j<16 : c.loop-d.j < 16
+  j<16 = omega (arith, j-in, c.requires.ready.setting.ready.few)
 
-  index<256 : pair_index (level_at c.before.before.before.args.t1 c.before.before.loop-d.d)
-      (level_at c.before.before.before.args.t1 c.before.before.loop-d.j) < 256
-  index<256 = let s = c.before.before.before in omega (arith, item<16 s c.before.before.loop-d.d d-in, item<16 s c.before.before.loop-d.j j-in)
+  index<256 : pair_index (level_at c.args.s c.loop-d.d)
+      (level_at c.args.s c.loop-d.j) < 256
+  index<256 = let s = c.before.before.before in omega (arith, item<16 s c.loop-d.d d-in, item<16 s c.loop-d.j j-in)
 
 mul-k : tie.Need-offset_bounds-s-d invariant-loop decreases-loop
 mul-k c = record { fits = omega (arith, d<16 c) }
@@ -80,7 +80,7 @@ element-copy-out-k : tie.Need-bounds-s-d invariant-loop decreases-loop
 element-copy-out-k c = d<16 c
 
 mul-k-2 : tie.Need-overflow_mul-k invariant-loop decreases-loop
-mul-k-2 c = let t = c.before in record { fits = omega (arith, item<16 t.before.before.before t.before.before.loop-d.d (d-in t)) }
+mul-k-2 c = let t = c.before in record { fits = omega (arith, item<16 t.before.before.before t.loop-d.d (d-in t)) }
 
 mul-k-3 : tie.Need-offset_bounds-s-j invariant-loop decreases-loop
 mul-k-3 c = record { fits = omega (arith, j<16 c.before) }
@@ -99,8 +99,8 @@ element-copy-out-r c = index<256 c.before.before
 
 -- the pair of the two levels
 abbrev K : tie.Then-j-d invariant-loop decreases-loop → ℕ
-K c = pair_index (level_at c.before.before.before.args.t1 c.before.before.loop-d.d)
-    (level_at c.before.before.before.args.t1 c.before.before.loop-d.j)
+K c = pair_index (level_at c.args.s c.loop-d.d)
+    (level_at c.args.s c.loop-d.j)
 
 cast-r : tie.Need-overflow_cast-r invariant-loop decreases-loop
 cast-r c = let t = c.before.before.before in let s = t.before.before.before in rw (first_back s (K t)) (within-sfits (lit< tt) (first-within s (K t)))
@@ -178,7 +178,7 @@ removable-requires c κs =
     let t = then1-of-removable-arg4 c.before.before in
     let l = t.before.before in
     let s = l.before in
-    let k = pair_index (level_at s.args.t1 l.loop-d.d) (level_at s.args.t1 l.loop-d.j) in
+    let k = pair_index (level_at s.args.s l.loop-d.d) (level_at s.args.s l.loop-d.j) in
     let r = first-within s k in
     let u = second-within s k in
     let x = amount-within s l.loop-d.d (d-in t) in
@@ -186,14 +186,14 @@ removable-requires c κs =
     rw (first_back s k, second_back s k, within-back tt r, within-back tt u, within-back tt x, within-back tt y) (r, (u, (x, y)))
 
 -- what the test decides, of the figures themselves
-decided : (c : tie.After-removable invariant-loop decreases-loop) → Reflects (AppliesAt (At c).before.args.t1 (At c).before.args.t2 (at (At c).before.args.t3)
+decided : (c : tie.After-removable invariant-loop decreases-loop) → Reflects (AppliesAt (At c).args.s (At c).args.p (at (At c).args.x)
     (At c).loop-d.d (At c).loop-d.j) c.removable.result
 decided c =
     let at-removable-arg3 = after-removable-arg3 c.before in
     let t = then1-of-removable c in
     let l = At c in
     let s = l.before in
-    let k = pair_index (level_at s.args.t1 l.loop-d.d) (level_at s.args.t1 l.loop-d.j) in
+    let k = pair_index (level_at s.args.s l.loop-d.d) (level_at s.args.s l.loop-d.j) in
     rw (
       first_back s k,
       second_back s k,
@@ -201,10 +201,10 @@ decided c =
       within-back tt (second-within s k),
       within-back tt (amount-within s l.loop-d.d (d-in t)),
       within-back tt (amount-within s l.loop-d.j (j-in t)),
-      back (at s.args.t1.low l.loop-d.d) at-removable-arg3.removable-arg-then-j-d-2-1.given,
-      back (at s.args.t1.high l.loop-d.d) c.before.before.before.removable-arg-then-j-d-3-1.given,
-      back (at s.args.t1.low l.loop-d.j) c.before.before.removable-arg-then-j-d-4-1.given,
-      back (at s.args.t1.high l.loop-d.j) c.before.removable-arg-then-j-d-5-1.given,
+      back (at s.args.s.low l.loop-d.d) at-removable-arg3.removable-arg-then-j-d-2-1.given,
+      back (at s.args.s.high l.loop-d.d) c.removable-arg-then-j-d-3-1.given,
+      back (at s.args.s.low l.loop-d.j) c.removable-arg-then-j-d-4-1.given,
+      back (at s.args.s.high l.loop-d.j) c.removable-arg-then-j-d-5-1.given,
     ) at c.removable.ensures
 
 returns : tie.Need-returns-then-removable invariant-loop decreases-loop
@@ -249,19 +249,19 @@ loop-again c =
     more {P} j i h (no q) f g = f i (omega arith)
 
 add-d : tie.Need-overflow_add-d invariant-loop decreases-loop
-add-d c = record { fits = omega (arith, c.before.loop-d-test.true, c.before.before.before.requires.ready.setting.ready.few) }
+add-d c = record { fits = omega (arith, c.loop-d-test.true, c.requires.ready.setting.ready.few) }
 
 loop-less-2 : tie.Need-loop-d-smaller invariant-loop decreases-loop
 loop-less-2 c =
     let l = c.before.before in
-    omega (arith, l.loop-d.invariant.1.0, c.before.loop-d-test.true, l.before.requires.ready.setting.ready.few)
+    omega (arith, l.loop-d.invariant.1.0, c.loop-d-test.true, l.requires.ready.setting.ready.few)
 
 -- a level whose pairs were all looked at
 loop-again-2 : tie.Need-loop-d-preserved invariant-loop decreases-loop
 loop-again-2 c =
     let l = c.before.before in
     let v = l.loop-d.invariant in (
-      omega (arith, c.before.loop-d-test.true),
+      omega (arith, c.loop-d-test.true),
       (
         omega arith,
         (

@@ -63,7 +63,7 @@ start-of-else1 c = Of (at-loop c)
 abbrev in-loop-of-else2 : tie.Else-d-m invariant-loop decreases-loop → tie.In-loop-d invariant-loop decreases-loop
 in-loop-of-else2 c = Round (after-by-side2 c.before.before)
 
-d<16 : (c : tie.In-loop-d invariant-loop decreases-loop) → c.before.loop-d.d < 16
+d<16 : (c : tie.In-loop-d invariant-loop decreases-loop) → c.loop-d.d < 16
 d<16 c = omega (arith, c.loop-d-test.true, (Of c.before).requires.ready.setting.ready.few)
 
 first-paired-requires : tie.Need-first_paired-m-requires invariant-loop decreases-loop
@@ -93,7 +93,7 @@ fixed-in-requires : tie.Need-fixed_in-e-requires invariant-loop decreases-loop
 fixed-in-requires c κs =
     let s = start c.before.before in
     let r = s.requires.ready.setting in
-    (omega (arith, s.requires.from_in, r.ready.few), λ k h. item<16 s.args.t1 r s.requires.started.long k (omega (arith, s.requires.from_in)))
+    (omega (arith, s.requires.from_in, r.ready.few), λ k h. item<16 s.args.s r s.requires.started.long k (omega (arith, s.requires.from_in)))
 
 loop-holds : tie.Need-loop-d-init invariant-loop decreases-loop
 loop-holds c =
@@ -138,13 +138,13 @@ by-side-requires-2 : tie.Need-by_side-h-requires invariant-loop decreases-loop
 by-side-requires-2 c κs = tt
 
 -- the level's item has a place
-item : (c : tie.In-loop-d invariant-loop decreases-loop) → level_at (Of c.before).args.t1 c.before.loop-d.d < 16
-item c = let s = Of c.before in item<16 s.args.t1 s.requires.ready.setting s.requires.started.long c.before.loop-d.d c.loop-d-test.true
+item : (c : tie.In-loop-d invariant-loop decreases-loop) → level_at (Of c.before).args.s c.loop-d.d < 16
+item c = let s = Of c.before in item<16 s.args.s s.requires.ready.setting s.requires.started.long c.loop-d.d c.loop-d-test.true
 
 -- the ends of the run
-low-is : (c : tie.After-by_side-h invariant-loop decreases-loop) → c.before.before.by_side-l.result ≡ by_side
-    (at (Of (Round c).before).args.t.place (Round c).before.loop-d.d) (at (Of (Round c).before).args.t.starts (Round c).before.loop-d.d)
-    (at (Of (Round c).before).args.t1.low (Round c).before.loop-d.d) (at (Of (Round c).before).args.t.place (Round c).before.loop-d.d)
+low-is : (c : tie.After-by_side-h invariant-loop decreases-loop) → c.by_side-l.result ≡ by_side
+    (at (Of (Round c).before).args.t.place (Round c).loop-d.d) (at (Of (Round c).before).args.t.starts (Round c).loop-d.d)
+    (at (Of (Round c).before).args.s.low (Round c).loop-d.d) (at (Of (Round c).before).args.t.place (Round c).loop-d.d)
 low-is c =
     let l = (Round c).before in
     let s = Of l in
@@ -152,13 +152,13 @@ low-is c =
     let b = c.before.before in
     rw (
       back (at s.args.t.place d) (after-a b.before).a-1.given,
-      back (at s.args.t.starts d) b.before.before.before.b-1.given,
-      back (at s.args.t1.low d) b.before.by_side-arg-1.given,
+      back (at s.args.t.starts d) b.b-1.given,
+      back (at s.args.s.low d) b.by_side-arg-1.given,
     ) at b.by_side-l.ensures
 
-high_is : (c : tie.After-by_side-h invariant-loop decreases-loop) → c.by_side-h.result ≡ by_side (at (Of (Round c).before).args.t.place (Round c).before.loop-d.d)
-    (at (Of (Round c).before).args.t.starts (Round c).before.loop-d.d) (at (Of (Round c).before).args.t.place (Round c).before.loop-d.d)
-    (at (Of (Round c).before).args.t1.high (Round c).before.loop-d.d)
+high_is : (c : tie.After-by_side-h invariant-loop decreases-loop) → c.by_side-h.result ≡ by_side (at (Of (Round c).before).args.t.place (Round c).loop-d.d)
+    (at (Of (Round c).before).args.t.starts (Round c).loop-d.d) (at (Of (Round c).before).args.t.place (Round c).loop-d.d)
+    (at (Of (Round c).before).args.s.high (Round c).loop-d.d)
 high_is c =
     let l = (Round c).before in
     let s = Of l in
@@ -166,26 +166,26 @@ high_is c =
     let b = c.before.before in
     rw (
       back (at s.args.t.place d) (after-a b.before).a-1.given,
-      back (at s.args.t.starts d) b.before.before.before.b-1.given,
-      back (at s.args.t1.high d) c.before.by_side-arg-in-loop-d-1.given,
+      back (at s.args.t.starts d) b.b-1.given,
+      back (at s.args.s.high d) c.by_side-arg-in-loop-d-1.given,
     ) at c.by_side-h.ensures
 
 -- the box of the run, as it is written
 abbrev Ran : tie.After-by_side-h invariant-loop decreases-loop → Ends
-Ran c = spanned (Round c).before.loop-d.e (level_at (Of (Round c).before).args.t1 (Round c).before.loop-d.d)
-    (to_z w64 (of_z w64 c.before.before.by_side-l.result)) (to_z w64 (of_z w64 c.by_side-h.result))
+Ran c = spanned (Round c).loop-d.e (level_at (Of (Round c).before).args.s (Round c).loop-d.d)
+    (to_z w64 (of_z w64 c.by_side-l.result)) (to_z w64 (of_z w64 c.by_side-h.result))
 
-run_is : (c : tie.After-by_side-h invariant-loop decreases-loop) → Ran c ≡ run_ends (Of (Round c).before).args.t1 (at (Of (Round c).before).args.t.place)
-    (at (Of (Round c).before).args.t.starts (Round c).before.loop-d.d) (Round c).before.loop-d.d
+run_is : (c : tie.After-by_side-h invariant-loop decreases-loop) → Ran c ≡ run_ends (Of (Round c).before).args.s (at (Of (Round c).before).args.t.place)
+    (at (Of (Round c).before).args.t.starts (Round c).loop-d.d) (Round c).loop-d.d
 run_is c =
     let b = c.before.before in
     let l = (Round c).before in
     let s = Of l in
     let d = l.loop-d.d in
-    let k = level_at s.args.t1 d in
+    let k = level_at s.args.s d in
     ap₂ (λ (x y : ℤ). spanned l.loop-d.e k x y) (back b.by_side-l.result b.by_side-l.type_inv ∙ low-is c)
     (back c.by_side-h.result c.by_side-h.type_inv ∙ high_is c)
-    ∙ ap (λ e. run_box e k (at s.args.t1.low d) (at s.args.t1.high d) (at s.args.t.place d) (at s.args.t.starts d)) l.loop-d.invariant.1.0
+    ∙ ap (λ e. run_box e k (at s.args.s.low d) (at s.args.s.high d) (at s.args.t.place d) (at s.args.t.starts d)) l.loop-d.invariant.1.0
 
 mul-l : tie.Need-offset_bounds-e-i invariant-loop decreases-loop
 mul-l c = record { fits = omega (arith, item (Round c)) }
@@ -212,13 +212,13 @@ cut-requires c κs =
     let l = i.before in
     let s = Of l in
     rw (run_is b) (
-      run-in-range s.args.t1 s.requires.ready.setting s.requires.started.long (at s.args.t.place) s.requires.started.inside
+      run-in-range s.args.s s.requires.ready.setting s.requires.started.long (at s.args.t.place) s.requires.started.inside
           (at s.args.t.starts l.loop-d.d) l.loop-d.d s.args.best i.loop-d-test.true s.requires.proper,
       s.requires.ready.setting.ready.tame l.loop-d.d (d<16 i),
     )
 
 -- the levels above settle nothing
-passed : (l : tie.At-loop-d invariant-loop decreases-loop) (d : ℕ) → d ≤ l.loop-d.d → Passed (Of l).args.t1 (Of l).args.p (Of l).args.t (Of l).args.best d
+passed : (l : tie.At-loop-d invariant-loop decreases-loop) (d : ℕ) → d ≤ l.loop-d.d → Passed (Of l).args.s (Of l).args.p (Of l).args.t (Of l).args.best d
 passed l d h =
     let at-first-paired = after-first-paired l.before in
     record {
@@ -227,14 +227,14 @@ passed l d h =
     }
 
 -- whether the run of the level is cut
-cut-is : (c : tie.After-cut invariant-loop decreases-loop) → c.cut.result ≡ cut_at (Of (Round c.before.before.before).before).args.t1
+cut-is : (c : tie.After-cut invariant-loop decreases-loop) → c.cut.result ≡ cut_at (Of (Round c.before.before.before).before).args.s
     (Of (Round c.before.before.before).before).args.t (Of (Round c.before.before.before).before).args.best
-    (Round c.before.before.before).before.loop-d.d
+    (Round c.before.before.before).loop-d.d
 cut-is c =
     let b = c.before.before.before in
     let l = (Round b).before in
     let s = Of l in
-    c.cut.ensures ∙ ap (λ e. cut_by s.args.t1.cols (lattice_at s.args.t1.lattice l.loop-d.d) e s.args.best) (run_is b)
+    c.cut.ensures ∙ ap (λ e. cut_by s.args.s.cols (lattice_at s.args.s.lattice l.loop-d.d) e s.args.best) (run_is b)
 
 returns : tie.Need-returns-then-cut invariant-loop decreases-loop
 returns c =
@@ -266,7 +266,7 @@ returns-2 c =
         last = add-one l.loop-d.d;
         passed = passed l l.loop-d.d (omega arith);
         uncut = sym (cut-is e.before) ∙ e.if-cut.false;
-        paired = subst (λ k. Applies s.args.t1 s.args.p (at s.args.t.place) k) (sym q) (f.ensures.here (omega (arith, q, i.loop-d-test.true)));
+        paired = subst (λ k. Applies s.args.s s.args.p (at s.args.t.place) k) (sym q) (f.ensures.here (omega (arith, q, i.loop-d-test.true)));
       },
     )
 
@@ -294,7 +294,7 @@ rewritten e k l h u = ap₂ (λ (x y : List ℤ). record { lo = x; hi = y }) (se
 
 -- so does the level itself
 still : (c : tie.Else-cut invariant-loop decreases-loop) (i : ℕ) → i ≤ (at-loop c).loop-d.d
-    → Dec (i ≡ (at-loop c).loop-d.d) → cut_at (start-of-else1 c).args.t1
+    → Dec (i ≡ (at-loop c).loop-d.d) → cut_at (start-of-else1 c).args.s
     (start-of-else1 c).args.t (start-of-else1 c).args.best i ≡ false
 still c i h (yes e) = rw e (sym (cut-is c.before) ∙ c.if-cut.false)
 still c i h (no e) = (at-loop c).loop-d.invariant.1.1.1 i (omega (arith, e))
@@ -309,11 +309,11 @@ loop-again c =
     let s = Of l in
     let read = after-a b.before.before.before in
     let x = at s.args.t.place l.loop-d.d in
-    let k = level_at s.args.t1 l.loop-d.d in (
+    let k = level_at s.args.s l.loop-d.d in (
       omega (arith, i.loop-d-test.true),
       (
         rw (add-one, back x read.a-1.given)
-            (rewritten l.loop-d.e k (to_z w64 (of_z w64 b.before.before.by_side-l.result)) (to_z w64 (of_z w64 b.by_side-h.result)) x
+            (rewritten l.loop-d.e k (to_z w64 (of_z w64 b.by_side-l.result)) (to_z w64 (of_z w64 b.by_side-h.result)) x
             ∙ ap (λ e. spanned e k x x) l.loop-d.invariant.1.0),
         (omega (arith, l.loop-d.invariant.1.1.0, c.if-d-m.false), λ j h. still u j (omega arith) (ℕ_discrete j l.loop-d.d)),
       ),
@@ -323,7 +323,7 @@ tried-requires : tie.Need-tried-r-requires invariant-loop decreases-loop
 tried-requires c κs =
     let l = c.before.before in
     let s = Of l in
-    rw l.loop-d.invariant.1.0 (fixed-in-range s.args.t1 s.requires.ready.setting s.requires.started.long (at s.args.t.place) s.requires.started.inside
+    rw l.loop-d.invariant.1.0 (fixed-in-range s.args.s s.requires.ready.setting s.requires.started.long (at s.args.t.place) s.requires.started.inside
     l.loop-d.d s.args.best l.loop-d.invariant.0 s.requires.proper)
 
 returns-3 : tie.Need-returns invariant-loop decreases-loop
@@ -331,9 +331,9 @@ returns-3 c =
     let y = c.before in
     let l = y.before.before.before in
     let s = Of l in
-    let n : l.loop-d.d ≡ s.args.t1.levels = omega (arith, y.before.before.loop-d-test.false, l.loop-d.invariant.0) in
-    let e = l.loop-d.invariant.1.0 ∙ ap (fixed_by s.args.t1 (at s.args.t.place)) n in
-    inl (record { all = refl; passed = passed l s.args.t1.levels (omega (arith, n)); tries = rw e at y.tried-r.ensures })
+    let n : l.loop-d.d ≡ s.args.s.levels = omega (arith, y.loop-d-test.false, l.loop-d.invariant.0) in
+    let e = l.loop-d.invariant.1.0 ∙ ap (fixed_by s.args.s (at s.args.t.place)) n in
+    inl (record { all = refl; passed = passed l s.args.s.levels (omega (arith, n)); tries = rw e at y.tried-r.ensures })
 
 pub look_spec : {M : Type 1} → statement M
 look_spec =

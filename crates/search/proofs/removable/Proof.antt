@@ -16,8 +16,8 @@ within-requires : tie.Need-within-requires
 within-requires c κs = let s = c.before in rw (to_z-of_z s.ranges.x, to_z-of_z s.ranges.r) (s.requires.1.1.0, s.requires.0)
 
 -- what the first test decides, of the figures themselves
-own : (c : tie.After-within) → Reflects (Stays c.before.before.args.x c.before.before.args.r c.before.before.args.l
-    c.before.before.args.u) c.within.result
+own : (c : tie.After-within) → Reflects (Stays c.args.x c.args.r c.args.l
+    c.args.u) c.within.result
 own c = let s = c.before.before in rw (to_z-of_z s.ranges.x, to_z-of_z s.ranges.r, to_z-of_z s.ranges.l, to_z-of_z s.ranges.u) at c.within.ensures
 
 within-requires-2 : tie.Need-within-requires-then-within
@@ -30,7 +30,7 @@ returns-2 c =
     let s = w.before.before in
     let other = rw (to_z-of_z s.ranges.y, to_z-of_z s.ranges.t, to_z-of_z s.ranges.m, to_z-of_z s.ranges.w) at c.within-then-within.ensures in
     record {
-      holds = λ e. record { moves = λ z. w.before.if-r-eq0.false (ap (of_z w64) z); own = (own w).holds u.if-within.true; other = other.holds e };
+      holds = λ e. record { moves = λ z. w.if-r-eq0.false (ap (of_z w64) z); own = (own w).holds u.if-within.true; other = other.holds e };
       fails = λ e q. other.fails e q.other;
     }
 

@@ -15,7 +15,7 @@ start-requires c κs = c.requires.setting
 long : (s : tie.Start) → Long s.args.s.ends
 long s = record { lo-long = search rules; hi-long = search rules }
 
-first : (c : tie.After-start-q) → Underway c.before.args.s c.before.args.p c.start-q.result
+first : (c : tie.After-start-q) → Underway c.args.s c.args.p c.start-q.result
 first c = let s = c.before in underway-first s.args.s s.args.p s.requires (long s) c.start-q.result c.start-q.ensures
 
 run-for-requires : tie.Need-run_for-requires

@@ -22,12 +22,12 @@ loop-holds c = (c.requires, (0, (refl, omega arith)))
 
 returns : tie.Need-returns-then-t invariant-loop decreases-loop
 returns c =
-    let v = c.before.before.loop-left.invariant.1 in
+    let v = c.loop-left.invariant.1 in
     record { count = v.0; ran = v.1.0; few = omega (arith, v.1.1); stops = inl c.if-t.true }
 
 step-requires : tie.Need-step-t-requires invariant-loop decreases-loop
 step-requires c κs =
-    let u = c.before.before.loop-left.invariant.0 in
+    let u = c.loop-left.invariant.0 in
     record { ready = u.ready; started = u.started; proper = u.good.proper; from_in = u.from_in; passed = u.passed }
 
 sub-left : tie.Need-overflow_sub-left invariant-loop decreases-loop
@@ -49,7 +49,7 @@ loop-again c =
 
 returns-2 : tie.Need-returns invariant-loop decreases-loop
 returns-2 c =
-    let v = c.before.loop-left.invariant.1 in
+    let v = c.loop-left.invariant.1 in
     record { count = v.0; ran = v.1.0; few = omega (arith, v.1.1); stops = inr (omega (arith, v.1.1)) }
 
 pub run_for_spec : {M : Type 1} → statement M

@@ -11,7 +11,7 @@ no-incumbent-requires : tie.Need-no_incumbent-requires
 no-incumbent-requires c κs = tt
 
 returns : tie.Need-returns
-returns c = rw c.no_incumbent.ensures (record { first = c.before.dive.ensures; nothing = refl; no_steps = refl; top = refl; going = refl })
+returns c = rw c.no_incumbent.ensures (record { first = c.dive.ensures; nothing = refl; no_steps = refl; top = refl; going = refl })
 
 pub start_spec : {M : Type 1} → statement M
 start_spec = tie.close (tie.spec dive-requires no-incumbent-requires returns)

@@ -24,7 +24,7 @@ look-requires c κs = search rules
 counted-requires : tie.Need-counted-n-requires
 counted-requires c κs = search rules
 
-settled-in : (c : tie.After-look-l) → SettledIn c.before.before.before.args.s.levels c.look-l.result.settled
+settled-in : (c : tie.After-look-l) → SettledIn c.args.s.levels c.look-l.result.settled
 settled-in c = let s = c.before.before.before in looked-in s.args.s s.args.p s.args.q.path s.args.q.best
     (record { best = c.look-l.result.best; better = c.look-l.result.better }) c.look-l.result.settled c.look-l.ensures
 
@@ -35,11 +35,11 @@ after-counted-of-lo c = c.before.before.before
 abbrev after-counted-of-past : tie.After-past-o → tie.After-counted-n
 after-counted-of-past c = after-counted-of-lo c.before.before
 
-abbrev after-counted-of-o : tie.In-At-2 → tie.After-counted-n
-after-counted-of-o c = after-counted-of-past c.before.before
+abbrev after-counted-of-o : tie.In-At → tie.After-counted-n
+after-counted-of-o c = after-counted-of-past c.before
 
 abbrev after_look : tie.In-At → tie.After-look-l
-after_look c = (after-counted-of-o c.before).before.before
+after_look c = (after-counted-of-o c).before.before
 
 abbrev start : tie.In-At → tie.Start
 start c = (after_look c).before.before.before
@@ -72,21 +72,21 @@ goal c =
     (at start.args.q.path.place)
 
 module _ (c : tie.In-At) where
-  went : goal c.before.before.before ≡ some (c.before.o-1.given.0.0, c.before.o-1.given.0.1.0)
-  went = moved_at_lem (goal c.before.before.before) c.before.o-1.given.0.0 c.before.o-1.given.0.1.0
-      (sym c.before.o-1.given.1 ∙ c.before.before.before.past-o.ensures)
+  went : goal c.before ≡ some (c.in-At.j, c.in-At.v)
+  went = moved_at_lem (goal c.before) c.in-At.j c.in-At.v
+      (sym c.in-At.is ∙ c.past-o.ensures)
 
-  moves : MoveIn (start c).args.s (after_look c).look-l.result.settled c.before.o-1.given.0.0 c.before.o-1.given.0.1.0
+  moves : MoveIn (start c).args.s (after_look c).look-l.result.settled c.in-At.j c.in-At.v
   moves =
       let k = after_look c in
       let s = k.before.before.before in
       let w = k.look-l.result.settled in
       move_in s.args.s s.requires.ready.setting s.requires.started.long (at s.args.q.path.place) s.requires.started.inside w (settled-in k)
-      c.before.o-1.given.0.0 c.before.o-1.given.0.1.0
+      c.in-At.j c.in-At.v
       (sym (past-started s.args.s s.args.q.path w s.requires.started (settled-in k)) ∙ went)
 
   -- the move can be made
-  move-in-range : MoveInRange (start c).args.s (start c).args.q.path c.before.o-1.given.0.0 c.before.o-1.given.0.1.0
+  move-in-range : MoveInRange (start c).args.s (start c).args.q.path c.in-At.j c.in-At.v
   move-in-range = let s = start c in
       record { ready = s.requires.ready.setting; started = s.requires.started; level_in = moves.level_in; low = moves.low; high = moves.high }
 
@@ -104,13 +104,13 @@ moved : (c : tie.After-move_to-u) →
     let s = start c.before in
     c.move_to-u.result ≡ moved_at
     s.args.q.path
-    c.before.before.o-1.given.0.0 c.before.before.o-1.given.0.1.0
-moved c = let t = c.before in rw (back t.before.o-1.given.0.1.0 t.known_told-1.given.1.0.1) at c.move_to-u.ensures.0
+    c.in-At.j c.in-At.v
+moved c = let t = c.before in rw (back t.in-At.v t.in-At.known_told-1-own.given.1.0.1) at c.move_to-u.ensures.0
 
 fresh-requires : tie.Need-fresh-from-requires
 fresh-requires c κs = search rules
 
-next-in : (f : tie.After-fresh-from) → (Told f).before.o-1.given.0.0 + 1 ≤ 16
+next-in : (f : tie.After-fresh-from) → (Told f).in-At.j + 1 ≤ 16
 next-in f = let t = Told f in omega (
   arith,
   (moves t).level_in,
@@ -132,22 +132,22 @@ dive-requires c κs =
       s.requires.ready.setting,
       (
         omega (arith, (moves t).level_in),
-        moved_inside s.args.s s.args.q.path t.before.o-1.given.0.0
-            t.before.o-1.given.0.1.0 (move-in-range t) f.before.move_to-u.ensures.1,
+        moved_inside s.args.s s.args.q.path t.in-At.j
+            t.in-At.v (move-in-range t) f.move_to-u.ensures.1,
       ),
     )
 
 -- a step that goes on along the path r
 onward : (f : tie.After-fresh-from) (r : Path) → Dived
     (start (Told f)).args.s
-    ((Told f).before.o-1.given.0.0 + 1) f.before.move_to-u.result r
+    ((Told f).in-At.j + 1) f.move_to-u.result r
     → Stepped (start (Told f)).args.s
     (start (Told f)).args.p
     (start (Told f)).args.q
     (record {
       path = r;
       best = (after_look (Told f)).look-l.result.best;
-      steps = (after-counted-of-o f.before.before.before).counted-n.result;
+      steps = (after-counted-of-o f.before.before).counted-n.result;
       from = f.fresh-from.result;
       done = false;
     })
@@ -163,12 +163,12 @@ onward f r d =
       went = rw (went t) (
         refl,
         (
-          moved_by s.args.s s.args.q.path t.before.o-1.given.0.0 t.before.o-1.given.0.1.0 (move-in-range t)
-              u.move_to-u.ensures.1 r (subst (λ z. Dived s.args.s (t.before.o-1.given.0.0 + 1) z r) (moved u) d),
+          moved_by s.args.s s.args.q.path t.in-At.j t.in-At.v (move-in-range t)
+              u.move_to-u.ensures.1 r (subst (λ z. Dived s.args.s (t.in-At.j + 1) z r) (moved u) d),
           f.fresh-from.ensures,
         ),
       );
-      counted = (after-counted-of-o t.before).counted-n.ensures;
+      counted = (after-counted-of-o t).counted-n.ensures;
     }
 
 returns : tie.Need-returns-then-j-s
@@ -190,14 +190,14 @@ returns-2 c =
 
 returns-3 : tie.Need-returns-in-Done
 returns-3 c =
-    let p = c.before.before in
+    let p = c.before in
     let done = after-counted-of-past p in
     let k = done.before.before in
     record {
       verdict = k.look-l.result.settled;
       better = k.look-l.result.better;
       looked = k.look-l.ensures;
-      went = rw (moved-done (goal p) (sym c.enum_told-1.given.1 ∙ p.past-o.ensures)) (refl, (refl, refl));
+      went = rw (moved-done (goal p) (sym c.in-Done.is ∙ p.past-o.ensures)) (refl, (refl, refl));
       counted = done.counted-n.ensures;
     }
 

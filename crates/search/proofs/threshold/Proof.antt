@@ -27,14 +27,14 @@ returns : tie.Need-returns-then-is_corner_sooner
 unfolding threshold_at
 returns c =
     let s = c.before.before in
-    let t = sym c.before.is_corner_sooner.ensures ∙ c.if-is_corner_sooner.true in
+    let t = sym c.is_corner_sooner.ensures ∙ c.if-is_corner_sooner.true in
     rw (t, to_z-of_z s.ranges.w) (within-back tt (one_less s))
 
 returns-2 : tie.Need-returns-else-is_corner_sooner
 unfolding threshold_at
 returns-2 c =
     let s = c.before.before in
-    let t = sym c.before.is_corner_sooner.ensures ∙ c.if-is_corner_sooner.false in
+    let t = sym c.is_corner_sooner.ensures ∙ c.if-is_corner_sooner.false in
     rw t (to_z-of_z s.ranges.w)
 
 pub threshold_spec : {M : Type 1} → statement M

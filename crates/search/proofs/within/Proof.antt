@@ -19,7 +19,7 @@ sub-y : tie.Need-overflow_sub-y
 sub-y c = rw (to_z-of_z c.ranges.x, to_z-of_z c.ranges.r) (within-sfits (lit< tt) (difference c))
 
 -- the difference, as the local holds it, against an end
-low? : (c : tie.Then-y-l) → (c.before.args.x -ℤ c.before.args.r) <ℤ c.before.args.l
+low? : (c : tie.Then-y-l) → (c.args.x -ℤ c.args.r) <ℤ c.args.l
 low? c = let s = c.before in yes_lt (rw (to_z-of_z s.ranges.x, to_z-of_z s.ranges.r, within-back tt (difference s), to_z-of_z s.ranges.l) at c.if-y-l.true)
 
 returns : tie.Need-returns-then-y-l

@@ -20,7 +20,7 @@ returns-2 c =
     let s = c.before.before in
     let m = s.args.m in
     let full : length m.items ≡ 16 = simp length-map at s.well_formed.0.1.1.0.1.0.1 in
-    known-planned m full (sym c.before.some_range.ensures ∙ c.if-some_range.false) s.args.sure s.requires
+    known-planned m full (sym c.some_range.ensures ∙ c.if-some_range.false) s.args.sure s.requires
 
 pub possible_beside_spec : {M : Type 1} → statement M
 possible_beside_spec = tie.close (tie.spec some-range-requires plan-requires returns returns-2)

@@ -19,8 +19,8 @@ loop-holds : tie.Need-loop-k-init invariant-loop decreases-loop
 unfolding fixed_in
 loop-holds c = (omega arith, refl)
 
-k<16 : (c : tie.In-loop-k invariant-loop decreases-loop) → c.before.loop-k.k < 16
-k<16 c = omega (arith, c.before.before.requires.0)
+k<16 : (c : tie.In-loop-k invariant-loop decreases-loop) → c.loop-k.k < 16
+k<16 c = omega (arith, c.requires.0)
 
 mul-i : tie.Need-offset_bounds-level-k invariant-loop decreases-loop
 mul-i c = omega (arith, k<16 c)
@@ -35,8 +35,8 @@ array-copy-out-v : tie.Need-bounds-x-k invariant-loop decreases-loop
 array-copy-out-v c = k<16 c
 
 -- the level's item has a place
-item<16 : (c : tie.In-loop-k invariant-loop decreases-loop) → place c.before.before.args.t2 c.before.loop-k.k < 16
-item<16 c = c.before.before.requires.1 c.before.loop-k.k c.loop-k-test.true
+item<16 : (c : tie.In-loop-k invariant-loop decreases-loop) → place c.args.level c.loop-k.k < 16
+item<16 c = c.requires.1 c.loop-k.k c.loop-k-test.true
 
 mul-v-2 : tie.Need-offset_bounds-to-i invariant-loop decreases-loop
 mul-v-2 c = record { fits = omega (arith, item<16 c.before) }
@@ -61,12 +61,12 @@ unfolding fixed_in
 loop-again c =
     let l = c.before.before in
     let s = l.before in
-    (omega arith, rw (add-one, back (at s.args.t3 l.loop-k.k) c.v-1.given, l.loop-k.invariant.1))
+    (omega arith, rw (add-one, back (at s.args.x l.loop-k.k) c.v-1.given, l.loop-k.invariant.1))
 
 returns : tie.Need-returns invariant-loop decreases-loop
 returns c =
-    let e : c.before.loop-k.k ≡ c.before.before.args.d = omega arith in
-    rw e at c.before.loop-k.invariant.1
+    let e : c.loop-k.k ≡ c.args.d = omega arith in
+    rw e at c.loop-k.invariant.1
 
 pub fixed_in_spec : {M : Type 1} → statement M
 fixed_in_spec =

@@ -16,11 +16,11 @@ invariant-loop n xs level to₀ d₀ to d = (d ≤ n) × Placed d (λ j. at xs (
 abbrev decreases-loop : tie.decreases-loop-d
 decreases-loop n xs level to₀ d₀ to d = n - d
 
-d<16 : (c : tie.In-loop-d invariant-loop decreases-loop) → c.before.loop-d.d < 16
-d<16 c = omega (arith, c.loop-d-test.true, c.before.before.requires.0)
+d<16 : (c : tie.In-loop-d invariant-loop decreases-loop) → c.loop-d.d < 16
+d<16 c = omega (arith, c.loop-d-test.true, c.requires.0)
 
-item<16 : (c : tie.In-loop-d invariant-loop decreases-loop) → place c.before.before.args.t2 c.before.loop-d.d < 16
-item<16 c = c.before.before.requires.1 c.before.loop-d.d c.loop-d-test.true
+item<16 : (c : tie.In-loop-d invariant-loop decreases-loop) → place c.args.level c.loop-d.d < 16
+item<16 c = c.requires.1 c.loop-d.d c.loop-d-test.true
 
 loop-holds : tie.Need-loop-d-init invariant-loop decreases-loop
 loop-holds c = (omega arith, placed_first _)
@@ -50,10 +50,10 @@ loop-less : tie.Need-loop-d-smaller invariant-loop decreases-loop
 loop-less c = omega arith
 
 loop-again : tie.Need-loop-d-preserved invariant-loop decreases-loop
-loop-again c = (omega arith, placed-step _ c.before.before.loop-d.d _ (d<16 c.before) (back _ c.x-1.given) c.before.before.loop-d.invariant.1)
+loop-again c = (omega arith, placed-step _ c.loop-d.d _ (d<16 c.before) (back _ c.x-1.given) c.loop-d.invariant.1)
 
 returns : tie.Need-returns invariant-loop decreases-loop
-returns c = placed-done (omega arith) c.before.loop-d.invariant.1
+returns c = placed-done (omega arith) c.loop-d.invariant.1
 
 pub by_level_spec : {M : Type 1} → statement M
 by_level_spec =

@@ -38,9 +38,9 @@ ceiled b = b.before.before.before
 box : (c : tie.After-struct_told-1) → let a = (entry c).args in Boxes a.cols a.ends a.level a.levels
 box c = (entry c).requires.0.0
 
-room_back : (c : tie.After-struct_told-1) → to_z w64 (of_z w64 c.before.before.fill_up-f.result.room) ≡ (fill (entry c).args.cols (entry c).args.ends).room
-room_back c = back c.before.before.fill_up-f.result.room c.struct_told-1.given.1.0.1 ∙
-    ap (λ (f : Fill). f.room) c.before.before.fill_up-f.ensures
+room_back : (c : tie.After-struct_told-1) → to_z w64 (of_z w64 c.fill_up-f.result.room) ≡ (fill (entry c).args.cols (entry c).args.ends).room
+room_back c = back c.fill_up-f.result.room c.struct_told-1.given.1.0.1 ∙
+    ap (λ (f : Fill). f.room) c.fill_up-f.ensures
 
 -- where there is room
 roomy : (c : tie.Else-f-lt0) → let s = entry c.before in pos 0 ≤ℤ (fill s.args.cols s.args.ends).room
@@ -51,11 +51,11 @@ level_in c d l = let x = box c.before in omega (arith, x.level_in d l, x.sized.c
 
 -- what the ceiling says
 bounded : (c : tie.After-ceiling-b) → let a = (entry (clear c).before).args in
-    Bounded a.cols a.ends c.before.before.wholes-whole.result a.known a.value c.ceiling-b.result
+    Bounded a.cols a.ends c.wholes-whole.result a.known a.value c.ceiling-b.result
 bounded c = c.ceiling-b.ensures
 
 best-frame : (c : tie.Then-b) → let m = ceiled c in let a = (entry (clear m).before).args in
-    BestFrame a.cols a.ends m.before.before.wholes-whole.result m.ceiling-b.result
+    BestFrame a.cols a.ends m.wholes-whole.result m.ceiling-b.result
 best-frame c = (bounded (ceiled c)).found c.if-b.true
 
 fill-up-requires : tie.Need-fill_up-f-requires
@@ -103,7 +103,7 @@ returns-2 c =
     let m = ceiled t in
     let e = clear m in
     let a = (entry e.before).args in
-    let w = m.before.before.wholes-whole in
+    let w = m.wholes-whole in
     let y = l.by_level-y in
     let b = bounded m in
     let writes : SettleWrites a.cols a.ends a.level a.levels a.known a.value c.is_last-last.result m.ceiling-b.result.written
@@ -128,7 +128,7 @@ returns-3 c =
     let e = clear m in
     let s = entry e.before in
     let a = s.args in
-    let w = m.before.before.wholes-whole in
+    let w = m.wholes-whole in
     let k = (bounded m).kept c.if-b.false in
     let writes : SettleWrites a.cols a.ends a.level a.levels a.known a.value false m.ceiling-b.result.written
     = kept w.result m.ceiling-b.result (roomy e) w.ensures (bounded m) c.if-b.false in (

@@ -18,7 +18,7 @@ returns c = search rules
 prepare-requires : tie.Need-prepare-s-requires
 prepare-requires c κs =
     let s = c.before.before.before in
-    plain-in-range s.args.p s.requires.0.1 (uncrossed s.args.p (sym c.before.some_crosses.ensures ∙ c.if-some_crosses.false))
+    plain-in-range s.args.p s.requires.0.1 (uncrossed s.args.p (sym c.some_crosses.ensures ∙ c.if-some_crosses.false))
 
 is-narrow-requires : tie.Need-is_narrow-requires
 is-narrow-requires c κs = search rules
@@ -29,7 +29,7 @@ judged-requires c κs =
     let p = t.before.before in
     let b = p.before.before.before in
     let s = b.before in
-    ((s.requires.0.0, (p.prepare-s.ensures.ready, t.before.is_narrow.ensures t.if-is_narrow.true)), s.requires.1)
+    ((s.requires.0.0, (p.prepare-s.ensures.ready, t.is_narrow.ensures t.if-is_narrow.true)), s.requires.1)
 
 same_length : tie.Need-shape_of-cells-then-is_narrow
 same_length c = search rules

@@ -50,14 +50,14 @@ loop-again : tie.Need-loop-k-preserved invariant-loop decreases-loop
 loop-again c =
     let r = c.before.before in
     let w = r.before.before in
-    let near = c.before.is_near.ensures c.if-is_near.true in
-    (omega arith, more w.before.args.t1 w.loop-k.k w.loop-k.invariant.1 (rw (back _ r.x-1.given) at near))
+    let near = c.is_near.ensures c.if-is_near.true in
+    (omega arith, more w.args.xs w.loop-k.k w.loop-k.invariant.1 (rw (back _ r.x-1.given) at near))
 
 returns : tie.Need-returns-else-is_near invariant-loop decreases-loop
 returns c = λ i. absurd (impossible i)
 
 returns-2 : tie.Need-returns invariant-loop decreases-loop
-returns-2 c = λ i j l. c.before.loop-k.invariant.1 j (omega arith)
+returns-2 c = λ i j l. c.loop-k.invariant.1 j (omega arith)
 
 pub are_near_spec : {M : Type 1} → statement M
 are_near_spec =

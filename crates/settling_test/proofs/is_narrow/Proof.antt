@@ -32,7 +32,7 @@ returns : tie.Need-returns-then-are_near
 returns c =
     let n = c.before.before in
     let s = n.before.before.before in
-    λ i. spanned s.args.s.cols s.args.s.ends s.requires.sized.columns (n.are_near.ensures c.before.if-are_near.true) (c.are_near-then-are_near.ensures i)
+    λ i. spanned s.args.s.cols s.args.s.ends s.requires.sized.columns (n.are_near.ensures c.if-are_near.true) (c.are_near-then-are_near.ensures i)
 
 returns-2 : tie.Need-returns
 returns-2 c = λ i. absurd (impossible i)

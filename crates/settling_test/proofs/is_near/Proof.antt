@@ -12,7 +12,7 @@ returns-2 : tie.Need-returns-then-z-ltminus10000
 returns-2 c = λ i. absurd (impossible i)
 
 returns-3 : tie.Need-returns-else-z-ltminus10000
-returns-3 c = λ i. let s = c.before.before in let h = rw (to_z-of_z s.ranges.z) at c.before.if-z-gt10000.false in
+returns-3 c = λ i. let s = c.before.before in let h = rw (to_z-of_z s.ranges.z) at c.if-z-gt10000.false in
     let l = rw (to_z-of_z s.ranges.z) at c.if-z-ltminus10000.false in to-within (omega (arith, zs)) (omega (arith, zs))
 
 pub is_near_spec : {M : Type 1} → statement M

@@ -11,7 +11,7 @@ nobody-requires c κs = search rules
 settled-requires : tie.Need-settled-alone-requires
 settled-requires c κs =
     let s = c.before.before.before in
-    (s.requires.0.1, (λ i. absurd (impossible (sym c.before.nobody.ensures ∙ i)), search rules))
+    (s.requires.0.1, (λ i. absurd (impossible (sym c.nobody.ensures ∙ i)), search rules))
 
 lowest-requires : tie.Need-lowest-requires
 lowest-requires c κs = search rules
@@ -21,7 +21,7 @@ settled-requires-2 c κs =
     let h = c.before.before.before in
     let g = h.before.before.before in
     let s = g.before.before in
-    (s.requires.0.1, (c.before.lowest.ensures, search rules))
+    (s.requires.0.1, (c.lowest.ensures, search rules))
 
 agrees-requires : tie.Need-agrees-first-requires
 agrees-requires c κs = search rules

@@ -53,11 +53,11 @@ fixed-requires : tie.Need-fixed-e-requires
 fixed-requires c κs = search rules
 
 fill-up-requires : tie.Need-fill_up-f-requires
-fill-up-requires c κs = rw c.before.fixed-e.ensures (sized c.before.before)
+fill-up-requires c κs = rw c.fixed-e.ensures (sized c.before.before)
 
 -- the filling as the code has it
-fill_is : (c : tie.After-fill_up-f) → let s = c.before.before.before in c.fill_up-f.result ≡ fill s.before.args.s.cols (box s)
-fill_is c = c.fill_up-f.ensures ∙ ap (fill c.before.before.before.before.args.s.cols) c.before.before.fixed-e.ensures
+fill_is : (c : tie.After-fill_up-f) → let s = c.before.before.before in c.fill_up-f.result ≡ fill s.args.s.cols (box s)
+fill_is c = c.fill_up-f.ensures ∙ ap (fill c.args.s.cols) c.fixed-e.ensures
 
 bound-of-requires : tie.Need-bound_of-value-requires
 bound-of-requires c κs = rw (fill_is c) (filled c.before.before.before)
@@ -72,12 +72,12 @@ returns-2 c = λ i.
     let s = f.before.before.before in
     let r = rw (fill_is f, within-back tt (filled s).room_in) at c.if-f-lt0.false in
     record {
-      between = between s.before.before.args.s s.before.before.requires;
+      between = between s.args.s s.requires;
       ends = box s;
-      fixes = fixes s.before.before.args.s s.before.before.requires (long s);
+      fixes = fixes s.args.s s.requires (long s);
       roomy = no_lt r;
-      value-is = b.bound_of-value.ensures ∙ ap (bound s.before.before.args.s.cols) (fill_is f);
-      proper = rw (b.bound_of-value.ensures, fill_is f) (bound-proper s.before.before.args.s.cols (fill s.before.before.args.s.cols (box s)) (filled s));
+      value-is = b.bound_of-value.ensures ∙ ap (bound s.args.s.cols) (fill_is f);
+      proper = rw (b.bound_of-value.ensures, fill_is f) (bound-proper s.args.s.cols (fill s.args.s.cols (box s)) (filled s));
     }
 
 pub lowest_spec : {M : Type 1} → statement M

@@ -19,9 +19,9 @@ answered-requires : tie.Need-answered-requires
 answered-requires c κs =
     let q = c.before in
     let e = q.before in
-    let v = e.before.before in
+    let v = e.before in
     let s = v.before.before in
-    ((s.requires.0, rw q.plain_of.ensures ((accepted _ (sym v.check_model-v.ensures ∙ e.enum_told-1.given.1)).figures Sure)), s.requires.1)
+    ((s.requires.0, rw q.plain_of.ensures ((accepted _ (sym v.check_model-v.ensures ∙ e.in-Accepted.is)).figures Sure)), s.requires.1)
 
 enum-told-2 : tie.Need-enum_told-in-Refused
 enum-told-2 c = search rules

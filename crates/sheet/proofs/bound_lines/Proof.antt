@@ -38,14 +38,14 @@ loop-holds : tie.Need-loop-k-init invariant-loop decreases-loop
 unfolding lines_of
 loop-holds c = (omega arith, refl)
 
-few-lines : (c : tie.In-loop-k invariant-loop decreases-loop) → c.before.loop-k.k < 16
-few-lines c = omega (arith, c.before.before.before.requires, c.loop-k-test.true)
+few-lines : (c : tie.In-loop-k invariant-loop decreases-loop) → c.loop-k.k < 16
+few-lines c = omega (arith, c.requires, c.loop-k-test.true)
 
 add-bound-at : tie.Need-overflow_add-k invariant-loop decreases-loop
 add-bound-at c = omega arith
 
 bound-at-requires : tie.Need-bound_at-r-requires invariant-loop decreases-loop
-bound-at-requires c κs = omega (arith, c.before.before.before.requires, c.loop-k-test.true)
+bound-at-requires c κs = omega (arith, c.requires, c.loop-k-test.true)
 
 enum-known-r : tie.Need-enum_known-r invariant-loop decreases-loop
 enum-known-r c = search rules
@@ -55,15 +55,15 @@ refused-requires c κs = search rules
 
 returns : tie.Need-returns-in-Fault invariant-loop decreases-loop
 returns c =
-    let k = c.before.before in
-    let b = k.before.before in
+    let k = c.before in
+    let b = k.before in
     let l = b.before.before in
-    let a = l.before.before.args in
+    let a = l.args in
     let t = a.s.now in
     let f = bound_form a.side in
     let i = l.loop-k.k in
-    let h = line-faults t a.side l.loop-k.to l.loop-k.at i _ (sym (rw add-one at b.bound_at-r.ensures) ∙ k.r-1.given.1) in
-    let e : a.n ≡ a.n - suc i + suc i = omega (arith, b.before.loop-k-test.true) in
+    let h = line-faults t a.side l.loop-k.to l.loop-k.at i _ (sym (rw add-one at b.bound_at-r.ensures) ∙ k.in-Fault.is) in
+    let e : a.n ≡ a.n - suc i + suc i = omega (arith, b.loop-k-test.true) in
     let p = goes_on a.m a.from 0 in
     c.refused.ensures ∙ sym (lines-stopped f t p _ (suc i) (a.n - suc i) a.n e (sym (one_more f t p _ i l.loop-k.invariant.1) ∙ h))
 
@@ -71,37 +71,37 @@ enum-known-r-2 : tie.Need-enum_known-r-in-Read-1 invariant-loop decreases-loop
 enum-known-r-2 c = search rules
 
 mul-item : tie.Need-offset_bounds-to-k invariant-loop decreases-loop
-mul-item c = record { fits = omega (arith, few-lines c.before.before.before.before) }
+mul-item c = record { fits = omega (arith, few-lines c.before.before) }
 
 element-copy-out-item : tie.Need-bounds-to-k invariant-loop decreases-loop
-element-copy-out-item c = few-lines c.before.before.before.before
+element-copy-out-item c = few-lines c.before.before
 
 with-side-requires : tie.Need-with_side-requires invariant-loop decreases-loop
 with-side-requires c κs = search rules
 
 mul-t16 : tie.Need-offset_bounds-to-k-in-Read invariant-loop decreases-loop
-mul-t16 c = record { fits = omega (arith, few-lines c.before.before.before.before.before.before) }
+mul-t16 c = record { fits = omega (arith, few-lines c.before.before.before.before) }
 
 element-set-from-to : tie.Need-bounds-to-k-in-Read invariant-loop decreases-loop
-element-set-from-to c = few-lines c.before.before.before.before.before.before
+element-set-from-to c = few-lines c.before.before.before.before
 
 add-k : tie.Need-overflow_add-k-in-loop-k invariant-loop decreases-loop
-add-k c = record { fits = omega (arith, few-lines c.before.before.before.before.before.before) }
+add-k c = record { fits = omega (arith, few-lines c.before.before.before.before) }
 
 loop-less : tie.Need-loop-k-smaller invariant-loop decreases-loop
-loop-less c = let i = c.before.before.before.before.before.before in omega (arith, i.loop-k-test.true)
+loop-less c = let i = c.before.before.before.before in omega (arith, i.loop-k-test.true)
 
 loop-again : tie.Need-loop-k-preserved invariant-loop decreases-loop
 loop-again c =
-    let k = c.before.before.before in
-    let b = k.before.before in
+    let k = c.before.before in
+    let b = k.before in
     let l = b.before.before in
-    let a = l.before.before.args in
+    let a = l.args in
     let t = a.s.now in
     let f = bound_form a.side in
     let i = l.loop-k.k in
-    let h = line_gives t a.side l.loop-k.to l.loop-k.at i _ _ (sym (rw add-one at b.bound_at-r.ensures) ∙ k.r-in-Read-1.given.1) in
-    (omega (arith, b.before.loop-k-test.true), rw (add-one, c.with_side.ensures) (sym h ∙ one_more f t (goes_on a.m a.from 0) _ i l.loop-k.invariant.1))
+    let h = line_gives t a.side l.loop-k.to l.loop-k.at i _ _ (sym (rw add-one at b.bound_at-r.ensures) ∙ k.in-Read.is) in
+    (omega (arith, b.loop-k-test.true), rw (add-one, c.with_side.ensures) (sym h ∙ one_more f t (goes_on a.m a.from 0) _ i l.loop-k.invariant.1))
 
 goes-on-requires : tie.Need-goes_on-requires invariant-loop decreases-loop
 goes-on-requires c κs = search rules
@@ -109,7 +109,7 @@ goes-on-requires c κs = search rules
 returns-2 : tie.Need-returns invariant-loop decreases-loop
 returns-2 c =
     let l = c.before.before in
-    let a = l.before.before.args in
+    let a = l.args in
     let q : l.loop-k.k ≡ a.n = omega arith in
     c.goes_on.ensures ∙ l.loop-k.invariant.1 ∙ ap (λ n. lines_of (bound_form a.side) n a.s.now (goes_on a.m a.from 0)) q
 

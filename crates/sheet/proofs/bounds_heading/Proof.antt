@@ -13,25 +13,25 @@ enum_told : tie.Need-enum_told-1
 enum_told c = search rules
 
 heading-requires : tie.Need-heading-requires
-heading-requires c κs = let w = c.before.before in rw (to_z_pos w64 {n = w.before.before.before.args.n} (omega arith)) (omega (arith, zs))
+heading-requires c κs = let w = c.before.before in rw (to_z_pos w64 {n = w.args.n} (omega arith)) (omega (arith, zs))
 
 enum-told-2 : tie.Need-enum_told-in-Upper
 enum-told-2 c = search rules
 
 heading-requires-2 : tie.Need-heading-requires-in-Upper
-heading-requires-2 c κs = let w = c.before.before in rw (to_z_pos w64 {n = w.before.before.before.args.n} (omega arith)) (omega (arith, zs))
+heading-requires-2 c κs = let w = c.before.before in rw (to_z_pos w64 {n = w.args.n} (omega arith)) (omega (arith, zs))
 
 returns : tie.Need-returns-in-Lower
 returns c =
     let w = c.before.before in
-    let e = to_z_pos w64 {n = w.before.before.before.before.args.n} (omega arith) in
-    rw w.before.enum_told-1.given.1 (rw e at c.heading.ensures)
+    let e = to_z_pos w64 {n = w.args.n} (omega arith) in
+    rw w.in-Lower.is (rw e at c.heading.ensures)
 
 returns-2 : tie.Need-returns-in-Upper
 returns-2 c =
     let w = c.before.before in
-    let e = to_z_pos w64 {n = w.before.before.before.before.args.n} (omega arith) in
-    rw w.before.enum_told-in-Upper-1.given.1 (rw e at c.heading-in-Upper.ensures)
+    let e = to_z_pos w64 {n = w.args.n} (omega arith) in
+    rw w.in-Upper.is (rw e at c.heading-in-Upper.ensures)
 
 pub bounds_heading_spec : {M : Type 1} → statement M
 bounds_heading_spec =

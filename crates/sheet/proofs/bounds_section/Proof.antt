@@ -27,27 +27,27 @@ enum-known-c-2 c = search rules
 
 bound-lines-requires : tie.Need-bound_lines-requires
 bound-lines-requires c κs =
-    let k = c.before in
-    let p = count-parts _ _ _ _ _ _ _ (sym k.before.before.bounds_heading-c.ensures ∙ k.c-in-Lines-1.given.1) in
+    let k = c in
+    let p = count-parts _ _ _ _ _ _ _ (sym k.bounds_heading-c.ensures ∙ k.in-Lines.is) in
     omega (arith, p.most)
 
 returns : tie.Need-returns-in-Refused
 unfolding bounds_section section_of
-returns c = rw c.enum_told-1.given.1
+returns c = rw c.in-Refused.is
 
 returns-2 : tie.Need-returns-in-Fault
 unfolding bounds_section section_of
 returns-2 c =
-    let k = c.before.before in
-    let h = k.before.before in
-    rw (h.before.before.enum_told-in-Accepted-1.given.1, sym h.bounds_heading-c.ensures ∙ k.c-1.given.1) c.refused.ensures
+    let k = c.before in
+    let h = k.before in
+    rw (h.in-Accepted.is, sym h.bounds_heading-c.ensures ∙ k.in-Fault.is) c.refused.ensures
 
 returns-3 : tie.Need-returns-in-Lines
 unfolding bounds_section section_of
 returns-3 c =
-    let k = c.before.before in
-    let h = k.before.before in
-    rw (h.before.before.enum_told-in-Accepted-1.given.1, sym h.bounds_heading-c.ensures ∙ k.c-in-Lines-1.given.1) c.bound_lines.ensures
+    let k = c.before in
+    let h = k.before in
+    rw (h.in-Accepted.is, sym h.bounds_heading-c.ensures ∙ k.in-Lines.is) c.bound_lines.ensures
 
 pub bounds_section_spec : {M : Type 1} → statement M
 bounds_section_spec =

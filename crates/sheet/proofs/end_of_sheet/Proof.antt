@@ -15,15 +15,15 @@ refused-requires c κs = search rules
 
 returns : tie.Need-returns-in-Refused
 unfolding end_of_sheet
-returns c = rw c.enum_told-1.given.1
+returns c = rw c.in-Refused.is
 
 returns-2 : tie.Need-returns-then-at-s
 unfolding end_of_sheet
-returns-2 c = rw (c.before.before.enum_told-in-Accepted-1.given.1, lt-ltb _ _ c.before.if-at-s.true) c.refused.ensures
+returns-2 c = rw (c.in-Accepted.is, lt-ltb _ _ c.if-at-s.true) c.refused.ensures
 
 returns-3 : tie.Need-returns-else-at-s
 unfolding end_of_sheet
-returns-3 c = rw (c.before.enum_told-in-Accepted-1.given.1, le-ltb _ _ c.if-at-s.false)
+returns-3 c = rw (c.in-Accepted.is, le-ltb _ _ c.if-at-s.false)
 
 pub end_of_sheet_spec : {M : Type 1} → statement M
 end_of_sheet_spec =

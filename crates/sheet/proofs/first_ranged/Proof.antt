@@ -38,9 +38,9 @@ add-result c = omega arith
 returns : tie.Need-returns-then-is_ranged_below invariant-loop decreases-loop
 returns c =
     let l = at-loop c.before in
-    let m = l.before.args.t1 in
+    let m = l.args.m in
     rw add-one
-    (sym (ranged-found (item_at m) m.count l.loop-k.k (omega arith) l.loop-k.invariant.1 (sym c.before.is_ranged_below.ensures ∙ c.if-is_ranged_below.true)))
+    (sym (ranged-found (item_at m) m.count l.loop-k.k (omega arith) l.loop-k.invariant.1 (sym c.is_ranged_below.ensures ∙ c.if-is_ranged_below.true)))
 
 add-k : tie.Need-overflow_add-k invariant-loop decreases-loop
 add-k c = omega arith
@@ -51,13 +51,13 @@ loop-less c = omega arith
 loop-again : tie.Need-loop-k-preserved invariant-loop decreases-loop
 loop-again c =
     let l = at-loop c.before in
-    let m = l.before.args.t1 in
-    (omega arith, rw add-one (ranged-more (item_at m) l.loop-k.k l.loop-k.invariant.1 (sym c.before.is_ranged_below.ensures ∙ c.if-is_ranged_below.false)))
+    let m = l.args.m in
+    (omega arith, rw add-one (ranged-more (item_at m) l.loop-k.k l.loop-k.invariant.1 (sym c.is_ranged_below.ensures ∙ c.if-is_ranged_below.false)))
 
 returns-2 : tie.Need-returns invariant-loop decreases-loop
 returns-2 c =
     let l = c.before in
-    let e : l.loop-k.k ≡ l.before.args.t1.count = omega arith in
+    let e : l.loop-k.k ≡ l.args.m.count = omega arith in
     sym (rw e at l.loop-k.invariant.1)
 
 pub first_ranged_spec : {M : Type 1} → statement M

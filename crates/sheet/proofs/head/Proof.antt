@@ -11,7 +11,7 @@ items-section-requires c κs = search rules
 
 returns : tie.Need-returns
 unfolding head_of
-returns c = rw (← c.before.limit_section.ensures) c.items_section.ensures
+returns c = rw (← c.limit_section.ensures) c.items_section.ensures
 
 pub head_spec : {M : Type 1} → statement M
 head_spec = tie.close (tie.spec limit-section-requires items-section-requires returns)

@@ -10,13 +10,13 @@ refused-requires : tie.Need-refused-requires
 refused-requires c κs = search rules
 
 returns : tie.Need-returns-then-is_barred
-returns c = let k = c.before in rw (sym k.before.is_barred.ensures ∙ k.if-is_barred.true) c.refused.ensures
+returns c = let k = c.before in rw (sym k.is_barred.ensures ∙ k.if-is_barred.true) c.refused.ensures
 
 item-taken-requires : tie.Need-item_taken-requires
 item-taken-requires c κs = search rules
 
 returns-2 : tie.Need-returns
-returns-2 c = let k = c.before in rw (sym k.before.is_barred.ensures ∙ k.if-is_barred.false) c.item_taken.ensures
+returns-2 c = let k = c.before in rw (sym k.is_barred.ensures ∙ k.if-is_barred.false) c.item_taken.ensures
 
 pub item_judged_spec : {M : Type 1} → statement M
 item_judged_spec = tie.close (tie.spec is-barred-requires refused-requires returns item-taken-requires returns-2)

@@ -31,7 +31,7 @@ loop-again : tie.Need-loop-k-preserved invariant-loop decreases-loop
 unfolding lines_of
 loop-again c =
     let l = c.before.before in
-    let a = l.before.before.args in
+    let a = l.args in
     let s = a.s.now in
     let f = item_form_by a.blanks in
     let e = c.item_step-r.ensures in
@@ -40,7 +40,7 @@ loop-again c =
 returns : tie.Need-returns invariant-loop decreases-loop
 returns c =
     let l = c.before in
-    let a = l.before.before.args in
+    let a = l.args in
     let q : l.loop-k.k ≡ a.n = omega arith in
     rw q at l.loop-k.invariant.1.1
 

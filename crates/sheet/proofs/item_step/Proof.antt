@@ -8,12 +8,12 @@ use Rattle.sheet.proofs.item_step.Tie as tie
 
 -- where all began
 abbrev start : tie.After-item_at-r → tie.Start
-start c = let e = c.before.before in e.before.before
+start c = let e = c.before in e.before.before
 
 step : (c : tie.After-item_at-r) → let a = (start c).args in
     let f = item_form_by a.blanks in
     step_of f a.s.now a.p ≡ taken f a.s.now a.p (f.read a.s.now a.p)
-step c = let a = (start c).args in step-on (item_form_by a.blanks) a.s.now a.p c.before.enum_told-in-Accepted-1.given.1
+step c = let a = (start c).args in step-on (item_form_by a.blanks) a.s.now a.p c.in-Accepted.is
 
 enum_told : tie.Need-enum_told-1
 enum_told c = search rules
@@ -38,19 +38,19 @@ item-judged-requires c κs = search rules
 
 returns : tie.Need-returns-in-Refused
 unfolding step_of
-returns c = rw c.enum_told-1.given.1
+returns c = rw c.in-Refused.is
 
 returns-2 : tie.Need-returns-in-Fault
 returns-2 c =
-    let k = c.before.before in
-    let l = k.before.before in
-    rw (step l, sym l.item_at-r.ensures ∙ k.r-1.given.1) c.refused.ensures
+    let k = c.before in
+    let l = k.before in
+    rw (step l, sym l.item_at-r.ensures ∙ k.in-Fault.is) c.refused.ensures
 
 returns-3 : tie.Need-returns-in-Read
 returns-3 c =
-    let k = c.before.before in
-    let l = k.before.before in
-    rw (step l, sym l.item_at-r.ensures ∙ k.r-in-Read-1.given.1) c.item_judged.ensures
+    let k = c.before in
+    let l = k.before in
+    rw (step l, sym l.item_at-r.ensures ∙ k.in-Read.is) c.item_judged.ensures
 
 pub item_step_spec : {M : Type 1} → statement M
 item_step_spec =

@@ -14,7 +14,7 @@ goes-on-requires : tie.Need-goes_on-requires
 goes-on-requires c κs = search rules
 
 returns : tie.Need-returns
-returns c = c.goes_on.ensures ∙ rw (c.before.with_item.ensures, add-one)
+returns c = c.goes_on.ensures ∙ rw (c.with_item.ensures, add-one)
 
 pub item_taken_spec : {M : Type 1} → statement M
 item_taken_spec = tie.close (tie.spec with-item-requires add-goes-on goes-on-requires returns)

@@ -34,29 +34,29 @@ goes-on-requires c κs = search rules
 item-lines-requires : tie.Need-item_lines-requires
 item-lines-requires c κs =
     let w = c.before in
-    let k = w.before.before.before in
-    let p = count-parts items 1 16 _ _ _ _ (sym k.before.before.heading-c.ensures ∙ k.c-in-Lines-1.given.1) in
+    let k = w.before.before in
+    let p = count-parts items 1 16 _ _ _ _ (sym k.heading-c.ensures ∙ k.in-Lines.is) in
     rw c.goes_on.ensures (omega (arith, p.most))
 
 returns : tie.Need-returns-in-Refused
 unfolding items_section section_of
-returns c = rw c.enum_told-1.given.1
+returns c = rw c.in-Refused.is
 
 returns-2 : tie.Need-returns-in-Fault
 unfolding items_section section_of
 returns-2 c =
-    let k = c.before.before in
-    let h = k.before.before in
-    rw (h.before.before.before.enum_told-in-Accepted-1.given.1, sym h.heading-c.ensures ∙ k.c-1.given.1) c.refused.ensures
+    let k = c.before in
+    let h = k.before in
+    rw (h.in-Accepted.is, sym h.heading-c.ensures ∙ k.in-Fault.is) c.refused.ensures
 
 returns-3 : tie.Need-returns-in-Lines
 unfolding items_section section_of
 returns-3 c =
     let g = c.before in
     let w = g.before in
-    let k = w.before.before.before in
-    let h = k.before.before in
-    rw (h.before.before.before.enum_told-in-Accepted-1.given.1, sym h.heading-c.ensures ∙ k.c-in-Lines-1.given.1, ← w.with_count.ensures, ← g.goes_on.ensures)
+    let k = w.before.before in
+    let h = k.before in
+    rw (h.in-Accepted.is, sym h.heading-c.ensures ∙ k.in-Lines.is, ← w.with_count.ensures, ← g.goes_on.ensures)
     c.item_lines.ensures
 
 pub items_section_spec : {M : Type 1} → statement M

@@ -37,13 +37,13 @@ goes-on-requires c κs = search rules
 
 returns : tie.Need-returns-in-Fault
 unfolding step_of
-returns c = let f = c.before.before in rw (sym f.before.before.closed_number-f.ensures ∙ f.f-1.given.1) c.refused.ensures
+returns c = let f = c.before in rw (sym f.closed_number-f.ensures ∙ f.in-Fault.is) c.refused.ensures
 
 returns-2 : tie.Need-returns-in-Out
 unfolding step_of
 returns-2 c =
-    let k = c.before.before.before in
-    rw (sym k.before.before.before.closed_number-f.ensures ∙ k.before.f-in-Number-1.given.1, c.before.enum_told-1.given.1) c.refused-in-Out.ensures
+    let k = c.before.before in
+    rw (sym k.closed_number-f.ensures ∙ k.in-Number.is, c.in-Out.is) c.refused-in-Out.ensures
 
 returns-3 : tie.Need-returns-in-In
 unfolding step_of
@@ -51,10 +51,10 @@ returns-3 c =
     let w = c.before in
     let e = w.before in
     let t = e.before in
-    let g = t.before.g-1 in
-    let k = t.before.before.before in
-    rw (sym k.before.before.before.closed_number-f.ensures ∙ k.before.f-in-Number-1.given.1, g.given.1)
-    (c.goes_on.ensures ∙ rw (w.with_capacity.ensures, e.empty_model-empty.ensures, back g.given.0.0 t.known_told-in-Number-2.given.0.1))
+    let g = t.before.g in
+    let k = t.before in
+    rw (sym k.closed_number-f.ensures ∙ k.in-Number.is, g.given.1)
+    (c.goes_on.ensures ∙ rw (w.with_capacity.ensures, e.empty_model-empty.ensures, back g.given.0.0 t.in-In.known_told-in-Number-1-own.given.0.1))
 
 pub limit_line_spec : {M : Type 1} → statement M
 limit_line_spec =

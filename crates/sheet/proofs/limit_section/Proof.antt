@@ -25,20 +25,20 @@ limit-line-requires : tie.Need-limit_line-requires
 limit-line-requires c κs = search rules
 
 -- the heading is read as one with the count 1
-heading-is : (c : tie.After-heading-c) → c.heading-c.result ≡ count_at limit (from_to 1 1) c.before.before.before.before.args.s.now 0
+heading-is : (c : tie.After-heading-c) → c.heading-c.result ≡ count_at limit (from_to 1 1) c.args.s.now 0
 heading-is c = c.heading-c.ensures
 
 returns : tie.Need-returns-in-Fault
 unfolding limit_section section_of
-returns c = let k = c.before.before in rw (sym (heading-is k.before.before) ∙ k.c-1.given.1) c.refused.ensures
+returns c = let k = c.before in rw (sym (heading-is k.before) ∙ k.in-Fault.is) c.refused.ensures
 
 returns-2 : tie.Need-returns-in-Lines
 unfolding limit_section section_of lines_of
 returns-2 c =
-    let k = c.before.before in
-    let e = sym (heading-is k.before.before) ∙ k.c-in-Lines-1.given.1 in
+    let k = c.before in
+    let e = sym (heading-is k.before) ∙ k.in-Lines.is in
     let p = count-parts limit 1 1 _ 0 _ _ e in
-    let one : k.c-in-Lines-1.given.0.0 ≡ 1 = omega (arith, p.least, p.most) in
+    let one : k.in-Lines.field-0 ≡ 1 = omega (arith, p.least, p.most) in
     rw (e, one) c.limit_line.ensures
 
 pub limit_section_spec : {M : Type 1} → statement M

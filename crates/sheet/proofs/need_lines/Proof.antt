@@ -16,10 +16,10 @@ decreases-loop s n r₀ k₀ r k = n - k
 
 loop-holds : tie.Need-loop-k-init invariant-loop decreases-loop
 unfolding lines_of
-loop-holds c = (omega arith, ((omega arith, c.before.requires.1), refl))
+loop-holds c = (omega arith, ((omega arith, c.requires.1), refl))
 
 need-step-requires : tie.Need-need_step-r-requires invariant-loop decreases-loop
-need-step-requires c κs = (omega arith, c.before.loop-k.invariant.1.0.1)
+need-step-requires c κs = (omega arith, c.loop-k.invariant.1.0.1)
 
 add-k : tie.Need-overflow_add-k invariant-loop decreases-loop
 add-k c = omega arith
@@ -31,7 +31,7 @@ loop-again : tie.Need-loop-k-preserved invariant-loop decreases-loop
 unfolding lines_of
 loop-again c =
     let l = c.before.before in
-    let s = l.before.before.args.s.now in
+    let s = l.args.s.now in
     let e = c.need_step-r.ensures in
     let r = l.loop-k.r in (
       omega arith,
@@ -44,7 +44,7 @@ loop-again c =
 returns : tie.Need-returns invariant-loop decreases-loop
 returns c =
     let l = c.before in
-    let a = l.before.before.args in
+    let a = l.args in
     let q : l.loop-k.k ≡ a.n = omega arith in
     rw q at l.loop-k.invariant.1.1
 

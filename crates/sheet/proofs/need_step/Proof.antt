@@ -18,16 +18,16 @@ going c =
     m.before.before
 
 abbrev start : tie.After-need_at-r → tie.Start
-start c = (going c).before.before.before
+start c = (going c).before.before
 
 -- the line that was read
 line : (c : tie.After-need_at-r) → let a = (start c).args in
     c.need_at-r.result ≡ need_read a.p.model.count (line_before a.p.model.needs a.p.item) a.s.now a.p.at
-line c = rw c.before.line_before-before.ensures at c.need_at-r.ensures
+line c = rw c.line_before-before.ensures at c.need_at-r.ensures
 
 step : (c : tie.After-need_at-r) → let a = (start c).args in
     step_of need_form a.s.now a.p ≡ taken need_form a.s.now a.p (need_form.read a.s.now a.p)
-step c = step-on need_form (start c).args.s.now (start c).args.p (going c).enum_told-in-Accepted-1.given.1
+step c = step-on need_form (start c).args.s.now (start c).args.p (going c).in-Accepted.is
 
 enum_told : tie.Need-enum_told-1
 enum_told c = search rules
@@ -52,9 +52,9 @@ enum-known-r-2 c = search rules
 
 need-judged-requires : tie.Need-need_judged-requires
 need-judged-requires c κs =
-    let k = c.before in
-    let l = k.before.before in
-    let n = line-numbers _ _ _ (need-parts _ _ _ _ _ _ (sym (line l) ∙ k.r-in-Read-1.given.1)).fair in
+    let k = c in
+    let l = k.before in
+    let n = line-numbers _ _ _ (need-parts _ _ _ _ _ _ (sym (line l) ∙ k.in-Read.is)).fair in
     let few = (start l).requires.1 in (
       (start l).requires.0,
       record {
@@ -68,19 +68,19 @@ need-judged-requires c κs =
 
 returns : tie.Need-returns-in-Refused
 unfolding step_of
-returns c = rw c.enum_told-1.given.1
+returns c = rw c.in-Refused.is
 
 returns-2 : tie.Need-returns-in-Fault
 returns-2 c =
-    let k = c.before.before in
-    let l = k.before.before in
-    rw (step l, sym (line l) ∙ k.r-1.given.1) c.refused.ensures
+    let k = c.before in
+    let l = k.before in
+    rw (step l, sym (line l) ∙ k.in-Fault.is) c.refused.ensures
 
 returns-3 : tie.Need-returns-in-Read
 returns-3 c =
-    let k = c.before.before in
-    let l = k.before.before in
-    rw (step l, sym (line l) ∙ k.r-in-Read-1.given.1) c.need_judged.ensures
+    let k = c.before in
+    let l = k.before in
+    rw (step l, sym (line l) ∙ k.in-Read.is) c.need_judged.ensures
 
 pub need_step_spec : {M : Type 1} → statement M
 need_step_spec =

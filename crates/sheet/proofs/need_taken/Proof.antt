@@ -14,7 +14,7 @@ goes-on-requires : tie.Need-goes_on-requires
 goes-on-requires c κs = search rules
 
 returns : tie.Need-returns
-returns c = c.goes_on.ensures ∙ rw (c.before.with_need.ensures, add-one)
+returns c = c.goes_on.ensures ∙ rw (c.with_need.ensures, add-one)
 
 pub need_taken_spec : {M : Type 1} → statement M
 need_taken_spec = tie.close (tie.spec with-need-requires add-goes-on goes-on-requires returns)

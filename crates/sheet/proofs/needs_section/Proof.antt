@@ -34,29 +34,29 @@ goes-on-requires c κs = search rules
 need-lines-requires : tie.Need-need_lines-requires
 need-lines-requires c κs =
     let w = c.before in
-    let k = w.before.before.before in
-    let p = count-parts needs_word 0 16 _ _ _ _ (sym k.before.before.heading-c.ensures ∙ k.c-in-Lines-1.given.1) in
-    rw (c.goes_on.ensures, c.before.with_need_count.ensures) (omega (arith, p.most), omega arith)
+    let k = w.before.before in
+    let p = count-parts needs_word 0 16 _ _ _ _ (sym k.heading-c.ensures ∙ k.in-Lines.is) in
+    rw (c.goes_on.ensures, c.with_need_count.ensures) (omega (arith, p.most), omega arith)
 
 returns : tie.Need-returns-in-Refused
 unfolding needs_section section_of
-returns c = rw c.enum_told-1.given.1
+returns c = rw c.in-Refused.is
 
 returns-2 : tie.Need-returns-in-Fault
 unfolding needs_section section_of
 returns-2 c =
-    let k = c.before.before in
-    let h = k.before.before in
-    rw (h.before.before.before.enum_told-in-Accepted-1.given.1, sym h.heading-c.ensures ∙ k.c-1.given.1) c.refused.ensures
+    let k = c.before in
+    let h = k.before in
+    rw (h.in-Accepted.is, sym h.heading-c.ensures ∙ k.in-Fault.is) c.refused.ensures
 
 returns-3 : tie.Need-returns-in-Lines
 unfolding needs_section section_of
 returns-3 c =
     let g = c.before in
     let w = g.before in
-    let k = w.before.before.before in
-    let h = k.before.before in
-    rw (h.before.before.before.enum_told-in-Accepted-1.given.1, sym h.heading-c.ensures ∙ k.c-in-Lines-1.given.1, ← w.with_need_count.ensures, ← g.goes_on.ensures)
+    let k = w.before.before in
+    let h = k.before in
+    rw (h.in-Accepted.is, sym h.heading-c.ensures ∙ k.in-Lines.is, ← w.with_need_count.ensures, ← g.goes_on.ensures)
     c.need_lines.ensures
 
 pub needs_section_spec : {M : Type 1} → statement M

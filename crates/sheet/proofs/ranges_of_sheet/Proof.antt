@@ -26,7 +26,7 @@ first-ranged-requires c κs = search rules
 -- the number is an item's
 few : (c : tie.After-first_ranged-k) → c.first_ranged-k.result ≤ 16
 few c =
-    let m = c.before.before.before.before.args.p.model in
+    let m = c.args.p.model in
     omega (arith, c.first_ranged-k.ensures, ranged-most (item_at m) m.count)
 
 add-t8 : tie.Need-overflow_add-k
@@ -42,13 +42,13 @@ stops (suc k) p h = ap (λ n. stopped_by (refusal_on refusal.ranged-item n)) (om
 
 returns : tie.Need-returns-in-Refused
 unfolding ranges_of
-returns c = rw c.enum_told-1.given.1
+returns c = rw c.in-Refused.is
 
 returns-2 : tie.Need-returns-then-k-eq0
 unfolding ranges_of
 returns-2 c =
     let f = c.before in
-    rw (f.before.before.enum_told-in-Accepted-1.given.1, sym f.first_ranged-k.ensures ∙ c.if-k-eq0.true)
+    rw (f.in-Accepted.is, sym f.first_ranged-k.ensures ∙ c.if-k-eq0.true)
 
 -- where nothing was refused
 ranged : (p : Progress) (k : ℕ) → p.verdict ≡ Accepted → k ≡ first_ranged p.model.count (item_at p.model) → ranged_at k p ≡ ranges_of p
@@ -59,9 +59,9 @@ returns-3 : tie.Need-returns-else-k-eq0
 returns-3 c =
     let e = c.before in
     let f = e.before in
-    let p = f.before.before.before.before.args.p in
+    let p = f.args.p in
     let k = f.first_ranged-k.result in
-    c.stopped.ensures ∙ stops k p e.if-k-eq0.false ∙ ranged p k f.before.before.enum_told-in-Accepted-1.given.1 f.first_ranged-k.ensures
+    c.stopped.ensures ∙ stops k p e.if-k-eq0.false ∙ ranged p k f.in-Accepted.is f.first_ranged-k.ensures
 
 pub ranges_of_sheet_spec : {M : Type 1} → statement M
 ranges_of_sheet_spec =

@@ -9,7 +9,7 @@ stopped-requires : tie.Need-stopped-requires
 stopped-requires c κs = search rules
 
 returns : tie.Need-returns
-returns c = rw (← c.before.line_at-line.ensures) c.stopped.ensures
+returns c = rw (← c.line_at-line.ensures) c.stopped.ensures
 
 pub refused_spec : {M : Type 1} → statement M
 refused_spec = tie.close (tie.spec line-at-requires stopped-requires returns)

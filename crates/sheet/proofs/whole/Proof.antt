@@ -11,16 +11,16 @@ use Rattle.sheet.proofs.whole.Tie as tie
 
 -- the sheet, where the limit and the items have been read
 abbrev sheet : tie.After-head-h → List ℕ
-sheet c = c.before.before.args.s.now
+sheet c = c.args.s.now
 
 -- what becomes of blank items
 abbrev kind : tie.After-head-h → Blanks
-kind c = c.before.before.args.blanks
+kind c = c.args.blanks
 
 -- what each section gives, by the sheet alone
 lower-is : (c : tie.After-bounds_section-lower) → c.bounds_section-lower.result ≡ lower_of (kind c.before) (sheet c.before)
 unfolding lower_of
-lower-is c = c.bounds_section-lower.ensures ∙ ap (bounds_section (sheet c.before) Lower) c.before.head-h.ensures
+lower-is c = c.bounds_section-lower.ensures ∙ ap (bounds_section (sheet c.before) Lower) c.head-h.ensures
 
 upper_is : (c : tie.After-bounds_section-upper) → c.bounds_section-upper.result ≡ upper_of (kind c.before.before) (sheet c.before.before)
 unfolding upper_of

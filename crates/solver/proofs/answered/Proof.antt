@@ -31,15 +31,15 @@ abbrev start : tie.After-run-q → tie.Start
 start m = m.before.before
 
 abbrev cols : tie.After-run-q → Columns
-cols m = m.before.with_tied-t.result.cols
+cols m = m.with_tied-t.result.cols
 
 -- arrays have a place for each item
 long : (m : tie.After-run-q) → Long (start m).args.s.ends
-long m = m.before.with_tied-t.ensures.long
+long m = m.with_tied-t.ensures.long
 
 searches : (m : tie.After-run-q) → Searches (with_cols (start m).args.s (cols m)) (start m).args.pairs (start m).args.most m.run-q.result
 searches m = let s = start m in
-    subst (λ (z : Setting). Searches z s.args.pairs s.args.most m.run-q.result) m.before.with_tied-t.ensures.same m.run-q.ensures
+    subst (λ (z : Setting). Searches z s.args.pairs s.args.most m.run-q.result) m.with_tied-t.ensures.same m.run-q.ensures
 
 walked : (m : tie.After-run-q) → Walked (start m).args.most (start m).args.p (start m).args.named m.run-q.result.steps
 walked m = let s = start m in record {
@@ -48,7 +48,7 @@ walked m = let s = start m in record {
   pairs = s.args.pairs;
   pairs-are = s.requires.1;
   cols = cols m;
-  tied = m.before.with_tied-t.ensures.tied;
+  tied = m.with_tied-t.ensures.tied;
   end = m.run-q.result;
   stops = (searches m).stops;
   steps-are = refl;
@@ -63,7 +63,7 @@ optimal-requires c κs =
     let m = ran e in
     let s = start m in
     let h = s.requires.0 in
-    let t = m.before.with_tied-t.ensures.tied in (
+    let t = m.with_tied-t.ensures.tied in (
       h.prepared.ready,
       (
         t.sized,
@@ -83,7 +83,7 @@ returns c =
     let s = start m in
     let p = s.args.p in
     let h = s.requires.0 in
-    let t = m.before.with_tied-t.ensures.tied in
+    let t = m.with_tied-t.ensures.tied in
     let q = searches m in
     let g = q.searched e.if-q.true in
     let a = o.optimal-a.result in
@@ -113,7 +113,7 @@ settled-requires c κs =
       h.prepared.ready,
       (
         own-spanned s.args.p s.args.s h,
-        stopped-stands s.args.s h.prepared.ready (cols m) m.before.with_tied-t.ensures.tied (long m) m.run-q.result.best (searches m).filled,
+        stopped-stands s.args.s h.prepared.ready (cols m) m.with_tied-t.ensures.tied (long m) m.run-q.result.best (searches m).filled,
       ),
     )
 
@@ -122,7 +122,7 @@ by-scales-requires c κs = let m = left c.before in let s = start m in (s.requir
 
 -- what the scales wrote
 work : (f : tie.After-by_scales-f) → let m = left f.before.before in
-    WorkOf (start m).args.p (start m).args.s m.run-q.result (f.before.settled-b.result.written + f.by_scales-f.result.cells)
+    WorkOf (start m).args.p (start m).args.s m.run-q.result (f.settled-b.result.written + f.by_scales-f.result.cells)
 work f =
     let b = f.before in
     let e = b.before in

@@ -17,7 +17,7 @@ prepare-requires : tie.Need-prepare-s-requires
 prepare-requires c κs = search rules
 
 begin-requires : tie.Need-begin-f-requires
-begin-requires c κs = c.before.before.prepare-s.ensures.ready.sized
+begin-requires c κs = c.prepare-s.ensures.ready.sized
 
 no-point-requires : tie.Need-no_point-a-requires
 no-point-requires c κs = search rules
@@ -31,12 +31,12 @@ returns c =
     let m = h.before.before in
     let b = m.before.before in
     let a = b.before in
-    let q = a.before.before.prepare-s.ensures in
-    let s = a.before.before.prepare-s.result in
-    let t = rw (b.begin-f.ensures, within-back tt (begun-within s.cols s.ends q.ready.sized)) at h.before.if-f-lt0.true in
+    let q = a.prepare-s.ensures in
+    let s = a.prepare-s.result in
+    let t = rw (b.begin-f.ensures, within-back tt (begun-within s.cols s.ends q.ready.sized)) at h.if-f-lt0.true in
     rw (c.with_work.ensures, h.no_point-a.ensures) (
       record {
-        answers = infeasible-corner a.before.before.before.args.p a.before.before.before.requires s q (yes_lt t);
+        answers = infeasible-corner a.args.p a.requires s q (yes_lt t);
         first = λ low e. absurd (not-infeasible kind.Infeasible refl e);
         few-steps = omega arith;
         few-cells = omega arith;
@@ -51,7 +51,7 @@ unbounded-requires : tie.Need-unbounded-a-requires
 unbounded-requires c κs =
     let r = c.before.before.before in
     let b = r.before.before.before in
-    b.before.before.before.prepare-s.ensures.ready
+    b.prepare-s.ensures.ready
 
 with-work-requires-2 : tie.Need-with_work-requires-then-ray
 with-work-requires-2 c κs = search rules
@@ -64,18 +64,18 @@ returns-2 c =
     let e = r.before in
     let b = e.before.before.before in
     let a = b.before in
-    let q = a.before.before.prepare-s.ensures in
-    let s = a.before.before.prepare-s.result in
+    let q = a.prepare-s.ensures in
+    let s = a.prepare-s.result in
     let t = rw (b.begin-f.ensures, within-back tt (begun-within s.cols s.ends q.ready.sized)) at e.if-f-lt0.false in
     rw c.with_work-then-ray.ensures (
       record {
-        answers = unbounded-corner a.before.before.before.args.p a.before.before.before.requires s q r.find_ray-ray.result u.unbounded-a.result (no_lt t) r.find_ray-ray.ensures
+        answers = unbounded-corner a.args.p a.requires s q r.find_ray-ray.result u.unbounded-a.result (no_lt t) r.find_ray-ray.ensures
             t2.if-ray.true u.unbounded-a.ensures;
         first = λ low e. absurd (not-unbounded u.unbounded-a.result.kind u.unbounded-a.ensures.kind-is e);
         few-steps = omega arith;
         few-cells = omega arith;
       },
-      corner-work a.before.before.before.args.most a.before.before.before.args.p a.before.before.before.args.named s r.find_ray-ray.result.steps u.unbounded-a.result q
+      corner-work a.args.most a.args.p a.args.named s r.find_ray-ray.result.steps u.unbounded-a.result q
           u.unbounded-a.ensures,
     )
 
@@ -94,14 +94,14 @@ narrowed-requires c κs =
     let a = Prep c.before in let s = a.before in (a.prepare-s.ensures.ready, rw c.reach_of.ensures (reach-small s.args.p s.requires))
 
 -- the nearer setting is the problem's
-near : (c : tie.After-narrowed-near) → PreparedAt (span_of (Prep c.before.before).before.args.p) (Prep c.before.before).before.args.p
+near : (c : tie.After-narrowed-near) → PreparedAt (span_of (Prep c.before.before).args.p) (Prep c.before.before).args.p
     c.narrowed-near.result
 unfolding Prep
 near c =
     let a = Prep c.before.before in
     let s = a.before in
     narrowed-prepared s.args.p s.requires a.prepare-s.result c.narrowed-near.result a.prepare-s.ensures
-    (subst (λ r. Narrowed a.prepare-s.result r c.narrowed-near.result) c.before.reach_of.ensures c.narrowed-near.ensures)
+    (subst (λ r. Narrowed a.prepare-s.result r c.narrowed-near.result) c.reach_of.ensures c.narrowed-near.ensures)
 
 pairs-of-requires : tie.Need-pairs_of-pairs-requires
 pairs-of-requires c κs = search rules

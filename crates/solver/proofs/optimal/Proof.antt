@@ -35,20 +35,20 @@ fill-up-requires : tie.Need-fill_up-f-requires
 fill-up-requires c κs = rw c.fixed-e.ensures (sized c.before)
 
 -- the filling as the code has it
-fill_is : (c : tie.After-fill_up-f) → c.fill_up-f.result ≡ fill_at c.before.before.args.s c.before.before.args.c c.before.before.args.x
-fill_is c = c.fill_up-f.ensures ∙ ap (fill c.before.before.args.c) c.before.fixed-e.ensures
+fill_is : (c : tie.After-fill_up-f) → c.fill_up-f.result ≡ fill_at c.args.s c.args.c c.args.x
+fill_is c = c.fill_up-f.ensures ∙ ap (fill c.args.c) c.fixed-e.ensures
 
 bound-of-requires : tie.Need-bound_of-v-requires
 bound-of-requires c κs = rw (fill_is c) (filled c.before.before)
 
 value-is : (c : tie.After-bound_of-v) → c.bound_of-v.result ≡ value_at
-    c.before.before.before.args.s c.before.before.before.args.c c.before.before.before.args.x
-value-is c = c.bound_of-v.ensures ∙ ap (bound c.before.before.before.args.c) (fill_is c.before)
+    c.args.s c.args.c c.args.x
+value-is c = c.bound_of-v.ensures ∙ ap (bound c.args.c) (fill_is c.before)
 
 amounts-of-requires : tie.Need-amounts_of-y-requires
 amounts-of-requires c κs =
     let s = c.before.before.before in
-    rw (c.before.before.fixed-e.ensures, fill_is c.before) (s.requires.0, (sized s, filled s))
+    rw (c.fixed-e.ensures, fill_is c.before) (s.requires.0, (sized s, filled s))
 
 joined-requires : tie.Need-joined-n-requires
 joined-requires c κs =
@@ -77,7 +77,7 @@ returns c =
     let r = c.before in
     let j = r.before in
     let m = j.before in
-    let e = rw (m.before.before.before.fixed-e.ensures, fill_is m.before.before) at m.amounts_of-y.ensures in
+    let e = rw (m.fixed-e.ensures, fill_is m.before.before) at m.amounts_of-y.ensures in
     let v = rw (back j.joined-n.result j.joined-n.type_inv, numerator-is j, value-is m.before) at r.reduce-value.ensures in
     record { kind-is = refl; long = long m.before.before.before.before; point-is = e; steps-are = refl; value-is = v }
 

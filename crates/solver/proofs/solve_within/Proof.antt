@@ -20,8 +20,8 @@ with-work-requires : tie.Need-with_work-requires
 with-work-requires c κs = search rules
 
 -- where no bounds cross the problem is in range
-ranged : (c : tie.Else-some_crosses) → InRange c.before.before.args.p
-ranged c = let s = c.before.before in plain-in-range s.args.p s.requires (uncrossed s.args.p (sym c.before.some_crosses.ensures ∙ c.if-some_crosses.false))
+ranged : (c : tie.Else-some_crosses) → InRange c.args.p
+ranged c = let s = c.before.before in plain-in-range s.args.p s.requires (uncrossed s.args.p (sym c.some_crosses.ensures ∙ c.if-some_crosses.false))
 
 decide-requires : tie.Need-decide-requires
 decide-requires c κs = ranged c
@@ -30,8 +30,8 @@ returns : tie.Need-returns-then-some_crosses
 returns c =
     let a = c.before in
     let x = a.before.before in
-    let p = x.before.args.p in
-    let crosses = sym x.some_crosses.ensures ∙ a.before.if-some_crosses.true in
+    let p = x.args.p in
+    let crosses = sym x.some_crosses.ensures ∙ a.if-some_crosses.true in
     rw (c.with_work.ensures, a.no_point-none.ensures) (
       record {
         answers = (crossed-infeasible p crosses, refl);

@@ -13,7 +13,7 @@ enum_told : tie.Need-enum_told-1
 enum_told c = search rules
 
 append-requires : tie.Need-append-requires
-append-requires c κs = let k = c.before.before in room k.before.before.args.p.model (sym k.check_room-verdict.ensures ∙ c.enum_told-1.given.1)
+append-requires c κs = let k = c.before in room k.args.p.model (sym k.check_room-verdict.ensures ∙ c.in-Accepted.is)
 
 tried-requires : tie.Need-tried-requires
 tried-requires c κs = search rules
@@ -25,16 +25,16 @@ returns : tie.Need-returns-in-Accepted
 returns c =
     let n = c.before in
     let e = n.before in
-    let k = e.before.before in
-    let a = k.before.before.args in
-    tried-changes (Adding a.x) a.p k.check_room-verdict.result k.check_room-verdict.ensures e.enum_told-1.given.1 c.tried.result
+    let k = e.before in
+    let a = k.args in
+    tried-changes (Adding a.x) a.p k.check_room-verdict.result k.check_room-verdict.ensures e.in-Accepted.is c.tried.result
     (rw n.append.ensures at c.tried.ensures)
 
 returns-2 : tie.Need-returns-in-Refused
 returns-2 c =
-    let k = c.before.before in
-    let a = k.before.before.args in
-    refused-changes (Adding a.x) a.p k.check_room-verdict.result k.check_room-verdict.ensures _ c.enum_told-in-Refused-1.given.1
+    let k = c.before in
+    let a = k.args in
+    refused-changes (Adding a.x) a.p k.check_room-verdict.result k.check_room-verdict.ensures _ c.in-Refused.is
 
 pub add_item_spec : {M : Type 1} → statement M
 add_item_spec =

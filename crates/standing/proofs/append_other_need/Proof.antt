@@ -11,8 +11,8 @@ does-name-requires c κs = search rules
 
 returns : tie.Need-returns-then-does_name
 returns c =
-    let a = c.before.before.args in
-    let h : names_item a.x a.k ≡ true = sym c.before.does_name.ensures ∙ c.if-does_name.true in
+    let a = c.args in
+    let h : names_item a.x a.k ≡ true = sym c.does_name.ensures ∙ c.if-does_name.true in
     rw h
 
 lower-need-requires : tie.Need-lower_need-requires
@@ -25,8 +25,8 @@ returns-2 : tie.Need-returns
 returns-2 c =
     let n = c.before in
     let d = n.before.before in
-    let a = d.before.args in
-    let h : names_item a.x a.k ≡ false = sym d.does_name.ensures ∙ n.before.if-does_name.false in
+    let a = d.args in
+    let h : names_item a.x a.k ≡ false = sym d.does_name.ensures ∙ n.if-does_name.false in
     rw (h, ← n.lower_need.ensures) c.append_need.ensures
 
 pub append_other_need_spec : {M : Type 1} → statement M

@@ -10,7 +10,7 @@ append-requires : tie.Need-append-requires
 append-requires c κs = search rules
 
 returns-2 : tie.Need-returns
-returns-2 c = rw c.before.if-left.false c.append.ensures
+returns-2 c = rw c.if-left.false c.append.ensures
 
 pub append_unless_spec : {M : Type 1} → statement M
 append_unless_spec = tie.close (tie.spec returns append-requires returns-2)

@@ -13,7 +13,7 @@ first-of-requires : tie.Need-first_of-requires
 first-of-requires c κs = search rules
 
 returns : tie.Need-returns
-returns c = let w = c.before in rw (c.first_of.ensures, w.refused_if.ensures, w.before.check_model-v.ensures)
+returns c = let w = c.before in rw (c.first_of.ensures, w.refused_if.ensures, w.check_model-v.ensures)
 
 pub check_room_spec : {M : Type 1} → statement M
 check_room_spec =

@@ -10,7 +10,7 @@ lower-requires-2 : tie.Need-lower-cover-requires
 lower-requires-2 c κs = search rules
 
 returns : tie.Need-returns
-returns c = rw (c.before.lower-item.ensures, c.lower-cover.ensures)
+returns c = rw (c.lower-item.ensures, c.lower-cover.ensures)
 
 pub lower_need_spec : {M : Type 1} → statement M
 lower_need_spec = tie.close (tie.spec lower-requires lower-requires-2 returns)

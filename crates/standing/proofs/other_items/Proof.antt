@@ -39,7 +39,7 @@ add-append-unless c = omega arith
 append-unless-requires : tie.Need-append_unless-q-requires invariant-loop decreases-loop
 append-unless-requires c κs =
     let l = c.before.before in
-    let a = l.before.before.args in
+    let a = l.args in
     let e : l.loop-j.q.count ≡ rank (others a.k) l.loop-j.j = ap (λ (q : Model). q.count) l.loop-j.invariant.1 in
     omega (arith, rank_most (others a.k) l.loop-j.j)
 
@@ -52,20 +52,20 @@ loop-less c = omega arith
 loop-again : tie.Need-loop-j-preserved invariant-loop decreases-loop
 loop-again c =
     let l = c.before.before.before in
-    let a = l.before.before.args in
+    let a = l.args in
     let k = a.k in
     let j = l.loop-j.j in
     let h = rw add-one at c.append_unless-q.ensures in (
       omega arith,
-      rw add-one (h ∙ ap (λ (q : Model). cond (eqb (suc j) k) q (appended q (item_at a.t1 j))) l.loop-j.invariant.1 ∙ removed-next a.t1 k j),
+      rw add-one (h ∙ ap (λ (q : Model). cond (eqb (suc j) k) q (appended q (item_at a.m j))) l.loop-j.invariant.1 ∙ removed-next a.m k j),
     )
 
 returns : tie.Need-returns invariant-loop decreases-loop
 returns c =
     let l = c.before in
-    let a = l.before.before.args in
-    let e : l.loop-j.j ≡ a.t1.count = omega arith in
-    l.loop-j.invariant.1 ∙ ap (λ j. removed_to a.t1 a.k j 0) e
+    let a = l.args in
+    let e : l.loop-j.j ≡ a.m.count = omega arith in
+    l.loop-j.invariant.1 ∙ ap (λ j. removed_to a.m a.k j 0) e
 
 pub other_items_spec : {M : Type 1} → statement M
 other_items_spec =

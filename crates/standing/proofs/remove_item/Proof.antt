@@ -15,9 +15,9 @@ enum_told c = search rules
 
 without-item-requires : tie.Need-without_item-requires
 without-item-requires c κs =
-    let k = c.before.before in
-    let a = k.before.before.args in
-    let h = (there-more a.p.model a.k (sym k.check_removal-verdict.ensures ∙ c.enum_told-1.given.1)).0 in
+    let k = c.before in
+    let a = k.args in
+    let h = (there-more a.p.model a.k (sym k.check_removal-verdict.ensures ∙ c.in-Accepted.is)).0 in
     (h.few, h.short)
 
 tried-requires : tie.Need-tried-requires
@@ -30,20 +30,20 @@ returns : tie.Need-returns-in-Accepted
 returns c =
     let n = c.before in
     let e = n.before in
-    let k = e.before.before in
-    let a = k.before.before.args in
+    let k = e.before in
+    let a = k.args in
     let m = a.p.model in
     tried-changes (Removing a.k) a.p k.check_removal-verdict.result
     (k.check_removal-verdict.ensures ∙ in_a_row (verdict m) (missing_verdict m a.k) (only_verdict m))
-    e.enum_told-1.given.1 c.tried.result (rw n.without_item.ensures at c.tried.ensures)
+    e.in-Accepted.is c.tried.result (rw n.without_item.ensures at c.tried.ensures)
 
 returns-2 : tie.Need-returns-in-Refused
 returns-2 c =
-    let k = c.before.before in
-    let a = k.before.before.args in
+    let k = c.before in
+    let a = k.args in
     let m = a.p.model in
     refused-changes (Removing a.k) a.p k.check_removal-verdict.result
-    (k.check_removal-verdict.ensures ∙ in_a_row (verdict m) (missing_verdict m a.k) (only_verdict m)) _ c.enum_told-in-Refused-1.given.1
+    (k.check_removal-verdict.ensures ∙ in_a_row (verdict m) (missing_verdict m a.k) (only_verdict m)) _ c.in-Refused.is
 
 pub remove_item_spec : {M : Type 1} → statement M
 remove_item_spec =

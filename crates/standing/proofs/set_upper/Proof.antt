@@ -15,15 +15,15 @@ enum_told c = search rules
 
 sub-with-bound : tie.Need-overflow_sub-k
 sub-with-bound c =
-    let k = c.before.before in
-    let a = k.before.before.args in
-    omega (arith, (there-is a.p.model a.k (sym k.check_number-verdict.ensures ∙ c.enum_told-1.given.1)).least)
+    let k = c.before in
+    let a = k.args in
+    omega (arith, (there-is a.p.model a.k (sym k.check_number-verdict.ensures ∙ c.in-Accepted.is)).least)
 
 with-bound-requires : tie.Need-with_bound-requires
 with-bound-requires c κs =
-    let k = c.before.before in
-    let a = k.before.before.args in
-    let h = there-is a.p.model a.k (sym k.check_number-verdict.ensures ∙ c.enum_told-1.given.1) in
+    let k = c.before in
+    let a = k.args in
+    let h = there-is a.p.model a.k (sym k.check_number-verdict.ensures ∙ c.in-Accepted.is) in
     omega (arith, h.least, h.most, h.few)
 
 tried-requires : tie.Need-tried-requires
@@ -36,16 +36,16 @@ returns : tie.Need-returns-in-Accepted
 returns c =
     let n = c.before in
     let e = n.before in
-    let k = e.before.before in
-    let a = k.before.before.args in
-    tried-changes (Bounding a.k a.u) a.p k.check_number-verdict.result k.check_number-verdict.ensures e.enum_told-1.given.1 c.tried.result
+    let k = e.before in
+    let a = k.args in
+    tried-changes (Bounding a.k a.u) a.p k.check_number-verdict.result k.check_number-verdict.ensures e.in-Accepted.is c.tried.result
     (rw n.with_bound.ensures at c.tried.ensures)
 
 returns-2 : tie.Need-returns-in-Refused
 returns-2 c =
-    let k = c.before.before in
-    let a = k.before.before.args in
-    refused-changes (Bounding a.k a.u) a.p k.check_number-verdict.result k.check_number-verdict.ensures _ c.enum_told-in-Refused-1.given.1
+    let k = c.before in
+    let a = k.args in
+    refused-changes (Bounding a.k a.u) a.p k.check_number-verdict.result k.check_number-verdict.ensures _ c.in-Refused.is
 
 pub set_upper_spec : {M : Type 1} → statement M
 set_upper_spec =

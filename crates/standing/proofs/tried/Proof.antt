@@ -19,21 +19,21 @@ enum-told-2 c = search rules
 
 returns : tie.Need-returns-in-Accepted
 returns c =
-    let q = c.before.before in
+    let q = c.before in
     let k = q.before in
-    let a = k.before.args in
+    let a = k.args in
     record {
       told = k.check_model-v.ensures;
-      left = subst (Left a.p a.m q.fresh-q.result) (sym (sym k.check_model-v.ensures ∙ c.enum_told-1.given.1)) q.fresh-q.ensures;
+      left = subst (Left a.p a.m q.fresh-q.result) (sym (sym k.check_model-v.ensures ∙ c.in-Accepted.is)) q.fresh-q.ensures;
     }
 
 returns-2 : tie.Need-returns-in-Refused
 returns-2 c =
-    let k = c.before.before.before in
-    let a = k.before.args in
+    let k = c.before.before in
+    let a = k.args in
     record {
       told = k.check_model-v.ensures;
-      left = subst (Left a.p a.m a.p) (sym (sym k.check_model-v.ensures ∙ c.enum_told-in-Refused-1.given.1)) refl;
+      left = subst (Left a.p a.m a.p) (sym (sym k.check_model-v.ensures ∙ c.in-Refused.is)) refl;
     }
 
 pub tried_spec : {M : Type 1} → statement M

@@ -59,7 +59,7 @@ loop-again c =
     let x = need_at ns l.loop-j.j in (
       omega arith,
       rw add-one (c.append_other_need-q.ensures ∙ ap (λ (q : Model). cond (names_item x k) q (appended_need q (lowered_need k x))) l.loop-j.invariant.1
-          ∙ spared-next l.before.other_items-q.result k ns l.loop-j.j),
+          ∙ spared-next l.other_items-q.result k ns l.loop-j.j),
     )
 
 returns : tie.Need-returns invariant-loop decreases-loop
@@ -68,7 +68,7 @@ returns c =
     let a = (start l).args in
     let t = a.m.needs.count in
     let e : l.loop-j.j ≡ t = omega arith in
-    let o = l.before.other_items-q in
+    let o = l.other_items-q in
     l.loop-j.invariant.1 ∙ ap (λ j. with_needs o.result (spared_to a.k a.m.needs j)) e
     ∙ ap (λ (q : Model). with_needs q (spared_to a.k a.m.needs t)) o.ensures
 

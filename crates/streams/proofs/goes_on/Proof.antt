@@ -7,12 +7,12 @@ use Rattle.streams.proofs.goes_on.Tie as tie
 returns : tie.Need-returns-then-p-len
 returns c =
     let first = c.before.before.before in
-    within first.before.args.p first.before.args.len first.if-p.true c.before.if-p-len.true
+    within first.args.p first.args.len first.if-p.true c.if-p-len.true
 
 returns-2 : tie.Need-returns-else-p-len
 returns-2 c =
     let first = c.before.before in
-    at-the-end first.before.args.p first.before.args.len first.if-p.true c.if-p-len.false
+    at-the-end first.args.p first.args.len first.if-p.true c.if-p-len.false
 
 returns-3 : tie.Need-returns-else-p
 returns-3 c = search rules

@@ -4,7 +4,7 @@ use Rattle.streams.proofs.is_whole.Statement.{statement}
 use Rattle.streams.proofs.is_whole.Tie as tie
 
 returns : tie.Need-returns-then-p-2
-returns c = rw (c.before.before.if-p.true, c.before.if-p-2.true)
+returns c = rw (c.if-p.true, c.if-p-2.true)
 
 returns-2 : tie.Need-returns-else-p-2
 returns-2 c = search rules

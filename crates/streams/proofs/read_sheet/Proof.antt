@@ -27,10 +27,10 @@ at_turn c = c.before.before.before.before.before.before
 due : (c : tie.After-slice_known-in-loop-buf-1 invariant-loop decreases-loop) → goes_on (at_turn c).loop-buf.p (length (start c).args.buf.now) ≡ true
 due c =
     let a = c.before.before.before.before in
-    rw (at_turn c).loop-buf.invariant.0 at (sym a.before.goes_on.ensures ∙ a.loop-buf-test.true)
+    rw (at_turn c).loop-buf.invariant.0 at (sym a.goes_on.ensures ∙ a.loop-buf-test.true)
 
-taken : (c : tie.After-slice_known-in-loop-buf-1 invariant-loop decreases-loop) → Turn (length (start c).args.buf.now) (at_turn c).loop-buf.p c.before.before.read_on-p.result
-taken c = rw (at_turn c).loop-buf.invariant.0 at c.before.before.read_on-p.ensures
+taken : (c : tie.After-slice_known-in-loop-buf-1 invariant-loop decreases-loop) → Turn (length (start c).args.buf.now) (at_turn c).loop-buf.p c.read_on-p.result
+taken c = rw (at_turn c).loop-buf.invariant.0 at c.read_on-p.ensures
 
 begun-requires : tie.Need-begun-p-requires invariant-loop decreases-loop
 begun-requires c κs = tt
@@ -43,8 +43,8 @@ goes-on-requires c κs = tt
 
 read-on-requires : tie.Need-read_on-p-requires invariant-loop decreases-loop
 read-on-requires c κs =
-    let l = c.before.before.before.loop-buf in
-    (omega (arith, l.invariant.0, l.invariant.1.0), (going l.p _ (sym c.before.before.goes_on.ensures ∙ c.before.loop-buf-test.true)).1.1)
+    let l = c.loop-buf in
+    (omega (arith, l.invariant.0, l.invariant.1.0), (going l.p _ (sym c.goes_on.ensures ∙ c.loop-buf-test.true)).1.1)
 
 loop-less : tie.Need-loop-buf-smaller invariant-loop decreases-loop
 loop-less c = turn-less _ _ _ (due c) (taken c)
@@ -59,9 +59,9 @@ same_length c = omega arith
 
 returns : tie.Need-returns invariant-loop decreases-loop
 returns c =
-    let l = c.before.before.loop-buf in
+    let l = c.loop-buf in
     let e = l.invariant.0 in
-    let h = sym c.before.goes_on.ensures ∙ c.loop-buf-test.false in
+    let h = sym c.goes_on.ensures ∙ c.loop-buf-test.false in
     (rw e (record { inside = l.invariant.1.0; came = l.invariant.1.1; stops = rw e at h }), prefix_len_of_le _ _ (omega (arith, e, l.invariant.1.0)))
 
 pub read_sheet_spec : {M : Type 1} → statement M

@@ -16,7 +16,7 @@ add-t6 : tie.Need-overflow_add-result
 add-t6 c = search rules
 
 returns-2 : tie.Need-returns
-returns-2 c = Turn.piece c.before.before.args.n (omega arith) (omega arith) refl
+returns-2 c = Turn.piece c.args.n (omega arith) (omega arith) refl
 
 pub turned_spec : {M : Type 1} → statement M
 turned_spec = tie.close (tie.spec unmoved-requires returns add-t6 returns-2)

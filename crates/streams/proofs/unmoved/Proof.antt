@@ -21,7 +21,7 @@ sub-t6 c = search rules
 
 returns-2 : tie.Need-returns-then-errno-eq-EINTR
 returns-2 c =
-    let l = c.before.before.before.before.args.p.left in
+    let l = c.args.p.left in
     let h : l ≡ (l - 1) + 1 = omega arith in
     Turn.interrupted (l - 1) h refl
 

@@ -25,23 +25,23 @@ goes-on-requires c κs = tt
 
 write-on-requires : tie.Need-write_on-p-requires invariant-loop decreases-loop
 write-on-requires c κs =
-    let l = c.before.before.loop-p in
-    (l.invariant.0, (going l.p _ (sym c.before.goes_on.ensures ∙ c.loop-p-test.true)).1.1)
+    let l = c.loop-p in
+    (l.invariant.0, (going l.p _ (sym c.goes_on.ensures ∙ c.loop-p-test.true)).1.1)
 
 loop-less : tie.Need-loop-p-smaller invariant-loop decreases-loop
-loop-less c = turn-less _ _ _ (sym c.before.before.goes_on.ensures ∙ c.before.loop-p-test.true) c.write_on-p.ensures
+loop-less c = turn-less _ _ _ (sym c.goes_on.ensures ∙ c.loop-p-test.true) c.write_on-p.ensures
 
 loop-again : tie.Need-loop-p-preserved invariant-loop decreases-loop
 loop-again c =
-    let l = c.before.before.before.loop-p in (
+    let l = c.loop-p in (
       turn_inside _ _ _ l.invariant.0 c.write_on-p.ensures,
-      Turns.next _ _ l.invariant.1 (sym c.before.before.goes_on.ensures ∙ c.before.loop-p-test.true) c.write_on-p.ensures,
+      Turns.next _ _ l.invariant.1 (sym c.goes_on.ensures ∙ c.loop-p-test.true) c.write_on-p.ensures,
     )
 
 returns : tie.Need-returns invariant-loop decreases-loop
 returns c =
-    let l = c.before.before.loop-p in
-    record { inside = l.invariant.0; came = l.invariant.1; stops = sym c.before.goes_on.ensures ∙ c.loop-p-test.false }
+    let l = c.loop-p in
+    record { inside = l.invariant.0; came = l.invariant.1; stops = sym c.goes_on.ensures ∙ c.loop-p-test.false }
 
 pub write_reply_spec : {M : Type 1} → statement M
 write_reply_spec =

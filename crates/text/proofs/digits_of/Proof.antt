@@ -46,7 +46,7 @@ unfolding decimal
 loop-holds c = ((omega arith, omega (arith, c.ranges.n.fits)), (refl, refl))
 
 sub-first : tie.Need-overflow_sub-first invariant-loop decreases-loop
-sub-first c = (fewer c.before.loop-rest.rest c.before.loop-rest.first (omega arith) c.before.loop-rest.invariant.0.1).0
+sub-first c = (fewer c.loop-rest.rest c.loop-rest.first (omega arith) c.loop-rest.invariant.0.1).0
 
 cast-bytes-2 : tie.Need-overflow_cast-bytes-in-loop-rest invariant-loop decreases-loop
 cast-bytes-2 c = omega arith
@@ -62,13 +62,13 @@ loop-less c = omega arith
 
 loop-again : tie.Need-loop-rest-preserved invariant-loop decreases-loop
 loop-again c =
-    let l = c.before.loop-rest in
+    let l = c.loop-rest in
     let f = fewer l.rest l.first (omega arith) l.invariant.0.1 in
     ((omega arith, f.1), (simp length-set l.invariant.1.0, one_more l.rest l.first l.bytes (omega arith) f.0 (omega arith) ∙ l.invariant.1.1))
 
 returns : tie.Need-returns invariant-loop decreases-loop
 returns c =
-    let l = c.before.loop-rest in
+    let l = c.loop-rest in
     let e : l.rest ≡ 0 = omega arith in
     record {
       sized = l.invariant.1.0;

@@ -12,7 +12,7 @@ use Rattle.text.proofs.hand_over.Tie as tie
 returns : tie.Need-returns-then-out-text
 unfolding told filled
 returns c =
-    let a = c.before.before.before.args in
+    let a = c.args in
     let e : too_short a.text.now a.out.now ≡ true = omega (arith, lt-ltb) in
     (rw e, rw e)
 

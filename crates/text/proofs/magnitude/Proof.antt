@@ -20,44 +20,44 @@ abs-fits : {z : ℤ} → SFits w64 z → nat_abs z ≤ 2 ^ 63
 abs-fits {z = pos n} h = omega (arith, h.sfits)
 abs-fits {z = negsuc n} h = omega (arith, h.sfits)
 
-below : (c : tie.Then-z-lt0) → c.before.args.z <ℤ pos 0
+below : (c : tie.Then-z-lt0) → c.args.z <ℤ pos 0
 below c = omega (arith, zs)
 
-raised : (c : tie.Then-z-lt0) → SFits w64 (c.before.args.z +ℤ pos 1)
-raised c = let l = below c in omega (arith, zs, from-sfits c.before.ranges.z, sum c.before.args.z (pos 1))
+raised : (c : tie.Then-z-lt0) → SFits w64 (c.args.z +ℤ pos 1)
+raised c = let l = below c in omega (arith, zs, from-sfits c.ranges.z, sum c.args.z (pos 1))
 
-turned : (c : tie.Then-z-lt0) → SFits w64 (pos 0 -ℤ (c.before.args.z +ℤ pos 1))
+turned : (c : tie.Then-z-lt0) → SFits w64 (pos 0 -ℤ (c.args.z +ℤ pos 1))
 turned c =
     let l = below c in
-    let z = c.before.args.z in
-    omega (arith, zs, from-sfits c.before.ranges.z, sum z (pos 1), diff (pos 0) (z +ℤ pos 1))
+    let z = c.args.z in
+    omega (arith, zs, from-sfits c.ranges.z, sum z (pos 1), diff (pos 0) (z +ℤ pos 1))
 
-not-below : (c : tie.Then-z-lt0) → pos 0 ≤ℤ (pos 0 -ℤ (c.before.args.z +ℤ pos 1))
+not-below : (c : tie.Then-z-lt0) → pos 0 ≤ℤ (pos 0 -ℤ (c.args.z +ℤ pos 1))
 not-below c =
     let l = below c in
-    let z = c.before.args.z in
-    omega (arith, zs, from-sfits c.before.ranges.z, sum z (pos 1), diff (pos 0) (z +ℤ pos 1))
+    let z = c.args.z in
+    omega (arith, zs, from-sfits c.ranges.z, sum z (pos 1), diff (pos 0) (z +ℤ pos 1))
 
 add-result : tie.Need-overflow_add-result
-add-result c = rw (to_z-of_z c.before.ranges.z) (raised c)
+add-result c = rw (to_z-of_z c.ranges.z) (raised c)
 
 sub-result : tie.Need-overflow_sub-result
-sub-result c = rw (to_z-of_z c.before.ranges.z, to_z-of_z (raised c)) (turned c)
+sub-result c = rw (to_z-of_z c.ranges.z, to_z-of_z (raised c)) (turned c)
 
 cast-result : tie.Need-overflow_cast-result
-cast-result c = rw (to_z-of_z c.before.ranges.z, to_z-of_z (raised c), to_z-of_z (turned c)) (cast-in (not-below c) (turned c))
+cast-result c = rw (to_z-of_z c.ranges.z, to_z-of_z (raised c), to_z-of_z (turned c)) (cast-in (not-below c) (turned c))
 
 add-result-2 : tie.Need-overflow_add-result-then-z-lt0
 add-result-2 c =
-    let e = one_less c.before.args.z (below c) in
-    let h = abs-fits c.before.ranges.z in
-    rw (to_z-of_z c.before.ranges.z, to_z-of_z (raised c), to_z-of_z (turned c)) (omega arith)
+    let e = one_less c.args.z (below c) in
+    let h = abs-fits c.ranges.z in
+    rw (to_z-of_z c.ranges.z, to_z-of_z (raised c), to_z-of_z (turned c)) (omega arith)
 
 cast-result-2 : tie.Need-overflow_cast-result-else-z-lt0
-cast-result-2 c = rw (to_z-of_z c.before.ranges.z) (cast-in (omega (arith, zs)) c.before.ranges.z)
+cast-result-2 c = rw (to_z-of_z c.ranges.z) (cast-in (omega (arith, zs)) c.ranges.z)
 
 returns : tie.Need-returns-then-z-lt0
-returns c = rw (to_z-of_z c.before.ranges.z, to_z-of_z (raised c), to_z-of_z (turned c)) (one_less c.before.args.z (below c))
+returns c = rw (to_z-of_z c.ranges.z, to_z-of_z (raised c), to_z-of_z (turned c)) (one_less c.args.z (below c))
 
 returns-2 : tie.Need-returns-else-z-lt0
 returns-2 c = search rules

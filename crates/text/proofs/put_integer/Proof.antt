@@ -12,8 +12,8 @@ use borrow.Author.Rules.{rules}
 use Rattle.text.proofs.put_integer.Statement.{statement}
 use Rattle.text.proofs.put_integer.Tie as tie
 
-sized : (c : tie.After-magnitude-n) → c.magnitude-n.result ≡ nat_abs c.before.before.args.z
-sized c = c.magnitude-n.ensures ∙ ap nat_abs (to_z-of_z c.before.before.ranges.z)
+sized : (c : tie.After-magnitude-n) → c.magnitude-n.result ≡ nat_abs c.args.z
+sized c = c.magnitude-n.ensures ∙ ap nat_abs (to_z-of_z c.ranges.z)
 
 magnitude-requires : tie.Need-magnitude-n-requires
 magnitude-requires c κs = search rules
@@ -36,7 +36,7 @@ returns c =
     let at_out = n.before.before.before in
     let b = at_out.before in
     let m = b.before.before.before in
-    let z = m.before.before.args.z in
+    let z = m.args.z in
     let e : integer z ≡ 45 ∷ decimal (nat_abs z) = integer-below z (omega (arith, zs)) in
     rw e (rw (sized m) at (puts (omega arith) b.put_byte-next.ensures n.put_natural.ensures))
 
@@ -47,7 +47,7 @@ returns-2 : tie.Need-returns-else-z-lt0
 returns-2 c =
     let n = c.before.before in
     let m = n.before.before.before in
-    let z = m.before.before.args.z in
+    let z = m.args.z in
     let e : integer z ≡ decimal (nat_abs z) = integer-above z (omega (arith, zs)) in
     rw e (rw (sized m) at (roomier {n = 22} (omega arith) n.put_natural-else-z-lt0.ensures))
 

@@ -44,12 +44,12 @@ returns c =
     let b = c.before.before in
     let w = after-put-word b.before in
     let d = after-digits-of w.before.before in
-    let a = d.before.before.args in
+    let a = d.args in
     let s = d.digits_of-d.ensures in
     let r = d.digits_of-d.result in
     let e : take (20 - r.first) (drop r.first r.bytes) ≡ decimal a.n
     = take_all (20 - r.first) (drop r.first r.bytes) (simp length-drop (omega arith)) ∙ s.spelled in
-    let l = decimal-length 19 a.n (omega (arith, d.before.before.ranges.n.fits)) in
+    let l = decimal-length 19 a.n (omega (arith, d.ranges.n.fits)) in
     roomier (omega arith) (puts (omega arith) (rw e at w.put_word-next.ensures) b.put_byte.ensures)
 
 pub put_natural_spec : {M : Type 1} → statement M

@@ -36,8 +36,8 @@ loop-less c = omega arith
 
 loop-again : tie.Need-loop-i-preserved invariant-loop decreases-loop
 loop-again c =
-    let a = c.before.before.before.args in
-    let l = c.before.before.loop-i in
+    let a = c.args in
+    let l = c.loop-i in
     let h : a.at + l.i < length l.out = omega arith in
     let m = put-more a.at l.i a.w.now a.out.now (omega arith) (omega arith) (rw l.invariant.1.1 at h) in
     (omega arith, (simp length-set (omega arith), rw (add-one, l.invariant.1.1) m))
@@ -50,8 +50,8 @@ same_length c = omega arith
 
 returns : tie.Need-returns invariant-loop decreases-loop
 returns c =
-    let a = c.before.before.args in
-    let l = c.before.loop-i in
+    let a = c.args in
+    let l = c.loop-i in
     let e : l.i ≡ length a.w.now = omega arith in
     record {
       short = omega arith;

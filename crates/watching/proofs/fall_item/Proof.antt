@@ -23,13 +23,13 @@ blank-item-requires : tie.Need-blank_item-requires
 blank-item-requires c κs = search rules
 
 returns : tie.Need-returns-then-d-eq0
-returns c = let h : c.before.before.args.d ≡ 0 = omega arith in c.blank_item.ensures ∙ sym (ap fall_item h)
+returns c = let h : c.args.d ≡ 0 = omega arith in c.blank_item.ensures ∙ sym (ap fall_item h)
 
 cast-n : tie.Need-overflow_cast-n
 cast-n c = search rules
 
 sub-t5 : tie.Need-overflow_sub-result
-sub-t5 c = rw (is-n c.before, zero-less (pos c.before.args.d)) (fits c.before)
+sub-t5 c = rw (is-n c.before, zero-less (pos c.args.d)) (fits c.before)
 
 returns-2 : tie.Need-returns
 returns-2 c =

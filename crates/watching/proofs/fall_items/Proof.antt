@@ -20,7 +20,7 @@ blank-items-requires : tie.Need-blank_items-items-requires invariant-loop decrea
 blank-items-requires c κs = search rules
 
 loop-holds : tie.Need-loop-k-init invariant-loop decreases-loop
-loop-holds c = (omega arith, items-none c.before.args.t1 c.before.args.n _ refl c.blank_items-items.ensures)
+loop-holds c = (omega arith, items-none c.args.of c.args.n _ refl c.blank_items-items.ensures)
 
 mul-d : tie.Need-offset_bounds-of-k invariant-loop decreases-loop
 mul-d c = omega arith
@@ -29,7 +29,7 @@ array-read-d : tie.Need-bounds-of-k invariant-loop decreases-loop
 array-read-d c = omega arith
 
 fall-item-requires : tie.Need-fall_item-requires invariant-loop decreases-loop
-fall-item-requires c κs = c.before.before.before.requires.1 c.before.loop-k.k
+fall-item-requires c κs = c.requires.1 c.loop-k.k
 
 with-item-requires : tie.Need-with_item-p-requires invariant-loop decreases-loop
 with-item-requires c κs = omega arith
@@ -43,17 +43,17 @@ loop-less c = omega arith
 loop-again : tie.Need-loop-k-preserved invariant-loop decreases-loop
 loop-again c =
     let l = c.before.before.before in
-    let a = l.before.before.args in
-    let q : c.with_item-p.result ≡ with_item l.loop-k.p l.loop-k.k (fall_item (get_or a.t1 l.loop-k.k 0)) =
-    c.with_item-p.ensures ∙ ap (with_item l.loop-k.p l.loop-k.k) c.before.fall_item.ensures in
-    (omega arith, rw q (items_more a.t1 a.n l.loop-k.k l.loop-k.p (omega arith) l.loop-k.invariant.1))
+    let a = l.args in
+    let q : c.with_item-p.result ≡ with_item l.loop-k.p l.loop-k.k (fall_item (get_or a.of l.loop-k.k 0)) =
+    c.with_item-p.ensures ∙ ap (with_item l.loop-k.p l.loop-k.k) c.fall_item.ensures in
+    (omega arith, rw q (items_more a.of a.n l.loop-k.k l.loop-k.p (omega arith) l.loop-k.invariant.1))
 
 returns : tie.Need-returns invariant-loop decreases-loop
 returns c =
     let l = c.before in
-    let a = l.before.before.args in
+    let a = l.args in
     let e : l.loop-k.k ≡ a.n = omega arith in
-    subst (λ (k : ℕ). FallItems a.t1 a.n k l.loop-k.p) e l.loop-k.invariant.1
+    subst (λ (k : ℕ). FallItems a.of a.n k l.loop-k.p) e l.loop-k.invariant.1
 
 pub fall_items_spec : {M : Type 1} → statement M
 fall_items_spec =

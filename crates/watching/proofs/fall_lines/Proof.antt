@@ -24,7 +24,7 @@ put-falls-requires c κs = search rules
 
 returns : tie.Need-returns
 returns c =
-    let p = c.before.put_falls-len in
+    let p = c.put_falls-len in
     let o = c.before.before.before.before.before in
     let s = o.before in
     let of = s.args.of in

@@ -24,12 +24,12 @@ no-falls-requires : tie.Need-no_falls-requires
 no-falls-requires c κs = search rules
 
 returns : tie.Need-returns-in-Accepted
-returns c = (rw c.before.enum_told-1.given.1 c.price_falls.ensures, c.price_falls.ensures.small)
+returns c = (rw c.in-Accepted.is c.price_falls.ensures, c.price_falls.ensures.small)
 
 returns-2 : tie.Need-returns-in-Refused
 returns-2 c =
-    let e = c.no_falls.ensures ∙ ap no_falls c.before.no_point.ensures in
-    (rw c.before.before.before.v-1.given.1 e, subst (λ (w : Falls). SmallFalls w.of) (sym e) no-small)
+    let e = c.no_falls.ensures ∙ ap no_falls c.no_point.ensures in
+    (rw c.in-Refused.is e, subst (λ (w : Falls). SmallFalls w.of) (sym e) no-small)
 
 pub falls_read_spec : {M : Type 1} → statement M
 falls_read_spec =

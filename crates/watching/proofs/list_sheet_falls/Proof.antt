@@ -23,7 +23,7 @@ returns c =
     let h = c.before.before in
     let t = h.before.before.before in
     let w = t.falls_read-w.result in
-    let is = t.before.read-r.ensures in
+    let is = t.read-r.ensures in
     record {
       falls = w;
       is_true = subst (λ (r : Reading). ReadFalls r w) is t.falls_read-w.ensures.0;

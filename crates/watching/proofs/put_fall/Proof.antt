@@ -34,7 +34,7 @@ returns c =
     let n = t.before.before.before in
     let s = start n.before in
     let h : s.args.d ≡ 0 = omega arith in
-    rw (eq-eqb s.args.d 0 h, sym (add-one s.args.k)) (roomier (omega arith) (puts (omega arith) n.before.put_natural-next.ensures w.put_word.ensures))
+    rw (eq-eqb s.args.d 0 h, sym (add-one s.args.k)) (roomier (omega arith) (puts (omega arith) n.put_natural-next.ensures w.put_word.ensures))
 
 same-length-2 : tie.Need-shape_of-out-else-d-eq0
 same-length-2 c = search rules

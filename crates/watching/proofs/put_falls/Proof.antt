@@ -20,7 +20,7 @@ decreases-loop out₀ n of at next₀ u₀ out next u = n - u
 loop-holds : tie.Need-loop-u-init invariant-loop decreases-loop
 unfolding fall_lines
 loop-holds c =
-    let a = c.before.args in
+    let a = c.args in
     (omega arith, (refl, record { short = omega arith; next = omega arith; bytes = sym (put-nothing 0 a.out.now) }))
 
 mul-k : tie.Need-offset_bounds-at-u invariant-loop decreases-loop
@@ -30,13 +30,13 @@ array-read-k : tie.Need-bounds-at-u invariant-loop decreases-loop
 array-read-k c = omega arith
 
 mul-d : tie.Need-offset_bounds-of-k invariant-loop decreases-loop
-mul-d c = record { fits = omega (arith, c.before.before.before.requires.1.1 c.before.loop-u.u) }
+mul-d c = record { fits = omega (arith, c.requires.1.1 c.loop-u.u) }
 
 array-read-d : tie.Need-bounds-of-k invariant-loop decreases-loop
-array-read-d c = c.before.before.before.requires.1.1 c.before.loop-u.u
+array-read-d c = c.requires.1.1 c.loop-u.u
 
 put-fall-requires : tie.Need-put_fall-next-requires invariant-loop decreases-loop
-put-fall-requires c κs = let l = c.before.before in (omega arith, l.before.before.requires.1.1 l.loop-u.u)
+put-fall-requires c κs = let l = c.before.before in (omega arith, l.requires.1.1 l.loop-u.u)
 
 add-u : tie.Need-overflow_add-u invariant-loop decreases-loop
 add-u c = omega arith
@@ -57,8 +57,8 @@ same_length c = omega arith
 returns : tie.Need-returns invariant-loop decreases-loop
 returns c =
     let s = c.before.before.before in
-    let e : c.before.loop-u.u ≡ s.args.n = omega arith in
-    rw e at c.before.loop-u.invariant.1.1
+    let e : c.loop-u.u ≡ s.args.n = omega arith in
+    rw e at c.loop-u.invariant.1.1
 
 pub put_falls_spec : {M : Type 1} → statement M
 put_falls_spec =

@@ -20,7 +20,7 @@ returns : tie.Need-returns
 returns c =
     let t = c.before.before in
     let w = t.falls_read-w.result in
-    let is = t.before.read-r.ensures in
+    let is = t.read-r.ensures in
     record {
       falls = w;
       is_true = subst (λ (r : Reading). ReadFalls r w) is t.falls_read-w.ensures.0;

@@ -23,13 +23,13 @@ abbrev decreases-loop : tie.decreases-loop-k
 decreases-loop out₀ at side m n next₀ k₀ out next k = n - k
 
 -- the items are at most as many as there are places
-few : (c : tie.At-loop-k invariant-loop decreases-loop) → c.before.before.args.t4.count ≤ 16
-few c = (unfaulted c.before.before.args.t4 c.before.before.requires.1).most
+few : (c : tie.At-loop-k invariant-loop decreases-loop) → c.args.m.count ≤ 16
+few c = (unfaulted c.args.m c.requires.1).most
 
 loop-holds : tie.Need-loop-k-init invariant-loop decreases-loop
 unfolding up_to lines_text
 loop-holds c =
-    let a = c.before.args in
+    let a = c.args in
     (omega arith, (refl, record { short = omega arith; next = omega arith; bytes = sym (put-nothing a.at a.out.now) }))
 
 mul-i : tie.Need-offset_bounds-m-k invariant-loop decreases-loop
@@ -49,7 +49,7 @@ put-bound-requires c κs =
     let at-in-loop = c.before.before.before in
     let l = at-in-loop.before in
     let s = l.before.before in
-    let u = unfaulted s.args.t4 s.requires.1 in
+    let u = unfaulted s.args.m s.requires.1 in
     (omega (arith, few l), (omega (arith, few l), rw c.bound_of.ensures (fair-side s.args.side _ (u.figures l.loop-k.k (omega arith)))))
 
 add-k : tie.Need-overflow_add-k-in-loop-k invariant-loop decreases-loop
@@ -75,7 +75,7 @@ same_length c = omega arith
 returns : tie.Need-returns invariant-loop decreases-loop
 returns c =
     let l = c.before in
-    let e : l.loop-k.k ≡ l.before.before.args.t4.count = omega arith in
+    let e : l.loop-k.k ≡ l.args.m.count = omega arith in
     roomier (omega (arith, few l)) (rw e at l.loop-k.invariant.1.1)
 
 pub put_bound_lines_spec : {M : Type 1} → statement M

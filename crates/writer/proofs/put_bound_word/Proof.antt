@@ -29,7 +29,7 @@ returns c =
     let b = c.before.before in
     let e = b.before.before in
     let w = e.before.before in
-    rw w.before.before.before.before.enum_told-1.given.1 (roomier (omega arith) (puts (omega arith) w.put_word-end.ensures b.put_byte.ensures))
+    rw w.in-Absent.is (roomier (omega arith) (puts (omega arith) w.put_word-end.ensures b.put_byte.ensures))
 
 same-length-2 : tie.Need-shape_of-out-in-At
 same-length-2 c = search rules
@@ -38,8 +38,8 @@ returns-2 : tie.Need-returns-in-At
 returns-2 c =
     let v = c.before.before in
     let k = v.before.before in
-    let t = k.before in
-    rw t.b-1.given.1 (rw (back t.b-1.given.0.0 k.known_told-1.given.0.1) at v.put_integer.ensures)
+    let t = k in
+    rw t.in-At.is (rw (back t.in-At.v k.in-At.known_told-1-own.given.0.1) at v.put_integer.ensures)
 
 pub put_bound_word_spec : {M : Type 1} → statement M
 put_bound_word_spec =

@@ -22,13 +22,13 @@ abbrev decreases-loop : tie.decreases-loop-k
 decreases-loop out₀ at m n next₀ k₀ out next k = n - k
 
 -- the items are at most as many as there are places
-few : (c : tie.At-loop-k invariant-loop decreases-loop) → c.before.before.args.t3.count ≤ 16
-few c = (unfaulted c.before.before.args.t3 c.before.before.requires.1).most
+few : (c : tie.At-loop-k invariant-loop decreases-loop) → c.args.m.count ≤ 16
+few c = (unfaulted c.args.m c.requires.1).most
 
 loop-holds : tie.Need-loop-k-init invariant-loop decreases-loop
 unfolding up_to lines_text
 loop-holds c =
-    let a = c.before.args in
+    let a = c.args in
     (omega arith, (refl, record { short = omega arith; next = omega arith; bytes = sym (put-nothing a.at a.out.now) }))
 
 mul-i : tie.Need-offset_bounds-m-k invariant-loop decreases-loop
@@ -41,7 +41,7 @@ put-item-requires : tie.Need-put_item-next-requires invariant-loop decreases-loo
 put-item-requires c κs =
     let l = c.before.before.before in
     let s = l.before.before in
-    (omega (arith, few l), (unfaulted s.args.t3 s.requires.1).figures l.loop-k.k (omega arith))
+    (omega (arith, few l), (unfaulted s.args.m s.requires.1).figures l.loop-k.k (omega arith))
 
 add-k : tie.Need-overflow_add-k invariant-loop decreases-loop
 add-k c = omega arith
@@ -66,7 +66,7 @@ same_length c = omega arith
 returns : tie.Need-returns invariant-loop decreases-loop
 returns c =
     let l = c.before in
-    let e : l.loop-k.k ≡ l.before.before.args.t3.count = omega arith in
+    let e : l.loop-k.k ≡ l.args.m.count = omega arith in
     roomier (omega (arith, few l)) (rw e at l.loop-k.invariant.1.1)
 
 pub put_item_lines_spec : {M : Type 1} → statement M

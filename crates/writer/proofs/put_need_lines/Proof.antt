@@ -39,7 +39,7 @@ few c = (unfaulted (start c).args.m (start c).requires.1).few-needs
 loop-holds : tie.Need-loop-k-init invariant-loop decreases-loop
 unfolding up_to lines_text
 loop-holds c =
-    let a = c.before.before.args in
+    let a = c.args in
     (omega arith, (refl, record { short = omega arith; next = omega arith; bytes = sym (put-nothing a.at a.out.now) }))
 
 mul-need : tie.Need-offset_bounds-ns-k invariant-loop decreases-loop

@@ -24,7 +24,7 @@ returns : tie.Need-returns
 returns c =
     let l = c.before.before in
     let h = after-put-side-heading l.before in
-    let s = h.before.before.before.args in
+    let s = h.args in
     rw (upto-length s.m.count (bounding_at s.side s.m)) (puts (omega arith) h.put_side_heading-next.ensures l.put_bound_lines.ensures)
 
 pub put_side_spec : {M : Type 1} → statement M

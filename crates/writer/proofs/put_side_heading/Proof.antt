@@ -21,7 +21,7 @@ same_length c = search rules
 returns : tie.Need-returns-in-Lower
 returns c =
     let h = c.before.before in
-    rw h.before.before.before.before.enum_told-1.given.1 h.put_heading.ensures
+    rw h.in-Lower.is h.put_heading.ensures
 
 same-length-2 : tie.Need-shape_of-out-in-Upper
 same-length-2 c = search rules
@@ -29,7 +29,7 @@ same-length-2 c = search rules
 returns-2 : tie.Need-returns-in-Upper
 returns-2 c =
     let h = c.before.before in
-    rw h.before.before.before.before.enum_told-in-Upper-1.given.1 h.put_heading-in-Upper.ensures
+    rw h.in-Upper.is h.put_heading-in-Upper.ensures
 
 pub put_side_heading_spec : {M : Type 1} → statement M
 put_side_heading_spec =

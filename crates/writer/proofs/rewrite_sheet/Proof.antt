@@ -16,8 +16,8 @@ enum-known-v c = search rules
 
 returns : tie.Need-returns-in-Refused
 returns c =
-    let k = c.before in
-    let e = ap (λ (r : Reading). r.verdict) (sym k.before.before.before.read-r.ensures) ∙ k.v-1.given.1 in
+    let k = c in
+    let e = ap (λ (r : Reading). r.verdict) (sym k.read-r.ensures) ∙ k.in-Refused.is in
     (rw e, rw e)
 
 enum_told : tie.Need-enum_told-1
@@ -33,11 +33,11 @@ returns-2 : tie.Need-returns
 returns-2 c =
     let w = c.before.before in
     let t = w.before.before in
-    let d = t.before.before.before in
+    let d = t.before.before in
     let r = d.read-r in
-    let s = d.before.before.before.args.s.now in
+    let s = d.args.s.now in
     let a : read_sheet s ≡ record { verdict = Accepted; model = r.result.model }
-    = sym r.ensures ∙ ap (λ v. record { verdict = v; model = r.result.model }) t.enum_told-1.given.1 in
+    = sym r.ensures ∙ ap (λ v. record { verdict = v; model = r.result.model }) t.in_default.is in
     let b = read-written s r.result.model a in
     let f = rw (b.0, b.1) at w.write_sheet.ensures in
     (rw a f.0, rw a f.1)

@@ -20,7 +20,7 @@ returns : tie.Need-returns
 returns c =
     let at-space = c.before.before.before in
     let s = at-space.before in
-    let p = c.before.put_sheet-len in
+    let p = c.put_sheet-len in
     let m = s.args.m in
     let e : p.result ≡ length (printing m) = omega arith in
     let h : p.result ≤ length p.new.0 = omega arith in

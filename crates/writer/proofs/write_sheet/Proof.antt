@@ -12,15 +12,15 @@ enum-known-v c = search rules
 
 returns : tie.Need-returns-in-Refused
 returns c =
-    let k = c.before in
-    let e = sym k.before.before.check_model-v.ensures ∙ k.v-1.given.1 in
+    let k = c in
+    let e = sym k.check_model-v.ensures ∙ k.in-Refused.is in
     (rw e, rw e)
 
 enum_told : tie.Need-enum_told-1
 enum_told c = search rules
 
 write-accepted-requires : tie.Need-write_accepted-requires
-write-accepted-requires c κs = sym c.before.before.before.check_model-v.ensures ∙ c.before.enum_told-1.given.1
+write-accepted-requires c κs = sym c.check_model-v.ensures ∙ c.in_default.is
 
 same_length : tie.Need-shape_of-out
 same_length c = search rules
@@ -29,7 +29,7 @@ returns-2 : tie.Need-returns
 returns-2 c =
     let w = c.before.before in
     let t = w.before.before in
-    let e = sym t.before.before.check_model-v.ensures ∙ t.enum_told-1.given.1 in
+    let e = sym t.check_model-v.ensures ∙ t.in_default.is in
     (rw e w.write_accepted.ensures.0, rw e w.write_accepted.ensures.1)
 
 pub write_sheet_spec : {M : Type 1} → statement M

@@ -24,7 +24,7 @@ enum-told-2 c = search rules
 
 -- the moments that are spoken of below
 abbrev start : tie.After-struct_told-1 → tie.Start
-start c = c.before.before.before
+start c = c.before.before
 
 returns : tie.Need-returns-in-Integer
 returns c =

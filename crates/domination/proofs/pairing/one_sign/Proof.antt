@@ -9,14 +9,14 @@ returns c = let s = c.before in let w = rw (to_z-of_z s.ranges.w) at c.if-w-gt0.
 returns-2 : tie.Need-returns-then-w-lt0
 returns-2 c =
     let s = c.before.before in
-    let v = rw (to_z-of_z s.ranges.w) at c.before.if-w-gt0.false in
+    let v = rw (to_z-of_z s.ranges.w) at c.if-w-gt0.false in
     let w = rw (to_z-of_z s.ranges.w) at c.if-w-lt0.true in
     rw (to_z-of_z s.ranges.c, v, w)
 
 returns-3 : tie.Need-returns
 returns-3 c =
     let s = c.before.before in
-    let v = rw (to_z-of_z s.ranges.w) at c.before.if-w-gt0.false in
+    let v = rw (to_z-of_z s.ranges.w) at c.if-w-gt0.false in
     let w = rw (to_z-of_z s.ranges.w) at c.if-w-lt0.false in
     rw (v, w)
 

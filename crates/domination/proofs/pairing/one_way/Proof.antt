@@ -10,12 +10,12 @@ trade-of-requires : tie.Need-trade_of-t-requires
 trade-of-requires c κs = search rules
 
 has-room-requires : tie.Need-has_room-requires
-has-room-requires c κs = rw c.trade_of-t.ensures (c.before.requires.first-fit.in-range, (trade-small c.before.requires).0)
+has-room-requires c κs = rw c.trade_of-t.ensures (c.requires.first-fit.in-range, (trade-small c.requires).0)
 
 has-room-requires-2 : tie.Need-has_room-requires-then-has_room
 has-room-requires-2 c κs =
     let s = c.before.before.before in
-    rw c.before.before.trade_of-t.ensures (s.requires.second-fit.in-range, (trade-small s.requires).1)
+    rw c.trade_of-t.ensures (s.requires.second-fit.in-range, (trade-small s.requires).1)
 
 steps-of-requires : tie.Need-steps_of-requires
 steps-of-requires c κs =
@@ -31,8 +31,8 @@ returns c =
     let at-has-room = at-then1.before in
     let at-trade-of = at-has-room.before in
     let t = at-trade-of.trade_of-t.ensures in
-    let p = rw t at (sym at-has-room.has_room.ensures ∙ c.before.before.before.if-has_room.true) in
-    let q = rw t at (sym c.before.before.has_room-then-has_room.ensures ∙ c.before.if-has_room-2.true) in
+    let p = rw t at (sym at-has-room.has_room.ensures ∙ c.if-has_room.true) in
+    let q = rw t at (sym c.has_room-then-has_room.ensures ∙ c.if-has_room-2.true) in
     rw (p, q) (rw t at c.steps_of.ensures)
 
 -- the moments that are spoken of below
@@ -44,15 +44,15 @@ unfolding one_way
 returns-2 c =
     let at-trade-of = after-trade-of c.before in
     let t = at-trade-of.trade_of-t.ensures in
-    let p = rw t at (sym c.before.before.before.has_room.ensures ∙ c.before.before.if-has_room.true) in
-    let q = rw t at (sym c.before.has_room-then-has_room.ensures ∙ c.if-has_room-2.false) in
+    let p = rw t at (sym c.has_room.ensures ∙ c.if-has_room.true) in
+    let q = rw t at (sym c.has_room-then-has_room.ensures ∙ c.if-has_room-2.false) in
     rw (p, q)
 
 returns-3 : tie.Need-returns-else-has_room
 unfolding one_way
 returns-3 c =
-    let t = c.before.before.trade_of-t.ensures in
-    let p = rw t at (sym c.before.has_room.ensures ∙ c.if-has_room.false) in
+    let t = c.trade_of-t.ensures in
+    let p = rw t at (sym c.has_room.ensures ∙ c.if-has_room.false) in
     rw p
 
 pub one_way_spec : {M : Type 1} → statement M

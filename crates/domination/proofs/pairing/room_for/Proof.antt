@@ -18,28 +18,28 @@ use Rattle.domination.proofs.pairing.room_for.Statement.{statement}
 use Rattle.domination.proofs.pairing.room_for.Tie as tie
 
 -- the moments that are spoken of below
-abbrev after_lower : tie.In-At-upper-2 → tie.In-At-2
-after_lower c = c.before.before.before
+abbrev after_lower : tie.In-At-upper → tie.In-At
+after_lower c = c.before
 
 -- the two bounds where both are present
 abbrev L : tie.In-At-upper → ℤ
 L c =
-    let at-lower = after_lower c.before in
-    at-lower.lower-1.given.0.0
+    let at-lower = after_lower c in
+    at-lower.in-At.l
 
 abbrev U : tie.In-At-upper → ℤ
-U c = c.before.upper-1.given.0.0
+U c = c.in-At-upper.u
 
 lower_in : (c : tie.In-At-upper) → Within 10000 (L c)
 lower_in c =
-    let at-lower = after_lower c.before in
-    let s = at-lower.before.before in
-    abs-within _ (rw at-lower.lower-1.given.1 at s.requires.0)
+    let at-lower = after_lower c in
+    let s = at-lower.before in
+    abs-within _ (rw at-lower.in-At.is at s.requires.0)
 
 upper_in : (c : tie.In-At-upper) → Within 10000 (U c)
 upper_in c =
-    let s = (after_lower c.before).before.before in
-    abs-within _ (rw c.before.upper-1.given.1 at s.requires.1.0)
+    let s = (after_lower c).before in
+    abs-within _ (rw c.in-At-upper.is at s.requires.1.0)
 
 fits : (c : tie.In-At-upper) → SFits w64 (U c -ℤ L c)
 fits c = let l = lower_in c in let u = upper_in c in omega (arith, zs, diff (U c) (L c))
@@ -77,10 +77,10 @@ returns-2 c = search rules
 
 returns-3 : tie.Need-returns-in-At-upper
 returns-3 c =
-    let at-lower = after_lower c.before in
-    let s = at-lower.before.before in
+    let at-lower = after_lower c in
+    let s = at-lower.before in
     rw (difference c, to_z-of_z (fits c), to_z_pos w64 {n = s.args.n} (omega arith))
-    (both _ _ _ _ s.args.n at-lower.lower-1.given.1 c.before.upper-1.given.1)
+    (both _ _ _ _ s.args.n at-lower.in-At.is c.in-At-upper.is)
 
 pub room_for_spec : {M : Type 1} → statement M
 room_for_spec =

@@ -17,12 +17,12 @@ use Rattle.domination.proofs.pairing.steps_of.Tie as tie
 first : (c : tie.After-with_sign-s) →
     let at-with-sign = c.before.before in
     let s = at-with-sign.before.before in
-    to_z w64 (of_z w64 c.before.before.with_sign-r.result) ≡ signed s.args.x.weight
+    to_z w64 (of_z w64 c.with_sign-r.result) ≡ signed s.args.x.weight
     s.args.give
 first c =
     let at-with-sign = c.before.before in
     let s = at-with-sign.before.before in
-    let e = rw (within-back {n = 1000} tt (abs-within _ s.requires.0.weight-in)) at c.before.before.with_sign-r.ensures in
+    let e = rw (within-back {n = 1000} tt (abs-within _ s.requires.0.weight-in)) at c.with_sign-r.ensures in
     rw e (to_z-of_z (within-sfits (lit< tt) (signed-within s.args.x.weight s.args.give s.requires.1.1.0)))
 
 -- the moments that are spoken of below

@@ -25,11 +25,11 @@ returns c = search rules
 
 returns-2 : tie.Need-returns-in-Steps
 returns-2 c =
-    let r = c.before.q-1.given.0.0 in
-    let s = c.before.q-1.given.0.1.0 in
+    let r = c.in-Steps.r in
+    let s = c.in-Steps.s in
     let hr : SFits w64 r = search rules in
     let hs : SFits w64 s = search rules in
-    rw (to_z-of_z hr, to_z-of_z hs) (turned _ r s c.before.q-1.given.1)
+    rw (to_z-of_z hr, to_z-of_z hs) (turned _ r s c.in-Steps.is)
 
 pub swap_spec : {M : Type 1} → statement M
 swap_spec = tie.close (tie.spec enum_told enum-known-q returns returns-2)

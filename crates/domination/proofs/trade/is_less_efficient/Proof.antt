@@ -15,7 +15,7 @@ mul-result : tie.Need-overflow_mul-result
 mul-result c =
     let at-size-of = c.before.before.before in
     let s = at-size-of.before in
-    rw (c.before.before.before.size_of-s.ensures, c.before.before.size_of-t.ensures) (omega (arith, ratio-most s.requires.0 s.requires.1))
+    rw (c.size_of-s.ensures, c.size_of-t.ensures) (omega (arith, ratio-most s.requires.0 s.requires.1))
 
 mul-result-2 : tie.Need-overflow_mul-result-2
 mul-result-2 c =

@@ -23,8 +23,8 @@ does-serve-requires c κs = omega arith
 returns : tie.Need-returns-then-does_serve invariant-loop decreases-loop
 returns c =
     let l = c.before.before.before in
-    let x = l.before.args in
-    let e = sym c.before.does_serve.ensures ∙ c.if-does_serve.true in
+    let x = l.args in
+    let e = sym c.does_serve.ensures ∙ c.if-does_serve.true in
     sym (turn-stop x.a x.b x.c x.d l.loop-r.r (omega arith) e) ∙ l.loop-r.invariant.1
 
 add_r : tie.Need-overflow_add-r invariant-loop decreases-loop
@@ -36,14 +36,14 @@ loop-less c = omega arith
 loop-again : tie.Need-loop-r-preserved invariant-loop decreases-loop
 loop-again c =
     let l = c.before.before.before in
-    let x = l.before.args in
-    let e = sym c.before.does_serve.ensures ∙ c.if-does_serve.false in
+    let x = l.args in
+    let e = sym c.does_serve.ensures ∙ c.if-does_serve.false in
     (omega arith, sym (turn_on x.a x.b x.c x.d l.loop-r.r (omega arith) e) ∙ l.loop-r.invariant.1)
 
 returns-2 : tie.Need-returns invariant-loop decreases-loop
 returns-2 c =
     let l = c.before in
-    let x = l.before.args in
+    let x = l.args in
     sym (turn_last x.a x.b x.c x.d l.loop-r.r (omega arith)) ∙ l.loop-r.invariant.1
 
 pub least_give_spec : {M : Type 1} → statement M

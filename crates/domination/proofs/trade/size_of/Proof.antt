@@ -21,7 +21,7 @@ weight-in : (s : tie.Start) → nat_abs s.args.x.weight ≤ 10000
 weight-in s = omega (arith, s.requires.weight-in)
 
 magnitude-requires : tie.Need-magnitude-weight-requires
-magnitude-requires c κs = asked c.before.args.x.weight (weight-in c.before)
+magnitude-requires c κs = asked c.args.x.weight (weight-in c.before)
 
 magnitude-requires-2 : tie.Need-magnitude-price-requires
 magnitude-requires-2 c κs = let s = c.before.before.before in asked s.args.x.price s.requires.price-in
@@ -30,7 +30,7 @@ returns : tie.Need-returns
 returns c =
     let at-magnitude = c.before.before in
     let s = at-magnitude.before.before in
-    rw (c.before.before.magnitude-weight.ensures, c.magnitude-price.ensures, figure s.args.x.weight (weight-in s), figure s.args.x.price s.requires.price-in)
+    rw (c.magnitude-weight.ensures, c.magnitude-price.ensures, figure s.args.x.weight (weight-in s), figure s.args.x.price s.requires.price-in)
 
 pub size_of_spec : {M : Type 1} → statement M
 size_of_spec = tie.close (tie.spec magnitude-requires magnitude-requires-2 returns)

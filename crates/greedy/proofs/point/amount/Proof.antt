@@ -10,7 +10,7 @@ numerator-of-requires : tie.Need-numerator_of-n-requires
 numerator-of-requires c κs = search rules
 
 returns : tie.Need-returns
-returns c = ap (λ (n : ℤ). record { p = n; q = c.before.args.q }) (back c.numerator_of-n.result c.numerator_of-n.type_inv ∙ c.numerator_of-n.ensures)
+returns c = ap (λ (n : ℤ). record { p = n; q = c.args.q }) (back c.numerator_of-n.result c.numerator_of-n.type_inv ∙ c.numerator_of-n.ensures)
 
 pub amount_spec : {M : Type 1} → statement M
 amount_spec = tie.close (tie.spec numerator-of-requires returns)

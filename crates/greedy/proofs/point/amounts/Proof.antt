@@ -17,11 +17,11 @@ loop-holds : tie.Need-loop-k-init invariant-loop decreases-loop
 loop-holds c = (omega arith, counted-first _)
 
 -- an item counted has a place
-in_place : (c : tie.In-loop-k invariant-loop decreases-loop) → c.before.loop-k.k < 16
-in_place c = omega (arith, c.before.before.requires.0.columns.few, c.loop-k-test.true)
+in_place : (c : tie.In-loop-k invariant-loop decreases-loop) → c.loop-k.k < 16
+in_place c = omega (arith, c.requires.0.columns.few, c.loop-k-test.true)
 
 divisor-at-requires : tie.Need-divisor_at-q-requires invariant-loop decreases-loop
-divisor-at-requires c κs = (c.before.before.requires.0.columns, in_place c)
+divisor-at-requires c κs = (c.requires.0.columns, in_place c)
 
 amount-requires : tie.Need-amount-x-requires invariant-loop decreases-loop
 amount-requires c κs =
@@ -30,7 +30,7 @@ amount-requires c κs =
     record {
       sized = s.requires.0;
       filled = s.requires.1;
-      few = rw c.divisor_at-q.ensures (divisor-few s.args.cols s.args.whole l.before.loop-k.k s.requires.0.columns);
+      few = rw c.divisor_at-q.ensures (divisor-few s.args.cols s.args.whole l.loop-k.k s.requires.0.columns);
       item_in = in_place l;
     }
 
@@ -44,19 +44,19 @@ add-k : tie.Need-overflow_add-k invariant-loop decreases-loop
 add-k c = omega (arith, in_place c.before.before)
 
 loop-less : tie.Need-loop-k-smaller invariant-loop decreases-loop
-loop-less c = omega (arith, c.before.before.loop-k-test.true)
+loop-less c = omega (arith, c.loop-k-test.true)
 
 loop-again : tie.Need-loop-k-preserved invariant-loop decreases-loop
 loop-again c =
     let t = c.before.before in
-    let l = t.before.loop-k in (
+    let l = t.loop-k in (
       omega (arith, t.loop-k-test.true),
-      rw (c.amount-x.ensures, c.before.divisor_at-q.ensures) (counted_step _ l.k l.r.point (in_place t) l.invariant.1),
+      rw (c.amount-x.ensures, c.divisor_at-q.ensures) (counted_step _ l.k l.r.point (in_place t) l.invariant.1),
     )
 
 returns : tie.Need-returns invariant-loop decreases-loop
 returns c =
-    let l = c.before.loop-k in
+    let l = c.loop-k in
     let s = c.before.before in
     counted-done s.args.cols s.args.ends s.args.f s.args.whole l.k l.r.point (omega (arith, l.invariant.0, c.loop-k-test.false)) l.invariant.1
 

@@ -26,7 +26,7 @@ weight-divisor-requires c κs =
 returns-2 : tie.Need-returns
 returns-2 c =
     let s = c.before.before.before in
-    rw c.before.if-w.false (c.weight_divisor.ensures ∙ ap weight_divisor (within-back tt (s.requires.0.weights-in s.args.k)))
+    rw c.if-w.false (c.weight_divisor.ensures ∙ ap weight_divisor (within-back tt (s.requires.0.weights-in s.args.k)))
 
 pub divisor_at_spec : {M : Type 1} → statement M
 divisor_at_spec = tie.close (tie.spec array-read-w mul-a element-copy-out-a returns weight-divisor-requires returns-2)

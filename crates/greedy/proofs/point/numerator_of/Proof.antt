@@ -67,13 +67,13 @@ cast-result : tie.Need-overflow_cast-result
 cast-result c = search rules
 
 -- the two terms, as the code holds them
-whole_is : (c : tie.After-taking-t) → to_z w64 (of_z w64 c.before.before.standing-x.result) *ℤ to_z w64 (S c).args.q ≡ stand (S c).args.t1 (S c).args.t2
+whole_is : (c : tie.After-taking-t) → to_z w64 (of_z w64 c.standing-x.result) *ℤ to_z w64 (S c).args.q ≡ stand (S c).args.cols (S c).args.ends
     (S c).args.f.at (S c).args.k *ℤ pos (S c).args.q
 unfolding S
 whole_is c =
     let s = S c in
     let k = s.args.k in
-    let d = c.before.before.standing-x in
+    let d = c.standing-x in
     let e = rw (
       within-back tt (s.requires.sized.columns.weights-in k),
       within-back tt (s.requires.sized.columns.prices-in k),
@@ -82,32 +82,32 @@ whole_is c =
     ) at d.ensures in
     ap₂ (λ (x y : ℤ). x *ℤ y) (back d.result d.type-inv ∙ e) (to_z_pos w64 (omega (arith, s.requires.few)))
 
-taken_is : (c : tie.After-taking-t) → to_z w64 (of_z w64 c.taking-t.result) ≡ taken_by (weight_of (S c).args.t1 (S c).args.k) (S c).args.f.room
-    (rank_of (S c).args.t1 (S c).args.k) (S c).args.f.at (S c).args.t1.live
+taken_is : (c : tie.After-taking-t) → to_z w64 (of_z w64 c.taking-t.result) ≡ taken_by (weight_of (S c).args.cols (S c).args.k) (S c).args.f.room
+    (rank_of (S c).args.cols (S c).args.k) (S c).args.f.at (S c).args.cols.live
 unfolding S
 taken_is c =
     let s = S c in
-    let e : c.taking-t.result ≡ taken_by (weight_of s.args.t1 s.args.k) s.args.f.room (rank_of s.args.t1 s.args.k) s.args.f.at
-    s.args.t1.live =
+    let e : c.taking-t.result ≡ taken_by (weight_of s.args.cols s.args.k) s.args.f.room (rank_of s.args.cols s.args.k) s.args.f.at
+    s.args.cols.live =
     rw (within-back tt (s.requires.sized.columns.weights-in s.args.k), within-back tt s.requires.filled.room_in) at c.taking-t.ensures in
     back c.taking-t.result c.taking-t.type_inv ∙ e
 
 mul-result : tie.Need-overflow_mul-result
 unfolding S
 mul-result c = let s =
-    S c in rw (whole_is c) (within-sfits (lit< tt) (whole-within s.args.t1 s.args.t2 s.args.f s.args.q s.args.k s.requires))
+    S c in rw (whole_is c) (within-sfits (lit< tt) (whole-within s.args.cols s.args.ends s.args.f s.args.q s.args.k s.requires))
 
 -- and their sum
-inside : (c : tie.After-taking-t) → Within 20300000000000 (numerator (S c).args.t1 (S c).args.t2 (S c).args.f (S c).args.q (S c).args.k)
+inside : (c : tie.After-taking-t) → Within 20300000000000 (numerator (S c).args.cols (S c).args.ends (S c).args.f (S c).args.q (S c).args.k)
 unfolding S
-inside c = let s = S c in numerator-within s.args.t1 s.args.t2 s.args.f s.args.q s.args.k s.requires
+inside c = let s = S c in numerator-within s.args.cols s.args.ends s.args.f s.args.q s.args.k s.requires
 
-held : (c : tie.After-taking-t) → to_z w64 (of_z w64 (to_z w64 (of_z w64 c.before.before.standing-x.result) *ℤ to_z w64 (S c).args.q)) +ℤ to_z w64
-    (of_z w64 c.taking-t.result) ≡ numerator (S c).args.t1 (S c).args.t2 (S c).args.f (S c).args.q (S c).args.k
+held : (c : tie.After-taking-t) → to_z w64 (of_z w64 (to_z w64 (of_z w64 c.standing-x.result) *ℤ to_z w64 (S c).args.q)) +ℤ to_z w64
+    (of_z w64 c.taking-t.result) ≡ numerator (S c).args.cols (S c).args.ends (S c).args.f (S c).args.q (S c).args.k
 unfolding S
 held c =
     let s = S c in
-    let w = whole-within s.args.t1 s.args.t2 s.args.f s.args.q s.args.k s.requires in
+    let w = whole-within s.args.cols s.args.ends s.args.f s.args.q s.args.k s.requires in
     ap₂ (λ (x y : ℤ). x +ℤ y) (ap (λ (x : ℤ). to_z w64 (of_z w64 x)) (whole_is c) ∙ within-back tt w) (taken_is c)
 
 add-result : tie.Need-overflow_add-result

@@ -16,13 +16,13 @@ returns : tie.Need-returns-then-raised
 returns c =
     let s = c.before.before in
     let e = rw (to_z-of_z s.ranges.a, to_z-of_z s.ranges.l, to_z-of_z s.ranges.h) at c.heavy_end.ensures in
-    rw c.before.if-raised.true (back c.heavy_end.result c.heavy_end.type_inv ∙ e)
+    rw c.if-raised.true (back c.heavy_end.result c.heavy_end.type_inv ∙ e)
 
 returns-2 : tie.Need-returns-else-raised
 returns-2 c =
     let s = c.before.before in
     let e = rw (to_z-of_z s.ranges.a, to_z-of_z s.ranges.p, to_z-of_z s.ranges.l, to_z-of_z s.ranges.h) at c.light_end.ensures in
-    rw c.before.if-raised.false (back c.light_end.result c.light_end.type_inv ∙ e)
+    rw c.if-raised.false (back c.light_end.result c.light_end.type_inv ∙ e)
 
 pub standing_spec : {M : Type 1} → statement M
 standing_spec = tie.close (tie.spec heavy-end-requires light-end-requires returns returns-2)

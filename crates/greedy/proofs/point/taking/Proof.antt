@@ -41,8 +41,8 @@ returns c =
     let s = c.before.before.before in
     let t = rw (to_z-of_z s.ranges.a) at c.if-a-lt0.true in
     rw (
-      lt-ltb _ _ c.before.before.if-u-n.true,
-      eq-eqb _ _ c.before.if-v-u.true,
+      lt-ltb _ _ c.if-u-n.true,
+      eq-eqb _ _ c.if-v-u.true,
       within-back tt s.requires,
       to_z-of_z (less-fits s.args.room s.requires),
       zero-less s.args.room,
@@ -53,11 +53,11 @@ returns-2 : tie.Need-returns-then-v-u
 returns-2 c =
     let s = c.before.before.before in
     let t = rw (to_z-of_z s.ranges.a) at c.if-a-lt0.false in
-    rw (lt-ltb _ _ c.before.before.if-u-n.true, eq-eqb _ _ c.before.if-v-u.true, within-back tt s.requires)
+    rw (lt-ltb _ _ c.if-u-n.true, eq-eqb _ _ c.if-v-u.true, within-back tt s.requires)
     (unit-above s.args.a s.args.room (omega (arith, zs)))
 
 returns-3 : tie.Need-returns-else-v-u
-returns-3 c = rw (lt-ltb _ _ c.before.if-u-n.true, ne_eqb _ _ c.if-v-u.false)
+returns-3 c = rw (lt-ltb _ _ c.if-u-n.true, ne_eqb _ _ c.if-v-u.false)
 
 returns-4 : tie.Need-returns-else-u-n
 returns-4 c = rw (le-ltb _ _ c.if-u-n.false)

@@ -16,8 +16,8 @@ use Rattle.lattice.proofs.building.checked.Tie as tie
 closed-requires : tie.Need-closed-r-requires
 closed-requires c κs = search rules
 
-tame : (c : tie.After-closed-r) → Tame (closed_by c.before.args.l)
-tame c = closed-tame c.before.args.l c.before.requires.0
+tame : (c : tie.After-closed-r) → Tame (closed_by c.args.l)
+tame c = closed-tame c.args.l c.requires.0
 
 -- the moments that are spoken of below
 abbrev start-of-told : tie.After-struct_told-1 → tie.Start
@@ -33,7 +33,7 @@ positive : (c : tie.Then-r-gt0) →
 positive c = let k = c.before.before.before in rw (k.closed-r.ensures, within-back tt (tame k).stride-in) at c.if-r-gt0.true
 
 held-from-requires : tie.Need-held_from-requires
-held-from-requires c κs = let k = c.before.before.before in rw k.closed-r.ensures (tame k, (yes_lt (positive c), k.before.requires.1))
+held-from-requires c κs = let k = c.before.before.before in rw k.closed-r.ensures (tame k, (yes_lt (positive c), k.requires.1))
 
 -- the test of the items
 held : (c : tie.After-held_from) →
@@ -58,7 +58,7 @@ unknown-lattice-requires c κs = search rules
 returns-2 : tie.Need-returns-then-r-gt0
 returns-2 c =
     let f = c.before.before in
-    rw (c.unknown_lattice.ensures, positive f.before, sym (held f), c.before.if-held_from.false)
+    rw (c.unknown_lattice.ensures, positive f.before, sym (held f), c.if-held_from.false)
 
 unknown-lattice-requires-2 : tie.Need-unknown_lattice-requires-2
 unknown-lattice-requires-2 c κs = search rules
@@ -67,7 +67,7 @@ returns-3 : tie.Need-returns
 returns-3 c =
     let at-else1 = c.before in
     let k = at-else1.before.before.before in
-    let t = rw (k.closed-r.ensures, within-back tt (tame k).stride-in) at c.before.if-r-gt0.false in
+    let t = rw (k.closed-r.ensures, within-back tt (tame k).stride-in) at c.if-r-gt0.false in
     rw (c.unknown_lattice-2.ensures, t)
 
 pub checked_spec : {M : Type 1} → statement M

@@ -5,7 +5,7 @@ use Rattle.lattice.proofs.building.closed.Tie as tie
 
 returns : tie.Need-returns-then-l-gt0
 returns c =
-    let j = c.before.before.before.requires.joined in
+    let j = c.requires.joined in
     let t = rw (within-back tt j.gap-in) at c.if-l-gt0.true in
     rw t
 
@@ -17,7 +17,7 @@ returns-2 : tie.Need-returns
 returns-2 c =
     let s = start c.before in
     let j = s.requires.joined in
-    let t = rw (within-back tt j.gap-in) at c.before.if-l-gt0.false in
+    let t = rw (within-back tt j.gap-in) at c.if-l-gt0.false in
     rw (within-back tt j.stride-in, within-back tt j.slant-in, t)
 
 pub closed_spec : {M : Type 1} → statement M

@@ -22,11 +22,11 @@ magnitude-requires-2 c κs = let s = c.before in rw (within-back tt s.requires.1
 gcd-requires : tie.Need-gcd-requires
 gcd-requires c κs = search rules
 
-is : (c : tie.After-gcd) → pos c.gcd.result ≡ common_gap c.before.before.before.args.g c.before.before.before.args.h
+is : (c : tie.After-gcd) → pos c.gcd.result ≡ common_gap c.args.g c.args.h
 is c =
     let s = c.before.before.before in
-    let e = rw (within-back tt s.requires.0) at c.before.before.magnitude.ensures in
-    let f = rw (within-back tt s.requires.1) at c.before.magnitude-2.ensures in
+    let e = rw (within-back tt s.requires.0) at c.magnitude.ensures in
+    let f = rw (within-back tt s.requires.1) at c.magnitude-2.ensures in
     rw (c.gcd.ensures, e, f)
 
 near : (c : tie.After-gcd) → Within 100000000 (pos c.gcd.result)

@@ -18,16 +18,16 @@ loop-holds : tie.Need-loop-j-init invariant-loop decreases-loop
 loop-holds c = refl
 
 mul-a : tie.Need-offset_bounds-weight-j invariant-loop decreases-loop
-mul-a c = omega (arith, c.before.before.requires.1.1.few)
+mul-a c = omega (arith, c.requires.1.1.few)
 
 array-copy-out-a : tie.Need-bounds-weight-j invariant-loop decreases-loop
-array-copy-out-a c = omega (arith, c.before.before.requires.1.1.few)
+array-copy-out-a c = omega (arith, c.requires.1.1.few)
 
 mul-c : tie.Need-offset_bounds-price-j invariant-loop decreases-loop
-mul-c c = omega (arith, c.before.before.before.requires.1.1.few)
+mul-c c = omega (arith, c.requires.1.1.few)
 
 array-copy-out-c : tie.Need-bounds-price-j invariant-loop decreases-loop
-array-copy-out-c c = omega (arith, c.before.before.before.requires.1.1.few)
+array-copy-out-c c = omega (arith, c.requires.1.1.few)
 
 holds-requires : tie.Need-holds-requires invariant-loop decreases-loop
 holds-requires c κs =
@@ -48,8 +48,8 @@ abbrev start : tie.After-holds invariant-loop decreases-loop → tie.Start invar
 start c = (at-loop c).before
 
 -- what `holds` says of the item at j
-found : (c : tie.After-holds invariant-loop decreases-loop) → c.holds.result ≡ holds_by (start c).args.l (entry (start c).args.t2 (at-loop c).loop-j.j)
-    (entry (start c).args.t3 (at-loop c).loop-j.j)
+found : (c : tie.After-holds invariant-loop decreases-loop) → c.holds.result ≡ holds_by (start c).args.l (entry (start c).args.weight (at-loop c).loop-j.j)
+    (entry (start c).args.price (at-loop c).loop-j.j)
 found c =
     let i = at-loop c in
     let s = i.before in
@@ -67,21 +67,21 @@ loop-again : tie.Need-loop-j-preserved invariant-loop decreases-loop
 loop-again c =
     let i = at-loop c.before in
     let s = i.before in
-    held-step s.args.l (entry s.args.t2) (entry s.args.t3) i.loop-j.j s.args.n (omega arith) (sym (found c.before) ∙ c.if-holds.true)
+    held-step s.args.l (entry s.args.weight) (entry s.args.price) i.loop-j.j s.args.n (omega arith) (sym (found c.before) ∙ c.if-holds.true)
     ∙ i.loop-j.invariant
 
 returns : tie.Need-returns-else-holds invariant-loop decreases-loop
 returns c =
     let i = at-loop c.before in
     let s = i.before in
-    sym (sym i.loop-j.invariant ∙ held-stop s.args.l (entry s.args.t2) (entry s.args.t3) i.loop-j.j s.args.n (omega arith)
+    sym (sym i.loop-j.invariant ∙ held-stop s.args.l (entry s.args.weight) (entry s.args.price) i.loop-j.j s.args.n (omega arith)
     (sym (found c.before) ∙ c.if-holds.false))
 
 returns-2 : tie.Need-returns invariant-loop decreases-loop
 returns-2 c =
     let i = c.before in
     let s = i.before in
-    sym (sym i.loop-j.invariant ∙ held_none s.args.l (entry s.args.t2) (entry s.args.t3) i.loop-j.j s.args.n (omega arith))
+    sym (sym i.loop-j.invariant ∙ held_none s.args.l (entry s.args.weight) (entry s.args.price) i.loop-j.j s.args.n (omega arith))
 
 pub held_from_spec : {M : Type 1} → statement M
 held_from_spec =

@@ -35,7 +35,7 @@ rest-requires c κs =
     })
 
 -- what the weight leaves, as the local holds it
-left : (c : tie.After-rest) → to_z w64 (of_z w64 c.rest.result) ≡ rest_of c.before.before.args.a c.before.before.args.l.stride
+left : (c : tie.After-rest) → to_z w64 (of_z w64 c.rest.result) ≡ rest_of c.args.a c.args.l.stride
 left c =
     let s = c.before.before in
     rw (back c.rest.result c.rest.type_inv) (rw (within-back tt s.requires.weight-in, within-back tt s.requires.tame.stride-in) at c.rest.ensures)
@@ -91,7 +91,7 @@ unfolding holds_by
 returns-2 c =
     let f = after-floor-div c.before in
     let s = start f in
-    let k = rw (left f.before.before) at f.before.if-rest-gt0.false in
+    let k = rw (left f.before.before) at f.if-rest-gt0.false in
     let e = rw (multiple f, within-back tt (product s), within-back tt s.requires.price-in, within-back tt (over s), within-back tt s.requires.tame.gap-in) at
     c.rest-2.ensures in
     rw (k, back c.rest-2.result c.rest-2.type_inv, e)

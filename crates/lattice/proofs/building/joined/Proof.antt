@@ -19,7 +19,7 @@ abbrev decreases-loop : tie.decreases-loop-y
 decreases-loop g x₀ y₀ x y = up y.weight
 
 first-change-requires : tie.Need-first_change-x-requires invariant-loop decreases-loop
-first-change-requires c κs = c.before.requires.0
+first-change-requires c κs = c.requires.0
 
 loop-holds : tie.Need-loop-y-init invariant-loop decreases-loop
 loop-holds c =
@@ -39,7 +39,7 @@ at-loop c = c.before.before.before
 -- what a step is given
 steps : (c : tie.In-loop-y invariant-loop decreases-loop) →
     let s = start c.before.before.before in
-    Reduces c.before.before.before.loop-y.x c.before.before.before.loop-y.y
+    Reduces c.loop-y.x c.loop-y.y
     s.args.l.gap
 steps c =
     let a = c.before.before.before in
@@ -48,7 +48,7 @@ steps c =
       first = i.0;
       second = i.1;
       weight≥1 = yes_lt (rw (within-back tt i.1.weight-in) at c.loop-y-test.true);
-      gap-in = a.before.before.before.requires.0.joined.gap-in;
+      gap-in = a.requires.0.joined.gap-in;
     }
 
 reduced-requires : tie.Need-reduced-r-requires invariant-loop decreases-loop
@@ -71,7 +71,7 @@ loop-again : tie.Need-loop-y-preserved invariant-loop decreases-loop
 loop-again c =
     let t = c.before in
     let a = t.before.before.before in
-    let g = a.before.before.before.args.l.gap in
+    let g = a.args.l.gap in
     let r = steps t in
     let y = rw (within-back tt r.second.weight-in) at t.loop-y-test.true in
     rw (c.reduced-r.ensures, within-back tt r.gap-in) (
@@ -85,9 +85,9 @@ returns c =
     let a = at-else1.before.before.before in
     let s = a.before.before.before in
     let i = a.loop-y.invariant.0 in
-    let e = rw (within-back tt i.1.weight-in) at c.before.before.loop-y-test.false in
+    let e = rw (within-back tt i.1.weight-in) at c.loop-y-test.false in
     let r = reaches_end _ _ a.loop-y.x a.loop-y.y e a.loop-y.invariant.1 in
-    let t = rw (within-back tt s.requires.0.joined.gap-in, a.before.first_change-x.ensures) at r in
+    let t = rw (within-back tt s.requires.0.joined.gap-in, a.first_change-x.ensures) at r in
     rw (within-back tt i.0.weight-in, within-back tt i.0.worth-in, within-back tt i.1.worth-in) (sym t)
 
 pub joined_spec : {M : Type 1} → statement M

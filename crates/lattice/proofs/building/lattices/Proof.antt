@@ -27,10 +27,10 @@ at-loop c = (in-loop c).before
 abbrev start-of-widen : tie.After-widen-l invariant-loop decreases-loop → tie.Start invariant-loop decreases-loop
 start-of-widen c = start-of-at-loop (at-loop c)
 
-level<16 : (c : tie.In-loop-d invariant-loop decreases-loop) → c.before.loop-d.d - 1 < 16
+level<16 : (c : tie.In-loop-d invariant-loop decreases-loop) → c.loop-d.d - 1 < 16
 level<16 c =
     let s = start-of-at-loop c.before in
-    omega (arith, c.before.loop-d.invariant.most, s.requires.few)
+    omega (arith, c.loop-d.invariant.most, s.requires.few)
 
 unknown-lattices-requires : tie.Need-unknown_lattices-to-requires invariant-loop decreases-loop
 unknown-lattices-requires c κs = tt
@@ -41,7 +41,7 @@ no-changes-requires c κs = tt
 loop-holds : tie.Need-loop-d-init invariant-loop decreases-loop
 loop-holds c =
     let s = c.before.before in
-    rw (c.before.unknown_lattices-to.ensures, c.no_changes-l.ensures) (built-none (entry s.args.t1) (entry s.args.t2) s.args.n)
+    rw (c.unknown_lattices-to.ensures, c.no_changes-l.ensures) (built-none (entry s.args.weight) (entry s.args.price) s.args.n)
 
 sub-d : tie.Need-overflow_sub-d invariant-loop decreases-loop
 sub-d c = omega arith
@@ -59,11 +59,11 @@ array-copy-out-c : tie.Need-bounds-price-d invariant-loop decreases-loop
 array-copy-out-c c = level<16 c.before
 
 -- the guess so far, and the level's item, are in their ranges
-guessed : (i : tie.In-loop-d invariant-loop decreases-loop) → Guess i.before.loop-d.l
+guessed : (i : tie.In-loop-d invariant-loop decreases-loop) → Guess i.loop-d.l
 guessed i =
     let l = i.before in
     let s = l.before.before.before in
-    rw l.loop-d.invariant.guess (guess-is (entry s.args.t1) (entry s.args.t2) s.args.n s.requires (s.args.n - l.loop-d.d))
+    rw l.loop-d.invariant.guess (guess-is (entry s.args.weight) (entry s.args.price) s.args.n s.requires (s.args.n - l.loop-d.d))
 
 widen-requires : tie.Need-widen-l-requires invariant-loop decreases-loop
 widen-requires c κs =
@@ -75,8 +75,8 @@ widen-requires c κs =
     rw (within-back tt a, within-back tt p) (guessed n, (a, p))
 
 -- the guess with the level's item
-wider : (c : tie.After-widen-l invariant-loop decreases-loop) → c.widen-l.result ≡ widened_by (at-loop c).loop-d.l (entry (start-of-widen c).args.t1 ((at-loop c).loop-d.d - 1))
-    (entry (start-of-widen c).args.t2 ((at-loop c).loop-d.d - 1))
+wider : (c : tie.After-widen-l invariant-loop decreases-loop) → c.widen-l.result ≡ widened_by (at-loop c).loop-d.l (entry (start-of-widen c).args.weight ((at-loop c).loop-d.d - 1))
+    (entry (start-of-widen c).args.price ((at-loop c).loop-d.d - 1))
 wider c =
     let i = at-loop c in
     let s = i.before.before.before in
@@ -88,7 +88,7 @@ checked-requires c κs =
     let i = n.before in
     let s = i.before.before.before in
     let k = i.loop-d.d - 1 in
-    rw (wider c) (widened-guess i.loop-d.l (entry s.args.t1 k) (entry s.args.t2 k) (guessed n) (s.requires.weights-in k) (s.requires.prices-in k), s.requires)
+    rw (wider c) (widened-guess i.loop-d.l (entry s.args.weight k) (entry s.args.price k) (guessed n) (s.requires.weights-in k) (s.requires.prices-in k), s.requires)
 
 mul-to : tie.Need-offset_bounds-to-d invariant-loop decreases-loop
 mul-to c = omega (arith, level<16 (in-loop c.before))
@@ -104,7 +104,7 @@ loop-again c =
     let w = c.before in
     let i = at-loop w in
     let s = i.before.before.before in
-    rw c.checked.ensures (built-more (entry s.args.t1) (entry s.args.t2) s.args.n i.loop-d.d i.loop-d.l w.widen-l.result i.loop-d.to
+    rw c.checked.ensures (built-more (entry s.args.weight) (entry s.args.price) s.args.n i.loop-d.d i.loop-d.l w.widen-l.result i.loop-d.to
     s.requires.few (omega arith) (wider w) i.loop-d.invariant)
 
 returns : tie.Need-returns invariant-loop decreases-loop
@@ -112,8 +112,8 @@ returns c =
     let i = c.before in
     let s = i.before.before.before in
     let none : i.loop-d.d ≡ 0 = omega (arith, c.loop-d-test.false) in
-    built-done (entry s.args.t1) (entry s.args.t2) s.args.n i.loop-d.l i.loop-d.to
-    (subst (λ d. Built (entry s.args.t1) (entry s.args.t2) s.args.n d i.loop-d.l i.loop-d.to) none i.loop-d.invariant)
+    built-done (entry s.args.weight) (entry s.args.price) s.args.n i.loop-d.l i.loop-d.to
+    (subst (λ d. Built (entry s.args.weight) (entry s.args.price) s.args.n d i.loop-d.l i.loop-d.to) none i.loop-d.invariant)
 
 pub lattices_spec : {M : Type 1} → statement M
 lattices_spec =

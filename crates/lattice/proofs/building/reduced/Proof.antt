@@ -31,8 +31,8 @@ floor-div-requires c κs =
     (within_more (omega arith) s.requires.first.weight-in, nonzero s.args.v.weight s.requires.weight≥1)
 
 -- the second worth times the quotient, as the locals hold them
-multiple : (c : tie.After-floor_div) → to_z w64 (of_z w64 c.before.before.before.args.v.worth) *ℤ to_z w64 (of_z w64 c.floor_div.result)
-    ≡ c.before.before.before.args.v.worth *ℤ Q c.before.before.before
+multiple : (c : tie.After-floor_div) → to_z w64 (of_z w64 c.args.v.worth) *ℤ to_z w64 (of_z w64 c.floor_div.result)
+    ≡ c.args.v.worth *ℤ Q c.before.before.before
 multiple c =
     let s = c.before.before.before in
     let e = rw (within-back tt s.requires.first.weight-in, within-back tt s.requires.second.weight-in) at c.floor_div.ensures in

@@ -25,8 +25,8 @@ floor-div-requires c κs = let s = c in rw (within-back tt s.requires.dividend-i
     (within_more (omega arith) s.requires.dividend-in, nonzero s.args.m s.requires.divisor≥1)
 
 -- the divisor times the quotient, as the local holds it
-multiple : (c : tie.After-floor_div) → to_z w64 (of_z w64 c.before.args.m) *ℤ to_z w64 (of_z w64 c.floor_div.result) ≡ c.before.args.m *ℤ floor_div
-    c.before.args.n c.before.args.m
+multiple : (c : tie.After-floor_div) → to_z w64 (of_z w64 c.args.m) *ℤ to_z w64 (of_z w64 c.floor_div.result) ≡ c.args.m *ℤ floor_div
+    c.args.n c.args.m
 multiple c =
     let s = c.before in
     let e = rw (within-back tt s.requires.dividend-in, within-back tt s.requires.divisor-in) at c.floor_div.ensures in

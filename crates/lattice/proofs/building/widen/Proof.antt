@@ -13,7 +13,7 @@ upright-requires : tie.Need-upright-v-requires
 upright-requires c κs = search rules
 
 -- the change as it is joined
-turned : (c : tie.After-upright-v) → c.upright-v.result ≡ upright_by c.before.args.a c.before.args.c
+turned : (c : tie.After-upright-v) → c.upright-v.result ≡ upright_by c.args.a c.args.c
 turned c = let s = c.before in rw (within-back tt s.requires.1.0, within-back tt s.requires.1.1) at c.upright-v.ensures
 
 joined-requires : tie.Need-joined-j-requires
@@ -22,7 +22,7 @@ joined-requires c κs =
     rw (turned c) (s.requires.0, upright-is s.args.a s.args.c s.requires.1.0 s.requires.1.1)
 
 -- what it is joined to
-met : (c : tie.After-joined-j) → c.joined-j.result ≡ joined_by c.before.before.args.l (upright_by c.before.before.args.a c.before.before.args.c)
+met : (c : tie.After-joined-j) → c.joined-j.result ≡ joined_by c.args.l (upright_by c.args.a c.args.c)
 met c = rw (turned c.before) at c.joined-j.ensures
 
 common-gap-requires : tie.Need-common_gap-g-requires

@@ -55,10 +55,10 @@ loop-again c =
 
 returns : tie.Need-returns invariant-loop decreases-loop
 returns c =
-    let at = c.before.before.before.args.at in
-    let z : c.before.loop-i.i ≡ 0 = omega arith in
+    let at = c.args.at in
+    let z : c.loop-i.i ≡ 0 = omega arith in
     let a : at + 0 ≡ at = omega arith in
-    c.before.loop-i.invariant.1 ∙ rw (z, a)
+    c.loop-i.invariant.1 ∙ rw (z, a)
 
 pub block_at_spec : {M : Type 1} → statement M
 block_at_spec =

@@ -9,17 +9,17 @@ use Rattle.arith.proofs.Parts.{plain-lt}
 use Rattle.lines.proofs.number.by_range.Statement.{statement}
 use Rattle.lines.proofs.number.by_range.Tie as tie
 
-lo-fits : (c : tie.After-struct_told-2-1) → SFits w64 c.before.before.args.range.lo
+lo-fits : (c : tie.After-struct_told-2-1) → SFits w64 c.args.range.lo
 lo-fits c = search rules
 
-hi-fits : (c : tie.After-struct_told-2-1) → SFits w64 c.before.before.args.range.hi
+hi-fits : (c : tie.After-struct_told-2-1) → SFits w64 c.args.range.hi
 hi-fits c = search rules
 
 returns : tie.Need-returns-then-z-lo
-returns c = rw (plain-lt c.before.before.before.ranges.z (lo-fits c.before) c.if-z-lo.true)
+returns c = rw (plain-lt c.ranges.z (lo-fits c.before) c.if-z-lo.true)
 
-not_low : (c : tie.Else-z-lo) → lt_z c.before.before.before.args.z c.before.before.before.args.range.lo ≡ false
-not_low c = plain-lt c.before.before.before.ranges.z (lo-fits c.before) c.if-z-lo.false
+not_low : (c : tie.Else-z-lo) → lt_z c.args.z c.args.range.lo ≡ false
+not_low c = plain-lt c.ranges.z (lo-fits c.before) c.if-z-lo.false
 
 -- the moments that are spoken of below
 abbrev start : tie.Else-z-lo → tie.Start

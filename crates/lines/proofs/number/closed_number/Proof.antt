@@ -32,27 +32,27 @@ enum-known-p c = search rules
 returns : tie.Need-returns-in-Nothing
 unfolding field_at
 returns c =
-    let t = c.before in rw (sym t.before.before.number-f.ensures ∙ t.enum_told-1.given.1) (ap (λ n. Fault n) c.fault_at.ensures)
+    let t = c.before in rw (sym t.number-f.ensures ∙ t.in-Nothing.is) (ap (λ n. Fault n) c.fault_at.ensures)
 
 returns-2 : tie.Need-returns-in-Nothing-p
 unfolding field_at
 returns-2 c =
     let t = c.before in
-    let m = t.before.before.before in
+    let m = t.before.before in
     rw (
-      sym m.before.before.before.number-f.ensures ∙ m.before.f-1.given.1,
-      sym t.before.before.after_byte-p.ensures ∙ t.enum_told-in-Nothing-p-1.given.1,
+      sym m.number-f.ensures ∙ m.in-Number.is,
+      sym t.after_byte-p.ensures ∙ t.in-Nothing-p.is,
     )
     (ap (λ n. Fault n) c.fault_at-in-Nothing-p.ensures)
 
 returns-3 : tie.Need-returns-in-At
 unfolding field_at
 returns-3 c =
-    let p = c.before in
-    let m = p.before.before.before in
+    let p = c in
+    let m = p.before.before in
     rw (
-      sym m.before.before.before.number-f.ensures ∙ m.before.f-1.given.1,
-      sym p.before.before.after_byte-p.ensures ∙ p.p-1.given.1,
+      sym m.number-f.ensures ∙ m.in-Number.is,
+      sym p.after_byte-p.ensures ∙ p.in-At.is,
     )
 
 pub closed_number_spec : {M : Type 1} → statement M

@@ -37,13 +37,13 @@ shared-slice-read-b c = omega arith
 returns : tie.Need-returns-then-b-lt48 invariant-loop decreases-loop
 returns c =
     let l = c.before.before.before in
-    done _ _ l.loop-at.value l.loop-at.at l.loop-at.invariant (run-stop _ _ c.before.before.loop-at-test.true (digit_low _ c.if-b-lt48.true))
+    done _ _ l.loop-at.value l.loop-at.at l.loop-at.invariant (run-stop _ _ c.loop-at-test.true (digit_low _ c.if-b-lt48.true))
 
 returns-2 : tie.Need-returns-then-b-gt57 invariant-loop decreases-loop
 returns-2 c =
     let f = c.before.before in
     let l = f.before.before in
-    done _ _ l.loop-at.value l.loop-at.at l.loop-at.invariant (run-stop _ _ f.before.loop-at-test.true (digit-high _ c.if-b-gt57.true))
+    done _ _ l.loop-at.value l.loop-at.at l.loop-at.invariant (run-stop _ _ f.loop-at-test.true (digit-high _ c.if-b-gt57.true))
 
 -- the moments that are spoken of below
 abbrev at-loop-of-else1 : tie.Else-b-lt48 invariant-loop decreases-loop → tie.At-loop-at invariant-loop decreases-loop
@@ -52,7 +52,7 @@ at-loop-of-else1 c = c.before.before.before
 push-requires : tie.Need-push-value-requires invariant-loop decreases-loop
 push-requires c κs =
     let at-loop = at-loop-of-else1 c.before in
-    (at-loop.loop-at.invariant.small, c.before.if-b-lt48.false)
+    (at-loop.loop-at.invariant.small, c.if-b-lt48.false)
 
 add_at : tie.Need-overflow_add-at invariant-loop decreases-loop
 add_at c = omega arith
@@ -66,10 +66,10 @@ loop-again c =
     let f = c.before.before in
     let t = f.before.before in
     let l = t.before in
-    let s = l.before.before.args.s.now in
+    let s = l.args.s.now in
     let at = l.loop-at.at in
     let v = l.loop-at.value in
-    let e = run_more s at t.loop-at-test.true (digit-yes (get_or s at 0) f.if-b-lt48.false c.before.if-b-gt57.false) in
+    let e = run_more s at t.loop-at-test.true (digit-yes (get_or s at 0) f.if-b-lt48.false c.if-b-gt57.false) in
     record {
       small = omega (arith, c.push-value.ensures);
       same = l.loop-at.invariant.same ∙ rw (e, add-one, c.push-value.ensures) (saturate 1000000000 (10 * v + (get_or s at 0 - 48)) (digit_run (drop (suc at) s)));

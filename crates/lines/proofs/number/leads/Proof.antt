@@ -29,7 +29,7 @@ returns-3 c =
 returns-4 : tie.Need-returns
 returns-4 c =
     let s = start c.before in
-    rw (default s.args.s.now s.args.at 256 0 (omega arith)) (sym (leading-yes _ c.before.if-b-lt49.false c.if-b-gt57.false))
+    rw (default s.args.s.now s.args.at 256 0 (omega arith)) (sym (leading-yes _ c.if-b-lt49.false c.if-b-gt57.false))
 
 pub leads_spec : {M : Type 1} → statement M
 leads_spec = tie.close (tie.spec returns shared-slice-read-b returns-2 returns-3 returns-4)

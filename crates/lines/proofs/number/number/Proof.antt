@@ -33,27 +33,27 @@ unsigned-requires-2 c κs = search rules
 
 returns : tie.Need-returns-in-At
 returns c =
-    let at_zero = c.before.before in
-    let at-after-byte = at_zero.before.before in
-    rw (sym at-after-byte.after_byte-zero.ensures ∙ c.before.before.zero-1.given.1)
-    (ap (λ f. Number f c.before.before.zero-1.given.0.0) c.by_range-f.ensures)
+    let at_zero = c.before in
+    let at-after-byte = at_zero.before in
+    rw (sym at-after-byte.after_byte-zero.ensures ∙ c.in-At.is)
+    (ap (λ f. Number f c.in-At.next) c.by_range-f.ensures)
 
 returns-2 : tie.Need-returns-in-At-minus
 returns-2 c =
-    let at-minus = c.before.before in
-    let m = at-minus.before.before in
+    let at-minus = c.before in
+    let m = at-minus.before in
     rw (
-      sym m.before.before.before.after_byte-zero.ensures ∙ m.before.enum_told-1.given.1,
-      sym m.after_byte-minus.ensures ∙ c.before.before.minus-1.given.1,
+      sym m.after_byte-zero.ensures ∙ m.in-Nothing.is,
+      sym m.after_byte-minus.ensures ∙ c.in-At-minus.is,
     )
     c.unsigned.ensures
 
 returns-3 : tie.Need-returns-in-Nothing-minus
 returns-3 c =
-    let m = c.before.before.before in
+    let m = c.before.before in
     rw (
-      sym m.before.before.before.after_byte-zero.ensures ∙ m.before.enum_told-1.given.1,
-      sym m.after_byte-minus.ensures ∙ c.before.enum_told-in-Nothing-minus-1.given.1,
+      sym m.after_byte-zero.ensures ∙ m.in-Nothing.is,
+      sym m.after_byte-minus.ensures ∙ c.in-Nothing-minus.is,
     )
     c.unsigned-in-Nothing-minus.ensures
 

@@ -17,15 +17,15 @@ cast-result : tie.Need-overflow_cast-result
 cast-result c = search rules
 
 sub-result : tie.Need-overflow_sub-result
-sub-result c = rw (to_z_pos w64 {n = c.before.args.n} (omega arith)) (small c.before.args.n c.before.requires)
+sub-result c = rw (to_z_pos w64 {n = c.args.n} (omega arith)) (small c.args.n c.requires)
 
 cast-result-2 : tie.Need-overflow_cast-result-else-negative
 cast-result-2 c = search rules
 
 returns : tie.Need-returns-then-negative
 returns c =
-    rw (to_z_pos w64 {n = c.before.args.n} (omega arith), to_z-of_z (small c.before.args.n c.before.requires), c.if-negative.true)
-    (zero-less (pos c.before.args.n))
+    rw (to_z_pos w64 {n = c.args.n} (omega arith), to_z-of_z (small c.args.n c.requires), c.if-negative.true)
+    (zero-less (pos c.args.n))
 
 returns-2 : tie.Need-returns-else-negative
 returns-2 c = rw c.if-negative.false (to_z_pos w64 (omega arith))

@@ -30,10 +30,10 @@ returns c =
     let n = s.args.negative in
     let z = back g.signed-z.result g.signed-z.type_inv ∙ g.signed-z.ensures ∙ ap (signed_of n) d.digits_from-d.ensures.capped in
     let f = c.by_range-f.ensures ∙ ap (ranged r) z ∙ ranged-saturated r n (read_after 0 _) s.requires in
-    rw (sym t.before.leads.ensures ∙ t.if-leads.true) (ap₂ Number f d.digits_from-d.ensures.behind)
+    rw (sym t.leads.ensures ∙ t.if-leads.true) (ap₂ Number f d.digits_from-d.ensures.behind)
 
 returns-2 : tie.Need-returns-else-leads
-returns-2 c = rw (sym c.before.leads.ensures ∙ c.if-leads.false)
+returns-2 c = rw (sym c.leads.ensures ∙ c.if-leads.false)
 
 pub unsigned_spec : {M : Type 1} → statement M
 unsigned_spec =

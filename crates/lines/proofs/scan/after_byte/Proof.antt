@@ -6,7 +6,7 @@ use Rattle.lines.proofs.scan.after_byte.Statement.{statement}
 use Rattle.lines.proofs.scan.after_byte.Tie as tie
 
 returns : tie.Need-returns-then-s-at
-returns c = sym (after-end c.before.args.s.now c.before.args.at c.before.args.b c.if-s-at.true (omega arith))
+returns c = sym (after-end c.args.s.now c.args.at c.args.b c.if-s-at.true (omega arith))
 
 shared-slice-read-if2 : tie.Need-bounds-s-at
 shared-slice-read-if2 c = search rules

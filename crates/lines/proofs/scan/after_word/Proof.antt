@@ -29,11 +29,11 @@ enum_told c = search rules
 
 returns : tie.Need-returns-in-Nothing invariant-loop decreases-loop
 returns c =
-    let b = c.before.before in
+    let b = c.before in
     let t = b.before.before in
     let l = t.before in
-    let a = l.before.before.before.args in
-    let e = sym b.after_byte-p.ensures ∙ c.enum_told-1.given.1 in
+    let a = l.args in
+    let e = sym b.after_byte-p.ensures ∙ c.in-Nothing.is in
     sym (l.loop-i.invariant.1 ∙ word-not a.s.now a.w.now l.loop-i.at l.loop-i.i t.loop-i-test.true e)
 
 enum-known-p : tie.Need-enum_known-p invariant-loop decreases-loop
@@ -47,19 +47,19 @@ loop-less c = search rules
 
 loop-again : tie.Need-loop-i-preserved invariant-loop decreases-loop
 loop-again c =
-    let k = c.before in
-    let b = k.before.before in
+    let k = c in
+    let b = k.before in
     let t = b.before.before in
     let l = t.before in
-    let a = l.before.before.before.args in
-    let e = sym b.after_byte-p.ensures ∙ k.p-1.given.1 in
-    let m = word_more a.s.now a.w.now l.loop-i.at l.loop-i.i k.p-1.given.0.0 t.loop-i-test.true e in
+    let a = l.args in
+    let e = sym b.after_byte-p.ensures ∙ k.in-At.is in
+    let m = word_more a.s.now a.w.now l.loop-i.at l.loop-i.i k.in-At.next t.loop-i-test.true e in
     (omega arith, l.loop-i.invariant.1 ∙ rw add-one m)
 
 returns-2 : tie.Need-returns invariant-loop decreases-loop
 returns-2 c =
     let l = c.before in
-    let a = l.before.before.before.args in
+    let a = l.args in
     sym (l.loop-i.invariant.1 ∙ word-done a.s.now a.w.now l.loop-i.at l.loop-i.i c.loop-i-test.false)
 
 pub after_word_spec : {M : Type 1} → statement M

@@ -8,13 +8,13 @@ overlong-requires : tie.Need-overlong-requires
 overlong-requires c κs = search rules
 
 returns : tie.Need-returns-then-s-gt-LONGEST
-returns c = rw (lt-ltb _ _ c.before.if-s-gt-LONGEST.true) c.overlong.ensures
+returns c = rw (lt-ltb _ _ c.if-s-gt-LONGEST.true) c.overlong.ensures
 
 overlong-requires-2 : tie.Need-overlong-requires-then-line-eq0
 overlong-requires-2 c κs = search rules
 
 returns-2 : tie.Need-returns-then-line-eq0
-returns-2 c = let t = c.before in rw (le-ltb _ _ t.before.if-s-gt-LONGEST.false, eq-eqb _ _ t.if-line-eq0.true) c.overlong-then-line-eq0.ensures
+returns-2 c = let t = c.before in rw (le-ltb _ _ t.if-s-gt-LONGEST.false, eq-eqb _ _ t.if-line-eq0.true) c.overlong-then-line-eq0.ensures
 
 sub-closed-line : tie.Need-overflow_sub-line
 sub-closed-line c = search rules
@@ -30,14 +30,14 @@ enum-known-span c = search rules
 
 returns-3 : tie.Need-returns-in-Nothing
 returns-3 c =
-    let l = c.before.before in
-    rw (le-ltb _ _ l.before.before.if-s-gt-LONGEST.false, ne_eqb _ _ l.before.if-line-eq0.false, sym l.closed_line-span.ensures ∙ c.enum_told-1.given.1)
+    let l = c.before in
+    rw (le-ltb _ _ l.if-s-gt-LONGEST.false, ne_eqb _ _ l.if-line-eq0.false, sym l.closed_line-span.ensures ∙ c.in-Nothing.is)
 
 returns-4 : tie.Need-returns-in-Line
 returns-4 c =
-    let k = c.before in
-    let l = k.before.before in
-    rw (le-ltb _ _ l.before.before.if-s-gt-LONGEST.false, ne_eqb _ _ l.before.if-line-eq0.false, sym l.closed_line-span.ensures ∙ k.span-1.given.1)
+    let k = c in
+    let l = k.before in
+    rw (le-ltb _ _ l.if-s-gt-LONGEST.false, ne_eqb _ _ l.if-line-eq0.false, sym l.closed_line-span.ensures ∙ k.in-Line.is)
 
 pub asked_line_spec : {M : Type 1} → statement M
 asked_line_spec =

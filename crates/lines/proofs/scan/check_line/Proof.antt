@@ -13,10 +13,10 @@ enum_told : tie.Need-enum_told-1
 enum_told c = search rules
 
 returns : tie.Need-returns-in-Refused
-returns c = let k = c.before in rw (sym k.before.before.asked_line-asked.ensures ∙ k.asked-1.given.1)
+returns c = let k = c in rw (sym k.asked_line-asked.ensures ∙ k.in-Refused.is)
 
 returns-2 : tie.Need-returns-in-Line
-returns-2 c = rw (sym c.before.before.asked_line-asked.ensures ∙ c.enum_told-1.given.1)
+returns-2 c = rw (sym c.asked_line-asked.ensures ∙ c.in-Line.is)
 
 pub check_line_spec : {M : Type 1} → statement M
 check_line_spec =

@@ -27,16 +27,16 @@ enum_told c = search rules
 
 returns : tie.Need-returns-in-Nothing invariant-loop decreases-loop
 returns c =
-    let l = c.before.before.before in
-    let e = sym c.before.before.first_line_end-p.ensures ∙ c.enum_told-1.given.1 in
-    sym (l.loop-e.invariant.1 ∙ closed_none l.loop-e.false l.before.before.args.s.now l.loop-e.from e)
+    let l = c.before.before in
+    let e = sym c.first_line_end-p.ensures ∙ c.in-Nothing.is in
+    sym (l.loop-e.invariant.1 ∙ closed_none l.loop-e.false l.args.s.now l.loop-e.from e)
 
 enum-known-p : tie.Need-enum_known-p invariant-loop decreases-loop
 enum-known-p c = search rules
 
 -- where a line's end was looked for, and the loop before that
 abbrev looked : tie.In-At invariant-loop decreases-loop → tie.After-first_line_end-p invariant-loop decreases-loop
-looked c = c.before.before.before
+looked c = c.before
 
 abbrev at-loop : tie.In-At invariant-loop decreases-loop → tie.At-loop-e invariant-loop decreases-loop
 at-loop c = (looked c).before
@@ -44,13 +44,13 @@ at-loop c = (looked c).before
 -- the end that was found
 found : (c : tie.In-At invariant-loop decreases-loop) →
     let l = at-loop c in
-    first_end l.loop-e.from (drop l.loop-e.from l.before.before.args.s.now) ≡ At c.before.p-1.given.0.0
-found c = sym (looked c).first_line_end-p.ensures ∙ c.before.p-1.given.1
+    first_end l.loop-e.from (drop l.loop-e.from l.args.s.now) ≡ At c.in-At.e
+found c = sym (looked c).first_line_end-p.ensures ∙ c.in-At.is
 
 returns-2 : tie.Need-returns-then-left-eq0 invariant-loop decreases-loop
 returns-2 c =
     let l = at-loop c.before in
-    let s = l.before.before.args.s.now in
+    let s = l.args.s.now in
     sym (l.loop-e.invariant.1 ∙ ap (λ n. closed_line n s l.loop-e.from) c.if-left-eq0.true ∙ closed-last s l.loop-e.from _ (found c.before))
 
 sub-left : tie.Need-overflow_sub-left invariant-loop decreases-loop
@@ -58,8 +58,8 @@ sub-left c = omega arith
 
 within : (c : tie.Else-left-eq0 invariant-loop decreases-loop) →
     let l = at-loop c.before in
-    (l.loop-e.from ≤ c.before.before.p-1.given.0.0) × (c.before.before.p-1.given.0.0 < length l.before.before.args.s.now)
-within c = let l = at-loop c.before in end-within l.before.before.args.s.now l.loop-e.from _ (found c.before)
+    (l.loop-e.from ≤ c.in-At.e) × (c.in-At.e < length l.args.s.now)
+within c = let l = at-loop c.before in end-within l.args.s.now l.loop-e.from _ (found c.before)
 
 add-from : tie.Need-overflow_add-from invariant-loop decreases-loop
 add-from c = omega (arith, within c)
@@ -70,7 +70,7 @@ loop-less c = omega (arith, within c)
 loop-again : tie.Need-loop-e-preserved invariant-loop decreases-loop
 loop-again c =
     let l = at-loop c.before in
-    let s = l.before.before.args.s.now in
+    let s = l.args.s.now in
     let q : l.loop-e.false ≡ suc (l.loop-e.false - 1) = omega arith in
     let m = closed-more (l.loop-e.false - 1) s l.loop-e.from _ (found c.before) in
     (omega (arith, within c), l.loop-e.invariant.1 ∙ ap (λ n. closed_line n s l.loop-e.from) q ∙ rw add-one m)

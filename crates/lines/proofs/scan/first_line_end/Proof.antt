@@ -37,19 +37,19 @@ first-hit-requires : tie.Need-first_hit-requires invariant-loop decreases-loop
 first-hit-requires c κs = search rules
 
 add-t12 : tie.Need-overflow_add-result invariant-loop decreases-loop
-add-t12 c = omega (arith, trailing_le 64 c.before.before.hits_of-m.result)
+add-t12 c = omega (arith, trailing_le 64 c.hits_of-m.result)
 
 hits_at : (c : tie.After-hits_of-m invariant-loop decreases-loop) →
-    let l = c.before.before.before in c.hits_of-m.result ≡ hits l.before.before.before.args.s.now 8 l.loop-at.at
-hits_at c = c.hits_of-m.ensures ∙ ap (hits_in 8) c.before.block_at.ensures
+    let l = c.before.before.before in c.hits_of-m.result ≡ hits l.args.s.now 8 l.loop-at.at
+hits_at c = c.hits_of-m.ensures ∙ ap (hits_in 8) c.block_at.ensures
 
 returns-2 : tie.Need-returns-then-m-ne0 invariant-loop decreases-loop
 returns-2 c =
     let d = c.before.before in
     let l = d.before.before.before in
     let entry = l.before.before in
-    let e = end-hit entry.before.args.s.now entry.shared_slice_known-1.given l.loop-at.at d.hits_of-m.result (omega arith) (hits_at d)
-    c.before.if-m-ne0.true in
+    let e = end-hit entry.args.s.now entry.shared_slice_known-1.given l.loop-at.at d.hits_of-m.result (omega arith) (hits_at d)
+    c.if-m-ne0.true in
     sym (l.loop-at.invariant.1 ∙ e ∙ rw c.first_hit.ensures)
 
 add_at : tie.Need-overflow_add-at invariant-loop decreases-loop
@@ -63,7 +63,7 @@ loop-again c =
     let d = c.before in
     let l = d.before.before.before in
     let entry = l.before.before in
-    let e = end-unhit entry.before.args.s.now entry.shared_slice_known-1.given l.loop-at.at d.hits_of-m.result (omega arith) (hits_at d)
+    let e = end-unhit entry.args.s.now entry.shared_slice_known-1.given l.loop-at.at d.hits_of-m.result (omega arith) (hits_at d)
     c.if-m-ne0.false in
     (omega arith, l.loop-at.invariant.1 ∙ e)
 
@@ -71,7 +71,7 @@ line-end-in-tail-requires : tie.Need-line_end_in_tail-requires invariant-loop de
 line-end-in-tail-requires c κs = search rules
 
 returns-3 : tie.Need-returns invariant-loop decreases-loop
-returns-3 c = c.line_end_in_tail.ensures ∙ sym c.before.before.loop-at.invariant.1
+returns-3 c = c.line_end_in_tail.ensures ∙ sym c.loop-at.invariant.1
 
 pub first_line_end_spec : {M : Type 1} → statement M
 first_line_end_spec =

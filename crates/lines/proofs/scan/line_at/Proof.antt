@@ -29,9 +29,9 @@ enum_told c = search rules
 
 returns : tie.Need-returns-in-Nothing invariant-loop decreases-loop
 returns c =
-    let l = c.before.before.before in
-    let a = l.before.before.args in
-    let n = ends-none a.s.now l.loop-e.from a.at (sym c.before.before.first_line_end-p.ensures ∙ c.enum_told-1.given.1) in
+    let l = c.before.before in
+    let a = l.args in
+    let n = ends-none a.s.now l.loop-e.from a.at (sym c.first_line_end-p.ensures ∙ c.in-Nothing.is) in
     omega arith
 
 enum-known-p : tie.Need-enum_known-p invariant-loop decreases-loop
@@ -39,7 +39,7 @@ enum-known-p c = search rules
 
 -- where a line's end was looked for, and the loop before that
 abbrev looked : tie.In-At invariant-loop decreases-loop → tie.After-first_line_end-p invariant-loop decreases-loop
-looked c = c.before.before.before
+looked c = c.before
 
 abbrev at-loop : tie.In-At invariant-loop decreases-loop → tie.At-loop-e invariant-loop decreases-loop
 at-loop c = (looked c).before
@@ -47,20 +47,20 @@ at-loop c = (looked c).before
 -- the end that was found
 found : (c : tie.In-At invariant-loop decreases-loop) →
     let l = at-loop c in
-    first_end l.loop-e.from (drop l.loop-e.from l.before.before.args.s.now) ≡ At c.before.p-1.given.0.0
-found c = sym (looked c).first_line_end-p.ensures ∙ c.before.p-1.given.1
+    first_end l.loop-e.from (drop l.loop-e.from l.args.s.now) ≡ At c.in-At.e
+found c = sym (looked c).first_line_end-p.ensures ∙ c.in-At.is
 
 returns-2 : tie.Need-returns-then-at-e invariant-loop decreases-loop
 returns-2 c =
     let l = at-loop c.before in
-    let a = l.before.before.args in
-    let n = ends-before a.s.now l.loop-e.from a.at c.before.before.p-1.given.0.0 (found c.before) c.if-at-e.true in
+    let a = l.args in
+    let n = ends-before a.s.now l.loop-e.from a.at c.in-At.e (found c.before) c.if-at-e.true in
     omega arith
 
 within : (c : tie.Else-at-e invariant-loop decreases-loop) →
     let l = at-loop c.before in
-    (l.loop-e.from ≤ c.before.before.p-1.given.0.0) × (c.before.before.p-1.given.0.0 < length l.before.before.args.s.now)
-within c = let l = at-loop c.before in end-within l.before.before.args.s.now l.loop-e.from _ (found c.before)
+    (l.loop-e.from ≤ c.in-At.e) × (c.in-At.e < length l.args.s.now)
+within c = let l = at-loop c.before in end-within l.args.s.now l.loop-e.from _ (found c.before)
 
 add-line : tie.Need-overflow_add-line invariant-loop decreases-loop
 add-line c = omega (arith, within c)
@@ -74,9 +74,9 @@ loop-less c = omega (arith, within c)
 loop-again : tie.Need-loop-e-preserved invariant-loop decreases-loop
 loop-again c =
     let l = at-loop c.before in
-    let a = l.before.before.args in
-    let n = ends-past a.s.now l.loop-e.from a.at c.before.before.p-1.given.0.0 (found c.before) c.if-at-e.false in
-    (omega (arith, within c), (omega (arith, within c), rw (add-one c.before.before.p-1.given.0.0) (omega arith)))
+    let a = l.args in
+    let n = ends-past a.s.now l.loop-e.from a.at c.in-At.e (found c.before) c.if-at-e.false in
+    (omega (arith, within c), (omega (arith, within c), rw (add-one c.in-At.e) (omega arith)))
 
 pub line_at_spec : {M : Type 1} → statement M
 line_at_spec =

@@ -24,7 +24,7 @@ returns : tie.Need-returns-then-s-at-eq10 invariant-loop decreases-loop
 returns c =
     let t = c.before.before in
     let l = t.before in
-    sym (l.loop-at.invariant ∙ end-here l.before.args.s.now l.loop-at.at t.loop-at-test.true c.if-s-at-eq10.true)
+    sym (l.loop-at.invariant ∙ end-here l.args.s.now l.loop-at.at t.loop-at-test.true c.if-s-at-eq10.true)
 
 add_at : tie.Need-overflow_add-at invariant-loop decreases-loop
 add_at c = omega arith
@@ -36,10 +36,10 @@ loop-again : tie.Need-loop-at-preserved invariant-loop decreases-loop
 loop-again c =
     let t = c.before.before in
     let l = t.before in
-    l.loop-at.invariant ∙ rw add-one (end_later l.before.args.s.now l.loop-at.at t.loop-at-test.true c.if-s-at-eq10.false)
+    l.loop-at.invariant ∙ rw add-one (end_later l.args.s.now l.loop-at.at t.loop-at-test.true c.if-s-at-eq10.false)
 
 returns-2 : tie.Need-returns invariant-loop decreases-loop
-returns-2 c = sym (c.before.loop-at.invariant ∙ end_none c.before.before.args.s.now c.before.loop-at.at c.loop-at-test.false)
+returns-2 c = sym (c.loop-at.invariant ∙ end_none c.args.s.now c.loop-at.at c.loop-at-test.false)
 
 pub line_end_in_tail_spec : {M : Type 1} → statement M
 line_end_in_tail_spec =

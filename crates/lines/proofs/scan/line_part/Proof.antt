@@ -27,14 +27,14 @@ enum-known-asked c = search rules
 
 -- where the line stands
 within : (c : tie.In-Line) →
-    let k = c.before in
-    let l = k.before.before in
-    (k.asked-1.given.0.0 ≤ k.asked-1.given.0.1.0) × (k.asked-1.given.0.1.0 < length l.before.before.args.s.now)
+    let k = c in
+    let l = k.before in
+    (k.in-Line.a ≤ k.in-Line.e) × (k.in-Line.e < length l.args.s.now)
 within c =
-    let k = c.before in
-    let l = k.before.before in
+    let k = c in
+    let l = k.before in
     let s = l.before.before in
-    asked-within s.args.s.now s.args.line _ _ (sym l.asked_line-asked.ensures ∙ k.asked-1.given.1)
+    asked-within s.args.s.now s.args.line _ _ (sym l.asked_line-asked.ensures ∙ k.in-Line.is)
 
 sub-result-2 : tie.Need-slice_bounds-result-count-in-Line
 sub-result-2 c = omega (arith, within c)
@@ -46,10 +46,10 @@ part-result-end-2 : tie.Need-slice_bounds-result-end-in-Line
 part-result-end-2 c = omega (arith, within c)
 
 returns : tie.Need-returns-in-Refused
-returns c = let k = c.before in rw (sym k.before.before.asked_line-asked.ensures ∙ k.enum_told-1.given.1)
+returns c = let k = c.before in rw (sym k.asked_line-asked.ensures ∙ k.in-Refused.is)
 
 returns-2 : tie.Need-returns-in-Line
-returns-2 c = let k = c.before.before in rw (sym k.before.before.asked_line-asked.ensures ∙ k.asked-1.given.1)
+returns-2 c = let k = c.before in rw (sym k.asked_line-asked.ensures ∙ k.in-Line.is)
 
 pub line_part_spec : {M : Type 1} → statement M
 line_part_spec =

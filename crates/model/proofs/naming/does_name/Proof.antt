@@ -7,7 +7,7 @@ returns : tie.Need-returns-then-x-k
 returns c = rw (eq-eqb _ _ c.if-x-k.true)
 
 returns-2 : tie.Need-returns
-returns-2 c = rw (ne_eqb _ _ c.before.if-x-k.false)
+returns-2 c = rw (ne_eqb _ _ c.if-x-k.false)
 
 pub does_name_spec : {M : Type 1} → statement M
 does_name_spec = tie.close (tie.spec returns returns-2)

@@ -10,14 +10,14 @@ are-wrong-requires c κs = search rules
 
 returns : tie.Need-returns-then-are_wrong
 unfolding bad_line
-returns c = rw (sym c.before.are_wrong.ensures ∙ c.if-are_wrong.true)
+returns c = rw (sym c.are_wrong.ensures ∙ c.if-are_wrong.true)
 
 is-out-of-order-requires : tie.Need-is_out_of_order-requires
 is-out-of-order-requires c κs = search rules
 
 returns-2 : tie.Need-returns
 unfolding bad_line
-returns-2 c = let e = c.before in rw (sym e.before.are_wrong.ensures ∙ e.if-are_wrong.false) c.is_out_of_order.ensures
+returns-2 c = let e = c.before in rw (sym e.are_wrong.ensures ∙ e.if-are_wrong.false) c.is_out_of_order.ensures
 
 pub is_bad_line_spec : {M : Type 1} → statement M
 is_bad_line_spec =

@@ -10,7 +10,7 @@ is-continuous-requires c κs = search rules
 
 returns : tie.Need-returns-then-is_continuous
 unfolding unfit
-returns c = rw (sym c.before.is_continuous.ensures ∙ c.if-is_continuous.true)
+returns c = rw (sym c.is_continuous.ensures ∙ c.if-is_continuous.true)
 
 is-below-zero-requires : tie.Need-is_below_zero-requires
 is-below-zero-requires c κs = search rules
@@ -19,7 +19,7 @@ returns-2 : tie.Need-returns-then-is_below_zero
 unfolding unfit
 returns-2 c =
     let m = c.before.before in
-    rw (sym m.before.is_continuous.ensures ∙ m.if-is_continuous.false, sym c.before.is_below_zero.ensures ∙ c.if-is_below_zero.true)
+    rw (sym m.is_continuous.ensures ∙ m.if-is_continuous.false, sym c.is_below_zero.ensures ∙ c.if-is_below_zero.true)
 
 is-absent-requires : tie.Need-is_absent-requires
 is-absent-requires c κs = search rules
@@ -29,7 +29,7 @@ unfolding unfit
 returns-3 c =
     let l = c.before in
     let m = l.before.before in
-    rw (sym m.before.is_continuous.ensures ∙ m.if-is_continuous.false, sym l.before.is_below_zero.ensures ∙ l.if-is_below_zero.false) c.is_absent.ensures
+    rw (sym m.is_continuous.ensures ∙ m.if-is_continuous.false, sym l.is_below_zero.ensures ∙ l.if-is_below_zero.false) c.is_absent.ensures
 
 pub is_unfit_spec : {M : Type 1} → statement M
 is_unfit_spec =

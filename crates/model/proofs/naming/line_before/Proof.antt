@@ -8,7 +8,7 @@ no-need-requires : tie.Need-no_need-requires
 no-need-requires c κs = search rules
 
 returns : tie.Need-returns-then-j-eq0
-returns c = rw (eq-eqb _ 0 c.before.if-j-eq0.true) c.no_need.ensures
+returns c = rw (eq-eqb _ 0 c.if-j-eq0.true) c.no_need.ensures
 
 sub-result : tie.Need-overflow_sub-result
 sub-result c = search rules
@@ -20,7 +20,7 @@ element-copy-out-result : tie.Need-bounds-ns-j
 element-copy-out-result c = search rules
 
 returns-2 : tie.Need-returns
-returns-2 c = rw (ne_eqb _ 0 c.before.if-j-eq0.false)
+returns-2 c = rw (ne_eqb _ 0 c.if-j-eq0.false)
 
 pub line_before_spec : {M : Type 1} → statement M
 line_before_spec =

@@ -18,7 +18,7 @@ is-unfit-requires : tie.Need-is_unfit-requires
 is-unfit-requires c κs = search rules
 
 returns : tie.Need-returns-then-is_unfit
-returns c = rw (sym c.before.is_unfit.ensures ∙ c.if-is_unfit.true)
+returns c = rw (sym c.is_unfit.ensures ∙ c.if-is_unfit.true)
 
 sub-y : tie.Need-overflow_sub-y
 sub-y c = search rules
@@ -33,7 +33,7 @@ is-unfit-requires-2 : tie.Need-is_unfit-requires-2
 is-unfit-requires-2 c κs = search rules
 
 returns-2 : tie.Need-returns
-returns-2 c = let e = c.before.before in rw (sym e.before.is_unfit.ensures ∙ e.if-is_unfit.false) c.is_unfit-2.ensures
+returns-2 c = let e = c.before.before in rw (sym e.is_unfit.ensures ∙ e.if-is_unfit.false) c.is_unfit-2.ensures
 
 pub names_unfit_spec : {M : Type 1} → statement M
 names_unfit_spec =

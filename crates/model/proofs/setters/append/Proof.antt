@@ -14,7 +14,7 @@ with-count-requires : tie.Need-with_count-requires
 with-count-requires c κs = search rules
 
 returns : tie.Need-returns
-returns c = rw (c.with_count.ensures, c.before.with_item-r.ensures, add-one)
+returns c = rw (c.with_count.ensures, c.with_item-r.ensures, add-one)
 
 pub append_spec : {M : Type 1} → statement M
 append_spec = tie.close (tie.spec with-item-requires add-with-count with-count-requires returns)

@@ -14,7 +14,7 @@ with-need-count-requires : tie.Need-with_need_count-requires
 with-need-count-requires c κs = search rules
 
 returns : tie.Need-returns
-returns c = rw (c.with_need_count.ensures, c.before.with_need-r.ensures, add-one)
+returns c = rw (c.with_need_count.ensures, c.with_need-r.ensures, add-one)
 
 pub append_need_spec : {M : Type 1} → statement M
 append_need_spec = tie.close (tie.spec with-need-requires add-with-need-count with-need-count-requires returns)

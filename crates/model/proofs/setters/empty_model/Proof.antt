@@ -10,7 +10,7 @@ no-needs-requires : tie.Need-no_needs-needs-requires
 no-needs-requires c κs = search rules
 
 returns : tie.Need-returns
-returns c = rw (c.before.no_item-item.ensures, c.no_needs-needs.ensures)
+returns c = rw (c.no_item-item.ensures, c.no_needs-needs.ensures)
 
 pub empty_model_spec : {M : Type 1} → statement M
 empty_model_spec = tie.close (tie.spec no-item-requires no-needs-requires returns)

@@ -16,7 +16,7 @@ with-item-requires : tie.Need-with_item-requires
 with-item-requires c κs = search rules
 
 returns : tie.Need-returns
-returns c = rw (c.with_item.ensures, c.before.with_side.ensures)
+returns c = rw (c.with_item.ensures, c.with_side.ensures)
 
 pub with_bound_spec : {M : Type 1} → statement M
 with_bound_spec =

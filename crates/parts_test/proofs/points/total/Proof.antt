@@ -26,8 +26,8 @@ add-result c =
     let at-beyond = c.before.before.before in
     let s = at-beyond.before in
     let a = ltb-false 1000000000000000000 (nat_abs s.args.a)
-    (sym (rw (to_z-of_z s.ranges.a) at at-beyond.beyond.ensures) ∙ c.before.before.if-beyond.false) in
-    let b = ltb-false 1000000000000000000 (nat_abs s.args.b) (sym (rw (to_z-of_z s.ranges.b) at c.before.beyond-2.ensures) ∙ c.if-beyond-2.false) in
+    (sym (rw (to_z-of_z s.ranges.a) at at-beyond.beyond.ensures) ∙ c.if-beyond.false) in
+    let b = ltb-false 1000000000000000000 (nat_abs s.args.b) (sym (rw (to_z-of_z s.ranges.b) at c.beyond-2.ensures) ∙ c.if-beyond-2.false) in
     rw (to_z-of_z s.ranges.a, to_z-of_z s.ranges.b) (within-sfits (lit< tt) (within-add (abs-within s.args.a a) (abs-within s.args.b b)))
 
 returns-3 : tie.Need-returns

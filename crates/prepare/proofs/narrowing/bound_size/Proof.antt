@@ -16,19 +16,19 @@ enum-known-b : tie.Need-enum_known-b
 enum-known-b c = search rules
 
 -- the bound is small
-small : (c : tie.In-At) → Within 10000 c.before.b-1.given.0.0
-small c = abs-within c.before.b-1.given.0.0 (subst BoundInRange c.before.b-1.given.1 c.before.before.before.requires)
+small : (c : tie.In-At) → Within 10000 c.in-At.v
+small c = abs-within c.in-At.v (subst BoundInRange c.in-At.is c.requires)
 
 magnitude-requires : tie.Need-magnitude-requires
-magnitude-requires c κs = rw (back c.before.b-1.given.0.0 c.known_told-1.given.0.1) (within_more (omega arith) (small c))
+magnitude-requires c κs = rw (back c.in-At.v c.in-At.known_told-1-own.given.0.1) (within_more (omega arith) (small c))
 
 returns : tie.Need-returns-in-Absent
-returns c = rw c.enum_told-1.given.1
+returns c = rw c.in-Absent.is
 
 returns-2 : tie.Need-returns-in-At
 returns-2 c =
     let k = c.before in
-    rw k.before.b-1.given.1 (rw (back k.before.b-1.given.0.0 k.known_told-1.given.0.1) at c.magnitude.ensures)
+    rw k.in-At.is (rw (back k.in-At.v k.in-At.known_told-1-own.given.0.1) at c.magnitude.ensures)
 
 pub bound_size_spec : {M : Type 1} → statement M
 bound_size_spec =

@@ -14,8 +14,8 @@ invariant-loop a p n t₀ k₀ t k = (k ≤ n) × (t ≡ burden_of p a k)
 abbrev decreases-loop : tie.decreases-loop-k
 decreases-loop a p n t₀ k₀ t k = n - k
 
-k<16 : (c : tie.In-loop-k invariant-loop decreases-loop) → c.before.loop-k.k < 16
-k<16 c = omega (arith, c.loop-k-test.true, c.before.before.requires.0.few-items)
+k<16 : (c : tie.In-loop-k invariant-loop decreases-loop) → c.loop-k.k < 16
+k<16 c = omega (arith, c.loop-k-test.true, c.requires.0.few-items)
 
 loop-holds : tie.Need-loop-k-init invariant-loop decreases-loop
 unfolding burden_of
@@ -28,13 +28,13 @@ element-copy-out-i : tie.Need-bounds-p-k invariant-loop decreases-loop
 element-copy-out-i c = k<16 c
 
 burden-of-requires : tie.Need-burden_of-t-requires invariant-loop decreases-loop
-burden-of-requires c κs = let i = c.before in let s = i.before.before in (s.requires.0.items-in i.before.loop-k.k i.loop-k-test.true, s.requires.1)
+burden-of-requires c κs = let i = c.before in let s = i.before.before in (s.requires.0.items-in i.loop-k.k i.loop-k-test.true, s.requires.1)
 
 -- the sum so far is small
 small : (l : tie.At-loop-k invariant-loop decreases-loop) → l.loop-k.t ≤ 176000000
 small l = let s = l.before in rw l.loop-k.invariant.1 (omega (
   arith,
-  burden-small s.args.t1 s.requires.0 s.args.a l.loop-k.k s.requires.1 l.loop-k.invariant.0,
+  burden-small s.args.p s.requires.0 s.args.a l.loop-k.k s.requires.1 l.loop-k.invariant.0,
   l.loop-k.invariant.0,
   s.requires.0.few-items,
 ))
@@ -46,7 +46,7 @@ add-k : tie.Need-overflow_add-k invariant-loop decreases-loop
 add-k c = record { fits = omega (arith, k<16 c.before.before) }
 
 loop-less : tie.Need-loop-k-smaller invariant-loop decreases-loop
-loop-less c = omega (arith, c.before.before.loop-k-test.true)
+loop-less c = omega (arith, c.loop-k-test.true)
 
 loop-again : tie.Need-loop-k-preserved invariant-loop decreases-loop
 unfolding burden_of
@@ -59,8 +59,8 @@ returns : tie.Need-returns invariant-loop decreases-loop
 returns c =
     let l = c.before in
     let s = l.before in
-    let n : l.loop-k.k ≡ s.args.t1.count = omega (arith, c.loop-k-test.false, l.loop-k.invariant.0) in
-    l.loop-k.invariant.1 ∙ ap (burden_of s.args.t1 s.args.a) n
+    let n : l.loop-k.k ≡ s.args.p.count = omega (arith, c.loop-k-test.false, l.loop-k.invariant.0) in
+    l.loop-k.invariant.1 ∙ ap (burden_of s.args.p s.args.a) n
 
 pub burden_spec : {M : Type 1} → statement M
 burden_spec =

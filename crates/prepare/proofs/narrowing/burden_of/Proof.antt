@@ -20,10 +20,10 @@ magnitude-requires c κs = let s = c.before in rw (within-back tt (weight-in s))
 lead-of-requires : tie.Need-lead_of-requires
 lead-of-requires c κs = search rules
 
-weight_is : (c : tie.After-magnitude) → c.magnitude.result ≡ nat_abs c.before.before.args.i.weight
+weight_is : (c : tie.After-magnitude) → c.magnitude.result ≡ nat_abs c.args.i.weight
 weight_is c = rw (within-back tt (weight-in c.before.before)) at c.magnitude.ensures
 
-small : (c : tie.After-lead_of) → c.before.magnitude.result * c.lead_of.result ≤ 11000000
+small : (c : tie.After-lead_of) → c.magnitude.result * c.lead_of.result ≤ 11000000
 small c = let s = c.before.before.before in rw (weight_is c.before, c.lead_of.ensures)
     (mul-le-mul s.requires.0.weight-in (lead-small s.args.a s.args.i s.requires.1 s.requires.0))
 

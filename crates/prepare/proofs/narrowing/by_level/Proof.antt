@@ -19,11 +19,11 @@ decreases-loop n xs level to₀ d₀ to d = n - d
 loop-holds : tie.Need-loop-d-init invariant-loop decreases-loop
 loop-holds c = (omega arith, (search rules, λ j h. absurd (omega arith)))
 
-d<16 : (c : tie.In-loop-d invariant-loop decreases-loop) → c.before.loop-d.d < 16
-d<16 c = omega (arith, c.loop-d-test.true, c.before.before.requires.0)
+d<16 : (c : tie.In-loop-d invariant-loop decreases-loop) → c.loop-d.d < 16
+d<16 c = omega (arith, c.loop-d-test.true, c.requires.0)
 
-item<16 : (c : tie.In-loop-d invariant-loop decreases-loop) → place c.before.before.args.t2 c.before.loop-d.d < 16
-item<16 c = c.before.before.requires.1 c.before.loop-d.d c.loop-d-test.true
+item<16 : (c : tie.In-loop-d invariant-loop decreases-loop) → place c.args.level c.loop-d.d < 16
+item<16 c = c.requires.1 c.loop-d.d c.loop-d-test.true
 
 mul-k : tie.Need-offset_bounds-level-d invariant-loop decreases-loop
 mul-k c = record { fits = omega (arith, d<16 c) }
@@ -47,7 +47,7 @@ add-d : tie.Need-overflow_add-d invariant-loop decreases-loop
 add-d c = record { fits = omega (arith, d<16 c.before) }
 
 loop-less : tie.Need-loop-d-smaller invariant-loop decreases-loop
-loop-less c = omega (arith, c.before.loop-d-test.true)
+loop-less c = omega (arith, c.loop-d-test.true)
 
 loop-again : tie.Need-loop-d-preserved invariant-loop decreases-loop
 loop-again c =
@@ -58,13 +58,13 @@ loop-again c =
       omega (arith, i.loop-d-test.true),
       (
         length-set l.loop-d.to d _ ∙ l.loop-d.invariant.1.0,
-        one_more l.loop-d.to d _ (λ j. at s.args.t1 (place s.args.t2 j)) (omega (arith, l.loop-d.invariant.1.0, d<16 i))
-            (back (at s.args.t1 (place s.args.t2 d)) c.x-1.given) l.loop-d.invariant.1.1,
+        one_more l.loop-d.to d _ (λ j. at s.args.xs (place s.args.level j)) (omega (arith, l.loop-d.invariant.1.0, d<16 i))
+            (back (at s.args.xs (place s.args.level d)) c.x-1.given) l.loop-d.invariant.1.1,
       ),
     )
 
 returns : tie.Need-returns invariant-loop decreases-loop
-returns c = λ d h. c.before.loop-d.invariant.1.1 d (omega (arith, c.loop-d-test.false))
+returns c = λ d h. c.loop-d.invariant.1.1 d (omega (arith, c.loop-d-test.false))
 
 pub by_level_spec : {M : Type 1} → statement M
 by_level_spec =

@@ -18,8 +18,8 @@ use Rattle.prepare.proofs.narrowing.end_within.Tie as tie
 span-of-requires : tie.Need-span_of-u-requires
 span-of-requires c κs = (c.requires.0, rw (to_z-of_z c.ranges.a) c.requires.1)
 
-span-is : (c : tie.After-span_of-u) → c.span_of-u.result ≡ span_by c.before.args.r c.before.args.a
-span-is c = rw (to_z-of_z c.before.ranges.a) at c.span_of-u.ensures.0
+span-is : (c : tie.After-span_of-u) → c.span_of-u.result ≡ span_by c.args.r c.args.a
+span-is c = rw (to_z-of_z c.ranges.a) at c.span_of-u.ensures.0
 
 up : (c : tie.After-span_of-u) → to_z w64 c.span_of-u.result ≡ pos c.span_of-u.result
 up c = to_z_pos w64 (omega (arith, c.span_of-u.ensures.1))

@@ -20,8 +20,8 @@ is-open-requires : tie.Need-is_open-requires
 is-open-requires c κs = search rules
 
 -- the larger of its bounds
-own_is : (c : tie.After-larger_of-b) → c.larger_of-b.result ≡ own_bound c.before.before.before.args.i
-own_is c = c.larger_of-b.ensures ∙ ap₂ larger c.before.before.bound_size.ensures c.before.bound_size-2.ensures
+own_is : (c : tie.After-larger_of-b) → c.larger_of-b.result ≡ own_bound c.args.i
+own_is c = c.larger_of-b.ensures ∙ ap₂ larger c.bound_size.ensures c.bound_size-2.ensures
 
 -- the moments that are spoken of below
 abbrev start : tie.After-larger_of-b → tie.Start
@@ -31,10 +31,10 @@ add-result : tie.Need-overflow_add-result
 add-result c = let s = start c.before.before in record { fits = omega (arith, own_is c.before.before, own-small s.args.i s.requires.0, s.requires.1) }
 
 returns : tie.Need-returns-then-is_open
-returns c = rw (sym c.before.is_open.ensures ∙ c.if-is_open.true, own_is c.before.before)
+returns c = rw (sym c.is_open.ensures ∙ c.if-is_open.true, own_is c.before.before)
 
 returns-2 : tie.Need-returns
-returns-2 c = rw (sym c.before.is_open.ensures ∙ c.if-is_open.false, own_is c.before.before) (omega arith)
+returns-2 c = rw (sym c.is_open.ensures ∙ c.if-is_open.false, own_is c.before.before) (omega arith)
 
 pub lead_of_spec : {M : Type 1} → statement M
 lead_of_spec =

@@ -14,8 +14,8 @@ invariant-loop p n m₀ k₀ m k = (k ≤ n) × (m ≡ most_of p k)
 abbrev decreases-loop : tie.decreases-loop-k
 decreases-loop p n m₀ k₀ m k = n - k
 
-k<16 : (c : tie.In-loop-k invariant-loop decreases-loop) → c.before.loop-k.k < 16
-k<16 c = omega (arith, c.loop-k-test.true, c.before.before.requires.few-items)
+k<16 : (c : tie.In-loop-k invariant-loop decreases-loop) → c.loop-k.k < 16
+k<16 c = omega (arith, c.loop-k-test.true, c.requires.few-items)
 
 loop-holds : tie.Need-loop-k-init invariant-loop decreases-loop
 unfolding most_of
@@ -28,13 +28,13 @@ element-copy-out-i : tie.Need-bounds-p-k invariant-loop decreases-loop
 element-copy-out-i c = k<16 c
 
 grown-requires : tie.Need-grown-m-requires invariant-loop decreases-loop
-grown-requires c κs = let i = c.before in i.before.before.requires.items-in i.before.loop-k.k i.loop-k-test.true
+grown-requires c κs = let i = c.before in i.requires.items-in i.loop-k.k i.loop-k-test.true
 
 add-k : tie.Need-overflow_add-k invariant-loop decreases-loop
 add-k c = record { fits = omega (arith, k<16 c.before.before) }
 
 loop-less : tie.Need-loop-k-smaller invariant-loop decreases-loop
-loop-less c = omega (arith, c.before.before.loop-k-test.true)
+loop-less c = omega (arith, c.loop-k-test.true)
 
 loop-again : tie.Need-loop-k-preserved invariant-loop decreases-loop
 unfolding most_of
@@ -42,15 +42,15 @@ loop-again c =
     let i = c.before.before in
     let l = i.before in
     let s = l.before in
-    let e = c.grown-m.ensures ∙ ap (λ m. grown_by m (item_at s.args.t1 l.loop-k.k)) l.loop-k.invariant.1 in
+    let e = c.grown-m.ensures ∙ ap (λ m. grown_by m (item_at s.args.p l.loop-k.k)) l.loop-k.invariant.1 in
     (omega (arith, i.loop-k-test.true), rw add-one e)
 
 returns : tie.Need-returns invariant-loop decreases-loop
 returns c =
     let l = c.before in
     let s = l.before in
-    let n : l.loop-k.k ≡ s.args.t1.count = omega (arith, c.loop-k-test.false, l.loop-k.invariant.0) in
-    l.loop-k.invariant.1 ∙ ap (most_of s.args.t1) n
+    let n : l.loop-k.k ≡ s.args.p.count = omega (arith, c.loop-k-test.false, l.loop-k.invariant.0) in
+    l.loop-k.invariant.1 ∙ ap (most_of s.args.p) n
 
 pub most_of_spec : {M : Type 1} → statement M
 most_of_spec =

@@ -46,9 +46,9 @@ returns c =
       levels = refl;
       lattice = refl;
       lo = at-clamped.clamped-lo.ensures;
-      hi = c.before.before.before.clamped-hi.ensures;
-      low = c.before.before.by_level-low.ensures;
-      high = c.before.by_level-high.ensures;
+      hi = c.clamped-hi.ensures;
+      low = c.by_level-low.ensures;
+      high = c.by_level-high.ensures;
       lengths = (search rules, search rules);
     }
 

@@ -21,10 +21,10 @@ returns c =
     let t = c.before.before in
     let s = t.before.before in
     let e = rw (within-back tt (weight-in s)) at c.magnitude.ensures in
-    rw (sym t.before.is_open.ensures ∙ t.if-is_open.true) e
+    rw (sym t.is_open.ensures ∙ t.if-is_open.true) e
 
 returns-2 : tie.Need-returns
-returns-2 c = rw (sym c.before.is_open.ensures ∙ c.if-is_open.false)
+returns-2 c = rw (sym c.is_open.ensures ∙ c.if-is_open.false)
 
 pub open_weight_spec : {M : Type 1} → statement M
 open_weight_spec = tie.close (tie.spec is-open-requires magnitude-requires returns returns-2)

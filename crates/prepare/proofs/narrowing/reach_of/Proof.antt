@@ -41,11 +41,11 @@ module _ (c : tie.After-magnitude) where
   capacity-is : c.magnitude.result ≡ nat_abs S.args.p.capacity
   capacity-is = rw (within-back tt (capacity-in S)) at c.magnitude.ensures
 
-  burden-is : c.before.before.burden-t.result ≡ burden_of S.args.p (most_of S.args.p S.args.p.count).weight S.args.p.count
-  burden-is = c.before.before.burden-t.ensures ∙ ap (λ (m : Most). burden_of S.args.p m.weight S.args.p.count)
-      c.before.before.before.most_of-m.ensures
+  burden-is : c.burden-t.result ≡ burden_of S.args.p (most_of S.args.p S.args.p.count).weight S.args.p.count
+  burden-is = c.burden-t.ensures ∙ ap (λ (m : Most). burden_of S.args.p m.weight S.args.p.count)
+      c.most_of-m.ensures
 
-  sum≤ : c.magnitude.result + c.before.before.burden-t.result ≤ 276000000
+  sum≤ : c.magnitude.result + c.burden-t.result ≤ 276000000
   sum≤ = omega (
     arith,
     capacity-is,
@@ -55,11 +55,11 @@ module _ (c : tie.After-magnitude) where
     S.requires.few-items,
   )
 
-  weight-small : c.before.before.before.most_of-m.result.weight ≤ 1000
-  weight-small = rw c.before.before.before.most_of-m.ensures (weight≤ S)
+  weight-small : c.most_of-m.result.weight ≤ 1000
+  weight-small = rw c.most_of-m.ensures (weight≤ S)
 
-  bound-small : c.before.before.before.most_of-m.result.bound ≤ 10000
-  bound-small = rw c.before.before.before.most_of-m.ensures (bound≤ S)
+  bound-small : c.most_of-m.result.bound ≤ 10000
+  bound-small = rw c.most_of-m.ensures (bound≤ S)
 
 add-t6 : tie.Need-overflow_add-result
 add-t6 c = record { fits = omega (arith, sum≤ c) }
@@ -75,14 +75,14 @@ unfolding reach_of
 returns c =
     let d = c.before in
     ap₂ (λ (n t : ℕ). record {
-      weight = n + t + d.before.before.before.most_of-m.result.weight;
-      amount = d.before.before.before.most_of-m.result.bound + d.before.before.before.most_of-m.result.weight;
+      weight = n + t + d.most_of-m.result.weight;
+      amount = d.most_of-m.result.bound + d.most_of-m.result.weight;
     }) (capacity-is d) (burden-is d)
     ∙ ap (λ (m : Most). record {
       weight = nat_abs (S d).args.p.capacity + burden_of (S d).args.p (most_of (S d).args.p (S d).args.p.count).weight
           (S d).args.p.count + m.weight;
       amount = m.bound + m.weight;
-    }) d.before.before.before.most_of-m.ensures
+    }) d.most_of-m.ensures
 
 pub reach_of_spec : {M : Type 1} → statement M
 reach_of_spec = tie.close (tie.spec most-of-requires burden-requires magnitude-requires add-t6 add-t7 add-t8 returns)

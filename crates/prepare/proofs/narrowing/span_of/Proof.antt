@@ -19,14 +19,14 @@ magnitude-requires c κs = rw (to_z-of_z c.ranges.a) (within_more (omega arith) 
 larger-of-requires : tie.Need-larger_of-d-requires
 larger-of-requires c κs = search rules
 
-size_is : (c : tie.After-magnitude) → c.magnitude.result ≡ nat_abs c.before.args.a
-size_is c = rw (to_z-of_z c.before.ranges.a) at c.magnitude.ensures
+size_is : (c : tie.After-magnitude) → c.magnitude.result ≡ nat_abs c.args.a
+size_is c = rw (to_z-of_z c.ranges.a) at c.magnitude.ensures
 
-divisor-is : (c : tie.After-larger_of-d) → c.larger_of-d.result ≡ larger 1 (nat_abs c.before.before.args.a)
+divisor-is : (c : tie.After-larger_of-d) → c.larger_of-d.result ≡ larger 1 (nat_abs c.args.a)
 divisor-is c = c.larger_of-d.ensures ∙ ap (larger 1) (size_is c.before)
 
 div-result : tie.Need-nonzero_div-result
-div-result c = omega (arith, divisor-is c.before, larger-left 1 (nat_abs c.before.before.before.args.a))
+div-result c = omega (arith, divisor-is c.before, larger-left 1 (nat_abs c.args.a))
 
 -- the moments that are spoken of below
 abbrev start-of-larger-of : tie.After-larger_of-d → tie.Start
@@ -37,10 +37,10 @@ start c = start-of-larger-of c.before.before
 
 -- a span fits
 small : (c : tie.After-struct_known-2-1)
-    → (start c).args.r.amount + (start c).args.r.weight / c.before.before.larger_of-d.result + 1 ≤ farthest
+    → (start c).args.r.amount + (start c).args.r.weight / c.larger_of-d.result + 1 ≤ farthest
 small c = let s = start c in omega (
   arith,
-  div-le_self s.args.r.weight c.before.before.larger_of-d.result,
+  div-le_self s.args.r.weight c.larger_of-d.result,
   s.requires.0.weight-in,
   s.requires.0.amount-in,
 )

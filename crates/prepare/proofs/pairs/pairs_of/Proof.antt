@@ -13,11 +13,11 @@ pair-table-requires : tie.Need-pair_table-t-requires
 pair-table-requires c κs = ranged c
 
 spread-requires : tie.Need-spread-requires
-spread-requires c κs = all_short c.before.args.p (ranged c.before) c.before.args.named c.pair_table-t.result c.pair_table-t.ensures
+spread-requires c κs = all_short c.args.p (ranged c.before) c.args.named c.pair_table-t.result c.pair_table-t.ensures
 
 returns : tie.Need-returns
 returns c =
-    let t = c.before.pair_table-t in
+    let t = c.pair_table-t in
     let s = c.before.before in
     record {
       held = held s.args.p (ranged s) s.args.named c.spread.result t.result t.ensures c.spread.ensures;

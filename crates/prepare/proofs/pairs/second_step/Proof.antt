@@ -16,19 +16,19 @@ enum-known-q : tie.Need-enum_known-q
 enum-known-q c = search rules
 
 -- the steps of the pair
-steps : (c : tie.In-Steps) → Short (Steps c.before.q-1.given.0.0 c.before.q-1.given.0.1.0)
-steps c = subst Short c.before.q-1.given.1 c.before.before.before.requires
+steps : (c : tie.In-Steps) → Short (Steps c.in-Steps.field-0 c.in-Steps.b)
+steps c = subst Short c.in-Steps.is c.requires
 
 cast-result : tie.Need-overflow_cast-result
-cast-result c = let a = c.before.q-1.given.0.1.0 in rw (within-back tt (abs-within a (steps c).1)) (fits-few a (steps c).1)
+cast-result c = let a = c.in-Steps.b in rw (within-back tt (abs-within a (steps c).1)) (fits-few a (steps c).1)
 
 returns : tie.Need-returns-in-Missing
-returns c = sym (ap second_step c.enum_told-1.given.1)
+returns c = sym (ap second_step c.in-Missing.is)
 
 returns-2 : tie.Need-returns-in-Steps
 returns-2 c =
-    let a = c.before.q-1.given.0.1.0 in
-    rw (within-back tt (abs-within a (steps c).1), to_z-of_z (fits-few a (steps c).1)) (sym (ap second_step c.before.q-1.given.1))
+    let a = c.in-Steps.b in
+    rw (within-back tt (abs-within a (steps c).1), to_z-of_z (fits-few a (steps c).1)) (sym (ap second_step c.in-Steps.is))
 
 pub second_step_spec : {M : Type 1} → statement M
 second_step_spec = tie.close (tie.spec enum_told enum-known-q cast-result returns returns-2)

@@ -20,7 +20,7 @@ no-steps-requires : tie.Need-no_steps-r-requires invariant-loop decreases-loop
 no-steps-requires c κs = tt
 
 loop-holds : tie.Need-loop-k-init invariant-loop decreases-loop
-loop-holds c = (omega arith, rw c.no_steps-r.ensures (spread-first c.before.args.t1))
+loop-holds c = (omega arith, rw c.no_steps-r.ensures (spread-first c.args.t))
 
 mul-q : tie.Need-offset_bounds-t-k invariant-loop decreases-loop
 mul-q c = omega arith
@@ -29,7 +29,7 @@ array-copy-out-q : tie.Need-bounds-t-k invariant-loop decreases-loop
 array-copy-out-q c = omega arith
 
 first-step-requires : tie.Need-first_step-requires invariant-loop decreases-loop
-first-step-requires c κs = let l = c.before.before in l.before.before.requires l.loop-k.k (omega arith)
+first-step-requires c κs = let l = c.before.before in l.requires l.loop-k.k (omega arith)
 
 mul-r : tie.Need-offset_bounds-r-k invariant-loop decreases-loop
 mul-r c = omega arith
@@ -38,7 +38,7 @@ element-set-from-r : tie.Need-bounds-r-k invariant-loop decreases-loop
 element-set-from-r c = omega arith
 
 second-step-requires : tie.Need-second_step-requires invariant-loop decreases-loop
-second-step-requires c κs = let l = c.before.before.before in l.before.before.requires l.loop-k.k (omega arith)
+second-step-requires c κs = let l = c.before.before.before in l.requires l.loop-k.k (omega arith)
 
 mul-t8 : tie.Need-offset_bounds-r-k-in-loop-k invariant-loop decreases-loop
 mul-t8 c = omega arith
@@ -55,13 +55,13 @@ loop-less c = omega arith
 loop-again : tie.Need-loop-k-preserved invariant-loop decreases-loop
 loop-again c =
     let l = c.before.before.before.before in
-    let t = l.before.before.args.t1 in
+    let t = l.args.t in
     let k = l.loop-k.k in
     let q = get_or t k Missing in
-    let short = l.before.before.requires k (omega arith) in (
+    let short = l.requires k (omega arith) in (
       omega arith,
       rw (
-        c.before.first_step.ensures,
+        c.first_step.ensures,
         c.second_step.ensures,
         to_z-of_z (fits-few (first_step q) short.0),
         to_z-of_z (fits-few (second_step q) short.1),
@@ -69,7 +69,7 @@ loop-again c =
     )
 
 returns : tie.Need-returns invariant-loop decreases-loop
-returns c = let e : c.before.loop-k.k ≡ 256 = omega arith in rw e at c.before.loop-k.invariant.1
+returns c = let e : c.loop-k.k ≡ 256 = omega arith in rw e at c.loop-k.invariant.1
 
 pub spread_spec : {M : Type 1} → statement M
 spread_spec =

@@ -21,8 +21,8 @@ is-integer-requires : tie.Need-is_integer-requires
 is-integer-requires c κs = search rules
 
 -- the tests of the mark and of the weight
-integer : (c : tie.Then-is_integer) → is_integer c.before.before.before.args.i.mark ≡ true
-integer c = sym c.before.is_integer.ensures ∙ c.if-is_integer.true
+integer : (c : tie.Then-is_integer) → is_integer c.args.i.mark ≡ true
+integer c = sym c.is_integer.ensures ∙ c.if-is_integer.true
 
 is_zero : (a : ℤ) → nat_abs a ≡ 0 → a ≡ pos 0
 is_zero = split _ (λ a b. simp zed (omega arith))
@@ -76,7 +76,7 @@ key-item-requires-3 : tie.Need-key_item-requires-2
 key-item-requires-3 c κs = search rules
 
 returns-3 : tie.Need-returns
-returns-3 c = rw (sym c.before.before.is_integer.ensures ∙ c.before.if-is_integer.false) c.key_item-2.ensures
+returns-3 c = rw (sym c.is_integer.ensures ∙ c.if-is_integer.false) c.key_item-2.ensures
 
 pub branching_key_spec : {M : Type 1} → statement M
 branching_key_spec =

@@ -13,7 +13,7 @@ enum-known-b : tie.Need-enum_known-b
 enum-known-b c = search rules
 
 returns : tie.Need-returns-in-Absent
-returns c = rw (c.enum_told-1.given.1, to_z-of_z c.before.before.ranges.d)
+returns c = rw (c.in-Absent.is, to_z-of_z c.ranges.d)
 
 returns-2 : tie.Need-returns-in-At
 returns-2 c =

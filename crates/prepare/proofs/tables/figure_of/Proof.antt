@@ -35,15 +35,15 @@ enum-told-5 c = search rules
 abbrev start-of-told2 : tie.After-struct_told-2-1 → tie.Start
 start-of-told2 c = c.before.before
 
-abbrev start-of-at-match-keys5 : tie.In-Size-1 → tie.Start
+abbrev start-of-at-match-keys5 : tie.In-Size → tie.Start
 start-of-at-match-keys5 c = start-of-told2 c.before
 
-abbrev start-of-at-match-keys6 : tie.In-Rate-1 → tie.Start
+abbrev start-of-at-match-keys6 : tie.In-Rate → tie.Start
 start-of-at-match-keys6 c = start-of-told2 c.before
 
 absolute-requires : tie.Need-absolute-requires
 absolute-requires c κs =
-    let s = start-of-at-match-keys5 c.before in
+    let s = start-of-at-match-keys5 c in
     let w = weight-within s.args.i s.requires in
     rw (within-back tt w) (within_more (omega arith) w)
 
@@ -52,36 +52,36 @@ enum-told-6 c = search rules
 
 times-sign-requires : tie.Need-times_sign-requires
 times-sign-requires c κs =
-    let s = start-of-at-match-keys6 c.before in
+    let s = start-of-at-match-keys6 c in
     let w = price-within s.args.i s.requires in
     rw (within-back tt w) (within_more (omega arith) w)
 
 returns : tie.Need-returns-in-Weight
 returns c =
-    let s = start-of-told2 c.before.before in
-    rw (c.enum_told-1.given.1, within-back tt (weight-within s.args.i s.requires))
+    let s = start-of-told2 c.before in
+    rw (c.in-Weight.is, within-back tt (weight-within s.args.i s.requires))
 
 returns-2 : tie.Need-returns-in-Price
 returns-2 c =
-    let s = start-of-told2 c.before.before in
-    rw (c.enum_told-in-Price-1.given.1, within-back tt (price-within s.args.i s.requires))
+    let s = start-of-told2 c.before in
+    rw (c.in-Price.is, within-back tt (price-within s.args.i s.requires))
 
 returns-3 : tie.Need-returns-in-Low
-returns-3 c = rw (c.before.enum_told-in-Low-1.given.1, back c.end_or.result c.end_or.type_inv) c.end_or.ensures
+returns-3 c = rw (c.in-Low.is, back c.end_or.result c.end_or.type_inv) c.end_or.ensures
 
 returns-4 : tie.Need-returns-in-High
-returns-4 c = rw (c.before.enum_told-in-High-1.given.1, back c.end_or-in-High.result c.end_or-in-High.type_inv) c.end_or-in-High.ensures
+returns-4 c = rw (c.in-High.is, back c.end_or-in-High.result c.end_or-in-High.type_inv) c.end_or-in-High.ensures
 
 returns-5 : tie.Need-returns-in-Size
 returns-5 c =
-    let s = start-of-at-match-keys5 c.before.before in
-    rw (c.before.enum_told-in-Size-1.given.1, back c.absolute.result c.absolute.type_inv)
+    let s = start-of-at-match-keys5 c.before in
+    rw (c.in-Size.is, back c.absolute.result c.absolute.type_inv)
     (rw (within-back tt (weight-within s.args.i s.requires)) at c.absolute.ensures)
 
 returns-6 : tie.Need-returns-in-Rate
 returns-6 c =
-    let s = start-of-at-match-keys6 c.before.before in
-    rw (c.before.enum_told-in-Rate-1.given.1, back c.times_sign.result c.times_sign.type_inv)
+    let s = start-of-at-match-keys6 c.before in
+    rw (c.in-Rate.is, back c.times_sign.result c.times_sign.type_inv)
     (rw (within-back tt (weight-within s.args.i s.requires), within-back tt (price-within s.args.i s.requires)) at c.times_sign.ensures)
 
 pub figure_of_spec : {M : Type 1} → statement M

@@ -26,20 +26,20 @@ abbrev S : tie.After-absolute → tie.Start
 S c = start-of-times-sign c.before.before
 
 -- the three numbers that the key is made of
-first : (c : tie.After-absolute) → to_z w64 (of_z w64 c.before.before.times_sign-c.result) ≡ times_sign (S c).args.i.weight (S c).args.i.price
+first : (c : tie.After-absolute) → to_z w64 (of_z w64 c.times_sign-c.result) ≡ times_sign (S c).args.i.weight (S c).args.i.price
 first c =
     let s = S c in
-    back c.before.before.times_sign-c.result c.before.before.times_sign-c.type_inv
+    back c.times_sign-c.result c.times_sign-c.type_inv
     ∙ (rw (within-back tt (weight-within s.args.i s.requires), within-back tt (price-within s.args.i s.requires)) at
-    c.before.before.times_sign-c.ensures)
+    c.times_sign-c.ensures)
 
-second : (c : tie.After-absolute) → to_z w64 (of_z w64 c.before.head_start-t.result) ≡ head_start (light_bound (S c).args.i) (S c).args.i.weight
+second : (c : tie.After-absolute) → to_z w64 (of_z w64 c.head_start-t.result) ≡ head_start (light_bound (S c).args.i) (S c).args.i.weight
 second c =
     let at-times-sign = c.before.before in
     let at-light-bound = at-times-sign.before.before in
     let s = S c in
-    back c.before.head_start-t.result c.before.head_start-t.type_inv
-    ∙ (rw (within-back tt (weight-within s.args.i s.requires), at-light-bound.light_bound-b.ensures) at c.before.head_start-t.ensures)
+    back c.head_start-t.result c.head_start-t.type_inv
+    ∙ (rw (within-back tt (weight-within s.args.i s.requires), at-light-bound.light_bound-b.ensures) at c.head_start-t.ensures)
 
 size : (c : tie.After-absolute) → to_z w64 (of_z w64 c.absolute.result) ≡ pos (nat_abs (S c).args.i.weight)
 size c =

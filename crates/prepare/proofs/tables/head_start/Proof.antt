@@ -11,7 +11,7 @@ enum_told c = search rules
 
 absolute-requires : tie.Need-absolute-requires
 absolute-requires c κs =
-    let s = c.before.before in
+    let s = c.before in
     rw (within-back tt s.requires) (within_more (omega arith) s.requires)
 
 enum-told-2 : tie.Need-enum_told-in-At
@@ -19,11 +19,11 @@ enum-told-2 c = search rules
 
 returns : tie.Need-returns-in-Absent
 returns c =
-    let s = c.before.before.before in
-    rw (c.before.enum_told-1.given.1, back c.absolute.result c.absolute.type_inv) (rw (within-back tt s.requires) at c.absolute.ensures)
+    let s = c.before.before in
+    rw (c.in-Absent.is, back c.absolute.result c.absolute.type_inv) (rw (within-back tt s.requires) at c.absolute.ensures)
 
 returns-2 : tie.Need-returns-in-At
-returns-2 c = rw c.enum_told-in-At-1.given.1
+returns-2 c = rw c.in-At.is
 
 pub head_start_spec : {M : Type 1} → statement M
 head_start_spec = tie.close (tie.spec enum_told absolute-requires enum-told-2 returns returns-2)

@@ -14,7 +14,7 @@ meets-requires : tie.Need-meets-requires
 meets-requires c κs = search rules
 
 returns-2 : tie.Need-returns
-returns-2 c = rw (sym c.before.before.is_integer.ensures ∙ c.before.if-is_integer.false) c.meets.ensures
+returns-2 c = rw (sym c.is_integer.ensures ∙ c.if-is_integer.false) c.meets.ensures
 
 pub is_fixed_spec : {M : Type 1} → statement M
 is_fixed_spec = tie.close (tie.spec is-integer-requires returns meets-requires returns-2)

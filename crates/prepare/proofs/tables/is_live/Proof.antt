@@ -18,7 +18,7 @@ is_zero : (a : ℤ) → nat_abs a ≡ 0 → a ≡ pos 0
 is_zero = split _ (λ a b. simp zed (omega arith))
 
 returns : tie.Need-returns-then-a-eq0
-returns c = rw (bits-zero c.before.args.a c.before.ranges.a c.if-a-eq0.true)
+returns c = rw (bits-zero c.args.a c.ranges.a c.if-a-eq0.true)
 
 times-sign-requires : tie.Need-times_sign-requires
 times-sign-requires c κs = search rules
@@ -26,7 +26,7 @@ times-sign-requires c κs = search rules
 returns-2 : tie.Need-returns
 returns-2 c =
     let s = c.before.before in
-    rw (ne_eqb (nat_abs s.args.a) 0 (λ e. c.before.if-a-eq0.false (ap (of_z w64) (is_zero s.args.a e))), back c.times_sign.result c.times_sign.type_inv)
+    rw (ne_eqb (nat_abs s.args.a) 0 (λ e. c.if-a-eq0.false (ap (of_z w64) (is_zero s.args.a e))), back c.times_sign.result c.times_sign.type_inv)
     (ap (lt_z (pos 0)) (rw (to_z-of_z s.ranges.a, to_z-of_z s.ranges.c) at c.times_sign.ensures))
 
 pub is_live_spec : {M : Type 1} → statement M

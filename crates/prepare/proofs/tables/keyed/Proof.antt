@@ -17,14 +17,14 @@ decreases-loop by p n items₀ k₀ items k = n - k
 
 loop-holds : tie.Need-loop-k-init invariant-loop decreases-loop
 loop-holds c =
-    let size : length c.before.args.t1.items ≡ 16 = simp length-map at c.before.well_formed.0.1.1.0.1.0.1 in
+    let size : length c.args.p.items ≡ 16 = simp length-map at c.well_formed.0.1.1.0.1.0.1 in
     (omega arith, (size, λ j h. absurd (omega arith)))
 
 mul-i : tie.Need-offset_bounds-p-k invariant-loop decreases-loop
-mul-i c = omega (arith, c.before.before.before.requires.0.few-items)
+mul-i c = omega (arith, c.requires.0.few-items)
 
 element-copy-out-i : tie.Need-bounds-p-k invariant-loop decreases-loop
-element-copy-out-i c = omega (arith, c.before.before.before.requires.0.few-items)
+element-copy-out-i c = omega (arith, c.requires.0.few-items)
 
 -- the moments that are spoken of below
 abbrev start : tie.In-loop-k invariant-loop decreases-loop → tie.Start invariant-loop decreases-loop
@@ -33,7 +33,7 @@ start c = c.before.before.before
 key-of-requires : tie.Need-key_of-requires invariant-loop decreases-loop
 key-of-requires c κs =
     let s = start c.before in
-    (s.requires.0.items-in c.before.before.loop-k.k (omega arith), s.requires.1)
+    (s.requires.0.items-in c.loop-k.k (omega arith), s.requires.1)
 
 mul-items : tie.Need-offset_bounds-items-k invariant-loop decreases-loop
 mul-items c = omega (arith, (start c.before.before).requires.0.few-items)
@@ -56,14 +56,14 @@ loop-again c =
       (
         simp length-set l.loop-k.invariant.1.0,
         λ j h. item-set l.loop-k.items k j c.key_of.result h (omega (arith, l.loop-k.invariant.1.0, s.requires.0.few-items))
-            (λ v. key_of s.args.by (item_at s.args.t1 v)) c.key_of.ensures l.loop-k.invariant.1.1,
+            (λ v. key_of s.args.by (item_at s.args.p v)) c.key_of.ensures l.loop-k.invariant.1.1,
       ),
     )
 
 returns : tie.Need-returns invariant-loop decreases-loop
 returns c =
-    let e : c.before.loop-k.k ≡ c.before.before.before.args.t1.count = omega arith in
-    record { count = refl; keys = rw e at c.before.loop-k.invariant.1.1 }
+    let e : c.loop-k.k ≡ c.args.p.count = omega arith in
+    record { count = refl; keys = rw e at c.loop-k.invariant.1.1 }
 
 pub keyed_spec : {M : Type 1} → statement M
 keyed_spec =

@@ -15,17 +15,17 @@ invariant-loop t p list n u₀ u = Passed n (λ v. passes t (listed p list v)) u
 abbrev decreases-loop : tie.decreases-loop-u
 decreases-loop t p list n u₀ u = n - u
 
-item<16 : (c : tie.In-loop-u invariant-loop decreases-loop) → place c.before.before.args.t2 c.before.loop-u.u < 16
-item<16 c = let s = c.before.before in listing-inside s.args.t1 s.args.t2 _ c.before.loop-u.u s.requires (omega arith)
+item<16 : (c : tie.In-loop-u invariant-loop decreases-loop) → place c.args.list c.loop-u.u < 16
+item<16 c = let s = c.before.before in listing-inside s.args.p s.args.list _ c.loop-u.u s.requires (omega arith)
 
 loop-holds : tie.Need-loop-u-init invariant-loop decreases-loop
 loop-holds c = passed_none _ _
 
 mul-k : tie.Need-offset_bounds-list-u invariant-loop decreases-loop
-mul-k c = omega (arith, c.before.before.requires.few)
+mul-k c = omega (arith, c.requires.few)
 
 array-read-k : tie.Need-bounds-list-u invariant-loop decreases-loop
-array-read-k c = omega (arith, c.before.before.requires.few)
+array-read-k c = omega (arith, c.requires.few)
 
 mul-i : tie.Need-offset_bounds-p-k invariant-loop decreases-loop
 mul-i c = omega (arith, item<16 c)
@@ -37,7 +37,7 @@ passes-test-requires : tie.Need-passes_test-requires invariant-loop decreases-lo
 passes-test-requires c κs =
     let l = c.before.before in
     let s = l.before in
-    s.requires.accepted.items-in (place s.args.t2 l.loop-u.u) (s.requires.below l.loop-u.u (omega arith))
+    s.requires.accepted.items-in (place s.args.list l.loop-u.u) (s.requires.below l.loop-u.u (omega arith))
 
 add-u : tie.Need-overflow_add-u invariant-loop decreases-loop
 add-u c = omega arith
@@ -52,15 +52,15 @@ at-loop c = c.before.before.before
 loop-again : tie.Need-loop-u-preserved invariant-loop decreases-loop
 loop-again c =
     let l = at-loop c.before in
-    passed-more _ _ l.loop-u.u (omega arith) (sym c.before.passes_test.ensures ∙ c.if-passes_test.true) l.loop-u.invariant
+    passed-more _ _ l.loop-u.u (omega arith) (sym c.passes_test.ensures ∙ c.if-passes_test.true) l.loop-u.invariant
 
 returns : tie.Need-returns-else-passes_test invariant-loop decreases-loop
 returns c =
     let l = at-loop c.before in
-    passed-stop _ _ l.loop-u.u (sym c.before.passes_test.ensures ∙ c.if-passes_test.false) l.loop-u.invariant
+    passed-stop _ _ l.loop-u.u (sym c.passes_test.ensures ∙ c.if-passes_test.false) l.loop-u.invariant
 
 returns-2 : tie.Need-returns invariant-loop decreases-loop
-returns-2 c = passed-all _ _ c.before.loop-u.u (omega arith) c.before.loop-u.invariant
+returns-2 c = passed-all _ _ c.loop-u.u (omega arith) c.loop-u.invariant
 
 pub leading_spec : {M : Type 1} → statement M
 leading_spec =

@@ -15,12 +15,12 @@ weight-fits s = search rules
 
 returns : tie.Need-returns-then-a-lt0
 returns c =
-    let t : lt_z c.before.before.args.i.weight (pos 0) ≡ true = rw (to_z-of_z (weight-fits c.before.before)) at c.if-a-lt0.true in
+    let t : lt_z c.args.i.weight (pos 0) ≡ true = rw (to_z-of_z (weight-fits c.before.before)) at c.if-a-lt0.true in
     rw t
 
 returns-2 : tie.Need-returns
 returns-2 c =
-    let t : lt_z c.before.before.args.i.weight (pos 0) ≡ false = rw (to_z-of_z (weight-fits c.before.before)) at c.if-a-lt0.false in
+    let t : lt_z c.args.i.weight (pos 0) ≡ false = rw (to_z-of_z (weight-fits c.before.before)) at c.if-a-lt0.false in
     rw t
 
 pub light_bound_spec : {M : Type 1} → statement M

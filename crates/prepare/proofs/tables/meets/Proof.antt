@@ -25,12 +25,12 @@ returns-2 : tie.Need-returns-in_default-u
 returns-2 c = search rules
 
 -- the moments that are spoken of below
-abbrev after-l : tie.In-At-u-2 → tie.In-At-2
-after-l c = c.before.before.before
+abbrev after-l : tie.In-At-u → tie.In-At
+after-l c = c.before
 
 returns-3 : tie.Need-returns
 returns-3 c =
-    let at-l = after-l c.before in
+    let at-l = after-l c in
     let u = c.before.u-1.given in
     let l = at-l.l-1.given in
     let hu : SFits w64 u.0.0 = search rules in

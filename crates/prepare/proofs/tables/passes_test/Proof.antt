@@ -11,7 +11,7 @@ enum_told c = search rules
 
 -- the moments that are spoken of below
 abbrev start : tie.After-struct_told-1 → tie.Start
-start c = c.before.before.before
+start c = c.before.before
 
 is-live-requires : tie.Need-is_live-requires
 is-live-requires c κs =
@@ -34,7 +34,7 @@ is-fixed-requires c κs = search rules
 returns : tie.Need-returns-in-Live
 returns c =
     let s = start c.before.before in
-    rw c.before.before.before.enum_told-1.given.1 (rw (
+    rw c.in-Live.is (rw (
       within-back tt (weight-within s.args.i s.requires),
       within-back tt (price-within s.args.i s.requires),
     ) at c.is_live.ensures)
@@ -43,7 +43,7 @@ returns-2 : tie.Need-returns-in-Level
 returns-2 c = search rules
 
 returns-3 : tie.Need-returns-in-Fixed
-returns-3 c = rw c.before.enum_told-in-Fixed-1.given.1 c.is_fixed.ensures
+returns-3 c = rw c.in-Fixed.is c.is_fixed.ensures
 
 pub passes_test_spec : {M : Type 1} → statement M
 passes_test_spec =

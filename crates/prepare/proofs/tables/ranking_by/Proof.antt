@@ -14,7 +14,7 @@ returns : tie.Need-returns
 returns c =
     let s = c.before.before.before in
     let k = c.before.before in
-    keys-sorted s.args.p k.keyed-keys.result s.args.by k.keyed-keys.ensures c.before.rank-ranking.result.at c.before.rank-ranking.ensures
+    keys-sorted s.args.p k.keyed-keys.result s.args.by k.keyed-keys.ensures c.rank-ranking.result.at c.rank-ranking.ensures
 
 pub ranking_by_spec : {M : Type 1} → statement M
 ranking_by_spec = tie.close (tie.spec keyed-requires rank-requires returns)

@@ -16,8 +16,8 @@ invariant-loop n f p list to₀ u₀ to u = Filled n (λ v. figure_of f (listed 
 abbrev decreases-loop : tie.decreases-loop-u
 decreases-loop n f p list to₀ u₀ to u = n - u
 
-item<16 : (c : tie.In-loop-u invariant-loop decreases-loop) → place c.before.before.args.t2 c.before.loop-u.u < 16
-item<16 c = let s = c.before.before in listing-inside s.args.t1 s.args.t2 _ c.before.loop-u.u s.requires (omega arith)
+item<16 : (c : tie.In-loop-u invariant-loop decreases-loop) → place c.args.list c.loop-u.u < 16
+item<16 c = let s = c.before.before in listing-inside s.args.p s.args.list _ c.loop-u.u s.requires (omega arith)
 
 loop-holds : tie.Need-loop-u-init invariant-loop decreases-loop
 loop-holds c = filled_none c.args.n _
@@ -38,7 +38,7 @@ figure-of-requires : tie.Need-figure_of-requires invariant-loop decreases-loop
 figure-of-requires c κs =
     let l = c.before.before in
     let s = l.before in
-    s.requires.accepted.items-in (place s.args.t2 l.loop-u.u) (s.requires.below l.loop-u.u (omega arith))
+    s.requires.accepted.items-in (place s.args.list l.loop-u.u) (s.requires.below l.loop-u.u (omega arith))
 
 mul-to : tie.Need-offset_bounds-to-u invariant-loop decreases-loop
 mul-to c = omega arith
@@ -56,14 +56,14 @@ loop-again : tie.Need-loop-u-preserved invariant-loop decreases-loop
 loop-again c =
     let l = c.before.before.before in
     let s = l.before in
-    filled_more s.args.n (λ v. figure_of s.args.f (listed s.args.t1 s.args.t2 v)) l.loop-u.u l.loop-u.to _ s.requires.few (omega arith)
+    filled_more s.args.n (λ v. figure_of s.args.f (listed s.args.p s.args.list v)) l.loop-u.u l.loop-u.to _ s.requires.few (omega arith)
     (back c.figure_of.result c.figure_of.type_inv ∙ c.figure_of.ensures) l.loop-u.invariant
 
 returns : tie.Need-returns invariant-loop decreases-loop
 returns c =
     let s = c.before.before in
-    let e : c.before.loop-u.u ≡ s.args.n = omega arith in
-    rw e at c.before.loop-u.invariant.so_far
+    let e : c.loop-u.u ≡ s.args.n = omega arith in
+    rw e at c.loop-u.invariant.so_far
 
 pub table_spec : {M : Type 1} → statement M
 table_spec =

@@ -43,10 +43,10 @@ whole-within s = within-mul
     (record { above = s.requires.1.1.1; below = omega arith })
 
 -- the two terms, as the code holds them
-whole_is : (c : tie.After-taking-t) → to_z w64 (of_z w64 c.before.standing-x.result) *ℤ to_z w64 (S c).args.q ≡ stand (S c) *ℤ pos (S c).args.q
+whole_is : (c : tie.After-taking-t) → to_z w64 (of_z w64 c.standing-x.result) *ℤ to_z w64 (S c).args.q ≡ stand (S c) *ℤ pos (S c).args.q
 whole_is c =
     let s = S c in
-    let d = c.before.standing-x in
+    let d = c.standing-x in
     let e = rw (to_z-of_z s.ranges.a, to_z-of_z s.ranges.p, to_z-of_z s.ranges.l, to_z-of_z s.ranges.h) at d.ensures in
     ap₂ (λ (x y : ℤ). x *ℤ y) (back d.result d.type-inv ∙ e) (to_z_pos w64 (omega (arith, s.requires.1.1.1)))
 
@@ -66,7 +66,7 @@ mul-result c = rw (whole_is c) (within-sfits (lit< tt) (whole-within (S c)))
 inside : (s : tie.Start) → Within 20300000000000 (stand s *ℤ pos s.args.q +ℤ taken s)
 inside s = within-add (whole-within s) (taken-within s.args.a s.args.f.room s.args.v s.args.f.at s.args.n s.requires.1.1.0)
 
-held : (c : tie.After-taking-t) → to_z w64 (of_z w64 (to_z w64 (of_z w64 c.before.standing-x.result) *ℤ to_z w64 (S c).args.q)) +ℤ to_z w64
+held : (c : tie.After-taking-t) → to_z w64 (of_z w64 (to_z w64 (of_z w64 c.standing-x.result) *ℤ to_z w64 (S c).args.q)) +ℤ to_z w64
     (of_z w64 c.taking-t.result) ≡ stand (S c) *ℤ pos (S c).args.q +ℤ taken (S c)
 held c = ap₂ (λ (x y : ℤ). x +ℤ y) (ap (λ (x : ℤ). to_z w64 (of_z w64 x)) (whole_is c) ∙ within-back tt (whole-within (S c))) (taken_is c)
 

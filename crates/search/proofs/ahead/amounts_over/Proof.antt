@@ -46,8 +46,8 @@ loop-holds : tie.Need-loop-k-init invariant-loop decreases-loop
 loop-holds c = (omega arith, record { long = refl; counted = λ j h. absurd (omega arith); beyond = λ j h. zeros 16 j })
 
 -- an item counted has a place
-in_place : (c : tie.In-loop-k invariant-loop decreases-loop) → c.before.loop-k.k < 16
-in_place c = omega (arith, c.before.before.requires.sized.columns.few, c.loop-k-test.true)
+in_place : (c : tie.In-loop-k invariant-loop decreases-loop) → c.loop-k.k < 16
+in_place c = omega (arith, c.requires.sized.columns.few, c.loop-k-test.true)
 
 -- where the turn began
 abbrev Round : tie.After-v-1 invariant-loop decreases-loop → tie.In-loop-k invariant-loop decreases-loop
@@ -86,8 +86,8 @@ element-copy-out-v c = in_place c.before.before.before.before
 amount-over-requires : tie.Need-amount_over-requires invariant-loop decreases-loop
 amount-over-requires c κs =
     let i = Round c in
-    let p = i.before.before.requires in
-    let k = i.before.loop-k.k in
+    let p = i.requires in
+    let k = i.loop-k.k in
     rw (within-back tt (p.sized.ends.lo-in k), within-back tt (p.sized.ends.hi-in k))
     (p.sized.ends.lo-in k, (p.sized.ends.hi-in k, (p.filled.room_in, p.few)))
 
@@ -104,13 +104,13 @@ loop-less : tie.Need-loop-k-smaller invariant-loop decreases-loop
 loop-less c = let i = Round c.before in omega (arith, i.loop-k-test.true)
 
 -- the amount is the item's
-amount-is : (c : tie.After-amount_over invariant-loop decreases-loop) → c.amount_over.result ≡ numerator (Round c.before).before.before.args.t1
-    (Round c.before).before.before.args.t2 (Round c.before).before.before.args.f (Round c.before).before.before.args.q
-    (Round c.before).before.loop-k.k
+amount-is : (c : tie.After-amount_over invariant-loop decreases-loop) → c.amount_over.result ≡ numerator (Round c.before).args.c
+    (Round c.before).args.e (Round c.before).args.f (Round c.before).args.q
+    (Round c.before).loop-k.k
 amount-is c =
     let i = Round c.before in
-    let p = i.before.before.requires in
-    let k = i.before.loop-k.k in
+    let p = i.requires in
+    let k = i.loop-k.k in
     rw (
       within-back tt (p.sized.columns.weights-in k),
       within-back tt (p.sized.columns.prices-in k),
@@ -130,9 +130,9 @@ returns : tie.Need-returns invariant-loop decreases-loop
 returns c =
     let l = c.before in
     let s = l.before in
-    let n : l.loop-k.k ≡ s.args.t1.count = omega (arith, l.loop-k.invariant.0, c.loop-k-test.false) in
+    let n : l.loop-k.k ≡ s.args.c.count = omega (arith, l.loop-k.invariant.0, c.loop-k-test.false) in
     let g = l.loop-k.invariant.1 in
-    point-once s.args.t1 s.args.t2 s.args.f s.args.q s.requires.sized.columns.few l.loop-k.to g.long (λ j m. g.counted j (omega arith))
+    point-once s.args.c s.args.e s.args.f s.args.q s.requires.sized.columns.few l.loop-k.to g.long (λ j m. g.counted j (omega arith))
     (λ j m. g.beyond j (omega arith))
 
 pub amounts_over_spec : {M : Type 1} → statement M

@@ -24,7 +24,7 @@ less-requires : tie.Need-less-requires
 less-requires c κs = let s = c.before.before in (s.requires.1.1.proper, own-proper c.before)
 
 first-is : (c : tie.After-less) → c.less.result ≡ less_mixed (start-of-less c).args.best.value (bound (start-of-less c).args.c (start-of-less c).args.f)
-first-is c = let s = start-of-less c in c.less.ensures ∙ ap (less_mixed s.args.best.value) c.before.before.bound_of-v.ensures
+first-is c = let s = start-of-less c in c.less.ensures ∙ ap (less_mixed s.args.best.value) c.bound_of-v.ensures
 
 returns : tie.Need-returns-then-less
 unfolding ahead_by
@@ -39,7 +39,7 @@ second_is : (c : tie.After-less-2) → c.less-2.result ≡ less_mixed
 second_is c =
     let b = c.before.before.before in
     let s = b.before.before in
-    c.less-2.ensures ∙ ap (λ v. less_mixed v s.args.best.value) b.before.bound_of-v.ensures
+    c.less-2.ensures ∙ ap (λ v. less_mixed v s.args.best.value) b.bound_of-v.ensures
 
 returns-2 : tie.Need-returns-then-less-2
 unfolding ahead_by

@@ -8,7 +8,7 @@ is-ahead-requires c κs = let s = c.before in (s.requires.0, (s.requires.1.0, s.
 
 returns : tie.Need-returns-then-best
 unfolding ahead_by
-returns c = rw c.before.if-best.true c.is_ahead.ensures
+returns c = rw c.if-best.true c.is_ahead.ensures
 
 returns-2 : tie.Need-returns
 returns-2 c = rw c.if-best.false

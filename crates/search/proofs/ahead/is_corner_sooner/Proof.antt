@@ -28,8 +28,8 @@ loop-holds : tie.Need-loop-k-init invariant-loop decreases-loop
 loop-holds c = (omega arith, (c.args.n, (omega arith, refl)))
 
 -- an item looked at has a place
-in_place : (c : tie.In-loop-k invariant-loop decreases-loop) → c.before.loop-k.k < 16
-in_place c = omega (arith, c.before.before.requires.0, c.loop-k-test.true)
+in_place : (c : tie.In-loop-k invariant-loop decreases-loop) → c.loop-k.k < 16
+in_place c = omega (arith, c.requires.0, c.loop-k-test.true)
 
 mul_left : tie.Need-offset_bounds-lo-k invariant-loop decreases-loop
 mul_left c = record { fits = omega (arith, in_place c) }
@@ -42,7 +42,7 @@ abbrev S : tie.After-left-1 invariant-loop decreases-loop → tie.Start invarian
 S c = c.before.before.before
 
 abbrev K : tie.After-left-1 invariant-loop decreases-loop → ℕ
-K c = c.before.before.loop-k.k
+K c = c.loop-k.k
 
 -- the corner over the point's divisor, and the point
 abbrev X : tie.After-left-1 invariant-loop decreases-loop → ℕ → ℤ
@@ -74,7 +74,7 @@ next : (c : tie.After-left-1 invariant-loop decreases-loop) → (j : ℕ) × ((j
 next c =
     let l = c.before.before in
     let v = l.loop-k.invariant.1 in
-    let w = sooner-next v.0 l.loop-k.k (S c).args.n (X c) (Y c) v.1.0 c.before.loop-k-test.true in
+    let w = sooner-next v.0 l.loop-k.k (S c).args.n (X c) (Y c) v.1.0 c.loop-k-test.true in
     (w.0, (w.1.0, v.1.1 ∙ w.1.1))
 
 -- the amount of the point, as the code holds it
@@ -109,13 +109,13 @@ add-k : tie.Need-overflow_add-k invariant-loop decreases-loop
 add-k c = record { fits = omega (arith, in_place (turn c.before).before) }
 
 loop-less : tie.Need-loop-k-smaller invariant-loop decreases-loop
-loop-less c = omega (arith, (turn c.before).before.loop-k-test.true)
+loop-less c = omega (arith, (turn c.before).loop-k-test.true)
 
 loop-again : tie.Need-loop-k-preserved invariant-loop decreases-loop
 loop-again c =
     let l = turn c.before in
     let w = next l in
-    (omega (arith, l.before.loop-k-test.true), (w.0, (w.1.0, w.1.1 ∙ rw (first-left c.before, second-left c) refl)))
+    (omega (arith, l.loop-k-test.true), (w.0, (w.1.0, w.1.1 ∙ rw (first-left c.before, second-left c) refl)))
 
 returns-3 : tie.Need-returns invariant-loop decreases-loop
 returns-3 c =

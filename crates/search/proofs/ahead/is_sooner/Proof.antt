@@ -30,8 +30,8 @@ loop-holds : tie.Need-loop-k-init invariant-loop decreases-loop
 loop-holds c = (omega arith, (c.args.n, (omega arith, refl)))
 
 -- an item looked at has a place
-in_place : (c : tie.In-loop-k invariant-loop decreases-loop) → c.before.loop-k.k < 16
-in_place c = omega (arith, c.before.before.requires.1.0, c.loop-k-test.true)
+in_place : (c : tie.In-loop-k invariant-loop decreases-loop) → c.loop-k.k < 16
+in_place c = omega (arith, c.requires.1.0, c.loop-k-test.true)
 
 -- where the turn began
 abbrev Round : tie.After-v-1 invariant-loop decreases-loop → tie.In-loop-k invariant-loop decreases-loop
@@ -73,8 +73,8 @@ element-copy-out-v c = in_place c.before.before.before.before
 amount-over-requires : tie.Need-amount_over-x-requires invariant-loop decreases-loop
 amount-over-requires c κs =
     let i = Round c in
-    let p = i.before.before.requires.0 in
-    let k = i.before.loop-k.k in
+    let p = i.requires.0 in
+    let k = i.loop-k.k in
     rw (within-back tt (p.sized.ends.lo-in k), within-back tt (p.sized.ends.hi-in k))
     (p.sized.ends.lo-in k, (p.sized.ends.hi-in k, (p.filled.room_in, p.few)))
 
@@ -95,26 +95,26 @@ abbrev S : tie.After-z-1 invariant-loop decreases-loop → tie.Start invariant-l
 S c = (Turn c).before.before
 
 abbrev K : tie.After-z-1 invariant-loop decreases-loop → ℕ
-K c = (Turn c).before.loop-k.k
+K c = (Turn c).loop-k.k
 
 -- both amounts over the product of the divisors
 abbrev X : tie.After-z-1 invariant-loop decreases-loop → ℕ → ℤ
-X c k = numerator (S c).args.t1 (S c).args.t2 (S c).args.f (S c).args.q k *ℤ pos (S c).args.d
+X c k = numerator (S c).args.c (S c).args.e (S c).args.f (S c).args.q k *ℤ pos (S c).args.d
 
 abbrev Y : tie.After-z-1 invariant-loop decreases-loop → ℕ → ℤ
-Y c k = at (S c).args.t6 k *ℤ pos (S c).args.q
+Y c k = at (S c).args.y k *ℤ pos (S c).args.q
 
 left-within : (c : tie.After-z-1 invariant-loop decreases-loop) → Within 20300000000000000 (X c (K c))
 left-within c = let s = S c in
     let p = s.requires.0 in
-    within-mul (numerator-within s.args.t1 s.args.t2 s.args.f s.args.q (K c)
+    within-mul (numerator-within s.args.c s.args.e s.args.f s.args.q (K c)
     (record { sized = p.sized; filled = p.filled; few = p.few; item_in = in_place (Turn c) }))
     (record { above = s.requires.1.1.0; below = omega arith })
 
 right-within : (c : tie.After-z-1 invariant-loop decreases-loop) → Within 20300000000000000 (Y c (K c))
 right-within c = let s = S c in within-mul (s.requires.1.1.1 (K c)) (record { above = s.requires.0.few; below = omega arith })
 
-left_is : (c : tie.After-z-1 invariant-loop decreases-loop) → to_z w64 (of_z w64 c.before.amount_over-x.result) *ℤ to_z w64 (S c).args.d ≡ X c (K c)
+left_is : (c : tie.After-z-1 invariant-loop decreases-loop) → to_z w64 (of_z w64 c.amount_over-x.result) *ℤ to_z w64 (S c).args.d ≡ X c (K c)
 left_is c =
     let s = S c in
     let p = s.requires.0 in
@@ -124,10 +124,10 @@ left_is c =
       within-back tt (p.sized.columns.prices-in k),
       within-back tt (p.sized.ends.lo-in k),
       within-back tt (p.sized.ends.hi-in k),
-    ) at c.before.amount_over-x.ensures in
-    ap₂ (λ (x y : ℤ). x *ℤ y) (back c.before.amount_over-x.result c.before.amount_over-x.type_inv ∙ e) (to_z_pos w64 (omega (arith, s.requires.1.1.0)))
+    ) at c.amount_over-x.ensures in
+    ap₂ (λ (x y : ℤ). x *ℤ y) (back c.amount_over-x.result c.amount_over-x.type_inv ∙ e) (to_z_pos w64 (omega (arith, s.requires.1.1.0)))
 
-right_is : (c : tie.After-z-1 invariant-loop decreases-loop) → to_z w64 (of_z w64 (at (S c).args.t6 (K c))) *ℤ to_z w64 (S c).args.q ≡ Y c (K c)
+right_is : (c : tie.After-z-1 invariant-loop decreases-loop) → to_z w64 (of_z w64 (at (S c).args.y (K c))) *ℤ to_z w64 (S c).args.q ≡ Y c (K c)
 right_is c = let s = S c in ap₂ (λ (x y : ℤ). x *ℤ y) (within-back tt (s.requires.1.1.1 (K c))) (to_z_pos w64 (omega (arith, s.requires.0.few)))
 
 mul_left : tie.Need-overflow_mul-left invariant-loop decreases-loop

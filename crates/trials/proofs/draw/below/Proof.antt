@@ -14,7 +14,7 @@ rem-result c = search rules
 
 returns-2 : tie.Need-returns
 returns-2 c =
-    let s = c.before.args in
+    let s = c.args in
     omega (arith, mod-lt (s.state / 65536) {m = s.span + 1} (omega arith))
 
 pub below_spec : {M : Type 1} → statement M

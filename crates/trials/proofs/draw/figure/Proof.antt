@@ -23,7 +23,7 @@ cast-result-2 c = search rules
 sub-result : tie.Need-overflow_sub-result
 sub-result c =
     let n = c.below-n.result in
-    let s = c.before.before.args.span in
+    let s = c.args.span in
     rw (to_z_pos w64 {n = n} (omega arith), to_z_pos w64 {n = s} (omega arith)) (omega (arith, zs, diff (pos n) (pos s)))
 
 returns-2 : tie.Need-returns

@@ -10,7 +10,7 @@ returns-2 : tie.Need-returns-then-m-gt1000000
 returns-2 c = search rules
 
 mul-result : tie.Need-overflow_mul-result
-mul-result c = omega (arith, mul-le-mul c.before.if-n-gt1000000.false c.if-m-gt1000000.false)
+mul-result c = omega (arith, mul-le-mul c.if-n-gt1000000.false c.if-m-gt1000000.false)
 
 returns-3 : tie.Need-returns
 returns-3 c = search rules

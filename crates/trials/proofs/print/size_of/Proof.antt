@@ -10,14 +10,14 @@ neg-fits (pos zero) f l = record { sfits = omega arith }
 neg-fits (pos (suc n)) f l = record { sfits = omega (arith, f.sfits) }
 neg-fits (negsuc n) f l = record { sfits = omega (arith, leb→le n 9223372036854775806 l.le) }
 
-fits : (c : tie.Else-z-ltminus9223372036854775807) → SFits w64 (neg_ℤ c.before.args.z)
-fits c = neg-fits c.before.args.z c.before.ranges.z (no_lt (rw (to_z-of_z c.before.ranges.z) at c.if-z-ltminus9223372036854775807.false))
+fits : (c : tie.Else-z-ltminus9223372036854775807) → SFits w64 (neg_ℤ c.args.z)
+fits c = neg-fits c.args.z c.ranges.z (no_lt (rw (to_z-of_z c.ranges.z) at c.if-z-ltminus9223372036854775807.false))
 
 returns : tie.Need-returns-then-z-ltminus9223372036854775807
 returns c = search rules
 
 sub-result : tie.Need-overflow_sub-result
-sub-result c = rw (to_z-of_z c.before.before.ranges.z, zero-less c.before.before.args.z) (fits c.before)
+sub-result c = rw (to_z-of_z c.ranges.z, zero-less c.args.z) (fits c.before)
 
 cast-result : tie.Need-overflow_cast-result
 cast-result c =

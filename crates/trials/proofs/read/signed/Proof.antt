@@ -10,7 +10,7 @@ cast-z c = search rules
 
 sub-result : tie.Need-overflow_sub-result
 sub-result c =
-    let n = c.before.before.args.n in
+    let n = c.args.n in
     let e : to_z w64 n ≡ pos n = to_z_pos w64 (omega arith) in
     rw (e, zero-less (pos n)) (omega (arith, zs, neg (pos n)))
 
