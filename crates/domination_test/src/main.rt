@@ -6,7 +6,9 @@ ghost use Rattle.std.specs.Prelude.{◌≤◌, ◌<◌};
 
 use domination::{Pair, PairReply, least_pair, pair_table};
 use knapsack::Verdict;
-use libc::STDIN_FILENO;
+// Standard input, as the kit's io names a stream by its number.
+const STDIN_FILENO: i32 = 0;
+
 use model::setters::with_needs;
 use model::{Model, Sense, check_model, plain_of};
 use trials::make::record_of;

@@ -4,7 +4,9 @@
 // count may be another number.
 use arith::Fraction;
 use feasibility::{Candidate, PointReply, check_point};
-use libc::STDIN_FILENO;
+// Standard input, as the kit's io names a stream by its number.
+const STDIN_FILENO: i32 = 0;
+
 use model::Sense;
 use model::setters::with_needs;
 use trials::make::record_of;

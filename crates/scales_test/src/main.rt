@@ -3,7 +3,8 @@
 ghost use Rattle.std.specs.Prelude.{◌≤◌, ◌<◌, length};
 ghost use Rattle.scales_test.specs.Draws.{Drawn};
 
-use libc::STDOUT_FILENO;
+// Standard output, as the kit's io names a stream by its number.
+const STDOUT_FILENO: i32 = 1;
 
 #[derive(Clone, Copy)]
 pub struct Three {

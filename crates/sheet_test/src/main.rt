@@ -7,7 +7,9 @@ mod edits; // a written sheet, edited
 
 use crate::edits::{byte_at, edited, find, past};
 use knapsack::{Refusal, Verdict};
-use libc::STDIN_FILENO;
+// Standard input, as the kit's io names a stream by its number.
+const STDIN_FILENO: i32 = 0;
+
 use model::setters::with_needs;
 use model::{Need, Needs};
 use text::Listed;

@@ -1,7 +1,9 @@
 // Printing: numbers, items as (mark,weight,price,lower,upper) with low:high for a range of weights and `..` for an absent bound, and an answer's kind in paper 01's words.
 use knapsack::{Answer, Bound, Kind, Mark};
-use libc::STDOUT_FILENO;
 use model::{Model, ModelItem};
+
+// Standard output, as the kit's io names a stream by its number.
+const STDOUT_FILENO: i32 = 1;
 
 pub fn print(text: &[u8]) {
     io::write_all(STDOUT_FILENO, text);
