@@ -6,14 +6,14 @@ ghost use Rattle.std.specs.Prelude.{◌≤◌, ◌<◌};
 
 use domination::{Pair, PairReply, least_pair, pair_table};
 use knapsack::Verdict;
-// Standard input, as the kit's io names a stream by its number.
-const STDIN_FILENO: i32 = 0;
-
 use model::setters::with_needs;
 use model::{Model, Sense, check_model, plain_of};
 use trials::make::record_of;
 use trials::print::{print, print_number, print_signed};
 use trials::read::{places, read_items, read_needs, read_number, skip};
+
+// Standard input, as the kit's io names a stream by its number.
+const STDIN_FILENO: i32 = 0;
 
 #[derive(Clone, Copy)]
 struct ProblemRead {

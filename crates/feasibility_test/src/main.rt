@@ -4,14 +4,14 @@
 // count may be another number.
 use arith::Fraction;
 use feasibility::{Candidate, PointReply, check_point};
-// Standard input, as the kit's io names a stream by its number.
-const STDIN_FILENO: i32 = 0;
-
 use model::Sense;
 use model::setters::with_needs;
 use trials::make::record_of;
 use trials::print::{print, print_field, print_signed_field};
 use trials::read::{is_gap, places, read_items, read_needs, read_number, skip};
+
+// Standard input, as the kit's io names a stream by its number.
+const STDIN_FILENO: i32 = 0;
 
 #[derive(Clone, Copy)]
 struct Amounts {

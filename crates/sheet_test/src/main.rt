@@ -7,9 +7,6 @@ mod edits; // a written sheet, edited
 
 use crate::edits::{byte_at, edited, find, past};
 use knapsack::{Refusal, Verdict};
-// Standard input, as the kit's io names a stream by its number.
-const STDIN_FILENO: i32 = 0;
-
 use model::setters::with_needs;
 use model::{Need, Needs};
 use text::Listed;
@@ -18,6 +15,9 @@ use trials::count::one_more;
 use trials::make::record_of;
 use trials::print::{print, print_field, print_number, print_problem};
 use trials::read::{Number, places, read_items, read_needs, read_number};
+
+// Standard input, as the kit's io names a stream by its number.
+const STDIN_FILENO: i32 = 0;
 
 fn print_refusal(refusal: Refusal) {
     print(b" refused");
