@@ -1,5 +1,4 @@
 // Reads a stored sheet from standard input and prints it without its blank items, or why it cannot: paper 02, request 9.
-
 #![tactic(auto)]
 
 fn main() {

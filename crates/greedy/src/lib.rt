@@ -1,7 +1,6 @@
 // The relaxation of a box, in which every item has both bounds, by greedy filling over flat arrays: the planner's inner loop.
 // The mathematics is document 000, chapter 3: a prefix of the order by price per weight stands at its heavy end, the rest at its
 // light end, and at most one item between (the critical item).
-
 #![tactic(auto)]
 
 ghost use Rattle.std.specs.Prelude.{◌≡◌, ◌<◌};

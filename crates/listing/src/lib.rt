@@ -2,7 +2,6 @@
 // "What `charge` prints", and refusal 11; paper 02, request 11.
 // It comes by value (text_of), or at the start of a lent buffer (list_reply), of which no byte changes where it is too short or the answer a refusal.
 // text_one is the text of one answer alone.
-
 #![tactic(auto)]
 
 ghost use Rattle.std.specs.Prelude.{◌≡◌, ◌+◌, ◌*◌, ◌≤◌, ◌<◌, length};

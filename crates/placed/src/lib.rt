@@ -1,6 +1,5 @@
 // The answer of a prepared problem with the optimal point that comes first: paper 02, "Always the same charge". It is owed where every item has a
 // lower bound; else the point of the answer stays.
-
 #![tactic(auto)]
 
 ghost use Rattle.std.specs.Prelude.{◌≡◌, true, ◌≤◌};

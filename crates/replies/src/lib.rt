@@ -1,6 +1,5 @@
 // From end to end: what is printed for a sheet, and the text of the reply to a record or a sheet in a lent buffer. Paper 01, "What `charge`
 // prints" and the text among the parts that stand in public; paper 02, request 11: the sure reply, then the possible one.
-
 #![tactic(auto)]
 
 ghost use Rattle.std.specs.Prelude.{◌≡◌};

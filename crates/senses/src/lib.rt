@@ -1,5 +1,4 @@
 // The planner in both senses (paper 02, request 11): the sure answer and the possible one.
-
 #![tactic(auto)]
 
 ghost use Rattle.model.specs.declared.Sense.TheVariants.{Sure, Possible};

@@ -1,5 +1,4 @@
 // Reads a sheet from standard input and prints the falls of its items' prices after which its best point is no longer best: paper 02, request 13.
-
 #![tactic(auto)]
 
 fn main() {
