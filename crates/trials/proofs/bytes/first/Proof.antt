@@ -12,6 +12,9 @@ part-result-start c = search rules
 part-result-end : tie.Need-slice_bounds-result-end
 part-result-end c = search rules
 
+part-result-end-else : tie.Need-slice_bounds-result-end-else-s-n
+part-result-end-else c = search rules
+
 returns : tie.Need-returns-then-s-n
 returns c = search rules
 
@@ -25,5 +28,6 @@ first_spec =
     sub-result
     part-result-start
     part-result-end
+    part-result-end-else
     returns
     returns-2)
