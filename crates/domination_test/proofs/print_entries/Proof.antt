@@ -25,9 +25,6 @@ mul-q-2 c = search rules
 array-copy-out-q : tie.Need-bounds-t-i invariant-loop decreases-loop
 array-copy-out-q c = search rules
 
-slice-aggregate-print : tie.Need-slice-aggregate-print invariant-loop decreases-loop
-slice-aggregate-print c = search rules
-
 print-requires : tie.Need-print-requires invariant-loop decreases-loop
 print-requires c κs = search rules
 
@@ -57,7 +54,6 @@ print_entries_spec =
     add-q
     mul-q-2
     array-copy-out-q
-    slice-aggregate-print
     print-requires
     print-pair-requires
     add-j

@@ -22,9 +22,6 @@ least-pair-requires c κs = search rules
 print-reply-requires : tie.Need-print_reply-requires invariant-loop decreases-loop
 print-reply-requires c κs = search rules
 
-slice-aggregate-print : tie.Need-slice-aggregate-print invariant-loop decreases-loop
-slice-aggregate-print c = search rules
-
 print-requires : tie.Need-print-requires invariant-loop decreases-loop
 print-requires c κs = search rules
 
@@ -50,7 +47,6 @@ print_replies_spec =
     add-loop
     least-pair-requires
     print-reply-requires
-    slice-aggregate-print
     print-requires
     add-j
     loop-less

@@ -34,9 +34,6 @@ loop-less c = search rules
 loop-again : tie.Need-loop-k-preserved invariant-loop decreases-loop
 loop-again c = search rules
 
-slice-aggregate-print : tie.Need-slice-aggregate-print invariant-loop decreases-loop
-slice-aggregate-print c = search rules
-
 print-requires : tie.Need-print-requires invariant-loop decreases-loop
 print-requires c κs = search rules
 
@@ -45,9 +42,6 @@ print-problem-requires c κs = search rules
 
 print-falls-requires : tie.Need-print_falls-requires invariant-loop decreases-loop
 print-falls-requires c κs = search rules
-
-slice-aggregate-print-2 : tie.Need-slice-aggregate-print-2 invariant-loop decreases-loop
-slice-aggregate-print-2 c = search rules
 
 print-requires-2 : tie.Need-print-requires-then-start-c invariant-loop decreases-loop
 print-requires-2 c κs = search rules
@@ -72,11 +66,9 @@ with_problem_spec =
     add-k
     loop-less
     loop-again
-    slice-aggregate-print
     print-requires
     print-problem-requires
     print-falls-requires
-    slice-aggregate-print-2
     print-requires-2
     one-more-requires
     returns-2)
