@@ -1,6 +1,8 @@
 // Standard input and output around a reply: what the programs `charge`, `convert` and `watch` do. Paper 01, "What `charge` prints", and paper 02, requests 9
 // and 13.
 // They differ in the reply alone; a further program is a variant here and a line in each `match`.
+#![tactic(auto)]
+
 ghost use Rattle.std.specs.Prelude.{◌≡◌, ◌≤◌, length, take};
 ghost use Rattle.streams.specs.Carrying.{Carried};
 ghost use Rattle.console.specs.Running.{ReplyOf, Ran};

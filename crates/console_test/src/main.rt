@@ -1,5 +1,7 @@
 // Runs each program on one input after the other as standard input, whole and a byte at a time: what it prints is held to a stored output.
 // `full` has 4,096 bytes and `long` one more. The last input, a folder, opens and cannot be read: there is no reply.
+#![tactic(auto)]
+
 use console::{Program, run_by};
 use libc::{STDIN_FILENO, STDOUT_FILENO};
 use streams::SPACE;

@@ -1,5 +1,7 @@
 // The test load (paper 02, request 8): prints the thousand sheets for seed 1, nothing between them. Each is the writer's sheet of the problem
 // drawn after the state that the one before it left.
+#![tactic(auto)]
+
 ghost use Rattle.std.specs.Prelude.{◌≡◌, ◌≤◌, length, take};
 ghost use Rattle.text.specs.Buffer.{Shows};
 ghost use Rattle.sheet.specs.Printing.{printing};

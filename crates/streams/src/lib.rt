@@ -1,5 +1,7 @@
 // A sheet from standard input, and a text to standard output: what the programs share. A read that fails is told apart from the end of the
 // sheet, for a part of a sheet gets no reply; and a sheet that comes in pieces, as through a pipe, is read on to its end (specs/Carrying).
+#![tactic(auto)]
+
 ghost use Rattle.std.specs.Prelude.{◌+◌, ◌≤◌, ◌<◌, ◌≡◌, true, false, length};
 ghost use Rattle.io.specs.Counts.{IsPrefixLen, clamp_len};
 ghost use Rattle.streams.specs.Carrying.{begun, goes_on, is_whole, closed, Turn, Carried};
