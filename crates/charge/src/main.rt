@@ -1,6 +1,6 @@
 // Reads a sheet from standard input and prints its answer. Paper 01, "What `charge` prints".
 #![tactic(auto)]
 
-fn main() {
-    console::run(console::Program::Charge);
+fn main(rt: HostRuntime) {
+    console::run(&rt, console::Program::Charge);
 }

@@ -9,6 +9,7 @@ ghost use Rattle.console.specs.Running.{ReplyOf, Ran};
 
 use converter::convert_text;
 use replies::reply_to;
+use std::io::{Eprint, Error, Read, Write};
 use streams::{Progress, SPACE, begun, is_whole, read_sheet, space, write_reply};
 use text::Text;
 use watching::watch_text;
@@ -39,31 +40,40 @@ fn reply_of(program: Program, sheet: &[u8]) -> Text
     }
 }
 
-fn tell_unread(program: Program) {
+fn name_of(program: Program) -> &'static str {
     match program {
-        Program::Charge => os::fail(b"charge: standard input"),
-        Program::Convert => os::fail(b"convert: standard input"),
-        Program::Watch => os::fail(b"watch: standard input"),
+        Program::Charge => "charge",
+        Program::Convert => "convert",
+        Program::Watch => "watch",
     }
 }
 
-fn tell_unwritten(program: Program) {
-    match program {
-        Program::Charge => os::fail(b"charge: standard output"),
-        Program::Convert => os::fail(b"convert: standard output"),
-        Program::Watch => os::fail(b"watch: standard output"),
-    }
+// One line on standard error: the program, its stream, and why if that is known. A line that cannot be printed is let go.
+fn tell<E: Eprint>(rt: &E, program: Program, stream: &str, why: Option<Error>) {
+    let name = name_of(program);
+    let told = match why {
+        Some(e) => eprintln!(rt; "{name}: {stream}: {e}"),
+        None => eprintln!(rt; "{name}: {stream}"),
+    };
+    let _ = told;
 }
 
-fn write_text(program: Program, t: Text, most: usize) -> Progress
+fn write_text<W: Write, E: Eprint>(
+    rt: &E,
+    output: &mut W,
+    program: Program,
+    t: Text,
+    most: usize,
+) -> Progress
     requires { (t.len ≤ length t.bytes) × (t.len ≡ length (take t.len t.bytes)) }
     ensures { Carried t.len result }
 {
     let bytes = t.bytes;
     let len = t.len;
-    let p = write_reply(&bytes[..len], most);
+    let mut why = None;
+    let p = write_reply(output, &bytes[..len], most, &mut why);
     if p.at < len {
-        tell_unwritten(program);
+        tell(rt, program, "standard output", why);
     }
     p
 }
@@ -73,17 +83,24 @@ fn no_text() -> Text {
     Text { bytes, len: 0 }
 }
 
-// Reads a sheet from standard input and writes the program's reply to standard output. After a failed read there is no reply; that, and a
+// Reads a sheet from `input` and writes the program's reply to `output`. After a failed read there is no reply; that, and a
 // failed write, is told by one line on standard error. No call moves more bytes than `most`.
-pub fn run_by(program: Program, most: usize) -> Passage
+pub fn run_by<R: Read, W: Write, E: Eprint>(
+    rt: &E,
+    input: &mut R,
+    output: &mut W,
+    program: Program,
+    most: usize,
+) -> Passage
     ensures { Ran program result }
 {
     let mut sheet = space();
-    let read = read_sheet(&mut sheet, most);
+    let mut why = None;
+    let read = read_sheet(input, &mut sheet, most, &mut why);
     let n = read.at;
     if is_whole(read, sheet.len()) {
         let text = reply_of(program, &sheet[..n]);
-        let wrote = write_text(program, text, most);
+        let wrote = write_text(rt, output, program, text, most);
         return Passage {
             sheet,
             read,
@@ -91,7 +108,7 @@ pub fn run_by(program: Program, most: usize) -> Passage
             wrote,
         };
     }
-    tell_unread(program);
+    tell(rt, program, "standard input", why);
     let text = no_text();
     let wrote = begun();
     Passage {
@@ -102,6 +119,9 @@ pub fn run_by(program: Program, most: usize) -> Passage
     }
 }
 
-pub fn run(program: Program) {
-    run_by(program, SPACE);
+// From standard input to standard output.
+pub fn run(rt: &HostRuntime, program: Program) {
+    let mut input = rt.stdin();
+    let mut output = rt.stdout();
+    run_by(rt, &mut input, &mut output, program, SPACE);
 }

@@ -7,6 +7,7 @@ ghost use Rattle.text.specs.Buffer.{Shows};
 ghost use Rattle.sheet.specs.Printing.{printing};
 ghost use Rattle.drawing.specs.Drawing.{drawn_problem};
 
+use std::io::{Eprint, Error, Write};
 use streams::{SPACE, write_reply};
 use text::Text;
 
@@ -32,24 +33,34 @@ fn draw_sheet(state: u64) -> DrawnSheet
 }
 
 // Whether all of it was written.
-fn print_sheet(t: Text) -> bool
+fn print_sheet<W: Write>(output: &mut W, t: Text, why: &mut Option<Error>) -> bool
     requires { (t.len ≤ length t.bytes) × (t.len ≡ length (take t.len t.bytes)) }
 {
     let bytes = t.bytes;
     let len = t.len;
-    let p = write_reply(&bytes[..len], SPACE);
+    let p = write_reply(output, &bytes[..len], SPACE, why);
     p.at == len
 }
 
+// One line on standard error: why the output failed, if that is known. A line that cannot be printed is let go.
+fn tell_unwritten<E: Eprint>(rt: &E, why: Option<Error>) {
+    let told = match why {
+        Some(e) => eprintln!(rt; "load: standard output: {e}"),
+        None => eprintln!(rt; "load: standard output"),
+    };
+    let _ = told;
+}
+
 // The first sheets for a seed. A failed write ends them, and is told by one line on standard error.
-fn print_load(seed: u64, sheets: u64) {
+fn print_load<W: Write, E: Eprint>(rt: &E, output: &mut W, seed: u64, sheets: u64) {
     let mut state = seed;
     let mut left = sheets;
+    let mut why = None;
     while 0 < left {
         let d = draw_sheet(state);
         let sheet = d.sheet;
-        if !print_sheet(sheet) {
-            os::fail(b"load: standard output");
+        if !print_sheet(output, sheet, &mut why) {
+            tell_unwritten(rt, why);
             return;
         }
         state = d.state;
@@ -57,6 +68,7 @@ fn print_load(seed: u64, sheets: u64) {
     }
 }
 
-fn main() {
-    print_load(1, 1000);
+fn main(rt: HostRuntime) {
+    let mut output = rt.stdout();
+    print_load(&rt, &mut output, 1, 1000);
 }

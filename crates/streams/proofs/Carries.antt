@@ -9,7 +9,7 @@ use native.Mathlib.Omega.{arith}
 use lib.Dec.{T, ltb, eqb}
 use borrow.Author.Tests.{ltb-true, ltb-false, lt-ltb, le-ltb, ne_eqb}
 use Rattle.streams.specs.declared.Progress.{Progress}
-use Rattle.streams.specs.Carrying.{begun, goes_on, is_whole, moved, closed, stalled, Turn, Turns, Carried}
+use Rattle.streams.specs.Carrying.{goes_on, is_whole, Turn, Turns, Carried}
 
 never : false ≡ true → ⊥
 never h = subst T (sym h) tt

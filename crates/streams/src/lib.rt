@@ -2,11 +2,11 @@
 // sheet, for a part of a sheet gets no reply; and a sheet that comes in pieces, as through a pipe, is read on to its end (specs/Carrying).
 #![tactic(auto)]
 
-ghost use Rattle.std.specs.Prelude.{◌+◌, ◌≤◌, ◌<◌, ◌≡◌, true, false, length};
-ghost use Rattle.io.specs.Counts.{IsPrefixLen, clamp_len};
+ghost use Rattle.std.specs.Prelude.{◌+◌, ◌≤◌, ◌<◌, ◌≡◌, true, false, length, IfOk};
+ghost use Rattle.io.specs.Counts.{IsPrefixLen};
 ghost use Rattle.streams.specs.Carrying.{begun, goes_on, is_whole, closed, Turn, Carried};
 
-use libc::{EINTR, STDIN_FILENO, STDOUT_FILENO};
+use std::io::{Error, ErrorKind, Read, Result, Write};
 
 // A call that a signal interrupts moves nothing. Proved loops end, so interruptions are counted; no run meets so many.
 const PATIENCE: u64 = 1000000;
@@ -73,15 +73,13 @@ fn closed(p: Progress, good: bool) -> Progress
     }
 }
 
-// The call moved nothing. Why is asked just after it.
-fn unmoved(p: Progress, got: isize, len: usize) -> Progress
+// The call has failed. Why is kept, for whoever tells it.
+fn unmoved(p: Progress, e: Error, len: usize, why: &mut Option<Error>) -> Progress
     requires { 0 < p.left }
     ensures { Turn len p result }
 {
-    if got == 0 {
-        return closed(p, true);
-    }
-    if os::errno() == EINTR {
+    *why = Some(e);
+    if e.kind() == ErrorKind::Interrupted {
         return Progress {
             at: p.at,
             more: true,
@@ -92,19 +90,31 @@ fn unmoved(p: Progress, got: isize, len: usize) -> Progress
     closed(p, false)
 }
 
-// The progress after a call that answered got, which counts as n bytes.
-fn turned(p: Progress, got: isize, n: usize, len: usize) -> Progress
-    requires { (p.at + n ≤ len) × (0 < p.left) }
+// The progress after a call that moved n bytes: none at the end.
+fn moved(p: Progress, n: usize, len: usize) -> Progress
+    requires { p.at + n ≤ len }
     ensures { Turn len p result }
 {
     if n == 0 {
-        return unmoved(p, got, len);
+        return closed(p, true);
     }
     Progress {
         at: p.at + n,
         more: true,
         good: true,
         left: p.left,
+    }
+}
+
+// The progress after a call that answered got.
+fn turned(p: Progress, got: Result<usize>, len: usize, why: &mut Option<Error>) -> Progress
+    requires room { IfOk got (λ n. p.at + n ≤ len) }
+    requires left { 0 < p.left }
+    ensures { Turn len p result }
+{
+    match got {
+        Ok(n) => moved(p, n, len),
+        Err(e) => unmoved(p, e, len, why),
     }
 }
 
@@ -117,51 +127,69 @@ fn end_of(at: usize, most: usize, len: usize) -> usize
 }
 
 // One read at the place that was come to, of so many bytes at most.
-fn read_on(buf: &mut [u8], p: Progress, most: usize) -> Progress
+fn read_on<R: Read>(
+    input: &mut R,
+    buf: &mut [u8],
+    p: Progress,
+    most: usize,
+    why: &mut Option<Error>,
+) -> Progress
     requires { (p.at ≤ length buf.old) × (0 < p.left) }
     ensures { Turn (length buf.old) p result }
 {
     let at = p.at;
     let len = buf.len();
     let end = end_of(at, most, len);
-    let rest = &mut buf[at..end];
-    let got = libc::read(STDIN_FILENO, rest);
-    let n = io::count(got, rest);
-    turned(p, got, n, len)
+    let got = input.read(&mut buf[at..end]);
+    turned(p, got, len, why)
 }
 
 // One write from the place that was come to.
-fn write_on(buf: &[u8], p: Progress, most: usize) -> Progress
+fn write_on<W: Write>(
+    output: &mut W,
+    buf: &[u8],
+    p: Progress,
+    most: usize,
+    why: &mut Option<Error>,
+) -> Progress
     requires { (p.at ≤ length buf.now) × (0 < p.left) }
     ensures { Turn (length buf.now) p result }
 {
     let at = p.at;
     let len = buf.len();
     let end = end_of(at, most, len);
-    let rest = &buf[at..end];
-    let got = libc::write(STDOUT_FILENO, rest);
-    let n = io::count(got, rest);
-    turned(p, got, n, len)
+    let got = output.write(&buf[at..end]);
+    turned(p, got, len, why)
 }
 
-// Reads until the buffer is full, the input ends or a read fails; no read is of more bytes than `most`.
-pub fn read_sheet(buf: &mut [u8], most: usize) -> Progress
+// Reads until the buffer is full, the input ends or a read fails; no read is of more bytes than `most`. The last failure is left in `why`.
+pub fn read_sheet<R: Read>(
+    input: &mut R,
+    buf: &mut [u8],
+    most: usize,
+    why: &mut Option<Error>,
+) -> Progress
     ensures { Carried (length buf.new) result × IsPrefixLen result.at buf.new }
 {
     let mut p = begun();
     while goes_on(p, buf.len()) {
-        p = read_on(buf, p, most);
+        p = read_on(input, buf, p, most, why);
     }
     p
 }
 
-// Writes until all is written, or a write fails or moves nothing; no write is of more bytes than `most`.
-pub fn write_reply(buf: &[u8], most: usize) -> Progress
+// Writes until all is written, or a write fails or moves nothing; no write is of more bytes than `most`. The last failure is left in `why`.
+pub fn write_reply<W: Write>(
+    output: &mut W,
+    buf: &[u8],
+    most: usize,
+    why: &mut Option<Error>,
+) -> Progress
     ensures { Carried (length buf.now) result }
 {
     let mut p = begun();
     while goes_on(p, buf.len()) {
-        p = write_on(buf, p, most);
+        p = write_on(output, buf, p, most, why);
     }
     p
 }

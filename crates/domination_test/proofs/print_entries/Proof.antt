@@ -5,10 +5,10 @@ use Rattle.domination_test.proofs.print_entries.Statement.{statement}
 use Rattle.domination_test.proofs.print_entries.Tie as tie
 
 abbrev invariant-loop : tie.invariant-loop-j
-invariant-loop i lines t j₀ blank j = Unit {0}
+invariant-loop i lines t j₀ j = Unit {0}
 
 abbrev decreases-loop : tie.decreases-loop-j
-decreases-loop i lines t j₀ blank j = lines - j
+decreases-loop i lines t j₀ j = lines - j
 
 loop-holds : tie.Need-loop-j-init invariant-loop decreases-loop
 loop-holds c = search rules

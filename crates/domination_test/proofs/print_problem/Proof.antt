@@ -5,10 +5,10 @@ use Rattle.domination_test.proofs.print_problem.Statement.{statement}
 use Rattle.domination_test.proofs.print_problem.Tie as tie
 
 abbrev invariant-loop : tie.invariant-loop-i
-invariant-loop p lines t i₀ bar end last i = Unit {0}
+invariant-loop p lines t i₀ i = Unit {0}
 
 abbrev decreases-loop : tie.decreases-loop-i
-decreases-loop p lines t i₀ bar end last i = lines + 2 - i
+decreases-loop p lines t i₀ i = lines + 2 - i
 
 table-of-requires : tie.Need-table_of-t-requires invariant-loop decreases-loop
 table-of-requires c κs = search rules

@@ -5,10 +5,10 @@ use Rattle.domination_test.proofs.print_replies.Statement.{statement}
 use Rattle.domination_test.proofs.print_replies.Tie as tie
 
 abbrev invariant-loop : tie.invariant-loop-j
-invariant-loop p i lines j₀ blank j = Unit {0}
+invariant-loop p i lines j₀ j = Unit {0}
 
 abbrev decreases-loop : tie.decreases-loop-j
-decreases-loop p i lines j₀ blank j = lines + 2 - j
+decreases-loop p i lines j₀ j = lines + 2 - j
 
 loop-holds : tie.Need-loop-j-init invariant-loop decreases-loop
 loop-holds c = search rules

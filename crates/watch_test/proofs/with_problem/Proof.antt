@@ -5,10 +5,10 @@ use Rattle.watch_test.proofs.with_problem.Statement.{statement}
 use Rattle.watch_test.proofs.with_problem.Tie as tie
 
 abbrev invariant-loop : tie.invariant-loop-k
-invariant-loop start m n reach w c₀ k₀ t8 t9 c k = k ≤ n
+invariant-loop start m n reach w c₀ k₀ c k = k ≤ n
 
 abbrev decreases-loop : tie.decreases-loop-k
-decreases-loop start m n reach w c₀ k₀ t8 t9 c k = n - k
+decreases-loop start m n reach w c₀ k₀ c k = n - k
 
 price-falls-requires : tie.Need-price_falls-w-requires invariant-loop decreases-loop
 price-falls-requires c κs = search rules

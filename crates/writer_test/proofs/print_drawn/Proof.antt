@@ -5,10 +5,10 @@ use Rattle.writer_test.proofs.print_drawn.Statement.{statement}
 use Rattle.writer_test.proofs.print_drawn.Tie as tie
 
 abbrev invariant-loop : tie.invariant-loop-k
-invariant-loop seed problems n among s state₀ needs₀ wrong₀ k₀ t12 t13 t14 t15 t16 t17 state rules wrong k = k ≤ problems
+invariant-loop seed problems n among s state₀ needs₀ wrong₀ k₀ state rules wrong k = k ≤ problems
 
 abbrev decreases-loop : tie.decreases-loop-k
-decreases-loop seed problems n among s state₀ needs₀ wrong₀ k₀ t12 t13 t14 t15 t16 t17 state rules wrong k = problems - k
+decreases-loop seed problems n among s state₀ needs₀ wrong₀ k₀ state rules wrong k = problems - k
 
 loop-holds : tie.Need-loop-k-init invariant-loop decreases-loop
 loop-holds c = search rules

@@ -5,10 +5,10 @@ use Rattle.parts_test.proofs.points.print_wrong.Statement.{statement}
 use Rattle.parts_test.proofs.points.print_wrong.Tie as tie
 
 abbrev invariant-loop : tie.invariant-loop-k
-invariant-loop n amounts k₀ t9 k = k ≤ n
+invariant-loop n amounts k₀ k = k ≤ n
 
 abbrev decreases-loop : tie.decreases-loop-k
-decreases-loop n amounts k₀ t9 k = n - k
+decreases-loop n amounts k₀ k = n - k
 
 print-requires : tie.Need-print-requires invariant-loop decreases-loop
 print-requires c κs = search rules

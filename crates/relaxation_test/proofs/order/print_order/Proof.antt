@@ -5,10 +5,10 @@ use Rattle.relaxation_test.proofs.order.print_order.Statement.{statement}
 use Rattle.relaxation_test.proofs.order.print_order.Tie as tie
 
 abbrev invariant-loop : tie.invariant-loop-k
-invariant-loop list n now found₀ k₀ t10 found k = k ≤ n
+invariant-loop list n now found₀ k₀ found k = k ≤ n
 
 abbrev decreases-loop : tie.decreases-loop-k
-decreases-loop list n now found₀ k₀ t10 found k = n - k
+decreases-loop list n now found₀ k₀ found k = n - k
 
 print-requires : tie.Need-print-requires invariant-loop decreases-loop
 print-requires c κs = search rules
