@@ -2,8 +2,8 @@ use Rattle.std.proofs.Common.{◌≤◌}
 use Rattle.load.proofs.print_load.Given as goal
 
 -- each turn counts one down
-abbrev pub invariant-loop-output : goal.invariant-loop-output
-invariant-loop-output g l = l.left ≤ l.sheets
+abbrev pub invariant-loop-left : goal.invariant-loop-left
+invariant-loop-left g l = l.left ≤ l.sheets
 
-abbrev pub decreases-loop-output : goal.decreases-loop-output
-decreases-loop-output g l = l.left
+abbrev pub decreases-loop-left : goal.decreases-loop-left
+decreases-loop-left g l = l.left
