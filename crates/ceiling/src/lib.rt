@@ -1,5 +1,7 @@
 // An exact bound of a box, by losses: how much less than the best that a price p / q for a unit of weight lets one hope for. Every way to
 // take whole amounts is a way to fill the room with pieces, and costs what it loses; the scales find the least cost.
+#![tactic(auto)]
+
 ghost use Rattle.std.specs.Prelude.{◌≡◌, true, false, ℕ, ◌+◌, ◌*◌, ◌≤◌, ◌<◌, pos, ◌+ℤ◌, ◌*ℤ◌, length, replicate, ◌≤ℤ◌};
 ghost use Rattle.arith.specs.Mixed.{Proper};
 ghost use Rattle.arith.specs.Within.{Within};

@@ -1,5 +1,7 @@
 // The order of fractions, and of points, as answers hold them: numerators and divisors of any size, so no product is made that could overflow.
 // Paper 02, "Always the same charge": which of two points comes first.
+#![tactic(auto)]
+
 ghost use Rattle.std.specs.Prelude.{◌≡◌, ◌*◌, ◌≤◌, ltb, nat_abs};
 ghost use Rattle.comparing.specs.Comparing.{less_fraction, Divided, Compares};
 

@@ -1,5 +1,7 @@
 // The converter of stored sheets (paper 02, request 9): a sheet is read with its blank items, and written without them.
 // The reader's refusals come first, then 15 where the blank items cannot go, then 11. What the meaning gives stays: proofs/Converted.
+#![tactic(auto)]
+
 ghost use Rattle.std.specs.Prelude.{◌≡◌, ◌≤◌};
 ghost use Rattle.knapsack.specs.declared.Verdict.TheVariants.{Accepted};
 ghost use Rattle.model.specs.declared.Blanks.TheVariants as blanks;

@@ -5,6 +5,8 @@
 //   refused    15 at the line of the first item that hinders, or at line 4 where nothing would remain; also where the buffer has no room
 // A byte of the buffer behind what is written stays, and all of them under a refusal; a sheet without its last byte is refused as the reader does.
 // `disagreements` counts the sheets for which one of these fails; they are printed.
+#![tactic(auto)]
+
 mod blanks; // blank items, and what hinders
 mod meaning; // kind and value by enumeration
 mod sheets; // sheets with blank items, and the converter's replies

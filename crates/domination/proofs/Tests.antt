@@ -12,6 +12,7 @@ not-both t p n = let z : ◌≡◌ {A = ℕ} 0 1 = cc in omega arith
 
 is_true : (t : Bool) → T t → t ≡ true
 is_true true h = refl
+is_true false h = elim h [ ]
 
 pub test-le : (x y : ℤ) → x ≤ℤ y → le_z x y ≡ true
 test-le x y h = is_true (le_z x y) h.le

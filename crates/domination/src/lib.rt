@@ -1,6 +1,8 @@
 // Domination pairs: the least steps of two integer items that leave the weight no lower and the value lower, so that a point from
 // which they can be taken away is not optimal (proofs/Discards); and the table of the pairs of all items of a problem.
 // Paper 01: "Least pair"; the field's name is the minimal cost-domination pair (document 000, theorem 3.2: proofs/Minimal).
+#![tactic(auto)]
+
 ghost use Rattle.std.specs.Prelude.{◌≡◌, cond, ℕ, ◌+◌, ◌*◌, ◌<◌, get_or, replicate};
 ghost use Rattle.model.specs.Records.{ItemFigures, FiguresInRange, Numbers};
 ghost use Rattle.domination.specs.Pairs.{refuse_pair, paired, numbered, least_pair, or_missing, barred, placed, tabled};

@@ -2,6 +2,8 @@
 // items `W a c lower upper` (`..` is an absent bound), then the count of its needs, the number of lines given, and each as `k m`. Its replies are a
 // matrix of the item numbers 0 to lines + 1, each `none`, `r,s` or `!` and the refusal's number; behind a bar stand the table's entries of the lines'
 // items, `none` where a need names one of the two.
+#![tactic(auto)]
+
 ghost use Rattle.std.specs.Prelude.{◌≤◌, ◌<◌};
 
 use domination::{Pair, PairReply, least_pair, pair_table};

@@ -1,6 +1,8 @@
 // A test load from a seed number (paper 02, request 8, 9 for its blank items, and 11 for its weights): the same problems at every site.
 // A 64-bit state is added to for each draw; the draw is a scrambled copy of it. draw_problem draws one problem in sheet order and gives
 // the state from which the next one is drawn. Every problem so made is admissible: proofs/Drawn (drawn-admissible).
+#![tactic(auto)]
+
 ghost use Rattle.std.specs.Prelude.{◌≡◌, ◌<◌, ◌≤◌, pos, ◌≤ℤ◌};
 ghost use Rattle.arith.specs.Within.{Within};
 ghost use Rattle.drawing.specs.Drawing.{

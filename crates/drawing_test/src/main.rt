@@ -1,5 +1,7 @@
 // The first sheet of the test load for three seeds that draw weight 0 and price 0 for item 1 (paper 02, request 9): its price is 1, and what is
 // drawn behind it is what it was. The stored output was computed by a program that shares no code.
+#![tactic(auto)]
+
 use text::Listed;
 use trials::bytes::first;
 use trials::print::print;

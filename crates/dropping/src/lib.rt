@@ -1,5 +1,7 @@
 // Blank items, of weight 0, low and high, and price 0, left out of a record (paper 02, request 9): drop_blanks moves the later items down and gives the needs their
 // new numbers, hindrance finds the item that stands against it. The kind of reply and the best value stay: proofs/Dropped (dropped-gives).
+#![tactic(auto)]
+
 ghost use Rattle.std.specs.Prelude.{◌≡◌, cond, suc, ◌-◌, ◌≤◌, ◌<◌};
 ghost use Rattle.model.specs.declared.Blanks.TheVariants as blanks;
 ghost use Rattle.model.specs.Records.{is_blank, need_at, Numbers, AdmissibleBy};

@@ -2,6 +2,8 @@
 // paper 02, requests 7 and 12.
 // Once nothing is refused at most one amount is not a whole number; over its divisor every amount is an integer, and so are the sums of
 // weights and prices, below 2 · 10^17. What a reply says is `Told` in specs/Check, which the entry promises (proofs/Meaning).
+#![tactic(auto)]
+
 ghost use Rattle.std.specs.Prelude.{◌≡◌, ◌*◌, ◌≤◌, ◌<◌, pos, nat_abs, ◌*ℤ◌};
 ghost use Rattle.knapsack.specs.Ranges.{item_at, BoundInRange};
 ghost use Rattle.model.specs.Records.{ItemFigures, FiguresInRange};

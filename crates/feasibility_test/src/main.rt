@@ -2,6 +2,8 @@
 // A case: name, capacity, count, number of items given, each as `W a c lower upper` (`..` is an absent bound), count of the
 // amounts, number of amounts given, each as p/q, count of the needs, number of lines given, each as `k m`. The given ones fill the first places; a
 // count may be another number.
+#![tactic(auto)]
+
 use arith::Fraction;
 use feasibility::{Candidate, PointReply, check_point};
 use model::Sense;

@@ -2,6 +2,8 @@
 // are taken out before the scales look for the least cost, modulo the weight of a part that costs nothing if there is enough of it. Which of the
 // fillings that have it comes first is read off a key that is added to the costs: the amounts of some parts as digits of one number. Where only the
 // first filling is sought, leaps try the first amounts of many parts at once before that.
+#![tactic(auto)]
+
 ghost use Rattle.std.specs.Prelude.{◌≡◌, ℕ, suc, ◌+◌, ◌-◌, ◌*◌, ◌/◌, ◌%◌, ◌^◌, ◌≤◌, ◌<◌, min, length};
 ghost use Rattle.scales.specs.Filling.{load, sum, Bounds};
 ghost use Rattle.residues.specs.Asked.{Chosen};

@@ -1,6 +1,8 @@
 // Plans problems in which every item has a lower bound, and holds each best point to plain enumeration: of all best points the planner shows the one
 // that comes first (paper 02, "Always the same charge"). A problem on which the two disagree is printed. Absent upper bounds are closed at the reach for
 // the enumeration; `met` counts the points shown that it has.
+#![tactic(auto)]
+
 ghost use Rattle.std.specs.Prelude.{◌≤◌};
 
 use arith::Fraction;

@@ -1,6 +1,8 @@
 // The optimal point that comes first: paper 02, "Always the same charge". An optimal place is known, and so is what an optimal point loses. The scales
 // give the first point of each frame that loses as much; the fillings at their integer amounts are compared, and the first of them is the answer. Where
 // the scales have found the value, and no continuous item can change, the place that they found is known to come first, and no frame is asked.
+#![tactic(auto)]
+
 ghost use Rattle.std.specs.Prelude.{◌≡◌, true, false, ℕ, ◌+◌, ◌*◌, ◌≤◌, ◌<◌, pos, ◌-ℤ◌, ◌*ℤ◌, length, ◌≤ℤ◌};
 ghost use Rattle.arith.specs.Mixed.{Proper};
 ghost use Rattle.arith.specs.Within.{Within};

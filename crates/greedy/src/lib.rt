@@ -1,6 +1,8 @@
 // The relaxation of a box, in which every item has both bounds, by greedy filling over flat arrays: the planner's inner loop.
 // The mathematics is document 000, chapter 3: a prefix of the order by price per weight stands at its heavy end, the rest at its
 // light end, and at most one item between (the critical item).
+#![tactic(auto)]
+
 ghost use Rattle.std.specs.Prelude.{◌≡◌, ◌<◌};
 ghost use Rattle.greedy.specs.Fill.{by_item, by_rank, unranked, columns_of, lightest, heaviest, fitted, begun, with_amount, raise_by, fill, bound, shared_by, start_of, rounded_by};
 ghost use Rattle.arith.specs.Limits.{farthest};

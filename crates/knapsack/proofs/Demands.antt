@@ -5,7 +5,7 @@
 -- relaxed-unbounded: and unbounded together. says-once: at most one kind is true. demands: all of them.
 use mathlib.Core.Path.{◌≡◌, refl, sym, ap, ◌∙◌, subst}
 use mathlib.Core.Logic.{◌⊎◌, inl, inr}
-use Prim.Native.Nat.{ℕ, suc, ◌*◌, ◌≤◌, ◌<◌}
+use Prim.Native.Nat.{ℕ, suc, ◌≤◌}
 use native.Mathlib.Omega.{arith}
 use native.Mathlib.Nat.{mul-le-mul_left}
 use lib.IntN.{ℤ, pos, negsuc, neg_ℤ, ◌*ℤ◌}
@@ -22,7 +22,7 @@ use Rattle.knapsack.proofs.Bridge.{bridge-feasible}
 use Rattle.knapsack.proofs.Common.{KeepsMarkᴰ, KeepsLowerᴰ, KeepsUpperᴰ, weighsᴰ, Feasibleᴰ}
 use Rattle.knapsack.proofs.Rays.{Ray, ray-unbounded, unbounded-ray, ray-endless}
 use Rattle.knapsack.specs.Demands.{HasOptimal, HasRay, Endless, shown_value, Demands}
-use Rattle.knapsack.specs.Meaning.{Instance, Point, weights, value, Feasible, Optimal, Infeasible, relaxed}
+use Rattle.knapsack.specs.Meaning.{Instance, Point, weights, value, Feasible, Infeasible, relaxed}
 use Rattle.knapsack.specs.Meaning.{point_of, steps_of, ShownOptimal, AnswersAs, Answers}
 use Rattle.knapsack.specs.declared.Answer.{Answer}
 use Rattle.knapsack.specs.declared.Bound.{Bound}

@@ -2,7 +2,7 @@
 --   starred : StarredTable
 use mathlib.Core.Path.{◌≡◌, refl}
 use mathlib.Core.Logic.{◌≢◌}
-use Prim.Native.Nat.{ℕ, zero, suc, ◌+◌, ◌*◌, ◌≤◌, ◌<◌}
+use Prim.Native.Nat.{ℕ, zero, suc, ◌*◌, ◌≤◌, ◌<◌}
 use native.Mathlib.Omega.{arith}
 use native.Mathlib.Decide.{ℕ_discrete}
 use lib.IntN.{ℤ, pos, negsuc, nat_abs, ◌+ℤ◌, ◌*ℤ◌}
@@ -13,7 +13,7 @@ use Rattle.arith.proofs.Integers.{split, split2, zed}
 use Rattle.knapsack.specs.declared.Bound.TheVariants.{Absent, At}
 use Rattle.knapsack.specs.declared.Item.{Item}
 use Rattle.knapsack.specs.Meaning.{Instance, Point, value, Optimal, Infeasible, Unbounded, relaxed, LeastPair, NoPair}
-use Rattle.knapsack.specs.Table.{item, at, by, A, B, C, D, E, F, G, H, I, J, K, M, Best, StarredTable}
+use Rattle.knapsack.specs.Table.{at, by, A, B, C, D, E, F, G, H, I, J, K, M, Best, StarredTable}
 use Rattle.knapsack.proofs.Common.{Feasibleᴰ}
 use Rattle.knapsack.proofs.Bridge.{Reads, bridge-optimal, bridge-infeasible, bridge-feasible}
 use Rattle.knapsack.proofs.Dual.{score, AtEnd, Certificate, certified}

@@ -1,5 +1,7 @@
 // The mixed integer knapsack problem of paper 01 as the solver knows it: its types, and what its answers mean (specs/).
 // The theorems about the meaning that every crate above cites are in proofs/. What is handed over is crate model's.
+#![tactic(auto)]
+
 ghost use Rattle.std.specs.Prelude.{◌≡◌, ◌<◌};
 ghost use Rattle.arith.specs.Within.{Within};
 ghost use Rattle.knapsack.specs.Items.{is_absent, is_open, with_item};

@@ -15,7 +15,7 @@
 --   barren_by l f room b  no change within the room is found above b: the descent along the lattice from the room on ended
 --   Falls, Snaps, Judges, Descends, Starts
 --                        what the parts of the descent ask of their figures
-use Rattle.std.specs.Prelude.{◌≡◌, Bool, true, false, cond, List, ℕ, zero, suc, ◌≤◌, ◌<◌, ℤ, pos, ◌+ℤ◌, ◌-ℤ◌, ◌*ℤ◌, get_or, ◌≤ℤ◌, ◌<ℤ◌}
+use Rattle.std.specs.Prelude.{◌≡◌, Bool, true, false, cond, List, ℕ, zero, suc, ℤ, pos, ◌+ℤ◌, ◌-ℤ◌, ◌*ℤ◌, get_or, ◌≤ℤ◌, ◌<ℤ◌}
 use Rattle.std.specs.Int.Signed.{lt_z}
 use Rattle.arith.specs.Limits.{most_room, most_worth}
 use Rattle.arith.specs.Within.{Within}

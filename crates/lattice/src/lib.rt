@@ -1,5 +1,7 @@
 // The lattice of integer items: whole amounts change weight and worth only by whole multiples of theirs, so between two values of a
 // run there may be none. A run whose relaxation promises more than the incumbent may then still be barren.
+#![tactic(auto)]
+
 ghost use Rattle.std.specs.Prelude.{◌≡◌};
 ghost use Rattle.arith.specs.Limits.{most_room};
 ghost use Rattle.arith.specs.Within.{Within};

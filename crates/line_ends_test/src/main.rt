@@ -1,5 +1,7 @@
 // The first byte 10 from a place on: texts of letters with one byte 10, one other byte at every place before and behind it, and every place
 // to look from. 17 bytes are two blocks of eight and a tail.
+#![tactic(auto)]
+
 ghost use Rattle.std.specs.Prelude.{◌≤◌, ◌<◌};
 
 use lines::scan::{Place, first_line_end};

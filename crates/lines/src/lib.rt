@@ -1,5 +1,7 @@
 // The lines of a sheet (paper 01, "The sheet", "Refused, by place"): places and numbers in the sheet's bytes, the form of a line, and
 // then what its values must be. A line's answer is an enum: its values and the place behind it, or the number of its refusal.
+#![tactic(auto)]
+
 pub mod scan; // places, words, line ends; the part that holds a line
 pub mod number; // numbers of any length
 mod block; // eight bytes at a time

@@ -2,6 +2,8 @@
 // "What `charge` prints", and refusal 11; paper 02, request 11.
 // It comes by value (text_of), or at the start of a lent buffer (list_reply), of which no byte changes where it is too short or the answer a refusal.
 // text_one is the text of one answer alone.
+#![tactic(auto)]
+
 ghost use Rattle.std.specs.Prelude.{◌≡◌, ◌+◌, ◌*◌, ◌≤◌, ◌<◌, length};
 ghost use Rattle.text.specs.Buffer.{Put, Shows, told, filled, noted};
 ghost use Rattle.listing.specs.Printing.{refused_line, best_line, item_line, item_lines, listed, printed, is_refused, printed_both, unless_refused};

@@ -1,4 +1,6 @@
 // Prints hand-made answers of each kind, and lists some of them in buffers that are a byte too short, just long enough, and longer.
+#![tactic(auto)]
+
 ghost use Rattle.std.specs.Prelude.{◌≡◌, ◌≤◌, ◌<◌, length};
 
 use arith::Fraction;

@@ -196,6 +196,7 @@ needs-in (suc n) f j l = go (ℕ_discrete j n) (λ h. needs-in n f j h)
 
 pub needs-from : (n : ℕ) (f : ℕ → Need) (x : Need) → In x (needs_up_to n f) → (j : ℕ) × ((j < n) × (x ≡ placed (f j)))
 unfolding needs_up_to
+needs-from zero f x x3 = elim x3 [ ]
 needs-from (suc n) f x here = (n, (omega arith, refl))
 needs-from (suc n) f x (there i) = let h = needs-from n f x i in (h.0, (omega (arith, h.1.0), h.1.1))
 

@@ -1,5 +1,7 @@
 // The problem as it is handed over (paper 01: a problem handed over as a record): the record, its refusals, and what the entries owe for it (specs/).
 // An entry tries the record by check_model and goes on with plain_of, the solver's problem.
+#![tactic(auto)]
+
 pub mod naming; // the tests of a line of needs
 pub mod refusals; // the numbers
 pub mod setters; // records by steps

@@ -1,6 +1,8 @@
 // Plans problems in which items need others (paper 02, "One item needs another"), and holds each reply to plain enumeration of the points that keep the
 // needs: its kind, its value and, where every item has a lower bound, that no point worth as much comes before the one shown. The best point of the
 // same problem without its needs is tried by the point check, which names the first line that it breaks. A problem on which they disagree is printed.
+#![tactic(auto)]
+
 mod check; // the point check beside a plain one
 
 ghost use Rattle.std.specs.Prelude.{◌≤◌};

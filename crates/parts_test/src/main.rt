@@ -3,6 +3,8 @@
 //   pairs      refusals 9 and 10, the steps or none, against all steps within ±REACH
 //   lines      refusals 1 and 2 or the line's bytes, against a count of the bytes 10
 // All is drawn from the seeds that are printed. `disagreements` counts the replies that differ, and each is printed before the counts.
+#![tactic(auto)]
+
 mod points; // the point check
 mod pairs; // the least pair
 mod line_parts; // the part that holds a line

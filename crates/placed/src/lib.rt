@@ -1,5 +1,7 @@
 // The answer of a prepared problem with the optimal point that comes first: paper 02, "Always the same charge". It is owed where every item has a
 // lower bound; else the point of the answer stays.
+#![tactic(auto)]
+
 ghost use Rattle.std.specs.Prelude.{◌≡◌, true, ◌≤◌};
 ghost use Rattle.ceiling.specs.Sizes.{Spanned};
 ghost use Rattle.firsts.specs.Leading.{OptimalAt, FirstBest, PointWrites};

@@ -1,4 +1,6 @@
 // Places of a search and the moves between them. A place is an amount for each level; docs/ARCHITECTURE.md says in which order they come.
+#![tactic(auto)]
+
 ghost use Rattle.std.specs.Prelude.{◌≡◌, ◌≤◌, ◌<◌};
 ghost use Rattle.places.specs.Moves.{at, next_value, next_segment, next_of, carry, carry_segment, moved_of, SettledIn, past_of};
 

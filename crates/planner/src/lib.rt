@@ -1,6 +1,8 @@
 // One item needs another (paper 02, request 7): the planner's entries, for records with needs. A need is kept exactly if there is none of its item, or at
 // least 1 of its cover. So the plain problem is solved; if its point keeps all needs it is the best, else the two cases of the first broken need are gone
 // through, each a plain problem with one bound narrowed. A case whose best point is not ahead of what is known is left. See crate cases for the mathematics.
+#![tactic(auto)]
+
 ghost use Rattle.std.specs.Prelude.{◌≡◌, true, ◌-◌, ◌≤◌, ◌<◌};
 ghost use Rattle.knapsack.specs.Meaning.{instance_of};
 ghost use Rattle.knapsack.specs.declared.Kind.TheVariants.{Optimal};

@@ -1,6 +1,8 @@
 // Plans paper 01's rows and prints the replies; lists some in buffers that are a byte too short, just long enough, and longer; and
 // plans thousands of drawn small problems, each of which is also tried by plain enumeration (trials::outcome says when the two agree).
 // A problem on which they disagree is printed. Some are planned with no step of the search or one, so that the scales answer.
+#![tactic(auto)]
+
 mod rows; // paper 01's rows
 mod ranged; // weights known within ranges
 mod texts; // the text entry

@@ -1,6 +1,8 @@
 // From an accepted problem, everything that a search needs: the columns in the order of filling, the box, and the integer items as
 // levels in the order of branching, with their ends and the lattices of what they change. Paper 01, "Relaxation", has the order of filling;
 // ties are parted for small answers, see tables, filling_key.
+#![tactic(auto)]
+
 ghost use Rattle.std.specs.Prelude.{◌≡◌, ◌<◌};
 ghost use Rattle.greedy.specs.Fill.{fill};
 ghost use Rattle.greedy.specs.Sized.{Sized};

@@ -208,6 +208,7 @@ module _ (p : Problem) (ns : Needs) (a : Answer) (k : ℕ) (w : Watched p ns a) 
     where
       under : (b : Bound) (x y : Frac) → StandsLow b x → KeepsLower b y → x ≤ᶠ y
       under (At l) x y g q = ≤ᶠ-trans x (int l) y g q
+      under Absent x y g q = elim g [ ]
 
 -- ---- all items
 

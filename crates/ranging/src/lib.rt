@@ -4,6 +4,8 @@
 // which fall on it is better. Lowered problems are judged by their meaning: an item may come to weight 0 and price 0, which no record may have.
 // On weights within ranges (request 11) this follows the sure answer. An item takes at most 21 solvings: LEAPS and 15 of halving, as no fall is above
 // 20,000; one that stands at its lower bound takes none.
+#![tactic(auto)]
+
 ghost use Rattle.std.specs.Prelude.{true, ◌≡◌, ◌+◌, ◌≤◌, ◌<◌, nat_abs};
 ghost use Rattle.knapsack.specs.Meaning.{instance_of, Shown, amount_at, point_of};
 ghost use Rattle.knapsack.specs.Ranges.{item_at, BoundInRange};

@@ -1,6 +1,8 @@
 // The scan for a ray: steps on one or two items that no bound stops, that weigh nothing or less and are worth something.
 // With one, a feasible problem is unbounded (paper 01); without, absent bounds may be closed (knapsack's reach).
 // proofs/Corner is about the point that a planner applies the answer to, the light corner, and about infeasible problems.
+#![tactic(auto)]
+
 ghost use Rattle.std.specs.Prelude.{◌≡◌, ◌*◌, ◌<◌};
 ghost use Rattle.arith.specs.Within.{Within};
 ghost use Rattle.knapsack.specs.Ranges.{InRange};

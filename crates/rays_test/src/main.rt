@@ -1,5 +1,7 @@
 // Prints, for the sheets of paper 01 with an absent bound, some made for the purpose and many drawn ones, the steps of the ray
 // that the scan finds, or `none`. An item is (weight, price, lower, upper); marks play no part.
+#![tactic(auto)]
+
 ghost use Rattle.std.specs.Prelude.{◌≤◌};
 ghost use Rattle.model.specs.Records.{FiguresInRange};
 

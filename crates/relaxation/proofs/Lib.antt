@@ -1,4 +1,3 @@
 pub mod Lent
-pub mod Calls
 pub mod Loose
 pub mod Demands

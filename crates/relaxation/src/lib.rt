@@ -1,7 +1,9 @@
 // The relaxation's public entry (paper 01, "Relaxation"): a capacity, a lent list of items, which is left in order, and terms: the needs, whose items
 // keep their marks (paper 02, request 7), and the sense, whose weight decides and orders (request 11).
-// One thin function, proved by hand, over a core that is covered: the list is copied into a record, the core answers it and puts its
-// items in order, and the items are stored back.
+// One thin function over a core: the list is copied into a record, the core answers it and puts its items in order, and the items are
+// stored back.
+#![tactic(auto)]
+
 ghost use Rattle.std.specs.Prelude.{◌≡◌, ◌≤◌, ◌<◌, []};
 ghost use Rattle.model.specs.Needs.{loosened};
 ghost use Rattle.model.specs.Records.{item_at, plain_of, Admissible, FiguresInRange};

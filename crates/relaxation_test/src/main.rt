@@ -1,5 +1,7 @@
 // Prints the relaxation of paper 01's sheets, of some made for the purpose, of records that are refused and of some drawn ones, and
 // counts what it comes to on thousands of drawn ones, all through the public entry over a lent list.
+#![tactic(auto)]
+
 mod lending; // the call
 mod order; // the list afterwards
 mod sheets; // sheets and their records

@@ -1,5 +1,7 @@
 // From end to end: what is printed for a sheet, and the text of the reply to a record or a sheet in a lent buffer. Paper 01, "What `charge`
 // prints" and the text among the parts that stand in public; paper 02, request 11: the sure reply, then the possible one.
+#![tactic(auto)]
+
 ghost use Rattle.std.specs.Prelude.{◌≡◌};
 ghost use Rattle.senses.specs.Both.{PlannedBoth};
 ghost use Rattle.replies.specs.Replies.{both_refused, Answered, Replies, Lists, SheetLists};

@@ -1,6 +1,8 @@
 // Fillings modulo a free part. Where a part costs nothing and there is enough of it, it takes whatever the others leave of the capacity in
 // multiples of its weight: only what their weights are modulo that one matters. This is Gomory's group relaxation, exact here because the
 // free part never runs out.
+#![tactic(auto)]
+
 ghost use Rattle.std.specs.Prelude.{◌≡◌, ◌+◌, ◌*◌, ◌^◌, ◌≤◌, ◌<◌, length};
 ghost use Rattle.scales.specs.Filling.{sum, heft, items_of, Least};
 ghost use Rattle.scales.specs.Lent.{Listed, total};

@@ -1,6 +1,8 @@
 // Entries for programs in C and Rust, on bytes and numbers: a sheet's verdict, its reply in a lent buffer, and how much work it is.
 // include/runcefo.h declares them. Paper 01, "The sheet" and "What `charge` prints". Nothing is asked of a caller but that each
 // pointer has as many bytes behind it as the length beside it says.
+#![tactic(auto)]
+
 ghost use Rattle.std.specs.Prelude.{◌≡◌};
 ghost use Rattle.converter.specs.Converting.{conversion, cleared};
 ghost use Rattle.knapsack.specs.declared.Verdict.TheVariants.{Accepted};

@@ -1,6 +1,8 @@
 // Exact filling at least cost, by binary digits of the amounts, low scale first. At scale i a unit of an item stands for 2 ^ i; each range
 // has a digit of 0, 1 or 2 units there. The cells hold the least cost of each load by the units so far. A scale drops a binary digit of the
 // load, as it has to be that of the capacity, and with it a divisor that the weights of all units to come share.
+#![tactic(auto)]
+
 ghost use Rattle.std.specs.Prelude.{◌≡◌, cond, ltb, ℕ, suc, ◌+◌, ◌-◌, ◌*◌, ◌/◌, ◌^◌, ◌≤◌, ◌<◌, min, max, length, get_or};
 ghost use Rattle.arith.specs.Gcd.{gcd_of};
 ghost use Rattle.scales.specs.Digits.{rest, digit, rest_at, cost_at};

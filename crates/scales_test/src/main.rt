@@ -1,5 +1,7 @@
 // Tries the least cost on 300 drawn problems of three items. The expected lines were found by going through all amounts, in Python:
 // the draws are those of `next`, ws, us, ts, ls and the capacity in this order, and the cap is 600 in every other problem.
+#![tactic(auto)]
+
 ghost use Rattle.std.specs.Prelude.{◌≤◌, ◌<◌, length};
 ghost use Rattle.scales_test.specs.Draws.{Drawn};
 

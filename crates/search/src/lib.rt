@@ -2,6 +2,8 @@
 // integer item. A step looks at one place and sets aside a run of places from it on, with the lemma that allows it: see proofs/Settle. What a step gives
 // depends on the place and the incumbent alone, so a search can be resumed from these (proofs/Resume); the state also says which levels are known to
 // settle nothing, so that they are not looked at again.
+#![tactic(auto)]
+
 ghost use Rattle.std.specs.Prelude.{◌≡◌, ℕ, ◌≤◌, ◌<◌};
 ghost use Rattle.arith.specs.Limits.{farthest};
 ghost use Rattle.arith.specs.Within.{Within};

@@ -1,4 +1,6 @@
 // The planner in both senses (paper 02, request 11): the sure answer and the possible one.
+#![tactic(auto)]
+
 ghost use Rattle.model.specs.declared.Sense.TheVariants.{Sure, Possible};
 ghost use Rattle.model.specs.Promises.{Planned};
 ghost use Rattle.senses.specs.Both.{PlannedBoth};

@@ -1,5 +1,7 @@
 // What preparation hands over and a search relies on: columns, box, levels, lattices, and the domination pairs. The box can be asked for with some
 // of its levels fixed.
+#![tactic(auto)]
+
 ghost use Rattle.std.specs.Prelude.{◌≡◌, ℕ, ◌≤◌, ◌<◌};
 ghost use Rattle.greedy.specs.Fill.{at, place};
 ghost use Rattle.setting.specs.Box.{fixed_in, fixed_by};

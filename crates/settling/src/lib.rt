@@ -1,6 +1,8 @@
 // What is left of a search that has not ended: an optimal place of its box, in bounded time. Paper 01, "The problem": a best point is owed for every
 // problem that has one, however long a search would take. The place is the incumbent's if no loss is less than its own, else the first point of the
 // frame that loses least.
+#![tactic(auto)]
+
 ghost use Rattle.std.specs.Prelude.{◌≡◌, true, false, ℕ, ◌≤◌, ◌<◌, eqb, length};
 ghost use Rattle.greedy.specs.Fill.{at, place};
 ghost use Rattle.ceiling.specs.Least.{Placed};

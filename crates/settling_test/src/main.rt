@@ -1,6 +1,8 @@
 // Settles thousands of drawn small problems by the scales alone, and holds each to plain enumeration: the place found keeps the bounds, and the
 // best value with its whole amounts is that of the problem; if none is found, no point tried is feasible. Each is settled twice, with nothing known
 // and with a poor incumbent. A problem on which they disagree is printed.
+#![tactic(auto)]
+
 mod judge; // judge.rt: a place against enumeration
 
 ghost use Rattle.std.specs.Prelude.{◌≡◌, true, false, ℕ, ◌≤◌, ◌<◌, length};

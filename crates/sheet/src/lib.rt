@@ -2,6 +2,8 @@
 // read gives every sheet its record or its numbered refusal, read_by keeps blank items where it is told to; line_part and
 // check_line give a line for the display.
 // A line is read in two steps, its form and then its values (crate lines); a section is a heading and a loop over its lines (specs/Sections).
+#![tactic(auto)]
+
 ghost use Rattle.std.specs.Prelude.{◌≡◌, suc, ◌+◌, ◌≤◌, ◌<◌};
 ghost use Rattle.model.specs.Records.{empty_model};
 ghost use Rattle.model.specs.Records.{item_at, barred, Numbers};

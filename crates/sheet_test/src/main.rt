@@ -3,6 +3,8 @@
 // to show, and edits (edits.rt) that name parts of the sheet, so that the rows know nothing of the layout around them. Without a number the line
 // of the last edit is shown. The writer has to give the very bytes of each sheet that is accepted.
 // Good sheets, every refusal at every place, two faults on one line, long numbers, bytes that are no text, 4,096 and 4,097 bytes.
+#![tactic(auto)]
+
 mod edits; // a written sheet, edited
 
 use crate::edits::{byte_at, edited, find, past};

@@ -1,5 +1,7 @@
 // The solver of plain problems. Paper 01, "The problem": optimal, infeasible and unbounded are said exactly when they are true. A problem with needs is
 // solved by cases, each a plain problem; `named` tells which items its needs name: no pair with one of them discards a point (paper 02, request 7).
+#![tactic(auto)]
+
 ghost use Rattle.std.specs.Prelude.{◌≡◌, true};
 ghost use Rattle.arith.proofs.Mixes.{over};
 ghost use Rattle.greedy.specs.Fill.{at};

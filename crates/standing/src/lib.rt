@@ -1,5 +1,7 @@
 // A standing plan (paper 02, request 10): a problem and its replies, kept while pieces come and go. An item can be added at the end, be removed, or get
 // another upper bound. A change is tried, then the changed problem is solved afresh; a refused change hands the plan back as it came.
+#![tactic(auto)]
+
 ghost use Rattle.std.specs.Prelude.{◌≡◌, cond, ◌≤◌, ◌<◌};
 ghost use Rattle.model.specs.Records.{names_item, or_else, verdict};
 ghost use Rattle.model.specs.Setters.{appended, appended_need};

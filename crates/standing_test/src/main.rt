@@ -1,6 +1,8 @@
 // Standing plans (paper 02, request 10) through long drawn runs of changes. Each change is held to a plain twin (twin.rt): the verdict, and the record that
 // is left. An accepted one is held to that record solved afresh, in kind and value, and in full where every item has a lower bound, and where points are few
 // to plain enumeration of them. A refused one has to leave the plan as it was. `disagreements` counts the changes for which one of these fails.
+#![tactic(auto)]
+
 mod draw; // changes from a seed
 mod same; // records, answers and plans beside one another
 mod twin; // the changes, made plainly

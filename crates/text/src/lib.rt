@@ -1,5 +1,7 @@
 // Text: numbers in base ten, and texts in a buffer, by value or lent. Paper 01, "Text", and refusal 11.
 // A put_* function writes at a place of a buffer and replies with the place behind what it wrote; hand_over fills a lent buffer or leaves it.
+#![tactic(auto)]
+
 ghost use Rattle.std.specs.Prelude.{◌≡◌, [], ◌∷◌, ◌++◌, ◌+◌, ◌≤◌, nat_abs, length};
 ghost use Rattle.text.specs.Decimal.{decimal, integer};
 ghost use Rattle.text.specs.Buffer.{Put, Spelled, told, filled};

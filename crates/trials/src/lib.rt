@@ -1,5 +1,7 @@
 // What the programs of the gate share that try many problems. Nothing of it is part of the planner, and the planner's crates take no
 // part in it: an answer is judged by the point check and by plain sums.
+#![tactic(auto)]
+
 pub mod bytes; // the first of a text's bytes, and whether two texts agree
 pub mod count; // counts, and how they are printed
 pub mod draw; // problems from a seed

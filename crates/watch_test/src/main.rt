@@ -2,6 +2,8 @@
 // is best still exactly if no point that is tried at the lowered price is worth more. Absent bounds are closed for the enumeration, farther off than the
 // small figures of these problems lead. With weights within ranges the falls are those of the sure answer: the enumeration takes every weight at its high
 // end. A problem on which the two disagree is printed.
+#![tactic(auto)]
+
 ghost use Rattle.std.specs.Prelude.{◌≤◌};
 
 use arith::Fraction;

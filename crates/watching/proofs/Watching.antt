@@ -26,7 +26,7 @@ use Rattle.knapsack.specs.declared.Mark.TheVariants.{Integer}
 use Rattle.knapsack.specs.declared.Problem.{Problem}
 use Rattle.ordering.specs.Order.{order}
 use Rattle.ordering.specs.Ranking.{Small, Ranged, Sorted}
-use Rattle.ordering.proofs.Order.{MayPrecede, Ordered, order-before, order-cong, in_order}
+use Rattle.ordering.proofs.Order.{MayPrecede, Ordered, order-before, order-cong, in_order_lem}
 use Rattle.ordering.proofs.Permutations.{onto}
 use Rattle.text.specs.Buffer.{Put}
 use Rattle.listing.specs.Printing.{listed, printed}
@@ -71,7 +71,7 @@ watch-ordered f n = record {
 }
   where
     o : Ordered (λ k. fall_item (f k)) n (watch_order f n)
-    o = in_order (λ k. fall_item (f k)) n
+    o = in_order_lem (λ k. fall_item (f k)) n
 
 -- ---- the problem whose order it is
 

@@ -2,6 +2,8 @@
 // `none` last, equals by item number; a reply that is no best point is printed alone, as `charge` prints one. It is the sure reply, also where the
 // possible one shows a best point.
 // The order is that of the relaxation: a fall d stands for an item of weight 1 and price -d, none for one of weight 0, which come last.
+#![tactic(auto)]
+
 ghost use Rattle.std.specs.Prelude.{◌≡◌, ◌+◌, ◌*◌, ◌≤◌, ◌<◌, get_or, length};
 ghost use Rattle.ordering.specs.Ranking.{Places, Sorted};
 ghost use Rattle.ranging.specs.Ranging.{FallsOf};

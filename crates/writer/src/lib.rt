@@ -1,6 +1,8 @@
 // The writer: the sheet of a record, in a lent buffer. Paper 02, request 1; the layout is the reader's (crate sheet, specs/Printing).
 // Reading what was written gives the record again, and writing what was read the very bytes: proofs/Roundtrip.
 // A section is a function; each writes at a place and replies with the place behind what it wrote, as crate text does.
+#![tactic(auto)]
+
 ghost use Rattle.std.specs.Prelude.{◌≡◌, false, [], ◌∷◌, ◌+◌, ◌≤◌, ◌<◌, length};
 ghost use Rattle.knapsack.specs.declared.Verdict.TheVariants.{Accepted};
 ghost use Rattle.model.specs.Records.{item_at, need_at, bad_bound, bad_figure, verdict};

@@ -4,6 +4,8 @@
 //   longest    the longest sheet there is
 //   refused    records out of range, also where the buffer is short
 // `disagreements` counts the records for which one of these fails.
+#![tactic(auto)]
+
 ghost use Rattle.std.specs.Prelude.{◌≡◌, length};
 
 use knapsack::{Bound, Mark, Verdict};

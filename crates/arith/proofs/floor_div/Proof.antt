@@ -14,8 +14,6 @@ use Rattle.arith.proofs.Quotients.{quot-rem, rem-small, quot-within, rem-within,
 use Rattle.arith.proofs.Rounding.{IsFloor, nonzero, floor-same, floor-less, floor-is, floor-unique}
 use Rattle.arith.proofs.floor_div.Statement.{statement}
 use Rattle.arith.proofs.floor_div.Tie as tie
-use Rattle.arith.proofs.floor_div.Reads as reads
-use Rattle.arith.proofs.floor_div.Lts as lts
 
 -- what is known at entry, and of the quotient and the remainder
 abbrev N : tie.Start → ℤ

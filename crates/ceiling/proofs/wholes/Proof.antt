@@ -12,7 +12,7 @@ invariant-loop n level to₀ d₀ to d = (d ≤ n) × Levelled level d to
 abbrev decreases-loop : tie.decreases-loop-d
 decreases-loop n level to₀ d₀ to d = n - d
 
-d<16 : (c : tie.In-loop-d invariant-loop decreases-loop) → c.loop-d.d < 16
+d<16 : (c : tie.In-loop-d-unread invariant-loop decreases-loop) → c.loop-d.d < 16
 d<16 c = omega (arith, c.loop-d-test.true, c.requires.0)
 
 loop-holds : tie.Need-loop-d-init invariant-loop decreases-loop
@@ -28,7 +28,7 @@ array-write-to : tie.Need-bounds-to-k invariant-loop decreases-loop
 array-write-to c = c.requires.1 c.loop-d.d c.loop-d-test.true
 
 add-d : tie.Need-overflow_add-d invariant-loop decreases-loop
-add-d c = record { fits = omega (arith, d<16 c) }
+add-d c = record { fits = omega (arith, c.loop-d-test.true, c.requires.0) }
 
 loop-less : tie.Need-loop-d-smaller invariant-loop decreases-loop
 loop-less c = omega (arith, c.loop-d-test.true)

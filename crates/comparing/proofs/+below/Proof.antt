@@ -21,63 +21,43 @@ below_at t = and 0 below-kinds.ps (is 0 below-kinds.ps μ-below t) below.Pre
 abbrev below-below : ℕ → In 0 below-kinds.ps
 below-below t = and 0 below-kinds.ps (falls 0 below-kinds.ps ◌<◌ μ-below t) below.Pre
 
-below-div-a : (t : ℕ) → below-lts.Need-nonzero-div-a (below-below t, below.Post) (below_at t) below.Post
+below-div-a : (t : ℕ) → below-lts.Need-nonzero_div-a (below-below t, below.Post) (below_at t) below.Post
 below-div-a t c = omega (arith, c.requires.1.0)
 
-below-div-b : (t : ℕ) → below-lts.Need-nonzero-div-b (below-below t, below.Post) (below_at t) below.Post
+below-div-b : (t : ℕ) → below-lts.Need-nonzero_div-b (below-below t, below.Post) (below_at t) below.Post
 below-div-b t c = omega (arith, c.requires.1.1)
 
-below-returns :
-    (t : ℕ) → below-lts.Need-returns (below-below t, below.Post) (below_at t) below.Post
-below-returns t c = let s = c.before in below-whole s.args.n s.args.d s.args.m s.args.e s.requires.1.0 s.requires.1.1 c.if-a-b.true
+below-returns : (t : ℕ) → below-lts.Need-returns-then-a-b (below-below t, below.Post) (below_at t) below.Post
+below-returns t c = below-whole c.args.n c.args.d c.args.m c.args.e c.requires.1.0 c.requires.1.1 c.if-a-b.true
 
-below-returns-2 :
-    (t : ℕ) → below-lts.Need-returns-2 (below-below t, below.Post) (below_at t) below.Post
-below-returns-2 t c =
-    let s = c.before.before in
-    above-whole s.args.n s.args.d s.args.m s.args.e s.requires.1.0 s.requires.1.1 c.if-b-a.true
+below-returns-2 : (t : ℕ) → below-lts.Need-returns-then-b-a (below-below t, below.Post) (below_at t) below.Post
+below-returns-2 t c = above-whole c.args.n c.args.d c.args.m c.args.e c.requires.1.0 c.requires.1.1 c.if-b-a.true
 
-below-rem-i : (t : ℕ) → below-lts.Need-nonzero-rem-i (below-below t, below.Post) (below_at t) below.Post
-below-rem-i t c = omega (arith, c.before.before.requires.1.0)
+below-rem-i : (t : ℕ) → below-lts.Need-nonzero_rem-i (below-below t, below.Post) (below_at t) below.Post
+below-rem-i t c = omega (arith, c.requires.1.0)
 
-below-rem-j : (t : ℕ) → below-lts.Need-nonzero-rem-j (below-below t, below.Post) (below_at t) below.Post
-below-rem-j t c = omega (arith, c.before.before.requires.1.1)
+below-rem-j : (t : ℕ) → below-lts.Need-nonzero_rem-j (below-below t, below.Post) (below_at t) below.Post
+below-rem-j t c = omega (arith, c.requires.1.1)
 
 -- the whole parts are equal
-same : (t : ℕ) (e : below-lts.Else2 (below-below t, below.Post) (below_at t) below.Post) →
-    let s = e.before.before in
-    s.args.n / s.args.d ≡ s.args.m / s.args.e
-same t e = omega (arith, e.before.if-a-b.false, e.if-b-a.false)
+same : (t : ℕ) (e : below-lts.Else-b-a (below-below t, below.Post) (below_at t) below.Post) → e.args.n / e.args.d ≡ e.args.m / e.args.e
+same t e = omega (arith, e.if-a-b.false, e.if-b-a.false)
 
-below-returns-3 :
-    (t : ℕ) → below-lts.Need-returns-3 (below-below t, below.Post) (below_at t) below.Post
-below-returns-3 t c =
-    let e = c.before in
-    let s = e.before.before in
-    none_left s.args.n s.args.d s.args.m s.args.e s.requires.1.0 s.requires.1.1 (same t e) c.if-j-eq0.true
+below-returns-3 : (t : ℕ) → below-lts.Need-returns-then-j-eq0 (below-below t, below.Post) (below_at t) below.Post
+below-returns-3 t c = none_left c.args.n c.args.d c.args.m c.args.e c.requires.1.0 c.requires.1.1 (same t c.before) c.if-j-eq0.true
 
-below-returns-4 :
-    (t : ℕ) → below-lts.Need-returns-4 (below-below t, below.Post) (below_at t) below.Post
+below-returns-4 : (t : ℕ) → below-lts.Need-returns-then-i-eq0 (below-below t, below.Post) (below_at t) below.Post
 below-returns-4 t c =
-    let e = c.before.before in
-    let s = e.before.before in
-    all_left s.args.n s.args.d s.args.m s.args.e s.requires.1.0 s.requires.1.1 (same t e) (omega (arith, c.before.if-j-eq0.false)) c.if-i-eq0.true
+    all_left c.args.n c.args.d c.args.m c.args.e c.requires.1.0 c.requires.1.1 (same t c.before.before) (omega (arith, c.if-j-eq0.false)) c.if-i-eq0.true
 
-below-below-requires :
-    (t : ℕ) → below-lts.Need-below-requires (below-below t, below.Post) (below_at t) below.Post
-below-below-requires t c κs =
-    let e = c.before.before in
-    let s = e.before.before in (
-      omega (arith, s.requires.0, mod-lt s.args.n {m = s.args.d} s.requires.1.0, mod-lt s.args.m {m = s.args.e} s.requires.1.1),
-      (omega (arith, c.before.if-j-eq0.false), omega (arith, c.if-i-eq0.false)),
-    )
+below-below-requires : (t : ℕ) → below-lts.Need-below-requires (below-below t, below.Post) (below_at t) below.Post
+below-below-requires t c κs = (
+  omega (arith, c.requires.0, mod-lt c.args.n {m = c.args.d} c.requires.1.0, mod-lt c.args.m {m = c.args.e} c.requires.1.1),
+  (omega (arith, c.if-j-eq0.false), omega (arith, c.if-i-eq0.false)),
+)
 
-below-returns-5 :
-    (t : ℕ) → below-lts.Need-returns-5 (below-below t, below.Post) (below_at t) below.Post
-below-returns-5 t c =
-    let e = c.before.before.before in
-    let s = e.before.before in
-    c.below.ensures ∙ turned_left s.args.n s.args.d s.args.m s.args.e s.requires.1.0 s.requires.1.1 (same t e)
+below-returns-5 : (t : ℕ) → below-lts.Need-returns (below-below t, below.Post) (below_at t) below.Post
+below-returns-5 t c = c.below.ensures ∙ turned_left c.args.n c.args.d c.args.m c.args.e c.requires.1.0 c.requires.1.1 (same t c.before.before.before)
 
 pub +below_spec : {M : Type 1} → statement M
 +below_spec =

@@ -55,8 +55,10 @@ refused-requires c κs = search rules
 returns-2 : tie.Need-returns
 returns-2 c =
     let e = sym c.is_eligible.ensures in
-    c.refused.ensures ∙ ⊎_elim (λ w. second-fails _ _ (e ∙ w.0.taken) (sym w.1.ensures ∙ w.2.left)) (λ w. first-fails _ _ (e ∙ w.left))
-    c.if-is_eligible.branch
+    c.refused.ensures ∙ ⊎_elim
+    (λ w. second-fails _ _ (e ∙ w.if-is_eligible.true) (sym w.is_eligible-then-is_eligible.ensures ∙ w.if-is_eligible-2.false))
+    (λ w. first-fails _ _ (e ∙ w.if-is_eligible.false))
+    c.if-is_eligible.branch-raw
 
 pub pair_items_spec : {M : Type 1} → statement M
 pair_items_spec =

@@ -5,10 +5,10 @@ use Rattle.domination_test.proofs.print_entries.Statement.{statement}
 use Rattle.domination_test.proofs.print_entries.Tie as tie
 
 abbrev invariant-loop : tie.invariant-loop-j
-invariant-loop i lines t j₀ blank j = Unit {0}
+invariant-loop i lines t j₀ j = Unit {0}
 
 abbrev decreases-loop : tie.decreases-loop-j
-decreases-loop i lines t j₀ blank j = lines - j
+decreases-loop i lines t j₀ j = lines - j
 
 loop-holds : tie.Need-loop-j-init invariant-loop decreases-loop
 loop-holds c = search rules
@@ -24,9 +24,6 @@ mul-q-2 c = search rules
 
 array-copy-out-q : tie.Need-bounds-t-i invariant-loop decreases-loop
 array-copy-out-q c = search rules
-
-slice-aggregate-print : tie.Need-slice-aggregate-print invariant-loop decreases-loop
-slice-aggregate-print c = search rules
 
 print-requires : tie.Need-print-requires invariant-loop decreases-loop
 print-requires c κs = search rules
@@ -57,7 +54,6 @@ print_entries_spec =
     add-q
     mul-q-2
     array-copy-out-q
-    slice-aggregate-print
     print-requires
     print-pair-requires
     add-j

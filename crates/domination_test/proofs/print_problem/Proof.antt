@@ -5,10 +5,10 @@ use Rattle.domination_test.proofs.print_problem.Statement.{statement}
 use Rattle.domination_test.proofs.print_problem.Tie as tie
 
 abbrev invariant-loop : tie.invariant-loop-i
-invariant-loop p lines t i₀ bar end last i = Unit {0}
+invariant-loop p lines t i₀ i = Unit {0}
 
 abbrev decreases-loop : tie.decreases-loop-i
-decreases-loop p lines t i₀ bar end last i = lines + 2 - i
+decreases-loop p lines t i₀ i = lines + 2 - i
 
 table-of-requires : tie.Need-table_of-t-requires invariant-loop decreases-loop
 table-of-requires c κs = search rules
@@ -22,9 +22,6 @@ add-loop c = search rules
 print-replies-requires : tie.Need-print_replies-requires invariant-loop decreases-loop
 print-replies-requires c κs = search rules
 
-slice-aggregate-print : tie.Need-slice-aggregate-print invariant-loop decreases-loop
-slice-aggregate-print c = search rules
-
 print-requires : tie.Need-print-requires invariant-loop decreases-loop
 print-requires c κs = search rules
 
@@ -33,9 +30,6 @@ sub-print-entries c = search rules
 
 print-entries-requires : tie.Need-print_entries-requires invariant-loop decreases-loop
 print-entries-requires c κs = search rules
-
-slice-aggregate-print-2 : tie.Need-slice-aggregate-print-2 invariant-loop decreases-loop
-slice-aggregate-print-2 c = search rules
 
 print-requires-2 : tie.Need-print-requires-in-loop-i invariant-loop decreases-loop
 print-requires-2 c κs = search rules
@@ -48,9 +42,6 @@ loop-less c = search rules
 
 loop-again : tie.Need-loop-i-preserved invariant-loop decreases-loop
 loop-again c = search rules
-
-slice-aggregate-print-3 : tie.Need-slice-aggregate-print-3 invariant-loop decreases-loop
-slice-aggregate-print-3 c = search rules
 
 print-requires-3 : tie.Need-print-requires-2 invariant-loop decreases-loop
 print-requires-3 c κs = search rules
@@ -68,15 +59,12 @@ print_problem_spec =
     loop-holds
     add-loop
     print-replies-requires
-    slice-aggregate-print
     print-requires
     sub-print-entries
     print-entries-requires
-    slice-aggregate-print-2
     print-requires-2
     add-i
     loop-less
     loop-again
-    slice-aggregate-print-3
     print-requires-3
     returns)

@@ -5,10 +5,10 @@ use Rattle.domination_test.proofs.print_replies.Statement.{statement}
 use Rattle.domination_test.proofs.print_replies.Tie as tie
 
 abbrev invariant-loop : tie.invariant-loop-j
-invariant-loop p i lines j₀ blank j = Unit {0}
+invariant-loop p i lines j₀ j = Unit {0}
 
 abbrev decreases-loop : tie.decreases-loop-j
-decreases-loop p i lines j₀ blank j = lines + 2 - j
+decreases-loop p i lines j₀ j = lines + 2 - j
 
 loop-holds : tie.Need-loop-j-init invariant-loop decreases-loop
 loop-holds c = search rules
@@ -21,9 +21,6 @@ least-pair-requires c κs = search rules
 
 print-reply-requires : tie.Need-print_reply-requires invariant-loop decreases-loop
 print-reply-requires c κs = search rules
-
-slice-aggregate-print : tie.Need-slice-aggregate-print invariant-loop decreases-loop
-slice-aggregate-print c = search rules
 
 print-requires : tie.Need-print-requires invariant-loop decreases-loop
 print-requires c κs = search rules
@@ -50,7 +47,6 @@ print_replies_spec =
     add-loop
     least-pair-requires
     print-reply-requires
-    slice-aggregate-print
     print-requires
     add-j
     loop-less

@@ -30,7 +30,7 @@ returns c =
     let m = c.before.before in
     let n = m.next_state-c.ensures in
     rw (
-      back w.result w.type-inv,
+      back w.result w.type_inv,
       back c.draw_price.result c.draw_price.type_inv,
       m.draw_mark-mark.ensures,
       w.ensures,

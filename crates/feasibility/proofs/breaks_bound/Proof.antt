@@ -24,11 +24,11 @@ returns c = search rules
 
 times-requires : tie.Need-times-n-requires
 times-requires c κs =
-    let v = c.before.b-1.given in
+    let v = c.in-At.v in
     let s = c.before in
-    let h : SFits w64 v.0.0 = search rules in
-    let r : nat_abs v.0.0 ≤ 10000 = subst BoundInRange v.1 s.requires.0 in
-    let m : nat_abs v.0.0 * s.args.q ≤ 10000 * 1000 = mul-le-mul r s.requires.1 in
+    let h : SFits w64 v = search rules in
+    let r : nat_abs v ≤ 10000 = subst BoundInRange c.in-At.is s.requires.0 in
+    let m : nat_abs v * s.args.q ≤ 10000 * 1000 = mul-le-mul r s.requires.1 in
     rw (to_z-of_z h) (omega arith, s.requires.1)
 
 enum-told-2 : tie.Need-enum_told-in-Lower

@@ -62,7 +62,7 @@ at-loop-of-x c = c.before.before.before
 next : (c : tie.After-one_term-sum invariant-loop decreases-loop) →
     let at-loop = at-loop-of-x c.before in
     let s = at-loop.before in
-    to_z w64 at-loop.loop-k.sum +ℤ to_z w64 (of_z w64 c.one_term-sum.result) ≡ S s
+    to_z w64 at-loop.loop-k.sum-bits +ℤ to_z w64 (of_z w64 c.one_term-sum.result) ≡ S s
     (at-loop.loop-k.k + 1)
 next c =
     let l = at-loop-of-x c.before in

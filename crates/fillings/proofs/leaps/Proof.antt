@@ -32,7 +32,7 @@ abbrev start : tie.At-loop-i invariant-loop decreases-loop → tie.Start invaria
 start w = w.before.before.before
 
 -- from where a leap has found something, and from where it has not, back to it
-abbrev hit : tie.After-ranges invariant-loop decreases-loop → tie.After-leap-n invariant-loop decreases-loop
+abbrev hit : tie.After-ranges-1 invariant-loop decreases-loop → tie.After-leap-n invariant-loop decreases-loop
 hit c = c.before.before.before.before.before.before
 
 abbrev miss : tie.Else-n-cap invariant-loop decreases-loop → tie.After-leap-n invariant-loop decreases-loop

@@ -72,10 +72,10 @@ returns c =
     }
 
 -- from where the loop goes on, back to its run, which has fixed one part more
-abbrev ran : tie.After-ranges-1 invariant-loop decreases-loop → tie.After-run_over-n invariant-loop decreases-loop
-ran c = c.before.before
+abbrev ran : tie.After-ranges-in-loop-from-1 invariant-loop decreases-loop → tie.After-run_over-n invariant-loop decreases-loop
+ran c = c.before.before.before.before.before.before
 
-more : (c : tie.After-ranges-1 invariant-loop decreases-loop) → let ro = ran c in (turn ro).loop-from.from < ro.run_over-n.result.to
+more : (c : tie.After-ranges-in-loop-from-1 invariant-loop decreases-loop) → let ro = ran c in (turn ro).loop-from.from < ro.run_over-n.result.to
 more c =
     let ro = ran c in
     let t = turn ro in
@@ -85,7 +85,7 @@ more c =
     let n = ro.run_over-n in
     let x = s.requires.0 in
     sought-more s.args.p s.args.capacity s.args.cap x.0.long x.1.0 x.1.1.1.1 l.r l.from l.from l.invariant.1.heads
-    n.result n.ensures.0 c.before.if-n-cap.false (omega (arith, t.loop-from-test.true)) x.1.1.1.0
+    n.result n.ensures.0 c.if-n-cap.false (omega (arith, t.loop-from-test.true)) x.1.1.1.0
 
 loop-less : tie.Need-loop-from-smaller invariant-loop decreases-loop
 loop-less c = omega (arith, (turn (ran c)).loop-from-test.true, more c)

@@ -27,15 +27,15 @@ tied-requires c κs = c.requires.0.0.sized.columns
 
 -- the columns in the order of filling
 tying : (c : tie.After-tied-c invariant-loop decreases-loop) → Tying c.args.s c.tied-c.result
-tying c = let s = c.before.before in record { ready = s.requires.0.0; long = long s; spanned = s.requires.0.1.0; tied = c.tied-c.ensures }
+tying c = let s = c.before.before.before in record { ready = s.requires.0.0; long = long s; spanned = s.requires.0.1.0; tied = c.tied-c.ensures }
 
 filling-at-requires : tie.Need-filling_at-z-requires invariant-loop decreases-loop
 filling-at-requires c κs = (tying c, c.requires.0.1.1.inside)
 
 loss-of-requires : tie.Need-loss_of-l-requires invariant-loop decreases-loop
 loss-of-requires c κs =
-    let t = c.before in
-    let s = t.before.before in (
+    let t = c.before.before in
+    let s = t.before.before.before in (
       tying t,
       subst (λ v. IsWorth s.args.s t.tied-c.result v) (sym c.filling_at-z.ensures.value-is)
           (worth-made s.args.s t.tied-c.result (tying t) (at s.args.x) s.requires.0.1.1),
@@ -47,7 +47,7 @@ wholes-requires c κs =
     let r = t.requires.0.0 in (r.few, λ d l. omega (arith, r.level_in d l, r.sized.columns.few))
 
 -- the loss is that of the filling at the place
-loss-is : (o : tie.After-loss_of-l invariant-loop decreases-loop) → let t = o.before.before in let a = t.args in
+loss-is : (o : tie.After-loss_of-l invariant-loop decreases-loop) → let t = o.before.before.before in let a = t.args in
     LossOf (bound t.tied-c.result (fill t.tied-c.result (ends_at a.s (at a.x)))) o.loss_of-l.result
 loss-is o = subst (λ v. LossOf v o.loss_of-l.result) o.filling_at-z.ensures.value-is o.loss_of-l.ensures.1
 
@@ -59,10 +59,10 @@ abbrev lossed : tie.After-lead_of-b invariant-loop decreases-loop → tie.After-
 lossed k = (wholed k).before.before
 
 abbrev ordered : tie.After-lead_of-b invariant-loop decreases-loop → tie.After-tied-c invariant-loop decreases-loop
-ordered k = (lossed k).before.before
+ordered k = (lossed k).before.before.before
 
 abbrev start : tie.After-lead_of-b invariant-loop decreases-loop → tie.Start invariant-loop decreases-loop
-start k = (ordered k).before.before
+start k = (ordered k).before.before.before
 
 lead-of-requires : tie.Need-lead_of-b-requires invariant-loop decreases-loop
 lead-of-requires c κs = tt
@@ -70,7 +70,7 @@ lead-of-requires c κs = tt
 loop-holds : tie.Need-loop-t-init invariant-loop decreases-loop
 loop-holds c =
     let o = lossed c in
-    let f = o.before in
+    let f = o.before.before in
     let t = ordered c in
     let s = start c in
     let a = s.args in (

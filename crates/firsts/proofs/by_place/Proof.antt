@@ -17,7 +17,7 @@ tied-requires c κs = c.requires.0.0.sized.columns
 
 -- the columns in the order of filling
 tying : (c : tie.After-tied-c) → Tying c.args.s c.tied-c.result
-tying c = let s = c.before in record { ready = s.requires.0.0; long = long s; spanned = s.requires.0.1.0; tied = c.tied-c.ensures }
+tying c = let s = c.before.before in record { ready = s.requires.0.0; long = long s; spanned = s.requires.0.1.0; tied = c.tied-c.ensures }
 
 filling-at-requires : tie.Need-filling_at-z-requires
 filling-at-requires c κs = (tying c, c.requires.0.1.1.inside)
@@ -29,7 +29,7 @@ returns : tie.Need-returns
 returns c =
     let f = c.before.before in
     let t = f.before in
-    let s = t.before in
+    let s = t.before.before in
     let p = s.requires in
     rw c.lead_of.ensures (
       known-best s.args.s t.tied-c.result (tying t) (at s.args.x) p.0.1.1 p.1.0 p.1.1

@@ -96,7 +96,7 @@ abbrev start-of-at-loop : tie.At-loop-f invariant-loop decreases-loop → tie.St
 start-of-at-loop c = start-of-told c.before.before
 
 abbrev then2-of-h : tie.After-h-1 invariant-loop decreases-loop → tie.In-loop-f invariant-loop decreases-loop
-then2-of-h c = c.before.before.before
+then2-of-h c = c.before.before.before.before
 
 abbrev then2-of-s : tie.After-s-1 invariant-loop decreases-loop → tie.In-loop-f invariant-loop decreases-loop
 then2-of-s c = then2-of-h c.before
@@ -142,25 +142,25 @@ mul-k : tie.Need-offset_bounds-order-u invariant-loop decreases-loop
 mul-k c = omega (arith, rank<16 c)
 
 element-copy-out-k : tie.Need-bounds-order-u invariant-loop decreases-loop
-element-copy-out-k c = rank<16 c
+element-copy-out-k c = rank<16 c.before
 
 mul-l : tie.Need-offset_bounds-lo-k invariant-loop decreases-loop
-mul-l c = small (item<16 c.before)
+mul-l c = small (item<16 c.before.before)
 
 element-copy-out-l : tie.Need-bounds-lo-k invariant-loop decreases-loop
-element-copy-out-l c = item<16 c.before
+element-copy-out-l c = item<16 c.before.before
 
 mul-h : tie.Need-offset_bounds-hi-k invariant-loop decreases-loop
-mul-h c = small (item<16 c.before.before)
+mul-h c = small (item<16 c.before.before.before)
 
 element-copy-out-h : tie.Need-bounds-hi-k invariant-loop decreases-loop
-element-copy-out-h c = item<16 c.before.before
+element-copy-out-h c = item<16 c.before.before.before
 
 mul-s : tie.Need-offset_bounds-size-u invariant-loop decreases-loop
-mul-s c = small (rank<16 c.before.before.before)
+mul-s c = small (rank<16 c.before.before.before.before)
 
 element-copy-out-s : tie.Need-bounds-size-u invariant-loop decreases-loop
-element-copy-out-s c = rank<16 c.before.before.before
+element-copy-out-s c = rank<16 c.before.before.before.before
 
 mul-p : tie.Need-offset_bounds-rate-u invariant-loop decreases-loop
 mul-p c = small (rank<16 (then2-of-s c))

@@ -61,7 +61,7 @@ element-copy-out-v c = search rules
 rounded-requires : tie.Need-rounded-requires
 rounded-requires c κs =
     let at_c = c.before.before.before in
-    let at-fill-in = at_c.before.before in
+    let at-fill-in = at_c.before.before.before in
     let s = at-fill-in.before in
     let k = s.args.k in
     let z = s.requires.0.ends in
@@ -72,7 +72,7 @@ returns : tie.Need-returns
 unfolding start
 returns c =
     let at-l = c.before.before.before in
-    let at-fill-in = at-l.before.before.before in
+    let at-fill-in = at-l.before.before.before.before in
     let s = at-fill-in.before in
     let k = s.args.k in
     let z = s.requires.0 in

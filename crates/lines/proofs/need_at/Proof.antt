@@ -37,8 +37,8 @@ line : (c : tie.After-numbers_line-p) → let a = (start c).args in
     c.numbers_line-p.result ≡ numbers_line (from_to 1 a.n) (from_to 1 a.n) a.s.now a.at
 line c = rw (to_z_pos w64 {n = (start c).args.n} (omega arith)) at c.numbers_line-p.ensures
 
-both : (c : tie.In-Both) → let a = (start (form c)).args in let p = c.before.p-in-Both-1.given.0 in
-    numbers_line (from_to 1 a.n) (from_to 1 a.n) a.s.now a.at ≡ Both p.0 p.1.0 p.1.1.0
+both : (c : tie.In-Both) → let a = (start (form c)).args in let p = c.in-Both in
+    numbers_line (from_to 1 a.n) (from_to 1 a.n) a.s.now a.at ≡ Both p.x p.y p.next
 both c = sym (line (form c)) ∙ c.in-Both.is
 
 numbers : (c : tie.In-In-y) → let f = fields (first c) in let a = (start (form f)).args in

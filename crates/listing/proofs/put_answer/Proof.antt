@@ -52,54 +52,36 @@ same_length c = search rules
 
 returns : tie.Need-returns-in-Optimal
 returns c =
-    let i = c.before.before in
-    let at_out = i.before.before.before in
-    let b = at_out.before in
-    let t = b.before.before.before in
-    let m = t.before in
-    let s = m.args in
-    let h : m.listed_items-m.result ≤ 16 = omega arith in
-    let p = roomier {n = 1440} (omega arith) (puts (omega arith) b.put_best-next.ensures i.put_items.ensures) in
-    rw (as-kind s.n s.a t.in-Optimal.is) (rw m.listed_items-m.ensures at p)
+    let s = c.args in
+    let h : c.listed_items-m.result ≤ 16 = omega arith in
+    let p = roomier {n = 1440} (omega arith) (puts (omega arith) c.put_best-next.ensures c.put_items.ensures) in
+    rw (as-kind s.n s.a c.in-Optimal.is) (rw c.listed_items-m.ensures at p)
 
 same-length-2 : tie.Need-shape_of-out-in-Infeasible
 same-length-2 c = search rules
 
--- the moments that are spoken of below
-abbrev start : tie.After-listed_items-m → tie.Start
-start c = c.before.before
-
 returns-2 : tie.Need-returns-in-Infeasible
 returns-2 c =
-    let w = c.before.before in
-    let t = w.before.before.before in
-    let s = (start t.before).args in
-    rw (as-kind s.n s.a t.in-Infeasible.is) (roomier (omega arith) w.put_word.ensures)
+    let s = c.args in
+    rw (as-kind s.n s.a c.in-Infeasible.is) (roomier (omega arith) c.put_word.ensures)
 
 same-length-3 : tie.Need-shape_of-out-in-Unbounded
 same-length-3 c = search rules
 
 returns-3 : tie.Need-returns-in-Unbounded
 returns-3 c =
-    let i = c.before.before in
-    let at-out4 = i.before.before.before in
-    let w = at-out4.before in
-    let t = w.before.before.before in
-    let m = t.before in
-    let s = m.args in
-    let h : m.listed_items-m.result ≤ 16 = omega arith in
-    let p = roomier {n = 1440} (omega arith) (puts (omega arith) w.put_word-next.ensures i.put_items-in-Unbounded.ensures) in
-    rw (as-kind s.n s.a t.in-Unbounded.is) (rw m.listed_items-m.ensures at p)
+    let s = c.args in
+    let h : c.listed_items-m.result ≤ 16 = omega arith in
+    let p = roomier {n = 1440} (omega arith) (puts (omega arith) c.put_word-next.ensures c.put_items-in-Unbounded.ensures) in
+    rw (as-kind s.n s.a c.in-Unbounded.is) (rw c.listed_items-m.ensures at p)
 
 same-length-4 : tie.Need-shape_of-out-in-Refused
 same-length-4 c = search rules
 
 returns-4 : tie.Need-returns-in-Refused
 returns-4 c =
-    let f = c.before.before in
-    let t = f.before.before in
-    let s = (start t.before).args in
-    rw (as-kind s.n s.a t.in-Refused.is) (roomier (omega arith) f.put_refused.ensures)
+    let s = c.args in
+    rw (as-kind s.n s.a c.in-Refused.is) (roomier (omega arith) c.put_refused.ensures)
 
 pub put_answer_spec : {M : Type 1} → statement M
 put_answer_spec =

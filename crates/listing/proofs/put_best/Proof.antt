@@ -20,24 +20,10 @@ put-natural-requires c κs = search rules
 same_length : tie.Need-shape_of-out
 same_length c = search rules
 
--- the moments that are spoken of below
-abbrev start : tie.After-put_word-arg-1 → tie.Start
-start c = c.before.before.before
-
-abbrev after-put-word : tie.After-put_integer-arg-1 → tie.After-put_word-amount
-after-put-word c = c.before.before.before
-
-abbrev after-put-integer : tie.After-put_natural-arg-1 → tie.After-put_integer-divisor
-after-put-integer c = c.before.before.before
-
 returns : tie.Need-returns
 returns c =
-    let n = c.before.before in
-    let i = after-put-integer n.before in
-    let w = after-put-word i.before in
-    let s = start w.before.before in
-    let h : SFits w64 s.args.value.p = search rules in
-    rw (to_z-of_z h) at (puts (omega arith) w.put_word-amount.ensures (puts (omega arith) i.put_integer-divisor.ensures n.put_natural.ensures))
+    let h : SFits w64 c.args.value.p = search rules in
+    rw (to_z-of_z h) at (puts (omega arith) c.put_word-amount.ensures (puts (omega arith) c.put_integer-divisor.ensures c.put_natural.ensures))
 
 pub put_best_spec : {M : Type 1} → statement M
 put_best_spec =

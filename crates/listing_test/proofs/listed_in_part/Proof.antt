@@ -9,6 +9,9 @@ use Rattle.listing_test.proofs.listed_in_part.Tie as tie
 slice-relend-prefix-list-reply : tie.Need-slice_bounds-list_reply-end
 slice-relend-prefix-list-reply c = search rules
 
+slice-relend-prefix-list-reply-2 : tie.Need-slice_bounds-list_reply-end-2
+slice-relend-prefix-list-reply-2 c = search rules
+
 list-reply-requires : tie.Need-list_reply-requires
 list-reply-requires c κs = search rules
 
@@ -22,7 +25,7 @@ pub listed_in_part_spec : {M : Type 1} → statement M
 listed_in_part_spec =
     tie.close
     (tie.spec
-    slice-relend-prefix-list-reply
+    slice-relend-prefix-list-reply slice-relend-prefix-list-reply-2
     list-reply-requires
     same_length
     returns)

@@ -20,9 +20,8 @@ returns c = search rules
 
 returns-2 : tie.Need-returns-in-At
 returns-2 c =
-    let b = c.before.before.b-1.given in
-    let h : SFits w64 b.0.0 = search rules in
-    rw b.1 (rw (to_z-of_z h) at c.beyond.ensures)
+    let h : SFits w64 c.in-At.v = search rules in
+    rw c.in-At.is (rw (to_z-of_z h) at c.beyond.ensures)
 
 pub bad_bound_spec : {M : Type 1} → statement M
 bad_bound_spec = tie.close (tie.spec enum_told enum-known-b beyond-requires returns returns-2)

@@ -4,7 +4,7 @@ use Prim.Native.Nat.{ℕ, ◌-◌, ◌≤◌}
 use native.Mathlib.Numerals.{add-one}
 use native.Mathlib.Omega.{arith}
 use borrow.Author.Rules.{rules}
-use lib.ListN.{length, length-map}
+use lib.ListN.{length}
 use Rattle.knapsack.specs.Items.{with_item}
 use Rattle.knapsack.specs.declared.Problem.{Problem}
 use Rattle.model.specs.declared.Model.{Model}
@@ -29,7 +29,7 @@ unfilled-requires c κs = search rules
 
 loop-holds : tie.Need-loop-k-init invariant-loop decreases-loop
 loop-holds c =
-    let size : length c.args.m.items ≡ 16 = simp length-map at c.well_formed.0.1.1.0.1.0.1 in
+    let size : length c.args.m.items ≡ 16 = c.well_formed.0.1.1.0.1.0.1 in
     (omega arith, (size, rw (filled_none c.args.sense 16 c.args.m.items) c.unfilled-p.ensures))
 
 mul-i : tie.Need-offset_bounds-m-k invariant-loop decreases-loop

@@ -3,7 +3,7 @@ use mathlib.Core.Path.{◌≡◌, sym, ap, subst, ◌∙◌}
 use mathlib.Core.Bool.{true, false}
 use Prim.Native.Nat.{ℕ, suc, ◌+◌, ◌≤◌, ◌<◌}
 use native.Mathlib.Omega.{arith}
-use lib.ListN.{length, length-map}
+use lib.ListN.{length}
 use Rattle.knapsack.specs.Meaning.{instance_of, point_of}
 use Rattle.model.specs.Needs.{In as Among, Allowed}
 use Rattle.model.specs.Records.{FiguresInRange, need_at, placed, needs_of}
@@ -73,25 +73,25 @@ module _ (t : ℕ) where
   Start = branch-lts.Start (calls t) (branch-at t) branch.Post
 
   abbrev Counted : Type 0
-  Counted = branch-lts.After-counted (calls t) (branch-at t) branch.Post
+  Counted = branch-lts.After-counted-c (calls t) (branch-at t) branch.Post
 
   abbrev Outdone : Type 0
   Outdone = branch-lts.After-outdoes (calls t) (branch-at t) branch.Post
 
   abbrev Asked : Type 0
-  Asked = branch-lts.After-first-broken (calls t) (branch-at t) branch.Post
+  Asked = branch-lts.After-first_broken-i (calls t) (branch-at t) branch.Post
 
   abbrev Needing : Type 0
-  Needing = branch-lts.After-need-at (calls t) (branch-at t) branch.Post
+  Needing = branch-lts.After-need_at-n (calls t) (branch-at t) branch.Post
 
   abbrev Lacking : Type 0
-  Lacking = branch-lts.After-without (calls t) (branch-at t) branch.Post
+  Lacking = branch-lts.After-without-q (calls t) (branch-at t) branch.Post
 
   abbrev Having : Type 0
-  Having = branch-lts.After-having (calls t) (branch-at t) branch.Post
+  Having = branch-lts.After-having-h (calls t) (branch-at t) branch.Post
 
   abbrev Returned : Type 0
-  Returned = branch-lts.After-branch2 (calls t) (branch-at t) branch.Post
+  Returned = branch-lts.After-branch-h (calls t) (branch-at t) branch.Post
 
   abbrev after-outdoes : Asked → Outdone
   after-outdoes f = f.before.before.before
@@ -115,7 +115,7 @@ module _ (t : ℕ) where
   broken c = c.need_at-n.result
 
   long : (s : Start) → length s.args.p.items ≡ 16
-  long s = simp length-map at s.well-formed.0.1.1.0.1.0.1
+  long s = s.well_formed.0.1.1.0.1.0.1
 
   -- the needs name places
   places : (s : Start) → Placed s.args.ns
@@ -204,7 +204,7 @@ module _ (t : ℕ) where
 
   -- ---- what the code owes
 
-  branch-counted-requires : branch-lts.Need-counted-requires (calls t) (branch-at t) branch.Post
+  branch-counted-requires : branch-lts.Need-counted-c-requires (calls t) (branch-at t) branch.Post
   branch-counted-requires c κs =
       let b = c.requires.1 in
       countable c.args.most c.args.b c.args.r b.short
@@ -223,21 +223,21 @@ module _ (t : ℕ) where
         ),
       )
 
-  branch-first-broken-requires : branch-lts.Need-first-broken-requires (calls t) (branch-at t) branch.Post
+  branch-first-broken-requires : branch-lts.Need-first_broken-i-requires (calls t) (branch-at t) branch.Post
   branch-first-broken-requires c κs = places (after-counted c.before.before).before
 
-  branch-need-at-requires : branch-lts.Need-need-at-requires (calls t) (branch-at t) branch.Post
+  branch-need-at-requires : branch-lts.Need-need_at-n-requires (calls t) (branch-at t) branch.Post
   branch-need-at-requires c κs =
       let s = (after-counted (after-outdoes c.before.before)).before in
       omega (arith, c.if-i-ns.true, s.requires.1.few)
 
-  branch-without-requires : branch-lts.Need-without-requires (calls t) (branch-at t) branch.Post
+  branch-without-requires : branch-lts.Need-without-q-requires (calls t) (branch-at t) branch.Post
   branch-without-requires c κs = omega (arith, (its c).item.inside, (start c).requires.1.figures.few-items)
 
-  branch-solve-case-requires : branch-lts.Need-solve-case-requires (calls t) (branch-at t) branch.Post
+  branch-solve-case-requires : branch-lts.Need-solve_case-requires (calls t) (branch-at t) branch.Post
   branch-solve-case-requires c κs = (q-figures c, places (start c.before))
 
-  branch-branch-requires : branch-lts.Need-branch-requires (calls t) (branch-at t) branch.Post
+  branch-branch-requires : branch-lts.Need-branch-d-requires (calls t) (branch-at t) branch.Post
   branch-branch-requires c κs =
       let w = c.before in
       let s = start w.before in
@@ -251,13 +251,13 @@ module _ (t : ℕ) where
             (omega (arith, b.room, twigs-two u u (undecided (instance_of s.args.p) (needs_of s.args.ns)) part.fewer part.fewer))),
       )
 
-  branch-having-requires : branch-lts.Need-having-requires (calls t) (branch-at t) branch.Post
+  branch-having-requires : branch-lts.Need-having-h-requires (calls t) (branch-at t) branch.Post
   branch-having-requires c κs = let n = c.before.before.before in omega (arith, (its n).cover.inside, (start n).requires.1.figures.few-items)
 
-  branch-solve-case-requires-2 : branch-lts.Need-solve-case-requires-2 (calls t) (branch-at t) branch.Post
+  branch-solve-case-requires-2 : branch-lts.Need-solve_case-requires-then-i-ns (calls t) (branch-at t) branch.Post
   branch-solve-case-requires-2 c κs = (h-figures c, places (start (lacks c).before))
 
-  branch-branch-requires-2 : branch-lts.Need-branch-requires-2 (calls t) (branch-at t) branch.Post
+  branch-branch-requires-2 : branch-lts.Need-branch-h-requires (calls t) (branch-at t) branch.Post
   branch-branch-requires-2 c κs =
       let h = c.before in
       let n = (lacks h).before in
@@ -265,7 +265,7 @@ module _ (t : ℕ) where
       let b = s.requires.1 in
       let ns = needs_of s.args.ns in
       let part = h-part h in
-      let d = h.before.branch in
+      let d = h.before.branch-d in
       let most : d.result.cases ≤ s.args.b.cases + 1 + twigs (undecided (instance_of (lacks h).without-q.result) ns) =
       rw (counts n).counted-c.ensures at d.ensures.0.worked.cases in (
         subst (λ u. undecided (instance_of h.having-h.result) ns < u) s.requires.0 part.fewer,
@@ -293,14 +293,14 @@ module _ (t : ℕ) where
       let n = w.before in
       let f = asked n in
       let s = start n in
-      let k = (counts n).counted in
+      let k = (counts n).counted-c in
       let ns = s.args.ns in
       let most = s.args.most in
       let i = f.first_broken-i.result in
       let one = counted_of s.args.b s.args.r in
-      let d = h.before.branch in
-      let v = h.before.before.solve-case in
-      let z = c.before.solve-case2 in
+      let d = h.before.branch-d in
+      let v = h.before.before.solve_case in
+      let z = c.before.solve_case-then-i-ns in
       let q : w.without-q.result ≡ capped_at s.args.p (placed (need_at ns i)).item =
       w.without-q.ensures ∙ ap (λ (x : Need). capped_at s.args.p x.item) n.need_at-n.ensures in
       let g : h.having-h.result ≡ raised_at s.args.p (placed (need_at ns i)).cover =
@@ -313,13 +313,13 @@ module _ (t : ℕ) where
       (subst (λ x. SolvesCase most x (needs_of ns) z.result) g z.ensures)
       (subst (λ x. CasesTake ns most x z.result d.result c.branch-h.result) g c.branch-h.ensures.1)
 
-  branch-returns : branch-lts.Need-returns (calls t) (branch-at t) branch.Post
+  branch-returns : branch-lts.Need-returns-then-i-ns (calls t) (branch-at t) branch.Post
   branch-returns c =
       let h = c.before.before in
       let w = lacks h in
       let n = w.before in
       let s = start n in
-      let k = (counts n).counted in (
+      let k = (counts n).counted-c in (
         through-split (instance_of s.args.p) (needs_of s.args.ns) s.args.most s.requires.1.allowed (broken n) (among n)
             (instance_of w.without-q.result) (instance_of h.having-h.result) (q-is w) (h-is h) (q-part w) (h-part h) s.args.b k.result
             h.before.branch-d.result c.branch-h.result (ap known k.ensures) (ap (λ (x : Best). x.cases) k.ensures) h.before.branch-d.ensures.0
@@ -327,10 +327,10 @@ module _ (t : ℕ) where
         split-take c,
       )
 
-  branch-with-best-requires : branch-lts.Need-with-best-requires (calls t) (branch-at t) branch.Post
+  branch-with-best-requires : branch-lts.Need-with_best-requires (calls t) (branch-at t) branch.Post
   branch-with-best-requires c κs = tt
 
-  branch-returns-2 : branch-lts.Need-returns-2 (calls t) (branch-at t) branch.Post
+  branch-returns-2 : branch-lts.Need-returns-then-outdoes (calls t) (branch-at t) branch.Post
   branch-returns-2 c =
       let f = c.before.before.before in
       let o = f.before.before.before in
@@ -350,7 +350,7 @@ module _ (t : ℕ) where
         kept s.args.p s.args.r s.args.b (ahead_of f) (subst (FirstBroken a.point s.args.ns) all e),
       )
 
-  branch-returns-3 : branch-lts.Need-returns-3 (calls t) (branch-at t) branch.Post
+  branch-returns-3 : branch-lts.Need-returns (calls t) (branch-at t) branch.Post
   branch-returns-3 c =
       let o = c.before in
       let k = after-counted o in

@@ -4,7 +4,7 @@ use Prim.Native.Nat.{◌≤◌}
 use native.Mathlib.Nat.{mul-le-mul_right}
 use native.Mathlib.Omega.{arith}
 use lib.IntN.{pos}
-use lib.ListN.{length, length-map}
+use lib.ListN.{length}
 use borrow.Author.Rules.{rules}
 use Rattle.arith.proofs.Parts.{impossible}
 use Rattle.knapsack.specs.Meaning.{instance_of, AnswersAs, ShownUnbounded}
@@ -27,7 +27,7 @@ abbrev start : tie.After-nothing_yet-none → tie.Start
 start c = (asked c).before.before.before
 
 long : (s : tie.Start) → length s.args.p.items ≡ 16
-long s = simp length-map at s.well_formed.0.1.1.0.1.0.1
+long s = s.well_formed.0.1.1.0.1.0.1
 
 -- the plain answer
 shown : (s : tie.Start) → ShownUnbounded (instance_of s.args.p) s.args.r.answer

@@ -2,7 +2,7 @@
 use mathlib.Core.Path.{◌≡◌, ap, ◌∙◌, subst}
 use Prim.Native.Nat.{◌≤◌, ◌-◌}
 use native.Mathlib.Omega.{arith}
-use lib.ListN.{length, length-map}
+use lib.ListN.{length}
 use borrow.Author.Rules.{rules}
 use Rattle.knapsack.specs.Items.{with_item}
 use Rattle.knapsack.specs.Ranges.{item_at}
@@ -19,7 +19,7 @@ decreases-loop p q₀ k₀ q k = 16 - k
 
 loop-holds : tie.Need-loop-k-init invariant-loop decreases-loop
 loop-holds c =
-    let size : length c.args.p.items ≡ 16 = simp length-map at c.well_formed.0.1.1.0.1.0.1 in
+    let size : length c.args.p.items ≡ 16 = c.well_formed.0.1.1.0.1.0.1 in
     (omega arith, unpriced-none c.args.p size)
 
 mul-i : tie.Need-offset_bounds-p-k invariant-loop decreases-loop

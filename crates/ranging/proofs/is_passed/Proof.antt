@@ -2,7 +2,7 @@
 use mathlib.Core.Path.{◌≡◌, subst}
 use Prim.Native.Nat.{◌<◌}
 use native.Mathlib.Omega.{arith}
-use lib.ListN.{length, length-map}
+use lib.ListN.{length}
 use borrow.Author.Rules.{rules}
 use Rattle.knapsack.specs.Meaning.{instance_of, amount_at, point_of}
 use Rattle.knapsack.specs.Ranges.{item_at}
@@ -21,7 +21,7 @@ lowered-requires c κs =
 -- the item is one of 16
 long : (s : tie.Start) → s.args.k < length s.args.p.items
 long s =
-    let size : length s.args.p.items ≡ 16 = simp length-map at s.well_formed.0.1.1.0.1.0.1 in
+    let size : length s.args.p.items ≡ 16 = s.well_formed.0.1.1.0.1.0.1 in
     omega (arith, s.requires.0.inside, s.requires.0.figures.few-items)
 
 abbrev lowering : tie.After-y-1 → tie.After-lowered-q

@@ -2,7 +2,7 @@
 use mathlib.Core.Path.{◌≡◌, sym, ap, subst, ◌∙◌}
 use Prim.Native.Nat.{◌<◌}
 use native.Mathlib.Omega.{arith}
-use lib.ListN.{length, length-map}
+use lib.ListN.{length}
 use borrow.Author.Rules.{rules}
 use Rattle.arith.proofs.Parts.{impossible}
 use Rattle.knapsack.specs.Meaning.{instance_of, Shown, amount_at, point_of}
@@ -42,7 +42,7 @@ fall-in c =
 
 long : (s : tie.Start) → s.args.k < length s.args.p.items
 long s =
-    let size : length s.args.p.items ≡ 16 = simp length-map at s.well_formed.0.1.1.0.1.0.1 in
+    let size : length s.args.p.items ≡ 16 = s.well_formed.0.1.1.0.1.0.1 in
     omega (arith, s.requires.0.1, s.requires.0.0.needed.figures.few-items)
 
 -- the lowered problem's answer

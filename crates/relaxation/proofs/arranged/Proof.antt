@@ -77,7 +77,7 @@ few c = (start c).requires.few-items
 loop-holds : tie.Need-loop-u-init invariant-loop decreases-loop
 loop-holds c =
     let s = c.before.before.before in
-    let size : length s.args.m.items ≡ 16 = simp length-map at s.well_formed.0.1.1.0.1.0.1 in
+    let size : length s.args.m.items ≡ 16 = s.well_formed.0.1.1.0.1.0.1 in
     let long : length c.rank-ranking.result.at ≡ 16 = search rules in
     (omega arith, (size, (long, refl)))
 

@@ -2,7 +2,7 @@ use mathlib.Core.Path.{◌≡◌, ap, ◌∙◌, subst}
 use mathlib.Core.Bool.{false}
 use Prim.Native.Nat.{◌≤◌, ◌-◌}
 use native.Mathlib.Omega.{arith}
-use lib.ListN.{length, get_or, length-map, length-set}
+use lib.ListN.{length, get_or, length-set}
 use borrow.Author.Rules.{rules}
 use Rattle.knapsack.specs.Ranges.{item_at}
 use Rattle.knapsack.specs.Items.{with_item}
@@ -19,7 +19,7 @@ decreases-loop p named n q₀ k₀ q k = n - k
 
 loop-holds : tie.Need-loop-k-init invariant-loop decreases-loop
 loop-holds c =
-    let size : length c.args.p.items ≡ 16 = simp length-map at c.well_formed.0.1.1.0.1.0.1 in
+    let size : length c.args.p.items ≡ 16 = c.well_formed.0.1.1.0.1.0.1 in
     (omega arith, (size, loosened-none c.args.p c.args.named))
 
 array-read-kept : tie.Need-bounds-named-k invariant-loop decreases-loop

@@ -23,6 +23,18 @@ returns c =
     let l = m.least_modulo.ensures in
     (l.0, record { plainly = λ h. absurd (omega (arith, m.if-f-lt17.true)); modulo = λ h. l.1 })
 
+array-share-weights : tie.Need-slice_bounds-least_cost-end
+array-share-weights c = search rules
+
+array-share-ranges : tie.Need-slice_bounds-least_cost-end-2
+array-share-ranges c = search rules
+
+array-share-takens : tie.Need-slice_bounds-least_cost-end-3
+array-share-takens c = search rules
+
+array-share-lefts : tie.Need-slice_bounds-least_cost-end-4
+array-share-lefts c = search rules
+
 least-cost-requires : tie.Need-least_cost-requires
 least-cost-requires c κs = search rules
 
@@ -42,6 +54,10 @@ least_beside_spec =
     least-modulo-requires
     same_length
     returns
+    array-share-weights
+    array-share-ranges
+    array-share-takens
+    array-share-lefts
     least-cost-requires
     same-length-2
     returns-2)

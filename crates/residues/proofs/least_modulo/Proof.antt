@@ -59,6 +59,18 @@ same l =
     items-folded g.cap g.ws g.us g.ts g.ls g.f g.capacity q.folded_capacity-whole.result _ _ _ _ x.1.0 x.0 x.1.1.inside
     q.folded_capacity-whole.ensures w.folded_weights-weights.ensures r.folded_ranges-ranges.ensures t.swapped_costs-takens.ensures l.swapped_costs-lefts.ensures
 
+array-share-weights : tie.Need-slice_bounds-least_cost-end
+array-share-weights c = search rules
+
+array-share-ranges : tie.Need-slice_bounds-least_cost-end-2
+array-share-ranges c = search rules
+
+array-share-takens : tie.Need-slice_bounds-least_cost-end-3
+array-share-takens c = search rules
+
+array-share-lefts : tie.Need-slice_bounds-least_cost-end-4
+array-share-lefts c = search rules
+
 least-cost-requires : tie.Need-least_cost-requires
 least-cost-requires c κs =
     let l = c.before.before.before.before.before in
@@ -95,6 +107,10 @@ least_modulo_spec =
     folded-ranges-requires
     swapped-costs-requires
     swapped-costs-requires-2
+    array-share-weights
+    array-share-ranges
+    array-share-takens
+    array-share-lefts
     least-cost-requires
     same_length
     returns)

@@ -49,7 +49,7 @@ in-turn h = (filled h).before.before
 
 -- from the answer to the loop
 abbrev after : tie.After-look invariant-loop decreases-loop → tie.At-loop-i invariant-loop decreases-loop
-after c = c.before.before.before.before
+after c = c.before.before.before
 
 -- the scale before its digits, in the words of its items
 abbrev items : tie.At-loop-i invariant-loop decreases-loop → Items
@@ -198,8 +198,8 @@ index-requires-3 c κs = search rules
 
 look-requires : tie.Need-look-requires invariant-loop decreases-loop
 look-requires c κs =
-    let w = c.before.before.before in
-    let l = w.loop in
+    let w = c.before.before in
+    let l = w.loop-i in
     let a = (start w).args in
     let r : length l.cells ≡ length a.cells.now = l.invariant.same ∙ length-set a.cells.now 0 0 in
     let f = l.invariant.few in

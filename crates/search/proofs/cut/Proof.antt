@@ -85,7 +85,7 @@ element-copy-out-p c = rank<16 c.before
 
 -- where the ends and the point are lent
 abbrev lent : tie.After-struct_told-then-u-n-1 → tie.Then-u-n
-lent c = c.before.before.before.before.before.before.before
+lent c = c.before.before.before.before.before
 
 abbrev start-of-lent : tie.After-struct_told-then-u-n-1 → tie.Start
 start-of-lent c = Start-of (asked (lent c))

@@ -59,7 +59,7 @@ element-copy-out-i c = k<16 c
 
 -- where a turn began
 abbrev Lending : tie.After-start_of-arg-in-loop-k-7-1 invariant-loop decreases-loop → tie.In-loop-k invariant-loop decreases-loop
-Lending c = c.before.before.before.before.before.before.before.before.before.before.before.before
+Lending c = c.before.before.before.before.before.before.before.before.before.before
 
 abbrev Round : tie.After-start_of-v invariant-loop decreases-loop → tie.In-loop-k invariant-loop decreases-loop
 Round c = Lending c.before

@@ -23,10 +23,10 @@ k<16 : (c : tie.In-loop-k invariant-loop decreases-loop) → c.loop-k.k < 16
 k<16 c = omega (arith, c.requires.0)
 
 mul-i : tie.Need-offset_bounds-level-k invariant-loop decreases-loop
-mul-i c = omega (arith, k<16 c)
+mul-i c = omega (arith, c.requires.0)
 
 array-read-i : tie.Need-bounds-level-k invariant-loop decreases-loop
-array-read-i c = k<16 c
+array-read-i c = omega (arith, c.requires.0)
 
 mul-v : tie.Need-offset_bounds-x-k invariant-loop decreases-loop
 mul-v c = omega (arith, k<16 c)

@@ -26,10 +26,10 @@ loop-holds : tie.Need-loop-d-init invariant-loop decreases-loop
 loop-holds c = (omega arith, placed_first _)
 
 mul-k : tie.Need-offset_bounds-level-d invariant-loop decreases-loop
-mul-k c = omega (arith, d<16 c)
+mul-k c = omega (arith, c.loop-d-test.true, c.requires.0)
 
 array-read-k : tie.Need-bounds-level-d invariant-loop decreases-loop
-array-read-k c = d<16 c
+array-read-k c = omega (arith, c.loop-d-test.true, c.requires.0)
 
 mul-x : tie.Need-offset_bounds-xs-k invariant-loop decreases-loop
 mul-x c = omega (arith, item<16 c)

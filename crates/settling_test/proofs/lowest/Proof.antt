@@ -53,14 +53,14 @@ fixed-requires : tie.Need-fixed-e-requires
 fixed-requires c κs = search rules
 
 fill-up-requires : tie.Need-fill_up-f-requires
-fill-up-requires c κs = rw c.fixed-e.ensures (sized c.before.before)
+fill-up-requires c κs = rw c.fixed-e.ensures (sized c.before.before.before)
 
 -- the filling as the code has it
-fill_is : (c : tie.After-fill_up-f) → let s = c.before.before.before in c.fill_up-f.result ≡ fill s.args.s.cols (box s)
+fill_is : (c : tie.After-fill_up-f) → let s = c.before.before.before.before in c.fill_up-f.result ≡ fill s.args.s.cols (box s)
 fill_is c = c.fill_up-f.ensures ∙ ap (fill c.args.s.cols) c.fixed-e.ensures
 
 bound-of-requires : tie.Need-bound_of-value-requires
-bound-of-requires c κs = rw (fill_is c) (filled c.before.before.before)
+bound-of-requires c κs = let f = c.before in rw (fill_is f) (filled f.before.before.before.before)
 
 returns : tie.Need-returns-then-f-lt0
 returns c = λ i. absurd (impossible i)
@@ -68,8 +68,8 @@ returns c = λ i. absurd (impossible i)
 returns-2 : tie.Need-returns
 returns-2 c = λ i.
     let b = c.before.before.before in
-    let f = b.before in
-    let s = f.before.before.before in
+    let f = b.before.before in
+    let s = f.before.before.before.before in
     let r = rw (fill_is f, within-back tt (filled s).room_in) at c.if-f-lt0.false in
     record {
       between = between s.args.s s.requires;

@@ -48,13 +48,8 @@ returns-2 c =
 returns-3 : tie.Need-returns-in-In
 unfolding step_of
 returns-3 c =
-    let w = c.before in
-    let e = w.before in
-    let t = e.before in
-    let g = t.before.g in
-    let k = t.before in
-    rw (sym k.closed_number-f.ensures ∙ k.in-Number.is, g.given.1)
-    (c.goes_on.ensures ∙ rw (w.with_capacity.ensures, e.empty_model-empty.ensures, back g.given.0.0 t.in-In.known_told-in-Number-1-own.given.0.1))
+    rw (sym c.closed_number-f.ensures ∙ c.in-Number.is, c.in-In.is)
+    (c.goes_on.ensures ∙ rw (c.with_capacity.ensures, c.empty_model-empty.ensures, back c.in-In.b c.in-In.known_told-in-Number-1-own.given.0.1))
 
 pub limit_line_spec : {M : Type 1} → statement M
 limit_line_spec =

@@ -2,7 +2,7 @@ use mathlib.Core.Path.{sym, ◌∙◌}
 use native.Mathlib.Omega.{arith}
 use Rattle.lines.proofs.Shapes.{count-parts}
 use Rattle.sheet.specs.Sections.{section_of}
-use Rattle.sheet.specs.Reading.{rules as needs_word, needs_section}
+use Rattle.sheet.specs.Reading.{needs as needs_word, needs_section}
 use borrow.Author.Rules.{rules}
 use Rattle.sheet.proofs.needs_section.Statement.{statement}
 use Rattle.sheet.proofs.needs_section.Tie as tie

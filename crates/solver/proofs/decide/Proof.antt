@@ -86,7 +86,7 @@ reach-of-requires c κs = search rules
 Prep : tie.Else-ray → tie.After-prepare-s
 Prep e =
     let r = e.before.before.before in
-    r.before.before.before
+    r.before.before.before.before.before
 
 narrowed-requires : tie.Need-narrowed-near-requires
 unfolding Prep

@@ -31,6 +31,9 @@ known c y =
     ∙ ap (λ (b : Bool). cond b (value_at v v.cols s.args.x) (record { whole = pos 0; part = 0; parts = 1 })) y in
     subst (λ z. Tried v.cols v.ends v.level v.levels (at s.args.x) z) (sym e) (tried v s.requires.0 (long s) s.args.x (s.requires.1.1 y))
 
+slice-bounds : tie.Need-slice_bounds-settle-end
+slice-bounds c = search rules
+
 settle-requires : tie.Need-settle-requires
 settle-requires c κs =
     let s = start c.before in ((boxes s.args.s s.requires.0 s.requires.1.0, known c.before), search rules)
@@ -48,4 +51,4 @@ returns c =
 
 pub settled_spec : {M : Type 1} → statement M
 settled_spec =
-    tie.close (tie.spec value-at-requires settle-requires returns)
+    tie.close (tie.spec value-at-requires slice-bounds settle-requires returns)

@@ -25,22 +25,22 @@ fixed-requires : tie.Need-fixed-e-requires
 fixed-requires c κs = search rules
 
 fill-up-requires : tie.Need-fill_up-f-requires
-fill-up-requires c κs = let t = c.before in rw c.fixed-e.ensures (sized t.before t.if-found.true)
+fill-up-requires c κs = let t = c.before.before in rw c.fixed-e.ensures (sized t.before t.if-found.true)
 
 -- the filling as the code has it
-fill_is : (c : tie.After-fill_up-f) → let s = c.before.before.before in c.fill_up-f.result ≡ fill_at s.args.s s.args.s.cols s.args.x
-fill_is c = let s = c.before.before.before in c.fill_up-f.ensures ∙ ap (fill s.args.s.cols) c.fixed-e.ensures
+fill_is : (c : tie.After-fill_up-f) → let s = c.before.before.before.before in c.fill_up-f.result ≡ fill_at s.args.s s.args.s.cols s.args.x
+fill_is c = let s = c.before.before.before.before in c.fill_up-f.ensures ∙ ap (fill s.args.s.cols) c.fixed-e.ensures
 
 bound-of-requires : tie.Need-bound_of-requires
 bound-of-requires c κs =
-    let t = c.before.before in
+    let t = c.before.before.before.before in
     let s = t.before in
-    rw (fill_is c) (fill-sized s.args.s.cols (box_at s.args.s s.args.x) (sized s t.if-found.true))
+    rw (fill_is c.before) (fill-sized s.args.s.cols (box_at s.args.s s.args.x) (sized s t.if-found.true))
 
 returns : tie.Need-returns-then-found
 returns c =
-    let f = c.before in
-    let t = f.before.before in
+    let f = c.before.before in
+    let t = f.before.before.before in
     let s = t.before in
     rw t.if-found.true (c.bound_of.ensures ∙ ap (bound s.args.s.cols) (fill_is f))
 

@@ -12,7 +12,7 @@ tied-requires : tie.Need-tied-cols-requires
 tied-requires c κs = search rules
 
 returns : tie.Need-returns
-returns c = let t = c.before.before.before.before.before in record { long = long t.before; same = refl; tied = t.tied-cols.ensures }
+returns c = let t = c.before.before.before.before.before in record { long = long t.before.before; same = refl; tied = t.tied-cols.ensures }
 
 pub with_tied_spec : {M : Type 1} → statement M
 with_tied_spec = tie.close (tie.spec tied-requires returns)

@@ -32,25 +32,15 @@ put-byte-requires c κs = search rules
 same_length : tie.Need-shape_of-out
 same_length c = search rules
 
--- the moments that are spoken of below
-abbrev after-digits-of : tie.After-bytes2 → tie.After-digits_of-d
-after-digits-of c = c.before.before.before
-
-abbrev after-put-word : tie.After-put_byte-arg-1 → tie.After-put_word-next
-after-put-word c = c.before.before.before
-
 returns : tie.Need-returns
 returns c =
-    let b = c.before.before in
-    let w = after-put-word b.before in
-    let d = after-digits-of w.before.before in
-    let a = d.args in
-    let s = d.digits_of-d.ensures in
-    let r = d.digits_of-d.result in
+    let a = c.args in
+    let s = c.digits_of-d.ensures in
+    let r = c.digits_of-d.result in
     let e : take (20 - r.first) (drop r.first r.bytes) ≡ decimal a.n
     = take_all (20 - r.first) (drop r.first r.bytes) (simp length-drop (omega arith)) ∙ s.spelled in
-    let l = decimal-length 19 a.n (omega (arith, d.ranges.n.fits)) in
-    roomier (omega arith) (puts (omega arith) (rw e at w.put_word-next.ensures) b.put_byte.ensures)
+    let l = decimal-length 19 a.n (omega (arith, c.ranges.n.fits)) in
+    roomier (omega arith) (puts (omega arith) (rw e at c.put_word-next.ensures) c.put_byte.ensures)
 
 pub put_natural_spec : {M : Type 1} → statement M
 put_natural_spec =

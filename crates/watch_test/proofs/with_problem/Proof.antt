@@ -5,10 +5,10 @@ use Rattle.watch_test.proofs.with_problem.Statement.{statement}
 use Rattle.watch_test.proofs.with_problem.Tie as tie
 
 abbrev invariant-loop : tie.invariant-loop-k
-invariant-loop start m n reach w c₀ k₀ t8 t9 c k = k ≤ n
+invariant-loop start m n reach w c₀ k₀ c k = k ≤ n
 
 abbrev decreases-loop : tie.decreases-loop-k
-decreases-loop start m n reach w c₀ k₀ t8 t9 c k = n - k
+decreases-loop start m n reach w c₀ k₀ c k = n - k
 
 price-falls-requires : tie.Need-price_falls-w-requires invariant-loop decreases-loop
 price-falls-requires c κs = search rules
@@ -34,9 +34,6 @@ loop-less c = search rules
 loop-again : tie.Need-loop-k-preserved invariant-loop decreases-loop
 loop-again c = search rules
 
-slice-aggregate-print : tie.Need-slice-aggregate-print invariant-loop decreases-loop
-slice-aggregate-print c = search rules
-
 print-requires : tie.Need-print-requires invariant-loop decreases-loop
 print-requires c κs = search rules
 
@@ -45,9 +42,6 @@ print-problem-requires c κs = search rules
 
 print-falls-requires : tie.Need-print_falls-requires invariant-loop decreases-loop
 print-falls-requires c κs = search rules
-
-slice-aggregate-print-2 : tie.Need-slice-aggregate-print-2 invariant-loop decreases-loop
-slice-aggregate-print-2 c = search rules
 
 print-requires-2 : tie.Need-print-requires-then-start-c invariant-loop decreases-loop
 print-requires-2 c κs = search rules
@@ -72,11 +66,9 @@ with_problem_spec =
     add-k
     loop-less
     loop-again
-    slice-aggregate-print
     print-requires
     print-problem-requires
     print-falls-requires
-    slice-aggregate-print-2
     print-requires-2
     one-more-requires
     returns-2)

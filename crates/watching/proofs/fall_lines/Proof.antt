@@ -35,11 +35,11 @@ returns c =
     (sorted-at (λ k. fall_item (f k)) n o.fall_order-r.result.at o.fall_order-r.ensures) in
     let h = put_as same p.ensures in
     let e : p.result ≡ length text = omega (arith, h.next) in
-    let i : p.result ≤ length p.new.0 = omega (arith, h.short) in
+    let i : p.result ≤ length p.new.out = omega (arith, h.short) in
     record {
       size = e;
       inside = i;
-      counted = sym (length-take-le p.result p.new.0 i);
+      counted = sym (length-take-le p.result p.new.out i);
       shown = rw (e, h.bytes) (put-shown text _);
     }
 

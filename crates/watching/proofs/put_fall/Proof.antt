@@ -31,7 +31,7 @@ returns : tie.Need-returns-then-d-eq0
 returns c =
     let w = c.before.before in
     let t = w.before.before.before in
-    let n = t.before.before.before in
+    let n = t.before.before.before.before in
     let s = start n.before in
     let h : s.args.d ≡ 0 = omega arith in
     rw (eq-eqb s.args.d 0 h, sym (add-one s.args.k)) (roomier (omega arith) (puts (omega arith) n.put_natural-next.ensures w.put_word.ensures))

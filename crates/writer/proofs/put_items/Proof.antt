@@ -16,19 +16,10 @@ put-item-lines-requires c κs = search rules
 same_length : tie.Need-shape_of-out
 same_length c = search rules
 
--- the moments that are spoken of below
-abbrev start : tie.After-put_heading-arg-2-1 → tie.Start
-start c = c.before.before.before
-
-abbrev after-put-heading : tie.After-put_item_lines-arg-1 → tie.After-put_heading-next
-after-put-heading c = c.before.before.before
-
 returns : tie.Need-returns
 returns c =
-    let l = c.before.before in
-    let h = after-put-heading l.before in
-    let s = (start h.before).args in
-    rw (upto-length s.m.count (item_at s.m)) (puts (omega arith) h.put_heading-next.ensures l.put_item_lines.ensures)
+    let s = c.args in
+    rw (upto-length s.m.count (item_at s.m)) (puts (omega arith) c.put_heading-next.ensures c.put_item_lines.ensures)
 
 pub put_items_spec : {M : Type 1} → statement M
 put_items_spec =

@@ -16,20 +16,10 @@ put-integer-requires c κs = search rules
 same_length : tie.Need-shape_of-out
 same_length c = search rules
 
--- the moments that are spoken of below
-abbrev start : tie.After-put_heading-arg-2-1 → tie.Start
-start c = c.before.before.before
-
-abbrev after-put-heading : tie.After-put_integer-arg-1 → tie.After-put_heading-next
-after-put-heading c = c.before.before.before
-
 returns : tie.Need-returns
 unfolding lines_text
 returns c =
-    let i = c.before.before in
-    let h = after-put-heading i.before in
-    let s = start h.before in
-    rw (to_z-of_z s.ranges.b) at (puts (omega arith) h.put_heading-next.ensures i.put_integer.ensures)
+    rw (to_z-of_z c.ranges.b) at (puts (omega arith) c.put_heading-next.ensures c.put_integer.ensures)
 
 pub put_limit_spec : {M : Type 1} → statement M
 put_limit_spec =

@@ -31,15 +31,12 @@ same_length c = search rules
 
 returns-2 : tie.Need-returns
 returns-2 c =
-    let w = c.before.before in
-    let t = w.before.before in
-    let d = t.before.before in
-    let r = d.read-r in
-    let s = d.args.s.now in
+    let r = c.read-r in
+    let s = c.args.s.now in
     let a : read_sheet s ≡ record { verdict = Accepted; model = r.result.model }
-    = sym r.ensures ∙ ap (λ v. record { verdict = v; model = r.result.model }) t.in_default.is in
+    = sym r.ensures ∙ ap (λ v. record { verdict = v; model = r.result.model }) c.in_default.is in
     let b = read-written s r.result.model a in
-    let f = rw (b.0, b.1) at w.write_sheet.ensures in
+    let f = rw (b.0, b.1) at c.write_sheet.ensures in
     (rw a f.0, rw a f.1)
 
 pub rewrite_sheet_spec : {M : Type 1} → statement M

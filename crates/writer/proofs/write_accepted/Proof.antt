@@ -9,6 +9,9 @@ sheet-text-requires c κs = search rules
 array-share-prefix-bytes : tie.Need-slice_bounds-bytes-end
 array-share-prefix-bytes c = search rules
 
+part-end : tie.Need-slice_bounds-hand_over-end
+part-end c = search rules
+
 hand-over-requires : tie.Need-hand_over-requires
 hand-over-requires c κs = search rules
 
@@ -17,10 +20,7 @@ same_length c = search rules
 
 returns : tie.Need-returns
 returns c =
-    let h = c.before.before in
-    let at-bytes = h.before.before.before in
-    let written = at-bytes.before in
-    rw written.sheet_text-t.ensures.shown at h.hand_over.ensures
+    rw c.sheet_text-t.ensures.shown at c.hand_over.ensures
 
 pub write_accepted_spec : {M : Type 1} → statement M
 write_accepted_spec =
@@ -28,6 +28,7 @@ write_accepted_spec =
     (tie.spec
     sheet-text-requires
     array-share-prefix-bytes
+    part-end
     hand-over-requires
     same_length
     returns)

@@ -27,10 +27,8 @@ same_length c = search rules
 
 returns-2 : tie.Need-returns
 returns-2 c =
-    let w = c.before.before in
-    let t = w.before.before in
-    let e = sym t.check_model-v.ensures ∙ t.in_default.is in
-    (rw e w.write_accepted.ensures.0, rw e w.write_accepted.ensures.1)
+    let e = sym c.check_model-v.ensures ∙ c.in_default.is in
+    (rw e c.write_accepted.ensures.0, rw e c.write_accepted.ensures.1)
 
 pub write_sheet_spec : {M : Type 1} → statement M
 write_sheet_spec =

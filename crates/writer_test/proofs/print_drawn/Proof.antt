@@ -5,10 +5,10 @@ use Rattle.writer_test.proofs.print_drawn.Statement.{statement}
 use Rattle.writer_test.proofs.print_drawn.Tie as tie
 
 abbrev invariant-loop : tie.invariant-loop-k
-invariant-loop seed problems n among s state₀ needs₀ wrong₀ k₀ t12 t13 t14 t15 t16 t17 state rules wrong k = k ≤ problems
+invariant-loop seed problems n among s state₀ needs₀ wrong₀ k₀ state rules wrong k = k ≤ problems
 
 abbrev decreases-loop : tie.decreases-loop-k
-decreases-loop seed problems n among s state₀ needs₀ wrong₀ k₀ t12 t13 t14 t15 t16 t17 state rules wrong k = problems - k
+decreases-loop seed problems n among s state₀ needs₀ wrong₀ k₀ state rules wrong k = problems - k
 
 loop-holds : tie.Need-loop-k-init invariant-loop decreases-loop
 loop-holds c = search rules
@@ -37,38 +37,20 @@ loop-less c = search rules
 loop-again : tie.Need-loop-k-preserved invariant-loop decreases-loop
 loop-again c = search rules
 
-slice-aggregate-print-count : tie.Need-slice-aggregate-print-count invariant-loop decreases-loop
-slice-aggregate-print-count c = search rules
-
 print-count-requires : tie.Need-print_count-requires invariant-loop decreases-loop
 print-count-requires c κs = search rules
-
-slice-aggregate-print-count-2 : tie.Need-slice-aggregate-print-count-2 invariant-loop decreases-loop
-slice-aggregate-print-count-2 c = search rules
 
 print-count-requires-2 : tie.Need-print_count-requires-2 invariant-loop decreases-loop
 print-count-requires-2 c κs = search rules
 
-slice-aggregate-print-count-3 : tie.Need-slice-aggregate-print-count-3 invariant-loop decreases-loop
-slice-aggregate-print-count-3 c = search rules
-
 print-count-requires-3 : tie.Need-print_count-requires-3 invariant-loop decreases-loop
 print-count-requires-3 c κs = search rules
-
-slice-aggregate-print-count-4 : tie.Need-slice-aggregate-print-count-4 invariant-loop decreases-loop
-slice-aggregate-print-count-4 c = search rules
 
 print-count-requires-4 : tie.Need-print_count-requires-4 invariant-loop decreases-loop
 print-count-requires-4 c κs = search rules
 
-slice-aggregate-print-count-5 : tie.Need-slice-aggregate-print-count-5 invariant-loop decreases-loop
-slice-aggregate-print-count-5 c = search rules
-
 print-count-requires-5 : tie.Need-print_count-requires-5 invariant-loop decreases-loop
 print-count-requires-5 c κs = search rules
-
-slice-aggregate-print : tie.Need-slice-aggregate-print invariant-loop decreases-loop
-slice-aggregate-print c = search rules
 
 print-requires : tie.Need-print-requires invariant-loop decreases-loop
 print-requires c κs = search rules
@@ -91,16 +73,10 @@ print_drawn_spec =
     add-k
     loop-less
     loop-again
-    slice-aggregate-print-count
     print-count-requires
-    slice-aggregate-print-count-2
     print-count-requires-2
-    slice-aggregate-print-count-3
     print-count-requires-3
-    slice-aggregate-print-count-4
     print-count-requires-4
-    slice-aggregate-print-count-5
     print-count-requires-5
-    slice-aggregate-print
     print-requires
     returns)

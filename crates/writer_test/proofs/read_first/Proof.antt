@@ -12,6 +12,9 @@ read-requires c κs = search rules
 returns : tie.Need-returns-then-s-n
 returns c = search rules
 
+slice-read : tie.Need-slice_bounds-read-end
+slice-read c = search rules
+
 read-requires-2 : tie.Need-read-requires-2
 read-requires-2 c κs = search rules
 
@@ -20,4 +23,4 @@ returns-2 c = search rules
 
 pub read_first_spec : {M : Type 1} → statement M
 read_first_spec =
-    tie.close (tie.spec read-requires returns read-requires-2 returns-2)
+    tie.close (tie.spec read-requires returns slice-read read-requires-2 returns-2)

@@ -18,6 +18,9 @@ returns c = search rules
 slice-relend-prefix-write-sheet : tie.Need-slice_bounds-write_sheet-end
 slice-relend-prefix-write-sheet c = search rules
 
+slice-relend-prefix-write-sheet-2 : tie.Need-slice_bounds-write_sheet-end-2
+slice-relend-prefix-write-sheet-2 c = search rules
+
 write-sheet-requires-2 : tie.Need-write_sheet-requires-2
 write-sheet-requires-2 c κs = search rules
 
@@ -34,7 +37,7 @@ write_in_part_spec =
     write-sheet-requires
     same_length
     returns
-    slice-relend-prefix-write-sheet
+    slice-relend-prefix-write-sheet slice-relend-prefix-write-sheet-2
     write-sheet-requires-2
     same-length-2
     returns-2)

@@ -18,6 +18,9 @@ returns c = search rules
 slice-relend-prefix-convert : tie.Need-slice_bounds-convert-end
 slice-relend-prefix-convert c = search rules
 
+slice-relend-prefix-convert-2 : tie.Need-slice_bounds-convert-end-2
+slice-relend-prefix-convert-2 c = search rules
+
 convert-requires-2 : tie.Need-convert-requires-2
 convert-requires-2 c κs = search rules
 
@@ -34,7 +37,7 @@ convert_in_part_spec =
     convert-requires
     same_length
     returns
-    slice-relend-prefix-convert
+    slice-relend-prefix-convert slice-relend-prefix-convert-2
     convert-requires-2
     same-length-2
     returns-2)

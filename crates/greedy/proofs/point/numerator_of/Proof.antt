@@ -80,7 +80,7 @@ whole_is c =
       within-back tt (s.requires.sized.ends.lo-in k),
       within-back tt (s.requires.sized.ends.hi-in k),
     ) at d.ensures in
-    ap₂ (λ (x y : ℤ). x *ℤ y) (back d.result d.type-inv ∙ e) (to_z_pos w64 (omega (arith, s.requires.few)))
+    ap₂ (λ (x y : ℤ). x *ℤ y) (back d.result d.type_inv ∙ e) (to_z_pos w64 (omega (arith, s.requires.few)))
 
 taken_is : (c : tie.After-taking-t) → to_z w64 (of_z w64 c.taking-t.result) ≡ taken_by (weight_of (S c).args.cols (S c).args.k) (S c).args.f.room
     (rank_of (S c).args.cols (S c).args.k) (S c).args.f.at (S c).args.cols.live

@@ -29,7 +29,7 @@ returns : tie.Need-returns-in-Nothing invariant-loop decreases-loop
 returns c =
     let l = c.before.before in
     let e = sym c.first_line_end-p.ensures ∙ c.in-Nothing.is in
-    sym (l.loop-e.invariant.1 ∙ closed_none l.loop-e.false l.args.s.now l.loop-e.from e)
+    sym (l.loop-e.invariant.1 ∙ closed_none l.loop-e.left l.args.s.now l.loop-e.from e)
 
 enum-known-p : tie.Need-enum_known-p invariant-loop decreases-loop
 enum-known-p c = search rules
@@ -71,8 +71,8 @@ loop-again : tie.Need-loop-e-preserved invariant-loop decreases-loop
 loop-again c =
     let l = at-loop c.before in
     let s = l.args.s.now in
-    let q : l.loop-e.false ≡ suc (l.loop-e.false - 1) = omega arith in
-    let m = closed-more (l.loop-e.false - 1) s l.loop-e.from _ (found c.before) in
+    let q : l.loop-e.left ≡ suc (l.loop-e.left - 1) = omega arith in
+    let m = closed-more (l.loop-e.left - 1) s l.loop-e.from _ (found c.before) in
     (omega (arith, within c), l.loop-e.invariant.1 ∙ ap (λ n. closed_line n s l.loop-e.from) q ∙ rw add-one m)
 
 pub closed_line_spec : {M : Type 1} → statement M

@@ -17,9 +17,8 @@ returns c = search rules
 
 returns-2 : tie.Need-returns-in-At
 returns-2 c =
-    let b = c.before.b-1.given in
-    let h : SFits w64 b.0.0 = search rules in
-    rw (to_z-of_z h, b.1)
+    let h : SFits w64 c.in-At.v = search rules in
+    rw (to_z-of_z h, c.in-At.is)
 
 pub is_below_zero_spec : {M : Type 1} → statement M
 is_below_zero_spec = tie.close (tie.spec enum_told enum-known-b returns returns-2)

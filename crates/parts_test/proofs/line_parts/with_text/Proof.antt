@@ -9,11 +9,17 @@ use Rattle.parts_test.proofs.line_parts.with_text.Tie as tie
 array-share-prefix-bytes : tie.Need-slice_bounds-bytes-end
 array-share-prefix-bytes c = search rules
 
+slice-line-ends : tie.Need-slice_bounds-line_ends-end
+slice-line-ends c = search rules
+
 line-ends-requires : tie.Need-line_ends-ends-requires
 line-ends-requires c κs = search rules
 
 array-share-prefix-bytes-2 : tie.Need-slice_bounds-bytes-end-2
 array-share-prefix-bytes-2 c = search rules
+
+slice-with-lines : tie.Need-slice_bounds-with_lines-end
+slice-with-lines c = search rules
 
 with-lines-requires : tie.Need-with_lines-requires
 with-lines-requires c κs = search rules
@@ -26,7 +32,9 @@ with_text_spec =
     tie.close
     (tie.spec
     array-share-prefix-bytes
+    slice-line-ends
     line-ends-requires
     array-share-prefix-bytes-2
+    slice-with-lines
     with-lines-requires
     returns)

@@ -5,22 +5,16 @@ use Rattle.parts_test.proofs.points.print_wrong.Statement.{statement}
 use Rattle.parts_test.proofs.points.print_wrong.Tie as tie
 
 abbrev invariant-loop : tie.invariant-loop-k
-invariant-loop n amounts k₀ t9 k = k ≤ n
+invariant-loop n amounts k₀ k = k ≤ n
 
 abbrev decreases-loop : tie.decreases-loop-k
-decreases-loop n amounts k₀ t9 k = n - k
-
-slice-aggregate-print : tie.Need-slice-aggregate-print invariant-loop decreases-loop
-slice-aggregate-print c = search rules
+decreases-loop n amounts k₀ k = n - k
 
 print-requires : tie.Need-print-requires invariant-loop decreases-loop
 print-requires c κs = search rules
 
 print-problem-requires : tie.Need-print_problem-requires invariant-loop decreases-loop
 print-problem-requires c κs = search rules
-
-slice-aggregate-print-count : tie.Need-slice-aggregate-print-count invariant-loop decreases-loop
-slice-aggregate-print-count c = search rules
 
 print-count-requires : tie.Need-print_count-requires invariant-loop decreases-loop
 print-count-requires c κs = search rules
@@ -46,9 +40,6 @@ loop-less c = search rules
 loop-again : tie.Need-loop-k-preserved invariant-loop decreases-loop
 loop-again c = search rules
 
-slice-aggregate-print-2 : tie.Need-slice-aggregate-print-2 invariant-loop decreases-loop
-slice-aggregate-print-2 c = search rules
-
 print-requires-2 : tie.Need-print-requires-2 invariant-loop decreases-loop
 print-requires-2 c κs = search rules
 
@@ -61,10 +52,8 @@ print_wrong_spec =
     (tie.spec
     invariant-loop
     decreases-loop
-    slice-aggregate-print
     print-requires
     print-problem-requires
-    slice-aggregate-print-count
     print-count-requires
     loop-holds
     mul-x
@@ -73,6 +62,5 @@ print_wrong_spec =
     add-k
     loop-less
     loop-again
-    slice-aggregate-print-2
     print-requires-2
     returns)

@@ -9,6 +9,9 @@ use Rattle.planner_test.proofs.texts.listed.Tie as tie
 slice-relend-prefix-list : tie.Need-slice_bounds-list-end
 slice-relend-prefix-list c = search rules
 
+slice-relend-prefix-list-2 : tie.Need-slice_bounds-list-end-2
+slice-relend-prefix-list-2 c = search rules
+
 list-requires : tie.Need-list-requires
 list-requires c κs = search rules
 
@@ -21,4 +24,4 @@ returns c = search rules
 pub listed_spec : {M : Type 1} → statement M
 listed_spec =
     tie.close
-    (tie.spec slice-relend-prefix-list list-requires same_length returns)
+    (tie.spec slice-relend-prefix-list slice-relend-prefix-list-2 list-requires same_length returns)

@@ -19,6 +19,10 @@ decreases-loop n xs level to₀ d₀ to d = n - d
 loop-holds : tie.Need-loop-d-init invariant-loop decreases-loop
 loop-holds c = (omega arith, (search rules, λ j h. absurd (omega arith)))
 
+-- before the level's item is read
+unread-d<16 : (c : tie.In-loop-d-unread invariant-loop decreases-loop) → c.loop-d.d < 16
+unread-d<16 c = omega (arith, c.loop-d-test.true, c.requires.0)
+
 d<16 : (c : tie.In-loop-d invariant-loop decreases-loop) → c.loop-d.d < 16
 d<16 c = omega (arith, c.loop-d-test.true, c.requires.0)
 
@@ -26,10 +30,10 @@ item<16 : (c : tie.In-loop-d invariant-loop decreases-loop) → place c.args.lev
 item<16 c = c.requires.1 c.loop-d.d c.loop-d-test.true
 
 mul-k : tie.Need-offset_bounds-level-d invariant-loop decreases-loop
-mul-k c = record { fits = omega (arith, d<16 c) }
+mul-k c = record { fits = omega (arith, unread-d<16 c) }
 
 array-read-k : tie.Need-bounds-level-d invariant-loop decreases-loop
-array-read-k c = d<16 c
+array-read-k c = unread-d<16 c
 
 mul-x : tie.Need-offset_bounds-xs-k invariant-loop decreases-loop
 mul-x c = record { fits = omega (arith, item<16 c) }

@@ -17,9 +17,8 @@ returns c = rw (c.in-Absent.is, to_z-of_z c.ranges.d)
 
 returns-2 : tie.Need-returns-in-At
 returns-2 c =
-    let b = c.before.b-1.given in
-    let h : SFits w64 b.0.0 = search rules in
-    rw (b.1, to_z-of_z h)
+    let h : SFits w64 c.in-At.v = search rules in
+    rw (c.in-At.is, to_z-of_z h)
 
 pub end_or_spec : {M : Type 1} → statement M
 end_or_spec = tie.close (tie.spec enum_told enum-known-b returns returns-2)

@@ -2,7 +2,7 @@
 use mathlib.Core.Path.{◌≡◌, refl}
 use Prim.Native.Nat.{ℕ, ◌-◌, ◌≤◌, ◌<◌}
 use native.Mathlib.Omega.{arith}
-use lib.ListN.{length, get_or, length-set, length-map}
+use lib.ListN.{length, get_or, length-set}
 use Rattle.knapsack.specs.Ranges.{blank, item_at}
 use Rattle.prepare.specs.Figures.{key_of}
 use Rattle.prepare.proofs.Tabling.{item-set}
@@ -17,7 +17,7 @@ decreases-loop by p n items₀ k₀ items k = n - k
 
 loop-holds : tie.Need-loop-k-init invariant-loop decreases-loop
 loop-holds c =
-    let size : length c.args.p.items ≡ 16 = simp length-map at c.well_formed.0.1.1.0.1.0.1 in
+    let size : length c.args.p.items ≡ 16 = c.well_formed.0.1.1.0.1.0.1 in
     (omega arith, (size, λ j h. absurd (omega arith)))
 
 mul-i : tie.Need-offset_bounds-p-k invariant-loop decreases-loop

@@ -24,18 +24,11 @@ enum-told-2 c = search rules
 returns-2 : tie.Need-returns-in_default-u
 returns-2 c = search rules
 
--- the moments that are spoken of below
-abbrev after-l : tie.In-At-u → tie.In-At
-after-l c = c.before
-
 returns-3 : tie.Need-returns
 returns-3 c =
-    let at-l = after-l c in
-    let u = c.before.u-1.given in
-    let l = at-l.l-1.given in
-    let hu : SFits w64 u.0.0 = search rules in
-    let hl : SFits w64 l.0.0 = search rules in
-    rw (to_z-of_z hu, to_z-of_z hl, l.1, u.1)
+    let hu : SFits w64 c.in-At-u.b = search rules in
+    let hl : SFits w64 c.in-At.a = search rules in
+    rw (to_z-of_z hu, to_z-of_z hl, c.in-At.is, c.in-At-u.is)
 
 pub meets_spec : {M : Type 1} → statement M
 meets_spec =

@@ -13,9 +13,6 @@ decreases-loop n items k₀ k = n - k
 print-signed-requires : tie.Need-print_signed-requires invariant-loop decreases-loop
 print-signed-requires c κs = search rules
 
-slice-aggregate-print : tie.Need-slice-aggregate-print invariant-loop decreases-loop
-slice-aggregate-print c = search rules
-
 print-requires : tie.Need-print-requires invariant-loop decreases-loop
 print-requires c κs = search rules
 
@@ -50,7 +47,6 @@ print_sheet_spec =
     invariant-loop
     decreases-loop
     print-signed-requires
-    slice-aggregate-print
     print-requires
     loop-holds
     mul-x

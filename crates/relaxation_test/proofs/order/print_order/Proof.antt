@@ -5,13 +5,10 @@ use Rattle.relaxation_test.proofs.order.print_order.Statement.{statement}
 use Rattle.relaxation_test.proofs.order.print_order.Tie as tie
 
 abbrev invariant-loop : tie.invariant-loop-k
-invariant-loop list n now found₀ k₀ t10 found k = k ≤ n
+invariant-loop list n now found₀ k₀ found k = k ≤ n
 
 abbrev decreases-loop : tie.decreases-loop-k
-decreases-loop list n now found₀ k₀ t10 found k = n - k
-
-slice-aggregate-print : tie.Need-slice-aggregate-print invariant-loop decreases-loop
-slice-aggregate-print c = search rules
+decreases-loop list n now found₀ k₀ found k = n - k
 
 print-requires : tie.Need-print-requires invariant-loop decreases-loop
 print-requires c κs = search rules
@@ -49,9 +46,6 @@ loop-again c = search rules
 is-ordered-requires : tie.Need-is_ordered-requires invariant-loop decreases-loop
 is-ordered-requires c κs = search rules
 
-slice-aggregate-print-2 : tie.Need-slice-aggregate-print-2 invariant-loop decreases-loop
-slice-aggregate-print-2 c = search rules
-
 print-requires-2 : tie.Need-print-requires-then-not-is_ordered invariant-loop decreases-loop
 print-requires-2 c κs = search rules
 
@@ -67,7 +61,6 @@ print_order_spec =
     (tie.spec
     invariant-loop
     decreases-loop
-    slice-aggregate-print
     print-requires
     none-found-requires
     loop-holds
@@ -80,7 +73,6 @@ print_order_spec =
     loop-less
     loop-again
     is-ordered-requires
-    slice-aggregate-print-2
     print-requires-2
     returns
     returns-2)

@@ -48,7 +48,7 @@ whole_is c =
     let s = S c in
     let d = c.standing-x in
     let e = rw (to_z-of_z s.ranges.a, to_z-of_z s.ranges.p, to_z-of_z s.ranges.l, to_z-of_z s.ranges.h) at d.ensures in
-    ap₂ (λ (x y : ℤ). x *ℤ y) (back d.result d.type-inv ∙ e) (to_z_pos w64 (omega (arith, s.requires.1.1.1)))
+    ap₂ (λ (x y : ℤ). x *ℤ y) (back d.result d.type_inv ∙ e) (to_z_pos w64 (omega (arith, s.requires.1.1.1)))
 
 abbrev taken : tie.Start → ℤ
 taken s = taken_by s.args.a s.args.f.room s.args.v s.args.f.at s.args.n

@@ -6,11 +6,14 @@ use Rattle.trials.proofs.bytes.first.Tie as tie
 sub-result : tie.Need-slice_bounds-result-count
 sub-result c = search rules
 
-part-result-start : tie.Need-slice-bounds-result-start
+part-result-start : tie.Need-slice_bounds-result-start
 part-result-start c = search rules
 
-part-result-end : tie.Need-slice-bounds-result-end
+part-result-end : tie.Need-slice_bounds-result-end
 part-result-end c = search rules
+
+part-result-end-else : tie.Need-slice_bounds-result-end-else-s-n
+part-result-end-else c = search rules
 
 returns : tie.Need-returns-then-s-n
 returns c = search rules
@@ -25,5 +28,6 @@ first_spec =
     sub-result
     part-result-start
     part-result-end
+    part-result-end-else
     returns
     returns-2)

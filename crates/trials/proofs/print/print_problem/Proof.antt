@@ -12,9 +12,6 @@ decreases-loop p n k₀ k = 16 - k
 print-signed-requires : tie.Need-print_signed-requires invariant-loop decreases-loop
 print-signed-requires c κs = search rules
 
-slice-aggregate-print : tie.Need-slice-aggregate-print invariant-loop decreases-loop
-slice-aggregate-print c = search rules
-
 print-requires : tie.Need-print-requires invariant-loop decreases-loop
 print-requires c κs = search rules
 
@@ -49,7 +46,6 @@ print_problem_spec =
     invariant-loop
     decreases-loop
     print-signed-requires
-    slice-aggregate-print
     print-requires
     loop-holds
     mul-x
