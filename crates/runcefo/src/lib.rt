@@ -1,6 +1,5 @@
-// Entries for programs in C and Rust, on bytes and numbers: a sheet's verdict, its reply in a lent buffer, and how much work it is.
-// include/runcefo.h declares them. Paper 01, "The sheet" and "What `charge` prints". Nothing is asked of a caller but that each
-// pointer has as many bytes behind it as the length beside it says.
+// Entries for other programs, on bytes and numbers: a sheet's verdict, its reply in a lent buffer, and how much work it is.
+// `runcefo_c` hands them to C and Rust. Paper 01, "The sheet" and "What `charge` prints". Nothing is asked of a caller.
 #![tactic(auto)]
 
 ghost use Rattle.std.specs.Prelude.{◌≡◌};
@@ -121,16 +120,14 @@ fn work_for(sheet: &[u8]) -> Work
 }
 
 // How many bytes hold every reply (proofs/Replies, room-holds).
-#[unsafe(no_mangle)]
-pub extern "C" fn charge_room() -> usize
+pub fn charge_room() -> usize
     ensures { result ≡ room }
 {
     ROOM
 }
 
 // A sheet's verdict: 0, or the number of its refusal; line gets the refusal's line, or 0.
-#[unsafe(no_mangle)]
-pub extern "C" fn charge_read(sheet: &[u8], line: &mut u64) -> u64
+pub fn charge_read(sheet: &[u8], line: &mut u64) -> u64
     ensures value { result ≡ told_number (read_sheet sheet.now).verdict }
     ensures line_after { line.new ≡ told_line (read_sheet sheet.now).verdict }
 {
@@ -142,8 +139,7 @@ pub extern "C" fn charge_read(sheet: &[u8], line: &mut u64) -> u64
 
 // A sheet is read, and the sheet of what was read put at the start of a lent buffer, as long as it was: 0. A refusal's number, with its line,
 // and no byte changes, where it is refused or, refusal 11, the buffer is shorter.
-#[unsafe(no_mangle)]
-pub extern "C" fn charge_write(sheet: &[u8], out: &mut [u8], line: &mut u64) -> u64
+pub fn charge_write(sheet: &[u8], out: &mut [u8], line: &mut u64) -> u64
     ensures value { result ≡ told_number (saved sheet.now out.old) }
     ensures line_after { line.new ≡ told_line (saved sheet.now out.old) }
     ensures out_after { out.new ≡ left sheet.now out.old }
@@ -156,13 +152,7 @@ pub extern "C" fn charge_write(sheet: &[u8], out: &mut [u8], line: &mut u64) -> 
 
 // A stored sheet without its blank items (paper 02, request 9), at the start of a lent buffer: 0, and written gets its length. A refusal's number, with
 // its line and length 0, and no byte changes, where the sheet is refused but for its blank items, these cannot go, or the buffer is shorter.
-#[unsafe(no_mangle)]
-pub extern "C" fn charge_convert(
-    sheet: &[u8],
-    out: &mut [u8],
-    written: &mut usize,
-    line: &mut u64,
-) -> u64
+pub fn charge_convert(sheet: &[u8], out: &mut [u8], written: &mut usize, line: &mut u64) -> u64
     ensures value { result ≡ told_number (listed_verdict (conversion sheet.now out.old)) }
     ensures line_after { line.new ≡ told_line (listed_verdict (conversion sheet.now out.old)) }
     ensures written_after { written.new ≡ length_of (conversion sheet.now out.old) }
@@ -177,13 +167,7 @@ pub extern "C" fn charge_convert(
 
 // What `charge` prints for an accepted sheet, at the start of a lent buffer: 0, and written gets its length. A refusal's number, with its line
 // and length 0, and no byte changes, where the sheet is refused or, refusal 11, the buffer is shorter than the text.
-#[unsafe(no_mangle)]
-pub extern "C" fn charge_plan(
-    sheet: &[u8],
-    out: &mut [u8],
-    written: &mut usize,
-    line: &mut u64,
-) -> u64
+pub fn charge_plan(sheet: &[u8], out: &mut [u8], written: &mut usize, line: &mut u64) -> u64
     ensures { Plans sheet.now out.old out.new written.new line.new result }
 {
     let w = list_sheet(sheet, out);
@@ -194,8 +178,7 @@ pub extern "C" fn charge_plan(
 }
 
 // The steps of the searches for a sheet; none where it is refused, or where no search is needed.
-#[unsafe(no_mangle)]
-pub extern "C" fn charge_steps(sheet: &[u8]) -> u64
+pub fn charge_steps(sheet: &[u8]) -> u64
     ensures { Steps (read_sheet sheet.now) result }
 {
     let w = work_for(sheet);
@@ -203,8 +186,7 @@ pub extern "C" fn charge_steps(sheet: &[u8]) -> u64
 }
 
 // The cells that the scales write for a sheet; none where every search ends and no first point is owed.
-#[unsafe(no_mangle)]
-pub extern "C" fn charge_cells(sheet: &[u8]) -> u64
+pub fn charge_cells(sheet: &[u8]) -> u64
     ensures { Cells (read_sheet sheet.now) result }
 {
     let w = work_for(sheet);

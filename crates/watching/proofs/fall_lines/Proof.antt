@@ -19,6 +19,9 @@ fall-order-requires c κs = search rules
 space-requires : tie.Need-space-bytes-requires
 space-requires c κs = search rules
 
+part-end : tie.Need-slice_bounds-put_falls-end
+part-end c = search rules
+
 put-falls-requires : tie.Need-put_falls-len-requires
 put-falls-requires c κs = search rules
 
@@ -49,5 +52,6 @@ fall_lines_spec =
     (tie.spec
     fall-order-requires
     space-requires
+    part-end
     put-falls-requires
     returns)

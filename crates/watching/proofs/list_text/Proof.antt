@@ -9,6 +9,9 @@ falls-text-requires c κs = search rules
 array-share-prefix-bytes : tie.Need-slice_bounds-bytes-end
 array-share-prefix-bytes c = search rules
 
+part-end : tie.Need-slice_bounds-hand_over-end
+part-end c = search rules
+
 hand-over-requires : tie.Need-hand_over-requires
 hand-over-requires c κs = search rules
 
@@ -17,10 +20,7 @@ same_length c = search rules
 
 returns : tie.Need-returns
 returns c =
-    let h = c.before.before in
-    let at-bytes = h.before.before.before in
-    let told = at-bytes.before in
-    rw told.falls_text-t.ensures.shown at h.hand_over.ensures
+    rw c.falls_text-t.ensures.shown at c.hand_over.ensures
 
 pub list_text_spec : {M : Type 1} → statement M
 list_text_spec =
@@ -28,6 +28,7 @@ list_text_spec =
     (tie.spec
     falls-text-requires
     array-share-prefix-bytes
+    part-end
     hand-over-requires
     same_length
     returns)
