@@ -14,18 +14,19 @@ while [ $# -gt 0 ]; do
 done
 case $prefix in /*) ;; *) prefix=$(pwd)/$prefix ;; esac
 cd "$(dirname "$0")"
-rt check charge
-rt check convert
-rt check watch
-rt staticlib runcefo
+mkdir -p target
+for program in charge convert watch; do
+    (cd crates/$program && rt run <stdin) >target/$program.log 2>&1 || { cat target/$program.log >&2; exit 1; }
+done
+(cd crates/runcefo_c && rt lib)
 version=$(sed -n 's/^#define RUNCEFO_VERSION "\(.*\)"/\1/p' include/runcefo.h)
 to=${DESTDIR-}$prefix
 mkdir -p "$to/bin" "$to/include" "$to/lib/pkgconfig" "$to/share/man/man1"
-install -m 755 target/bin/charge "$to/bin/charge"
-install -m 755 target/bin/convert "$to/bin/convert"
-install -m 755 target/bin/watch "$to/bin/watch"
+install -m 755 crates/charge/out/charge "$to/bin/charge"
+install -m 755 crates/convert/out/convert "$to/bin/convert"
+install -m 755 crates/watch/out/watch "$to/bin/watch"
 install -m 644 include/runcefo.h "$to/include/runcefo.h"
-install -m 644 target/staticlib/libruncefo.a "$to/lib/libruncefo.a"
+install -m 644 crates/runcefo_c/out/libruncefo_c.a "$to/lib/libruncefo.a"
 install -m 644 docs/charge.1 "$to/share/man/man1/charge.1"
 install -m 644 docs/convert.1 "$to/share/man/man1/convert.1"
 install -m 644 docs/watch.1 "$to/share/man/man1/watch.1"

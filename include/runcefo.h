@@ -1,7 +1,7 @@
 /* runcefo.h: the proved charge planner, for C and C++.
 
-   Link with libruncefo.a (`rt staticlib runcefo` writes it, install.sh installs it; `pkg-config --cflags --libs runcefo` says how).
-   The contracts stand in crates/runcefo; docs/charge.1 tells the layout of a sheet and of a reply, docs/convert.1 what becomes of blank items.
+   Link with libruncefo.a (`rt lib` in crates/runcefo_c writes it as libruncefo_c.a, install.sh installs it; `pkg-config --cflags --libs runcefo` says how).
+   The contracts stand in crates/runcefo and crates/runcefo_c; docs/charge.1 tells the layout of a sheet and of a reply, docs/convert.1 what becomes of blank items.
 
    Pointers    Behind each pointer there are as many bytes as the length beside it says. Where that length is 0 the pointer may be null.
                `line` and `written` are never null, and aligned as their types ask; bytes need no alignment.

@@ -1,4 +1,4 @@
-//! The proved planner: the entries of `crates/runcefo`, as `include/runcefo.h` declares them.
+//! The proved planner: the entries of `crates/runcefo_c`, as `include/runcefo.h` declares them.
 
 use crate::twin::{Rules, FIRST};
 
