@@ -1,5 +1,5 @@
-// The public entry over a lent list, called with the first items of a local array. This one function makes a reference to structs, and
-// is proved by hand; all others take a sheet by value.
+// The public entry over a lent list, called with the first items of a local array. This one function makes a reference to structs;
+// all others take a sheet by value.
 ghost use Rattle.std.specs.Prelude.{◌≤◌};
 ghost use Rattle.relaxation_test.specs.Lends.{Lends};
 
