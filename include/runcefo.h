@@ -8,7 +8,7 @@
    Overlap     What is written (`out`, `written`, `line`) overlaps nothing else that is handed over.
    Threads     There is no state between calls: any number of threads may call at the same time, on buffers of their own.
    Heap        None is used, and nothing is read or written but what is handed over. Of the C library only memcpy, memmove and memset are needed.
-   Stack       640,328 bytes were measured with the older kit (`bench/run stack`), of which 524,280 are the scales' cells; CHARGE_STACK is a safe figure.
+   Stack       652,040 bytes were measured (`bench/run stack`), of which 524,280 are the scales' cells; CHARGE_STACK is a safe figure.
    Time        Every call ends. How soon is a promise of charge_steps and charge_cells, which plan the sheet anew and count: a search takes at most 500 steps,
                then scales answer; charge_plan itself promises its reply alone. Needs come to cases, each with a search of its own: one without needs, at
                most 2^(t + 1) with t of them. */
