@@ -18,7 +18,7 @@ use Rattle.knapsack.proofs.Bridge.{bridge-feasible, bridge-optimal}
 use Rattle.knapsack.proofs.Common.{valueᴰ, Optimalᴰ}
 use Rattle.knapsack.proofs.Dual.{score, certified}
 use Rattle.knapsack.specs.Meaning.{Instance, Point, value, prices, Feasible}
-use Rattle.knapsack.specs.declared.Bound.TheVariants.{At}
+use Rattle.std.specs.Prelude.{Some}
 use Rattle.knapsack.specs.declared.Item.{Item}
 use Rattle.knapsack.specs.declared.Mark.TheVariants.{Integer}
 use Rattle.model.specs.declared.Need.{Need}
@@ -32,7 +32,7 @@ use Rattle.cases.proofs.Searching.{WorthBy, SearchedNeeds, worth-order, optimal-
 use Rattle.cases.proofs.Searching.{needs-best}
 
 abbrev piece : ℤ → ℕ → Item
-piece c u = record { mark = Integer; weight = pos 1; price = c; lower = At (pos 0); upper = At (pos u) }
+piece c u = record { mark = Integer; weight = pos 1; price = c; lower = Some (pos 0); upper = Some (pos u) }
 
 abbrev pieces : ℕ → Item
 pieces zero = piece (pos 1) 3

@@ -19,8 +19,7 @@ use Rattle.knapsack.proofs.Branch.{narrow}
 use Rattle.knapsack.specs.Items.{with_item}
 use Rattle.knapsack.specs.Meaning.{Instance, instance_of, Shown, AllLower}
 use Rattle.knapsack.specs.Ranges.{item_at, blank}
-use Rattle.knapsack.specs.declared.Bound.{Bound}
-use Rattle.knapsack.specs.declared.Bound.TheVariants.{Absent, At}
+use Rattle.std.specs.Prelude.{Option, None, Some}
 use Rattle.knapsack.specs.declared.Item.{Item}
 use Rattle.knapsack.specs.declared.Problem.{Problem}
 use Rattle.foremost.proofs.Foremost.{priced}
@@ -29,22 +28,22 @@ use Rattle.cases.proofs.Splitting.{raise, without, having}
 -- ---- lower bounds
 
 pub lower-without : (s : Instance) (k : ℕ) → k < s.count → AllLower s → AllLower (without s k)
-lower-without s k l f j m = pick_ind (λ b. b ≢ Absent) (ℕ_discrete j k) (s.item k).lower (s.item j).lower (λ e. f k l) (λ e. f j m)
+lower-without s k l f j m = pick_ind (λ b. b ≢ None) (ℕ_discrete j k) (s.item k).lower (s.item j).lower (λ e. f k l) (λ e. f j m)
 
 pub lower-having : (s : Instance) (m : ℕ) → AllLower s → AllLower (having s m)
-lower-having s m f j l = pick_ind (λ b. b ≢ Absent) (ℕ_discrete j m) (raise (s.item m).lower) (s.item j).lower (λ e h. raised (s.item m).lower h)
+lower-having s m f j l = pick_ind (λ b. b ≢ None) (ℕ_discrete j m) (raise (s.item m).lower) (s.item j).lower (λ e h. raised (s.item m).lower h)
     (λ e. f j l)
   where
-    at : (v : ℤ) → At v ≡ Absent → ⊥
+    at : (v : ℤ) → Some v ≡ None → ⊥
     at v h = let z : ◌≡◌ {A = ℕ} 0 1 = cc in omega arith
 
-    raised : (b : Bound) → raise b ≡ Absent → ⊥
-    raised Absent h = at (pos 1) h
-    raised (At l) h = at (maxℤ l (pos 1)) h
+    raised : (b : Option ℤ) → raise b ≡ None → ⊥
+    raised None h = at (pos 1) h
+    raised (Some l) h = at (maxℤ l (pos 1)) h
 
 -- ---- what is shown
 
-pub shown-narrow : (s : Instance) (k : ℕ) (l u : Bound) (x : ℕ → Fraction) → Shown (narrow s k l u) x → Shown s x
+pub shown-narrow : (s : Instance) (k : ℕ) (l u : Option ℤ) (x : ℕ → Fraction) → Shown (narrow s k l u) x → Shown s x
 shown-narrow s k l u x h = record {
   small = h.small;
   divisor = h.divisor;
@@ -62,10 +61,10 @@ shown-priced s p x h = record {
 
 -- ---- records
 
-abbrev pub bounded : Item → Bound → Bound → Item
+abbrev pub bounded : Item → Option ℤ → Option ℤ → Item
 bounded i l u = record { mark = i.mark; weight = i.weight; price = i.price; lower = l; upper = u }
 
-pub record-narrow : (p : Problem) (k : ℕ) (l u : Bound) → k < length p.items
+pub record-narrow : (p : Problem) (k : ℕ) (l u : Option ℤ) → k < length p.items
     → instance_of (with_item p k (bounded (item_at p k) l u)) ≡ narrow (instance_of p) k l u
 record-narrow p k l u h = ap (λ f. record { capacity = p.capacity; count = p.count; item = f }) (fun_ext (λ j. go j (ℕ_discrete j k)))
   where

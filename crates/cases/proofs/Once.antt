@@ -24,8 +24,8 @@ use Rattle.knapsack.specs.Meaning.{Instance, Point, instance_of, value, nought, 
 use Rattle.knapsack.specs.declared.Answer.{Answer}
 use Rattle.knapsack.specs.declared.Kind.{Kind}
 use Rattle.knapsack.specs.declared.Kind.TheVariants as kind
-use Rattle.knapsack.specs.declared.Verdict.{Verdict}
-use Rattle.knapsack.specs.declared.Verdict.TheVariants.{Accepted, Refused}
+use Rattle.knapsack.specs.Verdicts.{Verdict}
+use Rattle.std.specs.Prelude.{Ok, Err}
 use Rattle.foremost.proofs.Points.{neither-same}
 use Rattle.model.proofs.Showing.{own-some, same_over}
 use Rattle.model.specs.Needs.{InfeasibleNeeds, OptimalNeeds, ForemostNeeds, ShownOptimalNeeds, AnswersNeeds, AnswersAsNeeds, ShownFirstNeeds}
@@ -141,8 +141,8 @@ module _ (s : Instance) (ns : List Need) (low : AllLower s) (a b : Answer) (la :
       go (kind.Refused r) e h p q = absurd p
 
   replied-once : (v : Verdict) → RepliesAs s ns a v → RepliesAs s ns b v → SameAnswer a b
-  replied-once Accepted x y = answers-once x y
-  replied-once (Refused r) x y = inl (x ∙ sym y)
+  replied-once (Ok _) x y = answers-once x y
+  replied-once (Err r) x y = inl (x ∙ sym y)
 
 -- End theorem: where every lower bound is present two replies of the planner are the same
 pub planned-once : (sense : Sense) (m : Model) → AllLower (instance_of (plain_of sense m)) → (a b : Answer) → length a.point ≡ 16 → length b.point ≡ 16

@@ -25,8 +25,7 @@ use Rattle.arith.proofs.Fractions.{Common, common}
 use Rattle.knapsack.proofs.Common.{KeepsMarkᴰ, KeepsLowerᴰ, KeepsUpperᴰ}
 use Rattle.knapsack.proofs.Rays.{ray-unbounded, unbounded-ray}
 use Rattle.knapsack.specs.Meaning.{Instance, Point, KeepsMark, Unbounded, weights, value, relaxed, weight_divisor, divisor_by, own_divisor}
-use Rattle.knapsack.specs.declared.Bound.{Bound}
-use Rattle.knapsack.specs.declared.Bound.TheVariants.{Absent, At}
+use Rattle.std.specs.Prelude.{Option, None, Some}
 use Rattle.knapsack.specs.declared.Mark.{Mark}
 use Rattle.knapsack.specs.declared.Mark.TheVariants.{Integer, Continuous}
 use Rattle.model.specs.Needs.{In, here, there, Every, Named, Allowed, Inside, names, loosened, relaxed_but, FeasibleNeeds, OptimalNeeds, UnboundedNeeds}
@@ -213,17 +212,17 @@ module _ (D : ℕ) (d : 1 ≤ D) where
   settled-light false Continuous w n = ≤ℤ-reflexive refl
   settled-light false Integer w n = (rounded w n).1.light
 
-  settled-above : (b : Bool) (m : Mark) (w n : ℤ) (l : Bound) → KeepsLowerᴰ D l n → KeepsLowerᴰ D l (settled b m w n)
-  settled-above b m w n Absent h = tt
-  settled-above true m w n (At l) h = h
-  settled-above false Continuous w n (At l) h = h
-  settled-above false Integer w n (At l) h = (rounded w n).1.above l h
+  settled-above : (b : Bool) (m : Mark) (w n : ℤ) (l : Option ℤ) → KeepsLowerᴰ D l n → KeepsLowerᴰ D l (settled b m w n)
+  settled-above b m w n None h = tt
+  settled-above true m w n (Some l) h = h
+  settled-above false Continuous w n (Some l) h = h
+  settled-above false Integer w n (Some l) h = (rounded w n).1.above l h
 
-  settled-below : (b : Bool) (m : Mark) (w n : ℤ) (u : Bound) → KeepsUpperᴰ D u n → KeepsUpperᴰ D u (settled b m w n)
-  settled-below b m w n Absent h = tt
-  settled-below true m w n (At u) h = h
-  settled-below false Continuous w n (At u) h = h
-  settled-below false Integer w n (At u) h = (rounded w n).1.below u h
+  settled-below : (b : Bool) (m : Mark) (w n : ℤ) (u : Option ℤ) → KeepsUpperᴰ D u n → KeepsUpperᴰ D u (settled b m w n)
+  settled-below b m w n None h = tt
+  settled-below true m w n (Some u) h = h
+  settled-below false Continuous w n (Some u) h = h
+  settled-below false Integer w n (Some u) h = (rounded w n).1.below u h
 
   settled_same : (b : Bool) (m : Mark) (w n : ℤ) → b ≡ true → n ≡ settled b m w n
   settled_same b m w n e = subst (λ c. n ≡ settled c m w n) (sym e) refl

@@ -6,7 +6,7 @@ use Rattle.knapsack.specs.Meaning.{point_of}
 use Rattle.knapsack.specs.declared.Answer.{Answer}
 use Rattle.knapsack.specs.declared.Kind.{Kind}
 use Rattle.knapsack.specs.declared.Kind.TheVariants as kind
-use Rattle.knapsack.specs.declared.Verdict.TheVariants.{Accepted}
+use Rattle.std.specs.Prelude.{Ok}
 use Rattle.model.specs.Needs.{AnswersNeeds, AnswersAsNeeds}
 use Rattle.model.specs.Promises.{RepliesAs, Planned}
 use Rattle.model.specs.Records.{needs_of, verdict, AdmissibleBy}
@@ -49,7 +49,7 @@ module _ (m : Model) {b : Blanks} (adm : AdmissibleBy b m) where
         shown-order (asked m Sure) (asked m Possible) ns a c s p (sure-optimal m adm (point_of a) (point_of c) s.optimal p.optimal);
   }
 
-pub sure-at-most : (m : Model) → verdict m ≡ Accepted → (a c : Answer) → Planned Sure m a → Planned Possible m c → SureAtMost a c
+pub sure-at-most : (m : Model) → verdict m ≡ Ok tt → (a c : Answer) → Planned Sure m a → Planned Possible m c → SureAtMost a c
 sure-at-most m e a c x y =
     let ns = needs_of m.needs in
     answered-at-most m (accepted m e) a c (subst (RepliesAs (asked m Sure) ns a) e x.replies) (subst (RepliesAs (asked m Possible) ns c) e y.replies)

@@ -18,21 +18,20 @@ use Rattle.arith.proofs.Sums.{pick_ind}
 use Rattle.knapsack.proofs.Branch.{narrow, into, out}
 use Rattle.knapsack.proofs.Common.{KeepsLowerᴰ, KeepsUpperᴰ, Feasibleᴰ}
 use Rattle.knapsack.specs.Meaning.{Instance}
-use Rattle.knapsack.specs.declared.Bound.{Bound}
-use Rattle.knapsack.specs.declared.Bound.TheVariants.{Absent, At}
+use Rattle.std.specs.Prelude.{Option, None, Some}
 use Rattle.model.specs.declared.Need.{Need}
 use Rattle.model.specs.Needs.{Every, In, NotNegative, Present, Named, Allowed}
 use Rattle.cases.proofs.Needs.{KeepsNeedᴰ, FeasibleNeedsᴰ}
 
 -- ---- bounds
 
-abbrev pub cap : Bound → Bound
-cap Absent = At (pos 0)
-cap (At u) = At (minℤ u (pos 0))
+abbrev pub cap : Option ℤ → Option ℤ
+cap None = Some (pos 0)
+cap (Some u) = Some (minℤ u (pos 0))
 
-abbrev pub raise : Bound → Bound
-raise Absent = At (pos 1)
-raise (At l) = At (maxℤ l (pos 1))
+abbrev pub raise : Option ℤ → Option ℤ
+raise None = Some (pos 1)
+raise (Some l) = Some (maxℤ l (pos 1))
 
 min_ind : (Q : ℤ → Type 0) (x y : ℤ) → Q x → Q y → Q (minℤ x y)
 unfolding minℤ
@@ -69,29 +68,29 @@ module _ (D : ℕ) where
   times_zero : (n : ℤ) → n ≤ℤ (pos 0 *ℤ pos D) → n ≤ℤ pos 0
   times_zero = split _ (λ a b. simp zed (omega arith))
 
-  cap-into : (b : Bound) (n : ℤ) → KeepsUpperᴰ D b n → n ≤ℤ pos 0 → KeepsUpperᴰ D (cap b) n
-  cap-into Absent n h z = zero-times n z
-  cap-into (At u) n h z = min_ind (λ v. n ≤ℤ (v *ℤ pos D)) u (pos 0) h (zero-times n z)
+  cap-into : (b : Option ℤ) (n : ℤ) → KeepsUpperᴰ D b n → n ≤ℤ pos 0 → KeepsUpperᴰ D (cap b) n
+  cap-into None n h z = zero-times n z
+  cap-into (Some u) n h z = min_ind (λ v. n ≤ℤ (v *ℤ pos D)) u (pos 0) h (zero-times n z)
 
-  cap-out : (b : Bound) (n : ℤ) → KeepsUpperᴰ D (cap b) n → KeepsUpperᴰ D b n
-  cap-out Absent n h = tt
-  cap-out (At u) n h = ≤ℤ-trans h (times-≤ D (minℤ u (pos 0)) u (min-left u (pos 0)))
+  cap-out : (b : Option ℤ) (n : ℤ) → KeepsUpperᴰ D (cap b) n → KeepsUpperᴰ D b n
+  cap-out None n h = tt
+  cap-out (Some u) n h = ≤ℤ-trans h (times-≤ D (minℤ u (pos 0)) u (min-left u (pos 0)))
 
-  cap-none : (b : Bound) (n : ℤ) → KeepsUpperᴰ D (cap b) n → n ≤ℤ pos 0
-  cap-none Absent n h = times_zero n h
-  cap-none (At u) n h = times_zero n (≤ℤ-trans h (times-≤ D (minℤ u (pos 0)) (pos 0) (min-right u (pos 0))))
+  cap-none : (b : Option ℤ) (n : ℤ) → KeepsUpperᴰ D (cap b) n → n ≤ℤ pos 0
+  cap-none None n h = times_zero n h
+  cap-none (Some u) n h = times_zero n (≤ℤ-trans h (times-≤ D (minℤ u (pos 0)) (pos 0) (min-right u (pos 0))))
 
-  raise-into : (b : Bound) (n : ℤ) → KeepsLowerᴰ D b n → (pos 1 *ℤ pos D) ≤ℤ n → KeepsLowerᴰ D (raise b) n
-  raise-into Absent n h o = o
-  raise-into (At l) n h o = max_ind (λ v. (v *ℤ pos D) ≤ℤ n) l (pos 1) h o
+  raise-into : (b : Option ℤ) (n : ℤ) → KeepsLowerᴰ D b n → (pos 1 *ℤ pos D) ≤ℤ n → KeepsLowerᴰ D (raise b) n
+  raise-into None n h o = o
+  raise-into (Some l) n h o = max_ind (λ v. (v *ℤ pos D) ≤ℤ n) l (pos 1) h o
 
-  raise-out : (b : Bound) (n : ℤ) → KeepsLowerᴰ D (raise b) n → KeepsLowerᴰ D b n
-  raise-out Absent n h = tt
-  raise-out (At l) n h = ≤ℤ-trans (times-≤ D l (maxℤ l (pos 1)) (max-left l (pos 1))) h
+  raise-out : (b : Option ℤ) (n : ℤ) → KeepsLowerᴰ D (raise b) n → KeepsLowerᴰ D b n
+  raise-out None n h = tt
+  raise-out (Some l) n h = ≤ℤ-trans (times-≤ D l (maxℤ l (pos 1)) (max-left l (pos 1))) h
 
-  raise-one : (b : Bound) (n : ℤ) → KeepsLowerᴰ D (raise b) n → (pos 1 *ℤ pos D) ≤ℤ n
-  raise-one Absent n h = h
-  raise-one (At l) n h = ≤ℤ-trans (times-≤ D (pos 1) (maxℤ l (pos 1)) (max-right l (pos 1))) h
+  raise-one : (b : Option ℤ) (n : ℤ) → KeepsLowerᴰ D (raise b) n → (pos 1 *ℤ pos D) ≤ℤ n
+  raise-one None n h = h
+  raise-one (Some l) n h = ≤ℤ-trans (times-≤ D (pos 1) (maxℤ l (pos 1)) (max-right l (pos 1))) h
 
 -- ---- the two cases
 
@@ -101,10 +100,10 @@ without s k = narrow s k (s.item k).lower (cap (s.item k).upper)
 abbrev pub having : Instance → ℕ → Instance
 having s m = narrow s m (raise (s.item m).lower) (s.item m).upper
 
-pub upper-here : (s : Instance) (k : ℕ) (l u : Bound) → ((narrow s k l u).item k).upper ≡ u
+pub upper-here : (s : Instance) (k : ℕ) (l u : Option ℤ) → ((narrow s k l u).item k).upper ≡ u
 upper-here s k l u = pick_ind (λ b. b ≡ u) (ℕ_discrete k k) u (s.item k).upper (λ e. refl) (λ e. absurd (e refl))
 
-pub lower-here : (s : Instance) (k : ℕ) (l u : Bound) → ((narrow s k l u).item k).lower ≡ l
+pub lower-here : (s : Instance) (k : ℕ) (l u : Option ℤ) → ((narrow s k l u).item k).lower ≡ l
 lower-here s k l u = pick_ind (λ b. b ≡ l) (ℕ_discrete k k) l (s.item k).lower (λ e. refl) (λ e. absurd (e refl))
 
 module _ (s : Instance) (k : ℕ) (D : ℕ) (N : ℕ → ℤ) where
@@ -163,21 +162,21 @@ module _ (s : Instance) (n : Need) (item_in : n.item < s.count) (cover-in : n.co
       to p (inl q) = inl (record { plain = q; kept = p.kept })
       to p (inr q) = inr (record { plain = q; kept = p.kept })
 
-pub cap-present : (b : Bound) → Present (cap b)
-cap-present Absent = tt
-cap-present (At u) = tt
+pub cap-present : (b : Option ℤ) → Present (cap b)
+cap-present None = tt
+cap-present (Some u) = tt
 
-pub raise-not-negative : (b : Bound) → NotNegative (raise b)
-raise-not-negative Absent = go (pos 1) (pos 0)
+pub raise-not-negative : (b : Option ℤ) → NotNegative (raise b)
+raise-not-negative None = go (pos 1) (pos 0)
   where
     go : (x y : ℤ) → pos 0 ≤ℤ pos 1
     go = split2 _ (λ a b c e. simp zed (omega arith))
-raise-not-negative (At l) = go l
+raise-not-negative (Some l) = go l
   where
     go : (l : ℤ) → pos 0 ≤ℤ maxℤ l (pos 1)
     go = split _ (λ a b. simp zed (omega arith))
 
-named-narrow : (s : Instance) (k : ℕ) (l u : Bound) → NotNegative l → Present u → (j : ℕ) → Named s j → Named (narrow s k l u) j
+named-narrow : (s : Instance) (k : ℕ) (l u : Option ℤ) → NotNegative l → Present u → (j : ℕ) → Named s j → Named (narrow s k l u) j
 named-narrow s k l u a b j n = record {
   inside = n.inside;
   whole = n.whole;

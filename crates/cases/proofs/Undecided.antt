@@ -19,20 +19,19 @@ use Rattle.arith.proofs.Sums.{pick_ind}
 use Rattle.arith.proofs.Words.{yes_lt, no_lt, le-no, lt_yes}
 use Rattle.knapsack.proofs.Common.{KeepsLowerᴰ, KeepsUpperᴰ, Feasibleᴰ}
 use Rattle.knapsack.specs.Meaning.{Instance}
-use Rattle.knapsack.specs.declared.Bound.{Bound}
-use Rattle.knapsack.specs.declared.Bound.TheVariants.{Absent, At}
+use Rattle.std.specs.Prelude.{Option, None, Some}
 use Rattle.model.specs.declared.Need.{Need}
 use Rattle.model.specs.Needs.{In, here, there}
 use Rattle.cases.proofs.Needs.{KeepsNeedᴰ}
 use Rattle.cases.proofs.Splitting.{cap, raise, without, having, upper-here, lower-here}
 
-abbrev pub shuts : Bound → Bool
-shuts Absent = false
-shuts (At u) = not (lt_z (pos 0) u)
+abbrev pub shuts : Option ℤ → Bool
+shuts None = false
+shuts (Some u) = not (lt_z (pos 0) u)
 
-abbrev pub covers : Bound → Bool
-covers Absent = false
-covers (At l) = lt_z (pos 0) l
+abbrev pub covers : Option ℤ → Bool
+covers None = false
+covers (Some l) = lt_z (pos 0) l
 
 abbrev pub decided : Instance → Need → Bool
 decided s n = cond (shuts (s.item n.item).upper) true (covers (s.item n.cover).lower)
@@ -51,9 +50,9 @@ apart b h k = absurd (let z : ◌≡◌ {A = ℕ} 0 1 = cc in omega arith)
 -- ---- decided needs are kept
 
 module _ (D : ℕ) where
-  shuts-none : (b : Bound) (n : ℤ) → shuts b ≡ true → KeepsUpperᴰ D b n → n ≤ℤ pos 0
-  shuts-none Absent n h k = absurd (apart false h refl)
-  shuts-none (At u) n h k = ≤ℤ-trans k (under u (go (lt_z (pos 0) u) refl h))
+  shuts-none : (b : Option ℤ) (n : ℤ) → shuts b ≡ true → KeepsUpperᴰ D b n → n ≤ℤ pos 0
+  shuts-none None n h k = absurd (apart false h refl)
+  shuts-none (Some u) n h k = ≤ℤ-trans k (under u (go (lt_z (pos 0) u) refl h))
     where
       under : (u : ℤ) → u ≤ℤ pos 0 → (u *ℤ pos D) ≤ℤ pos 0
       under u l = ≤ℤ-trans (times-≤ D u (pos 0) l) zero-times
@@ -65,9 +64,9 @@ module _ (D : ℕ) where
       go true e f = absurd (apart false f refl)
       go false e f = no_lt e
 
-  covers_one : (b : Bound) (n : ℤ) → covers b ≡ true → KeepsLowerᴰ D b n → (pos 1 *ℤ pos D) ≤ℤ n
-  covers_one Absent n h k = absurd (apart false h refl)
-  covers_one (At l) n h k = ≤ℤ-trans (times-≤ D (pos 1) l (next l (yes_lt h))) k
+  covers_one : (b : Option ℤ) (n : ℤ) → covers b ≡ true → KeepsLowerᴰ D b n → (pos 1 *ℤ pos D) ≤ℤ n
+  covers_one None n h k = absurd (apart false h refl)
+  covers_one (Some l) n h k = ≤ℤ-trans (times-≤ D (pos 1) l (next l (yes_lt h))) k
     where
       next : (l : ℤ) → pos 0 <ℤ l → pos 1 ≤ℤ l
       next = split _ (λ a b. simp zed (omega arith))
@@ -89,16 +88,16 @@ module _ (s : Instance) (n : Need) (item_in : n.item < s.count) (cover-in : n.co
 
 -- ---- the two cases decide
 
-shuts-cap : (b : Bound) → shuts (cap b) ≡ true
-shuts-cap Absent = refl
-shuts-cap (At u) = ap not (le-no (low u))
+shuts-cap : (b : Option ℤ) → shuts (cap b) ≡ true
+shuts-cap None = refl
+shuts-cap (Some u) = ap not (le-no (low u))
   where
     low : (u : ℤ) → minℤ u (pos 0) ≤ℤ pos 0
     low = split _ (λ a b. simp zed (omega arith))
 
-covers-raise : (b : Bound) → covers (raise b) ≡ true
-covers-raise Absent = refl
-covers-raise (At l) = lt_yes (high l)
+covers-raise : (b : Option ℤ) → covers (raise b) ≡ true
+covers-raise None = refl
+covers-raise (Some l) = lt_yes (high l)
   where
     high : (l : ℤ) → pos 0 <ℤ maxℤ l (pos 1)
     high = split _ (λ a b. simp zed (omega arith))

@@ -7,6 +7,7 @@
 -- lowered-counted, lowered-new, lowered-old: the least so far.  last-bound: the latest frame that can be needed stands for the last one.
 --   Sofar p q c e w known t b   b is the least of what is known and the frames before t that can be needed
 -- sofar-first, -step, -any, -done: from frame to frame.
+use Rattle.std.specs.Prelude.{None}
 use mathlib.Core.Path.{◌≡◌, refl, sym, ap, ◌∙◌, subst, subst₂}
 use mathlib.Core.Bool.{Bool, true, false, cond}
 use mathlib.Core.List.{List}
@@ -17,7 +18,6 @@ use native.Mathlib.Nat.{mul-le-mul, mul-le-mul_left, mul-le-mul_right, le_of_mul
 use native.Mathlib.Decide.{ℕ_discrete, dec_lt}
 use lib.Dec.{ltb, eqb}
 use lib.IntN.{ℤ, pos, nat_abs, ◌+ℤ◌, ◌-ℤ◌, ◌*ℤ◌}
-use lib.ListN.{replicate}
 use lib.Signed.{◌≤ℤ◌, ◌<ℤ◌, ≤ℤ_refl, lt_z}
 use borrow.Author.Tests.{ltb-true, lt-ltb, le-ltb, eq-eqb, ne_eqb}
 use Rattle.arith.specs.Within.{Within}
@@ -577,7 +577,7 @@ module _ (p q : ℕ) (c : Columns) (e : Ends) (w : List Bool) (n d u : ℕ) (z :
 
 -- the loss that was known, or that of a frame
 abbrev pub Exact : (p q : ℕ) (c : Columns) (e : Ends) (w : List Bool) (known : Lost) (b : Least) → Type 0
-Exact p q c e w known b = ((b.found ≡ false) × (b.lost ≡ known)) ⊎ Found p q c e w b
+Exact p q c e w known b = ((b.shown ≡ None) × (b.lost ≡ known)) ⊎ Found p q c e w b
 
 pub record Sofar (p q : ℕ) (c : Columns) (e : Ends) (w : List Bool) (known : Lost) (t : ℕ) (b : Least) : Type 0 where
   pub counted : Counted b.lost.num b.lost.den
@@ -588,7 +588,7 @@ pub record Sofar (p q : ℕ) (c : Columns) (e : Ends) (w : List Bool) (known : L
   pub gone : Gone p q c e w known t b
 
 pub sofar-first : (p q : ℕ) (c : Columns) (e : Ends) (w : List Bool) (known : Lost) → Counted known.num known.den →
-    Sofar p q c e w known 0 (record { lost = known; found = false; at = 0; place = replicate 16 (pos 0); any = false; written = 0 })
+    Sofar p q c e w known 0 (record { lost = known; shown = None; any = false; written = 0 })
 sofar-first p q c e w known k = record {
   counted = k;
   bounds = λ s l u. absurd (omega arith);
@@ -600,18 +600,19 @@ sofar-first p q c e w known k = record {
 
 -- a frame that is found stays found while the loss stays
 stay : {p q : ℕ} {c : Columns} {e : Ends} {w : List Bool} {known : Lost} {b r : Least} → Same b r → Exact p q c e w known b → Exact p q c e w known r
-stay (i, (j, (k, l))) (inl (g, h)) = inl (j ∙ g, i ∙ h)
-stay {p} {q} {c} {e} {w} {known} {b} {r} (i, (j, (k, l))) (inr f) = inr (record {
-  at_in = rw k f.at_in;
-  usable = rw k f.usable;
-  frame = subst (λ x. AtFrame p q c e w x r) (sym k) (record {
-    found = j ∙ f.frame.found;
-    at-is = k;
+stay (i, j) (inl (g, h)) = inl (j ∙ g, i ∙ h)
+stay (i, j) (inr f) = inr (record {
+  at = f.at;
+  at_in = f.at_in;
+  usable = f.usable;
+  frame = record {
+    place = f.frame.place;
+    shown-is = j ∙ f.frame.shown-is;
     den-is = ap (λ (x : Lost). x.den) i ∙ f.frame.den-is;
     deep = rw i f.frame.deep;
     floor = rw i f.frame.floor;
-    first = rw (i, l) f.frame.first;
-  });
+    first = rw i f.frame.first;
+  };
 })
 
 module _ {p q : ℕ} {c : Columns} {e : Ends} {w : List Bool} {known : Lost} {t : ℕ} {b : Least} (h : Sofar p q c e w known t b) where
@@ -633,9 +634,10 @@ module _ {p q : ℕ} {c : Columns} {e : Ends} {w : List Bool} {known : Lost} {t 
       exact : Same b r ⊎ (Usable c e w t × AtFrame p q c e w t r) → Exact p q c e w known r
       exact (inl i) = stay i h.exact
       exact (inr (u, f)) = inr (record {
-        at_in = omega (arith, f.at-is);
-        usable = λ m. rw f.at-is u;
-        frame = subst (λ x. AtFrame p q c e w x r) (sym f.at-is) f;
+        at = t;
+        at_in = omega arith;
+        usable = λ m. u;
+        frame = f;
       })
 
       latest : r.any ≡ true → (Usable c e w t × (r.any ≡ true)) ⊎ ((Usable c e w t → ⊥) × (r.any ≡ b.any)) → (u : ℕ) × Latest c e w (t + 1) u
@@ -678,7 +680,8 @@ module _ {p q : ℕ} {c : Columns} {e : Ends} {w : List Bool} {known : Lost} {t 
       exact : Same b r ⊎ AtFrame p q c e w c.live r → Exact p q c e w known r
       exact (inl j) = stay j h.exact
       exact (inr f) = inr (record {
-        at_in = omega (arith, f.at-is);
-        usable = λ m. absurd (omega (arith, f.at-is));
-        frame = subst (λ x. AtFrame p q c e w x r) (sym f.at-is) f;
+        at = c.live;
+        at_in = omega arith;
+        usable = λ m. absurd (omega (arith, m));
+        frame = f;
       })

@@ -1,17 +1,15 @@
 -- The bound of a box from its least loss, and what is known from a value.
 -- part_none, known-none, part-made, known-made: the loss of a value. bounded-made: the bound.
--- levelled-first, -step, -done: which items are whole. levels-marked, levels-unmarked: they are the integer items.
+-- levels-marked, levels-unmarked: the whole items are the integer ones.
+use Rattle.std.specs.Prelude.{None, Some}
 use mathlib.Core.Path.{◌≡◌, refl, sym, ap, ◌∙◌, subst, subst₂}
 use mathlib.Core.Bool.{Bool, true, false}
 use mathlib.Core.List.{List}
 use mathlib.Core.Logic.{◌⊎◌, inl, inr}
-use Prim.Native.Nat.{ℕ, zero, suc, ◌+◌, ◌*◌, ◌-◌, ◌≤◌, ◌<◌}
+use Prim.Native.Nat.{ℕ, ◌+◌, ◌*◌, ◌-◌, ◌≤◌, ◌<◌}
 use native.Mathlib.Omega.{arith}
-use native.Mathlib.Decide.{ℕ_discrete}
 use native.Mathlib.Nat.{mul-le-mul_right}
 use lib.IntN.{ℤ, pos, ◌+ℤ◌, ◌-ℤ◌, ◌*ℤ◌}
-use lib.ListN.{replicate, set, length-set}
-use lib.Seq.{get_or-set_same, get_or-set_other}
 use lib.Signed.{◌≤ℤ◌}
 use Rattle.arith.specs.Within.{Within}
 use Rattle.arith.specs.declared.Mixed.{Mixed}
@@ -29,6 +27,7 @@ use Rattle.greedy.specs.Fill.{place}
 use Rattle.greedy.proofs.Relaxed.{box_of}
 use Rattle.ceiling.specs.declared.Known.{Known}
 use Rattle.ceiling.specs.declared.Least.{Least}
+use Rattle.ceiling.specs.declared.Shown.{Shown}
 use Rattle.ceiling.specs.declared.Lost.{Lost}
 use Rattle.ceiling.specs.Loss.{top_of}
 use Rattle.ceiling.specs.Frames.{whole_at, Marked, Unmarked, Counted, Levelled}
@@ -96,11 +95,17 @@ same-value s top q n d v h e i m D N d≥1 f = times-≤-back q _ _ h
     right : (t o : ℤ) → (t -ℤ (t -ℤ pos q *ℤ o)) *ℤ pos D ≡ (o *ℤ pos D) *ℤ pos q
     right = split2 _ (λ a b c e. simp zed (omega arith))
 
+unshown : {x : Shown} → None ≡ Some x → ⊥
+unshown e = let z : ◌≡◌ {A = ℕ} 0 1 = cc in omega arith
+
+own : {x y : Shown} → Some x ≡ Some y → x ≡ y
+own e = cc
+
 -- the exact loss of a value, or the deepest one, which is not the least
 pub bounded-made : (p q : ℕ) (c : Columns) (e : Ends) (w : List Bool) (known : Bool) (v : Mixed) (k : Known) (top : ℤ) (r : Least) →
     Priced c e (record { p = p; q = q }) → top ≡ top_of p q c e → Within 100000000000000000 top
     → KnownBy top q known v.whole v.part v.parts k → LeastLoss p q c e w k.lost r → Shallow p q c e
-    → Bounded c e w known v (record { top = top; p = p; q = q; lost = r.lost; found = r.found; at = r.at; place = r.place; written = r.written })
+    → Bounded c e w known v (record { top = top; p = p; q = q; lost = r.lost; shown = r.shown; written = r.written })
 bounded-made p q c e w known v k top r price t top_in h l low = record {
   few = l.few;
   writes = record { priced = price; from = k; known_by = h; frames = l.writes };
@@ -111,16 +116,16 @@ bounded-made p q c e w known v k top r price t top_in h l low = record {
   top_in = top_in;
   most = most;
   kept = λ i. kept i l.exact;
-  found = λ i. found i l.exact;
+  found = λ x i. found x i l.exact;
 }
   where
     most : (marks : ℕ → Mark) → Marked c w marks → AtMost (box_of c e marks) (top *ℤ pos r.lost.den -ℤ pos r.lost.num) (q * r.lost.den)
     most marks m = subst (λ x. AtMost (box_of c e marks) (x *ℤ pos r.lost.den -ℤ pos r.lost.num) (q * r.lost.den)) (sym t)
         (at_most p q c e w r.lost.num r.lost.den l.ceiling marks m)
 
-    kept : r.found ≡ false → ((r.found ≡ false) × (r.lost ≡ k.lost)) ⊎ Found p q c e w r →
+    kept : r.shown ≡ None → ((r.shown ≡ None) × (r.lost ≡ k.lost)) ⊎ Found p q c e w r →
         (known ≡ true) × ((marks : ℕ → Mark) → Marked c w marks → AtMost (box_of c e marks) (over v) v.parts)
-    kept i (inr f) = absurd (impossible (sym i ∙ f.frame.found))
+    kept i (inr f) = absurd (unshown (sym i ∙ f.frame.shown-is))
     kept i (inl (j, same)) = go k.exact refl
       where
         num-is : r.lost.num ≡ k.lost.num
@@ -137,49 +142,19 @@ bounded-made p q c e w known v k top r price t top_in h l low = record {
         )
         go false y = absurd (too-deep p q c e w low r.lost.num r.lost.den (num-is ∙ (h.loss.deep y).0) (den-is ∙ (h.loss.deep y).1) l.ceiling)
 
-    found : r.found ≡ true → ((r.found ≡ false) × (r.lost ≡ k.lost)) ⊎ Found p q c e w r →
-        BestFrame c e w (record { top = top; p = p; q = q; lost = r.lost; found = r.found; at = r.at; place = r.place; written = r.written })
-    found i (inl (j, same)) = absurd (impossible (sym j ∙ i))
-    found i (inr f) = record {
+    found : (x : Shown) → r.shown ≡ Some x → ((r.shown ≡ None) × (r.lost ≡ k.lost)) ⊎ Found p q c e w r →
+        BestFrame c e w (record { top = top; p = p; q = q; lost = r.lost; shown = r.shown; written = r.written }) x
+    found x i (inl (j, same)) = absurd (unshown (sym j ∙ i))
+    found x i (inr f) = subst (BestFrame c e w _) (own (sym f.frame.shown-is ∙ i)) (record {
       at_in = f.at_in;
       usable = f.usable;
       den-is = f.frame.den-is;
       deep = f.frame.deep;
       floor = f.frame.floor;
       first = f.frame.first;
-    }
+    })
 
 -- ---- levels
-
-pub levelled-first : (levels : List ℕ) → Levelled levels 0 (replicate 16 false)
-levelled-first levels = record { long = refl; level = λ k h. absurd (impossible (sym (none 16 k) ∙ h)); marked = λ d l. absurd (omega arith) }
-  where
-    none : (n k : ℕ) → whole_at (replicate n false) k ≡ false
-    none zero k = refl
-    none (suc n) zero = refl
-    none (suc n) (suc k) = none n k
-
-pub levelled-step : {levels : List ℕ} {d : ℕ} {w : List Bool} → place levels d < 16 → Levelled levels d w →
-    Levelled levels (d + 1) (set w (place levels d) true)
-levelled-step {levels} {d} {w} l h = record {
-  long = length-set w (place levels d) true ∙ h.long;
-  level = λ k i. go k i (ℕ_discrete k (place levels d));
-  marked = λ j m. mark j m (ℕ_discrete (place levels j) (place levels d));
-}
-  where
-    go : (k : ℕ) → whole_at (set w (place levels d) true) k ≡ true → Dec (k ≡ place levels d) → (j : ℕ) × (j < d + 1) × (place levels j ≡ k)
-    go k i (yes e) = (d, omega arith, sym e)
-    go k i (no e) = let l = h.level k (sym (get_or-set_other w (place levels d) k true false e) ∙ i) in (l.0, omega (arith, l.1), l.2)
-
-    mark : (j : ℕ) → j < d + 1 → Dec (place levels j ≡ place levels d) → whole_at (set w (place levels d) true) (place levels j) ≡ true
-    mark j m (yes e) = rw e (get_or-set_same w (place levels d) true false (omega (arith, h.long)))
-    mark j m (no e) = get_or-set_other w (place levels d) (place levels j) true false e ∙ h.marked j (before j m (λ q. e (ap (place levels) q)))
-      where
-        before : (j : ℕ) → j < d + 1 → (j ≡ d → ⊥) → j < d
-        before j m ne = omega arith
-
-pub levelled-done : {levels : List ℕ} {d n : ℕ} {w : List Bool} → d ≡ n → Levelled levels d w → Levelled levels n w
-levelled-done {levels} {d} {n} {w} e h = subst (λ m. Levelled levels m w) e h
 
 -- where the levels hold integer items, the whole ones are marked
 pub levels-marked : (c : Columns) (levels : List ℕ) (n : ℕ) (w : List Bool) (marks : ℕ → Mark) → Levelled levels n w →

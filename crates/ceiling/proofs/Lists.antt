@@ -1,7 +1,5 @@
 -- Lists of pieces and of ends, as the code makes them.
--- listing-first, -step, -done: a list of numbers that is being made;  flags-first, -step, -done: one of tests;  altered-first, -step, -done: one of ends;
--- placed_first,
--- -step, -done: one of amounts.
+-- listing_step, flags-step, altered-step, placed-step: a list of numbers, of tests, of ends and of amounts that is being made, after one more.
 -- pieces-fair, pieces-narrow, pieces-keyable: the pieces are what the fillings ask for. pieces-few: a first filling takes few of each.
 use mathlib.Core.Path.{◌≡◌, refl, sym, subst, ◌∙◌}
 use mathlib.Core.Bool.{Bool, true, false}
@@ -12,10 +10,9 @@ use native.Mathlib.Nat.{mul-le-mul}
 use native.Mathlib.Decide.{ℕ_discrete, dec_lt}
 use lib.Dec.{eqb}
 use lib.IntN.{ℤ, pos, nat_abs, ◌-ℤ◌}
-use lib.ListN.{length, set, length-set, replicate, get_or-replicate}
+use lib.ListN.{length, set, length-set}
 use lib.Seq.{get_or-set_same, get_or-set_other}
 use borrow.Author.Tests.{eqb-true}
-use Rattle.scales.specs.Filling as filling
 use Rattle.scales.proofs.Sums.{sum-most}
 use Rattle.fillings.specs.declared.Parts.{Parts}
 use Rattle.fillings.specs.Ranges.{num, flag, Fair}
@@ -28,11 +25,8 @@ use Rattle.greedy.specs.Fill.{at, weight_of}
 use Rattle.greedy.specs.Sized.{Sized, SizedEnds}
 use Rattle.ceiling.specs.Frames.{Altered}
 use Rattle.ceiling.specs.Least.{Placed}
-use Rattle.ceiling.specs.Pieces.{Listing, Blank, Flags, size_by, span_by, span_of, Pieces}
+use Rattle.ceiling.specs.Pieces.{Listing, Flags, size_by, span_by, span_of, Pieces}
 use Rattle.ceiling.proofs.Bounded.{sum-last}
-
-pub listing-first : (f : ℕ → ℕ) {s : ℕ} {xs : List ℕ} → Blank s xs → Listing 0 f s xs
-listing-first f h = record { long = h.long; items = λ k l. absurd (omega arith); none = h.none; last = h.last }
 
 pub listing_step : (f : ℕ → ℕ) (m v : ℕ) {s : ℕ} {xs : List ℕ} → m < 16 → v ≡ f m → Listing m f s xs → Listing (m + 1) f s (set xs m v)
 listing_step f m v {s} {xs} l e h = record {
@@ -52,24 +46,7 @@ listing_step f m v {s} {xs} l e h = record {
     item k i (yes d) = rw d (get_or-set_same xs m v 0 (omega (arith, h.long)) ∙ e)
     item k i (no d) = get_or-set_other xs m k v 0 d ∙ h.items k (omega arith)
 
-pub blank-made : (s : ℕ) → Blank s (set (replicate 17 0) 16 s)
-blank-made s = record {
-  long = refl;
-  items = λ k l. absurd (omega arith);
-  none = λ k i j. get_or-set_other (replicate 17 0) 16 k s 0 (ne k j) ∙ get_or-replicate 17 k 0 0 (omega arith);
-  last = refl;
-}
-  where
-    ne : (k : ℕ) → k < 16 → k ≡ 16 → ⊥
-    ne k j e = omega arith
-
-pub listing-done : {m n s : ℕ} {f : ℕ → ℕ} {xs : List ℕ} → m ≡ n → Listing m f s xs → Listing n f s xs
-listing-done {m} {n} {s} {f} {xs} e h = subst (λ i. Listing i f s xs) e h
-
 -- ---- lists of tests
-
-pub flags-first : (f : ℕ → Bool) → Flags 0 f (replicate 17 false)
-flags-first f = record { long = refl; items = λ k l. absurd (omega arith) }
 
 pub flags-step : (f : ℕ → Bool) (m : ℕ) (v : Bool) {xs : List Bool} → m < 16 → v ≡ f m → Flags m f xs → Flags (m + 1) f (set xs m v)
 flags-step f m v {xs} l e h = record { long = length-set xs m v ∙ h.long; items = λ k i. item k i (ℕ_discrete k m) }
@@ -77,9 +54,6 @@ flags-step f m v {xs} l e h = record { long = length-set xs m v ∙ h.long; item
     item : (k : ℕ) → k < m + 1 → Dec (k ≡ m) → flag (set xs m v) k ≡ f k
     item k i (yes d) = rw d (get_or-set_same xs m v false (omega (arith, h.long)) ∙ e)
     item k i (no d) = get_or-set_other xs m k v false d ∙ h.items k (omega arith)
-
-pub flags-done : {m n : ℕ} {f : ℕ → Bool} {xs : List Bool} → m ≡ n → Flags m f xs → Flags n f xs
-flags-done {m} {n} {f} {xs} e h = subst (λ i. Flags i f xs) e h
 
 -- ---- what is asked of the pieces
 
@@ -147,9 +121,6 @@ module _ {p q : ℕ} {c : Columns} {e : Ends} {E cut room m : ℕ} {ps : Parts} 
 
 -- ---- lists of ends
 
-pub altered-first : (f : ℕ → ℤ) {xs : List ℤ} → length xs ≡ 16 → Altered 0 f xs xs
-altered-first f h = record { long = h; first = λ k l. absurd (omega arith); rest = λ k l. refl }
-
 pub altered-step : (f : ℕ → ℤ) (m : ℕ) (v : ℤ) {old xs : List ℤ} → m < 16 → v ≡ f m → Altered m f old xs → Altered (m + 1) f old (set xs m v)
 altered-step f m v {old} {xs} l e h = record {
   long = length-set xs m v ∙ h.long;
@@ -164,9 +135,6 @@ altered-step f m v {old} {xs} l e h = record {
     item k i (yes d) = rw d (get_or-set_same xs m v (pos 0) (omega (arith, h.long)) ∙ e)
     item k i (no d) = get_or-set_other xs m k v (pos 0) d ∙ h.first k (omega arith)
 
-pub altered-done : {m n : ℕ} {f : ℕ → ℤ} {old xs : List ℤ} → m ≡ n → Altered m f old xs → Altered n f old xs
-altered-done {m} {n} {f} {old} {xs} e h = subst (λ i. Altered i f old xs) e h
-
 pub altered-within : {n b : ℕ} {f : ℕ → ℤ} {old xs : List ℤ} → Altered n f old xs → ((k : ℕ) → k < n → Within b (f k)) → ((k : ℕ) → Within b (at old k)) →
     (k : ℕ) → Within b (at xs k)
 altered-within {n} {b} {f} {old} {xs} h new same k = go (dec_lt k n)
@@ -177,15 +145,9 @@ altered-within {n} {b} {f} {old} {xs} h new same k = go (dec_lt k n)
 
 -- ---- lists of amounts
 
-pub placed_first : (f : ℕ → ℤ) → Placed 0 f (replicate 16 (pos 0))
-placed_first f = record { long = refl; each = λ k l. absurd (omega arith) }
-
 pub placed-step : (f : ℕ → ℤ) (m : ℕ) (v : ℤ) {xs : List ℤ} → m < 16 → v ≡ f m → Placed m f xs → Placed (m + 1) f (set xs m v)
 placed-step f m v {xs} l e h = record { long = length-set xs m v ∙ h.long; each = λ k i. item k i (ℕ_discrete k m) }
   where
     item : (k : ℕ) → k < m + 1 → Dec (k ≡ m) → at (set xs m v) k ≡ f k
     item k i (yes d) = rw d (get_or-set_same xs m v (pos 0) (omega (arith, h.long)) ∙ e)
     item k i (no d) = get_or-set_other xs m k v (pos 0) d ∙ h.each k (omega arith)
-
-pub placed-done : {m n : ℕ} {f : ℕ → ℤ} {xs : List ℤ} → m ≡ n → Placed m f xs → Placed n f xs
-placed-done {m} {n} {f} {xs} e h = subst (λ i. Placed i f xs) e h

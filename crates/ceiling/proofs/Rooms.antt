@@ -1,7 +1,7 @@
 -- The room of a box, and its losses where there is none.
 -- foot-light: where an item weighs least. room-begun: the room is that of the filling's start; room_in: how large it gets. roomless: no room, no point.
 -- floor-zero: nothing is lost below 0.
-use mathlib.Core.Path.{◌≡◌, refl, sym, ap, ◌∙◌, subst}
+use mathlib.Core.Path.{◌≡◌, refl, sym, ap, subst}
 use mathlib.Core.Bool.{Bool, true, false, cond}
 use Prim.Native.Nat.{ℕ, zero, suc, ◌≤◌, ◌<◌}
 use native.Mathlib.Omega.{arith}

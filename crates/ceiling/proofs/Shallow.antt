@@ -6,7 +6,7 @@ use mathlib.Core.Path.{◌≡◌, refl, sym, ap, ap₂, ◌∙◌, subst, subst�
 use mathlib.Core.Bool.{Bool, true, false, cond}
 use mathlib.Core.List.{List}
 use mathlib.Core.Logic.{◌≢◌, ◌⊎◌, inl, inr}
-use Prim.Native.Nat.{ℕ, zero, suc, ◌+◌, ◌*◌, ◌-◌, ◌/◌, ◌%◌, ◌≤◌, ◌<◌}
+use Prim.Native.Nat.{ℕ, zero, suc, ◌+◌, ◌*◌, ◌/◌, ◌%◌, ◌≤◌, ◌<◌}
 use native.Mathlib.Omega.{arith}
 use native.Mathlib.Nat.{mul-le-mul, mul-le-mul_left, div-add-mod', mod-lt}
 use native.Mathlib.Decide.{ℕ_discrete, dec_lt}
@@ -16,12 +16,12 @@ use lib.Signed.{◌≤ℤ◌, ◌<ℤ◌, ≤ℤ_refl, lt_z}
 use borrow.Author.Tests.{lt-ltb, le-ltb}
 use Rattle.arith.specs.Sum.{sum, bump}
 use Rattle.arith.specs.Signs.{times_sign}
-use Rattle.arith.proofs.Integers.{split, split2, split3, split4, zed, ≤ℤ-trans, ≤ℤ-reflexive, ≤ℤ-or-<, ≤ℤ-antisym}
+use Rattle.arith.proofs.Integers.{split, split2, split3, split4, zed, ≤ℤ-or-<, ≤ℤ-antisym}
 use Rattle.arith.proofs.Sums.{sum-cong, sum_bump, bump-same, bump-other}
-use Rattle.arith.proofs.Words.{yes_lt, no_lt, lt_yes, le-no}
+use Rattle.arith.proofs.Words.{lt_yes, le-no}
 use Rattle.knapsack.specs.declared.Mark.{Mark}
 use Rattle.knapsack.specs.declared.Mark.TheVariants.{Integer, Continuous}
-use Rattle.knapsack.proofs.Common.{KeepsMarkᴰ, Keepsᴰ, weighsᴰ, valueᴰ, Feasibleᴰ}
+use Rattle.knapsack.proofs.Common.{KeepsMarkᴰ, Keepsᴰ, weighsᴰ, Feasibleᴰ}
 use Rattle.knapsack.proofs.Dual.{score, sum-score}
 use Rattle.greedy.specs.declared.Columns.{Columns}
 use Rattle.greedy.specs.declared.Ends.{Ends}
@@ -30,7 +30,7 @@ use Rattle.greedy.specs.Fill.{at, weight_of, price_of, item_of, rank_of, lightes
 use Rattle.greedy.specs.Ordered.{Idle, Ordered}
 use Rattle.greedy.proofs.Relaxed.{box_of, InOrder, Good, Stopped, fill-stopped, fill-slope}
 use Rattle.ceiling.specs.Loss.{score_by, score_of, good_end, good_of, value_of, weigh_of, top_of, loss_of}
-use Rattle.ceiling.specs.Frames.{Marked, Loses, Ceiling}
+use Rattle.ceiling.specs.Frames.{Loses, Ceiling}
 
 pub record Shallow (p q : ℕ) (c : Columns) (e : Ends) : Type 0 where
   pub point : ℕ → ℤ

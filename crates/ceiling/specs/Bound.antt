@@ -4,9 +4,9 @@
 --   KnownLoss top q whole part parts k   where k is exact, it is what the value whole + part / parts loses
 --   KnownBy top q known whole part parts k   the same, where the value is known
 --   BoundWrites c e w known v r  r tells the cells that are written for all frames, at the critical item's price, from what v loses on
---   BestFrame c e w r       the bound is the value of a point of frame `at`: the place shows the first one
+--   BestFrame c e w r x     the bound is the value of a point of the frame of x: its place shows the first one
 --   Bounded c e w known v r      no value of the box is above (top - num / den) / q, and one is just that: v, or that of a point of frame `at`
-use Rattle.std.specs.Prelude.{◌≡◌, Bool, true, false, cond, List, ℕ, ◌+◌, ◌*◌, ◌≤◌, ◌<◌, ltb, ℤ, pos, nat_abs, ◌+ℤ◌, ◌-ℤ◌, ◌*ℤ◌}
+use Rattle.std.specs.Prelude.{◌≡◌, None, Some, Bool, true, false, cond, List, ℕ, ◌+◌, ◌*◌, ◌≤◌, ◌<◌, ltb, ℤ, pos, nat_abs, ◌+ℤ◌, ◌-ℤ◌, ◌*ℤ◌}
 use Rattle.arith.specs.Within.{Within}
 use Rattle.arith.specs.declared.Mixed.{Mixed}
 use Rattle.arith.proofs.Mixes.{over}
@@ -20,6 +20,7 @@ use Rattle.greedy.proofs.Relaxed.{box_of}
 use Rattle.ceiling.specs.declared.Price.{Price}
 use Rattle.ceiling.specs.declared.Known.{Known}
 use Rattle.ceiling.specs.declared.Limit.{Limit}
+use Rattle.ceiling.specs.declared.Shown.{Shown}
 use Rattle.ceiling.specs.Least.{LossWrites, FirstIn}
 use Rattle.ceiling.specs.Loss.{top_of}
 use Rattle.ceiling.specs.Frames.{scale_of, Usable, Marked, FrameFloor, Counted}
@@ -54,14 +55,14 @@ pub record BoundWrites (c : Columns) (e : Ends) (w : List Bool) (known : Bool) (
   pub known_by : KnownBy r.top r.q known v.whole v.part v.parts from
   pub frames : LossWrites r.p r.q c e w from.lost r.written
 
--- the best point is one of frame `at`, which is used
-pub record BestFrame (c : Columns) (e : Ends) (w : List Bool) (r : Limit) : Type 0 where
-  pub at_in : r.at ≤ c.live
-  pub usable : r.at < c.live → Usable c e w r.at
-  pub den-is : r.lost.den ≡ scale_of c r.at
+-- the best point is one of the frame of x, which is used
+pub record BestFrame (c : Columns) (e : Ends) (w : List Bool) (r : Limit) (x : Shown) : Type 0 where
+  pub at_in : x.at ≤ c.live
+  pub usable : x.at < c.live → Usable c e w x.at
+  pub den-is : r.lost.den ≡ scale_of c x.at
   pub deep : r.lost.num < 10000000000
-  pub floor : FrameFloor r.p r.q c e w r.at r.lost.num
-  pub first : FirstIn r.p r.q c e w r.at r.lost.num r.place
+  pub floor : FrameFloor r.p r.q c e w x.at r.lost.num
+  pub first : FirstIn r.p r.q c e w x.at r.lost.num x.place
 
 pub record Bounded (c : Columns) (e : Ends) (w : List Bool) (known : Bool) (v : Mixed) (r : Limit) : Type 0 where
   pub few : r.written ≤ 17 * least_cells
@@ -72,5 +73,5 @@ pub record Bounded (c : Columns) (e : Ends) (w : List Bool) (known : Bool) (v : 
   pub top-is : r.top ≡ top_of r.p r.q c e
   pub top_in : Within 100000000000000000 r.top
   pub most : (marks : ℕ → Mark) → Marked c w marks → AtMost (box_of c e marks) (r.top *ℤ pos r.lost.den -ℤ pos r.lost.num) (r.q * r.lost.den)
-  pub kept : r.found ≡ false → (known ≡ true) × ((marks : ℕ → Mark) → Marked c w marks → AtMost (box_of c e marks) (over v) v.parts)
-  pub found : r.found ≡ true → BestFrame c e w r
+  pub kept : r.shown ≡ None → (known ≡ true) × ((marks : ℕ → Mark) → Marked c w marks → AtMost (box_of c e marks) (over v) v.parts)
+  pub found : (x : Shown) → r.shown ≡ Some x → BestFrame c e w r x

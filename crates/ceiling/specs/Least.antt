@@ -21,7 +21,7 @@
 --   LeastLoss p q c e w known r     r is the least of what is known and all frames
 --   Placed n f xs                   a list of 16 amounts, of which the first n are those of f
 --   FrameFirst .. t r s             s shows the first point of frame t that loses r, or says that there is none
-use Rattle.std.specs.Prelude.{◌≡◌, Bool, true, false, List, ◌≢◌, ◌⊎◌, ℕ, ◌+◌, ◌-◌, ◌*◌, ◌/◌, ◌≤◌, ◌<◌, ℤ, pos, nat_abs, ◌-ℤ◌, ◌*ℤ◌, length, replicate, ◌<ℤ◌}
+use Rattle.std.specs.Prelude.{◌≡◌, Option, None, Some, Bool, true, false, List, ◌≢◌, ◌⊎◌, ℕ, ◌+◌, ◌-◌, ◌*◌, ◌/◌, ◌≤◌, ◌<◌, ℤ, pos, nat_abs, ◌-ℤ◌, ◌*ℤ◌, length, ◌<ℤ◌}
 use Rattle.fillings.specs.declared.Filled.{Filled}
 use Rattle.fillings.specs.declared.First.{First}
 use Rattle.fillings.specs.declared.Parts.{Parts}
@@ -30,7 +30,6 @@ use Rattle.fillings.specs.Foremost.{first_cells, least_cells, FirstWrites, Least
 use Rattle.greedy.specs.declared.Columns.{Columns}
 use Rattle.greedy.specs.declared.Ends.{Ends}
 use Rattle.greedy.specs.Fill.{at}
-use Rattle.ceiling.specs.declared.Room.{Room}
 use Rattle.ceiling.specs.declared.Frame.{Frame}
 use Rattle.ceiling.specs.declared.Lost.{Lost}
 use Rattle.ceiling.specs.declared.Lowest.{Lowest}
@@ -40,10 +39,10 @@ use Rattle.ceiling.specs.Loss.{top_of, loss_of, Point, Floor}
 use Rattle.ceiling.specs.Pieces.{amount_of, room_by, Pieces}
 use Rattle.ceiling.specs.Frames.{cut_of, scale_of, Framed, Usable, FrameEnds, FrameBound, FrameFloor, Ceiling, Counted}
 
-pub record HasRoom (c : Columns) (e : Ends) (r : Room) : Type 0 where
-  pub left_is : r.fits ≡ true → pos r.left ≡ room_by c e
-  pub small : r.left ≤ 4800100000000
-  pub none : r.fits ≡ false → room_by c e <ℤ pos 0
+pub record HasRoom (c : Columns) (e : Ends) (r : Option ℕ) : Type 0 where
+  pub left_is : (n : ℕ) → r ≡ Some n → pos n ≡ room_by c e
+  pub small : (n : ℕ) → r ≡ Some n → n ≤ 4800100000000
+  pub none : r ≡ None → room_by c e <ℤ pos 0
 
 abbrev pub ByLeast : ℕ → Parts → ℕ → ℕ → Type 0
 ByLeast cap ps room n = LeastWrites ps room cap n
@@ -85,9 +84,9 @@ pub record Floored (p q : ℕ) (c : Columns) (e : Ends) (E cut cap : ℕ) (r : F
 pub record Firsts (p q : ℕ) (c : Columns) (e : Ends) (E cut r : ℕ) (s : First) : Type 0 where
   pub few : s.written ≤ first_cells
   pub writes : PiecesWrite (ByFirst r) p q c e E cut s.written
-  pub found : s.found ≡ true → FirstPoint p q c e E cut r (amount_of c e E cut (num s.amounts))
-  pub small : s.found ≡ true → (k : ℕ) → k < 16 → num s.amounts k ≤ 900000000
-  pub none : s.found ≡ false → (M : ℕ → ℤ) → Point c e E cut M → pos r <ℤ loss_of p q c e E M
+  pub found : (a : List ℕ) → s.amounts ≡ Some a → FirstPoint p q c e E cut r (amount_of c e E cut (num a))
+  pub small : (a : List ℕ) → s.amounts ≡ Some a → (k : ℕ) → k < 16 → num a k ≤ 900000000
+  pub none : s.amounts ≡ None → (M : ℕ → ℤ) → Point c e E cut M → pos r <ℤ loss_of p q c e E M
 
 -- ---- frames
 
@@ -130,15 +129,15 @@ pub record LowerWrites (p q : ℕ) (c : Columns) (e : Ends) (w : List Bool) (t :
   pub sum : r.written ≡ b.written + more
 
 abbrev pub Same : Least → Least → Type 0
-Same b r = (r.lost ≡ b.lost) × ((r.found ≡ b.found) × ((r.at ≡ b.at) × (r.place ≡ b.place)))
+Same b r = (r.lost ≡ b.lost) × (r.shown ≡ b.shown)
 
 pub record AtFrame (p q : ℕ) (c : Columns) (e : Ends) (w : List Bool) (t : ℕ) (r : Least) : Type 0 where
-  pub found : r.found ≡ true
-  pub at-is : r.at ≡ t
+  pub place : List ℤ
+  pub shown-is : r.shown ≡ Some (record { at = t; place = place })
   pub den-is : r.lost.den ≡ scale_of c t
   pub deep : r.lost.num < 10000000000
   pub floor : FrameFloor p q c e w t r.lost.num
-  pub first : FirstIn p q c e w t r.lost.num r.place
+  pub first : FirstIn p q c e w t r.lost.num place
 
 pub record Lowered (p q : ℕ) (c : Columns) (e : Ends) (w : List Bool) (t : ℕ) (b r : Least) : Type 0 where
   pub counted : Counted r.lost.num r.lost.den
@@ -160,12 +159,13 @@ pub record Considered (p q : ℕ) (c : Columns) (e : Ends) (w : List Bool) (t : 
 
 -- the frame of the loss, one that is used
 pub record Found (p q : ℕ) (c : Columns) (e : Ends) (w : List Bool) (r : Least) : Type 0 where
-  pub at_in : r.at ≤ c.live
-  pub usable : r.at < c.live → Usable c e w r.at
-  pub frame : AtFrame p q c e w r.at r
+  pub at : ℕ
+  pub at_in : at ≤ c.live
+  pub usable : at < c.live → Usable c e w at
+  pub frame : AtFrame p q c e w at r
 
 pub data Gone (p q : ℕ) (c : Columns) (e : Ends) (w : List Bool) (known : Lost) : ℕ → Least → Type 0 where
-  begun : Gone p q c e w known 0 (record { lost = known; found = false; at = 0; place = replicate 16 (pos 0); any = false; written = 0 })
+  begun : Gone p q c e w known 0 (record { lost = known; shown = None; any = false; written = 0 })
   onward : (t : ℕ) (b r : Least) → Gone p q c e w known t b → Considered p q c e w t b r → Gone p q c e w known (t + 1) r
 
 pub data LossWrites (p q : ℕ) (c : Columns) (e : Ends) (w : List Bool) (known : Lost) : ℕ → Type 0 where
@@ -175,7 +175,7 @@ pub data LossWrites (p q : ℕ) (c : Columns) (e : Ends) (w : List Bool) (known 
 pub record LeastLoss (p q : ℕ) (c : Columns) (e : Ends) (w : List Bool) (known : Lost) (r : Least) : Type 0 where
   pub counted : Counted r.lost.num r.lost.den
   pub ceiling : Ceiling p q c e w r.lost.num r.lost.den
-  pub exact : ((r.found ≡ false) × (r.lost ≡ known)) ⊎ Found p q c e w r
+  pub exact : ((r.shown ≡ None) × (r.lost ≡ known)) ⊎ Found p q c e w r
   pub few : r.written ≤ 17 * least_cells
   pub writes : LossWrites p q c e w known r.written
 
@@ -187,5 +187,5 @@ pub record Placed (n : ℕ) (f : ℕ → ℤ) (xs : List ℤ) : Type 0 where
 pub record FrameFirst (p q : ℕ) (c : Columns) (e : Ends) (w : List Bool) (t r : ℕ) (s : Seen) : Type 0 where
   pub few : s.written ≤ first_cells
   pub writes : FrameWrites ByFirst p q c e w t r s.written
-  pub found : s.found ≡ true → FirstIn p q c e w t r s.place
-  pub none : s.found ≡ false → (e' : Ends) → Framed c e w t e' → (M : ℕ → ℤ) → Point c e' (scale_of c t) (cut_of c t) M → pos r <ℤ loss_of p q c e (scale_of c t) M
+  pub found : (place : List ℤ) → s.place ≡ Some place → FirstIn p q c e w t r place
+  pub none : s.place ≡ None → (e' : Ends) → Framed c e w t e' → (M : ℕ → ℤ) → Point c e' (scale_of c t) (cut_of c t) M → pos r <ℤ loss_of p q c e (scale_of c t) M

@@ -2,7 +2,7 @@
 // take whole amounts is a way to fill the room with pieces, and costs what it loses; the scales find the least cost.
 #![tactic(auto)]
 
-ghost use Rattle.std.specs.Prelude.{◌≡◌, true, false, ℕ, ◌+◌, ◌*◌, ◌≤◌, ◌<◌, pos, ◌+ℤ◌, ◌*ℤ◌, length, replicate, ◌≤ℤ◌};
+ghost use Rattle.std.specs.Prelude.{◌≡◌, None, true, false, cond, ℕ, ◌+◌, ◌*◌, ◌≤◌, ◌<◌, pos, ◌+ℤ◌, ◌*ℤ◌, length, ◌≤ℤ◌};
 ghost use Rattle.arith.specs.Mixed.{Proper};
 ghost use Rattle.arith.specs.Within.{Within};
 ghost use Rattle.fillings.specs.Ranges.{num};
@@ -42,11 +42,7 @@ fn foot(a: i64, l: i64, u: i64) -> i64
 fn is_heavy(a: i64, r: i64) -> bool
     ensures { result ≡ heavy_by a r }
 {
-    if a < 0 {
-        if 0 < r { false } else { true }
-    } else {
-        if 0 < r { true } else { false }
-    }
+    if a < 0 { r <= 0 } else { 0 < r }
 }
 
 // What a piece weighs.
@@ -54,8 +50,7 @@ fn size(cut: bool, a: i64) -> u64
     requires { Within 1000 a }
     ensures { result ≡ size_by cut a }
 {
-    let m = magnitude(a);
-    if cut { 1 } else { m }
+    if cut { 1 } else { magnitude(a) }
 }
 
 // How many pieces there are.
@@ -76,21 +71,16 @@ fn cost(cut: bool, scale: u64, r: i64) -> u64
     if cut { m } else { scale * m }
 }
 
-// The cost of a piece that is taken, and of one that is left.
-fn taken_cost(cut: bool, scale: u64, a: i64, r: i64) -> u64
+// The cost of a piece that is taken, or of one that is left.
+fn cost_if(taken: bool, cut: bool, scale: u64, a: i64, r: i64) -> u64
     requires { (scale ≤ 1000) × Within 20000000 r }
-    ensures { result ≡ taken_by cut scale a r }
+    ensures { result ≡ cond taken (taken_by cut scale a r) (left_by cut scale a r) }
 {
-    let n = cost(cut, scale, r);
-    if is_heavy(a, r) { 0 } else { n }
-}
-
-fn left_cost(cut: bool, scale: u64, a: i64, r: i64) -> u64
-    requires { (scale ≤ 1000) × Within 20000000 r }
-    ensures { result ≡ left_by cut scale a r }
-{
-    let n = cost(cut, scale, r);
-    if is_heavy(a, r) { n } else { 0 }
+    if is_heavy(a, r) == taken {
+        0
+    } else {
+        cost(cut, scale, r)
+    }
 }
 
 // ---- item k's pieces: what one weighs, how many there are, the cost of one that is taken and of one that is left
@@ -99,47 +89,32 @@ fn size_at(cols: Columns, cut: usize, k: usize) -> u64
     requires { SizedColumns cols × (k < 16) }
     ensures { result ≡ size_of cols cut k }
 {
-    let a = cols.weight[k];
-    size(k == cut, a)
+    size(k == cut, cols.weight[k])
 }
 
 fn span_at(ends: Ends, scale: u64, cut: usize, k: usize) -> u64
     requires { SizedEnds ends × ((scale ≤ 1000) × (k < 16)) }
     ensures { result ≡ span_of ends scale cut k }
 {
-    let l = ends.lo[k];
-    let u = ends.hi[k];
-    span(k == cut, scale, l, u)
+    span(k == cut, scale, ends.lo[k], ends.hi[k])
 }
 
 fn score_at(cols: Columns, p: u64, q: u64, k: usize) -> i64
     requires { SizedColumns cols × ((p ≤ 10000) × ((q ≤ 1000) × (k < 16))) }
     ensures { (result ≡ score_of p q cols k) × Within 20000000 result }
 {
-    let a = cols.weight[k];
-    let c = cols.price[k];
-    score(p, q, a, c)
+    score(p, q, cols.weight[k], cols.price[k])
 }
 
-fn taken_at(cols: Columns, p: u64, q: u64, scale: u64, cut: usize, k: usize) -> u64
+fn cost_at(taken: bool, cols: Columns, p: u64, q: u64, scale: u64, cut: usize, k: usize) -> u64
     requires { SizedColumns cols × (Modest p q scale × (k < 16)) }
-    ensures { result ≡ taken_of p q cols scale cut k }
+    ensures { result ≡ cond taken (taken_of p q cols scale cut k) (left_of p q cols scale cut k) }
 {
-    let a = cols.weight[k];
     let r = score_at(cols, p, q, k);
-    taken_cost(k == cut, scale, a, r)
+    cost_if(taken, k == cut, scale, cols.weight[k], r)
 }
 
-fn left_at(cols: Columns, p: u64, q: u64, scale: u64, cut: usize, k: usize) -> u64
-    requires { SizedColumns cols × (Modest p q scale × (k < 16)) }
-    ensures { result ≡ left_of p q cols scale cut k }
-{
-    let a = cols.weight[k];
-    let r = score_at(cols, p, q, k);
-    left_cost(k == cut, scale, a, r)
-}
-
-// ---- lists of them, with the slack in the last place
+// ---- all of them, with the slack in the last place
 
 fn blank(last: u64) -> [u64; 17]
     ensures { Blank last result }
@@ -149,81 +124,11 @@ fn blank(last: u64) -> [u64; 17]
     to
 }
 
-fn sizes(cols: Columns, cut: usize) -> [u64; 17]
-    requires { SizedColumns cols }
-    ensures { Listing cols.count (size_of cols cut) 1 result }
-{
-    let n = cols.count;
-    let mut to = blank(1);
-    let mut k: usize = 0;
-    while k < n {
-        to[k] = size_at(cols, cut, k);
-        k += 1;
-    }
-    to
-}
-
-fn spans(ends: Ends, n: usize, scale: u64, cut: usize, room: u64) -> [u64; 17]
-    requires { SizedEnds ends × ((scale ≤ 1000) × (n ≤ 16)) }
-    ensures { Listing n (span_of ends scale cut) room result }
-{
-    let mut to = blank(room);
-    let mut k: usize = 0;
-    while k < n {
-        to[k] = span_at(ends, scale, cut, k);
-        k += 1;
-    }
-    to
-}
-
-fn takens(cols: Columns, p: u64, q: u64, scale: u64, cut: usize) -> [u64; 17]
-    requires { SizedColumns cols × Modest p q scale }
-    ensures { Listing cols.count (taken_of p q cols scale cut) (scale * p) result }
-{
-    let n = cols.count;
-    let mut to = blank(scale * p);
-    let mut k: usize = 0;
-    while k < n {
-        to[k] = taken_at(cols, p, q, scale, cut, k);
-        k += 1;
-    }
-    to
-}
-
-fn lefts(cols: Columns, p: u64, q: u64, scale: u64, cut: usize) -> [u64; 17]
-    requires { SizedColumns cols × Modest p q scale }
-    ensures { Listing cols.count (left_of p q cols scale cut) 0 result }
-{
-    let n = cols.count;
-    let mut to = blank(0);
-    let mut k: usize = 0;
-    while k < n {
-        to[k] = left_at(cols, p, q, scale, cut, k);
-        k += 1;
-    }
-    to
-}
-
 fn falls_at(cols: Columns, k: usize) -> bool
     requires { SizedColumns cols × (k < 16) }
     ensures { result ≡ falls_of cols k }
 {
-    let a = cols.weight[k];
-    if a < 0 { true } else { false }
-}
-
-fn falls(cols: Columns) -> [bool; 17]
-    requires { SizedColumns cols }
-    ensures { Flags cols.count (falls_of cols) result }
-{
-    let n = cols.count;
-    let mut to = [false; 17];
-    let mut k: usize = 0;
-    while k < n {
-        to[k] = falls_at(cols, k);
-        k += 1;
-    }
-    to
+    cols.weight[k] < 0
 }
 
 // All pieces, and the slack.
@@ -231,43 +136,33 @@ fn pieces_of(cols: Columns, ends: Ends, p: u64, q: u64, scale: u64, cut: usize, 
     requires { Sized cols ends × Modest p q scale }
     ensures { Pieces p q cols ends scale cut room cols.count result }
 {
-    let weight = sizes(cols, cut);
-    let range = spans(ends, cols.count, scale, cut, room);
-    let taken = takens(cols, p, q, scale, cut);
-    let left = lefts(cols, p, q, scale, cut);
-    let falling = falls(cols);
-    Parts {
-        weight: weight,
-        range: range,
-        taken: taken,
-        left: left,
-        falls: falling,
+    let mut parts = Parts {
+        weight: blank(1),
+        range: blank(room),
+        taken: blank(scale * p),
+        left: blank(0),
+        falls: [false; 17],
+    };
+    for k in 0..cols.count {
+        parts.weight[k] = size_at(cols, cut, k);
+        parts.range[k] = span_at(ends, scale, cut, k);
+        parts.taken[k] = cost_at(true, cols, p, q, scale, cut, k);
+        parts.left[k] = cost_at(false, cols, p, q, scale, cut, k);
+        parts.falls[k] = falls_at(cols, k);
     }
+    parts
 }
 
 // The room that is left where every item weighs least, if any.
-#[derive(Clone, Copy)]
-pub struct Room {
-    pub fits: bool,
-    pub left: u64,
-}
-
-fn room_of(cols: Columns, ends: Ends) -> Room
+fn room_of(cols: Columns, ends: Ends) -> Option<u64>
     requires { Sized cols ends }
     ensures { HasRoom cols ends result }
 {
     let f = begin(cols, ends);
-    let room = f.room;
-    if room < 0 {
-        return Room {
-            fits: false,
-            left: 0,
-        };
+    if f.room < 0 {
+        return None;
     }
-    Room {
-        fits: true,
-        left: room as u64,
-    }
+    Some(f.room as u64)
 }
 
 // At most what any point of the box loses, and at most cap; below cap the pieces of the first point that loses just that.
@@ -285,13 +180,13 @@ fn floor_of(
     requires roomy { Roomy cap cells.old × Narrow ends scale cut cols.count }
     ensures { Floored p q cols ends scale cut cap result }
 {
-    let f = room_of(cols, ends);
-    if f.fits {
-        let room = f.left;
-        let ps = pieces_of(cols, ends, p, q, scale, cut, room);
-        return least_filling(ps, room, cap, cells);
+    match room_of(cols, ends) {
+        Some(room) => {
+            let ps = pieces_of(cols, ends, p, q, scale, cut, room);
+            least_filling(ps, room, cap, cells)
+        }
+        None => unfilled(cap),
     }
-    unfilled(cap)
 }
 
 fn unfilled(cap: u64) -> Filled
@@ -305,11 +200,10 @@ fn unfilled(cap: u64) -> Filled
 }
 
 fn nowhere() -> First
-    ensures { (result.found ≡ false) × (result.written ≡ 0) }
+    ensures { (result.amounts ≡ None) × (result.written ≡ 0) }
 {
     First {
-        found: false,
-        amounts: [0; 17],
+        amounts: None,
         written: 0,
     }
 }
@@ -330,13 +224,13 @@ fn first_of(
     requires in_bounds { 65535 ≤ length cells.old }
     ensures { Firsts p q cols ends scale cut r result }
 {
-    let f = room_of(cols, ends);
-    if f.fits {
-        let room = f.left;
-        let ps = pieces_of(cols, ends, p, q, scale, cut, room);
-        return first_filling(ps, room, r + 1, cells);
+    match room_of(cols, ends) {
+        Some(room) => {
+            let ps = pieces_of(cols, ends, p, q, scale, cut, room);
+            first_filling(ps, room, r + 1, cells)
+        }
+        None => nowhere(),
     }
-    nowhere()
 }
 
 // ---- the top
@@ -357,10 +251,7 @@ fn good_at(cols: Columns, ends: Ends, p: u64, q: u64, k: usize) -> i64
     requires { Sized cols ends × ((p ≤ 10000) × ((q ≤ 1000) × (k < 16))) }
     ensures { result ≡ good_of p q cols ends k }
 {
-    let l = ends.lo[k];
-    let u = ends.hi[k];
-    let r = score_at(cols, p, q, k);
-    good_end(r, l, u)
+    good_end(score_at(cols, p, q, k), ends.lo[k], ends.hi[k])
 }
 
 // With r times x.
@@ -376,16 +267,11 @@ pub fn top_of(cols: Columns, ends: Ends, p: u64, q: u64) -> i64
     requires { Sized cols ends × ((p ≤ 10000) × (q ≤ 1000)) }
     ensures { (result ≡ top_of p q cols ends) × Within 100000000000000000 result }
 {
-    let n = cols.count;
     let mut t = Total {
         sum: (p as i64) * cols.capacity,
     };
-    let mut k: usize = 0;
-    while k < n {
-        let r = score_at(cols, p, q, k);
-        let x = good_at(cols, ends, p, q, k);
-        t = with_term(t, r, x);
-        k += 1;
+    for k in 0..cols.count {
+        t = with_term(t, score_at(cols, p, q, k), good_at(cols, ends, p, q, k));
     }
     t.sum
 }
@@ -397,8 +283,7 @@ fn cut_of(cols: Columns, t: usize) -> usize
     requires { cols.live ≤ 16 }
     ensures { result ≡ cut_of cols t }
 {
-    let n = cols.live;
-    if t < n { cols.order[t] } else { 16 }
+    if t < cols.live { cols.order[t] } else { 16 }
 }
 
 // Into how many pieces it cuts a unit.
@@ -406,8 +291,11 @@ pub fn scale_of(cols: Columns, t: usize) -> u64
     requires { SizedColumns cols }
     ensures { result ≡ scale_of cols t }
 {
-    let n = cols.live;
-    if t < n { magnitude(cols.size[t]) } else { 1 }
+    if t < cols.live {
+        magnitude(cols.size[t])
+    } else {
+        1
+    }
 }
 
 // Where an item stands while the ranks below t are raised.
@@ -416,14 +304,12 @@ fn stand_at(cols: Columns, ends: Ends, t: usize, k: usize) -> i64
     ensures { result ≡ stand cols ends t k }
 {
     let a = cols.weight[k];
-    let c = cols.price[k];
     let l = ends.lo[k];
     let u = ends.hi[k];
-    let v = cols.rank[k];
-    if v < t {
+    if cols.rank[k] < t {
         heavy_end(a, l, u)
     } else {
-        light_end(a, c, l, u)
+        light_end(a, cols.price[k], l, u)
     }
 }
 
@@ -449,10 +335,7 @@ fn frame_end_at(
     requires { Sized cols ends × (k < 16) }
     ensures { result ≡ frame_end_by cols ends whole cut t xs k }
 {
-    let x = xs[k];
-    let w = whole[k];
-    let s = stand_at(cols, ends, t, k);
-    frame_end(w, k == cut, x, s)
+    frame_end(whole[k], k == cut, xs[k], stand_at(cols, ends, t, k))
 }
 
 fn frame_ends(
@@ -466,12 +349,9 @@ fn frame_ends(
     requires { Sized cols ends }
     ensures { Altered cols.count (frame_end_by cols ends whole cut t xs) xs result }
 {
-    let n = cols.count;
     let mut to = xs;
-    let mut k: usize = 0;
-    while k < n {
+    for k in 0..cols.count {
         to[k] = frame_end_at(cols, ends, whole, cut, t, xs, k);
-        k += 1;
     }
     to
 }
@@ -481,11 +361,10 @@ fn framed(cols: Columns, ends: Ends, whole: [bool; 16], cut: usize, t: usize) ->
     requires { Sized cols ends × (InOrder cols ends × (cut ≡ cut_of cols t)) }
     ensures { FrameEnds cols ends whole t result }
 {
-    let l = ends.lo;
-    let h = ends.hi;
-    let lo = frame_ends(cols, ends, whole, cut, t, l);
-    let hi = frame_ends(cols, ends, whole, cut, t, h);
-    Ends { lo: lo, hi: hi }
+    Ends {
+        lo: frame_ends(cols, ends, whole, cut, t, ends.lo),
+        hi: frame_ends(cols, ends, whole, cut, t, ends.hi),
+    }
 }
 
 // A frame: the item cut, into how many pieces a unit, the ends, and what the frame itself loses.
@@ -535,11 +414,7 @@ fn made_at(cols: Columns, ends: Ends, ys: [u64; 17], k: usize) -> i64
     requires { Sized cols ends × ((k < 16) × (num ys k ≤ 900000000)) }
     ensures { result ≡ whole_of cols ends (num ys) k }
 {
-    let a = cols.weight[k];
-    let l = ends.lo[k];
-    let u = ends.hi[k];
-    let y = ys[k];
-    made_of(a, l, u, y)
+    made_of(cols.weight[k], ends.lo[k], ends.hi[k], ys[k])
 }
 
 fn made(cols: Columns, ends: Ends, ys: [u64; 17]) -> [i64; 16]
@@ -547,10 +422,8 @@ fn made(cols: Columns, ends: Ends, ys: [u64; 17]) -> [i64; 16]
     ensures { Placed 16 (whole_of cols ends (num ys)) result }
 {
     let mut to = [0; 16];
-    let mut k: usize = 0;
-    while k < 16 {
+    for k in 0..16 {
         to[k] = made_at(cols, ends, ys, k);
-        k += 1;
     }
     to
 }
@@ -600,11 +473,9 @@ fn frame_floor(
     let e = f.ends;
     let c = floor_of(cols, e, p, q, scale, f.cut, left, cells);
     if c.least < left {
-        let ys = c.amounts;
-        let place = made(cols, e, ys);
         return Lowest {
             least: off + c.least,
-            place: place,
+            place: made(cols, e, c.amounts),
             written: c.written,
         };
     }
@@ -617,13 +488,10 @@ pub fn is_usable(cols: Columns, ends: Ends, whole: [bool; 16], t: usize) -> bool
     ensures { (result ≡ false → Usable cols ends whole t → ⊥) × (result ≡ true → Usable cols ends whole t) }
 {
     let k = cols.order[t];
-    let w = whole[k];
-    let l = ends.lo[k];
-    let u = ends.hi[k];
-    if w {
+    if whole[k] {
         return false;
     }
-    if l < u { true } else { false }
+    ends.lo[k] < ends.hi[k]
 }
 
 // ---- the least loss of a box
@@ -635,14 +503,18 @@ pub struct Lost {
     pub den: u64,
 }
 
-// The least loss so far; if found, that of frame `at`, and of the point of the frame that the place shows. Whether any frame was looked at, and how
-// many cells were written.
+// A point of frame `at`, by its amounts but for the item cut.
+#[derive(Clone, Copy)]
+pub struct Shown {
+    pub at: usize,
+    pub place: [i64; 16],
+}
+
+// The least loss so far, and the point that has it, if one was found. Whether any frame was looked at, and how many cells were written.
 #[derive(Clone, Copy)]
 pub struct Least {
     pub lost: Lost,
-    pub found: bool,
-    pub at: usize,
-    pub place: [i64; 16],
+    pub shown: Option<Shown>,
     pub any: bool,
     pub written: u64,
 }
@@ -675,24 +547,18 @@ fn lowered(
             den: scale,
         };
         let place = r.place;
+        let shown = Shown { at: t, place };
         return Least {
-            lost: lost,
-            found: true,
-            at: t,
-            place: place,
+            lost,
+            shown: Some(shown),
             any: true,
-            written: written,
+            written,
         };
     }
-    let same = best.lost;
-    let stays = best.place;
     Least {
-        lost: same,
-        found: best.found,
-        at: best.at,
-        place: stays,
         any: true,
-        written: written,
+        written,
+        ..best
     }
 }
 
@@ -736,10 +602,8 @@ fn least_loss(
     let top = top_of(cols, ends, p, q);
     let n = cols.live;
     let mut best = unlowered(known);
-    let mut t: usize = 0;
-    while t < n {
+    for t in 0..n {
         best = considered(best, cols, ends, whole, p, q, t, top, cells);
-        t += 1;
     }
     if best.any {
         return best;
@@ -748,13 +612,11 @@ fn least_loss(
 }
 
 fn unlowered(known: Lost) -> Least
-    ensures { result ≡ record { lost = known; found = false; at = 0; place = replicate 16 (pos 0); any = false; written = 0 } }
+    ensures { result ≡ record { lost = known; shown = None; any = false; written = 0 } }
 {
     Least {
         lost: known,
-        found: false,
-        at: 0,
-        place: [0; 16],
+        shown: None,
         any: false,
         written: 0,
     }
@@ -776,16 +638,14 @@ pub struct Known {
     pub exact: bool,
 }
 
-// (top - lost) / q, by the price p / q: if found, the loss of frame `at` and of its point that the place shows, else that of the value that was known.
+// (top - lost) / q, by the price p / q: the loss of the point that is shown, or that of the value that was known.
 #[derive(Clone, Copy)]
 pub struct Limit {
     pub top: i64,
     pub p: u64,
     pub q: u64,
     pub lost: Lost,
-    pub found: bool,
-    pub at: usize,
-    pub place: [i64; 16],
+    pub shown: Option<Shown>,
     pub written: u64,
 }
 
@@ -797,10 +657,8 @@ pub fn price_of(cols: Columns, ends: Ends) -> Price
     requires { Sized cols ends }
     ensures { Priced cols ends result }
 {
-    let f = fill_up(cols, ends);
-    let u = f.at;
-    let n = cols.live;
-    if u < n {
+    let u = fill_up(cols, ends).at;
+    if u < cols.live {
         return Price {
             p: magnitude(cols.rate[u]),
             q: magnitude(cols.size[u]),
@@ -846,10 +704,7 @@ fn part_loss(n: u64, q: u64, part: u64, parts: u64) -> Known
 fn is_small(w: i64) -> bool
     ensures { result ≡ true → Within 100000000000000 w }
 {
-    if 100000000000000 < w {
-        return false;
-    }
-    if w < -100000000000000 { false } else { true }
+    -100000000000000 <= w && w <= 100000000000000
 }
 
 // What the value w + part / parts loses.
@@ -895,24 +750,15 @@ pub fn ceiling(
     ensures { Bounded cols ends whole known value result }
 {
     let c = price_of(cols, ends);
-    let p = c.p;
-    let q = c.q;
-    let top = top_of(cols, ends, p, q);
-    let w = value.whole;
-    let part = value.part;
-    let parts = value.parts;
-    let k = known_loss(top, q, known, w, part, parts);
-    let b = least_loss(cols, ends, whole, p, q, k.lost, cells);
-    let lost = b.lost;
-    let place = b.place;
+    let top = top_of(cols, ends, c.p, c.q);
+    let k = known_loss(top, c.q, known, value.whole, value.part, value.parts);
+    let b = least_loss(cols, ends, whole, c.p, c.q, k.lost, cells);
     Limit {
-        top: top,
-        p: p,
-        q: q,
-        lost: lost,
-        found: b.found,
-        at: b.at,
-        place: place,
+        top,
+        p: c.p,
+        q: c.q,
+        lost: b.lost,
+        shown: b.shown,
         written: b.written,
     }
 }
@@ -922,18 +768,16 @@ pub fn ceiling(
 // The amounts of a point of a frame, but for the item cut, if there is one; and how many cells were written.
 #[derive(Clone, Copy)]
 pub struct Seen {
-    pub found: bool,
-    pub place: [i64; 16],
+    pub place: Option<[i64; 16]>,
     pub written: u64,
 }
 
 fn unseen(written: u64) -> Seen
-    ensures { (result.found ≡ false) × (result.written ≡ written) }
+    ensures { (result.place ≡ None) × (result.written ≡ written) }
 {
     Seen {
-        found: false,
-        place: [0; 16],
-        written: written,
+        place: None,
+        written,
     }
 }
 
@@ -962,16 +806,13 @@ pub fn first_of_frame(
     let off = scale * less;
     let e = f.ends;
     let s = first_of(cols, e, p, q, scale, f.cut, r - off, cells);
-    if s.found {
-        let ys = s.amounts;
-        let place = made(cols, e, ys);
-        return Seen {
-            found: true,
-            place: place,
+    match s.amounts {
+        Some(ys) => Seen {
+            place: Some(made(cols, e, ys)),
             written: s.written,
-        };
+        },
+        None => unseen(s.written),
     }
-    unseen(s.written)
 }
 
 // ---- levels
@@ -982,11 +823,8 @@ pub fn wholes(level: [usize; 16], n: usize) -> [bool; 16]
     ensures { Levelled level n result }
 {
     let mut to = [false; 16];
-    let mut d: usize = 0;
-    while d < n {
-        let k = level[d];
-        to[k] = true;
-        d += 1;
+    for d in 0..n {
+        to[level[d]] = true;
     }
     to
 }

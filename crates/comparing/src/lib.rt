@@ -2,7 +2,7 @@
 // Paper 02, "Always the same charge": which of two points comes first.
 #![tactic(auto)]
 
-ghost use Rattle.std.specs.Prelude.{◌≡◌, ◌*◌, ◌≤◌, ltb, nat_abs};
+ghost use Rattle.std.specs.Prelude.{◌≡◌, ◌*◌, ◌≤◌, ltb};
 ghost use Rattle.comparing.specs.Comparing.{less_fraction, Divided, Compares};
 
 use arith::Fraction;
@@ -31,38 +31,22 @@ fn below(n: u64, d: u64, m: u64, e: u64) -> bool
     below(e, j, d, i)
 }
 
-// |p|, also of the lowest number that there is.
-fn size(p: i64) -> u64
-    ensures { result ≡ nat_abs p }
-{
-    if p < 0 {
-        let n = 0 - (p + 1);
-        return (n as u64) + 1;
-    }
-    p as u64
-}
-
 // Whether x is below y.
 pub fn less_fraction(x: Fraction, y: Fraction) -> bool
     requires { (1 ≤ x.q) × (1 ≤ y.q) }
     ensures { result ≡ less_fraction x y }
 {
-    let p = x.p;
-    let q = x.q;
-    let s = y.p;
-    let t = y.q;
-    let m = size(p);
-    let n = size(s);
-    if p < 0 {
-        if s < 0 {
-            return below(n, t, m, q);
+    let m = x.p.unsigned_abs();
+    let n = y.p.unsigned_abs();
+    if x.p < 0 {
+        if y.p < 0 { below(n, y.q, m, x.q) } else { true }
+    } else {
+        if y.p < 0 {
+            false
+        } else {
+            below(m, x.q, n, y.q)
         }
-        return true;
     }
-    if s < 0 {
-        return false;
-    }
-    below(m, q, n, t)
 }
 
 // Whether x comes before y, by the first of n items whose amounts differ.
@@ -70,17 +54,13 @@ pub fn comes_before(x: [Fraction; 16], y: [Fraction; 16], n: usize) -> bool
     requires { (n ≤ 16) × (Divided n x × Divided n y) }
     ensures { Compares n x y result }
 {
-    let mut k: usize = 0;
-    while k < n {
-        let a = x[k];
-        let b = y[k];
-        if less_fraction(a, b) {
+    for k in 0..n {
+        if less_fraction(x[k], y[k]) {
             return true;
         }
-        if less_fraction(b, a) {
+        if less_fraction(y[k], x[k]) {
             return false;
         }
-        k += 1;
     }
     false
 }

@@ -17,15 +17,15 @@ use Rattle.arith.specs.declared.Fraction.{Fraction}
 use Rattle.knapsack.specs.Meaning.{Instance, instance_of}
 use Rattle.knapsack.specs.declared.Answer.{Answer}
 use Rattle.knapsack.specs.declared.Kind.{Kind}
-use Rattle.knapsack.specs.declared.Verdict.{Verdict}
-use Rattle.knapsack.specs.declared.Verdict.TheVariants.{Accepted, Refused}
+use Rattle.knapsack.specs.Verdicts.{Verdict}
+use Rattle.std.specs.Prelude.{Ok, Err}
 use Rattle.model.specs.declared.Blanks.TheVariants as blanks
 use Rattle.model.specs.declared.Model.{Model}
 use Rattle.model.specs.declared.Sense.{Sense}
 use Rattle.model.specs.declared.Sense.TheVariants.{Sure}
 use Rattle.model.specs.Promises.{Planned}
 use Rattle.model.specs.Records.{no_item, item_at, plain_of, needs_of, verdict, AdmissibleBy, Admissible}
-use Rattle.model.specs.Refusals as refusal
+use Rattle.model.specs.declared.refusals.Reason.TheVariants as refusal
 use Rattle.model.proofs.Records.{unfaulted, accepted, admitted, both-accept}
 use Rattle.lines.specs.Places.{refusal_on}
 use Rattle.sheet.specs.declared.Reading.{Reading}
@@ -46,15 +46,15 @@ asked sense m = instance_of (plain_of sense m)
 
 -- ---- the record that is written
 
-unhindered : (m : Model) → AdmissibleBy blanks.Kept m → hindered m ≡ Accepted → Droppable m
+unhindered : (m : Model) → AdmissibleBy blanks.Kept m → hindered m ≡ Ok tt → Droppable m
 unhindered m a h = droppable m (a.figures Sure).some-items (go (ltb (hindrance m) m.count) refl h)
   where
-    go : (b : Bool) → ltb (hindrance m) m.count ≡ b → cond b (Refused (refusal_on refusal.blank-item (hindrance m + 4))) Accepted ≡ Accepted
+    go : (b : Bool) → ltb (hindrance m) m.count ≡ b → cond {A = Verdict} b (Err (refusal_on refusal.BlankItem (hindrance m + 4))) (Ok tt) ≡ Ok tt
         → m.count ≤ hindrance m
     go true e h = no-refusal h
     go false e h = ltb-false (hindrance m) m.count e
 
-written : (m : Model) → AdmissibleBy blanks.Kept m → hindered m ≡ Accepted → verdict (dropped m) ≡ Accepted
+written : (m : Model) → AdmissibleBy blanks.Kept m → hindered m ≡ Ok tt → verdict (dropped m) ≡ Ok tt
 written m a h = admitted (dropped m) (dropped-admissible m a (unhindered m a h))
 
 -- unused places are as the reader leaves them
@@ -68,17 +68,17 @@ dropped-tidy m = record {
 
 -- ---- the sheet
 
-module _ (s : List ℕ) (h : convertible s ≡ Accepted) where
+module _ (s : List ℕ) (h : convertible s ≡ Ok tt) where
   abbrev old : Model
   old = (kept_reading s).model
 
-  parts : ((kept_reading s).verdict ≡ Accepted) × (hindered old ≡ Accepted)
+  parts : ((kept_reading s).verdict ≡ Ok tt) × (hindered old ≡ Ok tt)
   parts = both-accept (kept_reading s).verdict (hindered old) h
 
   old-admissible : AdmissibleBy blanks.Kept old
   old-admissible = accepted old (accepted-sheet s old (ap (λ (v : Verdict). record { verdict = v; model = old }) parts.0)).fair
 
-  pub converted-fair : verdict (dropped old) ≡ Accepted
+  pub converted-fair : verdict (dropped old) ≡ Ok tt
   converted-fair = written old old-admissible parts.1
 
   -- End theorem: it is at most so long, so a buffer of `room` bytes is never too short.
@@ -86,7 +86,7 @@ module _ (s : List ℕ) (h : convertible s ≡ Accepted) where
   converted-short = printing-short (dropped old) (unfaulted (dropped old) converted-fair)
 
   -- End theorem: the reader reads a converted sheet.
-  pub converted-read : read_sheet (converted s) ≡ record { verdict = Accepted; model = dropped old }
+  pub converted-read : read_sheet (converted s) ≡ record { verdict = Ok tt; model = dropped old }
   converted-read = sheet-accepted (converted s) (dropped old) (record { fair = converted-fair; tidy = dropped-tidy old; text = refl })
 
   abbrev new : Model
@@ -106,7 +106,7 @@ module _ (s : List ℕ) (h : convertible s ≡ Accepted) where
       (subst (λ (r : Reading). Planned sense r.model b) converted-read p)
 
 -- End theorem: a sheet that the reader accepts, so without blank items, comes back as it is.
-pub unblanked-sheet : (s : List ℕ) → (read_sheet s).verdict ≡ Accepted → (convertible s ≡ Accepted) × (converted s ≡ s)
+pub unblanked-sheet : (s : List ℕ) → (read_sheet s).verdict ≡ Ok tt → (convertible s ≡ Ok tt) × (converted s ≡ s)
 unblanked-sheet s h =
     let m = (read_sheet s).model in
     let t = accepted-sheet s m (ap (λ (v : Verdict). record { verdict = v; model = m }) h) in
@@ -119,6 +119,6 @@ unblanked-sheet s h =
       needs = a.needs;
       ranged = a.ranged;
     } in
-    let r : kept_reading s ≡ record { verdict = Accepted; model = m } = sheet-accepted s m (record { fair = admitted m b; tidy = t.tidy; text = t.text }) in
-    let free : hindered m ≡ Accepted = rw (unblanked-free m a, le-ltb m.count m.count (omega arith)) in
+    let r : kept_reading s ≡ record { verdict = Ok tt; model = m } = sheet-accepted s m (record { fair = admitted m b; tidy = t.tidy; text = t.text }) in
+    let free : hindered m ≡ (Ok tt) = rw (unblanked-free m a, le-ltb m.count m.count (omega arith)) in
     (rw r free, rw r (sym (agree-text m (dropped m) (unblanked m a b)) ∙ sym t.text))

@@ -8,13 +8,13 @@
 --   Dropped m r      r tells whether the blank items of the record m can go, and then has the record without them
 --   Unblanked s r    the same of the sheet s, whose own refusals come first
 use Rattle.std.specs.Prelude.{cond, List, ◌≡◌, ℕ, ◌+◌, ltb}
-use Rattle.knapsack.specs.declared.Verdict.{Verdict}
-use Rattle.knapsack.specs.declared.Verdict.TheVariants.{Accepted, Refused}
+use Rattle.knapsack.specs.Verdicts.{Verdict}
+use Rattle.std.specs.Prelude.{Ok, Err, Result}
+use Rattle.knapsack.specs.declared.Refusal.{Refusal}
 use Rattle.model.specs.declared.Blanks.TheVariants as blanks
 use Rattle.model.specs.declared.Model.{Model}
 use Rattle.model.specs.Records.{or_else}
-use Rattle.model.specs.Refusals as refusal
-use Rattle.text.specs.declared.Listed.{Listed}
+use Rattle.model.specs.declared.refusals.Reason.TheVariants as refusal
 use Rattle.text.specs.Buffer.{noted, told, filled}
 use Rattle.lines.specs.Places.{refusal_on}
 use Rattle.sheet.specs.declared.Reading.{Reading}
@@ -27,7 +27,7 @@ abbrev pub kept_reading : List ℕ → Reading
 kept_reading s = read_sheet_by blanks.Kept s
 
 abbrev pub hindered : Model → Verdict
-hindered m = cond (ltb (hindrance m) m.count) (Refused (refusal_on refusal.blank-item (hindrance m + 4))) Accepted
+hindered m = cond (ltb (hindrance m) m.count) (Err (refusal_on refusal.BlankItem (hindrance m + 4))) (Ok tt)
 
 abbrev pub convertible : List ℕ → Verdict
 convertible s = or_else (kept_reading s).verdict (hindered (kept_reading s).model)
@@ -35,7 +35,7 @@ convertible s = or_else (kept_reading s).verdict (hindered (kept_reading s).mode
 abbrev pub converted : List ℕ → List ℕ
 converted s = printing (dropped (kept_reading s).model)
 
-abbrev pub conversion : List ℕ → List ℕ → Listed
+abbrev pub conversion : List ℕ → List ℕ → Result ℕ Refusal
 conversion s b = on_accepted (convertible s) noted (told (converted s) b)
 
 abbrev pub cleared : List ℕ → List ℕ → List ℕ
@@ -43,8 +43,8 @@ cleared s b = on_accepted (convertible s) (λ f. b) (filled (converted s) b)
 
 pub record Dropped (m : Model) (r : Reading) : Type 0 where
   pub told : r.verdict ≡ hindered m
-  pub left : r.verdict ≡ Accepted → r.model ≡ dropped m
+  pub left : r.verdict ≡ Ok tt → r.model ≡ dropped m
 
 pub record Unblanked (s : List ℕ) (r : Reading) : Type 0 where
   pub told : r.verdict ≡ convertible s
-  pub left : r.verdict ≡ Accepted → r.model ≡ dropped (kept_reading s).model
+  pub left : r.verdict ≡ Ok tt → r.model ≡ dropped (kept_reading s).model

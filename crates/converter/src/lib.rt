@@ -3,7 +3,7 @@
 #![tactic(auto)]
 
 ghost use Rattle.std.specs.Prelude.{◌≡◌, ◌≤◌};
-ghost use Rattle.knapsack.specs.declared.Verdict.TheVariants.{Accepted};
+ghost use Rattle.std.specs.Prelude.{Ok};
 ghost use Rattle.model.specs.declared.Blanks.TheVariants as blanks;
 ghost use Rattle.model.specs.Records.{verdict_by};
 ghost use Rattle.text.specs.Buffer.{Shows};
@@ -12,44 +12,43 @@ ghost use Rattle.writer.specs.Writing.{on_accepted};
 ghost use Rattle.converter.specs.Converting.{hindered, convertible, converted, conversion, cleared, Dropped, Unblanked};
 
 use dropping::{drop_blanks, hindrance};
-use knapsack::{Refusal, Verdict};
+use knapsack::Refusal;
 use listing::refusal_text;
-use model::{Blanks, Model, refusals};
+use model::refusals::Reason;
+use model::{Blanks, Model};
 use sheet::{Reading, read_by};
-use text::{Listed, Text};
+use text::Text;
 use writer::{sheet_text, write_sheet};
 
 // Refusal 15, told at the line of the item that stands against it.
-fn check_blanks(m: Model) -> Verdict
+fn check_blanks(m: Model) -> Result<(), Refusal>
     requires { (m.count ≤ 16) × (m.needs.count ≤ 16) }
     ensures { result ≡ hindered m }
 {
     let k = hindrance(m);
     if k < m.count {
-        return Verdict::Refused(Refusal {
-            number: refusals::BLANK_ITEM,
+        return Err(Refusal {
+            number: Reason::BlankItem.number(),
             line: k as u64 + 4,
         });
     }
-    Verdict::Accepted
+    Ok(())
 }
 
 // The record without its blank items, if they can go.
 fn without_blanks(m: Model) -> Reading
-    requires { verdict_by blanks.Kept m ≡ Accepted }
+    requires { verdict_by blanks.Kept m ≡ Ok tt }
     ensures { Dropped m result }
 {
-    let v = check_blanks(m);
-    if let Verdict::Refused(f) = v {
+    if let Err(f) = check_blanks(m) {
         return Reading {
-            verdict: Verdict::Refused(f),
+            verdict: Err(f),
             model: m,
         };
     }
-    let model = drop_blanks(m);
     Reading {
-        verdict: Verdict::Accepted,
-        model: model,
+        verdict: Ok(()),
+        model: drop_blanks(m),
     }
 }
 
@@ -58,29 +57,20 @@ fn unblanked(s: &[u8]) -> Reading
     ensures { Unblanked s.now result }
 {
     let r = read_by(s, Blanks::Kept);
-    let v = r.verdict;
-    let m = r.model;
-    if let Verdict::Refused(f) = v {
-        return Reading {
-            verdict: Verdict::Refused(f),
-            model: m,
-        };
+    match r.verdict {
+        Err(_) => r,
+        Ok(()) => without_blanks(r.model),
     }
-    without_blanks(m)
 }
 
 // The sheet without its blank items at the start of a lent buffer; the bytes behind it stay. A refusal changes no byte.
-pub fn convert(s: &[u8], out: &mut [u8]) -> Listed
+pub fn convert(s: &[u8], out: &mut [u8]) -> Result<usize, Refusal>
     ensures value { result ≡ conversion s.now out.old }
     ensures out_after { out.new ≡ cleared s.now out.old }
 {
     let r = unblanked(s);
-    let v = r.verdict;
-    let m = r.model;
-    if let Verdict::Refused(f) = v {
-        return Listed::Refused(f);
-    }
-    write_sheet(m, out)
+    r.verdict?;
+    write_sheet(r.model, out)
 }
 
 // What the program prints: the same by value, with the line of a refusal in its place.
@@ -88,10 +78,8 @@ pub fn convert_text(s: &[u8]) -> Text
     ensures { Shows (on_accepted (convertible s.now) refused_line (converted s.now)) result }
 {
     let r = unblanked(s);
-    let v = r.verdict;
-    let m = r.model;
-    if let Verdict::Refused(f) = v {
-        return refusal_text(f);
+    match r.verdict {
+        Err(f) => refusal_text(f),
+        Ok(()) => sheet_text(r.model),
     }
-    sheet_text(m)
 }

@@ -2,7 +2,6 @@
 // itself, and none is moved here.
 ghost use Rattle.std.specs.Prelude.{◌≤◌};
 
-use knapsack::Bound;
 use model::{Model, ModelItem, Need, setters};
 use trials::draw::{DrawnProblem, below, next};
 
@@ -26,16 +25,11 @@ pub struct Fate {
 // ---- made
 
 fn weightless(x: ModelItem, price: i64) -> ModelItem {
-    let m = x.mark;
-    let l = x.lower;
-    let u = x.upper;
     ModelItem {
-        mark: m,
         low: 0,
         high: 0,
-        price: price,
-        lower: l,
-        upper: u,
+        price,
+        ..x
     }
 }
 
@@ -43,21 +37,18 @@ fn weightless(x: ModelItem, price: i64) -> ModelItem {
 pub fn with_weightless(m: Model, k: usize, price: i64) -> Model
     requires { k ≤ 15 }
 {
-    let x = m.items[k];
-    setters::with_item(m, k, weightless(x, price))
+    setters::with_item(m, k, weightless(m.items[k], price))
 }
 
 // One item in three becomes blank.
 pub fn with_drawn_blanks(m: Model, state: u64) -> DrawnProblem {
     let mut p = m;
     let mut now = state;
-    let mut k: usize = 0;
-    while k < 16 {
+    for k in 0..16 {
         now = next(now);
         if below(now, 2) == 0 {
             p = with_weightless(p, k, 0);
         }
-        k += 1;
     }
     DrawnProblem {
         problem: p,
@@ -72,15 +63,7 @@ pub fn is_blank(x: ModelItem) -> bool {
 }
 
 fn crosses(x: ModelItem) -> bool {
-    let l = x.lower;
-    let u = x.upper;
-    match l {
-        Bound::Absent => false,
-        Bound::At(a) => match u {
-            Bound::Absent => false,
-            Bound::At(b) => b < a,
-        },
-    }
+    matches!((x.lower, x.upper), (Some(a), Some(b)) if b < a)
 }
 
 fn names(need: Need, item: usize) -> bool {
@@ -89,16 +72,10 @@ fn names(need: Need, item: usize) -> bool {
 
 // Whether a line of needs names an item, by its number from 1.
 fn is_named(m: Model, item: usize) -> bool {
-    let ns = m.needs;
-    let t = ns.count;
-    let lines = ns.lines;
-    let mut j: usize = 0;
-    while j < 16 {
-        let need = lines[j];
-        if j < t && names(need, item) {
+    for need in m.needs.lines.iter().take(m.needs.count) {
+        if names(*need, item) {
             return true;
         }
-        j += 1;
     }
     false
 }
@@ -120,13 +97,7 @@ fn reason_at(m: Model, k: usize) -> Reason
 }
 
 fn hinders(r: Reason) -> bool {
-    match r {
-        Reason::NoBlank => false,
-        Reason::Harmless => false,
-        Reason::NothingLeft => true,
-        Reason::Crossing => true,
-        Reason::Named => true,
-    }
+    matches!(r, Reason::NothingLeft | Reason::Crossing | Reason::Named)
 }
 
 // How many of the first n items are blank.
@@ -134,13 +105,9 @@ pub fn blanks_among(m: Model, n: usize) -> usize
     requires { n ≤ 16 }
     ensures { result ≤ n }
 {
-    let items = m.items;
     let mut found: usize = 0;
-    let mut k: usize = 0;
-    while k < n {
-        let x = items[k];
-        k += 1;
-        if is_blank(x) {
+    for k in 0..n {
+        if is_blank(m.items[k]) {
             found += 1;
         }
     }
@@ -151,16 +118,12 @@ pub fn blanks_among(m: Model, n: usize) -> usize
 pub fn moves_need(m: Model, n: usize) -> bool
     requires { n ≤ 16 }
 {
-    let items = m.items;
     let mut moves = false;
-    let mut k: usize = 0;
-    while k < n {
-        let x = items[k];
-        k += 1;
-        if moves && is_named(m, k) {
+    for k in 0..n {
+        if moves && is_named(m, k + 1) {
             return true;
         }
-        moves = moves || is_blank(x);
+        moves = moves || is_blank(m.items[k]);
     }
     false
 }
@@ -169,12 +132,13 @@ pub fn moves_need(m: Model, n: usize) -> bool
 fn first_hindering(m: Model, n: usize) -> Fate
     requires { n ≤ 16 }
 {
-    let mut k: usize = 0;
-    while k < n {
-        let r = reason_at(m, k);
-        k += 1;
-        if hinders(r) {
-            return Fate { reason: r, item: k };
+    for k in 0..n {
+        let reason = reason_at(m, k);
+        if hinders(reason) {
+            return Fate {
+                reason,
+                item: k + 1,
+            };
         }
     }
     Fate {

@@ -16,42 +16,38 @@ ghost use Rattle.std.specs.Prelude.{◌≤◌};
 use crate::blanks::{Fate, Reason, blanks_among, fate_of, moves_need, with_drawn_blanks};
 use crate::meaning::outcome_beside;
 use crate::sheets::{Kept, ROOM, Sheet, converted, fits, is_refused, is_same, length_of, sheet_of};
-use knapsack::{Bound, Refusal, Verdict};
+use knapsack::{Kind, Refusal};
 use model::{Model, Need, Sense, setters};
 use planner::plan_within;
 use sheet::Reading;
 use solver::STEPS;
-use text::Listed;
 use trials::bytes::first;
 use trials::count::{one_more, print_count};
 use trials::draw::{DrawnProblem, Spans, drawn_problem};
 use trials::make;
 use trials::needs::with_drawn_needs;
 use trials::print::{print, print_field, print_kind};
-use trials::tally::number_of;
 
-// Whether a sheet's reply is as it has to be, and the kind of the planner's answer to what was written, 0 for none.
+// Whether a sheet's reply is as it has to be, and the kind of the planner's answer to what was written, if there is one.
 #[derive(Clone, Copy)]
 struct Trial {
     agrees: bool,
     met: bool,
-    kind: u64,
+    kind: Option<Kind>,
 }
 
 // ---- one sheet
 
 fn no_answer(agrees: bool) -> Trial {
     Trial {
-        agrees: agrees,
+        agrees,
         met: false,
-        kind: 0,
+        kind: None,
     }
 }
 
 fn reading_of(k: Kept) -> Reading {
-    let bytes = k.bytes;
-    let t = k.told;
-    sheet::read(first(&bytes, length_of(t)))
+    sheet::read(first(&k.bytes, length_of(k.told)))
 }
 
 // Whether o has the items of m that are not blank, by their number.
@@ -59,10 +55,7 @@ fn has_gone(m: Model, n: usize, o: Model) -> bool
     requires { n ≤ 15 }
 {
     let rest = o.count;
-    if 16 < rest {
-        return false;
-    }
-    rest + blanks_among(m, n) == n && blanks_among(o, rest) == 0
+    rest <= 16 && rest + blanks_among(m, n) == n && blanks_among(o, rest) == 0
 }
 
 // The planner's answer to the record o, beside the points of m.
@@ -71,11 +64,10 @@ fn answered(m: Model, n: usize, o: Model, sure: bool) -> Trial
 {
     let a = plan_within(o, Sense::Sure, STEPS);
     let b = outcome_beside(m, n, a, sure);
-    let k = a.kind;
     Trial {
         agrees: b.agrees && has_gone(m, n, o),
         met: b.met,
-        kind: number_of(k),
+        kind: Some(a.kind),
     }
 }
 
@@ -86,11 +78,9 @@ fn converted_trial(m: Model, n: usize, s: Sheet, k: Kept, sure: bool) -> Trial
         return no_answer(false);
     }
     let r = reading_of(k);
-    let v = r.verdict;
-    let o = r.model;
-    match v {
-        Verdict::Refused(_) => no_answer(false),
-        Verdict::Accepted => answered(m, n, o, sure),
+    match r.verdict {
+        Err(_) => no_answer(false),
+        Ok(()) => answered(m, n, r.model, sure),
     }
 }
 
@@ -109,8 +99,7 @@ fn is_hindered(s: Sheet, k: Kept, item: usize) -> bool {
 fn last_line(m: Model, n: usize) -> u64
     requires { n ≤ 15 }
 {
-    let ns = m.needs;
-    let t = ns.count;
+    let t = m.needs.count;
     if 16 < t {
         return 0;
     }
@@ -121,24 +110,19 @@ fn last_line(m: Model, n: usize) -> u64
 fn is_cut(m: Model, n: usize, s: Sheet) -> bool
     requires { n ≤ 15 }
 {
-    let len = s.len;
-    if len == 0 {
-        return false;
-    }
-    is_refused(converted(s, len - 1, ROOM), 2, last_line(m, n))
+    s.len != 0 && is_refused(converted(s, s.len - 1, ROOM), 2, last_line(m, n))
 }
 
 fn reply_trial(m: Model, n: usize, s: Sheet, f: Fate, sure: bool) -> Trial
     requires { n ≤ 15 }
 {
     let k = converted(s, s.len, ROOM);
-    let r = f.reason;
-    match r {
+    match f.reason {
         Reason::NoBlank => no_answer(is_same(s, k) && fits(s, k)),
         Reason::Harmless => converted_trial(m, n, s, k, sure),
-        Reason::NothingLeft => no_answer(is_hindered(s, k, f.item)),
-        Reason::Crossing => no_answer(is_hindered(s, k, f.item)),
-        Reason::Named => no_answer(is_hindered(s, k, f.item)),
+        Reason::NothingLeft | Reason::Crossing | Reason::Named => {
+            no_answer(is_hindered(s, k, f.item))
+        }
     }
 }
 
@@ -155,19 +139,11 @@ fn trial_of(m: Model, n: usize, s: Sheet, f: Fate, sure: bool) -> Trial
 
 // ---- printing
 
-fn put_slash(out: &mut [u8], at: usize) {
-    if at < out.len() {
-        if out[at] == b'\n' {
-            out[at] = b'/';
-        }
-    }
-}
-
 fn put_on_one_line(out: &mut [u8]) {
-    let mut i: usize = 0;
-    while i < out.len() {
-        put_slash(out, i);
-        i += 1;
+    for b in out {
+        if *b == b'\n' {
+            *b = b'/';
+        }
     }
 }
 
@@ -186,23 +162,18 @@ fn print_refusal(f: Refusal) {
 
 // What the converter replies, and what the planner answers to it.
 fn print_reply(k: Kept) {
-    let bytes = k.bytes;
-    let t = k.told;
-    match t {
-        Listed::Refused(f) => print_refusal(f),
-        Listed::Written(n) => {
-            print_bytes(bytes, n);
-            let r = reading_of(k);
-            let m = r.model;
+    match k.told {
+        Err(f) => print_refusal(f),
+        Ok(n) => {
+            print_bytes(k.bytes, n);
             print(b": ");
-            print_kind(plan_within(m, Sense::Sure, STEPS));
+            print_kind(plan_within(reading_of(k).model, Sense::Sure, STEPS));
         }
     }
 }
 
 fn print_converted(s: Sheet, n: usize) {
-    let bytes = s.bytes;
-    print_bytes(bytes, n);
+    print_bytes(s.bytes, n);
     print(b" -> ");
     print_reply(converted(s, n, ROOM));
     print(b"\n");
@@ -234,7 +205,7 @@ fn needing(m: Model, item: usize, cover: usize) -> Model {
 
 // A need's number moves down; an item that stays has bounds that cross; a ray beside a blank item; weight or price alone makes no item blank.
 fn show_converted() {
-    let open = make::loose(make::item(0, 0, Bound::Absent, Bound::At(7)));
+    let open = make::loose(make::item(0, 0, None, Some(7)));
     show(needing(
         make::first_of(20, 3, make::held(9, 13, 0, 2), open, make::held(3, 2, 0, 5)),
         3,
@@ -294,30 +265,19 @@ fn no_sheets() -> Counts {
     }
 }
 
-// A number for each reason.
-fn place_of(r: Reason) -> u64 {
-    match r {
-        Reason::NoBlank => 1,
-        Reason::Harmless => 2,
-        Reason::NothingLeft => 3,
-        Reason::Crossing => 4,
-        Reason::Named => 5,
-    }
-}
-
 fn counted(c: Counts, r: Reason, moves: bool, behind: bool, t: Trial) -> Counts {
-    let p = place_of(r);
+    let converted = matches!(r, Reason::Harmless);
     Counts {
-        same: one_more(c.same, p == 1),
-        converted: one_more(c.converted, p == 2),
-        moved: one_more(c.moved, p == 2 && moves),
-        best: one_more(c.best, t.kind == 1),
+        same: one_more(c.same, matches!(r, Reason::NoBlank)),
+        converted: one_more(c.converted, converted),
+        moved: one_more(c.moved, converted && moves),
+        best: one_more(c.best, matches!(t.kind, Some(Kind::Optimal))),
         met: one_more(c.met, t.met),
-        infeasible: one_more(c.infeasible, t.kind == 2),
-        unbounded: one_more(c.unbounded, t.kind == 3),
-        empty: one_more(c.empty, p == 3),
-        crossing: one_more(c.crossing, p == 4),
-        named: one_more(c.named, p == 5),
+        infeasible: one_more(c.infeasible, matches!(t.kind, Some(Kind::Infeasible))),
+        unbounded: one_more(c.unbounded, matches!(t.kind, Some(Kind::Unbounded))),
+        empty: one_more(c.empty, matches!(r, Reason::NothingLeft)),
+        crossing: one_more(c.crossing, matches!(r, Reason::Crossing)),
+        named: one_more(c.named, matches!(r, Reason::Named)),
         behind: one_more(c.behind, behind),
         wrong: one_more(c.wrong, !t.agrees),
     }
@@ -325,14 +285,7 @@ fn counted(c: Counts, r: Reason, moves: bool, behind: bool, t: Trial) -> Counts 
 
 // Whether a blank item stands before the one that hinders.
 fn is_behind(m: Model, f: Fate) -> bool {
-    let item = f.item;
-    if item == 0 {
-        return false;
-    }
-    if 16 < item {
-        return false;
-    }
-    0 < blanks_among(m, item - 1)
+    0 < f.item && f.item <= 16 && 0 < blanks_among(m, f.item - 1)
 }
 
 fn tried(c: Counts, m: Model, n: usize, sure: bool) -> Counts
@@ -345,20 +298,17 @@ fn tried(c: Counts, m: Model, n: usize, sure: bool) -> Counts
         print(b"disagreement: ");
         print_converted(s, s.len);
     }
-    let r = f.reason;
-    counted(c, r, moves_need(m, n), is_behind(m, f), t)
+    counted(c, f.reason, moves_need(m, n), is_behind(m, f), t)
 }
 
 // Of so many pairs of items, and one more, about one is a need; no pair where the number is 0.
 fn drawn(state: u64, n: usize, among: u64, z: Spans) -> DrawnProblem {
     let d = drawn_problem(state, n, z);
-    let m = d.problem;
     if among == 0 {
-        return with_drawn_blanks(m, d.state);
+        return with_drawn_blanks(d.problem, d.state);
     }
-    let e = with_drawn_needs(m, d.state, among);
-    let p = e.problem;
-    with_drawn_blanks(p, e.state)
+    let e = with_drawn_needs(d.problem, d.state, among);
+    with_drawn_blanks(e.problem, e.state)
 }
 
 fn counts_of(seed: u64, sheets: u64, n: usize, among: u64, z: Spans) -> Counts
@@ -367,13 +317,10 @@ fn counts_of(seed: u64, sheets: u64, n: usize, among: u64, z: Spans) -> Counts
     let sure = z.absent == 0;
     let mut c = no_sheets();
     let mut state = seed;
-    let mut k: u64 = 0;
-    while k < sheets {
+    for _ in 0..sheets {
         let d = drawn(state, n, among, z);
-        let m = d.problem;
-        c = tried(c, m, n, sure);
+        c = tried(c, d.problem, n, sure);
         state = d.state;
-        k += 1;
     }
     c
 }

@@ -7,8 +7,8 @@ ghost use Rattle.std.specs.Prelude.{◌≤◌};
 
 use knapsack::{Answer, Kind};
 use model::Model;
-use trials::enumerate::{Best, below, best_value};
-use trials::exact::as_signed;
+use trials::enumerate::{best_value, is_above, is_reached};
+use trials::exact::{Ratio, ratio_of};
 use trials::outcome::{Outcome, shut_problem};
 
 const REACH: i64 = 20;
@@ -16,32 +16,27 @@ const REACH: i64 = 20;
 // No weight is farther from zero than 4, so that unbounded steps need not be longer.
 const FARTHER: i64 = 24;
 
-fn best_within(m: Model, n: usize, reach: i64) -> Best
+fn best_within(m: Model, n: usize, reach: i64) -> Option<Ratio>
     requires { n ≤ 15 }
 {
     best_value(shut_problem(m, n, reach), n)
 }
 
-fn is_above(a: Best, p: i64, q: i64) -> bool {
-    a.found && below(p, q, a.p, a.q)
-}
-
-fn best_outcome(a: Answer, b: Best, sure: bool) -> Outcome {
-    let v = a.value;
-    let q = as_signed(v.q);
-    let met = b.found && !below(b.p, b.q, v.p, q);
+fn best_outcome(a: Answer, b: Option<Ratio>, sure: bool) -> Outcome {
+    let v = ratio_of(a.value);
+    let met = is_reached(b, v);
     let reached = met || !sure;
     Outcome {
-        agrees: reached && !is_above(b, v.p, q),
-        met: met,
+        agrees: reached && !is_above(b, v),
+        met,
     }
 }
 
 // More is to be had farther out.
-fn rises(m: Model, n: usize, b: Best) -> bool
+fn rises(m: Model, n: usize, b: Option<Ratio>) -> bool
     requires { n ≤ 15 }
 {
-    b.found && is_above(best_within(m, n, FARTHER), b.p, b.q)
+    b.is_some_and(|v| is_above(best_within(m, n, FARTHER), v))
 }
 
 fn unmet(agrees: bool) -> Outcome {
@@ -56,10 +51,9 @@ pub fn outcome_beside(m: Model, n: usize, a: Answer, sure: bool) -> Outcome
     requires { n ≤ 15 }
 {
     let b = best_within(m, n, REACH);
-    let k = a.kind;
-    match k {
+    match a.kind {
         Kind::Optimal => best_outcome(a, b, sure),
-        Kind::Infeasible => unmet(!b.found),
+        Kind::Infeasible => unmet(b.is_none()),
         Kind::Unbounded => unmet(rises(m, n, b)),
         Kind::Refused(_) => unmet(false),
     }

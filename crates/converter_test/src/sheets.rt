@@ -4,9 +4,9 @@ ghost use Rattle.std.specs.Prelude.{◌≡◌, ◌≤◌, length};
 
 use crate::blanks::{is_blank, with_weightless};
 use converter::convert;
+use knapsack::Refusal;
 use model::Model;
-use text::Listed;
-use trials::bytes::{first, same_from};
+use trials::bytes::first;
 use trials::count::one_more;
 use writer::write_sheet;
 
@@ -24,7 +24,7 @@ pub struct Sheet {
 #[derive(Clone, Copy)]
 pub struct Kept {
     pub bytes: [u8; ROOM],
-    pub told: Listed,
+    pub told: Result<usize, Refusal>,
 }
 
 fn hashes() -> [u8; ROOM]
@@ -37,59 +37,41 @@ fn hashes() -> [u8; ROOM]
 
 fn with_prices(m: Model) -> Model {
     let mut p = m;
-    let mut k: usize = 0;
-    while k < 16 {
-        let x = p.items[k];
-        if is_blank(x) {
+    for k in 0..16 {
+        if is_blank(m.items[k]) {
             p = with_weightless(p, k, 1);
         }
-        k += 1;
     }
     p
 }
 
 // Whether a line is that of a blank item.
 fn is_blank_line(m: Model, line: u64) -> bool {
-    if line < 4 {
-        return false;
-    }
-    if 19 < line {
+    if line < 4 || 19 < line {
         return false;
     }
     let k = line as usize - 4;
-    let x = m.items[k];
-    k < m.count && is_blank(x)
+    k < m.count && is_blank(m.items[k])
 }
 
 // The byte before a place becomes 0, if it is to.
 fn put_zero_before(out: &mut [u8], at: usize, due: bool) {
-    if !due {
-        return;
-    }
-    if at == 0 {
-        return;
-    }
-    if at <= out.len() {
+    if due && 0 < at && at <= out.len() {
         out[at - 1] = b'0';
     }
 }
 
 fn put_blank_prices(out: &mut [u8], m: Model) {
     let mut line: u64 = 1;
-    let mut i: usize = 0;
-    while i < out.len() {
+    for i in 0..out.len() {
         let ends = out[i] == b'\n';
         put_zero_before(out, i, ends && is_blank_line(m, line));
         line = one_more(line, ends);
-        i += 1;
     }
 }
 
-pub fn length_of(told: Listed) -> usize {
-    match told {
-        Listed::Written(n) => n,
-        Listed::Refused(_) => 0,
-    }
+pub fn length_of(told: Result<usize, Refusal>) -> usize {
+    told.unwrap_or(0)
 }
 
 pub fn sheet_of(m: Model) -> Sheet {
@@ -104,7 +86,7 @@ pub fn sheet_of(m: Model) -> Sheet {
 
 // ---- the converter's reply
 
-fn convert_in_part(s: &[u8], out: &mut [u8], size: usize) -> Listed {
+fn convert_in_part(s: &[u8], out: &mut [u8], size: usize) -> Result<usize, Refusal> {
     if out.len() < size {
         return convert(s, out);
     }
@@ -113,62 +95,39 @@ fn convert_in_part(s: &[u8], out: &mut [u8], size: usize) -> Listed {
 
 // The first n bytes of a sheet, converted into so many bytes.
 pub fn converted(s: Sheet, n: usize, size: usize) -> Kept {
-    let sheet = s.bytes;
     let mut bytes = hashes();
-    let told = convert_in_part(first(&sheet, n), &mut bytes, size);
-    Kept {
-        bytes: bytes,
-        told: told,
-    }
+    let told = convert_in_part(first(&s.bytes, n), &mut bytes, size);
+    Kept { bytes, told }
 }
 
 // ---- comparing
 
-fn same_bytes(k: Kept, o: Kept) -> bool {
-    let a = k.bytes;
-    let b = o.bytes;
-    same_from(&a, &b, 0)
-}
-
 // From a place on nothing was written.
 fn untouched(k: Kept, from: usize) -> bool {
-    let a = k.bytes;
-    let b = hashes();
-    same_from(&a, &b, from)
+    k.bytes.iter().skip(from).all(|b| *b == b'#')
 }
 
 fn is_written(k: Kept, n: usize) -> bool {
-    let t = k.told;
-    match t {
-        Listed::Written(l) => l == n,
-        Listed::Refused(_) => false,
-    }
+    k.told == Ok(n)
 }
 
 // Refused so, and nothing is written.
 pub fn is_refused(k: Kept, number: u64, line: u64) -> bool {
-    let t = k.told;
-    match t {
-        Listed::Written(_) => false,
-        Listed::Refused(f) => f.number == number && f.line == line && untouched(k, 0),
-    }
+    k.told == Err(Refusal { number, line }) && untouched(k, 0)
 }
 
 // The sheet itself stands there, byte by byte, and '#' behind it.
 pub fn is_same(s: Sheet, k: Kept) -> bool {
-    let a = s.bytes;
-    let b = k.bytes;
-    is_written(k, s.len) && same_from(&a, &b, 0)
+    is_written(k, s.len) && s.bytes == k.bytes
 }
 
 // A sheet that is written into a buffer of all bytes leaves those behind it; just its length is enough, and a byte less is refusal 11.
 pub fn fits(s: Sheet, k: Kept) -> bool {
-    let t = k.told;
-    let n = length_of(t);
+    let n = length_of(k.told);
     if n == 0 {
         return false;
     }
     let exact = converted(s, s.len, n);
     let short = converted(s, s.len, n - 1);
-    untouched(k, n) && is_written(exact, n) && same_bytes(k, exact) && is_refused(short, 11, 0)
+    untouched(k, n) && is_written(exact, n) && k.bytes == exact.bytes && is_refused(short, 11, 0)
 }

@@ -11,6 +11,7 @@
 -- equal-discard: without an equal-value pair's steps it is feasible, with the same weight and value.
 -- equal-first: and comes first, if the step of the first of the two items is above zero.
 -- first-once: no two points come before each other.
+use Rattle.std.specs.Prelude.{Some}
 use mathlib.Core.Path.{◌≡◌, refl, sym, ap, ◌∙◌, subst₂}
 use mathlib.Core.Bool.{Bool, true, false}
 use mathlib.Core.List.{List}
@@ -31,14 +32,13 @@ use Rattle.knapsack.specs.declared.Item.{Item}
 use Rattle.knapsack.specs.declared.Problem.{Problem}
 use Rattle.knapsack.specs.Ranges.{item_at}
 use Rattle.model.specs.declared.Need.{Need}
-use Rattle.model.specs.Needs.{Every, KeepsNeed, FeasibleNeeds, OptimalNeeds}
+use Rattle.model.specs.Needs.{Every, KeepsNeed, OptimalNeeds}
 use Rattle.model.specs.Records.{FiguresInRange}
 use Rattle.knapsack.specs.Meaning.{Instance, instance_of, Point, Keeps, weights, prices, value, Feasible, CostPair, EqualPair}
 use Rattle.knapsack.proofs.Common.{Keepsᴰ, weighsᴰ, valueᴰ, Feasibleᴰ}
 use Rattle.knapsack.proofs.Bridge.{over-lower, over-upper, Reads, bridge-feasible}
 use Rattle.knapsack.proofs.Dual.{Within}
 use Rattle.knapsack.proofs.Moves.{shift, sum-shift, keeps-shift}
-use Rattle.domination.specs.declared.Pair.TheVariants.{Steps}
 use Rattle.domination.specs.Pairs.{is_named, tabled}
 use Rattle.domination.proofs.Entry.{tabled-steps}
 
@@ -172,7 +172,7 @@ module _ (s : Instance) (x : Point) (i j : ℕ) (r t : ℤ) (l : i < s.count) (m
 
 -- End theorem: an entry of the table discards, whatever needs there are whose items are marked.
 pub tabled-not-optimal : (p : Problem) → FiguresInRange p → (named : List Bool) (ns : List Need) → MarkedIn named ns
-    → (i j : ℕ) (r t : ℤ) → tabled p named i j ≡ Steps r t → (x : Point) → Keeps (item_at p i) (x i +ᶠ int (neg_ℤ r)) → Keeps (item_at p j) (x j +ᶠ int (neg_ℤ t))
+    → (i j : ℕ) (r t : ℤ) → tabled p named i j ≡ Some (r, t) → (x : Point) → Keeps (item_at p i) (x i +ᶠ int (neg_ℤ r)) → Keeps (item_at p j) (x j +ᶠ int (neg_ℤ t))
     → ¬ OptimalNeeds (instance_of p) ns x
 tabled-not-optimal p range named ns marks i j r t e x ki kj =
     let a = tabled-steps r t p range named i j e in

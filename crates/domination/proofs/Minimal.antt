@@ -4,7 +4,7 @@
 --   Outcome x y q     what 01 says of q as the least pair of x and y
 -- ways: a cost pair is a trade of one of the items for the other.
 -- pair-outcome: pair_of is 01's least pair.
--- pair-steps, pair-missing: and it gives steps exactly if they are the least pair, Missing exactly if there is no cost pair.
+-- pair-steps, pair-missing: and it gives steps exactly if they are the least pair, None exactly if there is no cost pair.
 -- same-signs, theorem-3-2: document 000's theorem 3.2 for eligible items.
 use mathlib.Core.Path.{◌≡◌, refl, sym, ap, ap₂, ◌∙◌, subst}
 use mathlib.Core.Bool.{Bool, true, false, cond}
@@ -18,12 +18,9 @@ use borrow.Author.Tests.{ltb-true, lt-ltb}
 use Rattle.arith.specs.Gcd.{signed}
 use Rattle.arith.proofs.Integers.{split, split2, zed, ≤ℤ-trans, nat_abs-neg}
 use Rattle.arith.proofs.Parts.{zs, sum, prod}
-use Rattle.knapsack.specs.declared.Bound.{Bound}
-use Rattle.knapsack.specs.declared.Bound.TheVariants.{Absent, At}
+use Rattle.std.specs.Prelude.{Option, None, Some}
 use Rattle.knapsack.specs.declared.Item.{Item}
 use Rattle.knapsack.specs.Meaning.{StepFits, TwoSteps, CostPair, LeastPair, NoPair}
-use Rattle.domination.specs.declared.Pair.{Pair}
-use Rattle.domination.specs.declared.Pair.TheVariants.{Missing, Steps}
 use Rattle.domination.specs.Trades.{Trade}
 use Rattle.domination.specs.Eligible.{Eligible}
 use Rattle.domination.specs.Pairs.{room_for, less_efficient, giving, taking, one_way, swapped, pair_of}
@@ -132,16 +129,16 @@ fill a b c d r t x =
 
 -- ---- room
 
-room-for : (l u : Bound) (n : ℕ) (r : ℤ) → nat_abs r ≡ n → room_for l u n ≡ true → StepFits l u r
-room-for Absent u n r e h = tt
-room-for (At l) Absent n r e h = tt
-room-for (At l) (At u) n r e h = rw e (le_z_yes (rw h tt))
+room-for : (l u : Option ℤ) (n : ℕ) (r : ℤ) → nat_abs r ≡ n → room_for l u n ≡ true → StepFits l u r
+room-for None u n r e h = tt
+room-for (Some l) None n r e h = tt
+room-for (Some l) (Some u) n r e h = rw e (le_z_yes (rw h tt))
 
 -- where a step has room, a lesser one has
-room-less : (l u : Bound) (n : ℕ) (r : ℤ) → n ≤ nat_abs r → StepFits l u r → room_for l u n ≡ true
-room-less Absent u n r e h = refl
-room-less (At l) Absent n r e h = refl
-room-less (At l) (At u) n r e h = test-le (pos n) (u -ℤ l) (≤ℤ-trans (le_z_yes {a = pos n} {b = pos (nat_abs r)} (le→leb n (nat_abs r) e)) h)
+room-less : (l u : Option ℤ) (n : ℕ) (r : ℤ) → n ≤ nat_abs r → StepFits l u r → room_for l u n ≡ true
+room-less None u n r e h = refl
+room-less (Some l) None n r e h = refl
+room-less (Some l) (Some u) n r e h = test-le (pos n) (u -ℤ l) (≤ℤ-trans (le_z_yes {a = pos n} {b = pos (nat_abs r)} (le→leb n (nat_abs r) e)) h)
 
 -- ---- two eligible items
 
@@ -161,13 +158,13 @@ cost-swap {x} {y} {r} {s} h = record {
 least-swap : {x y : Item} {r s : ℤ} → LeastPair x y r s → LeastPair y x s r
 least-swap m = record { pair = cost-swap m.pair; least = λ r' s' h. let k = m.least s' r' (cost-swap h) in (k.1, k.0) }
 
-abbrev pub Outcome : Item → Item → Pair → Type 0
-Outcome x y Missing = NoPair x y
-Outcome x y (Steps r s) = LeastPair x y r s
+abbrev pub Outcome : Item → Item → Option (ℤ × ℤ) → Type 0
+Outcome x y None = NoPair x y
+Outcome x y (Some (r, s)) = LeastPair x y r s
 
-outcome-swap : (x y : Item) (q : Pair) → Outcome y x q → Outcome x y (swapped q)
-outcome-swap x y Missing h = λ r s d. h s r (cost-swap d)
-outcome-swap x y (Steps r s) h = least-swap h
+outcome-swap : (x y : Item) (q : Option (ℤ × ℤ)) → Outcome y x q → Outcome x y (swapped q)
+outcome-swap x y None h = λ r s d. h s r (cost-swap d)
+outcome-swap x y (Some (r, s)) h = least-swap h
 
 abbrev TradeOf : Item → Item → ℕ → ℕ → Type 0
 TradeOf x y = Trade (nat_abs x.weight) (nat_abs y.weight) (nat_abs x.price) (nat_abs y.price)
@@ -273,7 +270,7 @@ module _ (x y : Item) (ex : Eligible x) (ey : Eligible y) where
     one-way-outcome = go (room_for x.lower x.upper (giving x y)) (room_for y.lower y.upper (taking x y)) refl refl
       where
         go : (p q : Bool) → room_for x.lower x.upper (giving x y) ≡ p → room_for y.lower y.upper (taking x y) ≡ q →
-            Outcome x y (cond p (cond q (Steps first second) Missing) Missing)
+            Outcome x y (cond p (cond q (Some (first, second)) None) None)
         go true true e f = meets e f
         go true false e f = no-second-room f
         go false q e f = no-first-room e
@@ -290,7 +287,7 @@ pub pair-outcome : (x y : Item) → Eligible x → Eligible y → Outcome x y (p
 unfolding pair_of
 pair-outcome x y ex ey = go (less_efficient x y) (less_efficient y x) refl refl
   where
-    go : (p q : Bool) → less_efficient x y ≡ p → less_efficient y x ≡ q → Outcome x y (cond p (one_way x y) (cond q (swapped (one_way y x)) Missing))
+    go : (p q : Bool) → less_efficient x y ≡ p → less_efficient y x ≡ q → Outcome x y (cond p (one_way x y) (cond q (swapped (one_way y x)) None))
     go true q e f = one-way-outcome x y ex ey e
     go false true e f = outcome-swap x y (one_way y x) (one-way-outcome y x ey ex f)
     go false false e f = no-direction x y ex ey e f
@@ -349,27 +346,27 @@ module _ (x y : Item) (ex : Eligible x) (ey : Eligible y) where
         same_size s s' g.1 (omega (arith, m.least r' s' n.pair, n.least r s m.pair)),
       )
 
-  outcome-steps : (q : Pair) → Outcome x y q → (r s : ℤ) → LeastPair x y r s → q ≡ Steps r s
-  outcome-steps Missing o r s m = absurd (o r s m.pair)
-  outcome-steps (Steps r s) o r' s' m = let g = least-unique r s r' s' o m in ap₂ Steps g.0 g.1
+  outcome-steps : (q : Option (ℤ × ℤ)) → Outcome x y q → (r s : ℤ) → LeastPair x y r s → q ≡ Some (r, s)
+  outcome-steps None o r s m = absurd (o r s m.pair)
+  outcome-steps (Some (r, s)) o r' s' m = let g = least-unique r s r' s' o m in ap₂ (λ r s. Some (r, s)) g.0 g.1
 
-  outcome-missing : (q : Pair) → Outcome x y q → NoPair x y → q ≡ Missing
-  outcome-missing Missing o n = refl
-  outcome-missing (Steps r s) o n = absurd (n r s o.pair)
+  outcome-missing : (q : Option (ℤ × ℤ)) → Outcome x y q → NoPair x y → q ≡ None
+  outcome-missing None o n = refl
+  outcome-missing (Some (r, s)) o n = absurd (n r s o.pair)
 
-  pub pair-steps : (r s : ℤ) → (pair_of x y ≡ Steps r s) ↔ LeastPair x y r s
+  pub pair-steps : (r s : ℤ) → (pair_of x y ≡ Some (r, s)) ↔ LeastPair x y r s
   pair-steps r s = (λ e. subst (Outcome x y) e (pair-outcome x y ex ey), outcome-steps (pair_of x y) (pair-outcome x y ex ey) r s)
 
-  pub pair-missing : (pair_of x y ≡ Missing) ↔ NoPair x y
+  pub pair-missing : (pair_of x y ≡ None) ↔ NoPair x y
   pair-missing = (λ e. subst (Outcome x y) e (pair-outcome x y ex ey), outcome-missing (pair_of x y) (pair-outcome x y ex ey))
 
   -- there is no cost pair, or some steps have both the least |r| and the least |s|, and all others their signs; not both
   pub theorem-3-2 : NoPair x y ⊎ ((r : ℤ) × (s : ℤ) × Leads x y r s)
   theorem-3-2 = go (pair_of x y) (pair-outcome x y ex ey)
     where
-      go : (q : Pair) → Outcome x y q → NoPair x y ⊎ ((r : ℤ) × (s : ℤ) × Leads x y r s)
-      go Missing o = inl o
-      go (Steps r s) o = inr (r, s, record { minimal = o; signs-kept = λ r' s' h. same-signs r s r' s' o.pair h })
+      go : (q : Option (ℤ × ℤ)) → Outcome x y q → NoPair x y ⊎ ((r : ℤ) × (s : ℤ) × Leads x y r s)
+      go None o = inl o
+      go (Some (r, s)) o = inr (r, s, record { minimal = o; signs-kept = λ r' s' h. same-signs r s r' s' o.pair h })
 
   pub theorem-3-2-one : (r s : ℤ) → NoPair x y → Leads x y r s → ⊥
   theorem-3-2-one r s n l = n r s l.minimal.pair

@@ -1,11 +1,13 @@
 -- Paper 01's rows L and M: the definition computed, and what that means.
+use Rattle.std.specs.Prelude.{None}
+use Rattle.std.specs.Prelude.{Ok}
 use mathlib.Core.Path.{◌≡◌, refl}
 use mathlib.Core.List.{◌∷◌}
 use Prim.Native.Nat.{ℕ}
 use lib.IntN.{pos, negsuc}
 use lib.ListN.{replicate}
 use Rattle.arith.specs.Gcd.{signed}
-use Rattle.knapsack.specs.declared.Bound.TheVariants.{At}
+use Rattle.std.specs.Prelude.{Some}
 use Rattle.knapsack.specs.declared.Mark.TheVariants.{Integer}
 use Rattle.knapsack.specs.declared.Item.{Item}
 use Rattle.model.specs.Needs.{no_needs}
@@ -15,8 +17,6 @@ use Rattle.model.specs.declared.ModelItem.{ModelItem}
 use Rattle.model.specs.declared.Sense.{Sense}
 use Rattle.model.specs.declared.Sense.TheVariants.{Sure, Possible}
 use Rattle.knapsack.specs.Meaning.{LeastPair, NoPair}
-use Rattle.domination.specs.declared.Pair.TheVariants.{Missing, Steps}
-use Rattle.domination.specs.declared.PairReply.TheVariants.{Found}
 use Rattle.domination.specs.Trades.{serving, least_give}
 use Rattle.domination.specs.Pairs.{one_way, pair_of, paired, numbered, least_pair}
 use Rattle.domination.proofs.Minimal.{pair-steps, pair-missing}
@@ -24,7 +24,7 @@ use Rattle.domination.proofs.Eligible.{eligible-iff}
 
 -- an integer item with lower bound 0
 abbrev pub item : ℕ → ℕ → ℕ → Item
-item a c u = record { mark = Integer; weight = pos a; price = pos c; lower = At (pos 0); upper = At (pos u) }
+item a c u = record { mark = Integer; weight = pos a; price = pos c; lower = Some (pos 0); upper = Some (pos u) }
 
 -- with one weight, low and high
 abbrev weighed : Item → ModelItem
@@ -34,21 +34,21 @@ weighed i = record { mark = i.mark; low = i.weight; high = i.weight; price = i.p
 abbrev pub row_f : ℕ → Model
 row_f u = record { items = weighed (item 3 5 u) ∷ weighed (item 4 6 10) ∷ replicate 14 no_item; count = 2; capacity = pos 10; needs = no_needs }
 
-pub row-L : (sense : Sense) → least_pair sense (row_f 10) 1 2 ≡ Found (Steps (negsuc 3) (pos 3))
+pub row-L : (sense : Sense) → least_pair sense (row_f 10) 1 2 ≡ Ok (Some (negsuc 3, pos 3))
 unfolding items_in some_item needs_verdict verdict_by signed serving least_give one_way pair_of paired numbered least_pair
 row-L Sure = refl
 row-L Possible = refl
 
-pub row-M : (sense : Sense) → least_pair sense (row_f 3) 1 2 ≡ Found Missing
+pub row-M : (sense : Sense) → least_pair sense (row_f 3) 1 2 ≡ Ok None
 unfolding items_in some_item needs_verdict verdict_by signed serving least_give one_way pair_of paired numbered least_pair
 row-M Sure = refl
 row-M Possible = refl
 
-pair-L : pair_of (item 3 5 10) (item 4 6 10) ≡ Steps (negsuc 3) (pos 3)
+pair-L : pair_of (item 3 5 10) (item 4 6 10) ≡ Some (negsuc 3, pos 3)
 unfolding signed serving least_give one_way pair_of
 pair-L = refl
 
-pair-M : pair_of (item 3 5 3) (item 4 6 10) ≡ Missing
+pair-M : pair_of (item 3 5 3) (item 4 6 10) ≡ None
 unfolding signed serving least_give one_way pair_of
 pair-M = refl
 

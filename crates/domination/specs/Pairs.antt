@@ -6,7 +6,7 @@
 --   steps x y r t        steps with their signs
 --   one_way x y           those least steps with their signs, if both items have room for them
 --   swapped q            the pair of the items in the other order
---   pair_of x y           the least pair of two eligible items, or Missing (01's none)
+--   pair_of x y           the least pair of two eligible items, or None (01's none)
 --   is_integer, one_sign, eligible   the tests of row 10
 --   Fit x, Traded x y    what the code asks of items
 --   refuse_pair n         refusal n
@@ -16,37 +16,33 @@
 --   least_pair sense m i j   the reply for items i and j, from 1, by their weights in that sense: a refusal of the record, 9, 10, or a pair
 --   or_missing q          the pair of a reply
 --   is_named named k      a need names the item at place k, from 0;  barred named i j: one of two items
---   tabled p named i j   the table's entry for places i and j, from 0, of a plain problem: Missing where a need names one of the items, or 9 or 10 is due
-use Rattle.std.specs.Prelude.{◌≡◌, Bool, true, false, cond, List, ℕ, ◌+◌, ◌*◌, ◌-◌, ltb, eqb, ℤ, pos, neg_ℤ, nat_abs, ◌-ℤ◌, get_or}
+--   tabled p named i j   the table's entry for places i and j, from 0, of a plain problem: None where a need names one of the items, or 9 or 10 is due
+use Rattle.std.specs.Prelude.{Result, Ok, Err, ◌≡◌, Bool, true, false, cond, List, ℕ, ◌+◌, ◌*◌, ◌-◌, ltb, ℤ, pos, neg_ℤ, nat_abs, ◌-ℤ◌, get_or}
+use Rattle.knapsack.specs.declared.Refusal.{Refusal}
 use Rattle.std.specs.Int.Signed.{le_z, lt_z}
 use Rattle.arith.specs.Gcd.{signed}
-use Rattle.knapsack.specs.declared.Bound.{Bound}
-use Rattle.knapsack.specs.declared.Bound.TheVariants.{Absent, At}
+use Rattle.std.specs.Prelude.{Option, None, Some}
 use Rattle.knapsack.specs.declared.Mark.{Mark}
 use Rattle.knapsack.specs.declared.Mark.TheVariants.{Integer, Continuous}
 use Rattle.knapsack.specs.declared.Item.{Item}
 use Rattle.knapsack.specs.declared.Problem.{Problem}
-use Rattle.knapsack.specs.declared.Verdict.{Verdict}
-use Rattle.knapsack.specs.declared.Verdict.TheVariants.{Accepted, Refused as Rejected}
+use Rattle.knapsack.specs.Verdicts.{Verdict}
 use Rattle.knapsack.specs.Ranges.{item_at}
-use Rattle.model.specs.Records.{plain_of, wrong_numbers, refusal_of, verdict, ItemFigures}
-use Rattle.model.specs.Refusals as refusal
+use Rattle.model.specs.Records.{plain_of, wrong_numbers, refusal_for, verdict, ItemFigures}
+use Rattle.model.specs.declared.refusals.Reason.{Reason}
+use Rattle.model.specs.declared.refusals.Reason.TheVariants as refusal
 use Rattle.model.specs.declared.Model.{Model}
 use Rattle.model.specs.declared.Sense.{Sense}
-use Rattle.domination.specs.declared.Pair.{Pair}
-use Rattle.domination.specs.declared.Pair.TheVariants.{Missing, Steps}
-use Rattle.domination.specs.declared.PairReply.{PairReply}
-use Rattle.domination.specs.declared.PairReply.TheVariants.{Refused, Found}
 use Rattle.domination.specs.declared.trade.Size.{Size}
 use Rattle.domination.specs.declared.trade.Trade.{Trade}
 use Rattle.domination.specs.Eligible.{Eligible}
 use Rattle.domination.specs.Trades.{partner, least_give}
 
 -- whether there is room for n steps
-abbrev pub room_for : Bound → Bound → ℕ → Bool
-room_for Absent u n = true
-room_for (At l) Absent n = true
-room_for (At l) (At u) n = le_z (pos n) (u -ℤ l)
+abbrev pub room_for : Option ℤ → Option ℤ → ℕ → Bool
+room_for None u n = true
+room_for (Some l) None n = true
+room_for (Some l) (Some u) n = le_z (pos n) (u -ℤ l)
 
 -- weight and price without sign
 abbrev pub size_of : Item → Size
@@ -66,21 +62,21 @@ abbrev pub trade_of : Item → Item → Trade
 trade_of x y = record { give = giving x y; take = taking x y }
 
 -- the less efficient item's step has its weight's sign, the other's the opposite
-abbrev pub steps : Item → Item → ℕ → ℕ → Pair
-steps x y r t = Steps (signed x.weight r) (neg_ℤ (signed y.weight t))
+abbrev pub steps : Item → Item → ℕ → ℕ → Option (ℤ × ℤ)
+steps x y r t = Some (signed x.weight r, neg_ℤ (signed y.weight t))
 
-unfoldable pub one_way : Item → Item → Pair
+unfoldable pub one_way : Item → Item → Option (ℤ × ℤ)
 one_way x y =
     cond (room_for x.lower x.upper (giving x y))
-    (cond (room_for y.lower y.upper (taking x y)) (steps x y (giving x y) (taking x y)) Missing)
-    Missing
+    (cond (room_for y.lower y.upper (taking x y)) (steps x y (giving x y) (taking x y)) None)
+    None
 
-abbrev pub swapped : Pair → Pair
-swapped Missing = Missing
-swapped (Steps r s) = Steps s r
+abbrev pub swapped : Option (ℤ × ℤ) → Option (ℤ × ℤ)
+swapped None = None
+swapped (Some (r, s)) = Some (s, r)
 
-unfoldable pub pair_of : Item → Item → Pair
-pair_of x y = cond (less_efficient x y) (one_way x y) (cond (less_efficient y x) (swapped (one_way y x)) Missing)
+unfoldable pub pair_of : Item → Item → Option (ℤ × ℤ)
+pair_of x y = cond (less_efficient x y) (one_way x y) (cond (less_efficient y x) (swapped (one_way y x)) None)
 
 abbrev pub is_integer : Mark → Bool
 is_integer Integer = true
@@ -102,30 +98,30 @@ pub record Traded (x y : Item) : Type 0 where
   pub second-fit : Fit y
   pub direction : less_efficient x y ≡ true
 
-abbrev pub refuse_pair : ℕ → PairReply
-refuse_pair n = Refused (refusal_of n)
+abbrev pub refuse_pair : Reason → Result (Option (ℤ × ℤ)) Refusal
+refuse_pair n = Err (refusal_for n)
 
 -- row 10 of the refusals
-unfoldable pub paired : Item → Item → PairReply
-paired x y = cond (eligible x) (cond (eligible y) (Found (pair_of x y)) (refuse_pair refusal.pair-items)) (refuse_pair refusal.pair-items)
+unfoldable pub paired : Item → Item → Result (Option (ℤ × ℤ)) Refusal
+paired x y = cond (eligible x) (cond (eligible y) (Ok (pair_of x y)) (refuse_pair refusal.PairItems)) (refuse_pair refusal.PairItems)
 
 -- rows 9 and 10, on an accepted problem
-abbrev pub placed : ℕ → Item → Item → ℕ → ℕ → PairReply
-placed n x y i j = cond (wrong_numbers n i j) (refuse_pair refusal.pair-numbers) (paired x y)
+abbrev pub placed : ℕ → Item → Item → ℕ → ℕ → Result (Option (ℤ × ℤ)) Refusal
+placed n x y i j = cond (wrong_numbers n i j) (refuse_pair refusal.PairNumbers) (paired x y)
 
-unfoldable pub numbered : Problem → ℕ → ℕ → PairReply
+unfoldable pub numbered : Problem → ℕ → ℕ → Result (Option (ℤ × ℤ)) Refusal
 numbered p i j = placed p.count (item_at p (i - 1)) (item_at p (j - 1)) i j
 
-abbrev pub after : Verdict → PairReply → PairReply
-after Accepted q = q
-after (Rejected f) q = Refused f
+abbrev pub after : Verdict → Result (Option (ℤ × ℤ)) Refusal → Result (Option (ℤ × ℤ)) Refusal
+after (Ok _) q = q
+after (Err f) q = Err f
 
-unfoldable pub least_pair : Sense → Model → ℕ → ℕ → PairReply
+unfoldable pub least_pair : Sense → Model → ℕ → ℕ → Result (Option (ℤ × ℤ)) Refusal
 least_pair sense m i j = after (verdict m) (numbered (plain_of sense m) i j)
 
-abbrev pub or_missing : PairReply → Pair
-or_missing (Refused f) = Missing
-or_missing (Found q) = q
+abbrev pub or_missing : Result (Option (ℤ × ℤ)) Refusal → Option (ℤ × ℤ)
+or_missing (Err f) = None
+or_missing (Ok q) = q
 
 abbrev pub is_named : List Bool → ℕ → Bool
 is_named named k = get_or named k false
@@ -133,5 +129,5 @@ is_named named k = get_or named k false
 abbrev pub barred : List Bool → ℕ → ℕ → Bool
 barred named i j = cond (is_named named i) true (is_named named j)
 
-abbrev pub tabled : Problem → List Bool → ℕ → ℕ → Pair
-tabled p named i j = cond (barred named i j) Missing (or_missing (numbered p (i + 1) (j + 1)))
+abbrev pub tabled : Problem → List Bool → ℕ → ℕ → Option (ℤ × ℤ)
+tabled p named i j = cond (barred named i j) None (or_missing (numbered p (i + 1) (j + 1)))

@@ -34,8 +34,7 @@ fn does_serve(a: u64, b: u64, c: u64, d: u64, r: u64) -> bool
     requires { Sizes a b c d × (r ≤ 1000) }
     ensures { result ≡ serves a b c d r }
 {
-    let t = partner_of(c, d, r);
-    b * t <= a * r
+    b * partner_of(c, d, r) <= a * r
 }
 
 // The least number of units that serves. b does (see proofs/Trades, last-serves), so that it need not be asked: 999 turns at most.
@@ -43,25 +42,21 @@ fn least_give(a: u64, b: u64, c: u64, d: u64) -> u64
     requires { Sizes a b c d }
     ensures { result ≡ least_give a b c d }
 {
-    let mut r: u64 = 1;
-    while r < b {
+    for r in 1..b {
         if does_serve(a, b, c, d, r) {
             return r;
         }
-        r += 1;
     }
-    r
+    b
 }
 
 fn size_of(x: Item) -> Size
     requires { ItemFigures x }
     ensures { result ≡ size_of x }
 {
-    let weight = magnitude(x.weight);
-    let price = magnitude(x.price);
     Size {
-        weight: weight,
-        price: price,
+        weight: magnitude(x.weight),
+        price: magnitude(x.price),
     }
 }
 
@@ -82,9 +77,8 @@ pub fn trade_of(x: Item, y: Item) -> Trade
     let s = size_of(x);
     let t = size_of(y);
     let give = least_give(s.weight, t.weight, s.price, t.price);
-    let take = partner_of(s.price, t.price, give);
     Trade {
-        give: give,
-        take: take,
+        give,
+        take: partner_of(s.price, t.price, give),
     }
 }

@@ -6,8 +6,8 @@
 
 ghost use Rattle.std.specs.Prelude.{◌≤◌, ◌<◌};
 
-use domination::{Pair, PairReply, least_pair, pair_table};
-use knapsack::Verdict;
+use domination::{least_pair, pair_table};
+use knapsack::Refusal;
 use model::setters::with_needs;
 use model::{Model, Sense, check_model, plain_of};
 use trials::make::record_of;
@@ -31,21 +31,19 @@ fn read_problem(s: &[u8], from: usize) -> ProblemRead
     let count = read_number(s, given.at);
     let capacity = read_number(s, count.at);
     let i = read_items(s, capacity.at, given.size);
-    let list = i.list;
     let a = read_needs(s, i.at);
-    let needs = a.needs;
-    let p = with_needs(record_of(capacity.value, count.size as usize, list), needs);
+    let p = record_of(capacity.value, count.size as usize, i.list);
     ProblemRead {
-        problem: p,
+        problem: with_needs(p, a.needs),
         lines: places(given.size),
         at: a.at,
     }
 }
 
-fn print_pair(q: Pair) {
+fn print_pair(q: Option<(i64, i64)>) {
     match q {
-        Pair::Missing => print(b"none"),
-        Pair::Steps(r, s) => {
+        None => print(b"none"),
+        Some((r, s)) => {
             print_signed(r);
             print(b",");
             print_signed(s);
@@ -53,72 +51,57 @@ fn print_pair(q: Pair) {
     }
 }
 
-fn print_reply(q: PairReply) {
+fn print_reply(q: Result<Option<(i64, i64)>, Refusal>) {
     match q {
-        PairReply::Refused(f) => {
+        Err(f) => {
             print(b"!");
             print_number(f.number);
         }
-        PairReply::Found(s) => print_pair(s),
+        Ok(s) => print_pair(s),
     }
 }
 
 fn print_replies(p: Model, i: usize, lines: usize)
     requires { lines ≤ 16 }
 {
-    let mut j: usize = 0;
-    while j < lines + 2 {
-        let q = least_pair(p, Sense::Sure, i, j);
-        print_reply(q);
+    for j in 0..lines + 2 {
+        print_reply(least_pair(p, Sense::Sure, i, j));
         print(b" ");
-        j += 1;
     }
 }
 
 // With the item number k.
 fn with_named(named: [bool; 16], k: usize) -> [bool; 16] {
     let mut r = named;
-    if 0 < k {
-        if k <= 16 {
-            r[k - 1] = true;
-        }
+    if 0 < k && k <= 16 {
+        r[k - 1] = true;
     }
     r
 }
 
 // The items that the needs of a record name.
 fn named_by(m: Model) -> [bool; 16] {
-    let ns = m.needs;
     let mut named = [false; 16];
-    let mut i: usize = 0;
-    while i < 16 {
-        let n = ns.lines[i];
-        if i < ns.count {
-            named = with_named(with_named(named, n.item), n.cover);
-        }
-        i += 1;
+    for n in m.needs.lines.iter().take(m.needs.count) {
+        named = with_named(with_named(named, n.item), n.cover);
     }
     named
 }
 
 // The table of a record; no pairs where it is refused.
-fn table_of(p: Model) -> [Pair; 256] {
-    let v = check_model(p);
-    match v {
-        Verdict::Accepted => pair_table(plain_of(p, Sense::Sure), named_by(p)),
-        Verdict::Refused(_) => [Pair::Missing; 256],
+fn table_of(p: Model) -> [Option<(i64, i64)>; 256] {
+    match check_model(p) {
+        Ok(()) => pair_table(plain_of(p, Sense::Sure), named_by(p)),
+        Err(_) => [None; 256],
     }
 }
 
-fn print_entries(t: [Pair; 256], i: usize, lines: usize)
+fn print_entries(t: [Option<(i64, i64)>; 256], i: usize, lines: usize)
     requires { (i < 16) × (lines ≤ 16) }
 {
-    let mut j: usize = 0;
-    while j < lines {
-        let q = t[16 * i + j];
+    for q in &t[16 * i..16 * i + lines] {
         print(b" ");
-        print_pair(q);
-        j += 1;
+        print_pair(*q);
     }
 }
 
@@ -126,17 +109,13 @@ fn print_problem(p: Model, lines: usize)
     requires { lines ≤ 16 }
 {
     let t = table_of(p);
-    let mut i: usize = 0;
-    while i < lines + 2 {
+    for i in 0..lines + 2 {
         print_replies(p, i, lines);
         print(b"|");
-        if i > 0 {
-            if i <= lines {
-                print_entries(t, i - 1, lines);
-            }
+        if 0 < i && i <= lines {
+            print_entries(t, i - 1, lines);
         }
         print(b"\n");
-        i += 1;
     }
     print(b"\n");
 }
@@ -145,16 +124,13 @@ fn main() {
     let mut buffer = io::buffer();
     let n = io::read_full(STDIN_FILENO, &mut buffer);
     let s = &buffer[..n];
-    let mut at: usize = skip(s, 0);
-    let mut turns: usize = 0;
-    while turns < 100 {
+    let mut at = skip(s, 0);
+    for _ in 0..100 {
         if at >= s.len() {
             return;
         }
         let r = read_problem(s, at);
-        let p = r.problem;
-        print_problem(p, r.lines);
+        print_problem(r.problem, r.lines);
         at = skip(s, r.at);
-        turns += 1;
     }
 }

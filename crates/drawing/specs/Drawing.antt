@@ -20,7 +20,7 @@
 --   drawn_heading s       limit and count after s; and the state after
 --   drawn_problem s       a problem after s, in sheet order: limit, count, items, all lower bounds, all upper bounds; and the state after
 use Rattle.std.specs.Prelude.{ℕ, zero, suc, ◌+◌, ◌*◌, ◌/◌, ◌%◌, ◌^◌, Bool, true, false, cond, ℤ, pos, ◌+ℤ◌, ◌-ℤ◌, neg_ℤ, ◌==◌, bit_xor, unsigned_abs}
-use Rattle.knapsack.specs.declared.Bound.TheVariants.{Absent, At}
+use Rattle.std.specs.Prelude.{None, Some}
 use Rattle.knapsack.specs.declared.Mark.{Mark}
 use Rattle.knapsack.specs.declared.Mark.TheVariants.{Integer, Continuous}
 use Rattle.model.specs.declared.Model.{Model}
@@ -86,8 +86,8 @@ value_at s = around_at s (pos 10000)
 -- ---- a bound, an item
 
 abbrev pub bound_by : Bool → ℕ → DrawnBound
-bound_by true s = record { bound = Absent; state = s }
-bound_by false s = record { bound = At (value_at (next_state s)); state = next_state s }
+bound_by true s = record { bound = None; state = s }
+bound_by false s = record { bound = Some (value_at (next_state s)); state = next_state s }
 
 abbrev pub bound_from : ℕ → DrawnBound
 bound_from s = bound_by (choice_at s (pos 0) (pos 3) == 3) s
@@ -96,7 +96,7 @@ unfoldable pub drawn_bound : ℕ → DrawnBound
 drawn_bound s = bound_from (next_state s)
 
 abbrev pub figures_at : ℕ → ℕ → ℕ → ModelItem
-figures_at a b c = record { mark = mark_at a; low = weight_at b; high = weight_at b; price = price_at c; lower = Absent; upper = Absent }
+figures_at a b c = record { mark = mark_at a; low = weight_at b; high = weight_at b; price = price_at c; lower = None; upper = None }
 
 unfoldable pub drawn_figures : ℕ → DrawnItem
 drawn_figures s = record {

@@ -31,13 +31,13 @@ ghost use Rattle.drawing.specs.Drawing.{
   drawn_problem,
 };
 
-use knapsack::{Bound, Mark};
+use knapsack::Mark;
 use model::{Model, ModelItem, Side, setters};
 
 // A bound, and the state after its draws.
 #[derive(Clone, Copy)]
 struct DrawnBound {
-    bound: Bound,
+    bound: Option<i64>,
     state: u64,
 }
 
@@ -66,6 +66,7 @@ enum Section {
 // ---- a draw
 
 // The state of the next draw.
+#[tactic(auto, unfolding(crate::specs::Drawing::next_state))]
 fn next_state(state: u64) -> u64
     ensures { result ≡ next_state state }
 {
@@ -73,6 +74,7 @@ fn next_state(state: u64) -> u64
 }
 
 // The draw at a state, which stays as it is.
+#[tactic(auto, unfolding(crate::specs::Drawing::draw_at))]
 fn draw(state: u64) -> u64
     ensures { result ≡ draw_at state }
 {
@@ -158,24 +160,26 @@ fn draw_value(state: u64) -> i64
 
 // ---- a bound, an item
 
+#[tactic(auto, unfolding(crate::specs::Drawing::drawn_bound))]
 fn draw_bound(state: u64) -> DrawnBound
     ensures { result ≡ drawn_bound state }
 {
     let first = next_state(state);
     if choice(first, 0, 3) == 3 {
         return DrawnBound {
-            bound: Bound::Absent,
+            bound: None,
             state: first,
         };
     }
     let second = next_state(first);
     DrawnBound {
-        bound: Bound::At(draw_value(second)),
+        bound: Some(draw_value(second)),
         state: second,
     }
 }
 
 // Mark, weight and price as they are drawn; the weight is known: low and high are equal (request 11).
+#[tactic(auto, unfolding(crate::specs::Drawing::drawn_figures))]
 fn draw_figures(state: u64) -> DrawnItem
     ensures { result ≡ drawn_figures state }
 {
@@ -189,33 +193,32 @@ fn draw_figures(state: u64) -> DrawnItem
         low: weight,
         high: weight,
         price: draw_price(c),
-        lower: Bound::Absent,
-        upper: Bound::Absent,
+        lower: None,
+        upper: None,
     };
     DrawnItem { item, state: c }
 }
 
 // A price drawn as 0 beside weight 0 becomes 1, so that no item is blank.
+#[tactic(auto, unfolding(crate::specs::Drawing::mended))]
 fn mend(item: ModelItem) -> ModelItem
     ensures { result ≡ mended item }
 {
     if model::is_blank(item) {
-        let mut i = item;
-        i.price = 1;
-        return i;
+        ModelItem { price: 1, ..item }
+    } else {
+        item
     }
-    item
 }
 
 // An item without bounds as yet.
+#[tactic(auto, unfolding(crate::specs::Drawing::drawn_item))]
 fn draw_item(state: u64) -> DrawnItem
     ensures { result ≡ drawn_item state }
 {
     let d = draw_figures(state);
-    let figures = d.item;
-    let item = mend(figures);
     DrawnItem {
-        item,
+        item: mend(d.item),
         state: d.state,
     }
 }
@@ -225,10 +228,8 @@ fn draw_side(side: Side, item: ModelItem, state: u64) -> DrawnItem
     ensures { result ≡ drawn_side side (drawn_bound state) item }
 {
     let d = draw_bound(state);
-    let bound = d.bound;
-    let bounded = setters::with_side(item, side, bound);
     DrawnItem {
-        item: bounded,
+        item: setters::with_side(item, side, d.bound),
         state: d.state,
     }
 }
@@ -236,6 +237,7 @@ fn draw_side(side: Side, item: ModelItem, state: u64) -> DrawnItem
 // ---- a section, a problem
 
 // What a section draws for an item.
+#[tactic(auto, unfolding(crate::specs::Drawing::drawn_line))]
 fn draw_line(section: Section, item: ModelItem, state: u64) -> DrawnItem
     ensures { result ≡ drawn_line section item state }
 {
@@ -247,17 +249,14 @@ fn draw_line(section: Section, item: ModelItem, state: u64) -> DrawnItem
 }
 
 // The line of the item at place k.
+#[tactic(auto, unfolding(crate::specs::Drawing::with_line))]
 fn with_line(section: Section, d: DrawnProblem, k: usize) -> DrawnProblem
     requires { k < 16 }
     ensures { result ≡ with_line section d k }
 {
-    let m = d.problem;
-    let old = m.items[k];
-    let x = draw_line(section, old, d.state);
-    let item = x.item;
-    let problem = setters::with_item(m, k, item);
+    let x = draw_line(section, d.problem.items[k], d.state);
     DrawnProblem {
-        problem,
+        problem: setters::with_item(d.problem, k, x.item),
         state: x.state,
     }
 }
@@ -266,13 +265,9 @@ fn draw_section(section: Section, d: DrawnProblem) -> DrawnProblem
     requires { d.problem.count ≤ 16 }
     ensures { result ≡ drawn_section section d }
 {
-    let m = d.problem;
-    let n = m.count;
     let mut r = d;
-    let mut k: usize = 0;
-    while k < n {
+    for k in 0..d.problem.count {
         r = with_line(section, r, k);
-        k += 1;
     }
     r
 }
@@ -285,6 +280,7 @@ fn headed(limit: i64, count: usize) -> Model
     setters::with_count(limited, count)
 }
 
+#[tactic(auto, unfolding(crate::specs::Drawing::drawn_heading))]
 fn draw_heading(state: u64) -> DrawnProblem
     ensures { result ≡ drawn_heading state }
 {

@@ -2,17 +2,14 @@
 // drawn behind it is what it was. The stored output was computed by a program that shares no code.
 #![tactic(auto)]
 
-use text::Listed;
 use trials::bytes::first;
 use trials::print::print;
 use writer::write_sheet;
 
 fn print_first(seed: u64) {
     let d = drawing::draw_problem(seed);
-    let m = d.problem;
     let mut out = text::space();
-    let w = write_sheet(m, &mut out);
-    if let Listed::Written(n) = w {
+    if let Ok(n) = write_sheet(d.problem, &mut out) {
         print(first(&out, n));
     }
 }

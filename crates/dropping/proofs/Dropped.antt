@@ -19,7 +19,6 @@ use borrow.Author.Tests.{eqb-false, ne_eqb}
 use lib.Dec.{eqb}
 use lib.ListN.{length, get_or, set, length-set, length-replicate}
 use lib.Seq.{get_or-set_same, get_or-set_other}
-use lib.Signed.{◌≤ℤ◌, ◌<ℤ◌}
 use Rattle.arith.proofs.Parts.{impossible}
 use Rattle.arith.specs.declared.Fraction.{Fraction}
 use Rattle.arith.specs.Sum.{Each}
@@ -27,10 +26,9 @@ use Rattle.knapsack.specs.Meaning.{Instance, instance_of}
 use Rattle.knapsack.specs.Ranges.{item_at as plain_item}
 use Rattle.knapsack.specs.declared.Answer.{Answer}
 use Rattle.knapsack.specs.declared.Kind.{Kind}
-use Rattle.knapsack.specs.declared.Verdict.TheVariants.{Accepted}
+use Rattle.std.specs.Prelude.{Ok}
 use Rattle.model.specs.declared.Blanks.TheVariants as blanks
 use Rattle.model.specs.declared.Model.{Model}
-use Rattle.model.specs.declared.ModelItem.{ModelItem}
 use Rattle.model.specs.declared.Sense.{Sense}
 use Rattle.model.specs.declared.Sense.TheVariants.{Sure}
 use Rattle.model.specs.declared.Need.{Need}
@@ -284,7 +282,7 @@ module _ (m : Model) (a : AdmissibleBy blanks.Kept m) where
     pub dropped-planned : (sense : Sense) (b : Answer) → Planned sense (dropped m) b → Gives (asked sense m) (needs_of m.needs) b.kind b.value
     dropped-planned sense b r =
         let ns = needs_of (dropped m).needs in
-        let e : verdict (dropped m) ≡ Accepted = admitted (dropped m) dropped-admissible in
+        let e : verdict (dropped m) ≡ (Ok tt) = admitted (dropped m) dropped-admissible in
         (dropped-gives sense b.kind b.value).1
         (answers-give (asked sense (dropped m)) ns b (subst (RepliesAs (asked sense (dropped m)) ns b) e r.replies))
 

@@ -18,8 +18,7 @@ use Rattle.arith.specs.Fractions.{Frac, int, ◌·ᶠ◌, ◌≤ᶠ◌, ◌≈�
 use Rattle.arith.specs.Sum.{Each}
 use Rattle.knapsack.specs.Meaning.{Instance, Point, KeepsMark, KeepsLower, KeepsUpper, Keeps, weighs, value, Feasible}
 use Rattle.knapsack.specs.Ranges.{BoundsInOrder}
-use Rattle.knapsack.specs.declared.Bound.{Bound}
-use Rattle.knapsack.specs.declared.Bound.TheVariants.{Absent, At}
+use Rattle.std.specs.Prelude.{Option, None, Some}
 use Rattle.knapsack.specs.declared.Item.{Item}
 use Rattle.knapsack.specs.declared.Mark.{Mark}
 use Rattle.knapsack.specs.declared.Mark.TheVariants.{Integer, Continuous}
@@ -43,10 +42,10 @@ Agree keep s x y = (k : ℕ) → k < s.count → keep k ≡ true → y (rank kee
 
 -- ---- an amount of an idle item: its lower bound, else its upper one, else 0
 
-abbrev pub between : Bound → Bound → ℤ
-between (At l) u = l
-between Absent (At u) = u
-between Absent Absent = pos 0
+abbrev pub between : Option ℤ → Option ℤ → ℤ
+between (Some l) u = l
+between None (Some u) = u
+between None None = pos 0
 
 whole : (m : Mark) (n : ℤ) → KeepsMark m (int n)
 whole Integer n = (n, one n)
@@ -59,14 +58,14 @@ int-≤ : (m n : ℤ) → m ≤ℤ n → int m ≤ᶠ int n
 unfolding ◌≤ᶠ◌
 int-≤ m n h = times-≤ 1 m n h
 
-between-above : (l u : Bound) → KeepsLower l (int (between l u))
-between-above Absent u = tt
-between-above (At l) u = int-≤ l l (≤ℤ-reflexive refl)
+between-above : (l u : Option ℤ) → KeepsLower l (int (between l u))
+between-above None u = tt
+between-above (Some l) u = int-≤ l l (≤ℤ-reflexive refl)
 
-between-below : (l u : Bound) → BoundsInOrder l u → KeepsUpper u (int (between l u))
-between-below l Absent h = tt
-between-below Absent (At u) h = int-≤ u u (≤ℤ-reflexive refl)
-between-below (At l) (At u) h = int-≤ l u h
+between-below : (l u : Option ℤ) → BoundsInOrder l u → KeepsUpper u (int (between l u))
+between-below l None h = tt
+between-below None (Some u) h = int-≤ u u (≤ℤ-reflexive refl)
+between-below (Some l) (Some u) h = int-≤ l u h
 
 pub between-keeps : (i : Item) → BoundsInOrder i.lower i.upper → Keeps i (int (between i.lower i.upper))
 between-keeps i h = record { marked = whole i.mark _; above = between-above i.lower i.upper; below = between-below i.lower i.upper h }
@@ -82,13 +81,13 @@ mark-≃ Integer {x} {y} h (n, e) =
     swap = split _ (λ a b s D. simp zed (omega arith))
 mark-≃ Continuous h k = tt
 
-lower-≃ : (b : Bound) {x y : Frac} → x ≃ y → KeepsLower b x → KeepsLower b y
-lower-≃ Absent h k = tt
-lower-≃ (At l) h k = ≤-≃ (≃-refl (int l)) h k
+lower-≃ : (b : Option ℤ) {x y : Frac} → x ≃ y → KeepsLower b x → KeepsLower b y
+lower-≃ None h k = tt
+lower-≃ (Some l) h k = ≤-≃ (≃-refl (int l)) h k
 
-upper-≃ : (b : Bound) {x y : Frac} → x ≃ y → KeepsUpper b x → KeepsUpper b y
-upper-≃ Absent h k = tt
-upper-≃ (At u) h k = ≤-≃ h (≃-refl (int u)) k
+upper-≃ : (b : Option ℤ) {x y : Frac} → x ≃ y → KeepsUpper b x → KeepsUpper b y
+upper-≃ None h k = tt
+upper-≃ (Some u) h k = ≤-≃ h (≃-refl (int u)) k
 
 pub keeps-≃ : (i : Item) {x y : Frac} → x ≃ y → Keeps i x → Keeps i y
 keeps-≃ i h k = record { marked = mark-≃ i.mark h k.marked; above = lower-≃ i.lower h k.above; below = upper-≃ i.upper h k.below }

@@ -10,7 +10,6 @@ use mathlib.Core.List.{List}
 use mathlib.Core.Logic.{◌↔◌}
 use mathlib.Core.Path.{◌≡◌, ap}
 use Prim.Native.Nat.{ℕ, ◌<◌}
-use lib.IntN.{ℤ}
 use Rattle.arith.specs.Fractions.{Frac, frac}
 use Rattle.arith.specs.declared.Fraction.{Fraction}
 use Rattle.knapsack.specs.Meaning.{Instance, Point, value, point_of, steps_of}
@@ -18,7 +17,7 @@ use Rattle.knapsack.specs.declared.Answer.{Answer}
 use Rattle.knapsack.specs.declared.Kind.{Kind}
 use Rattle.knapsack.specs.declared.Kind.TheVariants as kind
 use Rattle.model.specs.declared.Need.{Need}
-use Rattle.model.specs.Needs.{In, KeepsNeeds, FeasibleNeeds, InfeasibleNeeds, UnboundedNeeds, AnswersNeeds, AnswersAsNeeds}
+use Rattle.model.specs.Needs.{In, KeepsNeeds, FeasibleNeeds, InfeasibleNeeds, AnswersNeeds, AnswersAsNeeds}
 use Rattle.dropping.proofs.Boundless.{spread, gathered, spread-agree, gathered-agree, drops-spread, drops-gathered}
 use Rattle.dropping.proofs.Drops.{Drops, Agree, restricted, extended, restrict-agree, extend-agree, restrict-feasible, extend-feasible, worth-same}
 use Rattle.dropping.proofs.Sums.{◌≃◌, ≃-sym, ≃-join, ≤-≃}

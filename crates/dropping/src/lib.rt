@@ -17,9 +17,7 @@ use model::{Model, ModelItem, Need, Needs, do_bounds_cross, is_blank, naming, se
 fn none_of(m: Model) -> Model
     ensures { result ≡ dropped_to m 0 0 }
 {
-    let empty = setters::empty_model();
-    let b = m.capacity;
-    setters::with_capacity(empty, b)
+    setters::with_capacity(setters::empty_model(), m.capacity)
 }
 
 fn append_unless_blank(q: Model, x: ModelItem) -> Model
@@ -27,9 +25,10 @@ fn append_unless_blank(q: Model, x: ModelItem) -> Model
     ensures { result ≡ appended_unless_blank q x }
 {
     if is_blank(x) {
-        return q;
+        q
+    } else {
+        setters::append(q, x)
     }
-    setters::append(q, x)
 }
 
 // The items that are not blank, moved down, and no needs as yet.
@@ -37,13 +36,9 @@ fn kept_items(m: Model) -> Model
     requires { m.count ≤ 16 }
     ensures { result ≡ dropped_to m m.count 0 }
 {
-    let n = m.count;
     let mut q = none_of(m);
-    let mut k: usize = 0;
-    while k < n {
-        let x = m.items[k];
-        q = append_unless_blank(q, x);
-        k += 1;
+    for k in 0..m.count {
+        q = append_unless_blank(q, m.items[k]);
     }
     q
 }
@@ -54,10 +49,7 @@ fn count_unless_blank(n: usize, x: ModelItem) -> usize
     requires { n < 16 }
     ensures { result ≡ cond (is_blank x) n (suc n) }
 {
-    if is_blank(x) {
-        return n;
-    }
-    n + 1
+    if is_blank(x) { n } else { n + 1 }
 }
 
 // How many of the items before place k are kept: where the item there goes.
@@ -65,12 +57,9 @@ fn rank_of(m: Model, k: usize) -> usize
     requires { k ≤ 16 }
     ensures { result ≡ rank (kept m) k }
 {
-    let mut n: usize = 0;
-    let mut i: usize = 0;
-    while i < k {
-        let x = m.items[i];
-        n = count_unless_blank(n, x);
-        i += 1;
+    let mut n = 0;
+    for i in 0..k {
+        n = count_unless_blank(n, m.items[i]);
     }
     n
 }
@@ -88,11 +77,10 @@ fn renumber_need(m: Model, need: Need) -> Need
     requires { Numbers 16 need.item need.cover }
     ensures { result ≡ renumbered (kept m) need }
 {
-    let k = need.item;
-    let l = need.cover;
-    let item = renumber(m, k);
-    let cover = renumber(m, l);
-    Need { item, cover }
+    Need {
+        item: renumber(m, need.item),
+        cover: renumber(m, need.cover),
+    }
 }
 
 // The record with its blank items left out, and blank places and unused lines behind the others.
@@ -100,16 +88,11 @@ pub fn drop_blanks(m: Model) -> Model
     requires { AdmissibleBy blanks.Kept m }
     ensures { result ≡ dropped m }
 {
-    let ns = m.needs;
-    let t = ns.count;
     let mut q = kept_items(m);
-    let mut j: usize = 0;
-    while j < t {
-        let x = ns.lines[j];
-        q = setters::with_need(q, j, renumber_need(m, x));
-        j += 1;
+    for j in 0..m.needs.count {
+        q = setters::with_need(q, j, renumber_need(m, m.needs.lines[j]));
     }
-    setters::with_need_count(q, t)
+    setters::with_need_count(q, m.needs.count)
 }
 
 // ---- what stands against it
@@ -119,14 +102,10 @@ fn is_named(ns: Needs, k: usize) -> bool
     requires { ns.count ≤ 16 }
     ensures { result ≡ named_in ns.count (need_at ns) k }
 {
-    let t = ns.count;
-    let mut j: usize = 0;
-    while j < t {
-        let x = ns.lines[j];
-        if naming::does_name(x, k) {
+    for j in 0..ns.count {
+        if naming::does_name(ns.lines[j], k) {
             return true;
         }
-        j += 1;
     }
     false
 }
@@ -137,28 +116,19 @@ fn is_hindered(m: Model, k: usize) -> bool
     ensures { result ≡ hinders m k }
 {
     let x = m.items[k];
-    if is_blank(x) {
-        let ns = m.needs;
-        let named = is_named(ns, k + 1);
-        if do_bounds_cross(x) { true } else { named }
-    } else {
-        false
-    }
+    is_blank(x) && (do_bounds_cross(x) || is_named(m.needs, k + 1))
 }
 
 fn first_hindered(m: Model) -> usize
     requires { (m.count ≤ 16) × (m.needs.count ≤ 16) }
     ensures { result ≡ first_hindered m }
 {
-    let n = m.count;
-    let mut k: usize = 0;
-    while k < n {
+    for k in 0..m.count {
         if is_hindered(m, k) {
             return k;
         }
-        k += 1;
     }
-    n
+    m.count
 }
 
 // The place of the item that stands against leaving out the blank ones: the first if nothing would remain, else the first blank one that cannot be left
@@ -167,9 +137,9 @@ pub fn hindrance(m: Model) -> usize
     requires { (m.count ≤ 16) × (m.needs.count ≤ 16) }
     ensures { result ≡ hindrance m }
 {
-    let n = m.count;
-    if rank_of(m, n) == 0 {
-        return 0;
+    if rank_of(m, m.count) == 0 {
+        0
+    } else {
+        first_hindered(m)
     }
-    first_hindered(m)
 }

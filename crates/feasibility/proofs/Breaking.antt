@@ -17,8 +17,7 @@ use Rattle.arith.proofs.Fractions.{over-int, over-frac, over-≤, <ᶠ-not-≤}
 use Rattle.arith.proofs.Integers.{split, zed, ≤ℤ-or-<}
 use Rattle.arith.proofs.Parts.{impossible}
 use Rattle.arith.proofs.Words.{no_lt, le-no}
-use Rattle.knapsack.specs.declared.Bound.{Bound}
-use Rattle.knapsack.specs.declared.Bound.TheVariants.{Absent, At}
+use Rattle.std.specs.Prelude.{Option, None, Some}
 use Rattle.knapsack.specs.declared.Item.{Item}
 use Rattle.knapsack.specs.declared.Mark.{Mark}
 use Rattle.knapsack.specs.declared.Mark.TheVariants.{Integer, Continuous}
@@ -98,13 +97,13 @@ keeps-mark i x g = go i.mark g.own
     go Integer e = (x.p, rw e (once x.p))
     go Continuous e = tt
 
-keeps-lower : (b : Bound) (x : Fraction) → GoodAmount x → (breaks_bound Lower b x.p x.q ≡ false) ↔ KeepsLower b (frac x.p x.q)
-keeps-lower Absent x g = (λ h. tt, λ h. refl)
-keeps-lower (At l) x g = let o = over-≤ g.some (over-int x.q l) (over-frac x.p x.q g.some) in (λ h. o.1 (no_lt h), λ h. le-no (o.0 h))
+keeps-lower : (b : Option ℤ) (x : Fraction) → GoodAmount x → (breaks_bound Lower b x.p x.q ≡ false) ↔ KeepsLower b (frac x.p x.q)
+keeps-lower None x g = (λ h. tt, λ h. refl)
+keeps-lower (Some l) x g = let o = over-≤ g.some (over-int x.q l) (over-frac x.p x.q g.some) in (λ h. o.1 (no_lt h), λ h. le-no (o.0 h))
 
-pub keeps-upper : (b : Bound) (x : Fraction) → GoodAmount x → (breaks_bound Upper b x.p x.q ≡ false) ↔ KeepsUpper b (frac x.p x.q)
-keeps-upper Absent x g = (λ h. tt, λ h. refl)
-keeps-upper (At u) x g = let o = over-≤ g.some (over-frac x.p x.q g.some) (over-int x.q u) in (λ h. o.1 (no_lt h), λ h. le-no (o.0 h))
+pub keeps-upper : (b : Option ℤ) (x : Fraction) → GoodAmount x → (breaks_bound Upper b x.p x.q ≡ false) ↔ KeepsUpper b (frac x.p x.q)
+keeps-upper None x g = (λ h. tt, λ h. refl)
+keeps-upper (Some u) x g = let o = over-≤ g.some (over-frac x.p x.q g.some) (over-int x.q u) in (λ h. o.1 (no_lt h), λ h. le-no (o.0 h))
 
 pub keeps-iff : (i : Item) (x : Fraction) → OwnAmount i x → GoodAmount x → (breaks i x ≡ false) ↔ Keeps i (frac x.p x.q)
 unfolding breaks
@@ -126,14 +125,14 @@ pub kept-iff : (x y : Fraction) → GoodAmount x → GoodAmount y →
 kept-iff x y g h = (go _ refl, back _ refl)
   where
     some : Bool
-    some = breaks_bound Upper (At (pos 0)) x.p x.q
+    some = breaks_bound Upper (Some (pos 0)) x.p x.q
 
-    go : (b : Bool) → some ≡ b → cond b (breaks_bound Lower (At (pos 1)) y.p y.q) false ≡ false →
+    go : (b : Bool) → some ≡ b → cond b (breaks_bound Lower (Some (pos 1)) y.p y.q) false ≡ false →
         int (pos 0) <ᶠ frac x.p x.q → int (pos 1) ≤ᶠ frac y.p y.q
-    go true e f l = (keeps-lower (At (pos 1)) y h).0 f
-    go false e f l = absurd (<ᶠ-not-≤ _ _ l ((keeps-upper (At (pos 0)) x g).0 e))
+    go true e f l = (keeps-lower (Some (pos 1)) y h).0 f
+    go false e f l = absurd (<ᶠ-not-≤ _ _ l ((keeps-upper (Some (pos 0)) x g).0 e))
 
     back : (b : Bool) → some ≡ b → (int (pos 0) <ᶠ frac x.p x.q → int (pos 1) ≤ᶠ frac y.p y.q) →
-        cond b (breaks_bound Lower (At (pos 1)) y.p y.q) false ≡ false
-    back true e f = (keeps-lower (At (pos 1)) y h).1 (f (not-≤-above _ _ (λ l. impossible (sym ((keeps-upper (At (pos 0)) x g).1 l) ∙ e))))
+        cond b (breaks_bound Lower (Some (pos 1)) y.p y.q) false ≡ false
+    back true e f = (keeps-lower (Some (pos 1)) y h).1 (f (not-≤-above _ _ (λ l. impossible (sym ((keeps-upper (Some (pos 0)) x g).1 l) ∙ e))))
     back false e f = refl

@@ -20,14 +20,15 @@ use Rattle.arith.proofs.Fractions.{Over, over-int, over-frac, over-total, over-�
 use Rattle.arith.proofs.Parts.{impossible}
 use Rattle.arith.proofs.Words.{yes_lt, no_lt}
 use Rattle.knapsack.specs.declared.Refusal.{Refusal}
-use Rattle.knapsack.specs.declared.Verdict.{Verdict}
-use Rattle.knapsack.specs.declared.Verdict.TheVariants as verdicts
+use Rattle.knapsack.specs.Verdicts.{Verdict}
+use Rattle.std.specs.Prelude.{Result, Ok, Err}
 use Rattle.knapsack.specs.Meaning.{Keeps}
 use Rattle.knapsack.specs.Ranges.{item_at}
 use Rattle.knapsack.specs.declared.Problem.{Problem}
 use Rattle.model.specs.Needs.{KeepsNeed, KeepsNeeds, FeasibleNeeds}
-use Rattle.model.specs.Records.{need_at, plain_of, placed, needs_of, verdict, Admissible, FiguresInRange}
-use Rattle.model.specs.Refusals.{amounts, amount}
+use Rattle.model.specs.Records.{need_at, plain_of, placed, needs_of, refused_for, verdict, Admissible, FiguresInRange}
+use Rattle.model.specs.declared.refusals.Reason.{Reason}
+use Rattle.model.specs.declared.refusals.Reason.TheVariants as refusal
 use Rattle.model.specs.declared.Model.{Model}
 use Rattle.model.specs.declared.Need.{Need}
 use Rattle.model.specs.declared.Sense.{Sense}
@@ -37,8 +38,8 @@ use Rattle.model.proofs.Showing.{over-lowest, parted}
 use Rattle.feasibility.specs.declared.Candidate.{Candidate}
 use Rattle.feasibility.specs.declared.Figure.{Figure}
 use Rattle.feasibility.specs.declared.Figure.TheVariants.{Weight, Price}
-use Rattle.feasibility.specs.declared.PointReply.{PointReply}
-use Rattle.feasibility.specs.declared.PointReply.TheVariants as reply
+use Rattle.feasibility.specs.declared.Finding.{Finding}
+use Rattle.feasibility.specs.declared.Finding.TheVariants.{Feasible, Violates}
 use Rattle.feasibility.specs.Amounts.{proposed_at, GoodAmount, GoodPoint, common_divisor, numerator}
 use Rattle.feasibility.specs.Check.{
   breaks,
@@ -66,7 +67,7 @@ use Rattle.feasibility.specs.Check.{
   Told,
   Worth,
 }
-use Rattle.feasibility.proofs.Breaking.{Found, none, first, found, keeps-iff, none_yet, stays, lack_at, Lacking, all, broken, lacking, kept-iff}
+use Rattle.feasibility.proofs.Breaking.{Found, none, first, found, keeps-iff, lack_at, Lacking, all, broken, lacking, kept-iff}
 use Rattle.feasibility.proofs.Divisor.{good-amount, Divided, divided, divisor-iff}
 
 -- the sums are those of the meaning, for every problem
@@ -112,7 +113,7 @@ module _ (sense : Sense) (m : Model) (c : Candidate) (d : ℕ) (asked : Proposed
   -- where every item and every need is kept the weight decides
   by-weight : ((k : ℕ) → k < m.count → Keeps (item_at (plain_of sense m) k) (proposed_point c k)) → KeepsNeeds (needs_of m.needs) (proposed_point c) → (b : Bool) →
       lt_z (m.capacity *ℤ pos d) (total_of Weight d m.count (plain_of sense m) c) ≡ b →
-      Told sense m c (cond b (reply.Violates 0) (reply.Feasible (lowest (total_of Price d m.count (plain_of sense m) c) d)))
+      Told sense m c (Ok (cond b (Violates 0) (Feasible (lowest (total_of Price d m.count (plain_of sense m) c) d))))
   by-weight k n true e =
       record { proposed = asked; keeps = k; kept = n; over = over-< s.some (over-int d m.capacity) (of-total Weight) (yes_lt e) }
   by-weight k n false e =
@@ -128,17 +129,17 @@ module _ (sense : Sense) (m : Model) (c : Candidate) (d : ℕ) (asked : Proposed
         lowest = lowest-coprime v d s.some;
       }
 
-  abbrev weighed : PointReply
-  weighed = cond (lt_z (m.capacity *ℤ pos d) (total_of Weight d m.count (plain_of sense m) c)) (reply.Violates 0)
-      (reply.Feasible (lowest (total_of Price d m.count (plain_of sense m) c) d))
+  abbrev weighed : Finding
+  weighed = cond (lt_z (m.capacity *ℤ pos d) (total_of Weight d m.count (plain_of sense m) c)) (Violates 0)
+      (Feasible (lowest (total_of Price d m.count (plain_of sense m) c) d))
 
   -- where every item is kept the needs come next
   by-needs : ((k : ℕ) → k < m.count → Keeps (item_at (plain_of sense m) k) (proposed_point c k)) → (n : ℕ) → Lacking m.needs.count m.needs c n →
-      Told sense m c (after_items n weighed)
+      Told sense m c (Ok (after_items n weighed))
   by-needs k n (all h) = by-weight k (every (λ j l. (covered j l).0 (h j l))) _ refl
   by-needs k n (broken j l e h) = numbered (given j).item refl (asked.admissible.needs j l).numbers.first-least
     where
-      numbered : (i : ℕ) → (given j).item ≡ i → 1 ≤ (given j).item → Told sense m c (after_items i weighed)
+      numbered : (i : ℕ) → (given j).item ≡ i → 1 ≤ (given j).item → Told sense m c (Ok (after_items i weighed))
       numbered zero f g = absurd (omega (arith, f, g))
       numbered (suc i) f g = inr (record {
         proposed = asked;
@@ -150,12 +151,12 @@ module _ (sense : Sense) (m : Model) (c : Candidate) (d : ℕ) (asked : Proposed
         before = λ i u. (covered i (omega arith)).0 (h i u);
       })
 
-  judged-told : Told sense m c (judged d (plain_of sense m) m.needs c)
+  judged-told : Told sense m c (Ok (judged d (plain_of sense m) m.needs c))
   unfolding judged
   judged-told = go (first_broken m.count (plain_of sense m) c) (found m.count (plain_of sense m) c)
     where
       go : (n : ℕ) → Found m.count (plain_of sense m) c n →
-          Told sense m c (after_items (earlier_of n (first_lacking m.needs.count m.needs c)) weighed)
+          Told sense m c (Ok (after_items (earlier_of n (first_lacking m.needs.count m.needs c)) weighed))
       go n (none h) = by-needs (λ k l. (kept k l).0 (h k l)) _
           (lacking m.needs.count m.needs c (λ j l. (asked.admissible.needs j l).numbers.first-least))
       go n (first k l e h) = inl (record {
@@ -172,7 +173,7 @@ unfolding amount_check
 amounts-told sense m c r = go _ refl _ refl
   where
     go : (b : Bool) → eqb c.count m.count ≡ b → (z : Bool) → eqb (common_divisor c.count (item_at (plain_of sense m)) (proposed_at c)) 0 ≡ z →
-        Told sense m c (cond (not b) (refuse_point amounts) (cond z (refuse_point amount) (judged (common_divisor c.count (item_at (plain_of sense m)) (proposed_at c)) (plain_of sense m) m.needs c)))
+        Told sense m c (cond (not b) (refuse_point refusal.Amounts) (cond z (refuse_point refusal.Amount) (Ok (judged (common_divisor c.count (item_at (plain_of sense m)) (proposed_at c)) (plain_of sense m) m.needs c))))
     go false e z f = by_count r (eqb-false c.count m.count e)
     go true e true f =
         let n = eqb-true c.count m.count e in
@@ -193,8 +194,17 @@ unfolding point_check
 told sense m c = go (verdict m) refl
   where
     go : (v : Verdict) → verdict m ≡ v → Told sense m c (after_record v (amount_check (plain_of sense m) m.needs c))
-    go verdicts.Accepted e = amounts-told sense m c (accepted m e)
-    go (verdicts.Refused f) e = by-record f e
+    go (Ok _) e = amounts-told sense m c (accepted m e)
+    go (Err f) e = by-record f e
+
+-- so does a reply that is the one by definition
+pub told_by : (sense : Sense) (m : Model) (c : Candidate) (r : Result Finding Refusal) → r ≡ point_check sense m c → Told sense m c r
+told_by sense m c r e = subst (Told sense m c) (sym e) (told sense m c)
+
+-- a row of the check
+pub row : (t : Bool) (n : Reason) (r : Result Finding Refusal) → after_record (refused_for t n) r ≡ cond t (refuse_point n) r
+row true n r = refl
+row false n r = refl
 
 -- ---- each reply exactly where it should be
 
@@ -203,10 +213,10 @@ no-refusal : {sense : Sense} {m : Model} {c : Candidate} {f : Refusal} → Propo
 no-refusal {m} a (by-record f e) = no-verdict (sym (admitted m a.admissible) ∙ e)
   where
     taken : Verdict → Type 0
-    taken verdicts.Accepted = Unit {0}
-    taken (verdicts.Refused g) = ⊥
+    taken (Ok _) = Unit {0}
+    taken (Err g) = ⊥
 
-    no-verdict : verdicts.Accepted ≡ verdicts.Refused f → ⊥
+    no-verdict : ◌≡◌ {A = Verdict} (Ok tt) (Err f) → ⊥
     no-verdict h = subst taken h tt
 no-refusal a (by_count r n) = n a.counted
 no-refusal a (by-amounts r n g) = g a.amounts
@@ -218,7 +228,7 @@ over-not-fits x y l h = clash_ℤ l h
 
 module _ (sense : Sense) (m : Model) (c : Candidate) where
   -- what the reply says, once it is known
-  of-reply : {r : PointReply} → point_check sense m c ≡ r → Told sense m c r
+  of-reply : {r : Result Finding Refusal} → point_check sense m c ≡ r → Told sense m c r
   of-reply e = subst (Told sense m c) e (told sense m c)
 
   proposed-of : {k : ℕ} → ToldItem sense m c k ⊎ ToldNeed sense m c k → Proposed sense m c
@@ -231,35 +241,35 @@ module _ (sense : Sense) (m : Model) (c : Candidate) where
   no-breach {k} (inl t) i n = t.broken (i k t.item)
   no-breach (inr t) i n = t.broken (n _ (needs-in m.needs.count (need_at m.needs) t.line t.counted))
 
-  pub refused-iff : ((f : Refusal) × (point_check sense m c ≡ reply.Refused f)) ↔ (¬ Proposed sense m c)
+  pub refused-iff : ((f : Refusal) × (point_check sense m c ≡ Err f)) ↔ (¬ Proposed sense m c)
   refused-iff = (λ (f, e) a. no-refusal a (of-reply e), λ n. go n (point_check sense m c) refl)
     where
-      go : ¬ Proposed sense m c → (r : PointReply) → point_check sense m c ≡ r → (f : Refusal) × (point_check sense m c ≡ reply.Refused f)
-      go n (reply.Refused f) e = (f, e)
-      go n (reply.Feasible v) e = absurd (n (of-reply e).proposed)
-      go n (reply.Violates zero) e = absurd (n (of-reply e).proposed)
-      go n (reply.Violates (suc k)) e = absurd (n (proposed-of (of-reply e)))
+      go : ¬ Proposed sense m c → (r : Result Finding Refusal) → point_check sense m c ≡ r → (f : Refusal) × (point_check sense m c ≡ Err f)
+      go n (Err f) e = (f, e)
+      go n (Ok (Feasible v)) e = absurd (n (of-reply e).proposed)
+      go n (Ok (Violates zero)) e = absurd (n (of-reply e).proposed)
+      go n (Ok (Violates (suc k))) e = absurd (n (proposed-of (of-reply e)))
 
-  pub feasible-iff : Proposed sense m c → ((v : Fraction) × (point_check sense m c ≡ reply.Feasible v)) ↔ FeasibleNeeds (asked sense m) (needs_of m.needs) (proposed_point c)
+  pub feasible-iff : Proposed sense m c → ((v : Fraction) × (point_check sense m c ≡ Ok (Feasible v))) ↔ FeasibleNeeds (asked sense m) (needs_of m.needs) (proposed_point c)
   feasible-iff a = (λ (v, e). (of-reply e).feasible, λ x. go x (point_check sense m c) refl)
     where
-      go : FeasibleNeeds (asked sense m) (needs_of m.needs) (proposed_point c) → (r : PointReply) → point_check sense m c ≡ r →
-          (v : Fraction) × (point_check sense m c ≡ reply.Feasible v)
-      go x (reply.Refused f) e = absurd (no-refusal a (of-reply e))
-      go x (reply.Feasible v) e = (v, e)
-      go x (reply.Violates zero) e = absurd (over-not-fits _ _ (of-reply e).over x.plain.fits)
-      go x (reply.Violates (suc k)) e = absurd (no-breach (of-reply e) x.plain.keeps x.kept)
+      go : FeasibleNeeds (asked sense m) (needs_of m.needs) (proposed_point c) → (r : Result Finding Refusal) → point_check sense m c ≡ r →
+          (v : Fraction) × (point_check sense m c ≡ Ok (Feasible v))
+      go x (Err f) e = absurd (no-refusal a (of-reply e))
+      go x (Ok (Feasible v)) e = (v, e)
+      go x (Ok (Violates zero)) e = absurd (over-not-fits _ _ (of-reply e).over x.plain.fits)
+      go x (Ok (Violates (suc k))) e = absurd (no-breach (of-reply e) x.plain.keeps x.kept)
 
-  pub weight-iff : (point_check sense m c ≡ reply.Violates 0) ↔ ToldWeight sense m c
+  pub weight-iff : (point_check sense m c ≡ Ok (Violates 0)) ↔ ToldWeight sense m c
   weight-iff = (λ e. of-reply e, λ w. go w (point_check sense m c) refl)
     where
-      go : ToldWeight sense m c → (r : PointReply) → point_check sense m c ≡ r → point_check sense m c ≡ reply.Violates 0
-      go w (reply.Refused f) e = absurd (no-refusal w.proposed (of-reply e))
-      go w (reply.Feasible v) e = absurd (over-not-fits _ _ w.over (of-reply e).feasible.plain.fits)
-      go w (reply.Violates zero) e = e
-      go w (reply.Violates (suc k)) e = absurd (no-breach (of-reply e) w.keeps w.kept)
+      go : ToldWeight sense m c → (r : Result Finding Refusal) → point_check sense m c ≡ r → point_check sense m c ≡ Ok (Violates 0)
+      go w (Err f) e = absurd (no-refusal w.proposed (of-reply e))
+      go w (Ok (Feasible v)) e = absurd (over-not-fits _ _ w.over (of-reply e).feasible.plain.fits)
+      go w (Ok (Violates zero)) e = e
+      go w (Ok (Violates (suc k))) e = absurd (no-breach (of-reply e) w.keeps w.kept)
 
-  pub item-iff : (k : ℕ) → (point_check sense m c ≡ reply.Violates (suc k)) ↔ (ToldItem sense m c k ⊎ ToldNeed sense m c k)
+  pub item-iff : (k : ℕ) → (point_check sense m c ≡ Ok (Violates (suc k))) ↔ (ToldItem sense m c k ⊎ ToldNeed sense m c k)
   item-iff k = (λ e. of-reply e, λ t. go t (point_check sense m c) refl)
     where
       -- of two first items neither comes before the other
@@ -283,8 +293,8 @@ module _ (sense : Sense) (m : Model) (c : Candidate) where
           let h : suc j ≡ suc k = sym u.item ∙ ap (λ i. (need_at m.needs i).item) e ∙ t.item in
           omega (arith, h)
 
-      go : ToldItem sense m c k ⊎ ToldNeed sense m c k → (r : PointReply) → point_check sense m c ≡ r → point_check sense m c ≡ reply.Violates (suc k)
-      go t (reply.Refused f) e = absurd (no-refusal (proposed-of t) (of-reply e))
-      go t (reply.Feasible v) e = let f = (of-reply e).feasible in absurd (no-breach t f.plain.keeps f.kept)
-      go t (reply.Violates zero) e = let w = of-reply e in absurd (no-breach t w.keeps w.kept)
-      go t (reply.Violates (suc j)) e = e ∙ ap (λ i. reply.Violates (suc i)) (same j t (of-reply e))
+      go : ToldItem sense m c k ⊎ ToldNeed sense m c k → (r : Result Finding Refusal) → point_check sense m c ≡ r → point_check sense m c ≡ Ok (Violates (suc k))
+      go t (Err f) e = absurd (no-refusal (proposed-of t) (of-reply e))
+      go t (Ok (Feasible v)) e = let f = (of-reply e).feasible in absurd (no-breach t f.plain.keeps f.kept)
+      go t (Ok (Violates zero)) e = let w = of-reply e in absurd (no-breach t w.keeps w.kept)
+      go t (Ok (Violates (suc j))) e = e ∙ ap (λ i. Ok (Violates (suc i))) (same j t (of-reply e))

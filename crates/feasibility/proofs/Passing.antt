@@ -18,8 +18,8 @@ use Rattle.knapsack.specs.declared.Answer.{Answer}
 use Rattle.knapsack.specs.declared.Kind.{Kind}
 use Rattle.knapsack.specs.declared.Kind.TheVariants as kind
 use Rattle.knapsack.specs.declared.Refusal.{Refusal}
-use Rattle.knapsack.specs.declared.Verdict.{Verdict}
-use Rattle.knapsack.specs.declared.Verdict.TheVariants.{Accepted, Refused}
+use Rattle.knapsack.specs.Verdicts.{Verdict}
+use Rattle.std.specs.Prelude.{Ok, Err}
 use Rattle.model.specs.Needs.{KeepsNeeds, FeasibleNeeds, ShownOptimalNeeds, AnswersAsNeeds, Named}
 use Rattle.model.specs.Promises.{RepliesAs, Planned}
 use Rattle.model.specs.Records.{need_at, needs_of, verdict}
@@ -30,7 +30,7 @@ use Rattle.model.proofs.NeedLines.{needs-from}
 use Rattle.model.proofs.Records.{accepted}
 use Rattle.model.proofs.Showing.{default}
 use Rattle.feasibility.specs.declared.Candidate.{Candidate}
-use Rattle.feasibility.specs.declared.PointReply.TheVariants as reply
+use Rattle.feasibility.specs.declared.Finding.TheVariants as finding
 use Rattle.feasibility.specs.Amounts.{proposed_at}
 use Rattle.feasibility.specs.Check.{point_check, asked, proposed_point, Proposed, Told}
 use Rattle.feasibility.proofs.Meaning.{told, feasible-iff}
@@ -52,7 +52,7 @@ module _ (s : Instance) (x y : Point) (e : Each s.count (λ k. x k ≡ y k)) whe
 
 -- ---- amounts that are shown are good
 
-module _ (sense : Sense) (m : Model) (a : Answer) (size : length a.point ≡ 16) (fair : verdict m ≡ Accepted) (shown : Shown (asked sense m) (amount_at a)) where
+module _ (sense : Sense) (m : Model) (a : Answer) (size : length a.point ≡ 16) (fair : verdict m ≡ Ok tt) (shown : Shown (asked sense m) (amount_at a)) where
   same : (k : ℕ) → k < m.count → amount_at a k ≡ proposed_at (shown_by m a) k
   same k l = default a.point k nought _ (omega (arith, ((accepted m fair).figures sense).few-items))
 
@@ -78,12 +78,12 @@ module _ (sense : Sense) (m : Model) (a : Answer) (size : length a.point ≡ 16)
       let k : Named (asked sense m) n.cover = subst (λ (z : Need). Named (asked sense m) z.cover) (sym f.1.1) x.cover in
       subst₂ (λ y z. int (pos 0) <ᶠ y → int (pos 1) ≤ᶠ z) (agree n.item g.inside) (agree n.cover k.inside) (h n i)
 
-  passes : FeasibleNeeds (asked sense m) (needs_of m.needs) (point_of a) → (v : Fraction) × (point_check sense m (shown_by m a) ≡ reply.Feasible v)
+  passes : FeasibleNeeds (asked sense m) (needs_of m.needs) (point_of a) → (v : Fraction) × (point_check sense m (shown_by m a) ≡ Ok (finding.Feasible v))
   passes f = (feasible-iff sense m (shown_by m a) proposed).1
       (record { plain = same-feasible (asked sense m) (point_of a) (proposed_point (shown_by m a)) agree f.plain; kept = same_kept f.kept })
 
   -- the value told is the value shown
-  value-told : ShownOptimalNeeds (asked sense m) (needs_of m.needs) a → (v : Fraction) → Told sense m (shown_by m a) (reply.Feasible v) → v ≡ a.value
+  value-told : ShownOptimalNeeds (asked sense m) (needs_of m.needs) a → (v : Fraction) → Told sense m (shown_by m a) (Ok (finding.Feasible v)) → v ≡ a.value
   value-told o v t =
       let x = frac v.p v.q in
       let y = frac a.value.p a.value.q in
@@ -97,23 +97,23 @@ module _ (sense : Sense) (m : Model) (a : Answer) (size : length a.point ≡ 16)
 
 -- an answer that is no refusal answers an accepted record
 pub answers : (sense : Sense) (m : Model) (a : Answer) (k : Kind) → Planned sense m a → a.kind ≡ k → ((f : Refusal) → k ≡ kind.Refused f → ⊥) →
-    (verdict m ≡ Accepted) × AnswersAsNeeds (asked sense m) (needs_of m.needs) a k
+    (verdict m ≡ Ok tt) × AnswersAsNeeds (asked sense m) (needs_of m.needs) a k
 answers sense m a k p e n = go (verdict m) refl p.replies
   where
     go : (v : Verdict) → verdict m ≡ v → RepliesAs (asked sense m) (needs_of m.needs) a v →
-        (verdict m ≡ Accepted) × AnswersAsNeeds (asked sense m) (needs_of m.needs) a k
-    go Accepted h r = (h, subst (AnswersAsNeeds (asked sense m) (needs_of m.needs) a) e r)
-    go (Refused f) h r = absurd (n f (sym e ∙ ap (λ (z : Answer). z.kind) r))
+        (verdict m ≡ Ok tt) × AnswersAsNeeds (asked sense m) (needs_of m.needs) a k
+    go (Ok _) h r = (h, subst (AnswersAsNeeds (asked sense m) (needs_of m.needs) a) e r)
+    go (Err f) h r = absurd (n f (sym e ∙ ap (λ (z : Answer). z.kind) r))
 
 module _ (sense : Sense) (m : Model) (a : Answer) (size : length a.point ≡ 16) (p : Planned sense m a) where
-  pub best-passes : a.kind ≡ kind.Optimal → point_check sense m (shown_by m a) ≡ reply.Feasible a.value
+  pub best-passes : a.kind ≡ kind.Optimal → point_check sense m (shown_by m a) ≡ Ok (finding.Feasible a.value)
   best-passes e =
       let h = answers sense m a kind.Optimal p e (λ f g. absurd (let z : ◌≡◌ {A = ℕ} 0 1 = cc in omega arith)) in
       let r = passes sense m a size h.0 h.1.shown h.1.optimal.feasible in
-      let t : Told sense m (shown_by m a) (reply.Feasible r.0) = subst (Told sense m (shown_by m a)) r.1 (told sense m (shown_by m a)) in
-      r.1 ∙ ap reply.Feasible (value-told sense m a size h.0 h.1.shown h.1 r.0 t)
+      let t : Told sense m (shown_by m a) (Ok (finding.Feasible r.0)) = subst (Told sense m (shown_by m a)) r.1 (told sense m (shown_by m a)) in
+      r.1 ∙ ap (λ v. Ok (finding.Feasible v)) (value-told sense m a size h.0 h.1.shown h.1 r.0 t)
 
-  pub start-passes : a.kind ≡ kind.Unbounded → (v : Fraction) × (point_check sense m (shown_by m a) ≡ reply.Feasible v)
+  pub start-passes : a.kind ≡ kind.Unbounded → (v : Fraction) × (point_check sense m (shown_by m a) ≡ Ok (finding.Feasible v))
   start-passes e =
       let h = answers sense m a kind.Unbounded p e (λ f g. absurd (let z : ◌≡◌ {A = ℕ} 0 1 = cc in omega arith)) in
       passes sense m a size h.0 h.1.shown h.1.unbounded.from

@@ -23,42 +23,42 @@
 --   ToldItem, ToldNeed    what a no with an item says: the item breaks its mark or a bound, or its need is broken
 --   Sizeable p c          what the code needs to sum up a point;  Worth p c r: r is what it is worth
 --   Told sense m c r      what the reply r says of the point, by its case: the entry's promise beside point_check sense m c
-use Rattle.std.specs.Prelude.{◌≡◌, Bool, true, false, cond, not, ◌⊎◌, ◌≢◌, ℕ, zero, suc, ◌-◌, ◌≤◌, ◌<◌, ltb, eqb, ℤ, pos, nat_abs, ◌*ℤ◌}
+use Rattle.std.specs.Prelude.{◌≡◌, Bool, true, false, cond, not, ◌⊎◌, ◌≢◌, ℕ, zero, suc, ◌-◌, ◌≤◌, ◌<◌, eqb, ℤ, pos, nat_abs, ◌*ℤ◌}
 use Rattle.std.specs.Int.Signed.{lt_z}
 use Rattle.arith.specs.Fractions.{int, frac, ◌<ᶠ◌, ◌≈ᶠ◌}
 use Rattle.arith.specs.Gcd.{gcd_of, lowest}
 use Rattle.arith.specs.Sum.{sum}
 use Rattle.arith.specs.declared.Fraction.{Fraction}
-use Rattle.knapsack.specs.declared.Bound.{Bound}
-use Rattle.knapsack.specs.declared.Bound.TheVariants.{Absent, At}
+use Rattle.std.specs.Prelude.{Option, None, Some}
 use Rattle.knapsack.specs.declared.Item.{Item}
 use Rattle.knapsack.specs.declared.Problem.{Problem}
 use Rattle.knapsack.specs.declared.Refusal.{Refusal}
-use Rattle.knapsack.specs.declared.Verdict.{Verdict}
-use Rattle.knapsack.specs.declared.Verdict.TheVariants as verdicts
+use Rattle.knapsack.specs.Verdicts.{Verdict}
+use Rattle.std.specs.Prelude.{Result, Ok, Err}
 use Rattle.knapsack.specs.Meaning.{Instance, Point, Keeps, instance_of, weighs, value}
 use Rattle.knapsack.specs.Ranges.{item_at}
 use Rattle.model.specs.Needs.{KeepsNeed, KeepsNeeds, FeasibleNeeds}
-use Rattle.model.specs.Records.{plain_of, need_at, placed, needs_of, refusal_of, verdict, Numbers, Admissible, FiguresInRange}
-use Rattle.model.specs.Refusals as refusal
+use Rattle.model.specs.Records.{plain_of, need_at, placed, needs_of, refusal_for, verdict, Numbers, Admissible, FiguresInRange}
+use Rattle.model.specs.declared.refusals.Reason.{Reason}
+use Rattle.model.specs.declared.refusals.Reason.TheVariants as refusal
 use Rattle.model.specs.declared.Model.{Model}
 use Rattle.model.specs.declared.Needs.{Needs}
 use Rattle.model.specs.declared.Sense.{Sense}
 use Rattle.feasibility.specs.declared.Candidate.{Candidate}
 use Rattle.feasibility.specs.declared.Figure.{Figure}
 use Rattle.feasibility.specs.declared.Figure.TheVariants.{Weight, Price}
-use Rattle.feasibility.specs.declared.PointReply.{PointReply}
-use Rattle.feasibility.specs.declared.PointReply.TheVariants as reply
+use Rattle.feasibility.specs.declared.Finding.{Finding}
+use Rattle.feasibility.specs.declared.Finding.TheVariants.{Feasible, Violates}
 use Rattle.model.specs.declared.Side.{Side}
 use Rattle.model.specs.declared.Side.TheVariants.{Lower, Upper}
 use Rattle.feasibility.specs.Amounts.{proposed_at, GoodAmount, GoodPoint, common_divisor, numerator}
 
 -- ---- yes or no
 
-abbrev pub breaks_bound : Side → Bound → ℤ → ℕ → Bool
-breaks_bound side Absent p q = false
-breaks_bound Lower (At l) p q = lt_z p (l *ℤ pos q)
-breaks_bound Upper (At u) p q = lt_z (u *ℤ pos q) p
+abbrev pub breaks_bound : Side → Option ℤ → ℤ → ℕ → Bool
+breaks_bound side None p q = false
+breaks_bound Lower (Some l) p q = lt_z p (l *ℤ pos q)
+breaks_bound Upper (Some u) p q = lt_z (u *ℤ pos q) p
 
 -- an integer item's own divisor is 1, so its amounts keep their mark
 unfoldable pub breaks : Item → Fraction → Bool
@@ -81,7 +81,7 @@ first_broken (suc n) p c = earlier_of (first_broken n p c) (numbered n (item_at 
 
 -- more than 0 of x, and less than 1 of y
 abbrev pub lacks : Fraction → Fraction → Bool
-lacks x y = cond (breaks_bound Upper (At (pos 0)) x.p x.q) (breaks_bound Lower (At (pos 1)) y.p y.q) false
+lacks x y = cond (breaks_bound Upper (Some (pos 0)) x.p x.q) (breaks_bound Lower (Some (pos 1)) y.p y.q) false
 
 abbrev pub uncovered_at : Needs → Candidate → ℕ → ℕ
 uncovered_at ns c j = cond (lacks (proposed_at c ((need_at ns j).item - 1)) (proposed_at c ((need_at ns j).cover - 1))) (need_at ns j).item 0
@@ -104,33 +104,33 @@ abbrev pub total_of : Figure → ℕ → ℕ → Problem → Candidate → ℤ
 total_of f d n p c = sum n (λ k. term f d (item_at p k) (proposed_at c k))
 
 -- an item that breaks, or whose need is broken, comes before the weight
-abbrev pub after_items : ℕ → PointReply → PointReply
+abbrev pub after_items : ℕ → Finding → Finding
 after_items zero r = r
-after_items (suc k) r = reply.Violates (suc k)
+after_items (suc k) r = Violates (suc k)
 
 -- d is the common divisor
-unfoldable pub judged : ℕ → Problem → Needs → Candidate → PointReply
+unfoldable pub judged : ℕ → Problem → Needs → Candidate → Finding
 judged d p ns c =
     after_items (first_breach p ns c)
-    (cond (lt_z (p.capacity *ℤ pos d) (total_of Weight d p.count p c)) (reply.Violates 0)
-    (reply.Feasible (lowest (total_of Price d p.count p c) d)))
+    (cond (lt_z (p.capacity *ℤ pos d) (total_of Weight d p.count p c)) (Violates 0)
+    (Feasible (lowest (total_of Price d p.count p c) d)))
 
 -- ---- the whole check
 
-abbrev pub refuse_point : ℕ → PointReply
-refuse_point n = reply.Refused (refusal_of n)
+abbrev pub refuse_point : Reason → Result Finding Refusal
+refuse_point n = Err (refusal_for n)
 
-unfoldable pub amount_check : Problem → Needs → Candidate → PointReply
+unfoldable pub amount_check : Problem → Needs → Candidate → Result Finding Refusal
 amount_check p ns c =
-    cond (not (eqb c.count p.count)) (refuse_point refusal.amounts)
-    (cond (eqb (common_divisor c.count (item_at p) (proposed_at c)) 0) (refuse_point refusal.amount)
-    (judged (common_divisor c.count (item_at p) (proposed_at c)) p ns c))
+    cond (not (eqb c.count p.count)) (refuse_point refusal.Amounts)
+    (cond (eqb (common_divisor c.count (item_at p) (proposed_at c)) 0) (refuse_point refusal.Amount)
+    (Ok (judged (common_divisor c.count (item_at p) (proposed_at c)) p ns c)))
 
-abbrev pub after_record : Verdict → PointReply → PointReply
-after_record verdicts.Accepted r = r
-after_record (verdicts.Refused f) r = reply.Refused f
+abbrev pub after_record : Verdict → Result Finding Refusal → Result Finding Refusal
+after_record (Ok _) r = r
+after_record (Err f) r = Err f
 
-unfoldable pub point_check : Sense → Model → Candidate → PointReply
+unfoldable pub point_check : Sense → Model → Candidate → Result Finding Refusal
 point_check sense m c = after_record (verdict m) (amount_check (plain_of sense m) m.needs c)
 
 -- what the code needs for yes or no
@@ -164,9 +164,9 @@ pub record Proposed (sense : Sense) (m : Model) (c : Candidate) : Type 0 where
 
 -- 01's numbers of the refusals, in their order, with line 0
 pub data RefusedAs (sense : Sense) (m : Model) (c : Candidate) : Refusal → Type 0 where
-  by-record : (f : Refusal) → verdict m ≡ verdicts.Refused f → RefusedAs sense m c f
-  by_count : Admissible m → c.count ≢ m.count → RefusedAs sense m c (refusal_of refusal.amounts)
-  by-amounts : Admissible m → c.count ≡ m.count → ¬ GoodPoint m.count (asked sense m).item (proposed_at c) → RefusedAs sense m c (refusal_of refusal.amount)
+  by-record : (f : Refusal) → verdict m ≡ Err f → RefusedAs sense m c f
+  by_count : Admissible m → c.count ≢ m.count → RefusedAs sense m c (refusal_for refusal.Amounts)
+  by-amounts : Admissible m → c.count ≡ m.count → ¬ GoodPoint m.count (asked sense m).item (proposed_at c) → RefusedAs sense m c (refusal_for refusal.Amount)
 
 -- 01's yes: feasible, and v is the value in lowest terms
 pub record ToldValue (sense : Sense) (m : Model) (c : Candidate) (v : Fraction) : Type 0 where
@@ -210,8 +210,8 @@ pub record ToldNeed (sense : Sense) (m : Model) (c : Candidate) (k : ℕ) : Type
   pub broken : ¬ KeepsNeed (placed (need_at m.needs line)) (proposed_point c)
   pub before : (j : ℕ) → j < line → KeepsNeed (placed (need_at m.needs j)) (proposed_point c)
 
-abbrev pub Told : Sense → Model → Candidate → PointReply → Type 0
-Told sense m c (reply.Refused f) = RefusedAs sense m c f
-Told sense m c (reply.Feasible v) = ToldValue sense m c v
-Told sense m c (reply.Violates zero) = ToldWeight sense m c
-Told sense m c (reply.Violates (suc k)) = ToldItem sense m c k ⊎ ToldNeed sense m c k
+abbrev pub Told : Sense → Model → Candidate → Result Finding Refusal → Type 0
+Told sense m c (Err f) = RefusedAs sense m c f
+Told sense m c (Ok (Feasible v)) = ToldValue sense m c v
+Told sense m c (Ok (Violates zero)) = ToldWeight sense m c
+Told sense m c (Ok (Violates (suc k))) = ToldItem sense m c k ⊎ ToldNeed sense m c k

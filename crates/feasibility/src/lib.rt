@@ -21,7 +21,6 @@ ghost use Rattle.feasibility.specs.Check.{
   figure_of,
   term,
   total_of,
-  refuse_point,
   judged,
   amount_check,
   point_check,
@@ -33,9 +32,10 @@ ghost use Rattle.feasibility.specs.Check.{
   Worth,
 };
 
-use arith::{Fraction, floor_div, magnitude, reduce};
-use knapsack::{Bound, Item, Problem, Refusal, Verdict, own_divisor};
-use model::{Model, Needs, Sense, Side, beyond, check_model, plain_of, refusal_of, refusals};
+use arith::{Fraction, floor_div, reduce};
+use knapsack::{Item, Problem, Refusal, own_divisor};
+use model::refusals::Reason;
+use model::{Model, Needs, Sense, Side, beyond, check_model, plain_of};
 
 // 01's proposed point: an amount for each item, at the first count places.
 #[derive(Clone, Copy)]
@@ -46,9 +46,8 @@ pub struct Candidate {
 
 // 01's yes with the exact value, or its no: the first item, from 1, that breaks its mark or a bound, or else that of the first broken need, or 0 where
 // only the weight is over.
-#[derive(Clone, Copy)]
-pub enum PointReply {
-    Refused(Refusal),
+#[derive(Clone, Copy, PartialEq, Eq)]
+pub enum Finding {
     Feasible(Fraction),
     Violates(usize),
 }
@@ -65,8 +64,7 @@ fn times(v: i64, q: u64) -> i64
     requires { (nat_abs v * q ≤ 1000000000000000) × (q ≤ 1000) }
     ensures { result ≡ v *ℤ pos q }
 {
-    let n = q as i64;
-    v * n
+    v * q as i64
 }
 
 // Whether p / q is outside ±1,000,000,000.
@@ -78,32 +76,23 @@ fn is_farther(p: i64, q: u64) -> bool
 }
 
 // Refusal 8 of an amount by itself: its divisor is the item's own.
+#[tactic(auto, unfolding(crate::specs::Amounts::bad_amount))]
 fn is_bad_amount(i: Item, x: Fraction) -> bool
     requires { ItemFigures i }
     ensures { result ≡ bad_amount i x }
 {
-    let m = i.mark;
-    let a = i.weight;
-    let d = own_divisor(m, a);
-    let q = x.q;
-    if q == d {
-        let p = x.p;
-        return is_farther(p, q);
-    }
-    true
+    x.q != own_divisor(i.mark, i.weight) || is_farther(x.p, x.q)
 }
 
 fn is_whole(x: Fraction) -> bool
     requires { GoodAmount x }
     ensures { result ≡ is_whole x }
 {
-    let p = x.p;
-    let q = x.q;
-    let n = magnitude(p);
-    n % q == 0
+    x.p.unsigned_abs() % x.q == 0
 }
 
 // The common divisor d of the amounts so far and of one more.
+#[tactic(auto, unfolding(crate::specs::Amounts::joined))]
 fn join(d: u64, i: Item, x: Fraction) -> u64
     requires { ItemFigures i }
     ensures { result ≡ joined d i x }
@@ -114,8 +103,7 @@ fn join(d: u64, i: Item, x: Fraction) -> u64
     if is_whole(x) {
         return d;
     }
-    let q = x.q;
-    if d == 1 { q } else { 0 }
+    if d == 1 { x.q } else { 0 }
 }
 
 // The divisor of the one amount that is not whole, or 1; 0 where refusal 8 is due.
@@ -123,24 +111,19 @@ fn common_divisor(p: Problem, c: Candidate) -> u64
     requires { FiguresInRange p × (c.count ≡ p.count) }
     ensures { result ≡ common_divisor c.count (item_at p) (proposed_at c) }
 {
-    let n = c.count;
-    let mut d: u64 = 1;
-    let mut k: usize = 0;
-    while k < n {
-        let i = p.items[k];
-        let x = c.amounts[k];
-        d = join(d, i, x);
-        k += 1;
+    let mut d = 1;
+    for k in 0..c.count {
+        d = join(d, p.items[k], c.amounts[k]);
     }
     d
 }
 
 // Whether p / q is past a bound on its side.
-pub fn breaks_bound(s: Side, b: Bound, p: i64, q: u64) -> bool
+pub fn breaks_bound(s: Side, b: Option<i64>, p: i64, q: u64) -> bool
     requires { BoundInRange b × (q ≤ 1000) }
     ensures { result ≡ breaks_bound s b p q }
 {
-    let Bound::At(v) = b else {
+    let Some(v) = b else {
         return false;
     };
     let n = times(v, q);
@@ -151,18 +134,12 @@ pub fn breaks_bound(s: Side, b: Bound, p: i64, q: u64) -> bool
 }
 
 // Whether an amount breaks a bound of its item. Over their own divisor all amounts keep their mark.
+#[tactic(auto, unfolding(crate::specs::Check::breaks))]
 fn does_break(i: Item, x: Fraction) -> bool
     requires { ItemFigures i × GoodAmount x }
     ensures { result ≡ breaks i x }
 {
-    let p = x.p;
-    let q = x.q;
-    let l = i.lower;
-    if breaks_bound(Side::Lower, l, p, q) {
-        return true;
-    }
-    let u = i.upper;
-    breaks_bound(Side::Upper, u, p, q)
+    breaks_bound(Side::Lower, i.lower, x.p, x.q) || breaks_bound(Side::Upper, i.upper, x.p, x.q)
 }
 
 // The number of the first item that breaks: the one found so far if it is not 0, or that of the item at place k, or 0.
@@ -182,14 +159,9 @@ fn first_broken(p: Problem, c: Candidate) -> usize
     requires { Checkable p c }
     ensures { result ≡ first_broken p.count p c }
 {
-    let n = p.count;
-    let mut found: usize = 0;
-    let mut k: usize = 0;
-    while k < n {
-        let i = p.items[k];
-        let x = c.amounts[k];
-        found = earlier(found, k, i, x);
-        k += 1;
+    let mut found = 0;
+    for k in 0..p.count {
+        found = earlier(found, k, p.items[k], c.amounts[k]);
     }
     found
 }
@@ -199,14 +171,7 @@ fn does_lack(x: Fraction, y: Fraction) -> bool
     requires { GoodAmount x × GoodAmount y }
     ensures { result ≡ lacks x y }
 {
-    let p = x.p;
-    let q = x.q;
-    if breaks_bound(Side::Upper, Bound::At(0), p, q) {
-        let r = y.p;
-        let t = y.q;
-        return breaks_bound(Side::Lower, Bound::At(1), r, t);
-    }
-    false
+    breaks_bound(Side::Upper, Some(0), x.p, x.q) && breaks_bound(Side::Lower, Some(1), y.p, y.q)
 }
 
 // The item of line j where it lacks its cover, or 0.
@@ -215,14 +180,14 @@ fn uncovered_at(needs: Needs, j: usize, c: Candidate) -> usize
     ensures { result ≡ uncovered_at needs c j }
 {
     let need = needs.lines[j];
-    let k = need.item;
-    let l = need.cover;
-    let x = c.amounts[k - 1];
-    let y = c.amounts[l - 1];
-    if does_lack(x, y) { k } else { 0 }
+    if does_lack(c.amounts[need.item - 1], c.amounts[need.cover - 1]) {
+        need.item
+    } else {
+        0
+    }
 }
 
-// The number found, or else n.
+// The number found, or else n. None is 0 here and above, as 01's reply gives it: `Told` and `weight-iff` (proofs/Meaning) say what `Violates(0)` means.
 fn number_or(found: usize, n: usize) -> usize
     ensures { result ≡ earlier_of found n }
 {
@@ -234,12 +199,9 @@ fn first_lacking(needs: Needs, c: Candidate) -> usize
     requires { Coverable needs c }
     ensures { result ≡ first_lacking needs.count needs c }
 {
-    let t = needs.count;
-    let mut found: usize = 0;
-    let mut j: usize = 0;
-    while j < t {
+    let mut found = 0;
+    for j in 0..needs.count {
         found = number_or(found, uncovered_at(needs, j, c));
-        j += 1;
     }
     found
 }
@@ -249,8 +211,7 @@ fn first_breach(p: Problem, needs: Needs, c: Candidate) -> usize
     requires { Checkable p c × Coverable needs c }
     ensures { result ≡ first_breach p needs c }
 {
-    let k = first_broken(p, c);
-    number_or(k, first_lacking(needs, c))
+    number_or(first_broken(p, c), first_lacking(needs, c))
 }
 
 fn figure_of(f: Figure, i: Item) -> i64
@@ -267,10 +228,7 @@ fn parts(d: u64, x: Fraction) -> i64
     requires { (d ≤ 1000) × GoodAmount x }
     ensures { result ≡ numerator d x }
 {
-    let p = x.p;
-    let q = x.q;
-    let n = times(p, d);
-    floor_div(n, q as i64)
+    floor_div(times(x.p, d), x.q as i64)
 }
 
 // An item's figure times its amount, over the divisor d: within 10^16.
@@ -278,9 +236,7 @@ fn one_term(f: Figure, d: u64, i: Item, x: Fraction) -> i64
     requires { (d ≤ 1000) × (ItemFigures i × GoodAmount x) }
     ensures { result ≡ term f d i x }
 {
-    let a = figure_of(f, i);
-    let n = parts(d, x);
-    a * n
+    figure_of(f, i) * parts(d, x)
 }
 
 // The sum of a figure times the amounts, over the divisor d.
@@ -288,14 +244,9 @@ fn total(f: Figure, d: u64, p: Problem, c: Candidate) -> i64
     requires { (d ≤ 1000) × Checkable p c }
     ensures { result ≡ total_of f d p.count p c }
 {
-    let n = p.count;
-    let mut sum: i64 = 0;
-    let mut k: usize = 0;
-    while k < n {
-        let i = p.items[k];
-        let x = c.amounts[k];
-        sum = sum + one_term(f, d, i, x);
-        k += 1;
+    let mut sum = 0;
+    for k in 0..p.count {
+        sum += one_term(f, d, p.items[k], c.amounts[k]);
     }
     sum
 }
@@ -306,60 +257,46 @@ pub fn worth(p: Problem, c: Candidate) -> Fraction
     ensures { Worth p c result }
 {
     let d = common_divisor(p, c);
-    let v = total(Figure::Price, d, p, c);
-    Fraction { p: v, q: d }
+    Fraction {
+        p: total(Figure::Price, d, p, c),
+        q: d,
+    }
 }
 
 // The reply where nothing is refused, d being the common divisor.
-fn judge(d: u64, p: Problem, needs: Needs, c: Candidate) -> PointReply
+fn judge(d: u64, p: Problem, needs: Needs, c: Candidate) -> Finding
     requires { ((1 ≤ d) × (d ≤ 1000)) × (Checkable p c × Coverable needs c) }
     ensures { result ≡ judged d p needs c }
 {
     let k = first_breach(p, needs, c);
     if 0 < k {
-        return PointReply::Violates(k);
+        return Finding::Violates(k);
     }
     let b = times(p.capacity, d);
     let w = total(Figure::Weight, d, p, c);
     if b < w {
-        return PointReply::Violates(0);
+        return Finding::Violates(0);
     }
     let v = total(Figure::Price, d, p, c);
-    PointReply::Feasible(reduce(v, d))
-}
-
-fn refused(number: u64) -> PointReply
-    ensures { result ≡ refuse_point number }
-{
-    PointReply::Refused(refusal_of(number))
+    Finding::Feasible(reduce(v, d))
 }
 
 // The reply to a point of an accepted problem: refusals 7 and 8, then yes or no.
-fn check_amounts(p: Problem, needs: Needs, c: Candidate) -> PointReply
+fn check_amounts(p: Problem, needs: Needs, c: Candidate) -> Result<Finding, Refusal>
     requires { FiguresInRange p × Lined p.count needs }
     ensures { result ≡ amount_check p needs c }
 {
-    if c.count != p.count {
-        return refused(refusals::AMOUNTS);
-    }
+    Reason::Amounts.refuse_if(c.count != p.count)?;
     let d = common_divisor(p, c);
-    if d == 0 {
-        return refused(refusals::AMOUNT);
-    }
-    judge(d, p, needs, c)
+    Reason::Amount.refuse_if(d == 0)?;
+    Ok(judge(d, p, needs, c))
 }
 
 // 01's point check, in a sense: the one reply by definition, and what it says, by its case.
-pub fn check_point(m: Model, sense: Sense, c: Candidate) -> PointReply
+pub fn check_point(m: Model, sense: Sense, c: Candidate) -> Result<Finding, Refusal>
     ensures value { result ≡ point_check sense m c }
     ensures told { Told sense m c result }
 {
-    let v = check_model(m);
-    match v {
-        Verdict::Accepted => {
-            let needs = m.needs;
-            check_amounts(plain_of(m, sense), needs, c)
-        }
-        Verdict::Refused(f) => PointReply::Refused(f),
-    }
+    check_model(m)?;
+    check_amounts(plain_of(m, sense), m.needs, c)
 }

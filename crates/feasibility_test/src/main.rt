@@ -5,7 +5,8 @@
 #![tactic(auto)]
 
 use arith::Fraction;
-use feasibility::{Candidate, PointReply, check_point};
+use feasibility::{Candidate, Finding, check_point};
+use knapsack::Refusal;
 use model::Sense;
 use model::setters::with_needs;
 use trials::make::record_of;
@@ -27,19 +28,19 @@ struct OneAmount {
     at: usize,
 }
 
-fn print_reply(r: PointReply) {
+fn print_reply(r: Result<Finding, Refusal>) {
     match r {
-        PointReply::Refused(f) => {
+        Err(f) => {
             print(b" refused");
             print_field(f.number);
             print_field(f.line);
         }
-        PointReply::Feasible(v) => {
+        Ok(Finding::Feasible(v)) => {
             print(b" yes");
             print_signed_field(v.p);
             print_field(v.q);
         }
-        PointReply::Violates(k) => {
+        Ok(Finding::Violates(k)) => {
             print(b" no");
             print_field(k as u64);
         }
@@ -49,17 +50,13 @@ fn print_reply(r: PointReply) {
 
 // Prints the word that starts at a place; the place behind it.
 fn print_word(s: &[u8], from: usize) -> usize {
-    let mut at = from;
-    while at < s.len() {
-        let b = s[at];
-        if is_gap(b) {
+    for at in from..s.len() {
+        if is_gap(s[at]) {
             return at;
         }
-        let one = [b];
-        print(&one);
-        at += 1;
+        print(&[s[at]]);
     }
-    at
+    from.max(s.len())
 }
 
 fn read_amount(s: &[u8], from: usize) -> OneAmount {
@@ -74,21 +71,13 @@ fn read_amount(s: &[u8], from: usize) -> OneAmount {
     }
 }
 
-fn blank_amounts() -> [Fraction; 16] {
-    [Fraction { p: 0, q: 0 }; 16]
-}
-
 fn read_amounts(s: &[u8], from: usize, given: u64) -> Amounts {
-    let mut list = blank_amounts();
+    let mut list = [Fraction { p: 0, q: 0 }; 16];
     let mut at = from;
-    let n = places(given);
-    let mut k: usize = 0;
-    while k < n {
+    for x in &mut list[..places(given)] {
         let r = read_amount(s, at);
-        let x = r.amount;
-        list[k] = x;
+        *x = r.amount;
         at = r.at;
-        k += 1;
     }
     Amounts { list: list, at: at }
 }
@@ -102,16 +91,12 @@ fn one_case(s: &[u8], from: usize) -> usize {
     let amount_count = read_number(s, i.at);
     let amounts_given = read_number(s, amount_count.at);
     let x = read_amounts(s, amounts_given.at, amounts_given.size);
-    let list = i.list;
     let n = read_needs(s, x.at);
-    let ns = n.needs;
-    let p = with_needs(record_of(capacity.value, count.size as usize, list), ns);
-    let point = x.list;
-    let c = Candidate {
-        amounts: point,
-        count: amount_count.size as usize,
-    };
-    print_reply(check_point(p, Sense::Sure, c));
+    let p = record_of(capacity.value, count.size as usize, i.list);
+    let amounts = x.list;
+    let count = amount_count.size as usize;
+    let c = Candidate { amounts, count };
+    print_reply(check_point(with_needs(p, n.needs), Sense::Sure, c));
     skip(s, n.at)
 }
 

@@ -3,11 +3,11 @@
 -- shifted_of, shifted-to: such a z, such a y. shifted-inside: y is inside the ranges, shifted-within: z is no more than there is.
 -- shifted-load, shifted-cost: what both weigh and cost.  offset-least: nothing within the ranges costs less than the offset, and low-least: nor weighs
 -- less than the least amounts.
-use mathlib.Core.Path.{◌≡◌, refl, sym, ap, ap₂, ◌∙◌}
+use mathlib.Core.Path.{◌≡◌, refl, ◌∙◌}
 use Prim.Native.Nat.{ℕ, ◌+◌, ◌*◌, ◌-◌, ◌≤◌, ◌<◌}
 use native.Mathlib.Omega.{arith}
 use lib.ListN.{length}
-use Rattle.scales.specs.Filling.{sum, load, cost, Within}
+use Rattle.scales.specs.Filling.{load, cost, Within}
 use Rattle.scales.proofs.Sums.{sum-cong, sum-add}
 use Rattle.fillings.specs.declared.Parts.{Parts}
 use Rattle.fillings.specs.declared.Ranges.{Ranges}

@@ -3,12 +3,12 @@
 --   costs, keyed         what amounts cost, and what they cost with keys, at most cap a unit
 -- keyed-≤: never more than the costs times base, and the key; keyed-≡: just that, below the cap: a unit that was cut at the cap is not paid for.
 -- split-cost: the cost and the key are quotient and remainder. cost-low, key-low: what a lower bound says of both.
-use mathlib.Core.Path.{◌≡◌, refl, sym, ap, ap₂, ◌∙◌}
+use mathlib.Core.Path.{◌≡◌, ap, ◌∙◌}
 use mathlib.Core.Bool.{Bool, true, false, cond}
 use Prim.Native.Nat.{ℕ, zero, suc, ◌+◌, ◌*◌, ◌-◌, ◌/◌, ◌%◌, ◌≤◌, ◌<◌, min}
 use native.Mathlib.Omega.{arith}
 use native.Mathlib.Decide.{dec_lt}
-use native.Mathlib.Nat.{mul-le-mul_right, mul-le-mul_left, div-add-mod', mod-lt}
+use native.Mathlib.Nat.{mul-le-mul_right, div-add-mod', mod-lt}
 use Rattle.scales.specs.Filling.{sum}
 use Rattle.fillings.specs.Runs.{keyed_by, taken_key, left_key}
 

@@ -2,11 +2,10 @@
 -- whole-among, whole-inside, whole-least: all amounts. among-less, wide-less: narrower ranges.
 -- lower-cap: a run below another cap. heads-first, sought-first, sought-step, sought-more, sought-done, sought-none: from run to run.
 -- bounds-begun, sought-begun, begun-found: after a run over all amounts.
-use mathlib.Core.Path.{◌≡◌, refl, sym, ap, subst, ◌∙◌}
-use mathlib.Core.Bool.{Bool, true, false}
-use mathlib.Core.List.{List}
+use mathlib.Core.Path.{◌≡◌, refl, sym, subst, ◌∙◌}
 use mathlib.Core.Logic.{◌⊎◌, inl, inr}
-use Prim.Native.Nat.{ℕ, zero, suc, ◌+◌, ◌*◌, ◌-◌, ◌^◌, ◌≤◌, ◌<◌}
+use Rattle.std.specs.Prelude.{Option, Some, None, List, replicate, unwrap_or}
+use Prim.Native.Nat.{ℕ, suc, ◌+◌, ◌*◌, ◌-◌, ◌^◌, ◌≤◌, ◌<◌}
 use native.Mathlib.Omega.{arith}
 use native.Mathlib.Decide.{dec_lt, ℕ_discrete}
 use native.Mathlib.Nat.{mul-le-mul_left}
@@ -184,14 +183,14 @@ module _ (p : Parts) (r : Ranges) (C cap : ℕ) (n : Run) (long : length p.weigh
       k = rw w.all (keys 0 (omega arith))
 
   -- and what is found from there on
-  pub begun-found : (s : Run) (f : First) → Goes p C (n.cost + 1) s f → FirstAt p C n.cost f.amounts
-  begun-found s f g = go f.found refl
+  pub begun-found : (s : Run) (f : First) → Goes p C (n.cost + 1) s f → FirstAt p C n.cost (unwrap_or f.amounts (replicate 17 0))
+  begun-found s f g = go f.amounts refl
     where
       e : n.cost + 1 - 1 ≡ n.cost
       e = omega arith
 
-      go : (b : Bool) → f.found ≡ b → FirstAt p C n.cost f.amounts
-      go true t = subst (λ c. FirstAt p C c f.amounts) e (g.found t)
-      go false t =
+      go : (m : Option (List ℕ)) → f.amounts ≡ m → FirstAt p C n.cost (unwrap_or m (replicate 17 0))
+      go (Some a) t = subst (λ c. FirstAt p C c a) e (g.found a t)
+      go None t =
           let v = (whole-least p r C cap 0 n long w h).reached l in
           absurd (omega (arith, g.none t v.amounts v.within v.fills, v.costs))

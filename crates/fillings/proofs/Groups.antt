@@ -6,12 +6,11 @@
 -- gathered-first, gathered-some, gathered-one, gathered-fits, gathered-step, gathered-done, gathered-full: one part more, as long as there is room.
 use mathlib.Core.Path.{◌≡◌, refl, sym, ap, ◌∙◌}
 use mathlib.Core.List.{List}
-use Prim.Native.Nat.{ℕ, zero, suc, ◌+◌, ◌*◌, ◌-◌, ◌/◌, ◌%◌, ◌^◌, ◌≤◌, ◌<◌}
+use Prim.Native.Nat.{ℕ, suc, ◌+◌, ◌*◌, ◌-◌, ◌/◌, ◌%◌, ◌^◌, ◌≤◌, ◌<◌}
 use native.Mathlib.Omega.{arith}
 use native.Mathlib.Decide.{ℕ_discrete}
 use native.Mathlib.Nat.{mul-div_cancel_left, div-le_self, mul-le-mul, mul-le-mul_left, mul-le-mul_right, le-div_iff_mul-le, lt-div-mul-add}
 use native.Mathlib.Numerals.{add-one}
-use Rattle.fillings.specs.declared.Group.{Group}
 use Rattle.fillings.specs.Keys.{keys, digits}
 use Rattle.fillings.specs.Ranges.{num}
 use Rattle.fillings.specs.Runs.{Grouped}

@@ -12,7 +12,7 @@ use native.Mathlib.Nat.{div-le_self, div-mul-le_self, le-div_iff_mul-le}
 use borrow.Author.Tests.{lt-ltb, le-ltb}
 use lib.Dec.{ltb}
 use lib.ListN.{length}
-use Rattle.scales.specs.Filling.{cost, Within}
+use Rattle.scales.specs.Filling.{cost}
 use Rattle.fillings.specs.declared.Parts.{Parts}
 use Rattle.fillings.specs.declared.Ranges.{Ranges}
 use Rattle.fillings.specs.declared.Run.{Run}

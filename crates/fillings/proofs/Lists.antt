@@ -1,5 +1,5 @@
 -- Lists as loops make them.
--- num-zeros: nothing everywhere. begun_first, -step, -done: place by place from the front, as made-first, -step, -done (residues), with nothing at the
+-- num-zeros: nothing everywhere. begun_first, -step, -done: place by place from the front, as made-step, -done (residues), with nothing at the
 -- other places.
 use mathlib.Core.Path.{◌≡◌, refl, ◌∙◌}
 use mathlib.Core.List.{List}
@@ -8,7 +8,7 @@ use native.Mathlib.Omega.{arith}
 use native.Mathlib.Decide.{ℕ_discrete, dec_lt}
 use lib.ListN.{length, set, length-set, replicate}
 use lib.Seq.{get_or-set_same, get_or-set_other}
-pub use Rattle.residues.proofs.Lists.{made-first, made-step, made-done}
+pub use Rattle.residues.proofs.Lists.{made-step, made-done}
 use Rattle.fillings.specs.Ranges.{num, Made}
 
 abbrev pub zeros : List ℕ

@@ -1,18 +1,18 @@
 -- Amounts that alone cost too much are taken out: what is left has the same offset, and every filling that costs less than the cap.
 -- near_within, near-inside: the narrowed ranges are within the ranges. near-offset: the offset stays. near-keeps: what costs less than the cap stays.
-use mathlib.Core.Path.{◌≡◌, refl, ap, ap₂, ◌∙◌}
+use mathlib.Core.Path.{◌≡◌, refl, ap₂}
 use mathlib.Core.Bool.{Bool, true, false, cond}
-use Prim.Native.Nat.{ℕ, suc, ◌+◌, ◌*◌, ◌-◌, ◌/◌, ◌≤◌, ◌<◌, min}
+use Prim.Native.Nat.{ℕ, ◌+◌, ◌*◌, ◌-◌, ◌/◌, ◌≤◌, ◌<◌, min}
 use native.Mathlib.Omega.{arith}
 use native.Mathlib.Nat.{le-div_iff_mul-le}
 use lib.Dec.{eqb}
 use lib.ListN.{length}
 use borrow.Author.Tests.{eqb-true, eqb-false}
-use Rattle.scales.specs.Filling.{sum, cost, load}
+use Rattle.scales.specs.Filling.{cost}
 use Rattle.scales.proofs.Sums.{sum-cong, sum-part}
 use Rattle.fillings.specs.declared.Parts.{Parts}
 use Rattle.fillings.specs.declared.Ranges.{Ranges}
-use Rattle.fillings.specs.Ranges.{num, items_in, Inside, Among, offset_at, offset_of, boxed, near_wide, near_low, Narrows}
+use Rattle.fillings.specs.Ranges.{num, items_in, Inside, Among, offset_at, offset_of, near_wide, near_low, Narrows}
 use Rattle.fillings.proofs.Boxes.{Shifted, from_low, shifted_of, shifted-cost}
 
 pub near_within : (left t l wide : ℕ) → near_wide left t l wide ≤ wide

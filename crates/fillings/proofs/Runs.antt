@@ -5,14 +5,13 @@ use mathlib.Core.Path.{◌≡◌, refl, sym, ap, ap₂, subst, ◌∙◌}
 use mathlib.Core.Bool.{Bool, true, false, cond}
 use mathlib.Core.List.{List}
 use mathlib.Core.Logic.{◌⊎◌, inl, inr}
-use Prim.Native.Nat.{ℕ, zero, suc, ◌+◌, ◌*◌, ◌-◌, ◌/◌, ◌%◌, ◌^◌, ◌≤◌, ◌<◌}
+use Prim.Native.Nat.{ℕ, suc, ◌+◌, ◌*◌, ◌-◌, ◌/◌, ◌%◌, ◌≤◌, ◌<◌}
 use native.Mathlib.Omega.{arith}
 use native.Mathlib.Decide.{dec_lt}
 use native.Mathlib.Nat.{mul-le-mul_right, mod-lt, div-mul-le_self, div-le_self}
-use lib.Dec.{ltb}
 use lib.ListN.{length}
 use borrow.Author.Tests.{lt-ltb, le-ltb}
-use Rattle.scales.specs.Filling.{Items, sum, load, cost, Within, items_of, Reached, Least}
+use Rattle.scales.specs.Filling.{Items, load, cost, Within, items_of, Reached, Least}
 use Rattle.scales.proofs.Sums.{sum-cong}
 use Rattle.fillings.specs.declared.Parts.{Parts}
 use Rattle.fillings.specs.declared.Ranges.{Ranges}
@@ -25,8 +24,8 @@ use Rattle.fillings.specs.Runs.{Grouped, in_group, keyed_taken, keyed_left, Fixe
 use Rattle.fillings.specs.Runs.{Runs}
 use Rattle.fillings.proofs.Keys.{Digits, Same, Sooner, keys-some, key_below, key-≤, key-digits, digits_in_lem, digits-key, key-sum}
 use Rattle.fillings.proofs.Costs as costs
-use Rattle.fillings.proofs.Boxes.{Shifted, from_low, shifted_of, shifted-to, shifted-inside, shifted-within, shifted-load, shifted-cost}
-use Rattle.fillings.proofs.Narrow.{near-inside, near-offset, near-keeps, near-wide-in}
+use Rattle.fillings.proofs.Boxes.{Shifted, from_low, shifted_of, shifted-to, shifted-within, shifted-load, shifted-cost}
+use Rattle.fillings.proofs.Narrow.{near-inside, near-keeps, near-wide-in}
 
 -- ---- nothing is found
 

@@ -1,6 +1,6 @@
 -- Weights as costs: what is taken weighs the capacity, and what is left weighs what is over.
 -- taken-weighs, left-weighs: what units cost that cost their weight if they are taken, or if they are left. caps-taken, caps-left: no filling costs more.
-use mathlib.Core.Path.{◌≡◌, refl, sym, subst, ◌∙◌}
+use mathlib.Core.Path.{◌≡◌, sym, subst, ◌∙◌}
 use mathlib.Core.List.{List}
 use Prim.Native.Nat.{ℕ, ◌+◌, ◌-◌, ◌*◌, ◌≤◌, ◌<◌, min}
 use native.Mathlib.Omega.{arith}

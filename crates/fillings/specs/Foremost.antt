@@ -10,7 +10,7 @@
 --   Goes p C cap s r           from s on: r shows it for c = cap - 1, or says that nothing costs less than cap
 --   FirstOf p C cap r          the same, whatever s
 --   LeastOf p C cap r          r is the least cost, at most cap, with the first filling that has it
-use Rattle.std.specs.Prelude.{◌≡◌, true, false, List, ◌⊎◌, ◌≢◌, ℕ, suc, ◌+◌, ◌-◌, ◌*◌, ◌^◌, ◌≤◌, ◌<◌}
+use Rattle.std.specs.Prelude.{◌≡◌, None, Some, List, ◌⊎◌, ◌≢◌, ℕ, suc, ◌+◌, ◌-◌, ◌*◌, ◌^◌, ◌≤◌, ◌<◌}
 use Rattle.scales.specs.Filling.{cost, Within, Least}
 use Rattle.fillings.specs.declared.Parts.{Parts}
 use Rattle.fillings.specs.declared.Ranges.{Ranges}
@@ -66,14 +66,14 @@ least_cells = 1689252345
 pub record Goes (p : Parts) (C cap : ℕ) (s : Run) (r : First) : Type 0 where
   pub few : r.written ≤ s.written + 16 * run_cells
   pub writes : GoneWrites p C cap s r.written
-  pub found : r.found ≡ true → FirstAt p C (cap - 1) r.amounts
-  pub none : r.found ≡ false → (y : ℕ → ℕ) → Within (items_in p) y → Fills p C y → cap ≤ cost (items_in p) y
+  pub found : (a : List ℕ) → r.amounts ≡ Some a → FirstAt p C (cap - 1) a
+  pub none : r.amounts ≡ None → (y : ℕ → ℕ) → Within (items_in p) y → Fills p C y → cap ≤ cost (items_in p) y
 
 pub record FirstOf (p : Parts) (C cap : ℕ) (r : First) : Type 0 where
   pub few : r.written ≤ first_cells
   pub writes : FirstWrites p C cap r.written
-  pub found : r.found ≡ true → FirstAt p C (cap - 1) r.amounts
-  pub none : r.found ≡ false → (y : ℕ → ℕ) → Within (items_in p) y → Fills p C y → cap ≤ cost (items_in p) y
+  pub found : (a : List ℕ) → r.amounts ≡ Some a → FirstAt p C (cap - 1) a
+  pub none : r.amounts ≡ None → (y : ℕ → ℕ) → Within (items_in p) y → Fills p C y → cap ≤ cost (items_in p) y
 
 pub record LeastOf (p : Parts) (C cap : ℕ) (r : Filled) : Type 0 where
   pub few : r.written ≤ least_cells

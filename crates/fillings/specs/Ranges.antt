@@ -8,7 +8,7 @@
 --   near_wide, near_low      the amounts of a part that alone cost less than left: how many, and by low_near the least;  near_wide_of, nearLowOf: of part k
 --   Narrows p left r r'    the ranges r' are those of r near the cheaper ends
 --   Fair p                 17 parts, light enough for the cells, with ranges that can be counted
-use Rattle.std.specs.Prelude.{◌≡◌, Bool, false, cond, List, ℕ, ◌+◌, ◌-◌, ◌*◌, ◌/◌, ◌^◌, ◌≤◌, ◌<◌, min, eqb, length, get_or}
+use Rattle.std.specs.Prelude.{Bool, false, cond, List, ℕ, ◌+◌, ◌-◌, ◌*◌, ◌/◌, ◌≤◌, ◌<◌, min, eqb, length, get_or}
 use Rattle.scales.specs.Filling.{Items, sum, items_of}
 pub use Rattle.residues.specs.Asked.{num, Made}
 use Rattle.residues.specs.Asked.{Fit}

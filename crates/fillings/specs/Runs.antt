@@ -23,15 +23,14 @@
 --   RunWrites p r C cap f n    a run over r from part f on writes n cells: those of the scales within the narrowed ranges, or none where nothing is left
 --                              to look for
 --   Whole p r                  the ranges of all amounts
-use Rattle.std.specs.Prelude.{◌≡◌, Bool, true, false, cond, List, ◌⊎◌, ◌≢◌, ℕ, suc, ◌+◌, ◌-◌, ◌*◌, ◌^◌, ◌≤◌, ◌<◌, min, ltb, length}
+use Rattle.std.specs.Prelude.{◌≡◌, Bool, true, false, cond, List, ◌⊎◌, ℕ, suc, ◌+◌, ◌-◌, ◌*◌, ◌^◌, ◌≤◌, ◌<◌, min, ltb, length}
 use Rattle.scales.specs.declared.Cost.{Cost}
-use Rattle.scales.specs.Filling.{load, cost, Within, items_of, Least}
+use Rattle.scales.specs.Filling.{load, cost, items_of, Least}
 use Rattle.residues.specs.Asked.{Chosen, TakesBy}
 use Rattle.fillings.specs.declared.Parts.{Parts}
 use Rattle.fillings.specs.declared.Ranges.{Ranges}
 use Rattle.fillings.specs.declared.Group.{Group}
 use Rattle.fillings.specs.declared.Run.{Run}
-use Rattle.fillings.specs.declared.First.{First}
 use Rattle.fillings.specs.Keys.{keys, digits, radix}
 use Rattle.fillings.specs.Ranges.{num, flag, items_in, Inside, Among, offset_of, boxed, Made, Narrows, Fair}
 

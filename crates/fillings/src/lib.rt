@@ -18,6 +18,7 @@ ghost use Rattle.fillings.specs.Foremost.{Keyable, Goes, FirstOf, LeastOf};
 
 use residues::{free_part, least_beside};
 use scales::Cost;
+use std::array;
 
 // The parts of a load, and for each whether its amount falls where more of it is taken.
 #[derive(Clone, Copy)]
@@ -65,8 +66,7 @@ pub struct Weighing {
 // The amounts of the first filling, if there is one, and how many cells were written.
 #[derive(Clone, Copy)]
 pub struct First {
-    pub found: bool,
-    pub amounts: [u64; 17],
+    pub amounts: Option<[u64; 17]>,
     pub written: u64,
 }
 
@@ -81,18 +81,6 @@ pub struct Filled {
 // No cap is above this: two costs below it can be added.
 const HIGHEST: u64 = 9223372036854775807;
 
-fn lesser(a: u64, b: u64) -> u64
-    ensures { result ≡ min a b }
-{
-    if a < b { a } else { b }
-}
-
-fn sooner(a: usize, b: usize) -> usize
-    ensures { result ≡ min a b }
-{
-    if a < b { a } else { b }
-}
-
 // ---- what is left of a cap
 
 // How many of so many units a cap affords. Mostly it is all of them, which a product tells without a division.
@@ -100,14 +88,10 @@ fn affordable(cap: u64, cost: u64, units: u64) -> u64
     requires { 1 ≤ cost }
     ensures { result ≡ min units (cap / cost) }
 {
-    if cost < 4294967296 {
-        if units < 4294967296 {
-            if cost * units <= cap {
-                return units;
-            }
-        }
+    if cost < 4294967296 && units < 4294967296 && cost * units <= cap {
+        return units;
     }
-    lesser(units, cap / cost)
+    units.min(cap / cost)
 }
 
 // A cap less what so many units cost; 0 if that is no less.
@@ -137,15 +121,8 @@ fn remaining(p: Parts, r: Ranges, cap: u64) -> u64
     ensures { result ≡ cap - offset_of p r }
 {
     let mut left = cap;
-    let mut k: usize = 0;
-    while k < 17 {
-        let t = p.taken[k];
-        let l = p.left[k];
-        let a = r.low[k];
-        let w = r.wide[k];
-        let u = p.range[k];
-        left = less_part(left, t, l, a, w, u);
-        k += 1;
+    for k in 0..17 {
+        left = less_part(left, p.taken[k], p.left[k], r.low[k], r.wide[k], p.range[k]);
     }
     left
 }
@@ -157,12 +134,8 @@ fn low_load(p: Parts, r: Ranges) -> u64
     ensures upper_bound { result < 2 ^ 63 }
 {
     let mut sum: u64 = 0;
-    let mut k: usize = 0;
-    while k < 17 {
-        let w = p.weight[k];
-        let a = r.low[k];
-        sum += w * a;
-        k += 1;
+    for k in 0..17 {
+        sum += p.weight[k] * r.low[k];
     }
     sum
 }
@@ -200,23 +173,13 @@ fn narrowed(p: Parts, r: Ranges, left: u64) -> Ranges
     requires { (1 ≤ left) × (Fair p × Among p r) }
     ensures { Narrows p left r result }
 {
-    let mut low = [0; 17];
-    let mut wide = [0; 17];
-    let mut k: usize = 0;
-    while k < 17 {
-        let t = p.taken[k];
-        let l = p.left[k];
-        let a = r.low[k];
-        let w = r.wide[k];
-        let n = near_wide(left, t, l, w);
-        low[k] = near_low(t, a, w, n);
-        wide[k] = n;
-        k += 1;
+    let mut n = r;
+    for k in 0..17 {
+        let w = near_wide(left, p.taken[k], p.left[k], r.wide[k]);
+        n.low[k] = near_low(p.taken[k], r.low[k], r.wide[k], w);
+        n.wide[k] = w;
     }
-    Ranges {
-        low: low,
-        wide: wide,
-    }
+    n
 }
 
 // ---- keys
@@ -226,17 +189,17 @@ fn group_of(wide: [u64; 17], from: usize, end: usize, left: u64) -> Group
     requires { (1 ≤ left) × ((left < 2 ^ 63) × (end ≤ 17)) }
     ensures { Grouped wide from end left result }
 {
-    let mut to = from;
     let mut base: u64 = 1;
-    while to < end {
-        let w = wide[to];
-        if HIGHEST / (left * base) <= w {
-            return Group { to: to, base: base };
+    for to in from..end {
+        if HIGHEST / (left * base) <= wide[to] {
+            return Group { to, base };
         }
-        base = base * (w + 1);
-        to += 1;
+        base *= wide[to] + 1;
     }
-    Group { to: to, base: base }
+    Group {
+        to: from.max(end),
+        base,
+    }
 }
 
 // What a unit of each part is worth in the key.
@@ -246,12 +209,9 @@ fn radices(wide: [u64; 17], from: usize, to: usize, base: u64) -> [u64; 17]
 {
     let mut list = [0; 17];
     let mut b = base;
-    let mut k = from;
-    while k < to {
-        let w = wide[k];
-        b = b / (w + 1);
+    for k in from..to {
+        b /= wide[k] + 1;
         list[k] = b;
-        k += 1;
     }
     list
 }
@@ -264,13 +224,10 @@ fn digits_of(wide: [u64; 17], from: usize, to: usize, base: u64, key: u64) -> [u
     let mut list = [0; 17];
     let mut b = base;
     let mut rest = key;
-    let mut k = from;
-    while k < to {
-        let w = wide[k];
-        b = b / (w + 1);
+    for k in from..to {
+        b /= wide[k] + 1;
         list[k] = rest / b;
-        rest = rest % b;
-        k += 1;
+        rest %= b;
     }
     list
 }
@@ -280,8 +237,7 @@ fn keyed(cap: u64, left: u64, base: u64, cost: u64, a: u64) -> u64
     requires { (left * base < 2 ^ 63) × (a < 2 ^ 63) }
     ensures { result ≡ keyed_by cap left base cost a }
 {
-    let c = lesser(left, cost);
-    lesser(cap, c * base + a)
+    cap.min(left.min(cost) * base + a)
 }
 
 fn taken_key(falls: bool, a: u64) -> u64
@@ -296,50 +252,18 @@ fn left_key(falls: bool, a: u64) -> u64
     if falls { a } else { 0 }
 }
 
-fn keyed_taken_at(p: Parts, cap: u64, left: u64, base: u64, rad: [u64; 17], k: usize) -> u64
-    requires { (left * base < 2 ^ 63) × ((k < 17) × (num rad k < 2 ^ 63)) }
-    ensures { result ≡ keyed_taken p cap left base rad k }
-{
-    let c = p.taken[k];
-    let f = p.falls[k];
-    let a = rad[k];
-    keyed(cap, left, base, c, taken_key(f, a))
-}
-
-fn keyed_left_at(p: Parts, cap: u64, left: u64, base: u64, rad: [u64; 17], k: usize) -> u64
-    requires { (left * base < 2 ^ 63) × ((k < 17) × (num rad k < 2 ^ 63)) }
-    ensures { result ≡ keyed_left p cap left base rad k }
-{
-    let c = p.left[k];
-    let f = p.falls[k];
-    let a = rad[k];
-    keyed(cap, left, base, c, left_key(f, a))
-}
-
 fn keyed_takens(p: Parts, cap: u64, left: u64, base: u64, rad: [u64; 17]) -> [u64; 17]
     requires { (left * base < 2 ^ 63) × ((k : ℕ) → k < 17 → num rad k < 2 ^ 63) }
     ensures { Made 17 (keyed_taken p cap left base rad) result }
 {
-    let mut to = [0; 17];
-    let mut k: usize = 0;
-    while k < 17 {
-        to[k] = keyed_taken_at(p, cap, left, base, rad, k);
-        k += 1;
-    }
-    to
+    array::from_fn(|k| keyed(cap, left, base, p.taken[k], taken_key(p.falls[k], rad[k])))
 }
 
 fn keyed_lefts(p: Parts, cap: u64, left: u64, base: u64, rad: [u64; 17]) -> [u64; 17]
     requires { (left * base < 2 ^ 63) × ((k : ℕ) → k < 17 → num rad k < 2 ^ 63) }
     ensures { Made 17 (keyed_left p cap left base rad) result }
 {
-    let mut to = [0; 17];
-    let mut k: usize = 0;
-    while k < 17 {
-        to[k] = keyed_left_at(p, cap, left, base, rad, k);
-        k += 1;
-    }
-    to
+    array::from_fn(|k| keyed(cap, left, base, p.left[k], left_key(p.falls[k], rad[k])))
 }
 
 // ---- amounts that are known
@@ -347,21 +271,19 @@ fn keyed_lefts(p: Parts, cap: u64, left: u64, base: u64, rad: [u64; 17]) -> [u64
 fn is_in_group(from: usize, to: usize, k: usize) -> bool
     ensures { result ≡ in_group from to k }
 {
-    if k < from { false } else { k < to }
+    (from..to).contains(&k)
 }
 
 fn fixed_low_at(p: Parts, r: Ranges, from: usize, to: usize, ds: [u64; 17], k: usize) -> u64
     requires { (k < 17) × ((num r.low k + num r.wide k < 2 ^ 64) × (num ds k ≤ num r.wide k)) }
     ensures { result ≡ fixed_low p r from to ds k }
 {
-    let a = r.low[k];
-    let w = r.wide[k];
-    let d = ds[k];
-    let f = p.falls[k];
-    if is_in_group(from, to, k) {
-        if f { a + (w - d) } else { a + d }
+    if !is_in_group(from, to, k) {
+        r.low[k]
+    } else if p.falls[k] {
+        r.low[k] + (r.wide[k] - ds[k])
     } else {
-        a
+        r.low[k] + ds[k]
     }
 }
 
@@ -369,33 +291,11 @@ fn fixed_wide_at(r: Ranges, from: usize, to: usize, k: usize) -> u64
     requires { k < 17 }
     ensures { result ≡ fixed_wide r from to k }
 {
-    let w = r.wide[k];
-    if is_in_group(from, to, k) { 0 } else { w }
-}
-
-fn fixed_lows(p: Parts, r: Ranges, from: usize, to: usize, ds: [u64; 17]) -> [u64; 17]
-    requires { Fixable r ds }
-    ensures { Made 17 (fixed_low p r from to ds) result }
-{
-    let mut list = [0; 17];
-    let mut k: usize = 0;
-    while k < 17 {
-        list[k] = fixed_low_at(p, r, from, to, ds, k);
-        k += 1;
+    if is_in_group(from, to, k) {
+        0
+    } else {
+        r.wide[k]
     }
-    list
-}
-
-fn fixed_wides(r: Ranges, from: usize, to: usize) -> [u64; 17]
-    ensures { Made 17 (fixed_wide r from to) result }
-{
-    let mut list = [0; 17];
-    let mut k: usize = 0;
-    while k < 17 {
-        list[k] = fixed_wide_at(r, from, to, k);
-        k += 1;
-    }
-    list
 }
 
 // The parts from one on, before `to`, fixed at digits.
@@ -403,11 +303,9 @@ fn fixed(p: Parts, r: Ranges, from: usize, to: usize, ds: [u64; 17]) -> Ranges
     requires { Fixable r ds }
     ensures { Fixes p from to ds r result }
 {
-    let low = fixed_lows(p, r, from, to, ds);
-    let wide = fixed_wides(r, from, to);
     Ranges {
-        low: low,
-        wide: wide,
+        low: array::from_fn(|k| fixed_low_at(p, r, from, to, ds, k)),
+        wide: array::from_fn(|k| fixed_wide_at(r, from, to, k)),
     }
 }
 
@@ -421,7 +319,7 @@ fn nothing(r: Ranges, cap: u64, from: usize, written: u64) -> Run
         cost: cap,
         ranges: r,
         to: from,
-        written: written,
+        written,
     }
 }
 
@@ -430,11 +328,7 @@ fn free_after(p: Parts, r: Ranges, from: usize, room: u64) -> usize
     requires { Fair p × (Among p r × ((length r.wide ≡ 17) × (from ≤ 16))) }
     ensures { Chosen (boxed p r) (from + 1) room result }
 {
-    let ws = p.weight;
-    let us = r.wide;
-    let ts = p.taken;
-    let ls = p.left;
-    free_part(ws, us, ts, ls, from + 1, room)
+    free_part(p.weight, r.wide, p.taken, p.left, from + 1, room)
 }
 
 // The least cost with the keys of a group, from the least amounts on.
@@ -453,15 +347,11 @@ fn least_keyed(
     requires in_bounds { 65535 ≤ length cells.old }
     ensures { LeastKeyed p r from left room g free result }
 {
-    let wide = r.wide;
-    let ws = p.weight;
-    let to = g.to;
-    let base = g.base;
-    let rad = radices(wide, from, to, base);
-    let most = left * base;
-    let ts = keyed_takens(p, most, left, base, rad);
-    let ls = keyed_lefts(p, most, left, base, rad);
-    least_beside(ws, wide, ts, ls, free, room, most, cells)
+    let rad = radices(r.wide, from, g.to, g.base);
+    let most = left * g.base;
+    let ts = keyed_takens(p, most, left, g.base, rad);
+    let ls = keyed_lefts(p, most, left, g.base, rad);
+    least_beside(p.weight, r.wide, ts, ls, free, room, most, cells)
 }
 
 // The ranges with a group fixed at the digits of a key.
@@ -469,11 +359,8 @@ fn decoded(p: Parts, r: Ranges, from: usize, left: u64, g: Group, key: u64) -> R
     requires { Fair p × (Among p r × (Gathers r.wide from left g × (key < g.base))) }
     ensures { Decodes p r from g key result }
 {
-    let wide = r.wide;
-    let to = g.to;
-    let base = g.base;
-    let ds = digits_of(wide, from, to, base, key);
-    fixed(p, r, from, to, ds)
+    let ds = digits_of(r.wide, from, g.to, g.base, key);
+    fixed(p, r, from, g.to, ds)
 }
 
 // The same where the offset leaves something of the cap, and the least amounts some room.
@@ -492,19 +379,15 @@ fn keyed_run(
     ensures runs { Runs p r capacity cap from result }
     ensures scales_write { ScalesWrite p r room from result.written }
 {
-    let wide = r.wide;
     let free = free_after(p, r, from, room);
-    let g = group_of(wide, from, sooner(16, free), left);
+    let g = group_of(r.wide, from, free.min(16), left);
     let c = least_keyed(p, r, from, left, room, g, free, cells);
-    let least = c.least;
-    let base = g.base;
-    if least == left * base {
+    if c.least == left * g.base {
         return nothing(r, cap, from, c.written);
     }
-    let ranges = decoded(p, r, from, left, g, least % base);
     Run {
-        cost: cap - left + least / base,
-        ranges: ranges,
+        cost: cap - left + c.least / g.base,
+        ranges: decoded(p, r, from, left, g, c.least % g.base),
         to: g.to,
         written: c.written,
     }
@@ -533,11 +416,7 @@ fn whole_of(p: Parts) -> Ranges
     ensures { Whole p result }
 {
     let wide = p.range;
-    let low = [0; 17];
-    Ranges {
-        low: low,
-        wide: wide,
-    }
+    Ranges { low: [0; 17], wide }
 }
 
 // ---- leaps
@@ -559,11 +438,7 @@ fn excess(total: u64, capacity: u64) -> u64
     requires { total < 2 ^ 63 }
     ensures { result ≡ (total + 1) - capacity }
 {
-    if total < capacity {
-        0
-    } else {
-        total - capacity + 1
-    }
+    (total + 1).saturating_sub(capacity)
 }
 
 fn by_weight(p: Parts, capacity: u64) -> Weighing
@@ -571,33 +446,22 @@ fn by_weight(p: Parts, capacity: u64) -> Weighing
     ensures { Weighs p result × (result.capacity ≡ capacity) }
 {
     let weight = p.weight;
-    let range = p.range;
-    let falls = p.falls;
+    let low = p.range;
     let none = [0; 17];
-    let up = Parts {
-        weight: weight,
-        range: range,
-        taken: weight,
-        left: none,
-        falls: falls,
-    };
-    let down = Parts {
-        weight: weight,
-        range: range,
-        taken: none,
-        left: weight,
-        falls: falls,
-    };
-    let full = Ranges {
-        low: range,
-        wide: none,
-    };
-    let total = low_load(p, full);
+    let total = low_load(p, Ranges { low, wide: none });
     Weighing {
-        capacity: capacity,
-        up: up,
-        most: lesser(capacity, total) + 1,
-        down: down,
+        capacity,
+        up: Parts {
+            taken: weight,
+            left: none,
+            ..p
+        },
+        most: capacity.min(total) + 1,
+        down: Parts {
+            taken: none,
+            left: weight,
+            ..p
+        },
         spare: excess(total, capacity),
     }
 }
@@ -607,11 +471,9 @@ fn nearer(p: Parts, w: Weighing, cap: u64, r: Ranges) -> Ranges
     requires { Fair p × (Among p r × Weighs p w) }
     ensures { Keeps p w.capacity cap r result }
 {
-    let up = w.up;
-    let down = w.down;
     let a = near(p, r, cap);
-    let b = near(up, a, w.most);
-    near(down, b, w.spare)
+    let b = near(w.up, a, w.most);
+    near(w.down, b, w.spare)
 }
 
 // The least of the first amounts, v and one: these are the highest if the part falls.
@@ -627,17 +489,10 @@ fn shortened(p: Parts, r: Ranges, k: usize, v: u64) -> Ranges
     requires { Fair p × (Among p r × ((k < 17) × (v ≤ num r.wide k))) }
     ensures { Shortens p k v r result }
 {
-    let mut low = r.low;
-    let mut wide = r.wide;
-    let a = low[k];
-    let w = wide[k];
-    let f = p.falls[k];
-    low[k] = short_low(f, a, w, v);
-    wide[k] = v;
-    Ranges {
-        low: low,
-        wide: wide,
-    }
+    let mut s = r;
+    s.low[k] = short_low(p.falls[k], r.low[k], r.wide[k], v);
+    s.wide[k] = v;
+    s
 }
 
 // With part k at the first amount that is left to it.
@@ -656,10 +511,8 @@ fn head(p: Parts, w: Weighing, cap: u64, to: usize) -> Ranges
     ensures { Heads p w.capacity (cap - 1) result to to }
 {
     let mut r = whole_of(p);
-    let mut k: usize = 0;
-    while k < to {
+    for k in 0..to {
         r = ahead(p, w, cap, r, k);
-        k += 1;
     }
     r
 }
@@ -671,8 +524,7 @@ fn opening(p: Parts, w: Weighing, cap: u64, to: usize, share: u64) -> Ranges
 {
     let f = head(p, w, cap, to);
     let g = nearer(p, w, cap, f);
-    let wide = g.wide[to];
-    let s = shortened(p, g, to, wide / share);
+    let s = shortened(p, g, to, g.wide[to] / share);
     nearer(p, w, cap, s)
 }
 
@@ -683,9 +535,7 @@ fn leap(p: Parts, w: Weighing, cap: u64, to: usize, share: u64, cells: &mut [u64
     ensures { Leaps p w.capacity cap to share result }
 {
     let h = opening(p, w, cap, to, share);
-    let down = w.down;
-    let spare = remaining(down, h, w.spare);
-    if spare == 0 {
+    if remaining(w.down, h, w.spare) == 0 {
         return nothing(h, cap, to, 0);
     }
     run_over(p, h, w.capacity, cap, to, cells)
@@ -714,23 +564,14 @@ fn leaps(p: Parts, capacity: u64, cap: u64, cells: &mut [u64]) -> Run
 {
     let w = by_weight(p, capacity);
     let mut written: u64 = 0;
-    let mut i: usize = 7;
-    while 0 < i {
+    for i in (1..8).rev() {
         let n = leap(p, w, cap, leap_to(i), leap_share(i), cells);
         written += n.written;
         if n.cost < cap {
-            let ranges = n.ranges;
-            return Run {
-                cost: n.cost,
-                ranges: ranges,
-                to: n.to,
-                written: written,
-            };
+            return Run { written, ..n };
         }
-        i -= 1;
     }
-    let r = whole_of(p);
-    nothing(r, cap, 0, written)
+    nothing(whole_of(p), cap, 0, written)
 }
 
 // ---- the first filling
@@ -741,30 +582,24 @@ fn onward(p: Parts, capacity: u64, cap: u64, s: Run, cells: &mut [u64]) -> First
     requires sought { Sought p capacity (cap - 1) s.ranges s.to × ((s.written ≤ 7 * run_cells) × (65535 ≤ length cells.old)) }
     ensures { Goes p capacity cap s result }
 {
-    let ranges = s.ranges;
-    let mut r = ranges;
+    let mut r = s.ranges;
     let mut written = s.written;
     let mut from = s.to;
     while from < 16 {
         let n = run_over(p, r, capacity, cap, from, cells);
         written += n.written;
         if n.cost == cap {
-            let amounts = r.low;
             return First {
-                found: false,
-                amounts: amounts,
-                written: written,
+                amounts: None,
+                written,
             };
         }
-        let ranges = n.ranges;
-        r = ranges;
+        r = n.ranges;
         from = n.to;
     }
-    let amounts = r.low;
     First {
-        found: true,
-        amounts: amounts,
-        written: written,
+        amounts: Some(r.low),
+        written,
     }
 }
 
@@ -784,21 +619,18 @@ pub fn least_filling(p: Parts, capacity: u64, cap: u64, cells: &mut [u64]) -> Fi
     requires in_bounds { 65535 ≤ length cells.old }
     ensures { LeastOf p capacity cap result }
 {
-    let r = whole_of(p);
-    let n = run_over(p, r, capacity, cap, 0, cells);
-    let least = n.cost;
-    if least == cap {
+    let n = run_over(p, whole_of(p), capacity, cap, 0, cells);
+    if n.cost == cap {
         return Filled {
             least: cap,
             amounts: [0; 17],
             written: n.written,
         };
     }
-    let f = onward(p, capacity, least + 1, n, cells);
-    let amounts = f.amounts;
+    let f = onward(p, capacity, n.cost + 1, n, cells);
     Filled {
-        least: least,
-        amounts: amounts,
+        least: n.cost,
+        amounts: f.amounts.unwrap_or([0; 17]),
         written: f.written,
     }
 }

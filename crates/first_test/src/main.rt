@@ -5,8 +5,7 @@
 
 ghost use Rattle.std.specs.Prelude.{◌≤◌};
 
-use arith::Fraction;
-use knapsack::{Answer, Bound};
+use knapsack::{Answer, Kind};
 use model::{Model, ModelItem, Sense};
 use planner::plan_within;
 use solver::STEPS;
@@ -15,26 +14,11 @@ use trials::draw::{Spans, drawn_problem};
 use trials::make::{first_of, from_zero, held, loose, two};
 use trials::outcome::shut_problem;
 use trials::points::judge;
-use trials::print::{print, print_field, print_kind, print_problem, print_signed_field};
-use trials::tally::number_of;
+use trials::print::{print, print_kind, print_problem, print_three};
 
 const REACH: i64 = 16;
 
 // ---- chosen problems
-
-fn print_amount(v: Fraction) {
-    print_signed_field(v.p);
-    print_field(v.q);
-}
-
-fn print_three(a: Answer) {
-    let x = a.point[0];
-    let y = a.point[1];
-    let z = a.point[2];
-    print_amount(x);
-    print_amount(y);
-    print_amount(z);
-}
 
 fn show(p: Model) {
     print_problem(p);
@@ -69,31 +53,8 @@ struct Counts {
 }
 
 fn with_lower(x: ModelItem) -> ModelItem {
-    let m = x.mark;
-    let l = x.lower;
-    let u = x.upper;
-    let lower = match l {
-        Bound::Absent => Bound::At(-1),
-        Bound::At(v) => Bound::At(v),
-    };
-    ModelItem {
-        mark: m,
-        low: x.low,
-        high: x.high,
-        price: x.price,
-        lower: lower,
-        upper: u,
-    }
-}
-
-fn lower_at(p: Model, k: usize) -> Model
-    requires { k ≤ 15 }
-{
-    let mut q = p;
-    let x = q.items[k];
-    let y = with_lower(x);
-    q.items[k] = y;
-    q
+    let lower = x.lower.or(Some(-1));
+    ModelItem { lower, ..x }
 }
 
 // With a lower bound for each of the first n items.
@@ -101,10 +62,8 @@ fn lowered(p: Model, n: usize) -> Model
     requires { n ≤ 15 }
 {
     let mut q = p;
-    let mut k: usize = 0;
-    while k < n {
-        q = lower_at(q, k);
-        k += 1;
+    for x in &mut q.items[..n] {
+        *x = with_lower(*x);
     }
     q
 }
@@ -123,8 +82,7 @@ fn tried(c: Counts, p: Model, n: usize, open: bool, most: u64) -> Counts
     requires { n ≤ 15 }
 {
     let a = plan_within(p, Sense::Sure, most);
-    let k = a.kind;
-    if number_of(k) != 1 {
+    if a.kind != Kind::Optimal {
         return c;
     }
     let j = judge(shut_problem(p, n, REACH), a, n);
@@ -150,13 +108,10 @@ fn counts_of(seed: u64, problems: u64, n: usize, z: Spans, most: u64) -> Counts
         wrong: 0,
     };
     let mut state = seed;
-    let mut k: u64 = 0;
-    while k < problems {
+    for _ in 0..problems {
         let d = drawn_problem(state, n, z);
-        let p = d.problem;
-        c = tried(c, lowered(p, n), n, open, most);
+        c = tried(c, lowered(d.problem, n), n, open, most);
         state = d.state;
-        k += 1;
     }
     c
 }

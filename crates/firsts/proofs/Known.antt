@@ -3,7 +3,7 @@
 use mathlib.Core.Path.{◌≡◌, refl, sym, ap, ◌∙◌, subst}
 use mathlib.Core.Bool.{Bool, true, false, cond}
 use mathlib.Core.List.{List}
-use mathlib.Core.Logic.{◌≢◌, ◌⊎◌, inl, inr}
+use mathlib.Core.Logic.{◌≢◌, inl, inr}
 use Prim.Native.Nat.{ℕ, ◌≤◌, ◌<◌}
 use native.Mathlib.Omega.{arith}
 use borrow.Author.Tests.{le-ltb}
@@ -15,7 +15,7 @@ use Rattle.greedy.specs.declared.Columns.{Columns}
 use Rattle.greedy.specs.declared.Ends.{Ends}
 use Rattle.greedy.specs.Fill.{at, item_of, fill}
 use Rattle.greedy.proofs.Relaxed.{box_of}
-use Rattle.knapsack.proofs.Common.{valueᴰ, Feasibleᴰ, Optimalᴰ}
+use Rattle.knapsack.proofs.Common.{valueᴰ, Feasibleᴰ}
 use Rattle.knapsack.specs.Meaning.{Instance}
 use Rattle.knapsack.specs.declared.Mark.{Mark}
 use Rattle.knapsack.specs.declared.Mark.TheVariants.{Integer, Continuous}
@@ -26,7 +26,7 @@ use Rattle.foremost.proofs.Earlier.{NotAfter, not-after-times}
 use Rattle.foremost.proofs.Filling.{parts, filling}
 use Rattle.foremost.proofs.First.{tied-box}
 use Rattle.foremost.proofs.Foremost.{Foremostᴰ}
-use Rattle.foremost.proofs.Frames.{scale_at, Frame, last, cuts, FramePoint, LeadsFrame, foremost-of-frames}
+use Rattle.foremost.proofs.Frames.{scale_at, Frame, last, cuts, LeadsFrame, foremost-of-frames}
 use Rattle.foremost.proofs.Leads.{Leads, leads-trans}
 use Rattle.setting.specs.declared.Setting.{Setting}
 use Rattle.setting.specs.Box.{level_at}

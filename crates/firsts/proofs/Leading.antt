@@ -6,24 +6,21 @@
 -- led-done: what leads all frames is the optimal point that comes first.  led-short: so is what leads all but the last, where another can be needed.
 use mathlib.Core.Path.{◌≡◌, refl, sym, ap, ◌∙◌, subst}
 use mathlib.Core.Bool.{Bool, true, false}
-use mathlib.Core.List.{List}
-use mathlib.Core.Logic.{◌≢◌, ◌⊎◌, inl, inr}
+use Rattle.std.specs.Prelude.{List, None, Some}
+use mathlib.Core.Logic.{◌⊎◌, inl, inr}
 use Prim.Native.Nat.{ℕ, ◌+◌, ◌*◌, ◌/◌, ◌%◌, ◌≤◌, ◌<◌}
 use native.Mathlib.Omega.{arith}
 use native.Mathlib.Decide.{ℕ_discrete, dec_lt}
-use native.Mathlib.Nat.{mul-le-mul, mul-le-mul_left, mul-le-mul_right, div-add-mod', mod-lt}
+use native.Mathlib.Nat.{mul-le-mul_left, div-add-mod', mod-lt}
 use lib.IntN.{ℤ, pos, ◌-ℤ◌, ◌*ℤ◌}
 use lib.Signed.{◌≤ℤ◌, ◌<ℤ◌}
-use Rattle.arith.specs.declared.Fraction.{Fraction}
-use Rattle.arith.specs.declared.Mixed.{Mixed}
-use Rattle.arith.proofs.Integers.{split, zed, times-≤-back}
-use Rattle.arith.proofs.Mixes.{over}
+use Rattle.arith.proofs.Integers.{zed, times-≤-back}
 use Rattle.arith.proofs.Parts.{impossible}
 use Rattle.greedy.specs.declared.Columns.{Columns}
 use Rattle.greedy.specs.declared.Ends.{Ends}
 use Rattle.greedy.specs.Fill.{at, item_of, fill, bound}
 use Rattle.greedy.proofs.Relaxed.{box_of}
-use Rattle.knapsack.proofs.Common.{valueᴰ, Feasibleᴰ}
+use Rattle.knapsack.proofs.Common.{valueᴰ}
 use Rattle.knapsack.specs.declared.Mark.{Mark}
 use Rattle.knapsack.specs.declared.Mark.TheVariants.{Integer, Continuous}
 use Rattle.fillings.specs.Foremost.{first_cells}
@@ -40,9 +37,8 @@ use Rattle.ceiling.proofs.Limits.{levels-marked, levels-unmarked}
 use Rattle.foremost.proofs.Covering.{marks-differ}
 use Rattle.foremost.proofs.Earlier as order
 use Rattle.foremost.proofs.Filling.{parts, filling}
-use Rattle.foremost.proofs.Foremost.{Foremostᴰ}
 use Rattle.foremost.proofs.Frames.{Frame, last, cuts, FramePoint, LeadsFrame, by-mark, frame-trans, foremost-of-frames}
-use Rattle.foremost.proofs.Framed.{PointOf, frame-within, within-frame, frame-leads, frame-none, frame-floor, frame_apart, is-loss}
+use Rattle.foremost.proofs.Framed.{PointOf, within-frame, frame-leads, frame-none, frame-floor, frame_apart, is-loss}
 use Rattle.foremost.proofs.Leads.{Leads}
 use Rattle.foremost.proofs.Losses.{loss_by, LosesJust, LosesMore, loses-worth, loses-as-much}
 use Rattle.foremost.proofs.Worth.{filling-worth}
@@ -208,7 +204,7 @@ module _ (s : Setting) (c : Columns) (y : Tying s c) (l : Optimum) (g : IsLosing
       }
 
       module _ (x : Seen) (q : FrameFirst l.p l.q c e w t r x) where
-        pub led-none : x.found ≡ false → (z : Lead) → z.point ≡ b.point → z.written ≡ b.written + x.written → Led s c l (t + 1) z
+        pub led-none : x.place ≡ None → (z : Lead) → z.point ≡ b.point → z.written ≡ b.written + x.written → Led s c l (t + 1) z
         led-none n z p i = kept z p (omega (arith, q.few)) (λ marks m fr. frame-none c e marks y.tied.tied few (whole_at w) (marked marks m)
             (unmarked marks m)
             t (framed_ends c e w t) (framed-ends c e w t few).low (framed-ends c e w t few).high l.top l.q l.num l.den r g.priced.q≥1
@@ -217,9 +213,9 @@ module _ (s : Setting) (c : Columns) (y : Tying s c) (l : Optimum) (g : IsLosing
 
         -- ---- the first point of the frame
 
-        module _ (found : x.found ≡ true) where
-          first : FirstIn l.p l.q c e w t r x.place
-          first = q.found found
+        module _ (place : List ℤ) (found : x.place ≡ Some place) where
+          first : FirstIn l.p l.q c e w t r place
+          first = q.found place found
 
           abbrev Y : ℕ → ℤ
           Y = first.point
@@ -231,15 +227,15 @@ module _ (s : Setting) (c : Columns) (y : Tying s c) (l : Optimum) (g : IsLosing
           level_in : (d : ℕ) → d < s.levels → level_at s d < c.count
           level_in d i = subst (λ n. level_at s d < n) (sym y.tied.count) (y.ready.level_in d i)
 
-          at_level : (d : ℕ) → d < s.levels → Y (level_at s d) ≡ at x.place (level_at s d) *ℤ pos E
+          at_level : (d : ℕ) → d < s.levels → Y (level_at s d) ≡ at place (level_at s d) *ℤ pos E
           at_level d i = first.shown (level_at s d) (level_in d i)
               (loose-cut c w t few t-in (λ j. (usable j).loose) (level_at s d) (level_in d i) (lw.marked d i))
 
-          pub seen-inside : InsideBy s x.place
+          pub seen-inside : InsideBy s place
           seen-inside d i = let k = (in_frame (some-marks s).0 (some-marks s).1).feasible.keeps (level_at s d) (level_in d i) in (
-            subst (λ a. a ≤ℤ at x.place (level_at s d)) (sym (y.ready.low-is d i))
+            subst (λ a. a ≤ℤ at place (level_at s d)) (sym (y.ready.low-is d i))
                 (times-≤-back E _ _ E≥1 (subst (λ a. (at e.lo (level_at s d) *ℤ pos E) ≤ℤ a) (at_level d i) k.above)),
-            subst (λ a. at x.place (level_at s d) ≤ℤ a) (sym (y.ready.high_is d i))
+            subst (λ a. at place (level_at s d) ≤ℤ a) (sym (y.ready.high_is d i))
                 (times-≤-back E _ _ E≥1 (subst (λ a. a ≤ℤ (at e.hi (level_at s d) *ℤ pos E)) (at_level d i) k.below)),
           )
 
@@ -254,7 +250,7 @@ module _ (s : Setting) (c : Columns) (y : Tying s c) (l : Optimum) (g : IsLosing
               turn (inl a) = inl a
               turn (inr a) = inr (record { place = a.place; below = a.below; same = a.same; less = a.less })
 
-          module _ (z : Lead) (o : Sooner s c b.point x.place z.point) (few-z : z.written ≡ b.written + x.written) where
+          module _ (z : Lead) (o : Sooner s c b.point place z.point) (few-z : z.written ≡ b.written + x.written) where
             abbrev P : ℕ → ℤ
             P = o.place
 

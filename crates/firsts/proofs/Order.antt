@@ -7,10 +7,10 @@ use mathlib.Core.List.{List, [], ◌∷◌}
 use Prim.Native.Nat.{ℕ, zero, suc, ◌+◌, ◌≤◌, ◌<◌, max}
 use native.Mathlib.Omega.{arith}
 use native.Mathlib.Decide.{ℕ_discrete}
-use lib.IntN.{ℤ, pos, ◌*ℤ◌}
+use lib.IntN.{pos, ◌*ℤ◌}
 use lib.ListN.{length, get_or}
 use lib.Signed.{◌≤ℤ◌, ◌<ℤ◌}
-use Rattle.arith.specs.Fractions.{Frac, frac, ◌<ᶠ◌, ◌≈ᶠ◌}
+use Rattle.arith.specs.Fractions.{Frac, ◌<ᶠ◌, ◌≈ᶠ◌}
 use Rattle.arith.specs.declared.Fraction.{Fraction}
 use Rattle.arith.proofs.Integers.{≤ℤ-antisym}
 use Rattle.firsts.specs.Order.{amount_in, point_in, SmallFraction}

@@ -21,14 +21,13 @@ use Rattle.knapsack.specs.declared.Mark.{Mark}
 use Rattle.knapsack.specs.declared.Mark.TheVariants.{Integer, Continuous}
 use Rattle.setting.specs.declared.Setting.{Setting}
 use Rattle.setting.specs.Box.{level_at, Inside}
-use Rattle.setting.specs.Ready.{ReadySetting, Marked}
+use Rattle.setting.specs.Ready.{Marked}
 use Rattle.setting.proofs.Boxes.{fixed-level, fixed-other, fixed-sized}
 use Rattle.ceiling.specs.Frames.{Ranked}
 use Rattle.ceiling.specs.Sizes.{Spanned}
 use Rattle.foremost.proofs.Filling.{parts, filling}
 use Rattle.foremost.proofs.Choices.{Choice}
 use Rattle.foremost.proofs.Covering.{marks-differ, fill-some}
-use Rattle.foremost.proofs.Foremost.{Foremostᴰ}
 use Rattle.foremost.proofs.Frames.{by-mark, choice-order, choice-in, choice-out, choice-first, choice-parts}
 use Rattle.foremost.proofs.Leads.{Leads, foremost-leads}
 use Rattle.firsts.specs.Leading.{Tying, ends_at}

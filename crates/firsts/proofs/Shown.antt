@@ -2,10 +2,10 @@
 -- shown-parts: the divisor of its bound.  shown-small: the amounts can be compared.
 -- level-fixed: the whole items are fixed.  shown-over: so the amounts are the filling's.
 -- no-later: what comes no later in the list comes no later as a filling.
-use mathlib.Core.Path.{◌≡◌, sym, ap, ◌∙◌, subst}
+use mathlib.Core.Path.{◌≡◌, sym, ◌∙◌, subst}
 use mathlib.Core.Bool.{Bool, true}
 use mathlib.Core.List.{List}
-use mathlib.Core.Logic.{◌⊎◌, inl, inr}
+use mathlib.Core.Logic.{inl, inr}
 use Prim.Native.Nat.{ℕ, ◌≤◌, ◌<◌}
 use native.Mathlib.Omega.{arith}
 use lib.IntN.{ℤ, pos}

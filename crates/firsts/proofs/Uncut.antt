@@ -3,7 +3,7 @@
 use mathlib.Core.Path.{◌≡◌, refl, sym, ap, ◌∙◌, subst}
 use mathlib.Core.Bool.{Bool, true, false, cond}
 use mathlib.Core.Logic.{◌≢◌, ◌⊎◌, inl, inr}
-use Prim.Native.Nat.{ℕ, zero, suc, ◌+◌, ◌≤◌, ◌<◌}
+use Prim.Native.Nat.{ℕ, zero, suc, ◌≤◌, ◌<◌}
 use native.Mathlib.Omega.{arith}
 use native.Mathlib.Decide.{ℕ_discrete, dec_lt}
 use borrow.Author.Tests.{lt-ltb, le-ltb}
@@ -13,8 +13,7 @@ use Rattle.arith.proofs.Integers.{split, zed, ≤ℤ-or-<, ≤ℤ-antisym, ≤�
 use Rattle.arith.proofs.Sums.{sum-times}
 use Rattle.knapsack.proofs.Common.{KeepsMarkᴰ, KeepsLowerᴰ, KeepsUpperᴰ, Keepsᴰ, valueᴰ, weighsᴰ, Feasibleᴰ}
 use Rattle.knapsack.specs.Meaning.{Instance, weights, prices}
-use Rattle.knapsack.specs.declared.Bound.{Bound}
-use Rattle.knapsack.specs.declared.Bound.TheVariants.{Absent, At}
+use Rattle.std.specs.Prelude.{Option, None, Some}
 use Rattle.knapsack.specs.declared.Item.{Item}
 use Rattle.knapsack.specs.declared.Mark.{Mark}
 use Rattle.knapsack.specs.declared.Mark.TheVariants.{Integer, Continuous}
@@ -39,13 +38,13 @@ keeps-times E i n h = record { marked = mark i.mark h.marked; above = low i.lowe
     mark Integer (z, q) = (z, ap (λ (x : ℤ). x *ℤ pos E) (q ∙ times-one z))
     mark Continuous u = u
 
-    low : (b : Bound) → KeepsLowerᴰ 1 b n → KeepsLowerᴰ E b (n *ℤ pos E)
-    low Absent u = u
-    low (At l) u = times-≤ E l n (subst (λ x. x ≤ℤ n) (times-one l) u)
+    low : (b : Option ℤ) → KeepsLowerᴰ 1 b n → KeepsLowerᴰ E b (n *ℤ pos E)
+    low None u = u
+    low (Some l) u = times-≤ E l n (subst (λ x. x ≤ℤ n) (times-one l) u)
 
-    high : (b : Bound) → KeepsUpperᴰ 1 b n → KeepsUpperᴰ E b (n *ℤ pos E)
-    high Absent u = u
-    high (At l) u = times-≤ E n l (subst (λ x. n ≤ℤ x) (times-one l) u)
+    high : (b : Option ℤ) → KeepsUpperᴰ 1 b n → KeepsUpperᴰ E b (n *ℤ pos E)
+    high None u = u
+    high (Some l) u = times-≤ E n l (subst (λ x. n ≤ℤ x) (times-one l) u)
 
 pub feasible-times : (s : Instance) (E : ℕ) (N : ℕ → ℤ) → Feasibleᴰ s 1 N → Feasibleᴰ s E (λ k. N k *ℤ pos E)
 feasible-times s E N p = record {

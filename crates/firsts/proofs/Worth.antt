@@ -14,7 +14,7 @@ use Rattle.arith.specs.Mixed.{Proper}
 use Rattle.arith.specs.Sum.{sum}
 use Rattle.arith.specs.Within.{Within}
 use Rattle.arith.specs.declared.Mixed.{Mixed}
-use Rattle.arith.proofs.Integers.{split, split2, split3, zed, +ℤ-mono, ≤ℤ-or-<}
+use Rattle.arith.proofs.Integers.{split2, split3, zed, +ℤ-mono, ≤ℤ-or-<}
 use Rattle.arith.proofs.Mixes.{over}
 use Rattle.arith.proofs.Parts.{abs-within, within-abs, within-sub}
 use Rattle.greedy.specs.declared.Columns.{Columns}
@@ -37,7 +37,6 @@ use Rattle.foremost.proofs.First.{tied-box}
 use Rattle.foremost.proofs.Losses.{LosesMore}
 use Rattle.foremost.proofs.Worth.{filling-worth}
 use Rattle.setting.specs.declared.Setting.{Setting}
-use Rattle.setting.specs.Box.{Inside}
 use Rattle.setting.specs.Ready.{Marked}
 use Rattle.firsts.specs.declared.Optimum.{Optimum}
 use Rattle.firsts.specs.Leading.{Tying, ends_at, OptimalAt, IsWorth, Fair, IsLosing, LossOf}

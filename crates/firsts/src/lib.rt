@@ -57,9 +57,7 @@ fn crossed(x: Fraction, y: Fraction) -> i64
     requires { SmallFraction x × SmallFraction y }
     ensures { result ≡ x.p *ℤ pos y.q }
 {
-    let p = x.p;
-    let q = y.q;
-    p * (q as i64)
+    x.p * (y.q as i64)
 }
 
 // Whether x comes before y, by the first of n items whose amounts differ.
@@ -67,19 +65,15 @@ fn comes_before(x: [Fraction; 16], y: [Fraction; 16], n: usize) -> bool
     requires { (n ≤ 16) × (Comparable n x × Comparable n y) }
     ensures { Compares n x y result }
 {
-    let mut k: usize = 0;
-    while k < n {
-        let a = x[k];
-        let b = y[k];
-        let v = crossed(a, b);
-        let w = crossed(b, a);
+    for k in 0..n {
+        let v = crossed(x[k], y[k]);
+        let w = crossed(y[k], x[k]);
         if v < w {
             return true;
         }
         if w < v {
             return false;
         }
-        k += 1;
     }
     false
 }
@@ -135,11 +129,8 @@ fn lost(top: i64, q: u64, v: Mixed) -> u64
     requires { (q ≤ 1000) × (Within 100000000000000000 top × (Proper v × Fair top q v)) }
     ensures { (pos result ≡ top *ℤ pos v.parts -ℤ pos q *ℤ over v) × (result < 10000000 * v.parts) }
 {
-    let w = v.whole;
-    let part = v.part;
-    let parts = v.parts;
-    let n = magnitude(top - (q as i64) * w);
-    n * parts - q * part
+    let n = magnitude(top - (q as i64) * v.whole);
+    n * v.parts - q * v.part
 }
 
 // What the best value loses at the critical item's price.
@@ -184,21 +175,14 @@ fn tried(
     if 0 < m % d {
         return b;
     }
-    let ends = s.ends;
-    let seen = first_of_frame(c, ends, whole, l.p, l.q, t, l.top, m / d, cells);
+    let seen = first_of_frame(c, s.ends, whole, l.p, l.q, t, l.top, m / d, cells);
     let written = b.written + seen.written;
-    let old = b.point;
-    if seen.found {
-        let xs = seen.place;
-        let point = sooner(s, c, old, xs);
-        return Lead {
-            point: point,
-            written: written,
-        };
-    }
-    Lead {
-        point: old,
-        written: written,
+    match seen.place {
+        Some(xs) => Lead {
+            point: sooner(s, c, b.point, xs),
+            written,
+        },
+        None => Lead { written, ..b },
     }
 }
 
@@ -229,14 +213,10 @@ fn cuts_some(s: Setting, c: Columns, whole: [bool; 16]) -> bool
     requires { Tying s c }
     ensures { CutsSome c s.ends whole result }
 {
-    let ends = s.ends;
-    let n = c.live;
-    let mut u: usize = 0;
-    while u < n {
-        if is_usable(c, ends, whole, u) {
+    for u in 0..c.live {
+        if is_usable(c, s.ends, whole, u) {
             return true;
         }
-        u += 1;
     }
     false
 }
@@ -265,10 +245,8 @@ fn by_frames(s: Setting, x: [i64; 16], cells: &mut [u64]) -> Lead
     let point = z.point;
     let n = c.live;
     let mut b = lead_of(point);
-    let mut t: usize = 0;
-    while t < n {
+    for t in 0..n {
         b = considered(b, s, c, whole, l, t, cells);
-        t += 1;
     }
     if cuts_some(s, c, whole) {
         return b;
@@ -283,13 +261,10 @@ fn is_loose(ends: Ends, whole: [bool; 16], k: usize) -> bool
     requires { SizedEnds ends × ((k < 16) × (at ends.lo k ≤ℤ at ends.hi k)) }
     ensures { (result ≡ false → Held ends whole k) × (result ≡ true → Held ends whole k → ⊥) }
 {
-    let w = whole[k];
-    let l = ends.lo[k];
-    let u = ends.hi[k];
-    if w {
+    if whole[k] {
         return false;
     }
-    if l < u { true } else { false }
+    ends.lo[k] < ends.hi[k]
 }
 
 // Whether no continuous item can change.
@@ -297,16 +272,11 @@ fn all_still(s: Setting) -> bool
     requires { ReadySetting s }
     ensures { TellsStill s result }
 {
-    let level = s.level;
-    let whole = wholes(level, s.levels);
-    let ends = s.ends;
-    let n = s.cols.count;
-    let mut j: usize = 0;
-    while j < n {
-        if is_loose(ends, whole, j) {
+    let whole = wholes(s.level, s.levels);
+    for j in 0..s.cols.count {
+        if is_loose(s.ends, whole, j) {
             return false;
         }
-        j += 1;
     }
     true
 }
@@ -316,10 +286,7 @@ fn is_known(s: Setting, first: bool) -> bool
     requires { ReadySetting s }
     ensures { (result ≡ true → Known s first) × (result ≡ false → Known s first → ⊥) }
 {
-    if first {
-        return all_still(s);
-    }
-    false
+    first && all_still(s)
 }
 
 // The point of the place x, which comes first where no continuous item can change.

@@ -8,7 +8,7 @@ use mathlib.Core.Path.{◌≡◌, sym, ◌∙◌, subst}
 use mathlib.Core.Logic.{◌↔◌}
 use mathlib.Core.List.{List}
 use Prim.Native.Nat.{ℕ, ◌≤◌, ◌<◌}
-use lib.IntN.{ℤ, pos, ◌*ℤ◌}
+use lib.IntN.{ℤ, pos}
 use lib.Signed.{◌≤ℤ◌}
 use Rattle.arith.proofs.Mixes.{over}
 use Rattle.greedy.specs.declared.Columns.{Columns}
@@ -19,7 +19,7 @@ use Rattle.knapsack.proofs.Bridge.{Reads}
 use Rattle.knapsack.proofs.Common.{valueᴰ, Feasibleᴰ}
 use Rattle.knapsack.proofs.Reach.{NoRay, RangesAt, Reaches, shut_at}
 use Rattle.knapsack.specs.Meaning.{Instance, Point, Optimal, Foremost, AllLower}
-use Rattle.knapsack.specs.declared.Bound.TheVariants.{At}
+use Rattle.std.specs.Prelude.{Some}
 use Rattle.knapsack.specs.declared.Mark.{Mark}
 use Rattle.foremost.specs.Order.{TiedOf}
 use Rattle.foremost.specs.Tied.{Tied, Rated}
@@ -52,7 +52,7 @@ tied-box c r e marks t = go r.weight r.price r.count r.capacity t.weight t.price
     box_by w p n b = record {
       capacity = b;
       count = n;
-      item = λ k. record { mark = marks k; weight = at w k; price = at p k; lower = At (at e.lo k); upper = At (at e.hi k) };
+      item = λ k. record { mark = marks k; weight = at w k; price = at p k; lower = Some (at e.lo k); upper = Some (at e.hi k) };
     }
 
     go : (w p : List ℤ) (n : ℕ) (b : ℤ) → w ≡ c.weight → p ≡ c.price → n ≡ c.count → b ≡ c.capacity

@@ -14,8 +14,7 @@ use Rattle.knapsack.proofs.Common.{KeepsLowerᴰ, KeepsUpperᴰ, valueᴰ, Feasi
 use Rattle.knapsack.proofs.Reach.{Way, fore, aft, turn, Free, NoRay, AroundAt, RangesAt, Reaches, closed, shut_at, reach-within}
 use Rattle.knapsack.proofs.Reach.{reach-optimal-at}
 use Rattle.knapsack.specs.Meaning.{Instance, weights, prices, AllLower}
-use Rattle.knapsack.specs.declared.Bound.{Bound}
-use Rattle.knapsack.specs.declared.Bound.TheVariants.{Absent, At}
+use Rattle.std.specs.Prelude.{Option, None, Some}
 use Rattle.foremost.proofs.Earlier.{NoLater, NotAfter, not-after-trans, not-after-times}
 use Rattle.foremost.proofs.Foremost.{NoBetter, Foremostᴰ, priced, into-priced}
 use Rattle.foremost.proofs.Ghost.{power, place, ghost, Near, near-diff, ghost-first, most, most-is}
@@ -58,7 +57,7 @@ ghost-ray s M low nr = record { one = one; two = two }
         (nr.two i j li lj fore fore fi fj a (rich (power M n) (place M n i) (prices s i) b) c)
 
 -- an amount within the shut box
-bounded : (B R D : ℕ) (lo up : Bound) (n : ℤ) → AroundAt B lo → AroundAt B up → KeepsLowerᴰ D (closed lo (neg_ℤ (pos R))) n → KeepsUpperᴰ D (closed up (pos R)) n
+bounded : (B R D : ℕ) (lo up : Option ℤ) (n : ℤ) → AroundAt B lo → AroundAt B up → KeepsLowerᴰ D (closed lo (neg_ℤ (pos R))) n → KeepsUpperᴰ D (closed up (pos R)) n
     → nat_abs n ≤ (B + R) * D
 bounded B R D lo up n al au hl hu = both n (low lo n al hl) (high up n au hu)
   where
@@ -77,13 +76,13 @@ bounded B R D lo up n al au hl hu = both n (low lo n al hl) (high up n au hu)
     own-n : nat_abs (neg_ℤ (pos R)) ≤ B + R
     own-n = simp zed (omega arith)
 
-    low : (lo : Bound) (n : ℤ) → AroundAt B lo → KeepsLowerᴰ D (closed lo (neg_ℤ (pos R))) n → neg_ℤ (pos ((B + R) * D)) ≤ℤ n
-    low Absent n a h = low' (neg_ℤ (pos R)) n own-n h
-    low (At b) n a h = low' b n (omega arith) h
+    low : (lo : Option ℤ) (n : ℤ) → AroundAt B lo → KeepsLowerᴰ D (closed lo (neg_ℤ (pos R))) n → neg_ℤ (pos ((B + R) * D)) ≤ℤ n
+    low None n a h = low' (neg_ℤ (pos R)) n own-n h
+    low (Some b) n a h = low' b n (omega arith) h
 
-    high : (up : Bound) (n : ℤ) → AroundAt B up → KeepsUpperᴰ D (closed up (pos R)) n → n ≤ℤ pos ((B + R) * D)
-    high Absent n a h = high' (pos R) n (omega arith) h
-    high (At b) n a h = high' b n (omega arith) h
+    high : (up : Option ℤ) (n : ℤ) → AroundAt B up → KeepsUpperᴰ D (closed up (pos R)) n → n ≤ℤ pos ((B + R) * D)
+    high None n a h = high' (pos R) n (omega arith) h
+    high (Some b) n a h = high' b n (omega arith) h
 
     both : (n : ℤ) → neg_ℤ (pos ((B + R) * D)) ≤ℤ n → n ≤ℤ pos ((B + R) * D) → nat_abs n ≤ (B + R) * D
     both = split _ (λ a b. simp zed (omega arith))

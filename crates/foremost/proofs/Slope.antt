@@ -28,7 +28,7 @@ use Rattle.greedy.proofs.Sides.{is-lightest, is-heaviest}
 use Rattle.knapsack.proofs.Common.{Keepsᴰ, weighsᴰ, valueᴰ}
 use Rattle.knapsack.proofs.Dual.{score, AtEnd, within, slope}
 use Rattle.knapsack.specs.Meaning.{Instance}
-use Rattle.knapsack.specs.declared.Bound.TheVariants.{At}
+use Rattle.std.specs.Prelude.{Some}
 use Rattle.knapsack.specs.declared.Mark.{Mark}
 use Rattle.foremost.proofs.Foremost.{total-cong}
 use Rattle.foremost.proofs.Ghost.{most, most-is}
@@ -47,7 +47,7 @@ below-0 n = simp zed (omega arith)
 
 -- at a ratio p / q that its own is not below, an item stands well at its heavy end
 heavy-end : (p q : ℕ) (m : Mark) (a c l u x : ℤ) → a ≢ pos 0 → (pos p *ℤ pos (nat_abs a)) ≤ℤ (times_sign a c *ℤ pos q) → HeavyAt a l u x
-    → AtEnd q (score p q a c) (record { mark = m; weight = a; price = c; lower = At l; upper = At u }) (x *ℤ pos q)
+    → AtEnd q (score p q a c) (record { mark = m; weight = a; price = c; lower = Some l; upper = Some u }) (x *ℤ pos q)
 unfolding score
 heavy-end p q m (pos n) c l u x nz h e = record { good = λ g. ap (λ z. z *ℤ pos q) (e.heavy (above-0 n nz)); bad = λ g. absurd (up p q n c h g) }
   where
@@ -60,7 +60,7 @@ heavy-end p q m (negsuc n) c l u x nz h e = record { good = λ g. absurd (dn p q
 
 -- at a ratio that its own is not above, at its light end
 light-end : (p q : ℕ) (m : Mark) (a c l u x : ℤ) → (a ≢ pos 0 → (times_sign a c *ℤ pos q) ≤ℤ (pos p *ℤ pos (nat_abs a))) → LightAt a c l u x
-    → AtEnd q (score p q a c) (record { mark = m; weight = a; price = c; lower = At l; upper = At u }) (x *ℤ pos q)
+    → AtEnd q (score p q a c) (record { mark = m; weight = a; price = c; lower = Some l; upper = Some u }) (x *ℤ pos q)
 unfolding score
 light-end p q m (pos zero) c l u x h e = record {
   good = λ g. ap (λ z. z *ℤ pos q) (e.good refl (over c g (≤ℤ-or-< c (pos 0))));

@@ -19,15 +19,14 @@ use Rattle.knapsack.proofs.Branch.{TooHeavy}
 use Rattle.knapsack.proofs.Common.{KeepsMarkᴰ, KeepsLowerᴰ, KeepsUpperᴰ, weighsᴰ, Feasibleᴰ}
 use Rattle.knapsack.proofs.Dual.{score, AtBound, AtEnd, Certificate, Within}
 use Rattle.knapsack.specs.Meaning.{Instance, weights, prices}
-use Rattle.knapsack.specs.declared.Bound.{Bound}
-use Rattle.knapsack.specs.declared.Bound.TheVariants.{At}
+use Rattle.std.specs.Prelude.{Option, Some}
 use Rattle.knapsack.specs.declared.Mark.{Mark}
 use Rattle.knapsack.specs.declared.Mark.TheVariants.{Integer, Continuous}
 
 -- all bounds are present
 pub record Boxed (s : Instance) (lo hi : ℕ → ℤ) : Type 0 where
-  pub lower : (k : ℕ) → k < s.count → (s.item k).lower ≡ At (lo k)
-  pub upper : (k : ℕ) → k < s.count → (s.item k).upper ≡ At (hi k)
+  pub lower : (k : ℕ) → k < s.count → (s.item k).lower ≡ Some (lo k)
+  pub upper : (k : ℕ) → k < s.count → (s.item k).upper ≡ Some (hi k)
   pub order : (k : ℕ) → k < s.count → lo k ≤ℤ hi k
 
 -- x is the light end of an item of weight a and price c with the bounds l and u; one of weight 0 is at the end of the better price
@@ -68,7 +67,7 @@ zero? (negsuc n) = inr (no (negsuc n) (simp zed (omega arith)))
     no : (a : ℤ) → a <ℤ pos 0 → a ≢ pos 0
     no = split _ (λ a b. simp zed (omega arith))
 
-at_bound : (E : ℕ) (o : Bound) (b x : ℤ) → o ≡ At b → x ≡ b → AtBound E o (x *ℤ pos E)
+at_bound : (E : ℕ) (o : Option ℤ) (b x : ℤ) → o ≡ Some b → x ≡ b → AtBound E o (x *ℤ pos E)
 at_bound E o b x h e = rw h (ap (λ z. z *ℤ pos E) e)
 
 pub abs≥1 : (a : ℤ) → a ≢ pos 0 → 1 ≤ nat_abs a

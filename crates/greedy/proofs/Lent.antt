@@ -1,10 +1,10 @@
 -- Columns of which only some are lent: what is asked of the whole holds of the part, and the filling is the same.
 -- by-item-sized, by-rank-sized, unranked-sized; by-rank-bound, unranked-fill.
 use mathlib.Core.Path.{◌≡◌, refl, ap}
-use mathlib.Core.Bool.{Bool, true, false, cond}
+use mathlib.Core.Bool.{cond}
 use Prim.Native.Nat.{ℕ, zero, suc}
 use native.Mathlib.Omega.{arith}
-use lib.IntN.{ℤ, pos, ◌*ℤ◌}
+use lib.IntN.{pos, ◌*ℤ◌}
 use lib.Signed.{lt_z}
 use Rattle.arith.specs.Within.{Within}
 use Rattle.greedy.specs.declared.Columns.{Columns}

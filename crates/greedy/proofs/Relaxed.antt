@@ -23,7 +23,7 @@ use Rattle.arith.proofs.Integers.{split, split2, split3, split4, zed, ≤ℤ-or-
 use Rattle.arith.proofs.Sums.{bump-same, bump-other, sum_bump, sum-cong, sum-times}
 use Rattle.arith.proofs.Words.{yes_lt, no_lt, lt_yes, le-no}
 use Rattle.arith.proofs.Mixes.{over}
-use Rattle.knapsack.specs.declared.Bound.TheVariants.{At}
+use Rattle.std.specs.Prelude.{Some}
 use Rattle.knapsack.specs.declared.Mark.{Mark}
 use Rattle.knapsack.specs.declared.Mark.TheVariants.{Integer, Continuous}
 use Rattle.knapsack.specs.Meaning.{Instance}
@@ -47,7 +47,7 @@ abbrev pub box_of : Columns → Ends → (ℕ → Mark) → Instance
 box_of c e marks = record {
   capacity = c.capacity;
   count = c.count;
-  item = λ k. record { mark = marks k; weight = weight_of c k; price = price_of c k; lower = At (at e.lo k); upper = At (at e.hi k) };
+  item = λ k. record { mark = marks k; weight = weight_of c k; price = price_of c k; lower = Some (at e.lo k); upper = Some (at e.hi k) };
 }
 
 -- the ends of a box are in order

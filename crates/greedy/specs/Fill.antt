@@ -10,7 +10,7 @@
 --   with_amount f a c x      a filling with one item more, at the amount x
 --   begun c e               every item at its light end
 --   raised_by, raised        a filling after its next rank is raised, by that rank's figures and by the columns
---   raise_by                 the same, or that it does not fit
+--   raise_by                 the same, if it fits
 --   fill_from c e n f        the filling from f on, n ranks at most
 --   fill c e                where the filling stops: the rank, the room that is left, and what the whole amounts are worth
 --   size_of, rate_of c f      weight and price, without the weight's sign, of the rank where the filling stops
@@ -24,7 +24,7 @@
 --   taken_by, taken          what an item takes of the room: all if the filling stops at it, else nothing
 --   numerator c e f q k     item k's amount, times q
 --   solution c e f          the relaxation's point, over the divisor of its bound
-use Rattle.std.specs.Prelude.{true, false, cond, List, [], ℕ, zero, suc, ◌+◌, ◌*◌, ◌/◌, ◌%◌, ltb, eqb, ℤ, pos, negsuc, nat_abs, ◌+ℤ◌, ◌-ℤ◌, ◌*ℤ◌, get_or}
+use Rattle.std.specs.Prelude.{Option, None, Some, cond, List, [], ℕ, zero, suc, ◌+◌, ◌*◌, ◌/◌, ◌%◌, ltb, eqb, ℤ, pos, negsuc, nat_abs, ◌+ℤ◌, ◌-ℤ◌, ◌*ℤ◌, get_or}
 use Rattle.std.specs.Int.Signed.{lt_z}
 use Rattle.arith.specs.Division.{floor_div, ceil_div}
 use Rattle.arith.specs.Sum.{sum}
@@ -32,7 +32,6 @@ use Rattle.arith.specs.declared.Mixed.{Mixed}
 use Rattle.greedy.specs.declared.Columns.{Columns}
 use Rattle.greedy.specs.declared.Ends.{Ends}
 use Rattle.greedy.specs.declared.Fill.{Fill}
-use Rattle.greedy.specs.declared.Raising.{Raising}
 
 -- ---- columns, by item and by rank
 
@@ -110,8 +109,8 @@ begun c e = record { at = 0; room = c.capacity -ℤ corner_weight c e c.count; w
 abbrev pub raised_by : Fill → ℤ → ℤ → ℤ → Fill
 raised_by f size rate wide = record { at = f.at + 1; room = f.room -ℤ size *ℤ wide; worth = f.worth +ℤ rate *ℤ wide }
 
-abbrev pub raise_by : Fill → ℤ → ℤ → ℤ → Raising
-raise_by f size rate wide = cond (lt_z f.room (size *ℤ wide)) (record { fits = false; fill = f }) (record { fits = true; fill = raised_by f size rate wide })
+abbrev pub raise_by : Fill → ℤ → ℤ → ℤ → Option Fill
+raise_by f size rate wide = cond (lt_z f.room (size *ℤ wide)) None (Some (raised_by f size rate wide))
 
 abbrev pub raised : Columns → Ends → Fill → Fill
 raised c e f = raised_by f (at c.size f.at) (at c.rate f.at) (width c e f.at)

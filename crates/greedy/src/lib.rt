@@ -62,9 +62,14 @@ pub fn begin(cols: Columns, ends: Ends) -> Fill
     requires { Sized cols ends }
     ensures { result ≡ begun cols ends }
 {
-    let n = cols.count;
-    let b = cols.capacity;
-    begin_in(&cols.weight, &cols.price, &ends.lo, &ends.hi, n, b)
+    begin_in(
+        &cols.weight,
+        &cols.price,
+        &ends.lo,
+        &ends.hi,
+        cols.count,
+        cols.capacity,
+    )
 }
 
 // The same by the columns that it needs: a struct is copied at a call, an array that is lent is not.
@@ -84,15 +89,9 @@ pub fn begin_in<'a>(
         room: capacity,
         worth: 0,
     };
-    let mut k: usize = 0;
-    while k < n {
-        let a = weight[k];
-        let p = price[k];
-        let l = lo[k];
-        let u = hi[k];
-        let x = light_end(a, p, l, u);
-        f = with_amount(f, a, p, x);
-        k += 1;
+    for k in 0..n {
+        let x = light_end(weight[k], price[k], lo[k], hi[k]);
+        f = with_amount(f, weight[k], price[k], x);
     }
     f
 }
@@ -109,34 +108,20 @@ pub fn with_amount(f: Fill, a: i64, c: i64, x: i64) -> Fill
     }
 }
 
-// A filling after the next rank, or that the rank does not fit.
-#[derive(Clone, Copy)]
-pub struct Raising {
-    pub fits: bool,
-    pub fill: Fill,
-}
-
-// The item of the next rank, raised to its heavy end if it fits.
-pub fn raise(f: Fill, size: i64, rate: i64, width: i64) -> Raising
+// The filling with the item of the next rank raised to its heavy end, if it fits.
+pub fn raise(f: Fill, size: i64, rate: i64, width: i64) -> Option<Fill>
     requires { Raisable f size rate width }
     ensures { result ≡ raise_by f size rate width }
 {
     let need = size * width;
     if f.room < need {
-        return Raising {
-            fits: false,
-            fill: f,
-        };
+        return None;
     }
-    let g = Fill {
+    Some(Fill {
         at: f.at + 1,
         room: f.room - need,
         worth: f.worth + rate * width,
-    };
-    Raising {
-        fits: true,
-        fill: g,
-    }
+    })
 }
 
 // The filling of a box: where it stops. A room below 0 says that the box is empty.
@@ -144,9 +129,6 @@ pub fn fill_up(cols: Columns, ends: Ends) -> Fill
     requires { Sized cols ends }
     ensures { result ≡ fill cols ends }
 {
-    let n = cols.count;
-    let live = cols.live;
-    let b = cols.capacity;
     fill_in(
         &cols.weight,
         &cols.price,
@@ -155,9 +137,9 @@ pub fn fill_up(cols: Columns, ends: Ends) -> Fill
         &cols.rate,
         &ends.lo,
         &ends.hi,
-        live,
-        n,
-        b,
+        cols.live,
+        cols.count,
+        cols.capacity,
     )
 }
 
@@ -181,18 +163,11 @@ pub fn fill_in<'a>(
     if f.room < 0 {
         return f;
     }
-    while f.at < live {
-        let u = f.at;
+    for u in 0..live {
         let k = order[u];
-        let l = lo[k];
-        let h = hi[k];
-        let s = size[u];
-        let p = rate[u];
-        let t = raise(f, s, p, h - l);
-        if t.fits {
-            f = t.fill;
-        } else {
-            return f;
+        match raise(f, size[u], rate[u], hi[k] - lo[k]) {
+            Some(g) => f = g,
+            None => return f,
         }
     }
     f
@@ -203,8 +178,7 @@ pub fn bound_of(cols: Columns, f: Fill) -> Mixed
     requires { SizedFill cols f }
     ensures { result ≡ bound cols f }
 {
-    let live = cols.live;
-    bound_in(&cols.size, &cols.rate, live, f)
+    bound_in(&cols.size, &cols.rate, cols.live, f)
 }
 
 // The same by the columns that it needs.
@@ -214,9 +188,7 @@ pub fn bound_in<'a>(size: &'a [i64; 16], rate: &'a [i64; 16], live: usize, f: Fi
 {
     let u = f.at;
     if u < live {
-        let s = size[u];
-        let p = rate[u];
-        return share(f, magnitude(s), magnitude(p));
+        return share(f, magnitude(size[u]), magnitude(rate[u]));
     }
     Mixed {
         whole: f.worth,
@@ -230,8 +202,7 @@ pub fn share(f: Fill, s: u64, p: u64) -> Mixed
     requires { Shareable f s p }
     ensures { result ≡ shared_by f s p }
 {
-    let r = f.room;
-    let x = p * magnitude(r);
+    let x = p * magnitude(f.room);
     Mixed {
         whole: f.worth + (x / s) as i64,
         part: x % s,
@@ -258,12 +229,7 @@ pub fn start_of<'a>(
     ensures { result ≡ start_of (columns_of weight.now price.now order.now rank.now size.now rate.now live n capacity) (record { lo = lo.entry.now; hi = hi.now }) k }
 {
     let f = fill_in(weight, price, order, size, rate, lo, hi, live, n, capacity);
-    let a = weight[k];
-    let c = price[k];
-    let l = lo[k];
-    let u = hi[k];
-    let v = rank[k];
-    rounded(f, a, c, l, u, v, live)
+    rounded(f, weight[k], price[k], lo[k], hi[k], rank[k], live)
 }
 
 // The amount of the item of rank v in a filling of n live ranks, rounded towards its light end.

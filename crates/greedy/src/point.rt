@@ -32,13 +32,11 @@ pub fn taking(a: i64, room: i64, v: usize, u: usize, n: usize) -> i64
     requires { Within most_room room }
     ensures { result ≡ taken_by a room v u n }
 {
-    if u < n {
-        if v == u {
-            if a < 0 {
-                return 0 - room;
-            }
-            return room;
+    if u < n && v == u {
+        if a < 0 {
+            return -room;
         }
+        return room;
     }
     0
 }
@@ -49,14 +47,9 @@ fn numerator_of(cols: Columns, ends: Ends, f: Fill, q: u64, k: usize) -> i64
     ensures { result ≡ numerator cols ends f q k }
 {
     let a = cols.weight[k];
-    let p = cols.price[k];
-    let l = ends.lo[k];
-    let h = ends.hi[k];
     let v = cols.rank[k];
-    let u = f.at;
-    let x = standing(a, p, l, h, v < u);
-    let t = taking(a, f.room, v, u, cols.live);
-    x * (q as i64) + t
+    let x = standing(a, cols.price[k], ends.lo[k], ends.hi[k], v < f.at);
+    x * (q as i64) + taking(a, f.room, v, f.at, cols.live)
 }
 
 // Item k's amount over q.
@@ -64,8 +57,10 @@ fn amount(cols: Columns, ends: Ends, f: Fill, q: u64, k: usize) -> Fraction
     requires { Countable cols ends f q k }
     ensures { result ≡ amount_of cols ends f q k }
 {
-    let n = numerator_of(cols, ends, f, q, k);
-    Fraction { p: n, q: q }
+    Fraction {
+        p: numerator_of(cols, ends, f, q, k),
+        q,
+    }
 }
 
 // The divisor of item k's amounts: its weight without sign, unless it is whole.
@@ -73,12 +68,11 @@ fn divisor_at(cols: Columns, whole: [bool; 16], k: usize) -> u64
     requires { SizedColumns cols × (k < 16) }
     ensures { result ≡ divisor_in cols whole k }
 {
-    let w = whole[k];
-    let a = cols.weight[k];
-    if w {
-        return 1;
+    if whole[k] {
+        1
+    } else {
+        weight_divisor(cols.weight[k])
     }
-    weight_divisor(a)
 }
 
 // All amounts; zero beyond the count. whole tells which items have whole amounts.
@@ -86,16 +80,12 @@ pub fn amounts(cols: Columns, ends: Ends, f: Fill, whole: [bool; 16]) -> Amounte
     requires { Sized cols ends × SizedFill cols f }
     ensures { Amounts cols ends f whole result.point }
 {
-    let n = cols.count;
     let mut r = Amounted {
         point: [Fraction { p: 0, q: 1 }; 16],
     };
-    let mut k: usize = 0;
-    while k < n {
+    for k in 0..cols.count {
         let q = divisor_at(cols, whole, k);
-        let x = amount(cols, ends, f, q, k);
-        r.point[k] = x;
-        k += 1;
+        r.point[k] = amount(cols, ends, f, q, k);
     }
     r
 }

@@ -14,8 +14,7 @@ use Rattle.knapsack.proofs.Climb.{climb}
 use Rattle.knapsack.proofs.Common.{KeepsMarkᴰ, KeepsLowerᴰ, KeepsUpperᴰ, weighsᴰ, valueᴰ, Feasibleᴰ, Optimalᴰ}
 use Rattle.knapsack.proofs.Dual.{Certificate, certified, AtEnd, at-end, within}
 use Rattle.knapsack.specs.Meaning.{Instance, weights}
-use Rattle.knapsack.specs.declared.Bound.{Bound}
-use Rattle.knapsack.specs.declared.Bound.TheVariants.{Absent, At}
+use Rattle.std.specs.Prelude.{Option, None, Some}
 use Rattle.knapsack.specs.declared.Mark.{Mark}
 use Rattle.knapsack.specs.declared.Mark.TheVariants.{Integer, Continuous}
 
@@ -59,7 +58,7 @@ leaf-empty s W E h D N d p = absurd (h D N d p)
 -- ---- branches
 
 -- s with the bounds l and u for item k
-abbrev pub narrow : Instance → ℕ → Bound → Bound → Instance
+abbrev pub narrow : Instance → ℕ → Option ℤ → Option ℤ → Instance
 narrow s k l u = record {
   capacity = s.capacity;
   count = s.count;
@@ -72,7 +71,7 @@ narrow s k l u = record {
   };
 }
 
-pub into : (s : Instance) (k : ℕ) (l u : Bound) (D : ℕ) (N : ℕ → ℤ) → Feasibleᴰ s D N → KeepsLowerᴰ D l (N k) → KeepsUpperᴰ D u (N k) →
+pub into : (s : Instance) (k : ℕ) (l u : Option ℤ) (D : ℕ) (N : ℕ → ℤ) → Feasibleᴰ s D N → KeepsLowerᴰ D l (N k) → KeepsUpperᴰ D u (N k) →
     Feasibleᴰ (narrow s k l u) D N
 into s k l u D N p hl hu = record {
   keeps = λ j m. record {
@@ -84,7 +83,7 @@ into s k l u D N p hl hu = record {
 }
 
 -- the new bounds imply the old
-pub out : (s : Instance) (k : ℕ) (l u : Bound) (D : ℕ) (N : ℕ → ℤ) → (KeepsLowerᴰ D l (N k) → KeepsLowerᴰ D (s.item k).lower (N k)) →
+pub out : (s : Instance) (k : ℕ) (l u : Option ℤ) (D : ℕ) (N : ℕ → ℤ) → (KeepsLowerᴰ D l (N k) → KeepsLowerᴰ D (s.item k).lower (N k)) →
     (KeepsUpperᴰ D u (N k) → KeepsUpperᴰ D (s.item k).upper (N k))
     → Feasibleᴰ (narrow s k l u) D N → Feasibleᴰ s D N
 out s k l u D N fl fu p = record {
@@ -106,33 +105,33 @@ out s k l u D N fl fu p = record {
 
 -- a whole amount is at most f or at least f + 1
 pub halve : (s : Instance) (k : ℕ) (f : ℤ) → k < s.count → (s.item k).mark ≡ Integer → (D : ℕ) (N : ℕ → ℤ) → Feasibleᴰ s D N
-    → Feasibleᴰ (narrow s k (s.item k).lower (At f)) D N ⊎ Feasibleᴰ (narrow s k (At (f +ℤ pos 1)) (s.item k).upper) D N
+    → Feasibleᴰ (narrow s k (s.item k).lower (Some f)) D N ⊎ Feasibleᴰ (narrow s k (Some (f +ℤ pos 1)) (s.item k).upper) D N
 halve s k f m w D N p = go (subst (λ mk. KeepsMarkᴰ D mk (N k)) w (p.keeps k m).marked)
   where
     up : (n f : ℤ) → f <ℤ n → ((f +ℤ pos 1) *ℤ pos D) ≤ℤ (n *ℤ pos D)
     up = split2 _ (λ a b c e. simp zed (λ h. omega (arith, mul-le-mul_right D h)))
 
     at : (n : ℤ) → N k ≡ n *ℤ pos D → (n ≤ℤ f) ⊎ (f <ℤ n) →
-        Feasibleᴰ (narrow s k (s.item k).lower (At f)) D N ⊎ Feasibleᴰ (narrow s k (At (f +ℤ pos 1)) (s.item k).upper) D N
-    at n e (inl h) = inl (into s k (s.item k).lower (At f) D N p (p.keeps k m).above (rw e (times-≤ D n f h)))
-    at n e (inr h) = inr (into s k (At (f +ℤ pos 1)) (s.item k).upper D N p (rw e (up n f h)) (p.keeps k m).below)
+        Feasibleᴰ (narrow s k (s.item k).lower (Some f)) D N ⊎ Feasibleᴰ (narrow s k (Some (f +ℤ pos 1)) (s.item k).upper) D N
+    at n e (inl h) = inl (into s k (s.item k).lower (Some f) D N p (p.keeps k m).above (rw e (times-≤ D n f h)))
+    at n e (inr h) = inr (into s k (Some (f +ℤ pos 1)) (s.item k).upper D N p (rw e (up n f h)) (p.keeps k m).below)
 
-    go : (n : ℤ) × (N k ≡ n *ℤ pos D) → Feasibleᴰ (narrow s k (s.item k).lower (At f)) D N ⊎ Feasibleᴰ (narrow s k (At (f +ℤ pos 1)) (s.item k).upper) D N
+    go : (n : ℤ) × (N k ≡ n *ℤ pos D) → Feasibleᴰ (narrow s k (s.item k).lower (Some f)) D N ⊎ Feasibleᴰ (narrow s k (Some (f +ℤ pos 1)) (s.item k).upper) D N
     go (n, e) = at n e (≤ℤ-or-< n f)
 
 pub branch : (s : Instance) (W : ℤ) (E k : ℕ) (f : ℤ) → k < s.count → (s.item k).mark ≡ Integer
-    → AtMost (narrow s k (s.item k).lower (At f)) W E → AtMost (narrow s k (At (f +ℤ pos 1)) (s.item k).upper) W E → AtMost s W E
+    → AtMost (narrow s k (s.item k).lower (Some f)) W E → AtMost (narrow s k (Some (f +ℤ pos 1)) (s.item k).upper) W E → AtMost s W E
 branch s W E k f m w lo hi D N d p = ⊎_elim (lo D N d) (hi D N d) (halve s k f m w D N p)
 
 -- the bounds l and u for all items
-abbrev pub boxed : Instance → (ℕ → Bound) → (ℕ → Bound) → Instance
+abbrev pub boxed : Instance → (ℕ → Option ℤ) → (ℕ → Option ℤ) → Instance
 boxed s l u = record {
   capacity = s.capacity;
   count = s.count;
   item = λ j. record { mark = (s.item j).mark; weight = (s.item j).weight; price = (s.item j).price; lower = l j; upper = u j };
 }
 
-pub into-box : (s : Instance) (l u : ℕ → Bound) (D : ℕ) (N : ℕ → ℤ) → Feasibleᴰ s D N →
+pub into-box : (s : Instance) (l u : ℕ → Option ℤ) (D : ℕ) (N : ℕ → ℤ) → Feasibleᴰ s D N →
     Each s.count (λ k. KeepsLowerᴰ D (l k) (N k) × KeepsUpperᴰ D (u k) (N k)) → Feasibleᴰ (boxed s l u) D N
 into-box s l u D N p h = record { keeps = λ k m. record { marked = (p.keeps k m).marked; above = (h k m).0; below = (h k m).1 }; fits = p.fits }
 
@@ -162,13 +161,13 @@ feasible-scale s D E N p = record {
     up : (n u : ℤ) → n ≤ℤ (u *ℤ pos D) → (n *ℤ pos E) ≤ℤ (u *ℤ pos (D * E))
     up = split2 _ (λ a b c e. simp zed (λ h. omega (arith, mul-le-mul_right E h)))
 
-    scale-lower : (b : Bound) (n : ℤ) → KeepsLowerᴰ D b n → KeepsLowerᴰ (D * E) b (n *ℤ pos E)
-    scale-lower Absent n h = tt
-    scale-lower (At l) n h = dn l n h
+    scale-lower : (b : Option ℤ) (n : ℤ) → KeepsLowerᴰ D b n → KeepsLowerᴰ (D * E) b (n *ℤ pos E)
+    scale-lower None n h = tt
+    scale-lower (Some l) n h = dn l n h
 
-    scale-upper : (b : Bound) (n : ℤ) → KeepsUpperᴰ D b n → KeepsUpperᴰ (D * E) b (n *ℤ pos E)
-    scale-upper Absent n h = tt
-    scale-upper (At u) n h = up n u h
+    scale-upper : (b : Option ℤ) (n : ℤ) → KeepsUpperᴰ D b n → KeepsUpperᴰ (D * E) b (n *ℤ pos E)
+    scale-upper None n h = tt
+    scale-upper (Some u) n h = up n u h
 
 -- ---- climbing: each feasible point is worth at most W / F, or a feasible point is worth at least 1 more
 pub at-most-climb : (s : Instance) (W U : ℤ) (F G : ℕ) → 1 ≤ F → 1 ≤ G → AtMost s U G

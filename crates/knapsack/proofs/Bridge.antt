@@ -10,8 +10,7 @@ use Rattle.arith.proofs.Integers.{split, zed, times-≡-back}
 use Rattle.arith.specs.Fractions.{Frac, int, ◌≤ᶠ◌}
 use Rattle.knapsack.proofs.Common.{KeepsMarkᴰ, KeepsLowerᴰ, KeepsUpperᴰ, Keepsᴰ, weighsᴰ, Feasibleᴰ, Optimalᴰ}
 use Rattle.knapsack.specs.Meaning.{Instance, Point, KeepsMark, KeepsLower, KeepsUpper, Keeps, weighs, value, Feasible, Optimal, Infeasible}
-use Rattle.knapsack.specs.declared.Bound.{Bound}
-use Rattle.knapsack.specs.declared.Bound.TheVariants.{Absent, At}
+use Rattle.std.specs.Prelude.{Option, None, Some}
 use Rattle.knapsack.specs.declared.Mark.{Mark}
 use Rattle.knapsack.specs.declared.Mark.TheVariants.{Integer, Continuous}
 use Rattle.arith.proofs.Fractions.{Over, over-int, over-≤, over-total, over-scale, Common, common}
@@ -28,13 +27,13 @@ over-mark {D} {x} {n} d h Integer = (
     swap = split _ (λ a b s D. simp zed (omega arith))
 over-mark d h Continuous = (λ w. tt, λ w. tt)
 
-pub over-lower : {D : ℕ} {x : Frac} {n : ℤ} → 1 ≤ D → Over D x n → (b : Bound) → KeepsLower b x ↔ KeepsLowerᴰ D b n
-over-lower d h Absent = (λ w. tt, λ w. tt)
-over-lower {D} d h (At l) = over-≤ d (over-int D l) h
+pub over-lower : {D : ℕ} {x : Frac} {n : ℤ} → 1 ≤ D → Over D x n → (b : Option ℤ) → KeepsLower b x ↔ KeepsLowerᴰ D b n
+over-lower d h None = (λ w. tt, λ w. tt)
+over-lower {D} d h (Some l) = over-≤ d (over-int D l) h
 
-pub over-upper : {D : ℕ} {x : Frac} {n : ℤ} → 1 ≤ D → Over D x n → (b : Bound) → KeepsUpper b x ↔ KeepsUpperᴰ D b n
-over-upper d h Absent = (λ w. tt, λ w. tt)
-over-upper {D} d h (At u) = over-≤ d h (over-int D u)
+pub over-upper : {D : ℕ} {x : Frac} {n : ℤ} → 1 ≤ D → Over D x n → (b : Option ℤ) → KeepsUpper b x ↔ KeepsUpperᴰ D b n
+over-upper d h None = (λ w. tt, λ w. tt)
+over-upper {D} d h (Some u) = over-≤ d h (over-int D u)
 
 -- the point x is N / D at every item of s
 abbrev pub Reads : Instance → ℕ → Point → (ℕ → ℤ) → Type 0

@@ -8,8 +8,7 @@ use Prim.Native.Nat.{ℕ, ◌≤◌, ◌<◌}
 use lib.IntN.{ℤ, pos, ◌*ℤ◌}
 use lib.Signed.{◌≤ℤ◌}
 use Rattle.arith.specs.Sum.{sum}
-use Rattle.knapsack.specs.declared.Bound.{Bound}
-use Rattle.knapsack.specs.declared.Bound.TheVariants.{Absent, At}
+use Rattle.std.specs.Prelude.{Option, None, Some}
 use Rattle.knapsack.specs.declared.Mark.{Mark}
 use Rattle.knapsack.specs.declared.Mark.TheVariants.{Integer, Continuous}
 use Rattle.knapsack.specs.declared.Item.{Item}
@@ -19,13 +18,13 @@ abbrev pub KeepsMarkᴰ : ℕ → Mark → ℤ → Type 0
 KeepsMarkᴰ D Integer n = (m : ℤ) × (n ≡ m *ℤ pos D)
 KeepsMarkᴰ D Continuous n = Unit {0}
 
-abbrev pub KeepsLowerᴰ : ℕ → Bound → ℤ → Type 0
-KeepsLowerᴰ D Absent n = Unit {0}
-KeepsLowerᴰ D (At l) n = (l *ℤ pos D) ≤ℤ n
+abbrev pub KeepsLowerᴰ : ℕ → Option ℤ → ℤ → Type 0
+KeepsLowerᴰ D None n = Unit {0}
+KeepsLowerᴰ D (Some l) n = (l *ℤ pos D) ≤ℤ n
 
-abbrev pub KeepsUpperᴰ : ℕ → Bound → ℤ → Type 0
-KeepsUpperᴰ D Absent n = Unit {0}
-KeepsUpperᴰ D (At u) n = n ≤ℤ (u *ℤ pos D)
+abbrev pub KeepsUpperᴰ : ℕ → Option ℤ → ℤ → Type 0
+KeepsUpperᴰ D None n = Unit {0}
+KeepsUpperᴰ D (Some u) n = n ≤ℤ (u *ℤ pos D)
 
 pub record Keepsᴰ (D : ℕ) (i : Item) (n : ℤ) : Type 0 where
   pub marked : KeepsMarkᴰ D i.mark n

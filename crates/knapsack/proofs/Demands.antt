@@ -25,8 +25,7 @@ use Rattle.knapsack.specs.Demands.{HasOptimal, HasRay, Endless, shown_value, Dem
 use Rattle.knapsack.specs.Meaning.{Instance, Point, weights, value, Feasible, Infeasible, relaxed}
 use Rattle.knapsack.specs.Meaning.{point_of, steps_of, ShownOptimal, AnswersAs, Answers}
 use Rattle.knapsack.specs.declared.Answer.{Answer}
-use Rattle.knapsack.specs.declared.Bound.{Bound}
-use Rattle.knapsack.specs.declared.Bound.TheVariants.{Absent, At}
+use Rattle.std.specs.Prelude.{Option, None, Some}
 use Rattle.knapsack.specs.declared.Kind.{Kind}
 use Rattle.knapsack.specs.declared.Kind.TheVariants as kind
 use Rattle.knapsack.specs.declared.Mark.{Mark}
@@ -109,13 +108,13 @@ module _ (s : Instance) (D : ℕ) (D≥1 : 1 ≤ D) (N : ℕ → ℤ) (r : (k : 
   whole-marked k Integer = ((r k).m, refl)
   whole-marked k Continuous = tt
 
-  whole_above : (k : ℕ) (b : Bound) → KeepsLowerᴰ D b (N k) → KeepsLowerᴰ 1 b (whole k)
-  whole_above k Absent h = tt
-  whole_above k (At l) h = rw (one l, one (r k).m) ((r k).above l h)
+  whole_above : (k : ℕ) (b : Option ℤ) → KeepsLowerᴰ D b (N k) → KeepsLowerᴰ 1 b (whole k)
+  whole_above k None h = tt
+  whole_above k (Some l) h = rw (one l, one (r k).m) ((r k).above l h)
 
-  whole_below : (k : ℕ) (b : Bound) → KeepsUpperᴰ D b (N k) → KeepsUpperᴰ 1 b (whole k)
-  whole_below k Absent h = tt
-  whole_below k (At u) h = rw (one u, one (r k).m) ((r k).below u h)
+  whole_below : (k : ℕ) (b : Option ℤ) → KeepsUpperᴰ D b (N k) → KeepsUpperᴰ 1 b (whole k)
+  whole_below k None h = tt
+  whole_below k (Some u) h = rw (one u, one (r k).m) ((r k).below u h)
 
   whole-fits : weighsᴰ s whole ≤ℤ (s.capacity *ℤ pos 1)
   whole-fits = subst (λ z. weighsᴰ s whole ≤ℤ z) (sym (one s.capacity))

@@ -10,8 +10,7 @@ use Rattle.arith.proofs.Sums.{sum_mono, sum-cong, sum-lin, sum-times}
 use Rattle.arith.specs.Sum.{sum, Each}
 use Rattle.knapsack.proofs.Common.{Keepsᴰ, KeepsLowerᴰ, KeepsUpperᴰ, weighsᴰ, valueᴰ, Feasibleᴰ}
 use Rattle.knapsack.specs.Meaning.{Instance}
-use Rattle.knapsack.specs.declared.Bound.{Bound}
-use Rattle.knapsack.specs.declared.Bound.TheVariants.{Absent, At}
+use Rattle.std.specs.Prelude.{Option, None, Some}
 use Rattle.knapsack.specs.declared.Item.{Item}
 
 -- what one unit of an item of weight a and price c brings beyond the price of its weight, times q
@@ -53,9 +52,9 @@ optimal n p q a c N M B pos-q h fits tight = done q pos-q (sum n (λ j. c j *ℤ
 -- ---- a certificate for a instance's point M / E
 
 -- an item with a good score stands at its upper bound, one with a bad score at its lower bound
-abbrev pub AtBound : ℕ → Bound → ℤ → Type 0
-AtBound E Absent m = ⊥
-AtBound E (At b) m = m ≡ b *ℤ pos E
+abbrev pub AtBound : ℕ → Option ℤ → ℤ → Type 0
+AtBound E None m = ⊥
+AtBound E (Some b) m = m ≡ b *ℤ pos E
 
 pub record AtEnd (E : ℕ) (ρ : ℤ) (i : Item) (m : ℤ) : Type 0 where
   pub good : pos 0 <ℤ ρ → AtBound E i.upper m
@@ -79,13 +78,13 @@ at-end D E ρ i n m k e = go ρ i.lower i.upper e.good e.bad k.above k.below
     dn : (r D E : ℕ) (n u : ℤ) → (u *ℤ pos D) ≤ℤ n → (negsuc r *ℤ (n *ℤ pos E)) ≤ℤ (negsuc r *ℤ ((u *ℤ pos E) *ℤ pos D))
     dn r D E = split2 _ (λ a b c e. simp zed (λ l. omega (arith, mul-le-mul_left (suc r * E) l)))
 
-    go : (ρ : ℤ) (lo up : Bound) → (pos 0 <ℤ ρ → AtBound E up m) → (ρ <ℤ pos 0 → AtBound E lo m) → KeepsLowerᴰ D lo n → KeepsUpperᴰ D up n →
+    go : (ρ : ℤ) (lo up : Option ℤ) → (pos 0 <ℤ ρ → AtBound E up m) → (ρ <ℤ pos 0 → AtBound E lo m) → KeepsLowerᴰ D lo n → KeepsUpperᴰ D up n →
         (ρ *ℤ (n *ℤ pos E)) ≤ℤ (ρ *ℤ (m *ℤ pos D))
     go (pos zero) lo hi g b kl ku = simp zero-*ℤ (≤ℤ-reflexive refl)
-    go (pos (suc r)) lo Absent g b kl ku = absurd (g (simp zed (omega arith)))
-    go (pos (suc r)) lo (At u) g b kl ku = let at : m ≡ u *ℤ pos E = g (simp zed (omega arith)) in rw at (up (suc r) D E n u ku)
-    go (negsuc r) Absent hi g b kl ku = absurd (b (simp zed (omega arith)))
-    go (negsuc r) (At l) hi g b kl ku = let at : m ≡ l *ℤ pos E = b (simp zed (omega arith)) in rw at (dn r D E n l kl)
+    go (pos (suc r)) lo None g b kl ku = absurd (g (simp zed (omega arith)))
+    go (pos (suc r)) lo (Some u) g b kl ku = let at : m ≡ u *ℤ pos E = g (simp zed (omega arith)) in rw at (up (suc r) D E n u ku)
+    go (negsuc r) None hi g b kl ku = absurd (b (simp zed (omega arith)))
+    go (negsuc r) (Some l) hi g b kl ku = let at : m ≡ l *ℤ pos E = b (simp zed (omega arith)) in rw at (dn r D E n l kl)
 
 pub record Certificate (s : Instance) (E : ℕ) (M : ℕ → ℤ) : Type 0 where
   pub p : ℕ

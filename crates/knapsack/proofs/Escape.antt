@@ -12,8 +12,7 @@ use Rattle.arith.specs.Sum.{sum, Each, bump}
 use Rattle.knapsack.proofs.Rays.{Ray, ray-unbounded}
 use Rattle.knapsack.proofs.Reach.{Way, fore, aft, turn, Free, NoRay, turn-mul, abs-up, abs-dn}
 use Rattle.knapsack.specs.Meaning.{Instance, Point, Feasible, Unbounded, weights, prices}
-use Rattle.knapsack.specs.declared.Bound.{Bound}
-use Rattle.knapsack.specs.declared.Bound.TheVariants.{Absent, At}
+use Rattle.std.specs.Prelude.{Option, None, Some}
 use Rattle.knapsack.specs.declared.Item.{Item}
 
 -- steps on i and j alone that make the instance unbounded
@@ -34,7 +33,7 @@ escape s x c p = ray-unbounded s x c.d c.i c.j c.i-in c.j-in c.i-moves c.j-moves
 
 -- a step r meets no bound of i
 abbrev FreeBy : Item → ℤ → Type 0
-FreeBy i r = (pos 0 <ℤ r → i.upper ≡ Absent) × (r <ℤ pos 0 → i.lower ≡ Absent)
+FreeBy i r = (pos 0 <ℤ r → i.upper ≡ None) × (r <ℤ pos 0 → i.lower ≡ None)
 
 free-by : (w : Way) (i : Item) (n : ℕ) → Free w i → FreeBy i (turn w (pos n))
 free-by fore i n h = (λ k. h, λ k. absurd (no n k))
@@ -194,13 +193,13 @@ all-below {E} (suc n) P d = go (all-below n P (λ k l. d k (omega arith))) (d n 
     go (inl h) (inr e) = inr e
     go (inr e) p = inr e
 
-abbrev Here : Bound → Type 0
-Here Absent = ⊥
-Here (At b) = Unit {0}
+abbrev Here : Option ℤ → Type 0
+Here None = ⊥
+Here (Some b) = Unit {0}
 
-none? : (o : Bound) → (o ≡ Absent) ⊎ (¬ (o ≡ Absent))
-none? Absent = inl refl
-none? (At b) = inr (λ e. subst Here e tt)
+none? : (o : Option ℤ) → (o ≡ None) ⊎ (¬ (o ≡ None))
+none? None = inl refl
+none? (Some b) = inr (λ e. subst Here e tt)
 
 free? : (w : Way) (i : Item) → Free w i ⊎ (¬ Free w i)
 free? fore i = none? i.upper

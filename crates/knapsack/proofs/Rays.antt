@@ -20,8 +20,7 @@ use Rattle.knapsack.proofs.Climb.{gap}
 use Rattle.knapsack.proofs.Common.{KeepsLowerᴰ, KeepsUpperᴰ, weighsᴰ, valueᴰ, Feasibleᴰ}
 use Rattle.knapsack.proofs.Moves.{mark-step}
 use Rattle.knapsack.specs.Meaning.{Instance, Point, value, Feasible, stepped, Unbounded, weights, prices}
-use Rattle.knapsack.specs.declared.Bound.{Bound}
-use Rattle.knapsack.specs.declared.Bound.TheVariants.{Absent, At}
+use Rattle.std.specs.Prelude.{Option, None, Some}
 
 -- the numerators after t times the steps d
 abbrev pub steppedᴰ : ℕ → (ℕ → ℤ) → (ℕ → ℤ) → ℕ → ℕ → ℤ
@@ -49,8 +48,8 @@ over-worth s D x N d t h =
 
 -- steps that meet no bound, weigh nothing or less, and bring something
 pub record Ray (s : Instance) (d : ℕ → ℤ) : Type 0 where
-  pub up : (k : ℕ) → k < s.count → pos 0 <ℤ d k → (s.item k).upper ≡ Absent
-  pub down : (k : ℕ) → k < s.count → d k <ℤ pos 0 → (s.item k).lower ≡ Absent
+  pub up : (k : ℕ) → k < s.count → pos 0 <ℤ d k → (s.item k).upper ≡ None
+  pub down : (k : ℕ) → k < s.count → d k <ℤ pos 0 → (s.item k).lower ≡ None
   pub light : sum s.count (λ k. weights s k *ℤ d k) ≤ℤ pos 0
   pub gain : pos 0 <ℤ sum s.count (λ k. prices s k *ℤ d k)
 
@@ -74,15 +73,15 @@ ray-stays s D N d r p t = record {
     fall : (u n d : ℤ) → d ≤ℤ pos 0 → n ≤ℤ u → (n +ℤ (pos t *ℤ d) *ℤ pos D) ≤ℤ u
     fall = split3 _ (λ a b c e f g. simp zed (λ k l. omega (arith, mul-le-mul_left (t * D) k)))
 
-    lo : (b : Bound) (n d : ℤ) → (d <ℤ pos 0 → b ≡ Absent) → (pos 0 ≤ℤ d) ⊎ (d <ℤ pos 0) → KeepsLowerᴰ D b n → KeepsLowerᴰ D b (n +ℤ (pos t *ℤ d) *ℤ pos D)
-    lo Absent n d f c h = tt
-    lo (At l) n d f (inl c) h = rise (l *ℤ pos D) n d c h
-    lo (At l) n d f (inr c) h = subst (λ b. KeepsLowerᴰ D b (n +ℤ (pos t *ℤ d) *ℤ pos D)) (sym (f c)) tt
+    lo : (b : Option ℤ) (n d : ℤ) → (d <ℤ pos 0 → b ≡ None) → (pos 0 ≤ℤ d) ⊎ (d <ℤ pos 0) → KeepsLowerᴰ D b n → KeepsLowerᴰ D b (n +ℤ (pos t *ℤ d) *ℤ pos D)
+    lo None n d f c h = tt
+    lo (Some l) n d f (inl c) h = rise (l *ℤ pos D) n d c h
+    lo (Some l) n d f (inr c) h = subst (λ b. KeepsLowerᴰ D b (n +ℤ (pos t *ℤ d) *ℤ pos D)) (sym (f c)) tt
 
-    up : (b : Bound) (n d : ℤ) → (pos 0 <ℤ d → b ≡ Absent) → (d ≤ℤ pos 0) ⊎ (pos 0 <ℤ d) → KeepsUpperᴰ D b n → KeepsUpperᴰ D b (n +ℤ (pos t *ℤ d) *ℤ pos D)
-    up Absent n d f c h = tt
-    up (At u) n d f (inl c) h = fall (u *ℤ pos D) n d c h
-    up (At u) n d f (inr c) h = subst (λ b. KeepsUpperᴰ D b (n +ℤ (pos t *ℤ d) *ℤ pos D)) (sym (f c)) tt
+    up : (b : Option ℤ) (n d : ℤ) → (pos 0 <ℤ d → b ≡ None) → (d ≤ℤ pos 0) ⊎ (pos 0 <ℤ d) → KeepsUpperᴰ D b n → KeepsUpperᴰ D b (n +ℤ (pos t *ℤ d) *ℤ pos D)
+    up None n d f c h = tt
+    up (Some u) n d f (inl c) h = fall (u *ℤ pos D) n d c h
+    up (Some u) n d f (inr c) h = subst (λ b. KeepsUpperᴰ D b (n +ℤ (pos t *ℤ d) *ℤ pos D)) (sym (f c)) tt
 
 pub ray-unbounded : (s : Instance) (x : Point) (d : ℕ → ℤ) (i j : ℕ) → i < s.count → j < s.count → d i ≢ pos 0 → d j ≢ pos 0 →
     ((k : ℕ) → k ≢ i → k ≢ j → d k ≡ pos 0) → Ray s d → Feasible s x → Unbounded s x d
@@ -168,19 +167,19 @@ module _ (s : Instance) (x : Point) (d : ℕ → ℤ) where
       fits : (t : ℕ) → (weighsᴰ s N +ℤ pos (t * D) *ℤ weighsᴰ s d) ≤ℤ (s.capacity *ℤ pos D)
       fits t = rw (sum-stepped s.count D (weights s) N d t) at (stays t).fits
 
-      upper : (k : ℕ) → k < s.count → pos 0 <ℤ d k → (s.item k).upper ≡ Absent
+      upper : (k : ℕ) → k < s.count → pos 0 <ℤ d k → (s.item k).upper ≡ None
       upper k l h = at (s.item k).upper (λ t. ((stays t).keeps k l).below)
         where
-          at : (b : Bound) → ((t : ℕ) → KeepsUpperᴰ D b (steppedᴰ D N d t k)) → b ≡ Absent
-          at Absent f = refl
-          at (At b) f = absurd (stopped-above D c.D≥1 (N k) (d k) (b *ℤ pos D) h f)
+          at : (b : Option ℤ) → ((t : ℕ) → KeepsUpperᴰ D b (steppedᴰ D N d t k)) → b ≡ None
+          at None f = refl
+          at (Some b) f = absurd (stopped-above D c.D≥1 (N k) (d k) (b *ℤ pos D) h f)
 
-      lower : (k : ℕ) → k < s.count → d k <ℤ pos 0 → (s.item k).lower ≡ Absent
+      lower : (k : ℕ) → k < s.count → d k <ℤ pos 0 → (s.item k).lower ≡ None
       lower k l h = at (s.item k).lower (λ t. ((stays t).keeps k l).above)
         where
-          at : (b : Bound) → ((t : ℕ) → KeepsLowerᴰ D b (steppedᴰ D N d t k)) → b ≡ Absent
-          at Absent f = refl
-          at (At b) f = absurd (stopped-below D c.D≥1 (N k) (d k) (b *ℤ pos D) h f)
+          at : (b : Option ℤ) → ((t : ℕ) → KeepsLowerᴰ D b (steppedᴰ D N d t k)) → b ≡ None
+          at None f = refl
+          at (Some b) f = absurd (stopped-below D c.D≥1 (N k) (d k) (b *ℤ pos D) h f)
 
       flat : (D : ℕ) (v g : ℤ) → g ≤ℤ pos 0 → (v +ℤ pos (1 * D) *ℤ g) ≤ℤ (v +ℤ pos (0 * D) *ℤ g)
       flat D = split2 _ (λ a b c e. simp zed (λ h. omega (arith, mul-le-mul_left D h)))

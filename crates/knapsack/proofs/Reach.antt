@@ -22,8 +22,7 @@ use Rattle.knapsack.proofs.Common.{KeepsMarkᴰ, KeepsLowerᴰ, KeepsUpperᴰ, K
 use Rattle.knapsack.proofs.Dual.{Within, within}
 use Rattle.knapsack.proofs.Moves.{mark-step, shift, sum-shift, keeps-shift}
 use Rattle.knapsack.specs.Meaning.{Instance, weights, prices}
-use Rattle.knapsack.specs.declared.Bound.{Bound}
-use Rattle.knapsack.specs.declared.Bound.TheVariants.{Absent, At}
+use Rattle.std.specs.Prelude.{Option, None, Some}
 use Rattle.knapsack.specs.declared.Item.{Item}
 use Rattle.knapsack.specs.declared.Mark.{Mark}
 use Rattle.knapsack.specs.declared.Mark.TheVariants.{Integer, Continuous}
@@ -39,8 +38,8 @@ turn aft z = neg_ℤ z
 
 -- no bound this way
 abbrev pub Free : Way → Item → Type 0
-Free fore i = i.upper ≡ Absent
-Free aft i = i.lower ≡ Absent
+Free fore i = i.upper ≡ None
+Free aft i = i.lower ≡ None
 
 -- a unit of item k this way has the weight turn w (weights s k) and the price turn w (prices s k)
 pub record NoRay (s : Instance) : Type 0 where
@@ -49,13 +48,13 @@ pub record NoRay (s : Instance) : Type 0 where
       → pos 0 <ℤ turn v (weights s i) → pos 0 <ℤ turn v (prices s i) → turn w (weights s j) <ℤ pos 0
       → (turn v (prices s i) *ℤ neg_ℤ (turn w (weights s j)) +ℤ turn w (prices s j) *ℤ turn v (weights s i)) ≤ℤ pos 0
 
-abbrev pub AroundAt : ℕ → Bound → Type 0
-AroundAt B Absent = Unit {0}
-AroundAt B (At b) = nat_abs b ≤ B
+abbrev pub AroundAt : ℕ → Option ℤ → Type 0
+AroundAt B None = Unit {0}
+AroundAt B (Some b) = nat_abs b ≤ B
 
 -- a bound is absent
 abbrev pub Open : Item → Type 0
-Open i = (i.lower ≡ Absent) ⊎ (i.upper ≡ Absent)
+Open i = (i.lower ≡ None) ⊎ (i.upper ≡ None)
 
 pub record RangesAt (A : ℕ) (B : ℕ → ℕ) (C : ℕ) (s : Instance) : Type 0 where
   pub light : (k : ℕ) → k < s.count → Open (s.item k) → nat_abs (weights s k) ≤ A
@@ -107,23 +106,23 @@ back B D e i (pos m) al au k h h' = record {
     over : (b : ℤ) → nat_abs b ≤ B → pos m ≤ℤ (b *ℤ pos D) → ⊥
     over = split _ (λ a c. simp zed (λ r f. omega (arith, mul-le-mul_right D (diff B a c r).0)))
 
-    free : (b : Bound) → AroundAt B b → KeepsUpperᴰ D b (pos m) → b ≡ Absent
-    free Absent r f = refl
-    free (At b) r f = absurd (over b r f)
+    free : (b : Option ℤ) → AroundAt B b → KeepsUpperᴰ D b (pos m) → b ≡ None
+    free None r f = refl
+    free (Some b) r f = absurd (over b r f)
 
     lo' : (b : ℤ) → nat_abs b ≤ B → (b *ℤ pos D) ≤ℤ (pos m +ℤ neg_ℤ (pos e))
     lo' = split _ (λ a c. simp zed (λ r. omega (arith, mul-le-mul_right D (diff B a c r).0)))
 
-    lo : (b : Bound) → AroundAt B b → KeepsLowerᴰ D b (pos m +ℤ neg_ℤ (pos e))
-    lo Absent r = tt
-    lo (At b) r = lo' b r
+    lo : (b : Option ℤ) → AroundAt B b → KeepsLowerᴰ D b (pos m +ℤ neg_ℤ (pos e))
+    lo None r = tt
+    lo (Some b) r = lo' b r
 
     up' : (b : ℤ) → pos m ≤ℤ (b *ℤ pos D) → (pos m +ℤ neg_ℤ (pos e)) ≤ℤ (b *ℤ pos D)
     up' = split _ (λ a c. simp zed (omega arith))
 
-    up : (b : Bound) → KeepsUpperᴰ D b (pos m) → KeepsUpperᴰ D b (pos m +ℤ neg_ℤ (pos e))
-    up Absent f = tt
-    up (At b) f = up' b f
+    up : (b : Option ℤ) → KeepsUpperᴰ D b (pos m) → KeepsUpperᴰ D b (pos m +ℤ neg_ℤ (pos e))
+    up None f = tt
+    up (Some b) f = up' b f
 
     near : nat_abs ((pos m +ℤ neg_ℤ (pos e)) -ℤ pos 0) + e ≤ nat_abs (pos m -ℤ pos 0)
     near = simp zed (omega arith)
@@ -137,23 +136,23 @@ back B D e i (negsuc m) al au k h h' = record {
     over : (b : ℤ) → nat_abs b ≤ B → (b *ℤ pos D) ≤ℤ negsuc m → ⊥
     over = split _ (λ a c. simp zed (λ r f. omega (arith, mul-le-mul_right D (diff B a c r).1)))
 
-    free : (b : Bound) → AroundAt B b → KeepsLowerᴰ D b (negsuc m) → b ≡ Absent
-    free Absent r f = refl
-    free (At b) r f = absurd (over b r f)
+    free : (b : Option ℤ) → AroundAt B b → KeepsLowerᴰ D b (negsuc m) → b ≡ None
+    free None r f = refl
+    free (Some b) r f = absurd (over b r f)
 
     up' : (b : ℤ) → nat_abs b ≤ B → (negsuc m +ℤ neg_ℤ (neg_ℤ (pos e))) ≤ℤ (b *ℤ pos D)
     up' = split _ (λ a c. simp zed (λ r. omega (arith, mul-le-mul_right D (diff B a c r).1)))
 
-    up : (b : Bound) → AroundAt B b → KeepsUpperᴰ D b (negsuc m +ℤ neg_ℤ (neg_ℤ (pos e)))
-    up Absent r = tt
-    up (At b) r = up' b r
+    up : (b : Option ℤ) → AroundAt B b → KeepsUpperᴰ D b (negsuc m +ℤ neg_ℤ (neg_ℤ (pos e)))
+    up None r = tt
+    up (Some b) r = up' b r
 
     lo' : (b : ℤ) → (b *ℤ pos D) ≤ℤ negsuc m → (b *ℤ pos D) ≤ℤ (negsuc m +ℤ neg_ℤ (neg_ℤ (pos e)))
     lo' = split _ (λ a c. simp zed (omega arith))
 
-    lo : (b : Bound) → KeepsLowerᴰ D b (negsuc m) → KeepsLowerᴰ D b (negsuc m +ℤ neg_ℤ (neg_ℤ (pos e)))
-    lo Absent f = tt
-    lo (At b) f = lo' b f
+    lo : (b : Option ℤ) → KeepsLowerᴰ D b (negsuc m) → KeepsLowerᴰ D b (negsuc m +ℤ neg_ℤ (neg_ℤ (pos e)))
+    lo None f = tt
+    lo (Some b) f = lo' b f
 
     near' : (n : ℤ) → n ≡ negsuc m → nat_abs ((n +ℤ neg_ℤ (neg_ℤ (pos e))) -ℤ pos 0) + e ≤ nat_abs (n -ℤ pos 0)
     near' = split _ (λ a b. simp zed (omega arith))
@@ -426,11 +425,11 @@ module _ (A : ℕ) (B : ℕ → ℕ) (C : ℕ) (s : Instance) (R : ℕ → ℕ) 
         mul-le-mul_right D (diff m c e v).1,
       )))
 
-      go : (x y : Bound) → (s.item k).lower ≡ x → (s.item k).upper ≡ y → AroundAt (B k) x → AroundAt (B k) y → KeepsLowerᴰ D x n → KeepsUpperᴰ D y n →
+      go : (x y : Option ℤ) → (s.item k).lower ≡ x → (s.item k).upper ≡ y → AroundAt (B k) x → AroundAt (B k) y → KeepsLowerᴰ D x n → KeepsUpperᴰ D y n →
           Open (s.item k)
-      go Absent y e h ax ay kx ky = inl e
-      go (At x) Absent e h ax ay kx ky = inr h
-      go (At x) (At y) e h ax ay kx ky = absurd (over (B k) (F k * D) x y n b≤ ax ay kx ky f)
+      go None y e h ax ay kx ky = inl e
+      go (Some x) None e h ax ay kx ky = inr h
+      go (Some x) (Some y) e h ax ay kx ky = absurd (over (B k) (F k * D) x y n b≤ ax ay kx ky f)
 
   step : (N : ℕ → ℤ) → Feasibleᴰ s D N → Near N ⊎ Next N
   step N p = idle (find s.count (λ k. (F k * D < nat_abs (N k)) × (weights s k ≡ pos 0)) (Held N)
@@ -564,14 +563,14 @@ module _ (A : ℕ) (B : ℕ → ℕ) (C : ℕ) (s : Instance) (R : ℕ → ℕ) 
 
 -- ---- so an instance with no ray may be closed at ±R
 
-abbrev pub closed : Bound → ℤ → Bound
-closed Absent d = At d
-closed (At b) d = At b
+abbrev pub closed : Option ℤ → ℤ → Option ℤ
+closed None d = Some d
+closed (Some b) d = Some b
 
-abbrev pub lowers_at : (ℕ → ℕ) → Instance → ℕ → Bound
+abbrev pub lowers_at : (ℕ → ℕ) → Instance → ℕ → Option ℤ
 lowers_at R s k = closed (s.item k).lower (neg_ℤ (pos (R k)))
 
-abbrev pub uppers_at : (ℕ → ℕ) → Instance → ℕ → Bound
+abbrev pub uppers_at : (ℕ → ℕ) → Instance → ℕ → Option ℤ
 uppers_at R s k = closed (s.item k).upper (pos (R k))
 
 abbrev pub shut_at : (ℕ → ℕ) → Instance → Instance
@@ -584,16 +583,16 @@ into-shut-at R s D N p h = into-box s (lowers_at R s) (uppers_at R s) D N p
     lo' : (r : ℕ) (n : ℤ) → nat_abs n ≤ r * D → (neg_ℤ (pos r) *ℤ pos D) ≤ℤ n
     lo' r = split _ (λ a b. simp zed (omega arith))
 
-    lo : (r : ℕ) (b : Bound) (n : ℤ) → KeepsLowerᴰ D b n → nat_abs n ≤ r * D → KeepsLowerᴰ D (closed b (neg_ℤ (pos r))) n
-    lo r Absent n k h = lo' r n h
-    lo r (At b) n k h = k
+    lo : (r : ℕ) (b : Option ℤ) (n : ℤ) → KeepsLowerᴰ D b n → nat_abs n ≤ r * D → KeepsLowerᴰ D (closed b (neg_ℤ (pos r))) n
+    lo r None n k h = lo' r n h
+    lo r (Some b) n k h = k
 
     up' : (r : ℕ) (n : ℤ) → nat_abs n ≤ r * D → n ≤ℤ (pos r *ℤ pos D)
     up' r = split _ (λ a b. simp zed (omega arith))
 
-    up : (r : ℕ) (b : Bound) (n : ℤ) → KeepsUpperᴰ D b n → nat_abs n ≤ r * D → KeepsUpperᴰ D (closed b (pos r)) n
-    up r Absent n k h = up' r n h
-    up r (At b) n k h = k
+    up : (r : ℕ) (b : Option ℤ) (n : ℤ) → KeepsUpperᴰ D b n → nat_abs n ≤ r * D → KeepsUpperᴰ D (closed b (pos r)) n
+    up r None n k h = up' r n h
+    up r (Some b) n k h = k
 
 pub out-of-shut-at : (R : ℕ → ℕ) (s : Instance) (D : ℕ) (N : ℕ → ℤ) → Feasibleᴰ (shut_at R s) D N → Feasibleᴰ s D N
 out-of-shut-at R s D N p = record {
@@ -605,13 +604,13 @@ out-of-shut-at R s D N p = record {
   fits = p.fits;
 }
   where
-    lo : (r : ℕ) (b : Bound) (n : ℤ) → KeepsLowerᴰ D (closed b (neg_ℤ (pos r))) n → KeepsLowerᴰ D b n
-    lo r Absent n k = tt
-    lo r (At b) n k = k
+    lo : (r : ℕ) (b : Option ℤ) (n : ℤ) → KeepsLowerᴰ D (closed b (neg_ℤ (pos r))) n → KeepsLowerᴰ D b n
+    lo r None n k = tt
+    lo r (Some b) n k = k
 
-    up : (r : ℕ) (b : Bound) (n : ℤ) → KeepsUpperᴰ D (closed b (pos r)) n → KeepsUpperᴰ D b n
-    up r Absent n k = tt
-    up r (At b) n k = k
+    up : (r : ℕ) (b : Option ℤ) (n : ℤ) → KeepsUpperᴰ D (closed b (pos r)) n → KeepsUpperᴰ D b n
+    up r None n k = tt
+    up r (Some b) n k = k
 
 -- every feasible point of s has one of no lower value in shut_at R s
 pub reach-within : {A : ℕ} {B : ℕ → ℕ} {C : ℕ} {R : ℕ → ℕ} (s : Instance) → RangesAt A B C s → Reaches A B C s R → NoRay s → (D : ℕ) → 1 ≤ D → (N : ℕ → ℤ) →
@@ -638,7 +637,7 @@ reach-optimal-at {R = R} s g e nr E M b = record {
 
 -- ---- at the limits of the format, ±300,000,000
 
-abbrev pub Around : Bound → Type 0
+abbrev pub Around : Option ℤ → Type 0
 Around b = AroundAt 10000 b
 
 -- at most 16 items, and every figure within its limit
@@ -649,10 +648,10 @@ pub record Ranges (s : Instance) : Type 0 where
   pub uppers : (k : ℕ) → k < s.count → Around (s.item k).upper
   pub limited : nat_abs s.capacity ≤ 100000000
 
-abbrev pub lowers : Instance → ℕ → Bound
+abbrev pub lowers : Instance → ℕ → Option ℤ
 lowers s k = lowers_at (λ k. farthest) s k
 
-abbrev pub uppers : Instance → ℕ → Bound
+abbrev pub uppers : Instance → ℕ → Option ℤ
 uppers s k = uppers_at (λ k. farthest) s k
 
 abbrev pub shut : Instance → Instance

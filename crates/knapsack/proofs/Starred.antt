@@ -10,7 +10,7 @@ use lib.Signed.{◌≤ℤ◌, ◌<ℤ◌, le_z_yes, lt_z_yes}
 use Rattle.arith.specs.Fractions.{frac, int, ◌+ᶠ◌, ◌·ᶠ◌, ◌≈ᶠ◌}
 use Rattle.arith.specs.Sum.{Each}
 use Rattle.arith.proofs.Integers.{split, split2, zed}
-use Rattle.knapsack.specs.declared.Bound.TheVariants.{Absent, At}
+use Rattle.std.specs.Prelude.{None, Some}
 use Rattle.knapsack.specs.declared.Item.{Item}
 use Rattle.knapsack.specs.Meaning.{Instance, Point, value, Optimal, Infeasible, Unbounded, relaxed, LeastPair, NoPair}
 use Rattle.knapsack.specs.Table.{at, by, A, B, C, D, E, F, G, H, I, J, K, M, Best, StarredTable}
@@ -85,7 +85,7 @@ B-best = (
 )
 
 -- C: at most 2 of the first item, or at least 3
-C-low : AtMost (narrow C 0 (At (pos 0)) (At (pos 2))) (negsuc 29) 1
+C-low : AtMost (narrow C 0 (Some (pos 0)) (Some (pos 2))) (negsuc 29) 1
 unfolding score ℕ_discrete
 C-low = leaf _ (negsuc 29) 1 1 (over (pos 2) (pos 2)) (omega arith) (record {
   p = 2;
@@ -95,7 +95,7 @@ C-low = leaf _ (negsuc 29) 1 1 (over (pos 2) (pos 2)) (omega arith) (record {
   tight = refl;
 }) (le_z_yes tt)
 
-C-high : AtMost (narrow C 0 (At (pos 3)) (At (pos 3))) (negsuc 29) 1
+C-high : AtMost (narrow C 0 (Some (pos 3)) (Some (pos 3))) (negsuc 29) 1
 unfolding score ℕ_discrete
 C-high = leaf _ (negsuc 29) 1 1 (over (pos 3) (pos 0)) (omega arith) (record {
   p = 0;
@@ -142,10 +142,10 @@ E-infeasible = bridge-infeasible E (empty E 1 (over (pos 1) (pos 5)) (record {
 
 -- F, by five nodes
 abbrev F₁ : Instance
-F₁ = narrow F 0 (At (pos 0)) (At (pos 3))
+F₁ = narrow F 0 (Some (pos 0)) (Some (pos 3))
 
 abbrev F₂ : Instance
-F₂ = narrow F 0 (At (pos 4)) (At (pos 10))
+F₂ = narrow F 0 (Some (pos 4)) (Some (pos 10))
 
 F₂-empty : AtMost F₂ (pos 16) 1
 unfolding ℕ_discrete
@@ -154,7 +154,7 @@ F₂-empty = leaf-empty F₂ (pos 16) 1 (empty F₂ 1 (over (pos 4) (pos 0)) (re
   over = lt_z_yes tt;
 }))
 
-F₁-low : AtMost (narrow F₁ 1 (At (pos 0)) (At (pos 0))) (pos 16) 1
+F₁-low : AtMost (narrow F₁ 1 (Some (pos 0)) (Some (pos 0))) (pos 16) 1
 unfolding score ℕ_discrete
 F₁-low = leaf _ (pos 16) 1 1 (over (pos 3) (pos 0)) (omega arith) (record {
   p = 0;
@@ -164,7 +164,7 @@ F₁-low = leaf _ (pos 16) 1 1 (over (pos 3) (pos 0)) (omega arith) (record {
   tight = refl;
 }) (le_z_yes tt)
 
-F₁-high : AtMost (narrow F₁ 1 (At (pos 1)) (At (pos 10))) (pos 16) 1
+F₁-high : AtMost (narrow F₁ 1 (Some (pos 1)) (Some (pos 10))) (pos 16) 1
 unfolding score ℕ_discrete
 F₁-high = leaf _ (pos 16) 1 1 (over (pos 2) (pos 1)) (omega arith) (record {
   p = 5;
@@ -264,7 +264,7 @@ I-best n = (
     worth = split _ (λ a b. simp zed (omega arith))
 
 -- J: at most -3, or at least -2
-J-low : AtMost (narrow J 0 Absent (At (negsuc 2))) (negsuc 2) 1
+J-low : AtMost (narrow J 0 None (Some (negsuc 2))) (negsuc 2) 1
 unfolding score ℕ_discrete
 J-low = leaf _ (negsuc 2) 1 1 (over (negsuc 2) (pos 0)) (omega arith) (record {
   p = 0;
@@ -274,7 +274,7 @@ J-low = leaf _ (negsuc 2) 1 1 (over (negsuc 2) (pos 0)) (omega arith) (record {
   tight = refl;
 }) (le_z_yes tt)
 
-J-high : AtMost (narrow J 0 (At (negsuc 1)) Absent) (negsuc 2) 1
+J-high : AtMost (narrow J 0 (Some (negsuc 1)) None) (negsuc 2) 1
 unfolding ℕ_discrete
 J-high = leaf-empty _ (negsuc 2) 1 (empty _ 1 (over (negsuc 1) (pos 0))
     (record { ends = one _ (record { good = λ h. absurd h.lt; bad = λ h. refl }); over = lt_z_yes tt }))

@@ -3,14 +3,13 @@
 --   is_open x          the item lacks a bound
 --   with_item p j x    the problem with x at place j
 use Rattle.std.specs.Prelude.{Bool, true, false, cond, ℕ, set}
-use Rattle.knapsack.specs.declared.Bound.{Bound}
-use Rattle.knapsack.specs.declared.Bound.TheVariants.{Absent, At}
+use Rattle.std.specs.Prelude.{Option, ℤ, None, Some}
 use Rattle.knapsack.specs.declared.Item.{Item}
 use Rattle.knapsack.specs.declared.Problem.{Problem}
 
-abbrev pub is_absent : Bound → Bool
-is_absent Absent = true
-is_absent (At v) = false
+abbrev pub is_absent : Option ℤ → Bool
+is_absent None = true
+is_absent (Some v) = false
 
 abbrev pub is_open : Item → Bool
 is_open x = cond (is_absent x.lower) true (is_absent x.upper)

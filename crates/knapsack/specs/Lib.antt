@@ -3,3 +3,4 @@ pub mod Meaning
 pub mod Table
 pub mod Items
 pub mod Demands
+pub mod Verdicts

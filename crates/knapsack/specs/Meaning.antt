@@ -28,8 +28,7 @@ use Rattle.std.specs.Prelude.{◌≡◌, ◌≢◌, ℕ, suc, ◌*◌, ◌≤◌
 use Rattle.arith.specs.Fractions.{Frac, int, frac, ◌+ᶠ◌, ◌·ᶠ◌, ◌≤ᶠ◌, ◌<ᶠ◌, ◌≈ᶠ◌, total}
 use Rattle.arith.specs.Gcd.{gcd_of}
 use Rattle.arith.specs.declared.Fraction.{Fraction}
-use Rattle.knapsack.specs.declared.Bound.{Bound}
-use Rattle.knapsack.specs.declared.Bound.TheVariants.{Absent, At}
+use Rattle.std.specs.Prelude.{Option, None, Some}
 use Rattle.knapsack.specs.declared.Mark.{Mark}
 use Rattle.knapsack.specs.declared.Mark.TheVariants.{Integer, Continuous}
 use Rattle.knapsack.specs.declared.Item.{Item}
@@ -58,13 +57,13 @@ abbrev pub KeepsMark : Mark → Frac → Type 0
 KeepsMark Integer x = (n : ℤ) × (x.num ≡ n *ℤ pos x.den)
 KeepsMark Continuous x = Unit {0}
 
-abbrev pub KeepsLower : Bound → Frac → Type 0
-KeepsLower Absent x = Unit {0}
-KeepsLower (At l) x = int l ≤ᶠ x
+abbrev pub KeepsLower : Option ℤ → Frac → Type 0
+KeepsLower None x = Unit {0}
+KeepsLower (Some l) x = int l ≤ᶠ x
 
-abbrev pub KeepsUpper : Bound → Frac → Type 0
-KeepsUpper Absent x = Unit {0}
-KeepsUpper (At u) x = x ≤ᶠ int u
+abbrev pub KeepsUpper : Option ℤ → Frac → Type 0
+KeepsUpper None x = Unit {0}
+KeepsUpper (Some u) x = x ≤ᶠ int u
 
 pub record Keeps (i : Item) (x : Frac) : Type 0 where
   pub marked : KeepsMark i.mark x
@@ -104,7 +103,7 @@ abbrev pub Foremost : Instance → Point → Type 0
 Foremost s x = (y : Point) → Optimal s y → ¬ Earlier s.count y x
 
 abbrev pub AllLower : Instance → Type 0
-AllLower s = (k : ℕ) → k < s.count → (s.item k).lower ≢ Absent
+AllLower s = (k : ℕ) → k < s.count → (s.item k).lower ≢ None
 
 abbrev pub Infeasible : Instance → Type 0
 Infeasible s = (x : Point) → ¬ Feasible s x
@@ -207,10 +206,10 @@ ShownFirst s a = AllLower s → a.kind ≡ kind.Optimal → Foremost s (point_of
 -- ---- pairs of steps that a search may take away
 
 -- a step fits if it is no longer than from one bound to the other; an absent bound allows every step
-abbrev pub StepFits : Bound → Bound → ℤ → Type 0
-StepFits Absent u r = Unit {0}
-StepFits (At l) Absent r = Unit {0}
-StepFits (At l) (At u) r = pos (nat_abs r) ≤ℤ (u -ℤ l)
+abbrev pub StepFits : Option ℤ → Option ℤ → ℤ → Type 0
+StepFits None u r = Unit {0}
+StepFits (Some l) None r = Unit {0}
+StepFits (Some l) (Some u) r = pos (nat_abs r) ≤ℤ (u -ℤ l)
 
 pub record TwoSteps (i j : Item) (r t : ℤ) : Type 0 where
   pub r-moves : r ≢ pos 0

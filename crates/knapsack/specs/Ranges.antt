@@ -6,26 +6,25 @@
 --   ItemInRange i       an item's figures within their ranges, its bounds in order
 --   InRange p           the problem keeps the ranges of the paper's table
 use Rattle.std.specs.Prelude.{ℕ, ◌≤◌, ◌<◌, pos, nat_abs, get_or, ◌≤ℤ◌}
-use Rattle.knapsack.specs.declared.Bound.{Bound}
-use Rattle.knapsack.specs.declared.Bound.TheVariants.{Absent, At}
+use Rattle.std.specs.Prelude.{Option, ℤ, None, Some}
 use Rattle.knapsack.specs.declared.Mark.TheVariants.{Integer}
 use Rattle.knapsack.specs.declared.Item.{Item}
 use Rattle.knapsack.specs.declared.Problem.{Problem}
 
 abbrev pub blank : Item
-blank = record { mark = Integer; weight = pos 0; price = pos 0; lower = Absent; upper = Absent }
+blank = record { mark = Integer; weight = pos 0; price = pos 0; lower = None; upper = None }
 
 abbrev pub item_at : Problem → ℕ → Item
 item_at p k = get_or p.items k blank
 
-abbrev pub BoundInRange : Bound → Type 0
-BoundInRange Absent = Unit {0}
-BoundInRange (At v) = nat_abs v ≤ 10000
+abbrev pub BoundInRange : Option ℤ → Type 0
+BoundInRange None = Unit {0}
+BoundInRange (Some v) = nat_abs v ≤ 10000
 
-abbrev pub BoundsInOrder : Bound → Bound → Type 0
-BoundsInOrder Absent u = Unit {0}
-BoundsInOrder (At l) Absent = Unit {0}
-BoundsInOrder (At l) (At u) = l ≤ℤ u
+abbrev pub BoundsInOrder : Option ℤ → Option ℤ → Type 0
+BoundsInOrder None u = Unit {0}
+BoundsInOrder (Some l) None = Unit {0}
+BoundsInOrder (Some l) (Some u) = l ≤ℤ u
 
 pub record ItemInRange (i : Item) : Type 0 where
   pub weight-in : nat_abs i.weight ≤ 1000

@@ -9,15 +9,14 @@
 --   StarredTable      the starred rows
 use Rattle.std.specs.Prelude.{List, [], ◌∷◌, ℕ, zero, suc, ℤ, pos, negsuc, length, get_or}
 use Rattle.arith.specs.Fractions.{Frac, int, frac, ◌≈ᶠ◌}
-use Rattle.knapsack.specs.declared.Bound.{Bound}
-use Rattle.knapsack.specs.declared.Bound.TheVariants.{Absent, At}
+use Rattle.std.specs.Prelude.{Option, None, Some}
 use Rattle.knapsack.specs.declared.Mark.{Mark}
 use Rattle.knapsack.specs.declared.Mark.TheVariants.{Integer, Continuous}
 use Rattle.knapsack.specs.declared.Item.{Item}
 use Rattle.knapsack.specs.Ranges.{blank}
 use Rattle.knapsack.specs.Meaning.{Instance, Point, value, Optimal, Infeasible, Unbounded, relaxed, LeastPair, NoPair}
 
-abbrev pub item : Mark → ℤ → ℤ → Bound → Bound → Item
+abbrev pub item : Mark → ℤ → ℤ → Option ℤ → Option ℤ → Item
 item m a c l u = record { mark = m; weight = a; price = c; lower = l; upper = u }
 
 abbrev pub sheet : ℤ → List Item → Instance
@@ -35,10 +34,10 @@ by r t (suc (suc k)) = pos 0
 
 -- from 0 to n
 abbrev pub W : ℤ → ℤ → ℕ → Item
-W a c n = item Integer a c (At (pos 0)) (At (pos n))
+W a c n = item Integer a c (Some (pos 0)) (Some (pos n))
 
 abbrev pub L : ℤ → ℤ → ℕ → Item
-L a c n = item Continuous a c (At (pos 0)) (At (pos n))
+L a c n = item Continuous a c (Some (pos 0)) (Some (pos n))
 
 abbrev pub A : Instance
 A = sheet (pos 20) (W (pos 9) (pos 13) 2 ∷ L (pos 3) (pos 2) 5 ∷ [])
@@ -59,19 +58,19 @@ abbrev pub F : Instance
 F = sheet (pos 10) (W (pos 3) (pos 5) 10 ∷ W (pos 4) (pos 6) 10 ∷ [])
 
 abbrev pub G : Instance
-G = sheet (pos 0) (item Integer (pos 2) (pos 3) (At (pos 0)) Absent ∷ item Integer (negsuc 2) (negsuc 3) (At (pos 0)) Absent ∷ [])
+G = sheet (pos 0) (item Integer (pos 2) (pos 3) (Some (pos 0)) None ∷ item Integer (negsuc 2) (negsuc 3) (Some (pos 0)) None ∷ [])
 
 abbrev pub H : Instance
-H = sheet (pos 0) (item Integer (pos 2) (pos 3) (At (pos 0)) Absent ∷ item Integer (negsuc 2) (negsuc 4) (At (pos 0)) Absent ∷ [])
+H = sheet (pos 0) (item Integer (pos 2) (pos 3) (Some (pos 0)) None ∷ item Integer (negsuc 2) (negsuc 4) (Some (pos 0)) None ∷ [])
 
 abbrev pub I : Instance
-I = sheet (pos 0) (item Integer (pos 2) (pos 3) (At (pos 0)) Absent ∷ item Integer (negsuc 1) (negsuc 2) (At (pos 0)) Absent ∷ [])
+I = sheet (pos 0) (item Integer (pos 2) (pos 3) (Some (pos 0)) None ∷ item Integer (negsuc 1) (negsuc 2) (Some (pos 0)) None ∷ [])
 
 abbrev pub J : Instance
-J = sheet (negsuc 6) (item Integer (pos 3) (pos 1) Absent Absent ∷ [])
+J = sheet (negsuc 6) (item Integer (pos 3) (pos 1) None None ∷ [])
 
 abbrev pub K : Instance
-K = sheet (negsuc 6) (item Continuous (pos 3) (pos 1) Absent Absent ∷ [])
+K = sheet (negsuc 6) (item Continuous (pos 3) (pos 1) None None ∷ [])
 
 abbrev pub M : Instance
 M = sheet (pos 10) (W (pos 3) (pos 5) 3 ∷ W (pos 4) (pos 6) 10 ∷ [])

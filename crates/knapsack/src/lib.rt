@@ -10,31 +10,25 @@ ghost use Rattle.knapsack.specs.Ranges.{blank};
 
 use arith::{Fraction, magnitude};
 
-// A bound of an item (01: an item that is not listed has no such bound).
-#[derive(Clone, Copy)]
-pub enum Bound {
-    Absent,
-    At(i64),
-}
-
 // Integer is 01's W, whole; continuous is its L, loose.
-#[derive(Clone, Copy)]
+#[derive(Clone, Copy, PartialEq, Eq)]
 pub enum Mark {
     Integer,
     Continuous,
 }
 
-#[derive(Clone, Copy)]
+// The bounds are amounts, none where the item has no such bound.
+#[derive(Clone, Copy, PartialEq, Eq)]
 pub struct Item {
     pub mark: Mark,
     pub weight: i64,
     pub price: i64,
-    pub lower: Bound,
-    pub upper: Bound,
+    pub lower: Option<i64>,
+    pub upper: Option<i64>,
 }
 
 // A plain problem: the items are the first count places, and the capacity is 01's limit b.
-#[derive(Clone, Copy)]
+#[derive(Clone, Copy, PartialEq, Eq)]
 pub struct Problem {
     pub items: [Item; 16],
     pub count: usize,
@@ -42,21 +36,14 @@ pub struct Problem {
 }
 
 // 01's number of the refusal, and the line of the sheet; 0 where no sheet was read.
-#[derive(Clone, Copy)]
+#[derive(Clone, Copy, PartialEq, Eq)]
 pub struct Refusal {
     pub number: u64,
     pub line: u64,
 }
 
-// What a record or a sheet is told.
-#[derive(Clone, Copy)]
-pub enum Verdict {
-    Accepted,
-    Refused(Refusal),
-}
-
 // The kind of an answer: 01's best, infeasible, unbounded, or a refusal.
-#[derive(Clone, Copy)]
+#[derive(Clone, Copy, PartialEq, Eq)]
 pub enum Kind {
     Optimal,
     Infeasible,
@@ -65,7 +52,7 @@ pub enum Kind {
 }
 
 // The reply of planner and relaxation: an amount for each item, its steps, and what the point is worth.
-#[derive(Clone, Copy)]
+#[derive(Clone, Copy, PartialEq, Eq)]
 pub struct Answer {
     pub kind: Kind,
     pub point: [Fraction; 16],
@@ -81,32 +68,24 @@ pub fn blank_item() -> Item
         mark: Mark::Integer,
         weight: 0,
         price: 0,
-        lower: Bound::Absent,
-        upper: Bound::Absent,
+        lower: None,
+        upper: None,
     }
 }
 
 // ---- items
 
-pub fn is_absent(b: Bound) -> bool
+pub fn is_absent(b: Option<i64>) -> bool
     ensures { result ≡ is_absent b }
 {
-    match b {
-        Bound::Absent => true,
-        Bound::At(_) => false,
-    }
+    b.is_none()
 }
 
 // Whether an item lacks a bound.
 pub fn is_open(x: Item) -> bool
     ensures { result ≡ is_open x }
 {
-    let l = x.lower;
-    let u = x.upper;
-    if is_absent(l) {
-        return true;
-    }
-    is_absent(u)
+    is_absent(x.lower) || is_absent(x.upper)
 }
 
 // The problem with an item stored.
@@ -126,8 +105,7 @@ pub fn weight_divisor(a: i64) -> u64
     requires { Within 1000 a }
     ensures { result ≡ weight_divisor a }
 {
-    let m = magnitude(a);
-    if m == 0 { 1 } else { m }
+    magnitude(a).max(1)
 }
 
 // The divisor of an item's amounts: that of its weight where it is continuous.

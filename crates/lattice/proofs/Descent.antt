@@ -2,7 +2,7 @@
 use mathlib.Core.Path.{◌≡◌, refl, sym, ap, ◌∙◌, subst}
 use mathlib.Core.Bool.{Bool, true, false, cond}
 use mathlib.Core.Logic.{◌⊎◌, inl, inr}
-use Prim.Native.Nat.{ℕ, zero, suc, ◌-◌, ◌<◌}
+use Prim.Native.Nat.{ℕ, zero, suc, ◌+◌, ◌-◌, ◌<◌}
 use native.Mathlib.Nat.{mul-le-mul_left}
 use native.Mathlib.Omega.{arith}
 use lib.IntN.{ℤ, pos, negsuc, ◌+ℤ◌, ◌-ℤ◌, ◌*ℤ◌}
@@ -15,7 +15,7 @@ use Rattle.arith.proofs.Words.{yes_lt, no_lt}
 use Rattle.lattice.specs.declared.Lattice.{Lattice}
 use Rattle.lattice.specs.declared.Change.{Change}
 use Rattle.lattice.specs.declared.Slope.{Slope}
-use Rattle.lattice.specs.declared.Find.TheVariants.{Nothing, Better, Unknown}
+use Rattle.std.specs.Prelude.{None, Some}
 use Rattle.lattice.specs.Lattice.{On, Tame, Steep, height_of, highest_of, judged, lower, first_rung, verdict, barren_from, barren_by, tries}
 
 -- a product of what is not below 0
@@ -111,7 +111,7 @@ module _ (l : Lattice) (t : Tame l) (up : pos 0 ≤ℤ l.stride) (f : Slope) (st
       lesser = split2 _ (λ a b c e. simp zed (omega arith))
 
       go : (t : Bool) → lt_z b (f.worth +ℤ height_of f r.weight) ≡ t → (v : Bool) → lt_z b (f.worth +ℤ highest_of l r.worth (height_of f r.weight)) ≡ v
-          → verdict (cond t (cond v Better Unknown) Nothing) (barren_from n l f b (lower l r)) ≡ true
+          → verdict (cond t (cond v (Some false) None) (Some true)) (barren_from n l f b (lower l r)) ≡ true
           → ((o' : On l (lower l r).weight (lower l r).worth) → barren_from n l f b (lower l r) ≡ true → q.strides ≤ℤ o'.strides → (f.worth +ℤ c) ≤ℤ b)
           → (f.worth +ℤ c) ≤ℤ b
       go false e v e' h ih = at_most c (height_of f r.weight) allowed (no_lt e)
@@ -146,14 +146,18 @@ module _ (l : Lattice) (room : ℤ) where
       go true e h = descended l t (lt-le (yes_lt e)) f st b tries (first_rung l room) first_on h a c q
           (floor-most room l.stride q.strides (yes_lt e) (subst (λ z. z ≤ℤ room) q.weight_is m)) k
 
--- a rung, and what is below it
-pub step_of : (n : ℕ) (l : Lattice) (f : Slope) (b : ℤ) (r : Change) → 0 < n
-    → barren_from n l f b r ≡ verdict (judged l f b r) (barren_from (n - 1) l f b (lower l r))
+-- the whole descent, where something is known
+pub whole : (l : Lattice) (f : Slope) (room b : ℤ) → lt_z (pos 0) l.stride ≡ true → barren_by l f room b ≡ barren_from tries l f b (first_rung l room)
+unfolding barren_by
+whole l f room b h = rw h
+
+-- a rung, where k are passed, and what is below it
+pub rung : (k : ℕ) (l : Lattice) (f : Slope) (b : ℤ) (r : Change) → k < tries
+    → barren_from (tries - k) l f b r ≡ verdict (judged l f b r) (barren_from (tries - (k + 1)) l f b (lower l r))
 unfolding barren_from
-step_of zero l f b r h = absurd (omega arith)
-step_of (suc n) l f b r h = ap (λ m. verdict (judged l f b r) (barren_from m l f b (lower l r))) one
+rung k l f b r h = ap (λ n. barren_from n l f b r) one
   where
-    one : n ≡ suc n - 1
+    one : tries - k ≡ suc (tries - (k + 1))
     one = omega arith
 
 -- only a lattice that is known is barren

@@ -6,16 +6,16 @@
 --   Steep f              the slope's figures are in their ranges
 --   height_of f w         the most that a change of weight w is worth
 --   highest_of l base h   the highest worth on the lattice, from base on, that is at most h
---   judged l f b r       whether at r's change of weight a worth on the lattice is above b, the slope f allowing
+--   judged l f b r       what r's change of weight says, the slope f allowing: true, none here or below is above b; false, one here is; None, look below
 --   lower l r            one stride less
 --   first_rung l room     the greatest change of weight that the room allows
---   verdict y b          barren, not barren, or b: what a rung says
+--   verdict y b          what a rung says, or b where it says nothing
 --   barren_from n l f b r the descent over n rungs from r on
 --   tries                how many rungs a descent looks at
 --   barren_by l f room b  no change within the room is found above b: the descent along the lattice from the room on ended
 --   Falls, Snaps, Judges, Descends, Starts
 --                        what the parts of the descent ask of their figures
-use Rattle.std.specs.Prelude.{◌≡◌, Bool, true, false, cond, List, ℕ, zero, suc, ℤ, pos, ◌+ℤ◌, ◌-ℤ◌, ◌*ℤ◌, get_or, ◌≤ℤ◌, ◌<ℤ◌}
+use Rattle.std.specs.Prelude.{◌≡◌, Option, None, Some, Bool, true, false, cond, List, ℕ, zero, suc, ℤ, pos, ◌+ℤ◌, ◌-ℤ◌, ◌*ℤ◌, get_or, ◌≤ℤ◌, ◌<ℤ◌}
 use Rattle.std.specs.Int.Signed.{lt_z}
 use Rattle.arith.specs.Limits.{most_room, most_worth}
 use Rattle.arith.specs.Within.{Within}
@@ -23,8 +23,6 @@ use Rattle.arith.specs.Division.{floor_div}
 use Rattle.lattice.specs.declared.Lattice.{Lattice}
 use Rattle.lattice.specs.declared.Change.{Change}
 use Rattle.lattice.specs.declared.Slope.{Slope}
-use Rattle.lattice.specs.declared.Find.{Find}
-use Rattle.lattice.specs.declared.Find.TheVariants.{Nothing, Better, Unknown}
 
 pub record On (l : Lattice) (a c : ℤ) : Type 0 where
   pub strides : ℤ
@@ -66,11 +64,11 @@ height_of f w = floor_div (f.rate *ℤ w) f.size
 abbrev pub highest_of : Lattice → ℤ → ℤ → ℤ
 highest_of l base h = base +ℤ l.gap *ℤ floor_div (h -ℤ base) l.gap
 
-unfoldable pub judged : Lattice → Slope → ℤ → Change → Find
+unfoldable pub judged : Lattice → Slope → ℤ → Change → Option Bool
 judged l f b r =
     cond (lt_z b (f.worth +ℤ height_of f r.weight))
-    (cond (lt_z b (f.worth +ℤ highest_of l r.worth (height_of f r.weight))) Better Unknown)
-    Nothing
+    (cond (lt_z b (f.worth +ℤ highest_of l r.worth (height_of f r.weight))) (Some false) None)
+    (Some true)
 
 abbrev pub lower : Lattice → Change → Change
 lower l r = record { weight = r.weight -ℤ l.stride; worth = r.worth -ℤ l.slant }
@@ -82,10 +80,9 @@ first_rung l room = record {
   worth = l.slant *ℤ (floor_div room l.stride -ℤ l.gap *ℤ floor_div (floor_div room l.stride) l.gap);
 }
 
-abbrev pub verdict : Find → Bool → Bool
-verdict Nothing b = true
-verdict Better b = false
-verdict Unknown b = b
+abbrev pub verdict : Option Bool → Bool → Bool
+verdict (Some t) b = t
+verdict None b = b
 
 -- n rungs from r on down
 unfoldable pub barren_from : ℕ → Lattice → Slope → ℤ → Change → Bool

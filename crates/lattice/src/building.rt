@@ -171,13 +171,8 @@ fn held_from(l: Lattice, weight: [i64; 16], price: [i64; 16], d: usize, n: usize
     requires { Tame l × ((pos 0 <ℤ l.stride) × Items (entry weight) (entry price) n) }
     ensures { result ≡ held_from l (entry weight) (entry price) d (n - d) }
 {
-    let mut j = d;
-    while j < n {
-        let a = weight[j];
-        let c = price[j];
-        if holds(l, a, c) {
-            j += 1;
-        } else {
+    for j in d..n {
+        if !holds(l, weight[j], price[j]) {
             return false;
         }
     }
@@ -226,12 +221,8 @@ pub fn lattices(weight: [i64; 16], price: [i64; 16], n: usize) -> [Lattice; 16]
 {
     let mut to = unknown_lattices();
     let mut l = no_changes();
-    let mut d = n;
-    while 0 < d {
-        d -= 1;
-        let a = weight[d];
-        let c = price[d];
-        l = widen(l, a, c);
+    for d in (0..n).rev() {
+        l = widen(l, weight[d], price[d]);
         to[d] = checked(l, weight, price, d, n);
     }
     to

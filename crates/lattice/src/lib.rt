@@ -38,14 +38,6 @@ pub struct Slope {
     pub size: i64,
 }
 
-// What a descent finds at a change of weight: no worth above the incumbent's, here nor below; a better one; none here.
-#[derive(Clone, Copy)]
-pub enum Find {
-    Nothing,
-    Better,
-    Unknown,
-}
-
 // The most that a change of weight is worth.
 fn height(f: Slope, w: i64) -> i64
     requires { Falls f w }
@@ -64,8 +56,9 @@ fn highest(l: Lattice, base: i64, h: i64) -> i64
     base + g * floor_div(h - base, g)
 }
 
-// Whether a worth on the lattice at this change of weight is above b.
-fn judge(l: Lattice, f: Slope, r: Change, b: i64) -> Find
+// What this change of weight says of the descent: Some(true) where no worth here or below is above b, Some(false) where one here is; None where none
+// here is, and one below may be.
+fn judge(l: Lattice, f: Slope, r: Change, b: i64) -> Option<bool>
     requires { Judges l f r }
     ensures { result ≡ judged l f b r }
 {
@@ -74,11 +67,11 @@ fn judge(l: Lattice, f: Slope, r: Change, b: i64) -> Find
     if b < w + h {
         let v = highest(l, r.worth, h);
         if b < w + v {
-            return Find::Better;
+            return Some(false);
         }
-        return Find::Unknown;
+        return None;
     }
-    Find::Nothing
+    Some(true)
 }
 
 // One stride less.
@@ -114,18 +107,9 @@ pub fn barren(l: Lattice, f: Slope, room: i64, b: i64) -> bool
 {
     if 0 < l.stride {
         let mut r = first_rung(l, room);
-        let mut n: usize = TRIES;
-        while 0 < n {
-            n -= 1;
-            let y = judge(l, f, r, b);
-            match y {
-                Find::Nothing => {
-                    return true;
-                }
-                Find::Better => {
-                    return false;
-                }
-                Find::Unknown => {}
+        for _k in 0..TRIES {
+            if let Some(settled) = judge(l, f, r, b) {
+                return settled;
             }
             r = less_stride(l, r);
         }

@@ -4,7 +4,7 @@
 
 ghost use Rattle.std.specs.Prelude.{◌≤◌, ◌<◌};
 
-use lines::scan::{Place, first_line_end};
+use lines::scan::first_line_end;
 use trials::count::{one_more, print_count};
 use trials::print::print;
 
@@ -15,9 +15,6 @@ const FROM: usize = 20;
 
 const LAST: usize = 18_446_744_073_709_551_615;
 
-// Stands for no place.
-const NOWHERE: u64 = 99;
-
 // Found, not found, and replied to otherwise than here.
 #[derive(Clone, Copy)]
 struct Tally {
@@ -27,23 +24,14 @@ struct Tally {
 }
 
 // From the end down, so that the last one met is the first.
-fn plain_end(s: &[u8], from: usize) -> u64 {
-    let mut first = NOWHERE;
-    let mut k = s.len();
-    while from < k {
-        k -= 1;
+fn plain_end(s: &[u8], from: usize) -> Option<usize> {
+    let mut first = None;
+    for k in (from..s.len()).rev() {
         if s[k] == 10 {
-            first = k as u64;
+            first = Some(k);
         }
     }
     first
-}
-
-fn place_of(p: Place) -> u64 {
-    match p {
-        Place::Nothing => NOWHERE,
-        Place::At(n) => n as u64,
-    }
 }
 
 fn print_wrong(s: &[u8], from: usize) {
@@ -54,24 +42,22 @@ fn print_wrong(s: &[u8], from: usize) {
 }
 
 fn tried(t: Tally, s: &[u8], from: usize) -> Tally {
-    let e = place_of(first_line_end(s, from));
+    let e = first_line_end(s, from);
     let right = e == plain_end(s, from);
     if !right {
         print_wrong(s, from);
     }
     Tally {
-        found: one_more(t.found, e != NOWHERE),
-        none: one_more(t.none, e == NOWHERE),
+        found: one_more(t.found, e.is_some()),
+        none: one_more(t.none, e.is_none()),
         wrong: one_more(t.wrong, !right),
     }
 }
 
 fn with_places(start: Tally, s: &[u8]) -> Tally {
     let mut t = start;
-    let mut from: usize = 0;
-    while from < FROM {
+    for from in 0..FROM {
         t = tried(t, s, from);
-        from += 1;
     }
     t
 }
@@ -96,11 +82,8 @@ fn with_others(start: Tally, size: usize, end: usize, b: u8) -> Tally
     requires { (size ≤ 17) × (end < 17) }
 {
     let mut t = start;
-    let mut other: usize = 0;
-    while other < MOST {
-        let bytes = text_with(end, other, b);
-        t = with_text(t, bytes, size);
-        other += 1;
+    for other in 0..MOST {
+        t = with_text(t, text_with(end, other, b), size);
     }
     t
 }
@@ -109,20 +92,16 @@ fn with_ends(start: Tally, size: usize, b: u8) -> Tally
     requires { size ≤ 17 }
 {
     let mut t = start;
-    let mut end: usize = 0;
-    while end < MOST {
+    for end in 0..MOST {
         t = with_others(t, size, end, b);
-        end += 1;
     }
     t
 }
 
 fn with_sizes(start: Tally, b: u8) -> Tally {
     let mut t = start;
-    let mut size: usize = 0;
-    while size <= MOST {
+    for size in 0..=MOST {
         t = with_ends(t, size, b);
-        size += 1;
     }
     t
 }
@@ -133,10 +112,8 @@ fn all_tried() -> Tally {
         none: 0,
         wrong: 0,
     };
-    let mut b: u64 = 0;
-    while b < 256 {
-        t = with_sizes(t, b as u8);
-        b += 1;
+    for b in 0..=255 {
+        t = with_sizes(t, b);
     }
     t
 }

@@ -21,11 +21,10 @@ use lib.Pow.{shr_lt, pow-add}
 use lib.Seq.{drop-cons}
 use mir.Syntax.{w8}
 use mir.Val.{Fits}
-use Rattle.lines.specs.declared.scan.Place.{Place}
-use Rattle.lines.specs.declared.scan.Place.TheVariants.{Nothing, At}
 use Rattle.lines.specs.Places.{first_end}
 use Rattle.lines.specs.Blocks.{block_of, hit, hits_in}
 use Rattle.lines.proofs.Places.{end-split}
+use Rattle.std.specs.Prelude.{Option, None, Some}
 
 -- ---- the hits
 
@@ -100,10 +99,10 @@ trailing-shift (suc j) k m =
     rw (suc-add j k, suc-add j (count_trailing_zeros k m), shifted_even m j, shifted_half m j) (ap suc (trailing-shift j k m))
 
 -- the place of the byte that it is in, of k bytes from the place `at` on
-abbrev lowest : ℕ → ℕ → ℕ → Place
-lowest k at m = cond (eqb m 0) Nothing (At (at + count_trailing_zeros (k * 8) m / 8))
+abbrev lowest : ℕ → ℕ → ℕ → Option ℕ
+lowest k at m = cond (eqb m 0) None (Some (at + count_trailing_zeros (k * 8) m / 8))
 
-lowest-here : (k at m : ℕ) → lowest (suc k) at (m * 256 + 128) ≡ At at
+lowest-here : (k at m : ℕ) → lowest (suc k) at (m * 256 + 128) ≡ Some at
 unfolding count_trailing_zeros
 lowest-here k at m =
     let n : suc k * 8 ≡ 7 + suc (k * 8) = omega arith in
@@ -165,7 +164,7 @@ module _ (s : List ℕ) (byte : (i : ℕ) → Fits w8 (get_or s i 0)) where
           let z : hits s k (suc at) * 256 + 0 ≡ hits s k (suc at) * 256 = omega arith in
           rw (hits_more k at here, drop-cons s at 0 here, e, z) (ih ∙ sym (lowest-later k at (hits s k (suc at))))
 
-  pub end-hit : (at m : ℕ) → at + 8 ≤ length s → m ≡ hits s 8 at → (m ≡ 0 → ⊥) → first_end at (drop at s) ≡ At (at + count_trailing_zeros 64 m / 8)
+  pub end-hit : (at m : ℕ) → at + 8 ≤ length s → m ≡ hits s 8 at → (m ≡ 0 → ⊥) → first_end at (drop at s) ≡ Some (at + count_trailing_zeros 64 m / 8)
   end-hit at m h e n = end-split s at 8 h ∙ rw (hits-first 8 at h, ← e, ne_eqb m 0 n)
 
   pub end-unhit : (at m : ℕ) → at + 8 ≤ length s → m ≡ hits s 8 at → m ≡ 0 → first_end at (drop at s) ≡ first_end (at + 8) (drop (at + 8) s)

@@ -1,16 +1,18 @@
 -- Laws of numbers on a sheet (specs/Numbers.antt).
--- digit-yes, digit_low, digit-high, leading-…: what a byte is.
+-- digit-yes, digit-same, leading-yes: what a byte is.
 -- run_more, run-stop, run_end: a run of digits, a byte at a time. run-plain, run-splits, run-leads, run-append: what it is.
--- saturate: a value that stops at a bound stays right up to the bound; ranged-saturated: no narrow range sees the difference.
+-- Reading, reading-more, reading-done: a run of digits as far as it was read.
+-- saturate: a value that stops at a bound stays right up to the bound.
 -- ranged-in: a number that is in is the number itself, and lies in its range.
 use mathlib.Core.Path.{◌≡◌, refl, sym, ap, ◌∙◌}
 use mathlib.Core.Bool.{Bool, true, false, cond}
 use mathlib.Core.List.{List, [], ◌∷◌, ◌++◌}
 use Prim.Native.Nat.{ℕ, zero, suc, ◌+◌, ◌*◌, ◌-◌, ◌≤◌, ◌<◌, min}
 use native.Mathlib.Omega.{arith}
-use native.Mathlib.Decide.{dec_lt}
+use native.Mathlib.Numerals.{add-one}
 use borrow.Author.Tests.{lt-ltb, le-ltb, ltb-true, ltb-false}
 use lib.Dec.{ltb}
+use Rattle.std.specs.Char.{is_ascii_digit}
 use lib.IntN.{ℤ, pos, negsuc, neg_ℤ}
 use lib.ListN.{length, drop, get_or, drop_of_length-le}
 use lib.Seq.{drop-cons}
@@ -19,26 +21,18 @@ use Rattle.arith.specs.Within.{Within}
 use Rattle.arith.proofs.Words.{no_lt}
 use Rattle.text.specs.Decimal.{read_after, Plain}
 use Rattle.lines.specs.declared.number.Range.{Range}
-use Rattle.lines.specs.declared.number.Ranged.TheVariants.{In, Out}
-use Rattle.lines.specs.Numbers.{is_digit, is_leading, digit_run, signed_of, ranged, Narrow}
+use Rattle.lines.specs.Numbers.{is_digit, is_leading, digit_run, RunFrom, signed_of, ranged, Narrow}
+use Rattle.std.specs.Prelude.{None, Some}
 
 pub digit-yes : (b : ℕ) → 48 ≤ b → b ≤ 57 → is_digit b ≡ true
 digit-yes b h k = rw (le-ltb b 48 h, lt-ltb b 58 (omega arith))
 
-pub digit_low : (b : ℕ) → b < 48 → is_digit b ≡ false
-digit_low b h = rw (lt-ltb b 48 h)
-
-pub digit-high : (b : ℕ) → 57 < b → is_digit b ≡ false
-digit-high b h = rw (le-ltb b 48 (omega arith), le-ltb b 58 (omega arith))
+-- the library's test
+pub digit-same : (b : ℕ) → is_ascii_digit b ≡ is_digit b
+digit-same b = grind arith
 
 pub leading-yes : (b : ℕ) → 49 ≤ b → b ≤ 57 → is_leading b ≡ true
 leading-yes b h k = rw (le-ltb b 49 h, lt-ltb b 58 (omega arith))
-
-pub leading_low : (b : ℕ) → b < 49 → is_leading b ≡ false
-leading_low b h = rw (lt-ltb b 49 h)
-
-pub leading-high : (b : ℕ) → 57 < b → is_leading b ≡ false
-leading-high b h = rw (le-ltb b 49 (omega arith), le-ltb b 58 (omega arith))
 
 digit-range : (b : ℕ) → is_digit b ≡ true → (48 ≤ b) × (b ≤ 57)
 digit-range b h = go (ltb b 48) refl h
@@ -107,13 +101,13 @@ saturate L v (b ∷ ds) =
 
 -- ---- figures
 
-pub ranged-low : (r : Range) (z : ℤ) → lt_z z r.lo ≡ true → ranged r z ≡ Out
+pub ranged-low : (r : Range) (z : ℤ) → lt_z z r.lo ≡ true → ranged r z ≡ None
 ranged-low r z h = rw h
 
-pub ranged-high : (r : Range) (z : ℤ) → lt_z r.hi z ≡ true → ranged r z ≡ Out
+pub ranged-high : (r : Range) (z : ℤ) → lt_z r.hi z ≡ true → ranged r z ≡ None
 ranged-high r z h = go (lt_z z r.lo)
   where
-    go : (t : Bool) → cond t Out (cond (lt_z r.hi z) Out (In z)) ≡ Out
+    go : (t : Bool) → cond t None (cond (lt_z r.hi z) None (Some z)) ≡ None
     go true = refl
     go false = rw h
 
@@ -126,22 +120,37 @@ below h zero w l = absurd (omega arith)
 below (pos m) (suc n) w l = refl
 below (negsuc m) (suc n) w l = lt-ltb m n (omega arith)
 
-far : (r : Range) (negative : Bool) (n : ℕ) → Narrow r → 1000000000 ≤ n → ranged r (signed_of negative n) ≡ Out
+far : (r : Range) (negative : Bool) (n : ℕ) → Narrow r → 1000000000 ≤ n → ranged r (signed_of negative n) ≡ None
 far r true n w l = ranged-low r (neg_ℤ (pos n)) (below r.lo n w.low l)
 far r false n w l = ranged-high r (pos n) (beyond r.hi n w.high l)
 
-pub ranged-saturated : (r : Range) (negative : Bool) (n : ℕ) → Narrow r →
-    ranged r (signed_of negative (min n 1000000000)) ≡ ranged r (signed_of negative n)
-ranged-saturated r negative n w = go (dec_lt n 1000000000)
-  where
-    go : Dec (n < 1000000000) → ranged r (signed_of negative (min n 1000000000)) ≡ ranged r (signed_of negative n)
-    go (yes h) = let e : min n 1000000000 ≡ n = omega arith in rw e
-    go (no h) = far r negative (min n 1000000000) w (omega arith) ∙ sym (far r negative n w (omega arith))
-
-pub ranged-in : (r : Range) (z x : ℤ) → ranged r z ≡ In x → (z ≡ x) × ((r.lo ≤ℤ x) × (x ≤ℤ r.hi))
+pub ranged-in : (r : Range) (z x : ℤ) → ranged r z ≡ Some x → (z ≡ x) × ((r.lo ≤ℤ x) × (x ≤ℤ r.hi))
 ranged-in r z x h = go (lt_z z r.lo) (lt_z r.hi z) refl refl h
   where
-    go : (t u : Bool) → lt_z z r.lo ≡ t → lt_z r.hi z ≡ u → cond t Out (cond u Out (In z)) ≡ In x → (z ≡ x) × ((r.lo ≤ℤ x) × (x ≤ℤ r.hi))
+    go : (t u : Bool) → lt_z z r.lo ≡ t → lt_z r.hi z ≡ u → cond t None (cond u None (Some z)) ≡ Some x → (z ≡ x) × ((r.lo ≤ℤ x) × (x ≤ℤ r.hi))
     go true u p q h = absurd (let z : ◌≡◌ {A = ℕ} 0 1 = cc in omega arith)
     go false true p q h = absurd (let z : ◌≡◌ {A = ℕ} 0 1 = cc in omega arith)
     go false false p q h = let e : z ≡ x = cc in (e, (rw e at (no_lt {a = z} {b = r.lo} p), rw e at (no_lt {a = r.hi} {b = z} q)))
+
+-- the digits from `at` on are still to be read
+pub record Reading (s : List ℕ) (from value at : ℕ) : Type 0 where
+  pub small : value ≤ 1000000000
+  pub same : min (read_after 0 (digit_run (drop from s))) 1000000000 ≡ min (read_after value (digit_run (drop at s))) 1000000000
+  pub place : at + length (digit_run (drop at s)) ≡ from + length (digit_run (drop from s))
+
+-- one digit more
+pub reading-more : (s : List ℕ) (from value at : ℕ) → Reading s from value at → at < length s → is_digit (get_or s at 0) ≡ true →
+    Reading s from (min (10 * value + (get_or s at 0 - 48)) 1000000000) (at + 1)
+unfolding read_after
+reading-more s from value at r h d =
+    let e = run_more s at h d in
+    record {
+      small = omega arith;
+      same = r.same ∙ rw (e, add-one) (saturate 1000000000 (10 * value + (get_or s at 0 - 48)) (digit_run (drop (suc at) s)));
+      place = rw add-one (omega (arith, ap length e, r.place));
+    }
+
+-- the run ends here
+pub reading-done : (s : List ℕ) (from value at : ℕ) → Reading s from value at → digit_run (drop at s) ≡ [] → RunFrom s from (record { value = value; next = at })
+unfolding read_after
+reading-done s from value at r e = record { capped = sym (r.same ∙ rw e (omega (arith, r.small))); behind = omega (arith, rw e at r.place) }

@@ -15,32 +15,20 @@ use lib.Dec.{eqb, lit<}
 use lib.IntN.{ℤ, pos, neg_ℤ}
 use lib.ListN.{length, drop, get_or-eq_default}
 use lib.Seq.{drop-cons, drop-drop}
-use Rattle.knapsack.specs.declared.Bound.{Bound}
-use Rattle.knapsack.specs.declared.Bound.TheVariants.{Absent, At as Present}
+use Rattle.std.specs.Prelude.{Option, None, Some, Ok}
 use Rattle.knapsack.specs.declared.Mark.{Mark}
 use Rattle.knapsack.specs.declared.Mark.TheVariants.{Integer, Continuous}
 use Rattle.text.specs.Decimal.{decimal, integer, read_after}
 use Rattle.text.specs.Layout.{field}
 use Rattle.text.proofs.Decimals.{decimal-only, decimal-zero}
-use Rattle.lines.specs.declared.scan.Place.{Place}
-use Rattle.lines.specs.declared.scan.Place.TheVariants.{Nothing, At}
 use Rattle.lines.specs.declared.number.Range.{Range}
-use Rattle.lines.specs.declared.number.Ranged.TheVariants.{In}
-use Rattle.lines.specs.declared.number.Field.TheVariants.{Number}
-use Rattle.lines.specs.declared.TwoNumbers.TheVariants.{Both}
-use Rattle.lines.specs.declared.Marked.TheVariants.{Nothing as NoMark, Mark as MarkOf}
-use Rattle.lines.specs.declared.Count.TheVariants.{Lines}
-use Rattle.lines.specs.declared.ItemRead.TheVariants.{Read as ItemIs}
-use Rattle.lines.specs.declared.BoundField.TheVariants.{In as Bounded}
-use Rattle.lines.specs.declared.BoundRead.TheVariants.{Read as BoundIs}
-use Rattle.lines.specs.declared.NeedRead.TheVariants.{Read as NeedIs}
 use Rattle.model.specs.declared.ModelItem.{ModelItem}
 use Rattle.model.specs.declared.Need.{Need}
 use Rattle.lines.specs.Places.{byte_at, after_byte, on_place, after_word}
 use Rattle.lines.specs.Numbers.{is_leading, digit_run, none, numeral, signed_of, unsigned_at, number_at, from_to, only, field_at}
 use Rattle.lines.specs.Lines.{numbers_line, mark_at, weights, prices, count_at, item_read, bound_field, bound_read, need_read}
 use Rattle.lines.specs.Layout.{heading_text, numbers_text, mark_byte, item_text, absent_word, bound_word, bounding, bound_text, need_text}
-use Rattle.lines.proofs.Places.{nowhere}
+use Rattle.lines.proofs.Places.{found-same, nowhere}
 use Rattle.lines.proofs.Numerals.{run-plain, run-splits, run-leads, ranged-in}
 use Rattle.lines.proofs.Shapes.{field-parts, numbers-parts, heading-parts, item-parts, count-parts, bound-shape, bound-parts, need-parts}
 
@@ -66,25 +54,25 @@ byte-there s at b h e = go (dec_lt at (length s))
     go (yes l) = l
     go (no l) = absurd (omega (arith, sym e ∙ get_or-eq_default s 256 {n = at} (omega arith)))
 
-pub byte-has : (s : List ℕ) (at b n : ℕ) → b < 256 → after_byte s at b ≡ At n → Has s at (b ∷ []) n
+pub byte-has : (s : List ℕ) (at b n : ℕ) → b < 256 → after_byte s at b ≡ Some n → Has s at (b ∷ []) n
 byte-has s at b n h e = go (eqb (byte_at s at) b) refl e
   where
-    go : (t : Bool) → eqb (byte_at s at) b ≡ t → cond t (At (suc at)) Nothing ≡ At n → Has s at (b ∷ []) n
+    go : (t : Bool) → eqb (byte_at s at) b ≡ t → cond t (Some (suc at)) None ≡ Some n → Has s at (b ∷ []) n
     go true f g =
         let q = eqb-true (byte_at s at) b f in
         let u : suc at ≡ n = cc in
         record { has = drop-cons s at 256 (byte-there s at b h q) ∙ rw (q, u) }
     go false f g = nowhere g
 
-pub word-has : (s : List ℕ) (at : ℕ) (w : List ℕ) (n : ℕ) → Bytes w → after_word s at w ≡ At n → Has s at w n
+pub word-has : (s : List ℕ) (at : ℕ) (w : List ℕ) (n : ℕ) → Bytes w → after_word s at w ≡ Some n → Has s at w n
 unfolding after_word
 word-has s at [] n h e = let u : at ≡ n = cc in rw u has-none
 word-has s at (b ∷ w) n h e = go (after_byte s at b) refl e (λ m. word-has s m w n h.1)
   where
-    go : (p : Place) → after_byte s at b ≡ p → on_place p Nothing (λ m. after_word s m w) ≡ At n → ((m : ℕ) → after_word s m w ≡ At n → Has s m w n) →
+    go : (p : Option ℕ) → after_byte s at b ≡ p → on_place p None (λ m. after_word s m w) ≡ Some n → ((m : ℕ) → after_word s m w ≡ Some n → Has s m w n) →
         Has s at (b ∷ w) n
-    go Nothing f g ih = nowhere g
-    go (At m) f g ih = has_join (byte-has s at b m h.0 f) (ih m g)
+    go None f g ih = nowhere g
+    go (Some m) f g ih = has_join (byte-has s at b m h.0 f) (ih m g)
 
 -- ---- numbers
 
@@ -118,70 +106,70 @@ signed-has negative s at z n h = go (is_leading (byte_at s at)) refl h
 pub number-has : (s : List ℕ) (at : ℕ) (z : ℤ) (n : ℕ) → number_at s at ≡ numeral z n → Has s at (integer z) n
 number-has s at z n h = zero_or (after_byte s at 48) refl h
   where
-    minus-or : (p : Place) → after_byte s at 45 ≡ p → on_place p (unsigned_at false s at) (λ m. unsigned_at true s m) ≡ numeral z n → Has s at (integer z) n
-    minus-or Nothing e h = let r = signed-has false s at z n h in rw r.0 r.1.1
-    minus-or (At m) e h = let r = signed-has true s m z n h in rw (r.0, minus-text _ r.1.0) (has_join (byte-has s at 45 m (lit< tt) e) r.1.1)
+    minus-or : (p : Option ℕ) → after_byte s at 45 ≡ p → on_place p (unsigned_at false s at) (λ m. unsigned_at true s m) ≡ numeral z n → Has s at (integer z) n
+    minus-or None e h = let r = signed-has false s at z n h in rw r.0 r.1.1
+    minus-or (Some m) e h = let r = signed-has true s m z n h in rw (r.0, minus-text _ r.1.0) (has_join (byte-has s at 45 m (lit< tt) e) r.1.1)
 
-    zero_or : (p : Place) → after_byte s at 48 ≡ p →
+    zero_or : (p : Option ℕ) → after_byte s at 48 ≡ p →
         on_place p (on_place (after_byte s at 45) (unsigned_at false s at) (λ m. unsigned_at true s m)) (λ m. numeral (pos 0) m) ≡ numeral z n →
         Has s at (integer z) n
-    zero_or Nothing e h = minus-or (after_byte s at 45) refl h
-    zero_or (At m) e h = let u : pos 0 ≡ z = cc in let v : m ≡ n = cc in rw (← u, decimal-zero) (rw v at (byte-has s at 48 m (lit< tt) e))
+    zero_or None e h = minus-or (after_byte s at 45) refl h
+    zero_or (Some m) e h = let u : pos 0 ≡ z = cc in let v : m ≡ n = cc in rw (← u, decimal-zero) (rw v at (byte-has s at 48 m (lit< tt) e))
 
-pub field-has : (b : ℕ) (r : Range) (s : List ℕ) (at : ℕ) (z : ℤ) (n : ℕ) → b < 256 → field_at b r s at ≡ Number (In z) n → Has s at (field (integer z) b) n
+pub field-has : (b : ℕ) (r : Range) (s : List ℕ) (at : ℕ) (z : ℤ) (n : ℕ) → b < 256 → field_at b r s at ≡ Ok (Some z, n) → Has s at (field (integer z) b) n
 field-has b r s at z n l h =
-    let p = field-parts b r s at (In z) n h in
+    let p = field-parts b r s at (Some z) n h in
     let e = (ranged-in r p.value z p.figured).0 in
     rw (← e) (has_join (number-has s at p.value p.close p.number) (byte-has s p.close b n l p.closed))
 
 -- ---- lines
 
-pub numbers-has : (r q : Range) (s : List ℕ) (at : ℕ) (x y : ℤ) (n : ℕ) → numbers_line r q s at ≡ Both (In x) (In y) n → Has s at (numbers_text x y) n
+pub numbers-has : (r q : Range) (s : List ℕ) (at : ℕ) (x y : ℤ) (n : ℕ) → numbers_line r q s at ≡ Ok ((Some x, Some y), n) → Has s at (numbers_text x y) n
 numbers-has r q s at x y n h =
-    let p = numbers-parts r q s at (In x) (In y) n h in
+    let p = numbers-parts r q s at (Some x) (Some y) n h in
     has_join (field-has 32 r s at x p.next (lit< tt) p.first) (field-has 10 q s p.next y n (lit< tt) p.second)
 
-pub count-has : (w : List ℕ) (a b : ℕ) (s : List ℕ) (at m n : ℕ) → Bytes w → count_at w (from_to a b) s at ≡ Lines m n → Has s at (heading_text w m) n
+pub count-has : (w : List ℕ) (a b : ℕ) (s : List ℕ) (at m n : ℕ) → Bytes w → count_at w (from_to a b) s at ≡ Ok (m, n) → Has s at (heading_text w m) n
 count-has w a b s at m n l h =
     let c = count-parts w a b s at m n h in
-    let p = heading-parts w (from_to a b) s at (In (pos m)) n c.heading in
+    let p = heading-parts w (from_to a b) s at (Some (pos m)) n c.heading in
     let f = has_join (word-has s at w p.blank l p.word) (byte-has s p.blank 32 p.next (lit< tt) p.space) in
     has_join f (field-has 10 (from_to a b) s p.next (pos m) n (lit< tt) p.count)
 
-mark-has : (s : List ℕ) (at : ℕ) (m : Mark) (n : ℕ) → mark_at s at ≡ MarkOf m n → Has s at (mark_byte m ∷ 32 ∷ []) n
+mark-has : (s : List ℕ) (at : ℕ) (m : Mark) (n : ℕ) → mark_at s at ≡ Some (m, n) → Has s at (mark_byte m ∷ 32 ∷ []) n
 unfolding mark_at
 mark-has s at m n h = first (after_word s at (87 ∷ 32 ∷ [])) refl h
   where
-    second : (p : Place) → after_word s at (76 ∷ 32 ∷ []) ≡ p → on_place p NoMark (λ n. MarkOf Continuous n) ≡ MarkOf m n →
+    second : (p : Option ℕ) → after_word s at (76 ∷ 32 ∷ []) ≡ p → on_place {A = Option (Mark × ℕ)} p None (λ n. Some (Continuous, n)) ≡ Some (m, n) →
         Has s at (mark_byte m ∷ 32 ∷ []) n
-    second Nothing e h = absurd (let z : ◌≡◌ {A = ℕ} 0 1 = cc in omega arith)
-    second (At k) e h =
-        let u : Continuous ≡ m = cc in let v : k ≡ n = cc in rw (← u) (word-has s at (76 ∷ 32 ∷ []) n (lit< tt, (lit< tt, tt)) (e ∙ ap At v))
+    second None e h = absurd (let z : ◌≡◌ {A = ℕ} 0 1 = cc in omega arith)
+    second (Some k) e h =
+        let q = found-same h in rw (← q.0) (word-has s at (76 ∷ 32 ∷ []) n (lit< tt, (lit< tt, tt)) (e ∙ ap Some q.1))
 
-    first : (p : Place) → after_word s at (87 ∷ 32 ∷ []) ≡ p →
-        on_place p (on_place (after_word s at (76 ∷ 32 ∷ [])) NoMark (λ n. MarkOf Continuous n)) (λ n. MarkOf Integer n) ≡ MarkOf m n →
+    first : (p : Option ℕ) → after_word s at (87 ∷ 32 ∷ []) ≡ p →
+        on_place {A = Option (Mark × ℕ)} p (on_place {A = Option (Mark × ℕ)} (after_word s at (76 ∷ 32 ∷ [])) None (λ n. Some (Continuous, n))) (λ n. Some (Integer, n)) ≡ Some (m, n) →
         Has s at (mark_byte m ∷ 32 ∷ []) n
-    first Nothing e h = second (after_word s at (76 ∷ 32 ∷ [])) refl h
-    first (At k) e h =
-        let u : Integer ≡ m = cc in let v : k ≡ n = cc in rw (← u) (word-has s at (87 ∷ 32 ∷ []) n (lit< tt, (lit< tt, tt)) (e ∙ ap At v))
+    first None e h = second (after_word s at (76 ∷ 32 ∷ [])) refl h
+    first (Some k) e h =
+        let q = found-same h in rw (← q.0) (word-has s at (87 ∷ 32 ∷ []) n (lit< tt, (lit< tt, tt)) (e ∙ ap Some q.1))
 
-pub item-has : (s : List ℕ) (at : ℕ) (i : ModelItem) (n : ℕ) → item_read s at ≡ ItemIs i n → Has s at (item_text i) n
+pub item-has : (s : List ℕ) (at : ℕ) (i : ModelItem) (n : ℕ) → item_read s at ≡ Ok (i, n) → Has s at (item_text i) n
 item-has s at i n h =
     let p = item-parts s at i n h in
     let f = p.figures in
     has_join (mark-has s at i.mark p.next p.mark) (has_join (field-has 32 weights s p.next i.low f.next (lit< tt) f.first)
     (numbers-has weights prices s f.next i.high i.price n f.others))
 
-bound-field-has : (s : List ℕ) (at : ℕ) (b : Bound) (n : ℕ) → bound_field s at ≡ Bounded b n → Has s at (field (bound_word b) 10) n
-bound-field-has s at Absent n h =
-    let p = bound-shape s at Absent n h in
+bound-field-has : (s : List ℕ) (at : ℕ) (b : Option ℤ) (n : ℕ) → bound_field s at ≡ Ok (Some b, n) → Has s at (field (bound_word b) 10) n
+bound-field-has s at None n h =
+    let p = bound-shape s at None n h in
     has_join (word-has s at absent_word p.0 (lit< tt, (lit< tt, (lit< tt, (lit< tt, tt)))) p.1) (byte-has s p.0 10 n (lit< tt) p.2)
-bound-field-has s at (Present v) n h = field-has 10 prices s at v n (lit< tt) (bound-shape s at (Present v) n h)
+bound-field-has s at (Some v) n h = field-has 10 prices s at v n (lit< tt) (bound-shape s at (Some v) n h)
 
-pub bound-has : (k : ℕ) (s : List ℕ) (at : ℕ) (b : Bound) (n : ℕ) → bound_read k s at ≡ BoundIs b n → Has s at (bound_text (bounding k b)) n
+pub bound-has : (k : ℕ) (s : List ℕ) (at : ℕ) (b : Option ℤ) (n : ℕ) → bound_read k s at ≡ Ok (b, n) → Has s at (bound_text (bounding k b)) n
 bound-has k s at b n h =
     let p = bound-parts k s at b n h in
     has_join (field-has 32 (only k) s at (pos k) p.next (lit< tt) p.number) (bound-field-has s p.next b n p.bound)
 
-pub need-has : (n : ℕ) (a : Need) (s : List ℕ) (at : ℕ) (b : Need) (m : ℕ) → need_read n a s at ≡ NeedIs b m → Has s at (need_text b) m
+pub need-has : (n : ℕ) (a : Need) (s : List ℕ) (at : ℕ) (b : Need) (m : ℕ) → need_read n a s at ≡ Ok (b, m) → Has s at (need_text b) m
 need-has n a s at b m h = numbers-has (from_to 1 n) (from_to 1 n) s at (pos b.item) (pos b.cover) m (need-parts n a s at b m h).numbers

@@ -8,8 +8,7 @@
 --   bound_text b        that line
 --   need_text n         the line of a need
 use Rattle.std.specs.Prelude.{List, [], ◌∷◌, ℕ, ℤ, pos}
-use Rattle.knapsack.specs.declared.Bound.{Bound}
-use Rattle.knapsack.specs.declared.Bound.TheVariants.{Absent, At}
+use Rattle.std.specs.Prelude.{Option, None, Some}
 use Rattle.knapsack.specs.declared.Mark.{Mark}
 use Rattle.knapsack.specs.declared.Mark.TheVariants.{Integer, Continuous}
 use Rattle.model.specs.declared.ModelItem.{ModelItem}
@@ -33,15 +32,15 @@ item_text i = line (mark_byte i.mark ∷ []) (integer i.low ∷ integer i.high �
 abbrev pub absent_word : List ℕ
 absent_word = 110 ∷ 111 ∷ 110 ∷ 101 ∷ []
 
-abbrev pub bound_word : Bound → List ℕ
-bound_word Absent = absent_word
-bound_word (At v) = integer v
+abbrev pub bound_word : Option ℤ → List ℕ
+bound_word None = absent_word
+bound_word (Some v) = integer v
 
 pub record Bounding : Type 0 where
   pub number : ℕ
-  pub bound : Bound
+  pub bound : Option ℤ
 
-abbrev pub bounding : ℕ → Bound → Bounding
+abbrev pub bounding : ℕ → Option ℤ → Bounding
 bounding n b = record { number = n; bound = b }
 
 abbrev pub bound_text : Bounding → List ℕ

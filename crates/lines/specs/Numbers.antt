@@ -12,21 +12,15 @@
 --   closed_by b s at x   the figure as a field, if the byte b closes it, else the field's fault (specs/Faults)
 --   field_at b r s at    the field in a number's place, which the byte b closes
 --   Narrow r            a range that the code's saturated value lies beyond
-use Rattle.std.specs.Prelude.{◌≡◌, Bool, true, false, cond, List, [], ◌∷◌, ℕ, ◌+◌, min, ltb, ℤ, pos, neg_ℤ, length, drop}
+use Rattle.std.specs.Prelude.{◌≡◌, Bool, true, false, cond, List, [], ◌∷◌, ℕ, ◌+◌, min, ltb, ℤ, pos, neg_ℤ, length, drop, Option, None, Some, Ok, Err}
 use Rattle.std.specs.Int.Signed.{lt_z}
 use Rattle.arith.specs.Within.{Within}
-use Rattle.model.specs.Refusals as refusal
+use Rattle.model.specs.declared.refusals.Reason.TheVariants as refusal
 use Rattle.text.specs.Decimal.{read_after}
 use Rattle.lines.specs.declared.number.Run.{Run}
 use Rattle.lines.specs.declared.number.Range.{Range}
-use Rattle.lines.specs.declared.number.Ranged.{Ranged}
-use Rattle.lines.specs.declared.number.Ranged.TheVariants.{In, Out}
-use Rattle.lines.specs.declared.number.Figure.{Figure}
-use Rattle.lines.specs.declared.number.Figure.TheVariants.{Nothing as NoFigure, Number as FigureIs}
-use Rattle.lines.specs.declared.number.Field.{Field}
-use Rattle.lines.specs.declared.number.Field.TheVariants.{Fault, Number}
 use Rattle.lines.specs.Places.{byte_at, after_byte, on_place}
-use Rattle.lines.specs.Faults.{fault_at}
+use Rattle.lines.specs.Faults.{Read, fault_at}
 
 abbrev pub is_digit : ℕ → Bool
 is_digit b = cond (ltb b 48) false (ltb b 58)
@@ -72,18 +66,18 @@ from_to a b = record { lo = pos a; hi = pos b }
 abbrev pub only : ℕ → Range
 only k = from_to k k
 
-abbrev pub ranged : Range → ℤ → Ranged
-ranged r z = cond (lt_z z r.lo) Out (cond (lt_z r.hi z) Out (In z))
+abbrev pub ranged : Range → ℤ → Option ℤ
+ranged r z = cond (lt_z z r.lo) None (cond (lt_z r.hi z) None (Some z))
 
-abbrev pub in_range : Range → Numeral → Figure
-in_range r none = NoFigure
-in_range r (numeral z n) = FigureIs (ranged r z) n
+abbrev pub in_range : Range → Numeral → Option (Option ℤ × ℕ)
+in_range r none = None
+in_range r (numeral z n) = Some (ranged r z, n)
 
-abbrev pub closed_by : ℕ → List ℕ → ℕ → Figure → Field
-closed_by b s at NoFigure = Fault (fault_at refusal.number s at)
-closed_by b s at (FigureIs f n) = on_place (after_byte s n b) (Fault (fault_at refusal.number s n)) (λ m. Number f m)
+abbrev pub closed_by : ℕ → List ℕ → ℕ → Option (Option ℤ × ℕ) → Read (Option ℤ)
+closed_by b s at None = Err (fault_at refusal.Number s at)
+closed_by b s at (Some (f, n)) = on_place (after_byte s n b) (Err (fault_at refusal.Number s n)) (λ m. Ok (f, m))
 
-unfoldable pub field_at : ℕ → Range → List ℕ → ℕ → Field
+unfoldable pub field_at : ℕ → Range → List ℕ → ℕ → Read (Option ℤ)
 field_at b r s at = closed_by b s at (in_range r (number_at s at))
 
 -- a range whose ends the code's saturated value, 1,000,000,000, lies beyond

@@ -8,6 +8,7 @@
 --   line_at s at        the number of the line that holds a place, from 1
 --   closed_line n s at  where the line behind n line ends stands, from a place on
 --   refusal_on n l           refusal n at line l
+--   Asked               where the line that was asked for stands, up to its byte 10, or the refusal that is told
 --   too_long            no line is asked for of a sheet that is too long, and there is no line 0
 --   closed_or n x       the line, or refusal 2 at line n where the sheet closes none
 --   asked_line s n      the line with number n, or the refusal where there is none
@@ -15,33 +16,29 @@
 --   check_line s n      whether there is one, by verdict_of
 use Rattle.std.specs.Prelude.{cond, List, [], ◌∷◌, ℕ, zero, suc, ◌-◌, eqb, ltb, length, get_or, take, drop}
 use Rattle.knapsack.specs.declared.Refusal.{Refusal}
-use Rattle.knapsack.specs.declared.Verdict.{Verdict}
-use Rattle.knapsack.specs.declared.Verdict.TheVariants.{Accepted, Refused}
-use Rattle.lines.specs.declared.scan.Place.{Place}
-use Rattle.lines.specs.declared.scan.Place.TheVariants.{Nothing, At}
-use Rattle.lines.specs.declared.scan.Span.{Span}
-use Rattle.lines.specs.declared.scan.Span.TheVariants.{Nothing as NoLine, Line}
-use Rattle.lines.specs.declared.scan.Asked.{Asked}
-use Rattle.lines.specs.declared.scan.Asked.TheVariants.{Refused as NotAsked, Line as AskedLine}
-use Rattle.model.specs.Refusals as refusal
+use Rattle.knapsack.specs.Verdicts.{Verdict}
+use Rattle.std.specs.Prelude.{Option, None, Some, Result, Ok, Err}
+use Rattle.model.specs.declared.refusals.Reason.{Reason}
+use Rattle.model.specs.declared.refusals.Reason.TheVariants as refusal
+use Rattle.model.specs.Refusals.{number_of}
 
 abbrev pub byte_at : List ℕ → ℕ → ℕ
 byte_at s at = get_or s at 256
 
-abbrev pub after_byte : List ℕ → ℕ → ℕ → Place
-after_byte s at b = cond (eqb (byte_at s at) b) (At (suc at)) Nothing
+abbrev pub after_byte : List ℕ → ℕ → ℕ → Option ℕ
+after_byte s at b = cond (eqb (byte_at s at) b) (Some (suc at)) None
 
-abbrev pub on_place : {A : Type 0} → Place → A → (ℕ → A) → A
-on_place Nothing a f = a
-on_place (At n) a f = f n
+abbrev pub on_place : {A : Type 0} → Option ℕ → A → (ℕ → A) → A
+on_place None a f = a
+on_place (Some n) a f = f n
 
-unfoldable pub after_word : List ℕ → ℕ → List ℕ → Place
-after_word s at [] = At at
-after_word s at (b ∷ w) = on_place (after_byte s at b) Nothing (λ n. after_word s n w)
+unfoldable pub after_word : List ℕ → ℕ → List ℕ → Option ℕ
+after_word s at [] = Some at
+after_word s at (b ∷ w) = on_place (after_byte s at b) None (λ n. after_word s n w)
 
-unfoldable pub first_end : ℕ → List ℕ → Place
-first_end at [] = Nothing
-first_end at (b ∷ l) = cond (eqb b 10) (At at) (first_end (suc at) l)
+unfoldable pub first_end : ℕ → List ℕ → Option ℕ
+first_end at [] = None
+first_end at (b ∷ l) = cond (eqb b 10) (Some at) (first_end (suc at) l)
 
 unfoldable pub ends : List ℕ → ℕ
 ends [] = 0
@@ -50,33 +47,36 @@ ends (b ∷ l) = cond (eqb b 10) (suc (ends l)) (ends l)
 abbrev pub line_at : List ℕ → ℕ → ℕ
 line_at s at = suc (ends (take at s))
 
-unfoldable pub closed_line : ℕ → List ℕ → ℕ → Span
-closed_line zero s at = on_place (first_end at (drop at s)) NoLine (λ e. Line at e)
-closed_line (suc n) s at = on_place (first_end at (drop at s)) NoLine (λ e. closed_line n s (suc e))
+unfoldable pub closed_line : ℕ → List ℕ → ℕ → Option (ℕ × ℕ)
+closed_line zero s at = on_place (first_end at (drop at s)) None (λ e. Some (at, e))
+closed_line (suc n) s at = on_place (first_end at (drop at s)) None (λ e. closed_line n s (suc e))
 
-abbrev pub refusal_on : ℕ → ℕ → Refusal
-refusal_on n l = record { number = n; line = l }
+abbrev pub refusal_on : Reason → ℕ → Refusal
+refusal_on n l = record { number = number_of n; line = l }
+
+abbrev pub Asked : Type 0
+Asked = Result (ℕ × ℕ) Refusal
 
 abbrev pub too_long : Asked
-too_long = NotAsked (refusal_on refusal.overlong 0)
+too_long = Err (refusal_on refusal.Overlong 0)
 
-abbrev pub closed_or : ℕ → Span → Asked
-closed_or n NoLine = NotAsked (refusal_on refusal.form n)
-closed_or n (Line a e) = AskedLine a e
+abbrev pub closed_or : ℕ → Option (ℕ × ℕ) → Asked
+closed_or n None = Err (refusal_on refusal.Form n)
+closed_or n (Some (a, e)) = Ok (a, e)
 
 abbrev pub asked_line : List ℕ → ℕ → Asked
 asked_line s n = cond (ltb 4096 (length s)) too_long (cond (eqb n 0) too_long (closed_or n (closed_line (n - 1) s 0)))
 
 abbrev pub bytes_of : List ℕ → Asked → List ℕ
-bytes_of s (NotAsked r) = []
-bytes_of s (AskedLine a e) = take (e - a) (drop a s)
+bytes_of s (Err r) = []
+bytes_of s (Ok (a, e)) = take (e - a) (drop a s)
 
 abbrev pub line_part : List ℕ → ℕ → List ℕ
 line_part s n = bytes_of s (asked_line s n)
 
 abbrev pub verdict_of : Asked → Verdict
-verdict_of (NotAsked r) = Refused r
-verdict_of (AskedLine a e) = Accepted
+verdict_of (Err r) = Err r
+verdict_of (Ok (a, e)) = Ok tt
 
 abbrev pub check_line : List ℕ → ℕ → Verdict
 check_line s n = verdict_of (asked_line s n)

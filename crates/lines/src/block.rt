@@ -26,9 +26,7 @@ pub(crate) fn block_at(s: &[u8], at: usize) -> u64
     ensures { result ≡ block_of (take 8 (drop at s.now)) }
 {
     let mut w: u64 = 0;
-    let mut i: usize = 8;
-    while 0 < i {
-        i -= 1;
+    for i in (0..8).rev() {
         w = with_byte(w, s[at + i]);
     }
     w

@@ -27,8 +27,8 @@ use Rattle.knapsack.specs.declared.Answer.{Answer}
 use Rattle.knapsack.specs.declared.Kind.{Kind}
 use Rattle.knapsack.specs.declared.Kind.TheVariants as kind
 use Rattle.knapsack.specs.declared.Problem.{Problem}
-use Rattle.knapsack.specs.declared.Verdict.TheVariants.{Accepted}
-use Rattle.model.specs.Promises.{RepliesAs, Planned}
+use Rattle.std.specs.Prelude.{Ok}
+use Rattle.model.specs.Promises.{Planned}
 use Rattle.model.specs.Needs.{ShownOptimalNeeds, AnswersAsNeeds}
 use Rattle.model.specs.Records.{plain_of, needs_of, verdict, FiguresInRange}
 use Rattle.model.specs.declared.Model.{Model}
@@ -210,7 +210,7 @@ printable p a steps range shown h k l = go (dec_lt k (length a.point))
     go (no n) = rw (get_or-eq_default a.point (record { p = pos 0; q = 0 }) {n = k} (omega arith))
         (record { numerator = omega arith; divisor = omega arith; step = h k l })
 
-reply-short : (sense : Sense) (m : Model) (a : Answer) → verdict m ≡ Accepted → Planned sense m a → length (printed m.count a) ≤ 1440
+reply-short : (sense : Sense) (m : Model) (a : Answer) → verdict m ≡ Ok tt → Planned sense m a → length (printed m.count a) ≤ 1440
 unfolding printed
 reply-short sense m a fair planned = go a.kind (rw fair at planned.replies)
   where
@@ -234,7 +234,7 @@ reply-short sense m a fair planned = go a.kind (rw fair at planned.replies)
         simp length-append (omega (arith, i))
     go (kind.Refused f) o = absurd o
 
-pub room-enough : (m : Model) (s : Answers) → verdict m ≡ Accepted → Planned Sure m s.sure → Planned Possible m s.possible →
+pub room-enough : (m : Model) (s : Answers) → verdict m ≡ Ok tt → Planned Sure m s.sure → Planned Possible m s.possible →
     length (printed_both m.count s) ≤ room
 room-enough m s fair x y = go (is_refused s.sure.kind)
   where

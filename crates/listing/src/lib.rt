@@ -6,28 +6,25 @@
 
 ghost use Rattle.std.specs.Prelude.{◌≡◌, ◌+◌, ◌*◌, ◌≤◌, ◌<◌, length};
 ghost use Rattle.text.specs.Buffer.{Put, Shows, told, filled, noted};
-ghost use Rattle.listing.specs.Printing.{refused_line, best_line, item_line, item_lines, listed, printed, is_refused, printed_both, unless_refused};
+ghost use Rattle.listing.specs.Printing.{refused_line, best_line, item_line, item_lines, printed, is_refused, printed_both, unless_refused};
 
 use arith::Fraction;
 use knapsack::{Answer, Kind, Refusal};
 use model::Answers;
-use text::{Listed, Text, hand_over, put_integer, put_natural, put_word};
+use text::{Text, hand_over, put_integer, put_natural, put_word};
 
 // The line of the item at a place: `k p q`, and behind it the step where steps are shown.
 fn put_item(out: &mut [u8], at: usize, steps: bool, k: usize, x: Fraction, s: i64) -> usize
     requires { (at + 86 ≤ length out.old) × (k < 16) }
     ensures { Put 86 at (item_line steps k x s) out.old out.new result }
 {
-    let p = x.p;
-    let q = x.q;
-    let number = k as u64 + 1;
-    let amount = put_natural(out, at, number, b' ');
-    let divisor = put_integer(out, amount, p, b' ');
+    let amount = put_natural(out, at, k as u64 + 1, b' ');
+    let divisor = put_integer(out, amount, x.p, b' ');
     if steps {
-        let step = put_natural(out, divisor, q, b' ');
+        let step = put_natural(out, divisor, x.q, b' ');
         put_integer(out, step, s, b'\n')
     } else {
-        put_natural(out, divisor, q, b'\n')
+        put_natural(out, divisor, x.q, b'\n')
     }
 }
 
@@ -36,55 +33,39 @@ fn put_items(out: &mut [u8], at: usize, steps: bool, a: Answer, n: usize) -> usi
     ensures { Put (86 * n) at (item_lines steps a n) out.old out.new result }
 {
     let mut next = at;
-    let mut k: usize = 0;
-    while k < n {
-        let x = a.point[k];
-        let s = a.steps[k];
-        next = put_item(out, next, steps, k, x, s);
-        k += 1;
+    for k in 0..n {
+        next = put_item(out, next, steps, k, a.point[k], a.steps[k]);
     }
     next
-}
-
-// No more items than an answer has places.
-fn listed_items(n: usize) -> usize
-    ensures { result ≡ listed n }
-{
-    if n < 16 { n } else { 16 }
 }
 
 fn put_best(out: &mut [u8], at: usize, value: Fraction) -> usize
     requires { at + 48 ≤ length out.old }
     ensures { Put 48 at (best_line value) out.old out.new result }
 {
-    let p = value.p;
-    let q = value.q;
     let amount = put_word(out, at, b"best ");
-    let divisor = put_integer(out, amount, p, b' ');
-    put_natural(out, divisor, q, b'\n')
+    let divisor = put_integer(out, amount, value.p, b' ');
+    put_natural(out, divisor, value.q, b'\n')
 }
 
 fn put_refused(out: &mut [u8], at: usize, f: Refusal) -> usize
     requires { at + 50 ≤ length out.old }
     ensures { Put 50 at (refused_line f) out.old out.new result }
 {
-    let number = f.number;
-    let line = f.line;
     let first = put_word(out, at, b"refused ");
-    let second = put_natural(out, first, number, b' ');
-    put_natural(out, second, line, b'\n')
+    let second = put_natural(out, first, f.number, b' ');
+    put_natural(out, second, f.line, b'\n')
 }
 
 fn put_answer(out: &mut [u8], at: usize, a: Answer, n: usize) -> usize
     requires { at + 1440 ≤ length out.old }
     ensures { Put 1440 at (printed n a) out.old out.new result }
 {
-    let m = listed_items(n);
-    let kind = a.kind;
-    match kind {
+    // no more items than an answer has places
+    let m = n.min(16);
+    match a.kind {
         Kind::Optimal => {
-            let value = a.value;
-            let next = put_best(out, at, value);
+            let next = put_best(out, at, a.value);
             put_items(out, next, false, a, m)
         }
         Kind::Infeasible => put_word(out, at, b"infeasible\n"),
@@ -102,22 +83,13 @@ pub fn refusal_text(f: Refusal) -> Text
 {
     let mut bytes = text::space();
     let len = put_refused(&mut bytes, 0, f);
-    Text {
-        bytes: bytes,
-        len: len,
-    }
+    Text { bytes, len }
 }
 
 fn is_refused(a: Answer) -> bool
     ensures { result ≡ is_refused a.kind }
 {
-    let kind = a.kind;
-    match kind {
-        Kind::Optimal => false,
-        Kind::Infeasible => false,
-        Kind::Unbounded => false,
-        Kind::Refused(_) => true,
-    }
+    matches!(a.kind, Kind::Refused(_))
 }
 
 // A refusal is told once.
@@ -125,13 +97,11 @@ fn put_answers(out: &mut [u8], s: Answers, n: usize) -> usize
     requires { 2880 ≤ length out.old }
     ensures { Put 2880 0 (printed_both n s) out.old out.new result }
 {
-    let a = s.sure;
-    let b = s.possible;
-    let next = put_answer(out, 0, a, n);
-    if is_refused(a) {
+    let next = put_answer(out, 0, s.sure, n);
+    if is_refused(s.sure) {
         return next;
     }
-    put_answer(out, next, b, n)
+    put_answer(out, next, s.possible, n)
 }
 
 // The text of the answers about n items.
@@ -140,10 +110,7 @@ pub fn text_of(s: Answers, n: usize) -> Text
 {
     let mut bytes = text::space();
     let len = put_answers(&mut bytes, s, n);
-    Text {
-        bytes: bytes,
-        len: len,
-    }
+    Text { bytes, len }
 }
 
 // The text of one answer alone.
@@ -152,32 +119,25 @@ pub fn text_one(a: Answer, n: usize) -> Text
 {
     let mut bytes = text::space();
     let len = put_answer(&mut bytes, 0, a, n);
-    Text {
-        bytes: bytes,
-        len: len,
-    }
+    Text { bytes, len }
 }
 
 // The text of the answers about n items at the start of a lent buffer, whatever their kinds.
-fn list_answers(s: Answers, n: usize, out: &mut [u8]) -> Listed
+fn list_answers(s: Answers, n: usize, out: &mut [u8]) -> Result<usize, Refusal>
     ensures value { result ≡ told (printed_both n s) out.old }
     ensures out_after { out.new ≡ filled (printed_both n s) out.old }
 {
     let t = text_of(s, n);
-    let bytes = t.bytes;
-    let len = t.len;
-    hand_over(&bytes[..len], out)
+    hand_over(&t.bytes[..t.len], out)
 }
 
 // The text of the answers about n items in a lent buffer. A refusal is told itself: it writes nothing.
-pub fn list_reply(s: Answers, n: usize, out: &mut [u8]) -> Listed
+pub fn list_reply(s: Answers, n: usize, out: &mut [u8]) -> Result<usize, Refusal>
     ensures value { result ≡ unless_refused s.sure.kind noted (told (printed_both n s) out.old) }
     ensures out_after { out.new ≡ unless_refused s.sure.kind (λ f. out.old) (filled (printed_both n s) out.old) }
 {
-    let a = s.sure;
-    let kind = a.kind;
-    if let Kind::Refused(f) = kind {
-        return Listed::Refused(f);
+    if let Kind::Refused(f) = s.sure.kind {
+        return Err(f);
     }
     list_answers(s, n, out)
 }

@@ -1,23 +1,22 @@
 // Prints hand-made answers of each kind, and lists some of them in buffers that are a byte too short, just long enough, and longer.
 #![tactic(auto)]
 
-ghost use Rattle.std.specs.Prelude.{◌≡◌, ◌≤◌, ◌<◌, length};
+ghost use Rattle.std.specs.Prelude.{◌≤◌, ◌<◌};
 
 use arith::Fraction;
 use knapsack::{Answer, Kind, Refusal};
 use listing::list_reply;
 use model::Answers;
-use text::Listed;
 use trials::print::{print, print_field};
 
 // Every amount 0, and nothing moves.
 fn answer(kind: Kind, p: i64, q: u64) -> Answer {
     let origin = Fraction { p: 0, q: 1 };
     Answer {
-        kind: kind,
+        kind,
         point: [origin; 16],
         steps: [0; 16],
-        value: Fraction { p: p, q: q },
+        value: Fraction { p, q },
     }
 }
 
@@ -25,45 +24,42 @@ fn with_item(a: Answer, k: usize, p: i64, q: u64, s: i64) -> Answer
     requires { k < 16 }
 {
     let mut b = a;
-    b.point[k] = Fraction { p: p, q: q };
+    b.point[k] = Fraction { p, q };
     b.steps[k] = s;
     b
 }
 
-fn figure(k: usize) -> i64 {
-    match k {
-        0 => 0,
-        1 => 7,
-        2 => -7,
-        3 => 10,
-        4 => -10,
-        5 => 99,
-        6 => 100,
-        7 => -101,
-        8 => 1000000000,
-        9 => -999999999,
-        10 => 123456789012345678,
-        11 => 1000000000000000000,
-        12 => 9223372036854775807,
-        13 => -9223372036854775807,
-        14 => -9223372036854775808,
-        _ => -1,
-    }
-}
+// The numbers that are likeliest to go wrong.
+const FIGURES: [i64; 16] = [
+    0,
+    7,
+    -7,
+    10,
+    -10,
+    99,
+    100,
+    -101,
+    1000000000,
+    -999999999,
+    123456789012345678,
+    1000000000000000000,
+    9223372036854775807,
+    -9223372036854775807,
+    -9223372036854775808,
+    -1,
+];
 
-// Sixteen items, with the numbers that are likeliest to go wrong.
+// Sixteen items, with these numbers.
 fn sixteen(kind: Kind) -> Answer {
     let mut a = answer(kind, -9223372036854775808, 18446744073709551615);
-    let mut k: usize = 0;
-    while k < 16 {
+    for k in 0..16 {
         a = with_item(
             a,
             k,
-            figure(k),
+            FIGURES[k],
             k as u64 * 1000000000000000000 + 1,
-            figure(15 - k),
+            FIGURES[15 - k],
         );
-        k += 1;
     }
     a
 }
@@ -82,18 +78,16 @@ fn show(a: Answer, n: usize) {
 
 fn show_both(a: Answers, n: usize) {
     let t = listing::text_of(a, n);
-    let bytes = t.bytes;
-    let len = t.len;
-    print(&bytes[..len]);
+    print(&t.bytes[..t.len]);
 }
 
-fn show_reply(l: Listed) {
+fn show_reply(l: Result<usize, Refusal>) {
     match l {
-        Listed::Written(n) => {
+        Ok(n) => {
             print(b"written");
             print_field(n as u64);
         }
-        Listed::Refused(f) => {
+        Err(f) => {
             print(b"not written:");
             print_field(f.number);
             print_field(f.line);
@@ -102,25 +96,12 @@ fn show_reply(l: Listed) {
     print(b"\n");
 }
 
-fn hashes() -> [u8; 80]
-    ensures { length result ≡ 80 }
-{
-    [b'#'; 80]
-}
-
-fn listed_in_part(a: Answers, n: usize, out: &mut [u8], size: usize) -> Listed
-    requires { size ≤ length out.old }
-{
-    list_reply(a, n, &mut out[..size])
-}
-
 // What is told, and the whole buffer afterwards, of which the first bytes were lent.
 fn list(a: Answer, n: usize, size: usize)
     requires { size ≤ 80 }
 {
-    let mut buffer = hashes();
-    let l = listed_in_part(both(a), n, &mut buffer, size);
-    show_reply(l);
+    let mut buffer = [b'#'; 80];
+    show_reply(list_reply(both(a), n, &mut buffer[..size]));
     print(&buffer);
     print(b"\n");
 }
@@ -140,11 +121,7 @@ fn ray() -> Answer {
 }
 
 fn refused(number: u64, line: u64) -> Answer {
-    let f = Refusal {
-        number: number,
-        line: line,
-    };
-    answer(Kind::Refused(f), 0, 0)
+    answer(Kind::Refused(Refusal { number, line }), 0, 0)
 }
 
 fn show_all() {

@@ -24,10 +24,8 @@ fn draw_sheet(state: u64) -> DrawnSheet
     ensures state_value { result.state ≡ (drawn_problem state).state }
 {
     let d = drawing::draw_problem(state);
-    let m = d.problem;
-    let sheet = writer::sheet_text(m);
     DrawnSheet {
-        sheet,
+        sheet: writer::sheet_text(d.problem),
         state: d.state,
     }
 }
@@ -36,10 +34,8 @@ fn draw_sheet(state: u64) -> DrawnSheet
 fn print_sheet<W: Write>(output: &mut W, t: Text, why: &mut Option<Error>) -> bool
     requires { (t.len ≤ length t.bytes) × (t.len ≡ length (take t.len t.bytes)) }
 {
-    let bytes = t.bytes;
-    let len = t.len;
-    let p = write_reply(output, &bytes[..len], SPACE, why);
-    p.at == len
+    let p = write_reply(output, &t.bytes[..t.len], SPACE, why);
+    p.at == t.len
 }
 
 // One line on standard error: why the output failed, if that is known. A line that cannot be printed is let go.
@@ -54,17 +50,14 @@ fn tell_unwritten<E: Eprint>(rt: &E, why: Option<Error>) {
 // The first sheets for a seed. A failed write ends them, and is told by one line on standard error.
 fn print_load<W: Write, E: Eprint>(rt: &E, output: &mut W, seed: u64, sheets: u64) {
     let mut state = seed;
-    let mut left = sheets;
     let mut why = None;
-    while 0 < left {
+    for _ in 0..sheets {
         let d = draw_sheet(state);
-        let sheet = d.sheet;
-        if !print_sheet(output, sheet, &mut why) {
+        if !print_sheet(output, d.sheet, &mut why) {
             tell_unwritten(rt, why);
             return;
         }
         state = d.state;
-        left -= 1;
     }
 }
 

@@ -11,8 +11,8 @@ use Rattle.arith.specs.Sum.{Each}
 use Rattle.knapsack.proofs.Same.{Same}
 use Rattle.knapsack.specs.Meaning.{Instance, instance_of}
 use Rattle.knapsack.specs.declared.Answer.{Answer}
-use Rattle.knapsack.specs.declared.Verdict.{Verdict}
-use Rattle.knapsack.specs.declared.Verdict.TheVariants.{Accepted, Refused}
+use Rattle.knapsack.specs.Verdicts.{Verdict}
+use Rattle.std.specs.Prelude.{Ok, Err}
 use Rattle.model.specs.declared.Blanks.{Blanks}
 use Rattle.model.specs.declared.Blanks.TheVariants as blanks
 use Rattle.model.specs.declared.Model.{Model}
@@ -22,8 +22,8 @@ use Rattle.model.specs.declared.Sense.{Sense}
 use Rattle.model.specs.Needs.{relaxed_but}
 use Rattle.model.specs.Promises.{RepliesAs, Planned, Relaxed}
 use Rattle.model.specs.Records.{item_at, need_at, item_in, plain_of, needs_up_to, needs_of, Agree, bad_figure, is_reversed, is_ranged_below, barred, some_item, held, bad_line, unfit_line, line_before}
-use Rattle.model.specs.Records.{refused_if, or_else, need_verdict, needs_verdict, verdict_by, verdict}
-use Rattle.model.specs.Refusals.{item-number, named-item}
+use Rattle.model.specs.Records.{refused_for, or_else, need_verdict, needs_verdict, verdict_by, verdict}
+use Rattle.model.specs.declared.refusals.Reason.TheVariants as refusal
 use Rattle.model.proofs.SameNeeds.{same-relaxed-but, same-answers-needs, same-first-needs}
 use Rattle.model.proofs.Plain.{plain-item}
 use Rattle.model.proofs.NeedLines.{before-next, line-numbers, needs-cong}
@@ -58,8 +58,8 @@ module _ (m o : Model) (e : Agree m o) where
   line_same j l = rw (← before_same j l, ← e.needs j l, ← e.count) (go (bad_line (held m.count) (line_before m.needs j) (need_at m.needs j)) refl)
     where
       go : (b : Bool) → bad_line (held m.count) (line_before m.needs j) (need_at m.needs j) ≡ b →
-          or_else (refused_if b item-number) (refused_if (unfit_line (item_at m) (need_at m.needs j)) named-item)
-          ≡ or_else (refused_if b item-number) (refused_if (unfit_line (item_at o) (need_at m.needs j)) named-item)
+          or_else (refused_for b refusal.ItemNumber) (refused_for (unfit_line (item_at m) (need_at m.needs j)) refusal.NamedItem)
+          ≡ or_else (refused_for b refusal.ItemNumber) (refused_for (unfit_line (item_at o) (need_at m.needs j)) refusal.NamedItem)
       go true h = refl
       go false h =
           let n = line-numbers (held m.count) (line_before m.needs j) (need_at m.needs j) h in
@@ -94,8 +94,8 @@ module _ (m o : Model) (e : Agree m o) where
   replies-same s t ns a v w h f r = rw (sym f) (go v r)
     where
       go : (v : Verdict) → RepliesAs s ns a v → RepliesAs t ns a v
-      go Accepted r = same-answers-needs s t h ns a r
-      go (Refused f) r = r
+      go (Ok _) r = same-answers-needs s t h ns a r
+      go (Err f) r = r
 
   module _ (s : Sense) where
     pub beyond-planned : (a : Answer) → Planned s m a → Planned s o a

@@ -4,25 +4,24 @@ use mathlib.Core.Path.{◌≡◌, refl}
 use mathlib.Core.Bool.{Bool, true, false, cond}
 use Prim.Native.Nat.{ℕ, zero, suc, ◌<◌}
 use native.Mathlib.Omega.{arith}
-use lib.IntN.{ℤ, pos, ◌*ℤ◌}
+use lib.IntN.{ℤ}
 use lib.Signed.{◌<ℤ◌}
 use Rattle.arith.specs.Fractions.{Frac, int, ◌<ᶠ◌}
 use Rattle.arith.proofs.Fractions.{≤ᶠ-trans, <ᶠ-not-≤}
 use Rattle.arith.proofs.Integers.{split2, zed}
 use Rattle.arith.proofs.Parts.{impossible}
 use Rattle.arith.proofs.Words.{yes_lt, no_lt}
-use Rattle.knapsack.specs.declared.Bound.{Bound}
-use Rattle.knapsack.specs.declared.Bound.TheVariants.{Absent, At}
+use Rattle.std.specs.Prelude.{Option, None, Some}
 use Rattle.knapsack.specs.declared.Problem.{Problem}
 use Rattle.knapsack.specs.Meaning.{instance_of, KeepsLower, KeepsUpper, Infeasible}
 use Rattle.knapsack.specs.Ranges.{item_at, BoundsInOrder}
 use Rattle.model.specs.Records.{crossed, crosses, some_item, some_crosses, Uncrossed}
 use Rattle.model.proofs.Records.{none-fails}
 
-pub order-in : (l u : Bound) → crossed l u ≡ false → BoundsInOrder l u
-order-in Absent u h = tt
-order-in (At l) Absent h = tt
-order-in (At l) (At u) h = no_lt h
+pub order-in : (l u : Option ℤ) → crossed l u ≡ false → BoundsInOrder l u
+order-in None u h = tt
+order-in (Some l) None h = tt
+order-in (Some l) (Some u) h = no_lt h
 
 pub uncrossed : (p : Problem) → some_crosses p ≡ false → Uncrossed p
 uncrossed p h k l = order-in (item_at p k).lower (item_at p k).upper (none-fails p.count (item_at p) crosses h k l)
@@ -43,10 +42,10 @@ unfolding ◌<ᶠ◌
 less-int = split2 _ (λ a b c e. simp zed (omega arith))
 
 -- no amount is between bounds that cross
-no-amount : (l u : Bound) (x : Frac) → crossed l u ≡ true → KeepsLower l x → KeepsUpper u x → ⊥
-no-amount Absent u x h a b = impossible h
-no-amount (At l) Absent x h a b = impossible h
-no-amount (At l) (At u) x h a b = <ᶠ-not-≤ (int u) (int l) (less-int u l (yes_lt h)) (≤ᶠ-trans (int l) x (int u) a b)
+no-amount : (l u : Option ℤ) (x : Frac) → crossed l u ≡ true → KeepsLower l x → KeepsUpper u x → ⊥
+no-amount None u x h a b = impossible h
+no-amount (Some l) None x h a b = impossible h
+no-amount (Some l) (Some u) x h a b = <ᶠ-not-≤ (int u) (int l) (less-int u l (yes_lt h)) (≤ᶠ-trans (int l) x (int u) a b)
 
 -- End theorem: as the bare definition of a feasible point says.
 pub crossed-infeasible : (p : Problem) → some_crosses p ≡ true → Infeasible (instance_of p)

@@ -3,24 +3,22 @@
 -- before-next: the line before the next is the line itself. line-numbers: a line that row 5 does not refuse has two item numbers.
 -- good-line, line-good: a line is not refused exactly if it is good.
 -- needs-in, needs-from: the needs of a record are its lines, by places. needs-cong: lines that agree give the same needs.
-use mathlib.Core.Path.{◌≡◌, refl, sym, ap₂, ◌∙◌, subst}
+use mathlib.Core.Path.{◌≡◌, refl, sym, ap₂, subst}
 use mathlib.Core.Bool.{Bool, true, false, cond}
 use mathlib.Core.List.{List, ◌∷◌}
-use mathlib.Core.Logic.{◌↔◌, ◌⊎◌, inl, inr}
+use mathlib.Core.Logic.{◌↔◌, inl, inr}
 use Prim.Native.Nat.{ℕ, zero, suc, ◌-◌, ◌≤◌, ◌<◌}
 use native.Mathlib.Decide.{ℕ_discrete}
 use native.Mathlib.Omega.{arith}
 use lib.Dec.{ltb, eqb}
-use lib.IntN.{ℤ, pos}
-use lib.Signed.{lt_z}
+use lib.IntN.{ℤ}
 use borrow.Author.Tests.{ltb-true, ltb-false, eqb-false, lt-ltb, le-ltb, ne_eqb}
 use Rattle.arith.specs.Sum.{Each}
 use Rattle.arith.proofs.Parts.{impossible}
 use Rattle.arith.proofs.Words.{no_lt, le-no}
 use Rattle.knapsack.specs.Items.{is_absent}
 use Rattle.knapsack.specs.Meaning.{instance_of}
-use Rattle.knapsack.specs.declared.Bound.{Bound}
-use Rattle.knapsack.specs.declared.Bound.TheVariants.{Absent, At}
+use Rattle.std.specs.Prelude.{Option, None, Some}
 use Rattle.knapsack.specs.declared.Mark.{Mark}
 use Rattle.knapsack.specs.declared.Mark.TheVariants.{Integer, Continuous}
 use Rattle.model.specs.declared.Model.{Model}
@@ -30,26 +28,7 @@ use Rattle.model.specs.declared.Needs.{Needs}
 use Rattle.model.specs.declared.Sense.{Sense}
 use Rattle.model.specs.declared.Sense.TheVariants.{Sure}
 use Rattle.model.specs.Needs.{In, here, there, NotNegative, Present, Named}
-use Rattle.model.specs.Records.{
-  item_at,
-  need_at,
-  item_in,
-  plain_of,
-  placed,
-  needs_up_to,
-  wrong_number,
-  wrong_numbers,
-  out_of_order,
-  bad_line,
-  is_continuous,
-  below_zero,
-  unfit,
-  unfit_line,
-  line_before,
-  Numbers,
-  Rises,
-  GoodLine,
-}
+use Rattle.model.specs.Records.{item_at, need_at, plain_of, placed, needs_up_to, wrong_number, wrong_numbers, out_of_order, bad_line, is_continuous, below_zero, unfit, unfit_line, line_before, Numbers, Rises, GoodLine}
 use Rattle.model.proofs.Tests.{neither}
 use Rattle.model.proofs.Plain.{plain-item}
 
@@ -106,21 +85,21 @@ is-whole : (m : Mark) → is_continuous m ≡ false → m ≡ Integer
 is-whole Integer e = refl
 is-whole Continuous e = absurd (impossible (sym e))
 
-pub is-above : (b : Bound) → below_zero b ≡ false → NotNegative b
-is-above Absent e = absurd (impossible (sym e))
-is-above (At l) e = no_lt e
+pub is-above : (b : Option ℤ) → below_zero b ≡ false → NotNegative b
+is-above None e = absurd (impossible (sym e))
+is-above (Some l) e = no_lt e
 
-pub above-is : (b : Bound) → NotNegative b → below_zero b ≡ false
-above-is Absent h = absurd h
-above-is (At l) h = le-no h
+pub above-is : (b : Option ℤ) → NotNegative b → below_zero b ≡ false
+above-is None h = absurd h
+above-is (Some l) h = le-no h
 
-is-present : (b : Bound) → is_absent b ≡ false → Present b
-is-present Absent e = absurd (impossible (sym e))
-is-present (At u) e = tt
+is-present : (b : Option ℤ) → is_absent b ≡ false → Present b
+is-present None e = absurd (impossible (sym e))
+is-present (Some u) e = tt
 
-present-is : (b : Bound) → Present b → is_absent b ≡ false
-present-is Absent h = absurd h
-present-is (At u) h = refl
+present-is : (b : Option ℤ) → Present b → is_absent b ≡ false
+present-is None h = absurd h
+present-is (Some u) h = refl
 
 pub fit-iff : (i : ModelItem) → (unfit i ≡ false) ↔ Fit i
 unfolding unfit

@@ -13,56 +13,24 @@ use Rattle.arith.proofs.Parts.{impossible}
 use Rattle.arith.proofs.Words.{yes_lt, no_lt, lt_yes, le-no}
 use lib.Dec.{ltb, eqb}
 use lib.IntN.{ℤ, nat_abs}
-use lib.Signed.{◌≤ℤ◌, ◌<ℤ◌, lt_z}
+use lib.Signed.{◌<ℤ◌, lt_z}
 use borrow.Author.Tests.{ltb-false, eqb-false, le-ltb, ne_eqb}
 use Rattle.arith.specs.Sum.{Each}
-use Rattle.knapsack.specs.declared.Bound.{Bound}
-use Rattle.knapsack.specs.declared.Bound.TheVariants.{Absent, At}
+use Rattle.std.specs.Prelude.{Option, None, Some}
 use Rattle.knapsack.specs.declared.Problem.{Problem}
-use Rattle.knapsack.specs.declared.Verdict.{Verdict}
-use Rattle.knapsack.specs.declared.Verdict.TheVariants.{Accepted, Refused}
-use Rattle.knapsack.specs.Ranges.{item_at as plain_item, BoundInRange, InRange}
+use Rattle.knapsack.specs.declared.Refusal.{Refusal}
+use Rattle.knapsack.specs.Verdicts.{Verdict}
+use Rattle.std.specs.Prelude.{Ok, Err}
+use Rattle.knapsack.specs.Ranges.{BoundInRange, InRange}
 use Rattle.model.specs.declared.Blanks.{Blanks}
 use Rattle.model.specs.declared.Model.{Model}
 use Rattle.model.specs.declared.ModelItem.{ModelItem}
 use Rattle.model.specs.declared.Sense.{Sense}
 use Rattle.model.specs.declared.Sense.TheVariants.{Sure, Possible}
 use Rattle.model.specs.Needs.{NotNegative}
-use Rattle.model.specs.Refusals.{count, figure, item-number, named-item, blank-item, weight-range, ranged-item}
-use Rattle.model.specs.Records.{
-  item_at,
-  need_at,
-  item_in,
-  plain_of,
-  outside,
-  bad_bound,
-  bad_weights,
-  bad_figure,
-  is_reversed,
-  is_ranged_below,
-  below_zero,
-  barred,
-  some_item,
-  bad_count,
-  held,
-  bad_line,
-  unfit_line,
-  line_before,
-  refused_if,
-  or_else,
-  item_verdict,
-  count_verdict,
-  figure_verdict,
-  kind_verdict,
-  need_verdict,
-  needs_verdict,
-  verdict_by,
-  ItemFigures,
-  FiguresInRange,
-  Uncrossed,
-  GoodLine,
-  AdmissibleBy,
-}
+use Rattle.model.specs.declared.refusals.Reason.{Reason}
+use Rattle.model.specs.declared.refusals.Reason.TheVariants as refusal
+use Rattle.model.specs.Records.{item_at, need_at, item_in, outside, bad_bound, bad_weights, bad_figure, is_reversed, is_ranged_below, below_zero, barred, some_item, bad_count, held, bad_line, unfit_line, line_before, refused_for, or_else, item_verdict, count_verdict, figure_verdict, kind_verdict, need_verdict, needs_verdict, verdict_by, ItemFigures, FiguresInRange, Uncrossed, AdmissibleBy}
 use Rattle.model.proofs.Tests.{neither}
 use Rattle.model.proofs.Plain.{plain-item}
 use Rattle.model.proofs.NeedLines.{is-above, above-is, good-line, line-good}
@@ -91,16 +59,16 @@ none-fails n f test h k l = go (test (f k)) refl
 -- ---- a record is accepted exactly if it is admissible
 
 abbrev Taken : Verdict → Type 0
-Taken Accepted = Unit {0}
-Taken (Refused f) = ⊥
+Taken (Ok _) = Unit {0}
+Taken (Err f) = ⊥
 
 -- two verdicts in a row accept exactly if both do
-pub both-accept : (v w : Verdict) → or_else v w ≡ Accepted → (v ≡ Accepted) × (w ≡ Accepted)
-both-accept Accepted w h = (refl, h)
-both-accept (Refused f) w h = absurd (subst Taken (sym h) tt)
+pub both-accept : (v w : Verdict) → or_else v w ≡ Ok tt → (v ≡ Ok tt) × (w ≡ Ok tt)
+both-accept (Ok _) w h = (refl, h)
+both-accept (Err f) w h = absurd (subst Taken (sym h) tt)
 
 -- a row accepts exactly if its test does not hold
-row-clear : (t : Bool) (n : ℕ) → refused_if t n ≡ Accepted → t ≡ false
+pub row-clear : (t : Bool) (n : Reason) → refused_for t n ≡ Ok tt → t ≡ false
 row-clear true n h = absurd (subst Taken (sym h) tt)
 row-clear false n h = refl
 
@@ -110,13 +78,13 @@ inside n z h = ltb-false n (nat_abs z) h
 not-outside : (n : ℕ) (z : ℤ) → nat_abs z ≤ n → outside n z ≡ false
 not-outside n z h = le-ltb n (nat_abs z) h
 
-bound-in : (b : Bound) → bad_bound b ≡ false → BoundInRange b
-bound-in Absent h = tt
-bound-in (At v) h = inside 10000 v h
+bound-in : (b : Option ℤ) → bad_bound b ≡ false → BoundInRange b
+bound-in None h = tt
+bound-in (Some v) h = inside 10000 v h
 
-in-bound : (b : Bound) → BoundInRange b → bad_bound b ≡ false
-in-bound Absent h = refl
-in-bound (At v) h = not-outside 10000 v h
+in-bound : (b : Option ℤ) → BoundInRange b → bad_bound b ≡ false
+in-bound None h = refl
+in-bound (Some v) h = not-outside 10000 v h
 
 item_in_lem : (i : ModelItem) → bad_figure i ≡ false → (s : Sense) → ItemFigures (item_in s i)
 item_in_lem i h s =
@@ -185,34 +153,44 @@ pub held_all : (n : ℕ) → n ≤ 16 → held n ≡ n
 held_all n h = rw (le-ltb 16 n h)
 
 -- every line is accepted
-lines-accept : (n : ℕ) (m : Model) → needs_verdict n m ≡ Accepted → Each n (λ j. need_verdict m j ≡ Accepted)
+lines-accept : (n : ℕ) (m : Model) → needs_verdict n m ≡ Ok tt → Each n (λ j. need_verdict m j ≡ Ok tt)
 unfolding needs_verdict
 lines-accept zero m h j l = absurd (omega arith)
 lines-accept (suc n) m h j l = go (ℕ_discrete j n) (λ i. lines-accept n m r.0 j i)
   where
-    r : (needs_verdict n m ≡ Accepted) × (need_verdict m n ≡ Accepted)
+    r : (needs_verdict n m ≡ Ok tt) × (need_verdict m n ≡ Ok tt)
     r = both-accept (needs_verdict n m) (need_verdict m n) h
 
-    go : Dec (j ≡ n) → (j < n → need_verdict m j ≡ Accepted) → need_verdict m j ≡ Accepted
-    go (yes e) ih = subst (λ i. need_verdict m i ≡ Accepted) (sym e) r.1
+    go : Dec (j ≡ n) → (j < n → need_verdict m j ≡ Ok tt) → need_verdict m j ≡ Ok tt
+    go (yes e) ih = subst (λ i. need_verdict m i ≡ Ok tt) (sym e) r.1
     go (no d) ih = ih (omega arith)
 
-accept-lines : (n : ℕ) (m : Model) → Each n (λ j. need_verdict m j ≡ Accepted) → needs_verdict n m ≡ Accepted
+-- the first line that is refused is what the lines are told
+pub needs-stop : (n j : ℕ) (m : Model) (f : Refusal) → j < n → needs_verdict j m ≡ Ok tt → need_verdict m j ≡ Err f → needs_verdict n m ≡ Err f
+unfolding needs_verdict
+needs-stop zero j m f l h e = absurd (omega arith)
+needs-stop (suc n) j m f l h e = go (ℕ_discrete j n) (λ k. needs-stop n j m f k h e)
+  where
+    go : Dec (j ≡ n) → (j < n → needs_verdict n m ≡ Err f) → or_else (needs_verdict n m) (need_verdict m n) ≡ Err f
+    go (yes i) ih = rw (← i, h) e
+    go (no i) ih = rw (ih (omega arith))
+
+accept-lines : (n : ℕ) (m : Model) → Each n (λ j. need_verdict m j ≡ Ok tt) → needs_verdict n m ≡ Ok tt
 unfolding needs_verdict
 accept-lines zero m h = refl
 accept-lines (suc n) m h = rw (accept-lines n m (λ j l. h j (omega arith))) (h n (omega arith))
 
-pub unfaulted : {b : Blanks} (m : Model) → verdict_by b m ≡ Accepted → Unfaulted b m
+pub unfaulted : {b : Blanks} (m : Model) → verdict_by b m ≡ Ok tt → Unfaulted b m
 unfolding verdict_by
 unfaulted {b} m h =
     let needs = needs_verdict (held m.needs.count) m in
-    let z = both-accept (or_else (or_else (or_else (count_verdict m) (figure_verdict m)) (kind_verdict b m)) needs) (item_verdict is_ranged_below ranged-item m) h in
+    let z = both-accept (or_else (or_else (or_else (count_verdict m) (figure_verdict m)) (kind_verdict b m)) needs) (item_verdict is_ranged_below refusal.RangedItem m) h in
     let t = both-accept (or_else (or_else (count_verdict m) (figure_verdict m)) (kind_verdict b m)) needs z.0 in
     let u = both-accept (or_else (count_verdict m) (figure_verdict m)) (kind_verdict b m) t.0 in
     let r = both-accept (count_verdict m) (figure_verdict m) u.0 in
-    let x = both-accept (item_verdict is_reversed weight-range m) (item_verdict (barred b) blank-item m) u.1 in
-    let f = both-accept (refused_if (outside 100000000 m.capacity) figure) (item_verdict bad_figure figure m) r.1 in
-    let c = neither (bad_count m.count) (ltb 16 m.needs.count) (row-clear (cond (bad_count m.count) true (ltb 16 m.needs.count)) count r.0) in
+    let x = both-accept (item_verdict is_reversed refusal.WeightRange m) (item_verdict (barred b) refusal.BlankItem m) u.1 in
+    let f = both-accept (refused_for (outside 100000000 m.capacity) refusal.Figure) (item_verdict bad_figure refusal.Figure m) r.1 in
+    let c = neither (bad_count m.count) (ltb 16 m.needs.count) (row-clear (cond (bad_count m.count) true (ltb 16 m.needs.count)) refusal.Count r.0) in
     let n = neither (eqb m.count 0) (ltb 16 m.count) c.0 in
     let some = eqb-false m.count 0 n.0 in
     let few = ltb-false 16 m.count n.1 in
@@ -222,33 +200,33 @@ unfaulted {b} m h =
     record {
       least = omega arith;
       most = few;
-      capacity = row-clear (outside 100000000 m.capacity) figure f.0;
-      figures = none all bad_figure figure f.1;
-      ordered = none all is_reversed weight-range x.0;
-      unbarred = none all (barred b) blank-item x.1;
+      capacity = row-clear (outside 100000000 m.capacity) refusal.Figure f.0;
+      figures = none all bad_figure refusal.Figure f.1;
+      ordered = none all is_reversed refusal.WeightRange x.0;
+      unbarred = none all (barred b) refusal.BlankItem x.1;
       few-needs = short;
       needs = λ j l. clear all j (lines j l);
-      ranged = none all is_ranged_below ranged-item z.1;
+      ranged = none all is_ranged_below refusal.RangedItem z.1;
     }
   where
-    none : held m.count ≡ m.count → (test : ModelItem → Bool) (n : ℕ) → item_verdict test n m ≡ Accepted → Each m.count (λ k. test (item_at m k) ≡ false)
+    none : held m.count ≡ m.count → (test : ModelItem → Bool) (n : Reason) → item_verdict test n m ≡ Ok tt → Each m.count (λ k. test (item_at m k) ≡ false)
     none all test n h = none-fails m.count (item_at m) test (rw all at (row-clear (some_item (held m.count) (item_at m) test) n h))
 
-    clear : held m.count ≡ m.count → (j : ℕ) → need_verdict m j ≡ Accepted →
+    clear : held m.count ≡ m.count → (j : ℕ) → need_verdict m j ≡ Ok tt →
         (bad_line m.count (line_before m.needs j) (need_at m.needs j) ≡ false) × (unfit_line (item_at m) (need_at m.needs j) ≡ false)
     clear all j h =
         let bad = bad_line (held m.count) (line_before m.needs j) (need_at m.needs j) in
         let lame = unfit_line (item_at m) (need_at m.needs j) in
-        let r = both-accept (refused_if bad item-number) (refused_if lame named-item) h in
-        (rw all at (row-clear bad item-number r.0), row-clear lame named-item r.1)
+        let r = both-accept (refused_for bad refusal.ItemNumber) (refused_for lame refusal.NamedItem) h in
+        (rw all at (row-clear bad refusal.ItemNumber r.0), row-clear lame refusal.NamedItem r.1)
 
-pub unrefused : {b : Blanks} (m : Model) → Unfaulted b m → verdict_by b m ≡ Accepted
+pub unrefused : {b : Blanks} (m : Model) → Unfaulted b m → verdict_by b m ≡ Ok tt
 unfolding verdict_by
 unrefused {b} m u =
     let some : m.count ≡ 0 → ⊥ = λ e. omega (arith, u.least) in
     let all = held_all m.count u.most in
-    let line : Each m.needs.count (λ j. need_verdict m j ≡ Accepted) = λ j l. let h = u.needs j l in rw (all, h.0, h.1) in
-    let lines : needs_verdict (held m.needs.count) m ≡ Accepted = rw (held_all m.needs.count u.few-needs) (accept-lines m.needs.count m line) in
+    let line : Each m.needs.count (λ j. need_verdict m j ≡ Ok tt) = λ j l. let h = u.needs j l in rw (all, h.0, h.1) in
+    let lines : needs_verdict (held m.needs.count) m ≡ (Ok tt) = rw (held_all m.needs.count u.few-needs) (accept-lines m.needs.count m line) in
     rw (
       lines,
       ne_eqb m.count 0 some,
@@ -261,7 +239,7 @@ unrefused {b} m u =
       all_pass m.count (item_at m) is_ranged_below u.ranged,
     )
 
-pub accepted : {b : Blanks} (m : Model) → verdict_by b m ≡ Accepted → AdmissibleBy b m
+pub accepted : {b : Blanks} (m : Model) → verdict_by b m ≡ Ok tt → AdmissibleBy b m
 accepted {b} m h =
     let u = unfaulted m h in
     record {
@@ -278,7 +256,7 @@ accepted {b} m h =
       ranged = λ k l. not-below (item_at m k) (u.ranged k l);
     }
 
-pub admitted : {b : Blanks} (m : Model) → AdmissibleBy b m → verdict_by b m ≡ Accepted
+pub admitted : {b : Blanks} (m : Model) → AdmissibleBy b m → verdict_by b m ≡ Ok tt
 admitted {b} m a =
     let r = a.figures Sure in
     unrefused m (record {
@@ -294,7 +272,7 @@ admitted {b} m a =
     })
 
 -- End theorem: a record is accepted exactly if it is admissible.
-pub accepted-iff : (b : Blanks) (m : Model) → (verdict_by b m ≡ Accepted) ↔ AdmissibleBy b m
+pub accepted-iff : (b : Blanks) (m : Model) → (verdict_by b m ≡ Ok tt) ↔ AdmissibleBy b m
 accepted-iff b m = (accepted m, admitted m)
 
 -- ---- what the solver asks

@@ -11,7 +11,7 @@ use Rattle.arith.specs.Fractions.{frac, ◌≤ᶠ◌, ◌≈ᶠ◌}
 use Rattle.knapsack.proofs.Same.{Same, same-sym, same-value, same-feasible, same-unbounded, same-shown}
 use Rattle.knapsack.specs.Meaning.{Instance, Point, Feasible, stepped, amount_at, point_of, steps_of, Answers, AnswersAs, Earlier}
 use Rattle.knapsack.specs.declared.Answer.{Answer}
-use Rattle.knapsack.specs.declared.Bound.TheVariants.{Absent}
+use Rattle.std.specs.Prelude.{None}
 use Rattle.knapsack.specs.declared.Item.{Item}
 use Rattle.knapsack.specs.declared.Kind.{Kind}
 use Rattle.knapsack.specs.declared.Kind.TheVariants as kind
@@ -95,7 +95,7 @@ same-answers-needs s t e ns a = go a.kind
 
 pub same-first-needs : (s t : Instance) → Same s t → (ns : List Need) (a : Answer) → ShownFirstNeeds s ns a → ShownFirstNeeds t ns a
 same-first-needs s t e ns a h lower k y o earlier =
-    h (λ j l. subst (λ (i : Item). i.lower ≢ Absent) (sym (e.items j l)) (lower j (omega (arith, e.count)))) k y
+    h (λ j l. subst (λ (i : Item). i.lower ≢ None) (sym (e.items j l)) (lower j (omega (arith, e.count)))) k y
     (record {
       feasible = same-needs t s (same-sym s t e) ns y o.feasible;
       highest = λ z f. subst₂ ◌≤ᶠ◌ (sym (same-value s t e z)) (sym (same-value s t e y)) (o.highest z (same-needs s t e ns z f));

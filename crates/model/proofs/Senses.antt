@@ -10,16 +10,14 @@ use mathlib.Core.Logic.{◌↔◌, ◌⊎◌, inl, inr}
 use mathlib.Core.List.{List}
 use Prim.Native.Nat.{ℕ, suc, ◌<◌}
 use native.Mathlib.Omega.{arith}
-use lib.IntN.{ℤ, pos, ◌*ℤ◌}
+use lib.IntN.{ℤ, pos}
 use lib.Signed.{◌≤ℤ◌, ◌<ℤ◌}
 use Rattle.arith.specs.Fractions.{Frac, int, ◌·ᶠ◌, ◌≤ᶠ◌, ◌<ᶠ◌, total}
 use Rattle.arith.specs.Sum.{Each}
 use Rattle.arith.proofs.Fractions.{total-cong, ≤ᶠ-trans}
 use Rattle.arith.proofs.Integers.{split2, zed, ≤ℤ-or-<, ≤ℤ-reflexive}
-use Rattle.knapsack.specs.Meaning.{Instance, instance_of, Point, Keeps, KeepsLower, weights, prices, weighs, value, Feasible, stepped, Unbounded}
-use Rattle.knapsack.specs.Ranges.{item_at as plain_item}
-use Rattle.knapsack.specs.declared.Bound.{Bound}
-use Rattle.knapsack.specs.declared.Bound.TheVariants.{Absent, At}
+use Rattle.knapsack.specs.Meaning.{Instance, instance_of, Point, Keeps, KeepsLower, weighs, value, stepped}
+use Rattle.std.specs.Prelude.{Option, None, Some}
 use Rattle.knapsack.specs.declared.Item.{Item}
 use Rattle.model.specs.declared.Blanks.{Blanks}
 use Rattle.model.specs.declared.Model.{Model}
@@ -27,7 +25,7 @@ use Rattle.model.specs.declared.Need.{Need}
 use Rattle.model.specs.declared.Sense.{Sense}
 use Rattle.model.specs.declared.Sense.TheVariants.{Sure, Possible}
 use Rattle.model.specs.Needs.{NotNegative, FeasibleNeeds, OptimalNeeds, UnboundedNeeds}
-use Rattle.model.specs.Records.{item_at, item_in, weight_in, plain_of, needs_of, AdmissibleBy}
+use Rattle.model.specs.Records.{item_at, weight_in, plain_of, needs_of, AdmissibleBy}
 use Rattle.model.specs.Senses.{times, Choice, FitsBy, FitsIn, FitsInWhole, KeepsItem, Permitted}
 use Rattle.model.proofs.Plain.{plain-item}
 use Rattle.model.proofs.Weighing.{total_mono, times-whole, whole-times, weighs-mono}
@@ -71,9 +69,9 @@ module _ (m : Model) where
     KeepsAll x = (k : ℕ) → k < m.count → KeepsItem (item_at m k) (x k)
 
     -- of an item whose weight is a range there is nothing below 0
-    above_zero : (l : Bound) (x : Frac) → NotNegative l → KeepsLower l x → int (pos 0) ≤ᶠ x
-    above_zero Absent x n h = absurd n
-    above_zero (At l) x n h = ≤ᶠ-trans (int (pos 0)) (int l) x (whole-≤ (pos 0) l n) h
+    above_zero : (l : Option ℤ) (x : Frac) → NotNegative l → KeepsLower l x → int (pos 0) ≤ᶠ x
+    above_zero None x n h = absurd n
+    above_zero (Some l) x n h = ≤ᶠ-trans (int (pos 0)) (int l) x (whole-≤ (pos 0) l n) h
 
     ranged : (x : Point) → KeepsAll x → Each m.count (λ k. (int (pos 0) ≤ᶠ x k) ⊎ (int (item_at m k).high ≤ᶠ int (item_at m k).low))
     ranged x keeps k l = go (≤ℤ-or-< (item_at m k).high (item_at m k).low)

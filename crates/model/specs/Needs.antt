@@ -21,8 +21,7 @@ use Rattle.arith.specs.Gcd.{gcd_of}
 use Rattle.knapsack.specs.Meaning.{Instance, Point, value, Feasible, stepped, Unbounded, nought, Shown}
 use Rattle.knapsack.specs.Meaning.{ShownSteps, amount_at, point_of, steps_of, bare, Earlier, AllLower}
 use Rattle.knapsack.specs.declared.Answer.{Answer}
-use Rattle.knapsack.specs.declared.Bound.{Bound}
-use Rattle.knapsack.specs.declared.Bound.TheVariants.{Absent, At}
+use Rattle.std.specs.Prelude.{Option, None, Some}
 use Rattle.knapsack.specs.declared.Kind.{Kind}
 use Rattle.knapsack.specs.declared.Kind.TheVariants as kind
 use Rattle.knapsack.specs.declared.Mark.{Mark}
@@ -102,13 +101,13 @@ ShownFirstNeeds s ns a = AllLower s → a.kind ≡ kind.Optimal → ForemostNeed
 
 -- ---- the items that a need may name
 
-abbrev pub NotNegative : Bound → Type 0
-NotNegative Absent = ⊥
-NotNegative (At l) = pos 0 ≤ℤ l
+abbrev pub NotNegative : Option ℤ → Type 0
+NotNegative None = ⊥
+NotNegative (Some l) = pos 0 ≤ℤ l
 
-abbrev pub Present : Bound → Type 0
-Present Absent = ⊥
-Present (At u) = Unit {0}
+abbrev pub Present : Option ℤ → Type 0
+Present None = ⊥
+Present (Some u) = Unit {0}
 
 pub record Named (s : Instance) (k : ℕ) : Type 0 where
   pub inside : k < s.count

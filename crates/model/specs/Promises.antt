@@ -6,8 +6,8 @@ use Rattle.std.specs.Prelude.{◌≡◌, List}
 use Rattle.knapsack.specs.Meaning.{Instance, instance_of, bare}
 use Rattle.knapsack.specs.declared.Answer.{Answer}
 use Rattle.knapsack.specs.declared.Kind.TheVariants as kind
-use Rattle.knapsack.specs.declared.Verdict.{Verdict}
-use Rattle.knapsack.specs.declared.Verdict.TheVariants.{Accepted, Refused}
+use Rattle.knapsack.specs.Verdicts.{Verdict}
+use Rattle.std.specs.Prelude.{Ok, Err}
 use Rattle.model.specs.declared.Model.{Model}
 use Rattle.model.specs.declared.Need.{Need}
 use Rattle.model.specs.declared.Sense.{Sense}
@@ -15,8 +15,8 @@ use Rattle.model.specs.Needs.{AnswersNeeds, ShownFirstNeeds, relaxed_but}
 use Rattle.model.specs.Records.{plain_of, needs_of, verdict}
 
 abbrev pub RepliesAs : Instance → List Need → Answer → Verdict → Type 0
-RepliesAs s ns a Accepted = AnswersNeeds s ns a
-RepliesAs s ns a (Refused f) = a ≡ bare (kind.Refused f)
+RepliesAs s ns a (Ok _) = AnswersNeeds s ns a
+RepliesAs s ns a (Err f) = a ≡ bare (kind.Refused f)
 
 pub record Planned (sense : Sense) (m : Model) (a : Answer) : Type 0 where
   pub replies : RepliesAs (instance_of (plain_of sense m)) (needs_of m.needs) a (verdict m)

@@ -14,7 +14,7 @@
 --   is_blank i        weight 0, low and high, and price 0 (02, request 9);  is_weightless i: weight 0
 --   is_ranged_below i  low is below high, and the amount may be below 0
 --   is_range i        the weight is not one figure;  some_range m: so it is of some item
---   has_fault f i     an item has the fault f
+--   Finds test m b    b is whether a test says yes to some item;  TriesItems test n m v: v is the row of a test with refusal n
 --   barred b i       a blank item, where blank items are refused
 --   some_item n f t   the test holds of one of the first n items
 --   some_crosses p    the bounds of some item cross
@@ -27,9 +27,9 @@
 --   is_continuous, below_zero, unfit   tests of a mark, of a lower bound, of an item: no need may name it
 --   unfit_line f b    refusal 14 of the line b
 --   line_before ns j  the line before line j: an unused one before the first
---   refusal_of n      a refusal of a record, and of an entry that was given one: line 0
---   refuse n         refusal n
---   refused_if t n    refusal n if the test holds
+--   refusal_of n      a refusal of a record, and of an entry that was given one: line 0;  refusal_for r: by its reason
+--   refuse r          refused for a reason
+--   refused_if t n    refusal n if the test holds;  refused_for t r: by its reason
 --   or_else v w       the first that refuses
 --   item_verdict t n m   refusal n if the test holds of an item
 --   count_verdict, figure_verdict, kind_verdict b   the rows of the refusals of a record: 3; 4; 19 and then 15
@@ -50,19 +50,16 @@ use Rattle.arith.specs.Sum.{Each}
 use Rattle.knapsack.specs.Items.{is_absent}
 use Rattle.knapsack.specs.Meaning.{instance_of}
 use Rattle.knapsack.specs.Ranges.{blank, item_at as plain_item, BoundInRange, BoundsInOrder}
-use Rattle.knapsack.specs.declared.Bound.{Bound}
-use Rattle.knapsack.specs.declared.Bound.TheVariants.{Absent, At}
+use Rattle.std.specs.Prelude.{Option, None, Some}
 use Rattle.knapsack.specs.declared.Item.{Item}
 use Rattle.knapsack.specs.declared.Mark.{Mark}
 use Rattle.knapsack.specs.declared.Mark.TheVariants.{Integer, Continuous}
 use Rattle.knapsack.specs.declared.Problem.{Problem}
 use Rattle.knapsack.specs.declared.Refusal.{Refusal}
-use Rattle.knapsack.specs.declared.Verdict.{Verdict}
-use Rattle.knapsack.specs.declared.Verdict.TheVariants.{Accepted, Refused}
+use Rattle.knapsack.specs.Verdicts.{Verdict}
+use Rattle.std.specs.Prelude.{Ok, Err}
 use Rattle.model.specs.declared.Blanks.{Blanks}
 use Rattle.model.specs.declared.Blanks.TheVariants as blanks
-use Rattle.model.specs.declared.Fault.{Fault}
-use Rattle.model.specs.declared.Fault.TheVariants as fault
 use Rattle.model.specs.declared.Model.{Model}
 use Rattle.model.specs.declared.ModelItem.{ModelItem}
 use Rattle.model.specs.declared.Need.{Need}
@@ -70,10 +67,12 @@ use Rattle.model.specs.declared.Needs.{Needs}
 use Rattle.model.specs.declared.Sense.{Sense}
 use Rattle.model.specs.declared.Sense.TheVariants.{Sure, Possible}
 use Rattle.model.specs.Needs.{no_need, no_needs, NotNegative, Allowed}
-use Rattle.model.specs.Refusals as refusal
+use Rattle.model.specs.declared.refusals.Reason.{Reason}
+use Rattle.model.specs.declared.refusals.Reason.TheVariants as refusal
+use Rattle.model.specs.Refusals.{number_of}
 
 abbrev pub no_item : ModelItem
-no_item = record { mark = Integer; low = pos 0; high = pos 0; price = pos 0; lower = Absent; upper = Absent }
+no_item = record { mark = Integer; low = pos 0; high = pos 0; price = pos 0; lower = None; upper = None }
 
 abbrev pub empty_model : Model
 empty_model = record { items = replicate 16 no_item; count = 0; capacity = pos 0; needs = no_needs }
@@ -122,9 +121,9 @@ pub record Agree (m o : Model) : Type 0 where
 abbrev pub outside : ℕ → ℤ → Bool
 outside n z = ltb n (nat_abs z)
 
-abbrev pub bad_bound : Bound → Bool
-bad_bound Absent = false
-bad_bound (At v) = outside 10000 v
+abbrev pub bad_bound : Option ℤ → Bool
+bad_bound None = false
+bad_bound (Some v) = outside 10000 v
 
 abbrev pub bad_weights : ModelItem → Bool
 bad_weights i = cond (outside 1000 i.low) true (outside 1000 i.high)
@@ -132,10 +131,10 @@ bad_weights i = cond (outside 1000 i.low) true (outside 1000 i.high)
 abbrev pub bad_figure : ModelItem → Bool
 bad_figure i = cond (bad_weights i) true (cond (outside 10000 i.price) true (cond (bad_bound i.lower) true (bad_bound i.upper)))
 
-abbrev pub crossed : Bound → Bound → Bool
-crossed Absent u = false
-crossed (At l) Absent = false
-crossed (At l) (At u) = lt_z u l
+abbrev pub crossed : Option ℤ → Option ℤ → Bool
+crossed None u = false
+crossed (Some l) None = false
+crossed (Some l) (Some u) = lt_z u l
 
 abbrev pub crosses : Item → Bool
 crosses i = crossed i.lower i.upper
@@ -152,22 +151,15 @@ is_weightless i = cond (eqb (nat_abs i.low) 0) (eqb (nat_abs i.high) 0) false
 abbrev pub is_blank : ModelItem → Bool
 is_blank i = cond (is_weightless i) (eqb (nat_abs i.price) 0) false
 
-abbrev pub below_zero : Bound → Bool
-below_zero Absent = true
-below_zero (At l) = lt_z l (pos 0)
+abbrev pub below_zero : Option ℤ → Bool
+below_zero None = true
+below_zero (Some l) = lt_z l (pos 0)
 
 abbrev pub is_ranged_below : ModelItem → Bool
 is_ranged_below i = cond (lt_z i.low i.high) (below_zero i.lower) false
 
 abbrev pub is_range : ModelItem → Bool
 is_range i = cond (lt_z i.low i.high) true (is_reversed i)
-
-abbrev pub has_fault : Fault → ModelItem → Bool
-has_fault fault.Figure i = bad_figure i
-has_fault fault.Reversed i = is_reversed i
-has_fault fault.Blank i = is_blank i
-has_fault fault.RangedBelow i = is_ranged_below i
-has_fault fault.Ranged i = is_range i
 
 abbrev pub barred : Blanks → ModelItem → Bool
 barred blanks.Refused i = is_blank i
@@ -226,44 +218,57 @@ line_before ns j = cond (eqb j 0) no_need (need_at ns (j - 1))
 abbrev pub refusal_of : ℕ → Refusal
 refusal_of n = record { number = n; line = 0 }
 
-abbrev pub refuse : ℕ → Verdict
-refuse n = Refused (refusal_of n)
+abbrev pub refusal_for : Reason → Refusal
+refusal_for r = refusal_of (number_of r)
+
+abbrev pub refuse : Reason → Verdict
+refuse n = Err (refusal_for n)
 
 abbrev pub refused_if : Bool → ℕ → Verdict
-refused_if t n = cond t (refuse n) Accepted
+refused_if t n = cond t (Err (refusal_of n)) (Ok tt)
+
+abbrev pub refused_for : Bool → Reason → Verdict
+refused_for t r = refused_if t (number_of r)
 
 abbrev pub or_else : Verdict → Verdict → Verdict
-or_else Accepted w = w
-or_else (Refused f) w = Refused f
+or_else (Ok _) w = w
+or_else (Err f) w = Err f
 
 -- the items, then the needs
 abbrev pub count_verdict : Model → Verdict
-count_verdict m = refused_if (cond (bad_count m.count) true (ltb 16 m.needs.count)) refusal.count
+count_verdict m = refused_for (cond (bad_count m.count) true (ltb 16 m.needs.count)) refusal.Count
 
-abbrev pub item_verdict : (ModelItem → Bool) → ℕ → Model → Verdict
-item_verdict test n m = refused_if (some_item (held m.count) (item_at m) test) n
+abbrev pub item_verdict : (ModelItem → Bool) → Reason → Model → Verdict
+item_verdict test n m = refused_for (some_item (held m.count) (item_at m) test) n
+
+-- of a test that the code calls: what it says is a function of the item
+abbrev pub Finds : (ModelItem → Bool → Type 0) → Model → Bool → Type 0
+Finds says m b = (test : ModelItem → Bool) → ((i : ModelItem) (c : Bool) → says i c → c ≡ test i) → b ≡ some_item (held m.count) (item_at m) test
+
+abbrev pub TriesItems : (ModelItem → Bool → Type 0) → Reason → Model → Verdict → Type 0
+TriesItems says n m v = (test : ModelItem → Bool) → ((i : ModelItem) (c : Bool) → says i c → c ≡ test i) → v ≡ item_verdict test n m
 
 -- the capacity, then each item's figures
 abbrev pub figure_verdict : Model → Verdict
-figure_verdict m = or_else (refused_if (outside 100000000 m.capacity) refusal.figure) (item_verdict bad_figure refusal.figure m)
+figure_verdict m = or_else (refused_for (outside 100000000 m.capacity) refusal.Figure) (item_verdict bad_figure refusal.Figure m)
 
 -- the order of the weights on every item, then blank items
 abbrev pub kind_verdict : Blanks → Model → Verdict
-kind_verdict b m = or_else (item_verdict is_reversed refusal.weight-range m) (item_verdict (barred b) refusal.blank-item m)
+kind_verdict b m = or_else (item_verdict is_reversed refusal.WeightRange m) (item_verdict (barred b) refusal.BlankItem m)
 
 abbrev pub need_verdict : Model → ℕ → Verdict
 need_verdict m j =
-    or_else (refused_if (bad_line (held m.count) (line_before m.needs j) (need_at m.needs j)) refusal.item-number)
-    (refused_if (unfit_line (item_at m) (need_at m.needs j)) refusal.named-item)
+    or_else (refused_for (bad_line (held m.count) (line_before m.needs j) (need_at m.needs j)) refusal.ItemNumber)
+    (refused_for (unfit_line (item_at m) (need_at m.needs j)) refusal.NamedItem)
 
 unfoldable pub needs_verdict : ℕ → Model → Verdict
-needs_verdict zero m = Accepted
+needs_verdict zero m = Ok tt
 needs_verdict (suc j) m = or_else (needs_verdict j m) (need_verdict m j)
 
 unfoldable pub verdict_by : Blanks → Model → Verdict
 verdict_by b m =
     or_else (or_else (or_else (or_else (count_verdict m) (figure_verdict m)) (kind_verdict b m)) (needs_verdict (held m.needs.count) m))
-    (item_verdict is_ranged_below refusal.ranged-item m)
+    (item_verdict is_ranged_below refusal.RangedItem m)
 
 abbrev pub verdict : Model → Verdict
 verdict m = verdict_by blanks.Refused m

@@ -1,66 +1,52 @@
--- The numbers of the refusals (paper 01, "Refused, by place", and paper 02), the twins of src/refusals.rt.
---   overlong, form, count, figure, item-number                  1 to 5: a sheet's; count and figure a record's too
---   amounts, amount, pair-numbers, pair-items, short-buffer     7 to 11: the point check's, the least pair's, a lent buffer's
---   heading-word, number                                        12, 13: a sheet's, in the place of 2 (paper 02, request 3)
---   named-item                                                  14: a record's and a sheet's, of a line of needs (paper 02, request 7)
---   blank-item                                                  15: a record's and a sheet's, of an item; the converter's (paper 02, request 9)
---   full-record, missing-item, only_item                        16 to 18: a standing plan's, of a change (paper 02, request 10)
---   weight-range, ranged-item                                   19, 20: a record's and a sheet's, of an item's weights (paper 02, request 11)
+-- The numbers of the refusals (paper 01, "Refused, by place", and paper 02), by number_of.
+--   Overlong, Form, Count, Figure, ItemNumber                   1 to 5: a sheet's; Count and Figure a record's too
+--   Amounts, Amount, PairNumbers, PairItems, ShortBuffer        7 to 11: the point check's, the least pair's, a lent buffer's
+--   HeadingWord, Number                                         12, 13: a sheet's, in the place of 2 (paper 02, request 3)
+--   NamedItem                                                   14: a record's and a sheet's, of a line of needs (paper 02, request 7)
+--   BlankItem                                                   15: a record's and a sheet's, of an item; the converter's (paper 02, request 9)
+--   FullRecord, MissingItem, OnlyItem                           16 to 18: a standing plan's, of a change (paper 02, request 10)
+--   WeightRange, RangedItem                                     19, 20: a record's and a sheet's, of an item's weights (paper 02, request 11)
 use Rattle.std.specs.Prelude.{ℕ}
+use Rattle.model.specs.declared.refusals.Reason.{Reason}
+use Rattle.model.specs.declared.refusals.Reason.TheVariants.{
+  Overlong,
+  Form,
+  Count,
+  Figure,
+  ItemNumber,
+  Amounts,
+  Amount,
+  PairNumbers,
+  PairItems,
+  ShortBuffer,
+  HeadingWord,
+  Number,
+  NamedItem,
+  BlankItem,
+  FullRecord,
+  MissingItem,
+  OnlyItem,
+  WeightRange,
+  RangedItem,
+}
 
-abbrev pub overlong : ℕ
-overlong = 1
-
-abbrev pub form : ℕ
-form = 2
-
-abbrev pub count : ℕ
-count = 3
-
-abbrev pub figure : ℕ
-figure = 4
-
-abbrev pub item-number : ℕ
-item-number = 5
-
-abbrev pub amounts : ℕ
-amounts = 7
-
-abbrev pub amount : ℕ
-amount = 8
-
-abbrev pub pair-numbers : ℕ
-pair-numbers = 9
-
-abbrev pub pair-items : ℕ
-pair-items = 10
-
-abbrev pub short-buffer : ℕ
-short-buffer = 11
-
-abbrev pub heading-word : ℕ
-heading-word = 12
-
-abbrev pub number : ℕ
-number = 13
-
-abbrev pub named-item : ℕ
-named-item = 14
-
-abbrev pub blank-item : ℕ
-blank-item = 15
-
-abbrev pub full-record : ℕ
-full-record = 16
-
-abbrev pub missing-item : ℕ
-missing-item = 17
-
-abbrev pub only_item : ℕ
-only_item = 18
-
-abbrev pub weight-range : ℕ
-weight-range = 19
-
-abbrev pub ranged-item : ℕ
-ranged-item = 20
+abbrev pub number_of : Reason → ℕ
+number_of Overlong = 1
+number_of Form = 2
+number_of Count = 3
+number_of Figure = 4
+number_of ItemNumber = 5
+number_of Amounts = 7
+number_of Amount = 8
+number_of PairNumbers = 9
+number_of PairItems = 10
+number_of ShortBuffer = 11
+number_of HeadingWord = 12
+number_of Number = 13
+number_of NamedItem = 14
+number_of BlankItem = 15
+number_of FullRecord = 16
+number_of MissingItem = 17
+number_of OnlyItem = 18
+number_of WeightRange = 19
+number_of RangedItem = 20

@@ -7,7 +7,7 @@
 --   KeepsItem i x       an amount keeps the item's mark and its bounds
 --   Permitted sense m x the point keeps marks, bounds and needs, and fits in that sense: the request's definition, to which `plain_of sense m` is held
 --                       (proofs/Senses, sense-iff)
-use Rattle.std.specs.Prelude.{◌≡◌, ℕ, ◌*◌, ◌<◌, ℤ, ◌*ℤ◌}
+use Rattle.std.specs.Prelude.{ℕ, ◌*◌, ◌<◌, ℤ, ◌*ℤ◌}
 use Rattle.std.proofs.Common.{mul-le-mul}
 use Rattle.arith.specs.Fractions.{Frac, int, ◌≤ᶠ◌, total}
 use Rattle.arith.specs.Sum.{Each}

@@ -11,7 +11,7 @@
 --   with_need m j x      with x as line j
 --   appended_need m x    with a line of needs more
 use Rattle.std.specs.Prelude.{List, ℕ, suc, ℤ, set}
-use Rattle.knapsack.specs.declared.Bound.{Bound}
+use Rattle.std.specs.Prelude.{Option}
 use Rattle.model.specs.declared.Model.{Model}
 use Rattle.model.specs.declared.ModelItem.{ModelItem}
 use Rattle.model.specs.declared.Need.{Need}
@@ -35,11 +35,11 @@ with_item m j x = record { items = set m.items j x; count = m.count; capacity = 
 abbrev pub appended : Model → ModelItem → Model
 appended m x = with_count (with_item m m.count x) (suc m.count)
 
-abbrev pub bounded : Side → Bound → ModelItem → ModelItem
+abbrev pub bounded : Side → Option ℤ → ModelItem → ModelItem
 bounded Lower b i = record { mark = i.mark; low = i.low; high = i.high; price = i.price; lower = b; upper = i.upper }
 bounded Upper b i = record { mark = i.mark; low = i.low; high = i.high; price = i.price; lower = i.lower; upper = b }
 
-abbrev pub with_bound : Model → Side → ℕ → Bound → Model
+abbrev pub with_bound : Model → Side → ℕ → Option ℤ → Model
 with_bound m side j b = with_item m j (bounded side b (item_at m j))
 
 abbrev pub with_needs : Model → Needs → Model

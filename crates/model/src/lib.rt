@@ -3,7 +3,7 @@
 #![tactic(auto)]
 
 pub mod naming; // the tests of a line of needs
-pub mod refusals; // the numbers
+pub mod refusals; // the reasons and their numbers
 pub mod setters; // records by steps
 
 ghost use Rattle.std.specs.Prelude.{◌≡◌, ◌≤◌, ◌<◌, eqb, pos, nat_abs, ◌≤ℤ◌};
@@ -27,8 +27,8 @@ ghost use Rattle.model.specs.Records.{
   is_blank,
   is_range,
   is_ranged_below,
-  has_fault,
-  some_item,
+  Finds,
+  TriesItems,
   some_range,
   some_crosses,
   held,
@@ -44,35 +44,36 @@ ghost use Rattle.model.specs.Records.{
   verdict,
 };
 
-use knapsack::{Answer, Bound, Item, Mark, Problem, Refusal, Verdict, with_item};
+use crate::refusals::Reason;
+use knapsack::{Answer, Item, Mark, Problem, Refusal, with_item};
 
 // 02's line `k m`: where there is any of item k, there is at least 1 of item m, its cover. Both are item numbers, from 1.
-#[derive(Clone, Copy)]
+#[derive(Clone, Copy, PartialEq, Eq)]
 pub struct Need {
     pub item: usize,
     pub cover: usize,
 }
 
 // 02's section of needs: its first count lines.
-#[derive(Clone, Copy)]
+#[derive(Clone, Copy, PartialEq, Eq)]
 pub struct Needs {
     pub lines: [Need; 16],
     pub count: usize,
 }
 
 // An item as it is handed over: its weight is known to be from low to high (02, request 11).
-#[derive(Clone, Copy)]
+#[derive(Clone, Copy, PartialEq, Eq)]
 pub struct ModelItem {
     pub mark: Mark,
     pub low: i64,
     pub high: i64,
     pub price: i64,
-    pub lower: Bound,
-    pub upper: Bound,
+    pub lower: Option<i64>,
+    pub upper: Option<i64>,
 }
 
 // A record: the items are the first count places, and the capacity is 01's limit b.
-#[derive(Clone, Copy)]
+#[derive(Clone, Copy, PartialEq, Eq)]
 pub struct Model {
     pub items: [ModelItem; 16],
     pub count: usize,
@@ -81,38 +82,28 @@ pub struct Model {
 }
 
 // What a point is held to (02, request 11): sure, that it fits for every weight in the ranges, or possible, that it fits for some.
-#[derive(Clone, Copy)]
+#[derive(Clone, Copy, PartialEq, Eq)]
 pub enum Sense {
     Sure,
     Possible,
 }
 
 // The planner's answers in both senses.
-#[derive(Clone, Copy)]
+#[derive(Clone, Copy, PartialEq, Eq)]
 pub struct Answers {
     pub sure: Answer,
     pub possible: Answer,
 }
 
 // What becomes of blank items, of weight 0 and price 0: a reader refuses them, the converter of stored sheets keeps them to drop them itself.
-#[derive(Clone, Copy)]
+#[derive(Clone, Copy, PartialEq, Eq)]
 pub enum Blanks {
     Refused,
     Kept,
 }
 
-// What each item is tried for by itself. A range is no fault.
-#[derive(Clone, Copy)]
-enum Fault {
-    Figure,
-    Reversed,
-    Blank,
-    RangedBelow,
-    Ranged,
-}
-
 // Which bound of an item.
-#[derive(Clone, Copy)]
+#[derive(Clone, Copy, PartialEq, Eq)]
 pub enum Side {
     Lower,
     Upper,
@@ -129,8 +120,8 @@ pub fn no_item() -> ModelItem
         low: 0,
         high: 0,
         price: 0,
-        lower: Bound::Absent,
-        upper: Bound::Absent,
+        lower: None,
+        upper: None,
     }
 }
 
@@ -147,17 +138,12 @@ fn weight_in(i: ModelItem, sense: Sense) -> i64
 pub fn item_in(i: ModelItem, sense: Sense) -> Item
     ensures { result ≡ item_in sense i }
 {
-    let mark = i.mark;
-    let weight = weight_in(i, sense);
-    let price = i.price;
-    let lower = i.lower;
-    let upper = i.upper;
     Item {
-        mark,
-        weight,
-        price,
-        lower,
-        upper,
+        mark: i.mark,
+        weight: weight_in(i, sense),
+        price: i.price,
+        lower: i.lower,
+        upper: i.upper,
     }
 }
 
@@ -165,9 +151,8 @@ pub fn item_in(i: ModelItem, sense: Sense) -> Item
 fn unfilled(m: Model) -> Problem
     ensures { result ≡ unfilled m }
 {
-    let item = knapsack::blank_item();
     Problem {
-        items: [item; 16],
+        items: [knapsack::blank_item(); 16],
         count: m.count,
         capacity: m.capacity,
     }
@@ -178,11 +163,8 @@ pub fn plain_of(m: Model, sense: Sense) -> Problem
     ensures { result ≡ plain_of sense m }
 {
     let mut p = unfilled(m);
-    let mut k: usize = 0;
-    while k < 16 {
-        let i = m.items[k];
-        p = with_item(p, k, item_in(i, sense));
-        k += 1;
+    for k in 0..16 {
+        p.items[k] = item_in(m.items[k], sense);
     }
     p
 }
@@ -194,18 +176,15 @@ pub fn beyond(x: i64, n: i64) -> bool
     requires { (pos 0 ≤ℤ n) × (n ≤ℤ pos 1000000000000000000) }
     ensures { result ≡ outside (nat_abs n) x }
 {
-    if x < 0 - n {
-        return true;
-    }
-    n < x
+    x < 0 - n || n < x
 }
 
-pub fn bad_bound(b: Bound) -> bool
+pub fn bad_bound(b: Option<i64>) -> bool
     ensures { result ≡ bad_bound b }
 {
     match b {
-        Bound::Absent => false,
-        Bound::At(v) => beyond(v, 10000),
+        None => false,
+        Some(v) => beyond(v, 10000),
     }
 }
 
@@ -213,104 +192,59 @@ pub fn bad_bound(b: Bound) -> bool
 fn bad_weights(i: ModelItem) -> bool
     ensures { result ≡ bad_weights i }
 {
-    let a = i.low;
-    if beyond(a, 1000) {
-        return true;
-    }
-    let b = i.high;
-    beyond(b, 1000)
+    beyond(i.low, 1000) || beyond(i.high, 1000)
 }
 
 pub fn bad_figure(i: ModelItem) -> bool
     ensures { result ≡ bad_figure i }
 {
-    if bad_weights(i) {
-        return true;
-    }
-    let c = i.price;
-    if beyond(c, 10000) {
-        return true;
-    }
-    let l = i.lower;
-    if bad_bound(l) {
-        return true;
-    }
-    let u = i.upper;
-    bad_bound(u)
+    bad_weights(i) || beyond(i.price, 10000) || bad_bound(i.lower) || bad_bound(i.upper)
 }
 
 fn is_zero(z: i64) -> bool
     ensures { result ≡ eqb (nat_abs z) 0 }
 {
-    if z == 0 {
-        return true;
-    }
-    false
+    z == 0
 }
 
 pub fn is_reversed(i: ModelItem) -> bool
     ensures { result ≡ is_reversed i }
 {
-    let low = i.low;
-    let high = i.high;
-    high < low
+    i.high < i.low
 }
 
 // Whether an item has weight 0, whatever its weight may be.
 fn is_weightless(i: ModelItem) -> bool
     ensures { result ≡ is_weightless i }
 {
-    let a = i.low;
-    if is_zero(a) {
-        let b = i.high;
-        return is_zero(b);
-    }
-    false
+    is_zero(i.low) && is_zero(i.high)
 }
 
 pub fn is_blank(i: ModelItem) -> bool
     ensures { result ≡ is_blank i }
 {
-    if is_weightless(i) {
-        let c = i.price;
-        return is_zero(c);
-    }
-    false
+    is_weightless(i) && is_zero(i.price)
 }
 
 // Whether the weight is not one figure.
 fn is_range(i: ModelItem) -> bool
     ensures { result ≡ is_range i }
 {
-    let low = i.low;
-    let high = i.high;
-    if low < high {
-        return true;
-    }
-    is_reversed(i)
+    i.low < i.high || is_reversed(i)
 }
 
 // Whether an item's weight is a range, and its amount may be below 0: what it weighs at most would then not be told by the high weight.
 pub fn is_ranged_below(i: ModelItem) -> bool
     ensures { result ≡ is_ranged_below i }
 {
-    let a = i.low;
-    let b = i.high;
-    if a < b {
-        let l = i.lower;
-        return naming::is_below_zero(l);
-    }
-    false
+    i.low < i.high && naming::is_below_zero(i.lower)
 }
 
 // Whether a lower bound is above an upper.
-fn crossed_bounds(l: Bound, u: Bound) -> bool
+fn crossed_bounds(l: Option<i64>, u: Option<i64>) -> bool
     ensures { result ≡ crossed l u }
 {
-    let Bound::At(a) = l else {
-        return false;
-    };
-    let Bound::At(b) = u else {
+    let (Some(a), Some(b)) = (l, u) else {
         return false;
     };
     b < a
@@ -319,17 +253,13 @@ fn crossed_bounds(l: Bound, u: Bound) -> bool
 pub fn does_cross(i: Item) -> bool
     ensures { result ≡ crosses i }
 {
-    let l = i.lower;
-    let u = i.upper;
-    crossed_bounds(l, u)
+    crossed_bounds(i.lower, i.upper)
 }
 
 pub fn do_bounds_cross(i: ModelItem) -> bool
     ensures { result ≡ bounds_cross i }
 {
-    let l = i.lower;
-    let u = i.upper;
-    crossed_bounds(l, u)
+    crossed_bounds(i.lower, i.upper)
 }
 
 // Whether some item's bounds cross. Such a problem is accepted and has no feasible point: see proofs/Crossings (crossed-infeasible).
@@ -337,14 +267,10 @@ pub fn some_crosses(p: Problem) -> bool
     requires { p.count ≤ 16 }
     ensures { result ≡ some_crosses p }
 {
-    let n = p.count;
-    let mut k: usize = 0;
-    while k < n {
-        let i = p.items[k];
-        if does_cross(i) {
+    for k in 0..p.count {
+        if does_cross(p.items[k]) {
             return true;
         }
-        k += 1;
     }
     false
 }
@@ -353,32 +279,18 @@ pub fn some_crosses(p: Problem) -> bool
 fn held_of(n: usize) -> usize
     ensures { (result ≡ held n) × (result ≤ 16) }
 {
-    if 16 < n { 16 } else { n }
+    n.min(16)
 }
 
-fn has_fault(i: ModelItem, fault: Fault) -> bool
-    ensures { result ≡ has_fault fault i }
+// Whether a test says yes to some item.
+fn some_item<F: Fn(ModelItem) -> bool>(m: Model, test: F) -> bool
+    requires { F.IsAlwaysCallable test }
+    ensures { Finds (F.post test) m result }
 {
-    match fault {
-        Fault::Figure => bad_figure(i),
-        Fault::Reversed => is_reversed(i),
-        Fault::Blank => is_blank(i),
-        Fault::RangedBelow => is_ranged_below(i),
-        Fault::Ranged => is_range(i),
-    }
-}
-
-fn some_faulty(m: Model, fault: Fault) -> bool
-    ensures { result ≡ some_item (held m.count) (item_at m) (has_fault fault) }
-{
-    let n = held_of(m.count);
-    let mut k: usize = 0;
-    while k < n {
-        let i = m.items[k];
-        if has_fault(i, fault) {
+    for k in 0..held_of(m.count) {
+        if test(m.items[k]) {
             return true;
         }
-        k += 1;
     }
     false
 }
@@ -387,7 +299,7 @@ fn some_faulty(m: Model, fault: Fault) -> bool
 pub fn some_range(m: Model) -> bool
     ensures { result ≡ some_range m }
 {
-    some_faulty(m, Fault::Ranged)
+    some_item(m, is_range)
 }
 
 // ---- verdicts: a row of the refusals is one function
@@ -399,101 +311,87 @@ pub fn refusal_of(number: u64) -> Refusal
     Refusal { number, line: 0 }
 }
 
-pub fn refused_if(test: bool, number: u64) -> Verdict
+pub fn refused_if(test: bool, number: u64) -> Result<(), Refusal>
     ensures { result ≡ refused_if test number }
 {
     if test {
-        return Verdict::Refused(refusal_of(number));
+        Err(refusal_of(number))
+    } else {
+        Ok(())
     }
-    Verdict::Accepted
 }
 
 // The first that refuses.
-pub fn first_of(v: Verdict, w: Verdict) -> Verdict
+pub fn first_of(v: Result<(), Refusal>, w: Result<(), Refusal>) -> Result<(), Refusal>
     ensures { result ≡ or_else v w }
 {
     match v {
-        Verdict::Accepted => w,
-        Verdict::Refused(_) => v,
+        Ok(()) => w,
+        Err(_) => v,
     }
 }
 
-fn check_counts(m: Model) -> Verdict
+fn check_counts(m: Model) -> Result<(), Refusal>
     ensures { result ≡ count_verdict m }
 {
-    let items = m.count;
-    if items == 0 {
-        return refused_if(true, refusals::COUNT);
-    }
-    if 16 < items {
-        return refused_if(true, refusals::COUNT);
-    }
-    let ns = m.needs;
-    let lines = ns.count;
-    refused_if(16 < lines, refusals::COUNT)
+    let few = m.count == 0;
+    let many = 16 < m.count || 16 < m.needs.count;
+    Reason::Count.refuse_if(few || many)
 }
 
 // A row that tries every item.
-fn check_items(m: Model, fault: Fault, number: u64) -> Verdict
-    ensures { result ≡ item_verdict (has_fault fault) number m }
+fn check_items<F: Fn(ModelItem) -> bool>(m: Model, test: F, reason: Reason) -> Result<(), Refusal>
+    requires { F.IsAlwaysCallable test }
+    ensures { TriesItems (F.post test) reason m result }
 {
-    refused_if(some_faulty(m, fault), number)
+    reason.refuse_if(some_item(m, test))
 }
 
-fn check_figures(m: Model) -> Verdict
+fn check_figures(m: Model) -> Result<(), Refusal>
     ensures { result ≡ figure_verdict m }
 {
-    let b = m.capacity;
-    let capacity = refused_if(beyond(b, 100000000), refusals::FIGURE);
-    let items = check_items(m, Fault::Figure, refusals::FIGURE);
-    first_of(capacity, items)
+    Reason::Figure.refuse_if(beyond(m.capacity, 100000000))?;
+    check_items(m, bad_figure, Reason::Figure)
 }
 
 // One line of needs: 5, then 14.
-fn check_need(m: Model, j: usize) -> Verdict
+fn check_need(m: Model, j: usize) -> Result<(), Refusal>
     requires { j < 16 }
     ensures { result ≡ need_verdict m j }
 {
-    let n = held_of(m.count);
-    let ns = m.needs;
-    let before = naming::line_before(ns, j);
-    let need = ns.lines[j];
-    if naming::is_bad_line(n, before, need) {
-        return refused_if(true, refusals::ITEM_NUMBER);
-    }
-    refused_if(naming::names_unfit(m, need), refusals::NAMED_ITEM)
+    let before = naming::line_before(m.needs, j);
+    let need = m.needs.lines[j];
+    let is_bad = naming::is_bad_line(held_of(m.count), before, need);
+    Reason::ItemNumber.refuse_if(is_bad)?;
+    Reason::NamedItem.refuse_if(naming::names_unfit(m, need))
 }
 
-fn check_needs(m: Model) -> Verdict
+fn check_needs(m: Model) -> Result<(), Refusal>
     ensures { result ≡ needs_verdict (held m.needs.count) m }
 {
-    let ns = m.needs;
-    let t = held_of(ns.count);
-    let mut v = Verdict::Accepted;
-    let mut j: usize = 0;
-    while j < t {
-        v = first_of(v, check_need(m, j));
-        j += 1;
+    for j in 0..held_of(m.needs.count) {
+        check_need(m, j)?;
     }
-    v
+    Ok(())
 }
 
 // The rows of single items: 19 on every item, then 15.
-fn check_kinds(m: Model) -> Verdict
+fn check_kinds(m: Model) -> Result<(), Refusal>
     ensures { result ≡ kind_verdict blanks.Refused m }
 {
-    let v = check_items(m, Fault::Reversed, refusals::WEIGHT_RANGE);
-    first_of(v, check_items(m, Fault::Blank, refusals::BLANK_ITEM))
+    check_items(m, is_reversed, Reason::WeightRange)?;
+    check_items(m, is_blank, Reason::BlankItem)
 }
 
 // A record's refusal: 3 (count of items, then of needs), then 4 (capacity, then each item's figures), then 19 and 15, then 5 and 14 of each line of needs,
 // then 20; line 0.
-pub fn check_model(m: Model) -> Verdict
+#[tactic(auto, unfolding(crate::specs::Records::verdict_by))]
+pub fn check_model(m: Model) -> Result<(), Refusal>
     ensures { result ≡ verdict m }
 {
-    let v = check_counts(m);
-    let w = first_of(v, check_figures(m));
-    let x = first_of(w, check_kinds(m));
-    let y = first_of(x, check_needs(m));
-    first_of(y, check_items(m, Fault::RangedBelow, refusals::RANGED_ITEM))
+    check_counts(m)?;
+    check_figures(m)?;
+    check_kinds(m)?;
+    check_needs(m)?;
+    check_items(m, is_ranged_below, Reason::RangedItem)
 }

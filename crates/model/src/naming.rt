@@ -16,7 +16,7 @@ ghost use Rattle.model.specs.Records.{
 };
 
 use crate::{Model, ModelItem, Need, Needs};
-use knapsack::{Bound, Mark};
+use knapsack::Mark;
 
 // An unused line.
 pub fn no_need() -> Need
@@ -28,9 +28,8 @@ pub fn no_need() -> Need
 pub fn no_needs() -> Needs
     ensures { result ≡ no_needs }
 {
-    let need = no_need();
     Needs {
-        lines: [need; 16],
+        lines: [no_need(); 16],
         count: 0,
     }
 }
@@ -39,100 +38,60 @@ pub fn no_needs() -> Needs
 pub fn is_wrong(n: usize, k: usize) -> bool
     ensures { result ≡ wrong_number n k }
 {
-    if k == 0 {
-        return true;
-    }
-    n < k
+    k == 0 || n < k
 }
 
 // Whether one of two item numbers is outside 1 to n, or both are one (01's refusal 9, and of needs 5).
 pub fn are_wrong(n: usize, i: usize, j: usize) -> bool
     ensures { result ≡ wrong_numbers n i j }
 {
-    if is_wrong(n, i) {
-        return true;
-    }
-    if is_wrong(n, j) {
-        return true;
-    }
-    i == j
+    is_wrong(n, i) || is_wrong(n, j) || i == j
 }
 
 // Whether a need names item k.
 pub fn does_name(x: Need, k: usize) -> bool
     ensures { result ≡ names_item x k }
 {
-    if x.item == k {
-        return true;
-    }
-    x.cover == k
+    x.item == k || x.cover == k
 }
 
 // Whether a line does not rise above the one before, by item and then by cover.
 fn is_out_of_order(before: Need, need: Need) -> bool
     ensures { result ≡ out_of_order before need }
 {
-    let k = before.item;
-    let l = need.item;
-    if k < l {
-        return false;
-    }
-    if l < k {
-        return true;
-    }
-    let c = before.cover;
-    let d = need.cover;
-    if c < d {
-        return false;
-    }
-    true
+    need.item < before.item || need.item == before.item && need.cover <= before.cover
 }
 
 // Refusal 5 of a line over n items.
+#[tactic(auto, unfolding(crate::specs::Records::bad_line))]
 pub fn is_bad_line(n: usize, before: Need, need: Need) -> bool
     ensures { result ≡ bad_line n before need }
 {
-    let k = need.item;
-    let l = need.cover;
-    if are_wrong(n, k, l) {
-        return true;
-    }
-    is_out_of_order(before, need)
+    are_wrong(n, need.item, need.cover) || is_out_of_order(before, need)
 }
 
 fn is_continuous(mark: Mark) -> bool
     ensures { result ≡ is_continuous mark }
 {
-    match mark {
-        Mark::Integer => false,
-        Mark::Continuous => true,
-    }
+    matches!(mark, Mark::Continuous)
 }
 
 // Whether a lower bound allows amounts below 0.
-pub fn is_below_zero(b: Bound) -> bool
+pub fn is_below_zero(b: Option<i64>) -> bool
     ensures { result ≡ below_zero b }
 {
     match b {
-        Bound::Absent => true,
-        Bound::At(v) => v < 0,
+        None => true,
+        Some(v) => v < 0,
     }
 }
 
 // Whether no need may name an item.
+#[tactic(auto, unfolding(crate::specs::Records::unfit))]
 pub fn is_unfit(i: ModelItem) -> bool
     ensures { result ≡ unfit i }
 {
-    let mark = i.mark;
-    if is_continuous(mark) {
-        return true;
-    }
-    let l = i.lower;
-    if is_below_zero(l) {
-        return true;
-    }
-    let u = i.upper;
-    knapsack::is_absent(u)
+    is_continuous(i.mark) || is_below_zero(i.lower) || i.upper.is_none()
 }
 
 // Refusal 14 of a line.
@@ -140,14 +99,7 @@ pub fn names_unfit(m: Model, need: Need) -> bool
     requires { ((1 ≤ need.item) × (need.item ≤ 16)) × ((1 ≤ need.cover) × (need.cover ≤ 16)) }
     ensures { result ≡ unfit_line (item_at m) need }
 {
-    let k = need.item;
-    let x = m.items[k - 1];
-    if is_unfit(x) {
-        return true;
-    }
-    let l = need.cover;
-    let y = m.items[l - 1];
-    is_unfit(y)
+    is_unfit(m.items[need.item - 1]) || is_unfit(m.items[need.cover - 1])
 }
 
 // The line before line j, from 0; before the first it is as an unused one, above which every good line is.

@@ -1,38 +1,71 @@
-// The numbers of the refusals of papers 01 and 02; specs/Refusals has their twins.
-pub const OVERLONG: u64 = 1;
+// Why a record, a sheet or a question is refused, and the numbers that papers 01 and 02 give the reasons.
+ghost use Rattle.std.specs.Prelude.{◌≡◌};
+ghost use Rattle.model.specs.Refusals.{number_of};
+ghost use Rattle.model.specs.Records.{refusal_for, refused_for};
 
-pub const FORM: u64 = 2;
+use knapsack::Refusal;
 
-pub const COUNT: u64 = 3;
+#[derive(Clone, Copy, PartialEq, Eq)]
+pub enum Reason {
+    Overlong,
+    Form,
+    Count,
+    Figure,
+    ItemNumber,
+    Amounts,
+    Amount,
+    PairNumbers,
+    PairItems,
+    ShortBuffer,
+    HeadingWord,
+    Number,
+    NamedItem,
+    BlankItem,
+    FullRecord,
+    MissingItem,
+    OnlyItem,
+    WeightRange,
+    RangedItem,
+}
 
-pub const FIGURE: u64 = 4;
+impl Reason {
+    // The number that is told.
+    pub fn number(self) -> u64
+        ensures { result ≡ number_of self }
+    {
+        match self {
+            Reason::Overlong => 1,
+            Reason::Form => 2,
+            Reason::Count => 3,
+            Reason::Figure => 4,
+            Reason::ItemNumber => 5,
+            Reason::Amounts => 7,
+            Reason::Amount => 8,
+            Reason::PairNumbers => 9,
+            Reason::PairItems => 10,
+            Reason::ShortBuffer => 11,
+            Reason::HeadingWord => 12,
+            Reason::Number => 13,
+            Reason::NamedItem => 14,
+            Reason::BlankItem => 15,
+            Reason::FullRecord => 16,
+            Reason::MissingItem => 17,
+            Reason::OnlyItem => 18,
+            Reason::WeightRange => 19,
+            Reason::RangedItem => 20,
+        }
+    }
 
-pub const ITEM_NUMBER: u64 = 5;
+    // The refusal of what is no sheet, so that there is no line.
+    pub fn refusal(self) -> Refusal
+        ensures { result ≡ refusal_for self }
+    {
+        crate::refusal_of(self.number())
+    }
 
-pub const AMOUNTS: u64 = 7;
-
-pub const AMOUNT: u64 = 8;
-
-pub const PAIR_NUMBERS: u64 = 9;
-
-pub const PAIR_ITEMS: u64 = 10;
-
-pub const SHORT_BUFFER: u64 = 11;
-
-pub const HEADING_WORD: u64 = 12;
-
-pub const NUMBER: u64 = 13;
-
-pub const NAMED_ITEM: u64 = 14;
-
-pub const BLANK_ITEM: u64 = 15;
-
-pub const FULL_RECORD: u64 = 16;
-
-pub const MISSING_ITEM: u64 = 17;
-
-pub const ONLY_ITEM: u64 = 18;
-
-pub const WEIGHT_RANGE: u64 = 19;
-
-pub const RANGED_ITEM: u64 = 20;
+    pub fn refuse_if(self, test: bool) -> Result<(), Refusal>
+        ensures { result ≡ refused_for test self }
+    {
+        crate::refused_if(test, self.number())
+    }
+}

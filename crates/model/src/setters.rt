@@ -16,45 +16,36 @@ ghost use Rattle.model.specs.Setters.{
 };
 
 use crate::{Model, ModelItem, Need, Needs, Side, naming};
-use knapsack::Bound;
 
 // The record of a refusal.
 pub fn empty_model() -> Model
     ensures { result ≡ empty_model }
 {
-    let item = crate::no_item();
-    let needs = naming::no_needs();
     Model {
-        items: [item; 16],
+        items: [crate::no_item(); 16],
         count: 0,
         capacity: 0,
-        needs,
+        needs: naming::no_needs(),
     }
 }
 
 pub fn with_capacity(m: Model, b: i64) -> Model
     ensures { result ≡ with_capacity m b }
 {
-    let mut n = m;
-    n.capacity = b;
-    n
+    Model { capacity: b, ..m }
 }
 
 pub fn with_count(m: Model, count: usize) -> Model
     ensures { result ≡ with_count m count }
 {
-    let mut n = m;
-    n.count = count;
-    n
+    Model { count, ..m }
 }
 
 // All places at once.
 pub fn with_items(m: Model, items: [ModelItem; 16]) -> Model
     ensures { result ≡ with_items m items }
 {
-    let mut n = m;
-    n.items = items;
-    n
+    Model { items, ..m }
 }
 
 pub fn with_item(m: Model, j: usize, x: ModelItem) -> Model
@@ -71,63 +62,37 @@ pub fn append(m: Model, x: ModelItem) -> Model
     requires { m.count < 16 }
     ensures { result ≡ appended m x }
 {
-    let n = m.count;
-    let r = with_item(m, n, x);
-    with_count(r, n + 1)
+    with_count(with_item(m, m.count, x), m.count + 1)
 }
 
 // An item with another bound on one side.
-pub fn with_side(item: ModelItem, side: Side, b: Bound) -> ModelItem
+pub fn with_side(item: ModelItem, side: Side, b: Option<i64>) -> ModelItem
     ensures { result ≡ bounded side b item }
 {
-    let mark = item.mark;
-    let low = item.low;
-    let high = item.high;
-    let price = item.price;
-    let lower = item.lower;
-    let upper = item.upper;
     match side {
-        Side::Lower => ModelItem {
-            mark,
-            low,
-            high,
-            price,
-            lower: b,
-            upper,
-        },
-        Side::Upper => ModelItem {
-            mark,
-            low,
-            high,
-            price,
-            lower,
-            upper: b,
-        },
+        Side::Lower => ModelItem { lower: b, ..item },
+        Side::Upper => ModelItem { upper: b, ..item },
     }
 }
 
-pub fn with_bound(m: Model, side: Side, j: usize, b: Bound) -> Model
+pub fn with_bound(m: Model, side: Side, j: usize, b: Option<i64>) -> Model
     requires { j < 16 }
     ensures { result ≡ with_bound m side j b }
 {
-    let item = m.items[j];
-    with_item(m, j, with_side(item, side, b))
+    with_item(m, j, with_side(m.items[j], side, b))
 }
 
 pub fn with_needs(m: Model, needs: Needs) -> Model
     ensures { result ≡ with_needs m needs }
 {
-    let mut n = m;
-    n.needs = needs;
-    n
+    Model { needs, ..m }
 }
 
 pub fn with_need_count(m: Model, count: usize) -> Model
     ensures { result ≡ with_need_count m count }
 {
-    let mut ns = m.needs;
-    ns.count = count;
-    with_needs(m, ns)
+    let needs = Needs { count, ..m.needs };
+    with_needs(m, needs)
 }
 
 pub fn with_need(m: Model, j: usize, x: Need) -> Model
@@ -144,8 +109,6 @@ pub fn append_need(m: Model, x: Need) -> Model
     requires { m.needs.count < 16 }
     ensures { result ≡ appended_need m x }
 {
-    let ns = m.needs;
-    let t = ns.count;
-    let r = with_need(m, t, x);
-    with_need_count(r, t + 1)
+    let t = m.needs.count;
+    with_need_count(with_need(m, t, x), t + 1)
 }

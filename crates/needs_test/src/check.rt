@@ -3,23 +3,18 @@
 ghost use Rattle.std.specs.Prelude.{◌≤◌};
 
 use arith::Fraction;
-use feasibility::{Candidate, PointReply, check_point};
-use knapsack::Answer;
+use feasibility::{Candidate, Finding, check_point};
+use knapsack::{Answer, Kind, Refusal};
 use model::{Model, Need, Sense, setters};
 use planner::plan_within;
-use trials::tally::number_of;
 
 // The amount of an item, by its number from 1; 0 if there is none.
 fn amount_of(point: [Fraction; 16], item: usize) -> Fraction {
-    let mut k: usize = 0;
-    while k < 16 {
-        let v = point[k];
-        k += 1;
-        if k == item {
-            return v;
-        }
+    if 0 < item && item <= 16 {
+        point[item - 1]
+    } else {
+        Fraction { p: 0, q: 1 }
     }
-    Fraction { p: 0, q: 1 }
 }
 
 // Amounts of named items are whole.
@@ -29,27 +24,21 @@ fn is_broken(point: [Fraction; 16], need: Need) -> bool {
     0 < x.p && y.p < 1
 }
 
-// The item of the first line that a point breaks; 0 if it keeps all of them.
-fn broken(m: Model, point: [Fraction; 16]) -> usize {
-    let ns = m.needs;
-    let t = ns.count;
-    let lines = ns.lines;
-    let mut j: usize = 0;
-    while j < 16 {
-        let need = lines[j];
-        if j < t && is_broken(point, need) {
-            return need.item;
+// The item of the first line that a point breaks; none if it keeps all of them.
+fn broken(m: Model, point: [Fraction; 16]) -> Option<usize> {
+    for need in m.needs.lines.iter().take(m.needs.count) {
+        if is_broken(point, *need) {
+            return Some(need.item);
         }
-        j += 1;
     }
-    0
+    None
 }
 
-fn is_named(r: PointReply, item: usize) -> bool {
-    match r {
-        PointReply::Feasible(_) => item == 0,
-        PointReply::Violates(k) => { if item == 0 { false } else { k == item } }
-        PointReply::Refused(_) => false,
+fn is_named(r: Result<Finding, Refusal>, broken: Option<usize>) -> bool {
+    match (r, broken) {
+        (Ok(Finding::Feasible(_)), None) => true,
+        (Ok(Finding::Violates(k)), Some(item)) => k == item,
+        _ => false,
     }
 }
 
@@ -57,19 +46,11 @@ fn is_named(r: PointReply, item: usize) -> bool {
 pub fn check_holds(m: Model, most: u64) -> bool {
     let plain = setters::with_need_count(m, 0);
     let a = plan_within(plain, Sense::Sure, most);
-    let k = a.kind;
-    if number_of(k) != 1 {
+    if !matches!(a.kind, Kind::Optimal) {
         return true;
     }
-    let point = a.point;
     let amounts = a.point;
-    let r = check_point(
-        m,
-        Sense::Sure,
-        Candidate {
-            amounts: amounts,
-            count: m.count,
-        },
-    );
-    is_named(r, broken(m, point))
+    let count = m.count;
+    let r = check_point(m, Sense::Sure, Candidate { amounts, count });
+    is_named(r, broken(m, a.point))
 }

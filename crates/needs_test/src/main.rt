@@ -8,48 +8,22 @@ mod check; // the point check beside a plain one
 ghost use Rattle.std.specs.Prelude.{◌≤◌};
 
 use crate::check::check_holds;
-use arith::Fraction;
-use knapsack::{Answer, Bound};
-use model::{Model, ModelItem, Need, Sense, setters};
+use knapsack::{Answer, Kind};
+use model::{Model, Need, Sense};
 use planner::plan_within;
 use solver::STEPS;
 use trials::count::print_count;
 use trials::draw::{Spans, drawn_problem};
-use trials::make::{first_of, from_zero, held, two};
+use trials::make::{first_of, from_zero, held, needing, two};
 use trials::needs::with_drawn_needs;
 use trials::outcome::{Outcome, outcome_of, shut_problem};
 use trials::points::judge;
-use trials::print::{print, print_field, print_kind, print_problem, print_signed_field};
-use trials::tally::{Tally, no_answers, number_of, print_tally, tallied};
+use trials::print::{print, print_kind, print_problem, print_three};
+use trials::tally::{Tally, no_answers, print_tally, tallied};
 
 const REACH: i64 = 20;
 
 // ---- chosen problems
-
-fn print_amount(v: Fraction) {
-    print_signed_field(v.p);
-    print_field(v.q);
-}
-
-fn print_three(a: Answer) {
-    let x = a.point[0];
-    let y = a.point[1];
-    let z = a.point[2];
-    print_amount(x);
-    print_amount(y);
-    print_amount(z);
-}
-
-// With a line at a place, which is the last one.
-fn needing(m: Model, place: usize, item: usize, cover: usize) -> Model
-    requires { place ≤ 15 }
-{
-    let need = Need {
-        item: item,
-        cover: cover,
-    };
-    setters::with_need_count(setters::with_need(m, place, need), place + 1)
-}
 
 fn print_need(need: Need) {
     print_count(b", ", need.item as u64);
@@ -57,16 +31,8 @@ fn print_need(need: Need) {
 }
 
 fn print_needs(p: Model) {
-    let ns = p.needs;
-    let t = ns.count;
-    let lines = ns.lines;
-    let mut j: usize = 0;
-    while j < 16 {
-        let need = lines[j];
-        if j < t {
-            print_need(need);
-        }
-        j += 1;
+    for need in p.needs.lines.iter().take(p.needs.count) {
+        print_need(*need);
     }
 }
 
@@ -131,44 +97,21 @@ fn chosen() {
 
 // ---- drawn problems
 
-fn is_best(a: Answer) -> bool {
-    let k = a.kind;
-    number_of(k) == 1
-}
-
-fn has_lower(x: ModelItem) -> bool {
-    let l = x.lower;
-    match l {
-        Bound::Absent => false,
-        Bound::At(_) => true,
-    }
-}
-
 // Whether the first n items have lower bounds.
 fn all_lower(m: Model, n: usize) -> bool
     requires { n ≤ 15 }
 {
-    let items = m.items;
-    let mut k: usize = 0;
-    while k < n {
-        let x = items[k];
-        if !has_lower(x) {
-            return false;
-        }
-        k += 1;
-    }
-    true
+    m.items[..n].iter().all(|x| x.lower.is_some())
 }
 
 // Whether the point shown is the first, where that is owed.
 fn is_first(p: Model, a: Answer, n: usize) -> bool
     requires { n ≤ 15 }
 {
-    if !is_best(a) || !all_lower(p, n) {
+    if a.kind != Kind::Optimal || !all_lower(p, n) {
         return true;
     }
-    let j = judge(shut_problem(p, n, REACH), a, n);
-    !j.beaten
+    !judge(shut_problem(p, n, REACH), a, n).beaten
 }
 
 fn print_wrong(p: Model, a: Answer) {
@@ -190,15 +133,7 @@ fn tried(t: Tally, p: Model, n: usize, open: bool, most: u64) -> Tally
     if !agrees {
         print_wrong(p, a);
     }
-    let k = a.kind;
-    tallied(
-        t,
-        k,
-        Outcome {
-            agrees: agrees,
-            met: o.met,
-        },
-    )
+    tallied(t, a.kind, Outcome { agrees, met: o.met })
 }
 
 // What so many problems of n items each come to; of among + 1 pairs of items about one is a need.
@@ -208,15 +143,11 @@ fn tally_of(seed: u64, problems: u64, n: usize, among: u64, z: Spans, most: u64)
     let open = z.absent > 0;
     let mut t = no_answers();
     let mut state = seed;
-    let mut k: u64 = 0;
-    while k < problems {
+    for _ in 0..problems {
         let d = drawn_problem(state, n, z);
-        let p = d.problem;
-        let e = with_drawn_needs(p, d.state, among);
-        let q = e.problem;
-        t = tried(t, q, n, open, most);
+        let e = with_drawn_needs(d.problem, d.state, among);
+        t = tried(t, e.problem, n, open, most);
         state = e.state;
-        k += 1;
     }
     t
 }

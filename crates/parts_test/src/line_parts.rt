@@ -1,7 +1,7 @@
 // The part that holds a line, on drawn bytes: letters and bytes 10, at most 12 of them, and every line number up to two too many.
 ghost use Rattle.std.specs.Prelude.{◌≤◌};
 
-use knapsack::Verdict;
+use knapsack::Refusal;
 use lines::scan::{check_line, line_part};
 use trials::count::{one_more, print_count};
 use trials::draw::{below, next};
@@ -27,11 +27,9 @@ fn drawn_byte(state: u64) -> u8 {
 fn drawn_text(state: u64) -> DrawnText {
     let mut bytes = [0u8; 12];
     let mut now = state;
-    let mut k: usize = 0;
-    while k < 12 {
+    for b in &mut bytes {
         now = next(now);
-        bytes[k] = drawn_byte(now);
-        k += 1;
+        *b = drawn_byte(now);
     }
     DrawnText {
         bytes: bytes,
@@ -43,16 +41,14 @@ fn drawn_text(state: u64) -> DrawnText {
 
 fn line_ends(s: &[u8]) -> u64 {
     let mut n: u64 = 0;
-    let mut k: usize = 0;
-    while k < s.len() {
-        n = one_more(n, s[k] == 10);
-        k += 1;
+    for b in s {
+        n = one_more(n, *b == b'\n');
     }
     n
 }
 
 fn byte_at(s: &[u8], at: usize) -> u8 {
-    if at < s.len() { s[at] } else { 10 }
+    if at < s.len() { s[at] } else { b'\n' }
 }
 
 // The line of the next byte, how many bytes of the line asked for are behind, and whether the part has them.
@@ -64,14 +60,10 @@ struct Walk {
 }
 
 fn walked(w: Walk, b: u8, line: u64, part: &[u8]) -> Walk {
-    let inside = w.line == line && b != 10;
-    let same = if inside {
-        byte_at(part, w.met as usize) == b
-    } else {
-        true
-    };
+    let inside = w.line == line && b != b'\n';
+    let same = !inside || byte_at(part, w.met as usize) == b;
     Walk {
-        line: one_more(w.line, b == 10),
+        line: one_more(w.line, b == b'\n'),
         met: one_more(w.met, inside),
         same: w.same && same,
     }
@@ -84,31 +76,23 @@ fn is_line(s: &[u8], line: u64, part: &[u8]) -> bool {
         met: 0,
         same: true,
     };
-    let mut k: usize = 0;
-    while k < s.len() {
-        w = walked(w, s[k], line, part);
-        k += 1;
+    for b in s {
+        w = walked(w, *b, line, part);
     }
     w.same && w.met == part.len() as u64
 }
 
 // ---- the replies against it
 
-fn is_refused(v: Verdict, number: u64, line: u64) -> bool {
-    match v {
-        Verdict::Accepted => false,
-        Verdict::Refused(f) => f.number == number && f.line == line,
-    }
+fn is_refused(v: Result<(), Refusal>, number: u64, line: u64) -> bool {
+    matches!(v, Err(f) if f.number == number && f.line == line)
 }
 
-fn is_accepted(v: Verdict) -> bool {
-    match v {
-        Verdict::Accepted => true,
-        Verdict::Refused(_) => false,
-    }
+fn is_accepted(v: Result<(), Refusal>) -> bool {
+    matches!(v, Ok(()))
 }
 
-fn agrees(s: &[u8], ends: u64, line: u64, v: Verdict, part: &[u8]) -> bool {
+fn agrees(s: &[u8], ends: u64, line: u64, v: Result<(), Refusal>, part: &[u8]) -> bool {
     if line == 0 {
         return is_refused(v, 1, 0) && part.len() == 0;
     }
@@ -152,12 +136,10 @@ fn tried(t: Tally, s: &[u8], ends: u64, line: u64) -> Tally {
 // The line numbers from 0 to two more than the text closes.
 fn with_lines(start: Tally, s: &[u8], ends: u64) -> Tally {
     let mut t = start;
-    let mut line: u64 = 0;
-    while line < 15 {
+    for line in 0..15 {
         if line <= one_more(one_more(ends, true), true) {
             t = tried(t, s, ends, line);
         }
-        line += 1;
     }
     t
 }
@@ -176,14 +158,11 @@ fn tally_of(seed: u64, texts: u64) -> Tally {
         wrong: 0,
     };
     let mut state = seed;
-    let mut k: u64 = 0;
-    while k < texts {
+    for _ in 0..texts {
         let d = drawn_text(state);
-        let bytes = d.bytes;
         let size = below(next(d.state), 12);
-        t = with_text(t, bytes, size as usize);
+        t = with_text(t, d.bytes, size as usize);
         state = next(d.state);
-        k += 1;
     }
     t
 }

@@ -1,8 +1,8 @@
 // The least pair on drawn problems. Weights are within ±4 and prices within ±8, so that where steps exist some are within ±32.
 ghost use Rattle.std.specs.Prelude.{◌≤◌};
 
-use domination::{Pair, PairReply, least_pair};
-use knapsack::{Bound, Mark};
+use domination::least_pair;
+use knapsack::{Mark, Refusal};
 use model::{Model, ModelItem, Sense, no_item};
 use trials::count::{one_more, print_count};
 use trials::draw::{Spans, drawn_problem, next};
@@ -14,10 +14,9 @@ const REACH: i64 = 40;
 
 // ---- all steps
 
-// Whether steps were found, and the least sizes of the first and of the second.
+// The least sizes of the first steps and of the second.
 #[derive(Clone, Copy)]
 struct Least {
-    found: bool,
     first: u64,
     second: u64,
 }
@@ -29,49 +28,32 @@ fn is_within(l: i64, u: i64, step: i64) -> bool {
 }
 
 fn has_room(x: ModelItem, step: i64) -> bool {
-    let lower = x.lower;
-    let upper = x.upper;
-    match lower {
-        Bound::Absent => true,
-        Bound::At(l) => match upper {
-            Bound::Absent => true,
-            Bound::At(u) => is_within(l, u, step),
-        },
+    match (x.lower, x.upper) {
+        (Some(l), Some(u)) => is_within(l, u, step),
+        _ => true,
     }
 }
 
 // Paper 01's conditions on the steps r of x and s of y.
 fn is_pair(x: ModelItem, y: ModelItem, r: i64, s: i64) -> bool {
-    if r == 0 || s == 0 {
-        return false;
-    }
-    if plus(times(x.high, r), times(y.high, s)) < 0 {
-        return false;
-    }
-    if plus(times(x.price, r), times(y.price, s)) >= 0 {
-        return false;
-    }
-    has_room(x, r) && has_room(y, s)
+    r != 0
+        && s != 0
+        && 0 <= plus(times(x.high, r), times(y.high, s))
+        && plus(times(x.price, r), times(y.price, s)) < 0
+        && has_room(x, r)
+        && has_room(y, s)
 }
 
-fn lesser(a: u64, b: u64) -> u64 {
-    if a < b { a } else { b }
-}
-
-fn with_steps(m: Least, r: i64, s: i64) -> Least {
+// With one pair of steps more.
+fn with_steps(m: Option<Least>, r: i64, s: i64) -> Least {
     let first = size_of(r);
     let second = size_of(s);
-    if !m.found {
-        return Least {
-            found: true,
-            first: first,
-            second: second,
-        };
-    }
-    Least {
-        found: true,
-        first: lesser(m.first, first),
-        second: lesser(m.second, second),
+    match m {
+        None => Least { first, second },
+        Some(l) => Least {
+            first: first.min(l.first),
+            second: second.min(l.second),
+        },
     }
 }
 
@@ -80,46 +62,31 @@ fn step_at(k: u64) -> i64 {
 }
 
 // All second steps beside one first step.
-fn with_row(start: Least, x: ModelItem, y: ModelItem, r: i64) -> Least {
+fn with_row(start: Option<Least>, x: ModelItem, y: ModelItem, r: i64) -> Option<Least> {
     let mut m = start;
-    let mut k: u64 = 0;
-    while k < 81 {
+    for k in 0..81 {
         let s = step_at(k);
         if is_pair(x, y, r, s) {
-            m = with_steps(m, r, s);
+            m = Some(with_steps(m, r, s));
         }
-        k += 1;
     }
     m
 }
 
-fn least_of(x: ModelItem, y: ModelItem) -> Least {
-    let mut m = Least {
-        found: false,
-        first: 0,
-        second: 0,
-    };
-    let mut k: u64 = 0;
-    while k < 81 {
+// None where no steps are a pair.
+fn least_of(x: ModelItem, y: ModelItem) -> Option<Least> {
+    let mut m = None;
+    for k in 0..81 {
         m = with_row(m, x, y, step_at(k));
-        k += 1;
     }
     m
 }
 
 // ---- the reply against them
 
-fn is_integer(m: Mark) -> bool {
-    match m {
-        Mark::Integer => true,
-        Mark::Continuous => false,
-    }
-}
-
 // Integer, with weight and price of one sign.
 fn may_pair(x: ModelItem) -> bool {
-    let m = x.mark;
-    is_integer(m) && times(x.high, x.price) > 0
+    matches!(x.mark, Mark::Integer) && times(x.high, x.price) > 0
 }
 
 fn is_item(i: usize, n: usize) -> bool {
@@ -127,40 +94,40 @@ fn is_item(i: usize, n: usize) -> bool {
 }
 
 fn item_numbered(p: Model, i: usize) -> ModelItem {
-    if i == 0 {
-        return no_item();
-    }
-    if i > 16 {
+    if i == 0 || i > 16 {
         return no_item();
     }
     p.items[i - 1]
 }
 
-fn is_least(q: Pair, x: ModelItem, y: ModelItem) -> bool {
-    let m = least_of(x, y);
-    match q {
-        Pair::Missing => !m.found,
-        Pair::Steps(r, s) => {
-            m.found && size_of(r) == m.first && size_of(s) == m.second && is_pair(x, y, r, s)
+fn is_least(q: Option<(i64, i64)>, x: ModelItem, y: ModelItem) -> bool {
+    match (q, least_of(x, y)) {
+        (None, None) => true,
+        (Some((r, s)), Some(m)) => {
+            size_of(r) == m.first && size_of(s) == m.second && is_pair(x, y, r, s)
         }
+        _ => false,
     }
 }
 
-// 9, 10, or 0 where nothing is refused.
-fn refusal_of(x: ModelItem, y: ModelItem, n: usize, i: usize, j: usize) -> u64 {
+// 9 or 10; none where nothing is refused.
+fn refusal_of(x: ModelItem, y: ModelItem, n: usize, i: usize, j: usize) -> Option<u64> {
     if !is_item(i, n) || !is_item(j, n) || i == j {
-        return 9;
+        Some(9)
+    } else if may_pair(x) && may_pair(y) {
+        None
+    } else {
+        Some(10)
     }
-    if may_pair(x) && may_pair(y) { 0 } else { 10 }
 }
 
-fn agrees(r: PairReply, p: Model, n: usize, i: usize, j: usize) -> bool {
+fn agrees(r: Result<Option<(i64, i64)>, Refusal>, p: Model, n: usize, i: usize, j: usize) -> bool {
     let x = item_numbered(p, i);
     let y = item_numbered(p, j);
-    let number = refusal_of(x, y, n, i, j);
-    match r {
-        PairReply::Refused(f) => number > 0 && f.number == number && f.line == 0,
-        PairReply::Found(q) => number == 0 && is_least(q, x, y),
+    match (r, refusal_of(x, y, n, i, j)) {
+        (Err(f), Some(number)) => f.number == number && f.line == 0,
+        (Ok(q), None) => is_least(q, x, y),
+        _ => false,
     }
 }
 
@@ -175,22 +142,16 @@ struct Tally {
     wrong: u64,
 }
 
-fn kind_of(r: PairReply) -> u64 {
-    match r {
-        PairReply::Refused(f) => f.number,
-        PairReply::Found(q) => match q {
-            Pair::Missing => 1,
-            Pair::Steps(_, _) => 2,
-        },
-    }
+fn is_refused(r: Result<Option<(i64, i64)>, Refusal>, number: u64) -> bool {
+    matches!(r, Err(f) if f.number == number)
 }
 
-fn tallied(t: Tally, kind: u64, right: bool) -> Tally {
+fn tallied(t: Tally, r: Result<Option<(i64, i64)>, Refusal>, right: bool) -> Tally {
     Tally {
-        nine: one_more(t.nine, kind == 9),
-        ten: one_more(t.ten, kind == 10),
-        missing: one_more(t.missing, kind == 1),
-        steps: one_more(t.steps, kind == 2),
+        nine: one_more(t.nine, is_refused(r, 9)),
+        ten: one_more(t.ten, is_refused(r, 10)),
+        missing: one_more(t.missing, matches!(r, Ok(None))),
+        steps: one_more(t.steps, matches!(r, Ok(Some((_, _))))),
         wrong: one_more(t.wrong, !right),
     }
 }
@@ -223,12 +184,11 @@ fn tried(t: Tally, p: Model, n: usize, i: usize, j: usize) -> Tally
     requires { n ≤ 15 }
 {
     let r = least_pair(p, Sense::Sure, i, j);
-    let kind = kind_of(r);
-    let right = agrees(r, p, n, i, j) && (kind == 9 || senses_agree(p, n, i, j));
+    let right = agrees(r, p, n, i, j) && (is_refused(r, 9) || senses_agree(p, n, i, j));
     if !right {
         print_wrong(p, i, j);
     }
-    tallied(t, kind, right)
+    tallied(t, r, right)
 }
 
 // Item numbers 0 to n + 1, as the second and as the first.
@@ -236,10 +196,8 @@ fn with_seconds(start: Tally, p: Model, n: usize, i: usize) -> Tally
     requires { n ≤ 15 }
 {
     let mut t = start;
-    let mut j: usize = 0;
-    while j < n + 2 {
+    for j in 0..n + 2 {
         t = tried(t, p, n, i, j);
-        j += 1;
     }
     t
 }
@@ -248,10 +206,8 @@ fn with_problem(start: Tally, p: Model, n: usize) -> Tally
     requires { n ≤ 15 }
 {
     let mut t = start;
-    let mut i: usize = 0;
-    while i < n + 2 {
+    for i in 0..n + 2 {
         t = with_seconds(t, p, n, i);
-        i += 1;
     }
     t
 }
@@ -282,13 +238,10 @@ fn tally_of(seed: u64, problems: u64, n: usize) -> Tally
         wrong: 0,
     };
     let mut state = seed;
-    let mut k: u64 = 0;
-    while k < problems {
+    for _ in 0..problems {
         let d = drawn_problem(state, n, spans());
-        let p = d.problem;
-        t = with_problem(t, p, n);
+        t = with_problem(t, d.problem, n);
         state = d.state;
-        k += 1;
     }
     t
 }

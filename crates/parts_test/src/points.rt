@@ -3,8 +3,8 @@
 ghost use Rattle.std.specs.Prelude.{◌≤◌};
 
 use arith::Fraction;
-use feasibility::{Candidate, PointReply, check_point};
-use knapsack::{Bound, Mark};
+use feasibility::{Candidate, Finding, check_point};
+use knapsack::{Mark, Refusal};
 use model::{Model, ModelItem, Sense, beyond};
 use trials::count::{one_more, print_count};
 use trials::draw::{Spans, below, drawn_problem, figure, next};
@@ -80,26 +80,17 @@ fn no_amounts() -> [Fraction; 16] {
 }
 
 fn drawn_point(state: u64, m: Model, n: usize) -> DrawnPoint {
-    let items = m.items;
     let mut amounts = no_amounts();
     let filler = below(state, n as u64) as usize;
     let mut now = next(state);
     let count = drawn_count(now, n);
-    let mut k: usize = 0;
-    while k < 16 {
+    for k in 0..16 {
         now = next(now);
-        let i = items[k];
-        let x = drawn_amount(now, i, k == filler);
-        amounts[k] = x;
+        amounts[k] = drawn_amount(now, m.items[k], k == filler);
         now = next(now);
-        k += 1;
     }
-    let c = Candidate {
-        amounts: amounts,
-        count: count,
-    };
     DrawnPoint {
-        point: c,
+        point: Candidate { amounts, count },
         state: now,
     }
 }
@@ -115,41 +106,30 @@ struct Shape {
 }
 
 fn divides(d: u64, n: u64) -> bool {
-    if d == 0 {
-        return false;
-    }
-    n % d == 0
+    d != 0 && n % d == 0
 }
 
 // Whether a number from 2 to q divides both.
 fn shares(n: u64, q: u64) -> bool {
-    let mut found = false;
-    let mut d: u64 = 1;
-    while d < q {
-        d += 1;
+    for d in 2..=q {
         if divides(d, n) && divides(d, q) {
-            found = true;
+            return true;
         }
     }
-    found
+    false
 }
 
 // A continuous item's amounts are over its weight without sign, 1 where it is 0 (paper 02, request 12).
 fn own_divisor(i: ModelItem) -> u64 {
-    let m = i.mark;
-    let size = size_of(i.high);
-    if is_integer(m) || size == 0 { 1 } else { size }
+    match i.mark {
+        Mark::Integer => 1,
+        Mark::Continuous => size_of(i.high).max(1),
+    }
 }
 
 fn is_bad(i: ModelItem, x: Fraction) -> bool {
     let q = x.q;
-    if q != own_divisor(i) {
-        return true;
-    }
-    if q > 1000 {
-        return true;
-    }
-    size_of(x.p) > 1000000000 * q
+    q != own_divisor(i) || q > 1000 || size_of(x.p) > 1000000000 * q
 }
 
 fn is_whole(x: Fraction) -> bool {
@@ -168,29 +148,23 @@ fn with_amount(h: Shape, i: ModelItem, x: Fraction) -> Shape {
 fn shape_of(m: Model, c: Candidate, n: usize) -> Shape
     requires { n ≤ 15 }
 {
-    let items = m.items;
-    let amounts = c.amounts;
     let mut h = Shape {
         bad: false,
         fractions: 0,
         divisor: 1,
     };
-    let mut k: usize = 0;
-    while k < n {
-        let i = items[k];
-        let x = amounts[k];
-        h = with_amount(h, i, x);
-        k += 1;
+    for k in 0..n {
+        h = with_amount(h, m.items[k], c.amounts[k]);
     }
     h
 }
 
 // ---- the sums over one divisor
 
-// The first item that breaks a rule, from 1, or 0; weight and value times the divisor.
+// The first place whose item breaks a rule; weight and value times the divisor.
 #[derive(Clone, Copy)]
 struct Sums {
-    broken: usize,
+    broken: Option<usize>,
     weight: i64,
     value: i64,
 }
@@ -216,56 +190,29 @@ fn total(a: i64, b: i64) -> i64 {
     a + b
 }
 
-fn is_integer(m: Mark) -> bool {
-    match m {
-        Mark::Integer => true,
-        Mark::Continuous => false,
-    }
-}
-
 // Whether p / q is below a bound.
-fn is_below(x: Fraction, b: Bound) -> bool {
+fn is_below(x: Fraction, b: Option<i64>) -> bool {
     match b {
-        Bound::Absent => false,
-        Bound::At(v) => x.p < product(v, as_signed(x.q)),
+        None => false,
+        Some(v) => x.p < product(v, as_signed(x.q)),
     }
 }
 
-fn is_above(x: Fraction, b: Bound) -> bool {
+fn is_above(x: Fraction, b: Option<i64>) -> bool {
     match b {
-        Bound::Absent => false,
-        Bound::At(v) => product(v, as_signed(x.q)) < x.p,
+        None => false,
+        Some(v) => product(v, as_signed(x.q)) < x.p,
     }
 }
 
 fn breaks(i: ModelItem, x: Fraction) -> bool {
-    let l = i.lower;
-    let u = i.upper;
-    is_below(x, l) || is_above(x, u)
-}
-
-fn first_of(found: usize, k: usize, broken: bool) -> usize {
-    if found > 0 {
-        return found;
-    }
-    if k > 15 {
-        return 0;
-    }
-    if broken { k + 1 } else { 0 }
-}
-
-// The multiples of q from 0 to n.
-fn quotient(n: u64, q: u64) -> u64 {
-    if q == 0 {
-        return 0;
-    }
-    n / q
+    is_below(x, i.lower) || is_above(x, i.upper)
 }
 
 // p / q over the divisor: a whole number times it, or the one that is none.
 fn numerator(x: Fraction, divisor: u64) -> i64 {
     if is_whole(x) {
-        let n = as_signed(quotient(size_of(x.p), x.q));
+        let n = as_signed(size_of(x.p).checked_div(x.q).unwrap_or(0));
         let whole = if x.p < 0 { times(n, -1) } else { n };
         product(as_signed(divisor), whole)
     } else {
@@ -275,8 +222,13 @@ fn numerator(x: Fraction, divisor: u64) -> i64 {
 
 fn with_item(s: Sums, k: usize, i: ModelItem, x: Fraction, divisor: u64) -> Sums {
     let n = numerator(x, divisor);
+    let broken = if s.broken.is_none() && breaks(i, x) {
+        Some(k)
+    } else {
+        s.broken
+    };
     Sums {
-        broken: first_of(s.broken, k, breaks(i, x)),
+        broken,
         weight: total(s.weight, product(i.high, n)),
         value: total(s.value, product(i.price, n)),
     }
@@ -285,45 +237,36 @@ fn with_item(s: Sums, k: usize, i: ModelItem, x: Fraction, divisor: u64) -> Sums
 fn sums_of(p: Model, c: Candidate, n: usize, divisor: u64) -> Sums
     requires { n ≤ 15 }
 {
-    let items = p.items;
-    let amounts = c.amounts;
     let mut s = Sums {
-        broken: 0,
+        broken: None,
         weight: 0,
         value: 0,
     };
-    let mut k: usize = 0;
-    while k < n {
-        let i = items[k];
-        let x = amounts[k];
-        s = with_item(s, k, i, x, divisor);
-        k += 1;
+    for k in 0..n {
+        s = with_item(s, k, p.items[k], c.amounts[k], divisor);
     }
     s
 }
 
 // ---- the reply against them
 
-// 7, 8, or 0 where nothing is refused.
-fn refusal_of(c: Candidate, h: Shape, n: usize) -> u64 {
+// 7 or 8; none where nothing is refused.
+fn refusal_of(c: Candidate, h: Shape, n: usize) -> Option<u64> {
     if c.count != n {
-        return 7;
+        Some(7)
+    } else if h.bad || h.fractions > 1 {
+        Some(8)
+    } else {
+        None
     }
-    if h.bad || h.fractions > 1 {
-        return 8;
-    }
-    0
 }
 
 // v is value / divisor in lowest terms.
 fn is_value(v: Fraction, value: i64, divisor: u64) -> bool {
-    if v.q == 0 || v.q > 1000 {
-        return false;
-    }
-    if shares(size_of(v.p), v.q) {
-        return false;
-    }
-    product(as_signed(divisor), v.p) == product(as_signed(v.q), value)
+    0 < v.q
+        && v.q <= 1000
+        && !shares(size_of(v.p), v.q)
+        && product(as_signed(divisor), v.p) == product(as_signed(v.q), value)
 }
 
 fn is_over(p: Model, s: Sums, divisor: u64) -> bool {
@@ -331,39 +274,28 @@ fn is_over(p: Model, s: Sums, divisor: u64) -> bool {
 }
 
 // The reply to a point that is not refused.
-fn is_told(r: PointReply, p: Model, s: Sums, divisor: u64) -> bool {
+fn is_told(r: Result<Finding, Refusal>, p: Model, s: Sums, divisor: u64) -> bool {
     let over = is_over(p, s, divisor);
     match r {
-        PointReply::Refused(_) => false,
-        PointReply::Feasible(v) => s.broken == 0 && !over && is_value(v, s.value, divisor),
-        PointReply::Violates(k) => {
-            if k == 0 {
-                s.broken == 0 && over
-            } else {
-                s.broken == k
-            }
-        }
+        Err(_) => false,
+        Ok(Finding::Feasible(v)) => s.broken.is_none() && !over && is_value(v, s.value, divisor),
+        Ok(Finding::Violates(0)) => s.broken.is_none() && over,
+        Ok(Finding::Violates(i)) => matches!(s.broken, Some(k) if k < 16 && i == k + 1),
     }
 }
 
-fn is_refused(r: PointReply, number: u64) -> bool {
-    match r {
-        PointReply::Refused(f) => f.number == number && f.line == 0,
-        PointReply::Feasible(_) => false,
-        PointReply::Violates(_) => false,
-    }
+fn is_refused(r: Result<Finding, Refusal>, number: u64) -> bool {
+    r == Err(Refusal { number, line: 0 })
 }
 
-fn agrees(r: PointReply, p: Model, c: Candidate, n: usize) -> bool
+fn agrees(r: Result<Finding, Refusal>, p: Model, c: Candidate, n: usize) -> bool
     requires { n ≤ 15 }
 {
     let h = shape_of(p, c, n);
-    let number = refusal_of(c, h, n);
-    if number > 0 {
-        return is_refused(r, number);
+    match refusal_of(c, h, n) {
+        Some(number) => is_refused(r, number),
+        None => is_told(r, p, sums_of(p, c, n, h.divisor), h.divisor),
     }
-    let s = sums_of(p, c, n, h.divisor);
-    is_told(r, p, s, h.divisor)
 }
 
 // ---- counts
@@ -379,23 +311,14 @@ struct Tally {
     wrong: u64,
 }
 
-// 7 and 8 for the refusals, 1 and 2 for yes with an integer or a fraction, 3 and 4 for no by an item or the weight.
-fn kind_of(r: PointReply) -> u64 {
-    match r {
-        PointReply::Refused(f) => f.number,
-        PointReply::Feasible(v) => { if v.q == 1 { 1 } else { 2 } }
-        PointReply::Violates(k) => { if k > 0 { 3 } else { 4 } }
-    }
-}
-
-fn tallied(t: Tally, kind: u64, right: bool) -> Tally {
+fn tallied(t: Tally, r: Result<Finding, Refusal>, right: bool) -> Tally {
     Tally {
-        seven: one_more(t.seven, kind == 7),
-        eight: one_more(t.eight, kind == 8),
-        yes: one_more(t.yes, kind == 1 || kind == 2),
-        split: one_more(t.split, kind == 2),
-        item: one_more(t.item, kind == 3),
-        weight: one_more(t.weight, kind == 4),
+        seven: one_more(t.seven, matches!(r, Err(f) if f.number == 7)),
+        eight: one_more(t.eight, matches!(r, Err(f) if f.number == 8)),
+        yes: one_more(t.yes, matches!(r, Ok(Finding::Feasible(_)))),
+        split: one_more(t.split, matches!(r, Ok(Finding::Feasible(v)) if v.q != 1)),
+        item: one_more(t.item, matches!(r, Ok(Finding::Violates(k)) if k > 0)),
+        weight: one_more(t.weight, matches!(r, Ok(Finding::Violates(0)))),
         wrong: one_more(t.wrong, !right),
     }
 }
@@ -413,12 +336,8 @@ fn print_wrong(p: Model, c: Candidate, n: usize)
     print(b"disagreement: ");
     print_problem(p);
     print_count(b"; amounts ", c.count as u64);
-    let amounts = c.amounts;
-    let mut k: usize = 0;
-    while k < n {
-        let x = amounts[k];
-        print_amount(x);
-        k += 1;
+    for x in &c.amounts[..n] {
+        print_amount(*x);
     }
     print(b"\n");
 }
@@ -447,7 +366,7 @@ fn tried(t: Tally, p: Model, c: Candidate, n: usize) -> Tally
     if !right {
         print_wrong(p, c, n);
     }
-    tallied(t, kind_of(r), right)
+    tallied(t, r, right)
 }
 
 // Small figures; of four bounds two are absent, of four items three continuous, and of eight pairs of bounds one crosses.
@@ -478,15 +397,11 @@ fn tally_of(seed: u64, points: u64, n: usize) -> Tally
         wrong: 0,
     };
     let mut state = seed;
-    let mut k: u64 = 0;
-    while k < points {
+    for _ in 0..points {
         let d = drawn_problem(state, n, spans());
-        let p = d.problem;
-        let e = drawn_point(d.state, p, n);
-        let c = e.point;
-        t = tried(t, p, c, n);
+        let e = drawn_point(d.state, d.problem, n);
+        t = tried(t, d.problem, e.point, n);
         state = e.state;
-        k += 1;
     }
     t
 }

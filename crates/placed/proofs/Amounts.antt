@@ -6,7 +6,7 @@
 use mathlib.Core.Path.{◌≡◌, refl, sym, ap, ◌∙◌}
 use mathlib.Core.Bool.{Bool, true, false}
 use mathlib.Core.List.{List}
-use mathlib.Core.Logic.{◌≢◌, ◌⊎◌, inl, inr}
+use mathlib.Core.Logic.{◌⊎◌, inl, inr}
 use Prim.Native.Nat.{ℕ, ◌*◌, ◌≤◌, ◌<◌, max}
 use native.Mathlib.Omega.{arith}
 use native.Mathlib.Nat.{mul-le-mul_right, le_of_mul-le-mul_right}
@@ -26,7 +26,7 @@ use Rattle.greedy.specs.declared.Columns.{Columns}
 use Rattle.greedy.specs.declared.Ends.{Ends}
 use Rattle.greedy.specs.declared.Fill.{Fill}
 use Rattle.greedy.specs.Amounts.{whole_in, divisor_in, amount_of}
-use Rattle.greedy.specs.Fill.{weight_of, item_of, rank_of, taken, numerator, stand}
+use Rattle.greedy.specs.Fill.{weight_of, item_of, rank_of, taken, stand}
 use Rattle.greedy.proofs.Owning.{CriticalAt, none-or-critical, divisor-some}
 use Rattle.knapsack.specs.Meaning.{Instance, weights, own_divisor, WholeAmount, nought, Shown}
 use Rattle.knapsack.specs.declared.Mark.{Mark}

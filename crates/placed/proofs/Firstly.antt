@@ -2,14 +2,14 @@
 -- lower-first, -step, -found: item by item, whether every item has a lower bound.
 -- prepared-closes: the box of a prepared setting, at columns in the order of Tied, is the problem with its absent bounds closed.
 -- first-optimal, first-foremost: with the first point of that box an optimal answer shows the first best point.
-use mathlib.Core.Path.{◌≡◌, refl, sym, ap, ◌∙◌, subst}
-use mathlib.Core.Bool.{Bool, true, false}
+use mathlib.Core.Path.{◌≡◌, refl, sym, ap, ◌∙◌}
+use mathlib.Core.Bool.{true, false}
 use mathlib.Core.Logic.{◌≢◌}
 use Prim.Native.Nat.{ℕ, ◌+◌, ◌*◌, ◌≤◌, ◌<◌}
 use native.Mathlib.Omega.{arith}
 use native.Mathlib.Decide.{ℕ_discrete}
 use lib.IntN.{ℤ, nat_abs}
-use Rattle.arith.specs.Fractions.{Frac, frac, ◌≤ᶠ◌, ◌≈ᶠ◌}
+use Rattle.arith.specs.Fractions.{Frac, frac, ◌≈ᶠ◌}
 use Rattle.arith.specs.Limits.{farthest}
 use Rattle.arith.proofs.Fractions.{≤ᶠ-trans, ≤ᶠ-antisym, ≈ᶠ-≤, ≈ᶠ-≥}
 use Rattle.arith.proofs.Parts.{impossible}
@@ -21,14 +21,11 @@ use Rattle.knapsack.specs.Items.{is_absent}
 use Rattle.knapsack.specs.Meaning.{Instance, instance_of, Optimal, value, amount_at, point_of, ShownOptimal, Foremost, AllLower}
 use Rattle.knapsack.specs.Ranges.{item_at}
 use Rattle.knapsack.specs.declared.Answer.{Answer}
-use Rattle.knapsack.specs.declared.Bound.{Bound}
-use Rattle.knapsack.specs.declared.Bound.TheVariants.{Absent, At}
-use Rattle.knapsack.specs.declared.Kind.TheVariants as kind
+use Rattle.std.specs.Prelude.{Option, None, Some}
 use Rattle.knapsack.specs.declared.Mark.{Mark}
 use Rattle.knapsack.specs.declared.Mark.TheVariants.{Integer, Continuous}
 use Rattle.knapsack.specs.declared.Problem.{Problem}
 use Rattle.knapsack.proofs.Bridge.{Reads}
-use Rattle.prepare.specs.Narrowing.{span_of}
 use Rattle.prepare.specs.Prepared.{PreparedAt}
 use Rattle.prepare.proofs.Box.{box-is-shut}
 use Rattle.prepare.proofs.Nearer.{ranges, reaches}
@@ -38,31 +35,31 @@ use Rattle.foremost.proofs.Filling.{parts, filling}
 use Rattle.foremost.proofs.First.{Closes, FirstAt, tied-closes, first-point, first-is-foremost}
 use Rattle.firsts.specs.Leading.{Tying, ends_at, FirstBest}
 use Rattle.firsts.specs.declared.Lead.{Lead}
-use Rattle.firsts.proofs.Places.{place-choice, place-parts, place-feasible}
+use Rattle.firsts.proofs.Places.{place-choice, place-feasible}
 use Rattle.firsts.proofs.Shown.{shown-over}
-use Rattle.placed.specs.Placed.{HasLower, Showable, FirstShown}
+use Rattle.placed.specs.Placed.{Showable}
 use Rattle.placed.proofs.Amounts.{ColumnsOf, near-zero, setting-marks, filling-shown}
 
 -- ---- lower bounds
 
 -- the items before k have a lower bound
 abbrev pub LowerTo : Problem → ℕ → Type 0
-LowerTo p k = (j : ℕ) → j < k → (item_at p j).lower ≢ Absent
+LowerTo p k = (j : ℕ) → j < k → (item_at p j).lower ≢ None
 
 pub lower-first : (p : Problem) → LowerTo p 0
 lower-first p j l = absurd (omega arith)
 
-is-there : (b : Bound) → is_absent b ≡ false → b ≢ Absent
+is-there : (b : Option ℤ) → is_absent b ≡ false → b ≢ None
 is-there b h e = impossible (sym h ∙ ap is_absent e)
 
-is_none : (b : Bound) → is_absent b ≡ true → b ≡ Absent
-is_none Absent h = refl
-is_none (At v) h = absurd (impossible h)
+is_none : (b : Option ℤ) → is_absent b ≡ true → b ≡ None
+is_none None h = refl
+is_none (Some v) h = absurd (impossible h)
 
 pub lower-step : (p : Problem) (k : ℕ) → LowerTo p k → is_absent (item_at p k).lower ≡ false → LowerTo p (k + 1)
 lower-step p k h e j l = go (ℕ_discrete j k)
   where
-    go : Dec (j ≡ k) → (item_at p j).lower ≢ Absent
+    go : Dec (j ≡ k) → (item_at p j).lower ≢ None
     go (yes q) = rw q (is-there (item_at p k).lower e)
     go (no q) = h j (omega arith)
 

@@ -20,15 +20,10 @@ pub fn all_lower(p: Problem) -> bool
     requires { p.count ≤ 16 }
     ensures { HasLower p result }
 {
-    let n = p.count;
-    let mut k: usize = 0;
-    while k < n {
-        let i = p.items[k];
-        let l = i.lower;
-        if is_absent(l) {
+    for k in 0..p.count {
+        if is_absent(p.items[k].lower) {
             return false;
         }
-        k += 1;
     }
     true
 }
@@ -54,24 +49,13 @@ pub struct Placed {
 fn with_point(a: Answer, point: [Fraction; 16]) -> Answer
     ensures { result ≡ record { kind = a.kind; point = point; steps = a.steps; value = a.value } }
 {
-    let kind = a.kind;
-    let steps = a.steps;
-    let value = a.value;
-    Answer {
-        kind: kind,
-        point: point,
-        steps: steps,
-        value: value,
-    }
+    Answer { point, ..a }
 }
 
 fn placed_at(a: Answer, cells: u64) -> Placed
     ensures { result ≡ record { answer = a; cells = cells } }
 {
-    Placed {
-        answer: a,
-        cells: cells,
-    }
+    Placed { answer: a, cells }
 }
 
 // The optimal answer a with the point that comes first; x is an optimal place of the box, and if first, known to come first where no continuous item can
@@ -83,9 +67,7 @@ pub fn shown_first(p: Problem, s: Setting, x: [i64; 16], first: bool, a: Answer)
 {
     if all_lower(p) {
         let l = first_lead(s, x, first);
-        let point = l.point;
-        let b = with_point(a, point);
-        return placed_at(b, l.written);
+        return placed_at(with_point(a, l.point), l.written);
     }
     placed_at(a, 0)
 }

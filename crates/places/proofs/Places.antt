@@ -7,7 +7,7 @@
 use mathlib.Core.Path.{◌≡◌, refl, sym, ◌∙◌, subst, subst₂}
 use mathlib.Core.Bool.{Bool, true, false, cond, not}
 use mathlib.Core.Logic.{◌≢◌, ◌⊎◌, inl, inr, ⊎_elim}
-use mathlib.Core.Option.{Option, none, some}
+use Rattle.std.specs.Prelude.{Option, None, Some}
 use Prim.Native.Nat.{ℕ, zero, suc, ◌+◌, ◌*◌, ◌≤◌, ◌<◌}
 use native.Mathlib.Omega.{arith}
 use native.Mathlib.Nat.{mul-le-mul_right}
@@ -46,15 +46,15 @@ test {A} a b Q x y f g = go (lt_z a b) (λ t. f (lt_z_yes t)) (λ t. g (lt_z_no 
 
 -- what an amount y after x is to the next one
 abbrev pub Reach : (s y : ℤ) → Option ℤ → Type 0
-Reach s y none = ⊥
-Reach s y (some v) = (v ≡ y) ⊎ Later s v y
+Reach s y None = ⊥
+Reach s y (Some v) = (v ≡ y) ⊎ Later s v y
 
 -- the next one is in the box and after x
 abbrev pub Good : (lo hi s x : ℤ) → Option ℤ → Type 0
-Good lo hi s x none = Unit {0}
-Good lo hi s x (some v) = In lo hi v × Later s x v
+Good lo hi s x None = Unit {0}
+Good lo hi s x (Some v) = In lo hi v × Later s x v
 
-down-or : (s y x : ℤ) → x ≤ℤ s → y <ℤ x → Reach s y (some (x -ℤ pos 1))
+down-or : (s y x : ℤ) → x ≤ℤ s → y <ℤ x → Reach s y (Some (x -ℤ pos 1))
 down-or s y x h k = go (≤ℤ-or-< (x -ℤ pos 1) y)
   where
     same : (y x : ℤ) → y <ℤ x → (x -ℤ pos 1) ≤ℤ y → x -ℤ pos 1 ≡ y
@@ -63,7 +63,7 @@ down-or s y x h k = go (≤ℤ-or-< (x -ℤ pos 1) y)
     under : (s x : ℤ) → x ≤ℤ s → (x -ℤ pos 1) <ℤ s
     under = split2 _ (λ a b c e. simp zed (omega arith))
 
-    go : ((x -ℤ pos 1) ≤ℤ y) ⊎ (y <ℤ (x -ℤ pos 1)) → Reach s y (some (x -ℤ pos 1))
+    go : ((x -ℤ pos 1) ≤ℤ y) ⊎ (y <ℤ (x -ℤ pos 1)) → Reach s y (Some (x -ℤ pos 1))
     go (inl l) = inl (same y x k l)
     go (inr l) = inr (inr (under s x h, l))
 
@@ -94,7 +94,7 @@ next-reach lo hi s x y (yl, yh) (inl (h, inl k)) = test x s (Reach s y) _ _ (λ 
     clash : (x y hi : ℤ) → x <ℤ y → y ≤ℤ hi → hi ≤ℤ x → ⊥
     clash = split3 _ (λ a b c e f g. simp zed (omega arith))
 
-    up : (y ≤ℤ (x +ℤ pos 1)) ⊎ ((x +ℤ pos 1) <ℤ y) → Reach s y (some (x +ℤ pos 1))
+    up : (y ≤ℤ (x +ℤ pos 1)) ⊎ ((x +ℤ pos 1) <ℤ y) → Reach s y (Some (x +ℤ pos 1))
     up (inl l) = inl (same y x k l)
     up (inr l) = inr (inl (over s x h, inl l))
 next-reach lo hi s x y (yl, yh) (inl (h, inr k)) = test x s (Reach s y) _ _ (λ l. absurd (less-no x s l h))
@@ -360,8 +360,8 @@ module _ (t : Order) where
 
 -- y is kept by a move; no move: there is no such y
 abbrev pub Kept : Order → Place → Place → Option (ℕ × ℤ) → Type 0
-Kept t P y none = ⊥
-Kept t P y (some r) = (P' : Place) → Moved t P r.0 r.1 P' → AtOrAfter t P' y
+Kept t P y None = ⊥
+Kept t P y (Some r) = (P' : Place) → Moved t P r.0 r.1 P' → AtOrAfter t P' y
 
 module _ {t : Order} (law : Laws t) (P y : Place) (box : Box t t.m y) where
   -- y leaves P above the level that moved
@@ -389,12 +389,12 @@ module _ {t : Order} (law : Laws t) (P y : Place) (box : Box t t.m y) where
 
   -- at level j the amount y j is reached by o, or y leaves P above
   or-else-here : (o : Option ℤ) (j : ℕ) (r : Option (ℕ × ℤ)) → j < t.m → Agree j P y → Reach (t.start P j) (y j) o → Kept t P y (or_else o j r)
-  or-else-here none j r l a e = absurd e
-  or-else-here (some v) j r l a e = kept_here j v l a e
+  or-else-here None j r l a e = absurd e
+  or-else-here (Some v) j r l a e = kept_here j v l a e
 
   or-else-above : (o : Option ℤ) (j : ℕ) (r : Option (ℕ × ℤ)) → j < t.m → Parted t j P y → Kept t P y r → Kept t P y (or_else o j r)
-  or-else-above none j r l a k = k
-  or-else-above (some v) j r l a k = kept_above j v (omega arith) a
+  or-else-above None j r l a k = k
+  or-else-above (Some v) j r l a k = kept_above j v (omega arith) a
 
   pub carry-keeps : (n : ℕ) → n ≤ t.m → Parted t n P y → Kept t P y (past_prefix t n P)
   unfolding carry
@@ -451,8 +451,8 @@ abbrev pub μ : Order → Place → ℕ
 
 -- a move goes to a later amount in the box, at a level below n
 abbrev pub Sound : Order → ℕ → Place → Option (ℕ × ℤ) → Type 0
-Sound t n P none = Unit {0}
-Sound t n P (some r) = (r.0 < n) × In (t.lo r.0) (t.hi r.0) r.1 × Later (t.start P r.0) (P r.0) r.1
+Sound t n P None = Unit {0}
+Sound t n P (Some r) = (r.0 < n) × In (t.lo r.0) (t.hi r.0) r.1 × Later (t.start P r.0) (P r.0) r.1
 
 module _ {t : Order} (law : Laws t) (P : Place) (box : Box t t.m P) where
   start-in : (d : ℕ) → d < t.m → In (t.lo d) (t.hi d) (t.start P d)
@@ -460,9 +460,9 @@ module _ {t : Order} (law : Laws t) (P : Place) (box : Box t t.m P) where
 
   or-else-sound : (o : Option ℤ) (j : ℕ) (r : Option (ℕ × ℤ)) → Good (t.lo j) (t.hi j) (t.start P j) (P j) o → Sound t j P r
       → Sound t (suc j) P (or_else o j r)
-  or-else-sound none j none g h = tt
-  or-else-sound none j (some r) g h = (omega arith, h.1, h.2)
-  or-else-sound (some v) j r g h = (omega arith, g.0, g.1)
+  or-else-sound None j None g h = tt
+  or-else-sound None j (Some r) g h = (omega arith, h.1, h.2)
+  or-else-sound (Some v) j r g h = (omega arith, g.0, g.1)
 
   pub carry-sound : (n : ℕ) → n ≤ t.m → Sound t n P (past_prefix t n P)
   unfolding carry
@@ -521,13 +521,13 @@ module _ {t : Order} (law : Laws t) (P : Place) (box : Box t t.m P) where
     falls e = falling e t.m j-in (omega arith)
 
 -- what a step's move gives, whatever place has it: the place is in the box, and the measure falls
-pub move-falls : {t : Order} (law : Laws t) (P : Place) → Box t t.m P → (n : ℕ) → n ≤ t.m → (r : ℕ × ℤ) → Sound t n P (some r) → (P' : Place)
+pub move-falls : {t : Order} (law : Laws t) (P : Place) → Box t t.m P → (n : ℕ) → n ≤ t.m → (r : ℕ × ℤ) → Sound t n P (Some r) → (P' : Place)
     → Moved t P r.0 r.1 P' → Box t t.m P' × (μ t P' < μ t P)
 move-falls {t} law P box n l r h P' q =
     (moved-box law P box r.0 r.1 (omega arith) h.1 P' q t.m (omega arith), falls law P box r.0 r.1 (omega arith) h.1 P' q h.2)
 
 -- End theorem: a move goes forward. The new place, and all at or after it, come after the old one.
-pub after-moved : {t : Order} (law : Laws t) (P : Place) (n : ℕ) → n ≤ t.m → (r : ℕ × ℤ) → Sound t n P (some r) → (P' y : Place) → Moved t P r.0 r.1 P'
+pub after-moved : {t : Order} (law : Laws t) (P : Place) (n : ℕ) → n ≤ t.m → (r : ℕ × ℤ) → Sound t n P (Some r) → (P' y : Place) → Moved t P r.0 r.1 P'
     → AtOrAfter t P' y → Parted t t.m P y
 after-moved {t} law P n l (j, v) (jn, vi, e) P' y q w = go w
   where
@@ -668,16 +668,16 @@ All t S = (y : Place) → Box t t.m y → S y
 
 -- what a step leaves: the invariant at the new place, or, at the end, all settled
 abbrev pub Leaves : Order → (Place → Type 0) → Place → Option (ℕ × ℤ) → Type 0
-Leaves t S P none = All t S
-Leaves t S P (some r) = (P' : Place) → Moved t P r.0 r.1 P' → Covers t S P'
+Leaves t S P None = All t S
+Leaves t S P (Some r) = (P' : Place) → Moved t P r.0 r.1 P' → Covers t S P'
 
 module _ {t : Order} (law : Laws t) (S : Place → Type 0) where
   pub covers-first : (P : Place) → Each t.m (λ k. P k ≡ t.start P k) → Covers t S P
   covers-first P s y b = inr (first-place t P y s)
 
   leaves : (P : Place) (o : Option (ℕ × ℤ)) → ((y : Place) → Box t t.m y → S y ⊎ Kept t P y o) → Leaves t S P o
-  leaves P none f = λ y b. ⊎_elim (λ s. s) (λ k. absurd k) (f y b)
-  leaves P (some r) f = λ P' q y b. ⊎_elim (λ s. inl s) (λ k. inr (k P' q)) (f y b)
+  leaves P None f = λ y b. ⊎_elim (λ s. s) (λ k. absurd k) (f y b)
+  leaves P (Some r) f = λ P' q y b. ⊎_elim (λ s. inl s) (λ k. inr (k P' q)) (f y b)
 
   -- a prefix of n levels is set aside (a domination pair)
   pub skip-prefix : (P : Place) (n : ℕ) → n ≤ t.m → ((y : Place) → Box t t.m y → Agree n P y → S y) → Covers t S P → Leaves t S P (past_prefix t n P)

@@ -1,20 +1,17 @@
 -- How the code's moves carry the search on.
--- carry-here, carry-on, carry-end, segment-here, segment-on: the walk up the levels, as the loop has it.
--- moved_at_lem, moved-done: an answer read back.
+-- carry-here, carry-on, carry-end: the walk up the levels, as the loop has it.
 --   Settles t w P S   all that the verdict w covers is settled
 --   Goes t S P r      a step's end, or that the invariant holds at the new place and the measure fell
-use mathlib.Core.Path.{◌≡◌, refl}
-use mathlib.Core.Option.{Option, none, some}
+use mathlib.Core.Path.{◌≡◌, refl, ap}
+use Rattle.std.specs.Prelude.{Option, None, Some}
 use Prim.Native.Nat.{ℕ, zero, suc, ◌-◌, ◌≤◌, ◌<◌}
 use native.Mathlib.Numerals.{sub-one}
 use native.Mathlib.Omega.{arith}
 use lib.IntN.{ℤ}
 use Rattle.arith.specs.Sum.{Each}
-use Rattle.places.specs.declared.Next.TheVariants.{Nothing, Amount}
-use Rattle.places.specs.declared.Moved.TheVariants.{Done, At}
 use Rattle.places.specs.declared.Settled.{Settled}
 use Rattle.places.specs.declared.Settled.TheVariants.{Run, Prefix}
-use Rattle.places.specs.Moves.{next_value, next_segment, or_else, carry, carry_segment, next_of, moved_of, SettledIn, past_of}
+use Rattle.places.specs.Moves.{next_value, or_else, carry, SettledIn, past_of}
 use Rattle.places.proofs.Places.{Place, Order, Laws, Box, Agree, Moved, Covers, All, Leaves, Sound, carry-cong, segment-cong, past_prefix, past_run, μ}
 use Rattle.places.proofs.Places.{skip-prefix, skip-run, carry-sound, run_sound, move-falls}
 use Rattle.places.proofs.Places.{Run as RunOf}
@@ -22,56 +19,22 @@ use Rattle.places.proofs.Places.{Run as RunOf}
 -- ---- how the walk up the levels goes, as the loop has it
 
 -- level j - 1 has a next amount v
-pub carry-here : (lo hi s x : ℕ → ℤ) (j : ℕ) (v : ℤ) → 0 < j → Amount v ≡ next_of (next_value (lo (j - 1)) (hi (j - 1)) (s (j - 1)) (x (j - 1)))
-    → At (j - 1) v ≡ moved_of (carry lo hi s x j)
+pub carry-here : (lo hi s x : ℕ → ℤ) (j : ℕ) (v : ℤ) → 0 < j → next_value (lo (j - 1)) (hi (j - 1)) (s (j - 1)) (x (j - 1)) ≡ Some v
+    → carry lo hi s x j ≡ Some (j - 1, v)
 unfolding carry
 carry-here lo hi s x zero v l e = absurd (omega arith)
-carry-here lo hi s x (suc i) v l e = rw (sub-one (suc i)) (go (next_value (lo i) (hi i) (s i) (x i)) (rw (sub-one (suc i)) at e))
-  where
-    go : (o : Option ℤ) → Amount v ≡ next_of o → At i v ≡ moved_of (or_else o i (carry lo hi s x i))
-    go none h = let z : ◌≡◌ {A = ℕ} 0 1 = cc in absurd (omega arith)
-    go (some u) h = cc
+carry-here lo hi s x (suc i) v l e = rw (sub-one (suc i)) (ap (λ o. or_else o i (carry lo hi s x i)) (rw (sub-one (suc i)) at e))
 
 -- level j - 1 has none
-pub carry-on : (lo hi s x : ℕ → ℤ) (j : ℕ) → 0 < j → Nothing ≡ next_of (next_value (lo (j - 1)) (hi (j - 1)) (s (j - 1)) (x (j - 1)))
+pub carry-on : (lo hi s x : ℕ → ℤ) (j : ℕ) → 0 < j → next_value (lo (j - 1)) (hi (j - 1)) (s (j - 1)) (x (j - 1)) ≡ None
     → carry lo hi s x j ≡ carry lo hi s x (j - 1)
 unfolding carry
 carry-on lo hi s x zero l e = absurd (omega arith)
-carry-on lo hi s x (suc i) l e = rw (sub-one (suc i)) (go (next_value (lo i) (hi i) (s i) (x i)) (rw (sub-one (suc i)) at e))
-  where
-    go : (o : Option ℤ) → Nothing ≡ next_of o → or_else o i (carry lo hi s x i) ≡ carry lo hi s x i
-    go none h = refl
-    go (some u) h = let z : ◌≡◌ {A = ℕ} 0 1 = cc in absurd (omega arith)
+carry-on lo hi s x (suc i) l e = rw (sub-one (suc i)) (ap (λ o. or_else o i (carry lo hi s x i)) (rw (sub-one (suc i)) at e))
 
-pub carry-end : (lo hi s x : ℕ → ℤ) → Done ≡ moved_of (carry lo hi s x 0)
+pub carry-end : (lo hi s x : ℕ → ℤ) → carry lo hi s x 0 ≡ None
 unfolding carry
 carry-end lo hi s x = refl
-
-pub segment-here : (lo hi s x : ℕ → ℤ) (d : ℕ) (v : ℤ) → Amount v ≡ next_of (next_segment (lo d) (s d) (x d)) → At d v ≡ moved_of (carry_segment lo hi s x d)
-unfolding carry_segment
-segment-here lo hi s x d v e = go (next_segment (lo d) (s d) (x d)) e
-  where
-    go : (o : Option ℤ) → Amount v ≡ next_of o → At d v ≡ moved_of (or_else o d (carry lo hi s x d))
-    go none h = let z : ◌≡◌ {A = ℕ} 0 1 = cc in absurd (omega arith)
-    go (some u) h = cc
-
-pub segment-on : (lo hi s x : ℕ → ℤ) (d : ℕ) → Nothing ≡ next_of (next_segment (lo d) (s d) (x d))
-    → moved_of (carry lo hi s x d) ≡ moved_of (carry_segment lo hi s x d)
-unfolding carry_segment
-segment-on lo hi s x d e = go (next_segment (lo d) (s d) (x d)) e
-  where
-    go : (o : Option ℤ) → Nothing ≡ next_of o → moved_of (carry lo hi s x d) ≡ moved_of (or_else o d (carry lo hi s x d))
-    go none h = refl
-    go (some u) h = let z : ◌≡◌ {A = ℕ} 0 1 = cc in absurd (omega arith)
-
--- an answer read back
-pub moved_at_lem : (o : Option (ℕ × ℤ)) (j : ℕ) (v : ℤ) → At j v ≡ moved_of o → o ≡ some (j, v)
-moved_at_lem none j v h = let z : ◌≡◌ {A = ℕ} 0 1 = cc in absurd (omega arith)
-moved_at_lem (some (i, u)) j v h = let e : i ≡ j = cc in let f : u ≡ v = cc in rw (e, f)
-
-pub moved-done : (o : Option (ℕ × ℤ)) → Done ≡ moved_of o → o ≡ none
-moved-done none h = refl
-moved-done (some r) h = let z : ◌≡◌ {A = ℕ} 0 1 = cc in absurd (omega arith)
 
 -- ---- the moves look at the levels of the verdict alone
 
@@ -87,13 +50,13 @@ Settles t (Prefix n) P S = (y : Place) → Box t t.m y → Agree n P y → S y
 
 -- where a step went from P: nowhere, or to P'
 abbrev pub Goes : Order → (Place → Type 0) → Place → Option (ℕ × ℤ) → Place → Type 0
-Goes t S P none P' = All t S
-Goes t S P (some q) P' = Moved t P q.0 q.1 P' → Covers t S P' × Box t t.m P' × (μ t P' < μ t P)
+Goes t S P None P' = All t S
+Goes t S P (Some q) P' = Moved t P q.0 q.1 P' → Covers t S P' × Box t t.m P' × (μ t P' < μ t P)
 
 module _ {t : Order} (law : Laws t) (S : Place → Type 0) (P : Place) (box : Box t t.m P) (P' : Place) where
   goes : (n : ℕ) → n ≤ t.m → (o : Option (ℕ × ℤ)) → Sound t n P o → Leaves t S P o → Goes t S P o P'
-  goes n l none sd lv = lv
-  goes n l (some q) sd lv = λ mv. let f = move-falls law P box n l q sd P' mv in (lv P' mv, f.0, f.1)
+  goes n l None sd lv = lv
+  goes n l (Some q) sd lv = λ mv. let f = move-falls law P box n l q sd P' mv in (lv P' mv, f.0, f.1)
 
   pub step-goes : (w : Settled) → SettledIn t.m w → Settles t w P S → Covers t S P → Goes t S P (past_of w t.lo t.hi (t.start P) P) P'
   step-goes (Run d) l s c = goes (suc d) l (past_run t d P) (run_sound law P box d l) (skip-run law S P d l s c)

@@ -3,19 +3,13 @@
 --   below_start lo s        the first amount of the run down
 --   next_value lo hi s x    the amount after x at a level
 --   next_segment lo s x     the first amount after the run of x (up from the start, or down from below it)
---   or_else o j r           the amount o at level j, or r where there is none
+--   or_else o j r           the amount o at level j, or r where there is None
 --   carry lo hi s x n      the deepest level below n that has a next amount, and that amount: past every place with x's first n amounts
 --   carry_segment … d       the same past what is left of the run at level d
---   next_of, moved_of        these as the enums of the code
 --   SettledIn m w          what a look has settled is within m levels
 --   past_of w …             past what a look has settled: a run, or a prefix
-use Rattle.std.specs.Prelude.{cond, List, ℕ, zero, suc, ◌≤◌, ◌<◌, ℤ, pos, ◌+ℤ◌, ◌-ℤ◌, get_or}
-use Rattle.std.proofs.Math.Option.{Option, none, some}
+use Rattle.std.specs.Prelude.{cond, Option, None, Some, List, ℕ, zero, suc, ◌≤◌, ◌<◌, ℤ, pos, ◌+ℤ◌, ◌-ℤ◌, get_or}
 use Rattle.std.specs.Int.Signed.{lt_z}
-use Rattle.places.specs.declared.Next.{Next}
-use Rattle.places.specs.declared.Next.TheVariants.{Nothing, Amount}
-use Rattle.places.specs.declared.Moved.{Moved}
-use Rattle.places.specs.declared.Moved.TheVariants.{Done, At}
 use Rattle.places.specs.declared.Settled.{Settled}
 use Rattle.places.specs.declared.Settled.TheVariants.{Run, Prefix}
 
@@ -24,38 +18,28 @@ at xs k = get_or xs k (pos 0)
 
 -- the first of the run down
 unfoldable pub below_start : (lo s : ℤ) → Option ℤ
-below_start lo s = cond (lt_z lo s) (some (s -ℤ pos 1)) none
+below_start lo s = cond (lt_z lo s) (Some (s -ℤ pos 1)) None
 
 -- the amount after x
 unfoldable pub next_value : (lo hi s x : ℤ) → Option ℤ
-next_value lo hi s x = cond (lt_z x s) (cond (lt_z lo x) (some (x -ℤ pos 1)) none) (cond (lt_z x hi) (some (x +ℤ pos 1)) (below_start lo s))
+next_value lo hi s x = cond (lt_z x s) (cond (lt_z lo x) (Some (x -ℤ pos 1)) None) (cond (lt_z x hi) (Some (x +ℤ pos 1)) (below_start lo s))
 
 -- the first amount after the run of x
 unfoldable pub next_segment : (lo s x : ℤ) → Option ℤ
-next_segment lo s x = cond (lt_z x s) none (below_start lo s)
+next_segment lo s x = cond (lt_z x s) None (below_start lo s)
 
 abbrev pub or_else : Option ℤ → ℕ → Option (ℕ × ℤ) → Option (ℕ × ℤ)
-or_else none j r = r
-or_else (some v) j r = some (j, v)
+or_else None j r = r
+or_else (Some v) j r = Some (j, v)
 
--- the deepest level below n that has a next amount, and that amount; none: the search ends
+-- the deepest level below n that has a next amount, and that amount; None: the search ends
 unfoldable pub carry : (lo hi s x : ℕ → ℤ) → ℕ → Option (ℕ × ℤ)
-carry lo hi s x zero = none
+carry lo hi s x zero = None
 carry lo hi s x (suc j) = or_else (next_value (lo j) (hi j) (s j) (x j)) j (carry lo hi s x j)
 
 -- the same after the segment of level d
 unfoldable pub carry_segment : (lo hi s x : ℕ → ℤ) → ℕ → Option (ℕ × ℤ)
 carry_segment lo hi s x d = or_else (next_segment (lo d) (s d) (x d)) d (carry lo hi s x d)
-
--- ---- the same as the enums of the code
-
-abbrev pub next_of : Option ℤ → Next
-next_of none = Nothing
-next_of (some v) = Amount v
-
-abbrev pub moved_of : Option (ℕ × ℤ) → Moved
-moved_of none = Done
-moved_of (some r) = At r.0 r.1
 
 -- what is settled is within m levels
 abbrev pub SettledIn : ℕ → Settled → Type 0

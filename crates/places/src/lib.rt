@@ -2,80 +2,74 @@
 #![tactic(auto)]
 
 ghost use Rattle.std.specs.Prelude.{◌≡◌, ◌≤◌, ◌<◌};
-ghost use Rattle.places.specs.Moves.{at, next_value, next_segment, next_of, carry, carry_segment, moved_of, SettledIn, past_of};
+ghost use Rattle.places.specs.Moves.{at, next_value, next_segment, carry, carry_segment, SettledIn, past_of};
 
-// The amount that is visited next at one level.
-#[derive(Clone, Copy)]
-pub enum Next {
-    Nothing,
-    Amount(i64),
-}
-
-// Where a move goes: the level that moves and its new amount.
-#[derive(Clone, Copy)]
-pub enum Moved {
-    Done,
-    At(usize, i64),
-}
-
-pub fn next_value(lo: i64, hi: i64, s: i64, x: i64) -> Next
-    ensures { result ≡ next_of (next_value lo hi s x) }
+// The amount after x at a level whose amounts lo .. hi are visited from s on: up to hi, then down from below s.
+pub fn next_value(lo: i64, hi: i64, s: i64, x: i64) -> Option<i64>
+    ensures { result ≡ next_value lo hi s x }
 {
     if x < s {
         if lo < x {
-            return Next::Amount(x - 1);
+            return Some(x - 1);
         }
-        return Next::Nothing;
+        return None;
     }
     if x < hi {
-        return Next::Amount(x + 1);
+        return Some(x + 1);
     }
     if lo < s {
-        return Next::Amount(s - 1);
+        return Some(s - 1);
     }
-    Next::Nothing
+    None
 }
 
-pub fn next_segment(lo: i64, s: i64, x: i64) -> Next
-    ensures { result ≡ next_of (next_segment lo s x) }
+// The first amount after what is left of the segment of x: of the run up from s, or of the run down.
+pub fn next_segment(lo: i64, s: i64, x: i64) -> Option<i64>
+    ensures { result ≡ next_segment lo s x }
 {
     if x < s {
-        return Next::Nothing;
+        return None;
     }
     if lo < s {
-        return Next::Amount(s - 1);
+        return Some(s - 1);
     }
-    Next::Nothing
+    None
 }
 
-// Past every place that has the first n amounts of x; s holds the starts along x.
-pub fn past_prefix(x: [i64; 16], n: usize, lo: [i64; 16], hi: [i64; 16], s: [i64; 16]) -> Moved
+// Where a move goes: the level that moves and its new amount; none where the search ends. Past every place that has the first n amounts of x; s holds the
+// starts along x.
+pub fn past_prefix(
+    x: [i64; 16],
+    n: usize,
+    lo: [i64; 16],
+    hi: [i64; 16],
+    s: [i64; 16],
+) -> Option<(usize, i64)>
     requires { n ≤ 16 }
-    ensures { result ≡ moved_of (carry (at lo) (at hi) (at s) (at x) n) }
+    ensures { result ≡ carry (at lo) (at hi) (at s) (at x) n }
 {
-    let mut j = n;
-    while 0 < j {
-        j -= 1;
-        let o = next_value(lo[j], hi[j], s[j], x[j]);
-        match o {
-            Next::Amount(v) => {
-                return Moved::At(j, v);
-            }
-            Next::Nothing => {}
+    for j in (0..n).rev() {
+        if let Some(v) = next_value(lo[j], hi[j], s[j], x[j]) {
+            return Some((j, v));
         }
     }
-    Moved::Done
+    None
 }
 
 // Past the run of level d: every place that has the first d amounts of x, and at level d one of what is left of its segment.
-pub fn past_run(x: [i64; 16], d: usize, lo: [i64; 16], hi: [i64; 16], s: [i64; 16]) -> Moved
+pub fn past_run(
+    x: [i64; 16],
+    d: usize,
+    lo: [i64; 16],
+    hi: [i64; 16],
+    s: [i64; 16],
+) -> Option<(usize, i64)>
     requires { d < 16 }
-    ensures { result ≡ moved_of (carry_segment (at lo) (at hi) (at s) (at x) d) }
+    ensures { result ≡ carry_segment (at lo) (at hi) (at s) (at x) d }
 {
-    let o = next_segment(lo[d], s[d], x[d]);
-    match o {
-        Next::Amount(v) => Moved::At(d, v),
-        Next::Nothing => past_prefix(x, d, lo, hi, s),
+    match next_segment(lo[d], s[d], x[d]) {
+        Some(v) => Some((d, v)),
+        None => past_prefix(x, d, lo, hi, s),
     }
 }
 
@@ -86,9 +80,15 @@ pub enum Settled {
     Prefix(usize),
 }
 
-pub fn past(w: Settled, x: [i64; 16], lo: [i64; 16], hi: [i64; 16], s: [i64; 16]) -> Moved
+pub fn past(
+    w: Settled,
+    x: [i64; 16],
+    lo: [i64; 16],
+    hi: [i64; 16],
+    s: [i64; 16],
+) -> Option<(usize, i64)>
     requires { SettledIn 16 w }
-    ensures { result ≡ moved_of (past_of w (at lo) (at hi) (at s) (at x)) }
+    ensures { result ≡ past_of w (at lo) (at hi) (at s) (at x) }
 {
     match w {
         Settled::Run(d) => past_run(x, d, lo, hi, s),

@@ -4,7 +4,7 @@
 use mathlib.Core.Path.{◌≡◌, subst}
 use Rattle.knapsack.specs.Meaning.{instance_of}
 use Rattle.knapsack.specs.declared.Answer.{Answer}
-use Rattle.knapsack.specs.declared.Verdict.TheVariants.{Accepted}
+use Rattle.std.specs.Prelude.{Ok}
 use Rattle.model.proofs.Records.{accepted}
 use Rattle.model.specs.Promises.{RepliesAs, Planned}
 use Rattle.model.specs.Records.{plain_of, needs_of, verdict}
@@ -14,7 +14,7 @@ use Rattle.cases.proofs.Demands.{demands-needs}
 use Rattle.cases.specs.Demands.{DemandsNeeds}
 use Rattle.planner.proofs.Breaking.{needed}
 
-pub planned-demands : (sense : Sense) (m : Model) → verdict m ≡ Accepted → (a : Answer) → Planned sense m a →
+pub planned-demands : (sense : Sense) (m : Model) → verdict m ≡ Ok tt → (a : Answer) → Planned sense m a →
     DemandsNeeds (instance_of (plain_of sense m)) (needs_of m.needs) a
 planned-demands sense m e a h =
     let s = instance_of (plain_of sense m) in

@@ -21,7 +21,7 @@ use Rattle.arith.specs.Sum.{sum}
 use Rattle.knapsack.proofs.Demands.{demands}
 use Rattle.knapsack.proofs.Rays.{ray-unbounded, unbounded-ray}
 use Rattle.knapsack.specs.Items.{with_item}
-use Rattle.knapsack.specs.Meaning.{Instance, instance_of, Unbounded, ShownUnbounded, amount_at, point_of, steps_of, bare, Answers, AnswersAs}
+use Rattle.knapsack.specs.Meaning.{Instance, instance_of, ShownUnbounded, amount_at, point_of, steps_of, bare, Answers, AnswersAs}
 use Rattle.knapsack.specs.Meaning.{AllLower}
 use Rattle.knapsack.specs.Ranges.{blank, item_at}
 use Rattle.knapsack.specs.declared.Answer.{Answer}

@@ -19,8 +19,7 @@ use Rattle.knapsack.specs.Items.{with_item}
 use Rattle.knapsack.specs.Meaning.{Instance, instance_of, Feasible, stepped, amount_at}
 use Rattle.knapsack.specs.Ranges.{item_at, BoundInRange}
 use Rattle.knapsack.specs.declared.Answer.{Answer}
-use Rattle.knapsack.specs.declared.Bound.{Bound}
-use Rattle.knapsack.specs.declared.Bound.TheVariants.{Absent, At}
+use Rattle.std.specs.Prelude.{Option, None, Some}
 use Rattle.knapsack.specs.declared.Problem.{Problem}
 use Rattle.model.specs.Records.{ItemFigures, FiguresInRange}
 use Rattle.cases.proofs.Limits.{bounded, record-narrow, shown-narrow}
@@ -39,7 +38,7 @@ capped_is p k h = record-narrow p k (item_at p k).lower (cap (item_at p k).upper
 pub raised_is : (p : Problem) (m : ℕ) → m < length p.items → instance_of (raised_at p m) ≡ having (instance_of p) m
 raised_is p m h = record-narrow p m (raise (item_at p m).lower) (item_at p m).upper h
 
-narrow-figures : (p : Problem) (k : ℕ) (l u : Bound) → k < length p.items → BoundInRange l → BoundInRange u → FiguresInRange p
+narrow-figures : (p : Problem) (k : ℕ) (l u : Option ℤ) → k < length p.items → BoundInRange l → BoundInRange u → FiguresInRange p
     → FiguresInRange (with_item p k (bounded (item_at p k) l u))
 narrow-figures p k l u h a b f = record {
   some-items = f.some-items;
@@ -53,16 +52,16 @@ narrow-figures p k l u h a b f = record {
   });
 }
 
-cap-in : (b : Bound) → BoundInRange b → BoundInRange (cap b)
-cap-in Absent h = omega arith
-cap-in (At u) h = go u h
+cap-in : (b : Option ℤ) → BoundInRange b → BoundInRange (cap b)
+cap-in None h = omega arith
+cap-in (Some u) h = go u h
   where
     go : (u : ℤ) → nat_abs u ≤ 10000 → nat_abs (minℤ u (pos 0)) ≤ 10000
     go = split _ (λ a b. simp zed (omega arith))
 
-raise-in : (b : Bound) → BoundInRange b → BoundInRange (raise b)
-raise-in Absent h = omega arith
-raise-in (At l) h = go l h
+raise-in : (b : Option ℤ) → BoundInRange b → BoundInRange (raise b)
+raise-in None h = omega arith
+raise-in (Some l) h = go l h
   where
     go : (l : ℤ) → nat_abs l ≤ 10000 → nat_abs (maxℤ l (pos 1)) ≤ 10000
     go = split _ (λ a b. simp zed (omega arith))
@@ -91,7 +90,7 @@ having-plain s m x f = go (common s.count x)
     go c = (bridge-feasible s c.D x c.N c.D≥1 c.reads).1
         (having-out s m c.D c.N ((bridge-feasible (having s m) c.D x c.N c.D≥1 c.reads).0 f))
 
-module _ (s : Instance) (k : ℕ) (l u : Bound) where
+module _ (s : Instance) (k : ℕ) (l u : Option ℤ) where
   bounded-narrow : Feasible (narrow s k l u) ⊆ Feasible s → Bounded s → Bounded (narrow s k l u)
   bounded-narrow out b x d h = b x d (record {
     i = h.i;

@@ -43,7 +43,7 @@ ghost use Rattle.planner.specs.Branching.{
 
 use arith::Fraction;
 use comparing::{comes_before, less_fraction};
-use knapsack::{Answer, Bound, Item, Kind, Problem, Verdict, with_item};
+use knapsack::{Answer, Item, Kind, Problem, with_item};
 use model::{Model, Need, Needs, Sense, check_model, plain_of};
 use solver::{STEPS, Solved, no_point, solve_within};
 
@@ -65,11 +65,9 @@ fn need_at(ns: Needs, i: usize) -> Need
     ensures { result ≡ placed (need_at ns i) }
 {
     let n = ns.lines[i];
-    let k = n.item;
-    let m = n.cover;
     Need {
-        item: place_of(k),
-        cover: place_of(m),
+        item: place_of(n.item),
+        cover: place_of(n.cover),
     }
 }
 
@@ -78,16 +76,11 @@ pub fn named_of(ns: Needs) -> [bool; 16]
     requires { Placed ns }
     ensures { NamedBy (needs_of ns) result }
 {
-    let t = ns.count;
     let mut named = [false; 16];
-    let mut i: usize = 0;
-    while i < t {
+    for i in 0..ns.count {
         let n = need_at(ns, i);
-        let k = n.item;
-        let m = n.cover;
-        named[m] = true;
-        named[k] = true;
-        i += 1;
+        named[n.cover] = true;
+        named[n.item] = true;
     }
     named
 }
@@ -99,17 +92,7 @@ fn breaks(x: [Fraction; 16], n: Need) -> bool
     requires { (n.item < 16) × (n.cover < 16) }
     ensures { result ≡ breaks x n }
 {
-    let k = n.item;
-    let m = n.cover;
-    let a = x[k];
-    let b = x[m];
-    if 0 < a.p {
-        if 0 < b.p {
-            return false;
-        }
-        return true;
-    }
-    false
+    0 < x[n.item].p && !(0 < x[n.cover].p)
 }
 
 // The line of the first need that x breaks, or their number.
@@ -117,35 +100,31 @@ fn first_broken(x: [Fraction; 16], ns: Needs) -> usize
     requires { Placed ns }
     ensures { FirstBroken x ns result }
 {
-    let t = ns.count;
-    let mut i: usize = 0;
-    while i < t {
-        let n = need_at(ns, i);
-        if breaks(x, n) {
+    for i in 0..ns.count {
+        if breaks(x, need_at(ns, i)) {
             return i;
         }
-        i += 1;
     }
-    t
+    ns.count
 }
 
 // ---- the two cases
 
-fn cap(b: Bound) -> Bound
+fn cap(b: Option<i64>) -> Option<i64>
     ensures { result ≡ cap b }
 {
     match b {
-        Bound::Absent => Bound::At(0),
-        Bound::At(u) => if 0 < u { Bound::At(0) } else { Bound::At(u) },
+        None => Some(0),
+        Some(u) => if 0 < u { Some(0) } else { Some(u) },
     }
 }
 
-fn raise(b: Bound) -> Bound
+fn raise(b: Option<i64>) -> Option<i64>
     ensures { result ≡ raise b }
 {
     match b {
-        Bound::Absent => Bound::At(1),
-        Bound::At(l) => if 1 < l { Bound::At(l) } else { Bound::At(1) },
+        None => Some(1),
+        Some(l) => if 1 < l { Some(l) } else { Some(1) },
     }
 }
 
@@ -155,18 +134,14 @@ fn without(p: Problem, k: usize) -> Problem
     ensures { result ≡ capped_at p k }
 {
     let i = p.items[k];
-    let mark = i.mark;
-    let lower = i.lower;
-    let upper = i.upper;
-    let low = cap(upper);
-    let x = Item {
-        mark: mark,
-        weight: i.weight,
-        price: i.price,
-        lower: lower,
-        upper: low,
-    };
-    with_item(p, k, x)
+    with_item(
+        p,
+        k,
+        Item {
+            upper: cap(i.upper),
+            ..i
+        },
+    )
 }
 
 // At least 1 of item m.
@@ -175,18 +150,14 @@ fn having(p: Problem, m: usize) -> Problem
     ensures { result ≡ raised_at p m }
 {
     let i = p.items[m];
-    let mark = i.mark;
-    let lower = i.lower;
-    let upper = i.upper;
-    let high = raise(lower);
-    let x = Item {
-        mark: mark,
-        weight: i.weight,
-        price: i.price,
-        lower: high,
-        upper: upper,
-    };
-    with_item(p, m, x)
+    with_item(
+        p,
+        m,
+        Item {
+            lower: raise(i.lower),
+            ..i
+        },
+    )
 }
 
 // ---- the best so far
@@ -204,10 +175,9 @@ pub struct Best {
 fn nothing_yet() -> Best
     ensures { result ≡ nothing_yet }
 {
-    let a = no_point(Kind::Infeasible);
     Best {
         found: false,
-        answer: a,
+        answer: no_point(Kind::Infeasible),
         cases: 0,
         steps: 0,
         cells: 0,
@@ -219,13 +189,11 @@ fn counted(b: Best, r: Solved) -> Best
     requires { Countable b r }
     ensures { result ≡ counted_of b r }
 {
-    let a = b.answer;
     Best {
-        found: b.found,
-        answer: a,
         cases: b.cases + 1,
         steps: b.steps + r.steps,
         cells: b.cells + r.cells,
+        ..b
     }
 }
 
@@ -236,34 +204,20 @@ fn with_best(b: Best, a: Answer) -> Best
     Best {
         found: true,
         answer: a,
-        cases: b.cases,
-        steps: b.steps,
-        cells: b.cells,
+        ..b
     }
 }
 
 pub fn is_optimal(a: Answer) -> bool
     ensures { result ≡ is_optimal a.kind }
 {
-    let k = a.kind;
-    match k {
-        Kind::Optimal => true,
-        Kind::Infeasible => false,
-        Kind::Unbounded => false,
-        Kind::Refused(_) => false,
-    }
+    matches!(a.kind, Kind::Optimal)
 }
 
 fn is_unbounded(a: Answer) -> bool
     ensures { result ≡ is_unbounded a.kind }
 {
-    let k = a.kind;
-    match k {
-        Kind::Optimal => false,
-        Kind::Infeasible => false,
-        Kind::Unbounded => true,
-        Kind::Refused(_) => false,
-    }
+    matches!(a.kind, Kind::Unbounded)
 }
 
 // Whether a is worth more than c, or as much at a point that comes first.
@@ -307,7 +261,7 @@ const CASE_STEPS: u64 = 1000000000000;
 fn few_steps(most: u64) -> u64
     ensures { result ≡ few_of most }
 {
-    if CASE_STEPS < most { CASE_STEPS } else { most }
+    most.min(CASE_STEPS)
 }
 
 // A case, by a search of at most so many steps, in which no pair with an item that a need names discards anything.
@@ -315,8 +269,7 @@ fn solve_case(p: Problem, ns: Needs, most: u64) -> Solved
     requires { FiguresInRange p × Placed ns }
     ensures { SolvesCase most p (needs_of ns) result }
 {
-    let named = named_of(ns);
-    solve_within(p, named, most)
+    solve_within(p, named_of(ns), most)
 }
 
 // The problem p, whose plain answer is r, gone through with its needs: the best of b and of its points.
@@ -347,16 +300,7 @@ fn branch(p: Problem, r: Solved, ns: Needs, most: u64, b: Best) -> Best
 fn unpriced_item(i: Item) -> Item
     ensures { result ≡ unpriced_item i }
 {
-    let mark = i.mark;
-    let lower = i.lower;
-    let upper = i.upper;
-    Item {
-        mark: mark,
-        weight: i.weight,
-        price: 0,
-        lower: lower,
-        upper: upper,
-    }
+    Item { price: 0, ..i }
 }
 
 // The problem at price 0: every feasible point is best.
@@ -364,11 +308,8 @@ fn unpriced(p: Problem) -> Problem
     ensures { Unpriced p 16 result }
 {
     let mut q = p;
-    let mut k: usize = 0;
-    while k < 16 {
-        let i = p.items[k];
-        q = with_item(q, k, unpriced_item(i));
-        k += 1;
+    for k in 0..16 {
+        q = with_item(q, k, unpriced_item(p.items[k]));
     }
     q
 }
@@ -460,12 +401,12 @@ pub fn plan_within(m: Model, sense: Sense, most: u64) -> Answer
 {
     let v = check_model(m);
     match v {
-        Verdict::Accepted => {
+        Ok(()) => {
             let ns = m.needs;
             let r = solve_needs(plain_of(m, sense), ns, most);
             r.answer
         }
-        Verdict::Refused(f) => no_point(Kind::Refused(f)),
+        Err(f) => no_point(Kind::Refused(f)),
     }
 }
 

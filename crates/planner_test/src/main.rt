@@ -37,8 +37,7 @@ fn tried(t: Tally, p: Model, n: usize, open: bool, most: u64) -> Tally
     if !o.agrees {
         print_wrong(p, a);
     }
-    let k = a.kind;
-    tallied(t, k, o)
+    tallied(t, a.kind, o)
 }
 
 // What so many problems of n items each come to, in so many steps at most.
@@ -48,29 +47,25 @@ fn tally_of(seed: u64, problems: u64, n: usize, z: Spans, most: u64) -> Tally
     let open = z.absent > 0;
     let mut t = no_answers();
     let mut state = seed;
-    let mut k: u64 = 0;
-    while k < problems {
+    for _ in 0..problems {
         let d = drawn_problem(state, n, z);
-        let p = d.problem;
-        t = tried(t, p, n, open, most);
+        t = tried(t, d.problem, n, open, most);
         state = d.state;
-        k += 1;
     }
     t
+}
+
+fn drawn_within(name: &[u8], most: u64, seed: u64, problems: u64, n: usize, z: Spans)
+    requires { n ≤ 15 }
+{
+    let t = tally_of(seed, problems, n, z, most);
+    print_tally(name, seed, problems, n, t);
 }
 
 fn drawn(name: &[u8], seed: u64, problems: u64, n: usize, z: Spans)
     requires { n ≤ 15 }
 {
-    let t = tally_of(seed, problems, n, z, STEPS);
-    print_tally(name, seed, problems, n, t);
-}
-
-fn drawn_within(name: &[u8], most: u64, seed: u64, n: usize, z: Spans)
-    requires { n ≤ 15 }
-{
-    let t = tally_of(seed, 1000, n, z, most);
-    print_tally(name, seed, 1000, n, t);
+    drawn_within(name, STEPS, seed, problems, n, z);
 }
 
 fn integer_problems() {
@@ -100,21 +95,21 @@ fn open_problems() {
 
 // No search: the scales have no incumbent.
 fn without_steps() {
-    drawn_within(b"no steps, integer", 0, 31, 2, small(0, 0));
-    drawn_within(b"no steps, integer", 0, 32, 4, small(0, 0));
-    drawn_within(b"no steps, mixed", 0, 33, 3, small(0, 2));
-    drawn_within(b"no steps, mixed", 0, 34, 4, small(0, 2));
-    drawn_within(b"no steps, integer, open", 0, 35, 3, small(1, 0));
-    drawn_within(b"no steps, mixed, open", 0, 36, 3, small(1, 2));
+    drawn_within(b"no steps, integer", 0, 31, 1000, 2, small(0, 0));
+    drawn_within(b"no steps, integer", 0, 32, 1000, 4, small(0, 0));
+    drawn_within(b"no steps, mixed", 0, 33, 1000, 3, small(0, 2));
+    drawn_within(b"no steps, mixed", 0, 34, 1000, 4, small(0, 2));
+    drawn_within(b"no steps, integer, open", 0, 35, 1000, 3, small(1, 0));
+    drawn_within(b"no steps, mixed, open", 0, 36, 1000, 3, small(1, 2));
 }
 
 // One step: the first place is the incumbent, if it fits.
 fn with_one_step() {
-    drawn_within(b"one step, integer", 1, 41, 3, small(0, 0));
-    drawn_within(b"one step, integer", 1, 42, 4, small(0, 0));
-    drawn_within(b"one step, mixed", 1, 43, 4, small(0, 2));
-    drawn_within(b"one step, integer, open", 1, 44, 4, small(1, 0));
-    drawn_within(b"one step, mixed, open", 1, 45, 4, small(1, 2));
+    drawn_within(b"one step, integer", 1, 41, 1000, 3, small(0, 0));
+    drawn_within(b"one step, integer", 1, 42, 1000, 4, small(0, 0));
+    drawn_within(b"one step, mixed", 1, 43, 1000, 4, small(0, 2));
+    drawn_within(b"one step, integer, open", 1, 44, 1000, 4, small(1, 0));
+    drawn_within(b"one step, mixed, open", 1, 45, 1000, 4, small(1, 2));
 }
 
 fn main() {

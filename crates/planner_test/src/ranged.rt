@@ -12,14 +12,13 @@ use model::{Model, Sense, beyond};
 use planner::plan;
 use trials::count::{one_more, print_count};
 use trials::draw::{DrawnProblem, Spans, drawn_problem, small};
-use trials::enumerate::{Best, below, best_value};
-use trials::exact::as_signed;
-use trials::holds::{fits, leads_on, point_holds, ray_holds};
+use trials::enumerate::{best_value, is_above};
+use trials::exact::{Ratio, is_less, ratio_of};
+use trials::holds::{fits, leads_on};
 use trials::needs::with_drawn_needs;
-use trials::outcome::shut_problem;
+use trials::outcome::{is_allowed, shut_problem};
 use trials::print::{print, print_kind, print_problem};
 use trials::ranges::{at_drawn, at_ends, with_drawn_ranges};
-use trials::tally::number_of;
 
 const REACH: i64 = 20;
 
@@ -36,16 +35,11 @@ struct Seen {
 
 // A start that is farther off than plain sums go. The point check has allowed it at the ends of its sense. No problem here has more than three items.
 fn is_far_off(a: Answer) -> bool {
-    let p = a.point;
-    let x = p[0];
-    let y = p[1];
-    let z = p[2];
-    beyond(x.p, 1000000) || beyond(y.p, 1000000) || beyond(z.p, 1000000)
+    a.point[..3].iter().any(|x| beyond(x.p, 1000000))
 }
 
 fn holds_at(m: Model, a: Answer) -> bool {
-    let k = a.kind;
-    match k {
+    match a.kind {
         Kind::Optimal => fits(m, a),
         Kind::Infeasible => true,
         Kind::Unbounded => leads_on(m, a) && (is_far_off(a) || fits(m, a)),
@@ -53,16 +47,10 @@ fn holds_at(m: Model, a: Answer) -> bool {
     }
 }
 
-fn is_beaten(a: Answer, b: Best) -> bool {
-    let v = a.value;
-    b.found && below(v.p, as_signed(v.q), b.p, b.q)
-}
-
-fn is_unbeaten(a: Answer, b: Best) -> bool {
-    let k = a.kind;
-    match k {
-        Kind::Optimal => !is_beaten(a, b),
-        Kind::Infeasible => !b.found,
+fn is_unbeaten(a: Answer, b: Option<Ratio>) -> bool {
+    match a.kind {
+        Kind::Optimal => !is_above(b, ratio_of(a.value)),
+        Kind::Infeasible => b.is_none(),
         Kind::Unbounded => true,
         Kind::Refused(_) => false,
     }
@@ -93,10 +81,8 @@ fn seen_of(m: Model, n: usize, a: Answer, corners: u64) -> Seen
         unbeaten: true,
         once_unbeaten: false,
     };
-    let mut e: u64 = 0;
-    while e < corners {
+    for e in 0..corners {
         s = with_corner(s, at_ends(m, e), at_drawn(m, e), n, a);
-        e += 1;
     }
     s
 }
@@ -111,8 +97,18 @@ fn is_possible(s: Seen) -> bool {
 
 // ---- both answers
 
-// Best beside best, infeasible beside infeasible, unbounded beside unbounded, infeasible beside best and beside unbounded, best beside unbounded; and
-// problems on which something fails.
+// Best beside best, infeasible beside infeasible, unbounded beside unbounded, infeasible beside best and beside unbounded, best beside unbounded.
+#[derive(Clone, Copy, PartialEq)]
+enum Pair {
+    Best,
+    Infeasible,
+    Unbounded,
+    OnlyPossible,
+    Grows,
+    Opens,
+}
+
+// How often each has been met; and problems on which something fails.
 #[derive(Clone, Copy)]
 struct Pairs {
     best: u64,
@@ -125,50 +121,32 @@ struct Pairs {
     wrong: u64,
 }
 
-// The kinds side by side: the sure one in the tens.
-fn pair_of(a: Answer, b: Answer) -> u64 {
-    let k = a.kind;
-    let l = b.kind;
-    10 * number_small(k) + number_small(l)
-}
-
-fn number_small(k: Kind) -> u64
-    ensures { result ≤ 9 }
-{
-    let n = number_of(k);
-    if n < 9 { n } else { 9 }
-}
-
-fn is_among(pair: u64) -> bool {
-    pair == 11 || pair == 22 || pair == 33 || pair == 21 || pair == 23 || pair == 13
-}
-
-fn is_less(a: Answer, b: Answer) -> bool {
-    let v = a.value;
-    let w = b.value;
-    below(v.p, as_signed(v.q), w.p, as_signed(w.q))
-}
-
-// What is shown is allowed by the point check at the value told, over the divisors of its sense; m is the record with that sense's weights alone.
-fn is_allowed(m: Model, a: Answer) -> bool {
-    let k = a.kind;
-    match k {
-        Kind::Optimal => point_holds(m, a),
-        Kind::Infeasible => true,
-        Kind::Unbounded => ray_holds(m, a),
-        Kind::Refused(_) => false,
+// The kinds of the sure and of the possible answer, where they can stand side by side.
+fn pair_of(a: Answer, b: Answer) -> Option<Pair> {
+    match (a.kind, b.kind) {
+        (Kind::Optimal, Kind::Optimal) => Some(Pair::Best),
+        (Kind::Infeasible, Kind::Infeasible) => Some(Pair::Infeasible),
+        (Kind::Unbounded, Kind::Unbounded) => Some(Pair::Unbounded),
+        (Kind::Infeasible, Kind::Optimal) => Some(Pair::OnlyPossible),
+        (Kind::Infeasible, Kind::Unbounded) => Some(Pair::Grows),
+        (Kind::Optimal, Kind::Unbounded) => Some(Pair::Opens),
+        _ => None,
     }
 }
 
-fn counted(p: Pairs, pair: u64, less: bool, right: bool) -> Pairs {
+fn is_worth_less(a: Answer, b: Answer) -> bool {
+    is_less(ratio_of(a.value), ratio_of(b.value))
+}
+
+fn counted(p: Pairs, pair: Option<Pair>, less: bool, right: bool) -> Pairs {
     Pairs {
-        best: one_more(p.best, pair == 11),
-        infeasible: one_more(p.infeasible, pair == 22),
-        unbounded: one_more(p.unbounded, pair == 33),
-        only_possible: one_more(p.only_possible, pair == 21),
-        grows: one_more(p.grows, pair == 23),
-        opens: one_more(p.opens, pair == 13),
-        greater: one_more(p.greater, pair == 11 && less),
+        best: one_more(p.best, pair == Some(Pair::Best)),
+        infeasible: one_more(p.infeasible, pair == Some(Pair::Infeasible)),
+        unbounded: one_more(p.unbounded, pair == Some(Pair::Unbounded)),
+        only_possible: one_more(p.only_possible, pair == Some(Pair::OnlyPossible)),
+        grows: one_more(p.grows, pair == Some(Pair::Grows)),
+        opens: one_more(p.opens, pair == Some(Pair::Opens)),
+        greater: one_more(p.greater, pair == Some(Pair::Best) && less),
         wrong: one_more(p.wrong, !right),
     }
 }
@@ -191,13 +169,14 @@ fn tried(p: Pairs, m: Model, n: usize, corners: u64) -> Pairs
     let pair = pair_of(a, b);
     let sure = is_sure(seen_of(m, n, a, corners));
     let possible = is_possible(seen_of(m, n, b, corners));
-    let order = pair != 11 || !is_less(b, a);
+    let order = pair != Some(Pair::Best) || !is_worth_less(b, a);
+    // Each over the divisors of its sense, by the record with that sense's weights alone.
     let allowed = is_allowed(at_ends(m, 65535), a) && is_allowed(at_ends(m, 0), b);
-    let right = sure && possible && order && is_among(pair) && allowed;
+    let right = sure && possible && order && pair.is_some() && allowed;
     if !right {
         print_wrong(m, a, b);
     }
-    counted(p, pair, is_less(a, b), right)
+    counted(p, pair, is_worth_less(a, b), right)
 }
 
 // ---- many
@@ -218,13 +197,11 @@ fn no_pairs() -> Pairs {
 // Of the items about half get a range; with needs where among is above 0.
 fn drawn_ranges(state: u64, n: usize, among: u64, z: Spans) -> DrawnProblem {
     let d = drawn_problem(state, n, z);
-    let m = d.problem;
-    let r = with_drawn_ranges(m, d.state, 1, z.weight);
+    let r = with_drawn_ranges(d.problem, d.state, 1, z.weight);
     if among == 0 {
         return r;
     }
-    let p = r.problem;
-    with_drawn_needs(p, r.state, among)
+    with_drawn_needs(r.problem, r.state, among)
 }
 
 fn pairs_of(seed: u64, problems: u64, n: usize, among: u64, z: Spans, corners: u64) -> Pairs
@@ -232,13 +209,10 @@ fn pairs_of(seed: u64, problems: u64, n: usize, among: u64, z: Spans, corners: u
 {
     let mut p = no_pairs();
     let mut state = seed;
-    let mut k: u64 = 0;
-    while k < problems {
+    for _ in 0..problems {
         let d = drawn_ranges(state, n, among, z);
-        let m = d.problem;
-        p = tried(p, m, n, corners);
+        p = tried(p, d.problem, n, corners);
         state = d.state;
-        k += 1;
     }
     p
 }

@@ -1,6 +1,6 @@
 // Paper 01's table, "Sheets and what they give": A to K and the pairs L and M from records, and A, N and O from sheets. Then, behind
 // a +, records, a pair and sheets whose bounds cross.
-use domination::{Pair, PairReply, least_pair};
+use domination::least_pair;
 use listing::text_of;
 use model::{Model, Sense};
 use replies::reply_to;
@@ -9,32 +9,26 @@ use trials::make::{first_of, free, from_zero, held, loose, one, two};
 use trials::print::{print, print_number, print_signed};
 
 fn print_name(name: u8) {
-    let label = [name, b'\n'];
-    print(&label);
+    print(&[name, b'\n']);
 }
 
 // The reply to a record, as `charge` prints it.
 fn show(name: u8, p: Model) {
     print_name(name);
-    let a = plan_both(p);
-    let t = text_of(a, p.count);
-    let bytes = t.bytes;
-    let len = t.len;
-    print(&bytes[..len]);
+    let t = text_of(plan_both(p), p.count);
+    print(&t.bytes[..t.len]);
 }
 
 fn show_sheet(name: u8, sheet: &[u8]) {
     print_name(name);
     let t = reply_to(sheet);
-    let bytes = t.bytes;
-    let len = t.len;
-    print(&bytes[..len]);
+    print(&t.bytes[..t.len]);
 }
 
-fn print_pair(q: Pair) {
+fn print_pair(q: Option<(i64, i64)>) {
     match q {
-        Pair::Missing => print(b"none"),
-        Pair::Steps(r, s) => {
+        None => print(b"none"),
+        Some((r, s)) => {
             print_signed(r);
             print(b" ");
             print_signed(s);
@@ -44,13 +38,12 @@ fn print_pair(q: Pair) {
 
 fn show_pair(name: u8, p: Model) {
     print_name(name);
-    let q = least_pair(p, Sense::Sure, 1, 2);
-    match q {
-        PairReply::Refused(f) => {
+    match least_pair(p, Sense::Sure, 1, 2) {
+        Err(f) => {
             print(b"refused ");
             print_number(f.number);
         }
-        PairReply::Found(s) => print_pair(s),
+        Ok(s) => print_pair(s),
     }
     print(b"\n");
 }

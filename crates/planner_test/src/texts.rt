@@ -1,26 +1,20 @@
 // The text entry with buffers a byte too short, just long enough, and longer: what is told, and the whole buffer afterwards.
-ghost use Rattle.std.specs.Prelude.{◌≡◌, ◌≤◌, length};
+ghost use Rattle.std.specs.Prelude.{◌≤◌};
 
 use crate::rows::{sheet_a, sheet_e, sheet_g};
+use knapsack::Refusal;
 use model::Model;
 use replies::list;
-use text::Listed;
 use trials::make::{held, one};
 use trials::print::{print, print_number};
 
-fn hashes() -> [u8; 80]
-    ensures { length result ≡ 80 }
-{
-    [b'#'; 80]
-}
-
-fn print_told(l: Listed) {
+fn print_told(l: Result<usize, Refusal>) {
     match l {
-        Listed::Written(n) => {
+        Ok(n) => {
             print(b"written ");
             print_number(n as u64);
         }
-        Listed::Refused(f) => {
+        Err(f) => {
             print(b"refused ");
             print_number(f.number);
             print(b" ");
@@ -30,19 +24,12 @@ fn print_told(l: Listed) {
     print(b"\n");
 }
 
-fn listed(p: Model, out: &mut [u8], size: usize) -> Listed
-    requires { size ≤ length out.old }
-{
-    list(p, &mut out[..size])
-}
-
 // The first bytes of the buffer are lent.
 fn show_text(p: Model, size: usize)
     requires { size ≤ 80 }
 {
-    let mut buffer = hashes();
-    let l = listed(p, &mut buffer, size);
-    print_told(l);
+    let mut buffer = [b'#'; 80];
+    print_told(list(p, &mut buffer[..size]));
     print(&buffer);
     print(b"\n");
 }

@@ -13,10 +13,9 @@ use Rattle.greedy.proofs.Relaxed.{box_of}
 use Rattle.knapsack.proofs.Common.{Keepsᴰ, valueᴰ, Feasibleᴰ, Optimalᴰ}
 use Rattle.knapsack.proofs.Reach.{closed, shut_at}
 use Rattle.knapsack.proofs.Same.{Same, same-sym}
-use Rattle.knapsack.specs.Meaning.{Instance, instance_of, weights, prices}
+use Rattle.knapsack.specs.Meaning.{Instance, instance_of}
 use Rattle.knapsack.specs.Ranges.{item_at}
-use Rattle.knapsack.specs.declared.Bound.TheVariants.{Absent, At}
-use Rattle.knapsack.specs.declared.Bound.{Bound}
+use Rattle.std.specs.Prelude.{Option, None, Some}
 use Rattle.knapsack.specs.declared.Item.{Item}
 use Rattle.knapsack.specs.declared.Problem.{Problem}
 use Rattle.setting.specs.declared.Setting.{Setting}
@@ -45,9 +44,9 @@ same-optimal s t e E M o = record {
 
 -- ---- the box
 
-closed_is : (b : Bound) (d : ℤ) → At (end_or b d) ≡ closed b d
-closed_is Absent d = refl
-closed_is (At v) d = refl
+closed_is : (b : Option ℤ) (d : ℤ) → Some (end_or b d) ≡ closed b d
+closed_is None d = refl
+closed_is (Some v) d = refl
 
 module _ {r : ℕ → ℕ} (p : Problem) (s : Setting) (q : PreparedAt r p s) where
   abbrev pub box : Instance

@@ -16,8 +16,7 @@ use Rattle.arith.proofs.Parts.{impossible}
 use Rattle.arith.proofs.Words.{no_lt}
 use Rattle.greedy.specs.Fill.{place}
 use Rattle.knapsack.specs.Ranges.{item_at, BoundsInOrder}
-use Rattle.knapsack.specs.declared.Bound.TheVariants.{Absent, At}
-use Rattle.knapsack.specs.declared.Bound.{Bound}
+use Rattle.std.specs.Prelude.{Option, None, Some}
 use Rattle.knapsack.specs.declared.Item.{Item}
 use Rattle.knapsack.specs.declared.Problem.{Problem}
 use Rattle.lattice.proofs.Levels.{unknown-tame, lattice-known}
@@ -36,10 +35,10 @@ not-not : (b : Bool) → not b ≡ true → b ≡ false
 not-not true h = absurd (impossible h)
 not-not false h = refl
 
-meet-ends : (l u : Bound) (a b : ℤ) → meet l u ≡ true → BoundsInOrder l u → end_or l a ≡ end_or u b
-meet-ends Absent u a b h o = absurd (impossible h)
-meet-ends (At l) Absent a b h o = absurd (impossible h)
-meet-ends (At l) (At u) a b h o = ≤ℤ-antisym o (no_lt (not-not (lt_z l u) h))
+meet-ends : (l u : Option ℤ) (a b : ℤ) → meet l u ≡ true → BoundsInOrder l u → end_or l a ≡ end_or u b
+meet-ends None u a b h o = absurd (impossible h)
+meet-ends (Some l) None a b h o = absurd (impossible h)
+meet-ends (Some l) (Some u) a b h o = ≤ℤ-antisym o (no_lt (not-not (lt_z l u) h))
 
 pub fixed-ends : (i : Item) → BoundsInOrder i.lower i.upper → fixed i ≡ true → is_integer i.mark ≡ false → low_end i ≡ high_end i
 fixed-ends i o h e = meet-ends i.lower i.upper _ _ (rw e at h) o

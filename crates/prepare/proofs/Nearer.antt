@@ -5,7 +5,7 @@
 use mathlib.Core.Path.{◌≡◌, refl, sym, ap, ap₂, ◌∙◌}
 use mathlib.Core.Bool.{Bool, true, false, cond}
 use mathlib.Core.List.{List}
-use mathlib.Core.Logic.{◌⊎◌, inl, inr}
+use mathlib.Core.Logic.{inl, inr}
 use Prim.Native.Nat.{ℕ, zero, suc, ◌+◌, ◌*◌, ◌/◌, ◌≤◌, ◌<◌}
 use native.Mathlib.Decide.{dec_lt, ℕ_discrete}
 use native.Mathlib.Nat.{mul-le-mul, mul-le-mul_left, mul-le-mul_right, div-add-mod, div-le_self, mod-lt}
@@ -26,8 +26,7 @@ use Rattle.knapsack.proofs.Reach.{NoRay, AroundAt, Open, RangesAt, Reaches, shut
 use Rattle.knapsack.specs.Meaning.{Instance, instance_of}
 use Rattle.knapsack.specs.Items.{is_absent, is_open}
 use Rattle.knapsack.specs.Ranges.{item_at, BoundInRange, ItemInRange, InRange}
-use Rattle.knapsack.specs.declared.Bound.TheVariants.{Absent, At}
-use Rattle.knapsack.specs.declared.Bound.{Bound}
+use Rattle.std.specs.Prelude.{Option, None, Some}
 use Rattle.knapsack.specs.declared.Item.{Item}
 use Rattle.knapsack.specs.declared.Problem.{Problem}
 use Rattle.greedy.specs.Fill.{at, weight_of}
@@ -62,9 +61,9 @@ larger-most a b m h k = go (ltb a b)
     go true = k
     go false = h
 
-bound-small : (b : Bound) → BoundInRange b → bound_size b ≤ 10000
-bound-small Absent h = omega arith
-bound-small (At v) h = h
+bound-small : (b : Option ℤ) → BoundInRange b → bound_size b ≤ 10000
+bound-small None h = omega arith
+bound-small (Some v) h = h
 
 -- the weight of an open item is at most that of an item
 open-small : (a m : ℕ) (t : Bool) → a ≤ m → cond t a 0 ≤ m
@@ -158,9 +157,9 @@ module _ (p : Problem) (range : InRange p) where
   abbrev B : ℕ → ℕ
   B k = own_bound (item_at p k)
 
-  around : (b : Bound) (m : ℕ) → bound_size b ≤ m → AroundAt m b
-  around Absent m h = tt
-  around (At v) m h = h
+  around : (b : Option ℤ) (m : ℕ) → bound_size b ≤ m → AroundAt m b
+  around None m h = tt
+  around (Some v) m h = h
 
   -- an item that lacks a bound is open
   is_open_lem : (k : ℕ) → Open (I.item k) → is_open (item_at p k) ≡ true
@@ -295,19 +294,19 @@ clamp-mono r x y h = go (lt_z x (neg_ℤ (pos r))) refl (lt_z (pos r) x) refl (l
     go false e false f false g false k = h
 
 -- an absent bound was closed beyond the span, and a bound is within it
-low_end : (r : ℕ) → r ≤ farthest → (b : Bound) → bound_size b ≤ r → clamp_to r (end_or b (neg_ℤ (pos farthest))) ≡ end_or b (neg_ℤ (pos r))
-low_end r l Absent h = clamp-low r (neg_ℤ (pos farthest)) (far farthest r l)
+low_end : (r : ℕ) → r ≤ farthest → (b : Option ℤ) → bound_size b ≤ r → clamp_to r (end_or b (neg_ℤ (pos farthest))) ≡ end_or b (neg_ℤ (pos r))
+low_end r l None h = clamp-low r (neg_ℤ (pos farthest)) (far farthest r l)
   where
     far : (m r : ℕ) → r ≤ m → neg_ℤ (pos m) ≤ℤ neg_ℤ (pos r)
     far m r h = simp zed (omega arith)
-low_end r l (At v) h = clamp-same r v h
+low_end r l (Some v) h = clamp-same r v h
 
-high_end_lem : (r : ℕ) → r ≤ farthest → (b : Bound) → bound_size b ≤ r → clamp_to r (end_or b (pos farthest)) ≡ end_or b (pos r)
-high_end_lem r l Absent h = clamp-high r (pos farthest) (far farthest r l)
+high_end_lem : (r : ℕ) → r ≤ farthest → (b : Option ℤ) → bound_size b ≤ r → clamp_to r (end_or b (pos farthest)) ≡ end_or b (pos r)
+high_end_lem r l None h = clamp-high r (pos farthest) (far farthest r l)
   where
     far : (m r : ℕ) → r ≤ m → pos r ≤ℤ pos m
     far m r h = simp zed (omega arith)
-high_end_lem r l (At v) h = clamp-same r v h
+high_end_lem r l (Some v) h = clamp-same r v h
 
 module _ (p : Problem) (range : InRange p) (s t : Setting) (q : Prepared p s) (n : Narrowed s (reach_of p) t) where
   -- the span of item k
@@ -395,9 +394,9 @@ module _ (p : Problem) (range : InRange p) (s t : Setting) (q : Prepared p s) (n
 
 module _ (p : Problem) (range : InRange p) (s : Setting) (q : PreparedAt (span_of p) p s) where
   -- an end is a bound or the span away
-  end-small : (b : Bound) (n : ℕ) (x : ℤ) → BoundInRange b → nat_abs x ≤ n → nat_abs (end_or b x) ≤ 10000 + n
-  end-small Absent n x r h = omega (arith, h)
-  end-small (At v) n x r h = let k : nat_abs v ≤ 10000 = r in omega (arith, k)
+  end-small : (b : Option ℤ) (n : ℕ) (x : ℤ) → BoundInRange b → nat_abs x ≤ n → nat_abs (end_or b x) ≤ 10000 + n
+  end-small None n x r h = omega (arith, h)
+  end-small (Some v) n x r h = let k : nat_abs v ≤ 10000 = r in omega (arith, k)
 
   width_small : (m : ℕ) (l h : ℤ) → nat_abs l ≤ m → nat_abs h ≤ m → nat_abs (h -ℤ l) ≤ 2 * m
   width_small m = split2 _ (λ a b c d. simp zed (omega arith))

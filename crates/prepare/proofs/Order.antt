@@ -21,8 +21,7 @@ use Rattle.greedy.specs.Ordered.{Idle, weight_at, rate_at, Ordered}
 use Rattle.greedy.specs.Sized.{SizedColumns}
 use Rattle.greedy.specs.declared.Columns.{Columns}
 use Rattle.knapsack.specs.Ranges.{item_at, ItemInRange, InRange}
-use Rattle.knapsack.specs.declared.Bound.TheVariants.{Absent, At}
-use Rattle.knapsack.specs.declared.Bound.{Bound}
+use Rattle.std.specs.Prelude.{Option, None, Some}
 use Rattle.knapsack.specs.declared.Item.{Item}
 use Rattle.knapsack.specs.declared.Problem.{Problem}
 use Rattle.ordering.proofs.Insertion.{sorted-order}
@@ -40,9 +39,9 @@ use Rattle.prepare.proofs.Lists.{tabled-below, tabled-within}
 
 -- ---- the keys
 
-head-start-is : (b : Bound) (a : ℤ) → (t : ℕ) × (head_start b a ≡ pos t) × (t ≤ nat_abs a)
-head-start-is Absent a = (nat_abs a, refl, omega arith)
-head-start-is (At v) a = (0, refl, omega arith)
+head-start-is : (b : Option ℤ) (a : ℤ) → (t : ℕ) × (head_start b a ≡ pos t) × (t ≤ nat_abs a)
+head-start-is None a = (nat_abs a, refl, omega arith)
+head-start-is (Some v) a = (0, refl, omega arith)
 
 -- 2,000,000 times a difference that is not 0 is more than the ties
 untied : (m n b c : ℕ) → b * n ≤ 1000000 → (x y : ℤ) → ((pos 2000000 *ℤ y +ℤ pos c) *ℤ pos m) ≤ℤ ((pos 2000000 *ℤ x +ℤ pos b) *ℤ pos n)

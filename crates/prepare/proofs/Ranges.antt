@@ -9,8 +9,7 @@ use Rattle.arith.specs.Within.{Within}
 use Rattle.arith.proofs.Signs.{within-times-sign, times-sign-self}
 use Rattle.arith.specs.Signs.{times_sign}
 use Rattle.knapsack.specs.Ranges.{BoundInRange, ItemInRange}
-use Rattle.knapsack.specs.declared.Bound.TheVariants.{Absent, At}
-use Rattle.knapsack.specs.declared.Bound.{Bound}
+use Rattle.std.specs.Prelude.{Option, None, Some}
 use Rattle.knapsack.specs.declared.Item.{Item}
 use Rattle.prepare.specs.Figures.{end_or, low_end, high_end, light_bound, head_start, reduced_price, SmallRatio}
 
@@ -20,14 +19,14 @@ zero-within = record { above = omega arith; below = omega arith }
 pub size-within : {n : ℕ} (a : ℤ) → Within n a → Within n (pos (nat_abs a))
 size-within a h = rw (times-sign-self a) at (within-times-sign a a h)
 
-pub head-start-within : {n : ℕ} (b : Bound) (a : ℤ) → Within n a → Within n (head_start b a)
-head-start-within Absent a h = size-within a h
-head-start-within (At v) a h = zero-within
+pub head-start-within : {n : ℕ} (b : Option ℤ) (a : ℤ) → Within n a → Within n (head_start b a)
+head-start-within None a h = size-within a h
+head-start-within (Some v) a h = zero-within
 
 -- a bound, or what stands for an absent one
-pub end-within : (b : Bound) (d : ℤ) → BoundInRange b → Within farthest d → Within farthest (end_or b d)
-end-within Absent d h w = w
-end-within (At v) d h w = within_more (omega arith) (abs-within v h)
+pub end-within : (b : Option ℤ) (d : ℤ) → BoundInRange b → Within farthest d → Within farthest (end_or b d)
+end-within None d h w = w
+end-within (Some v) d h w = within_more (omega arith) (abs-within v h)
 
 module _ (i : Item) (r : ItemInRange i) where
   pub weight-within : Within 1000 i.weight

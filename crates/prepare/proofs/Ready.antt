@@ -1,7 +1,7 @@
 -- prepared: a setting that is made of a problem's columns, box, levels and lattices is that of the problem, and ready for a search.
 use mathlib.Core.Path.{◌≡◌, refl, sym, ◌∙◌, subst}
 use mathlib.Core.Bool.{Bool, true, false}
-use mathlib.Core.Logic.{◌≢◌, ◌⊎◌, inl, inr}
+use mathlib.Core.Logic.{◌≢◌}
 use Prim.Native.Nat.{ℕ, ◌≤◌, ◌<◌}
 use native.Mathlib.Omega.{arith}
 use lib.IntN.{ℤ, pos, neg_ℤ, nat_abs}
@@ -13,8 +13,7 @@ use Rattle.greedy.specs.Fill.{at, fill}
 use Rattle.greedy.specs.Sized.{SizedEnds}
 use Rattle.greedy.specs.declared.Ends.{Ends}
 use Rattle.knapsack.specs.Ranges.{item_at, BoundInRange, BoundsInOrder, InRange}
-use Rattle.knapsack.specs.declared.Bound.TheVariants.{Absent, At}
-use Rattle.knapsack.specs.declared.Bound.{Bound}
+use Rattle.std.specs.Prelude.{Option, None, Some}
 use Rattle.knapsack.specs.declared.Problem.{Problem}
 use Rattle.ordering.specs.Ranking.{Sorted}
 use Rattle.lattice.specs.Lattice.{lattice_at}
@@ -22,7 +21,7 @@ use Rattle.setting.specs.Ready.{Changes, Marked}
 use Rattle.setting.specs.Box.{level_at}
 use Rattle.setting.specs.declared.Setting.{Setting}
 use Rattle.prepare.proofs.Ranges.{low-within, high-within}
-use Rattle.prepare.specs.Figures.{end_or, low_end, high_end, figure_of, is_integer, fixed, passes, key_of}
+use Rattle.prepare.specs.Figures.{end_or, low_end, high_end, figure_of, is_integer, passes, key_of}
 use Rattle.prepare.specs.Tables.{Tabled, listed, Leading}
 use Rattle.prepare.specs.declared.tables.Figure.TheVariants.{Low, High}
 use Rattle.prepare.specs.declared.tables.Key.{Key}
@@ -41,11 +40,11 @@ above-reach = split _ (λ a b. simp zed (omega arith))
 below-reach : (v : ℤ) → nat_abs v ≤ 10000 → v ≤ℤ pos farthest
 below-reach = split _ (λ a b. simp zed (omega arith))
 
-ends-in-order : (l u : Bound) → BoundInRange l → BoundInRange u → BoundsInOrder l u → end_or l (neg_ℤ (pos farthest)) ≤ℤ end_or u (pos farthest)
-ends-in-order Absent Absent h g o = omega (arith, zs)
-ends-in-order Absent (At u) h g o = above-reach u g
-ends-in-order (At l) Absent h g o = below-reach l h
-ends-in-order (At l) (At u) h g o = o
+ends-in-order : (l u : Option ℤ) → BoundInRange l → BoundInRange u → BoundsInOrder l u → end_or l (neg_ℤ (pos farthest)) ≤ℤ end_or u (pos farthest)
+ends-in-order None None h g o = omega (arith, zs)
+ends-in-order None (Some u) h g o = above-reach u g
+ends-in-order (Some l) None h g o = below-reach l h
+ends-in-order (Some l) (Some u) h g o = o
 
 module _ (p : Problem) (r : InRange p) (e : Ends) (b : Boxed p e) where
   pub low-is : (k : ℕ) → k < p.count → at e.lo k ≡ low_end (item_at p k)

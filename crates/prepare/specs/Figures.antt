@@ -19,8 +19,7 @@ use Rattle.std.specs.Int.Signed.{lt_z}
 use Rattle.arith.specs.Limits.{farthest}
 use Rattle.arith.specs.Within.{Within}
 use Rattle.arith.specs.Signs.{times_sign}
-use Rattle.knapsack.specs.declared.Bound.TheVariants.{Absent, At}
-use Rattle.knapsack.specs.declared.Bound.{Bound}
+use Rattle.std.specs.Prelude.{Option, None, Some}
 use Rattle.knapsack.specs.declared.Item.{Item}
 use Rattle.knapsack.specs.declared.Mark.TheVariants.{Integer, Continuous}
 use Rattle.knapsack.specs.declared.Mark.{Mark}
@@ -34,9 +33,9 @@ use Rattle.prepare.specs.declared.tables.Test.{Test}
 -- ---- figures
 
 -- the bound, or d where it is absent
-abbrev pub end_or : Bound → ℤ → ℤ
-end_or Absent d = d
-end_or (At v) d = v
+abbrev pub end_or : Option ℤ → ℤ → ℤ
+end_or None d = d
+end_or (Some v) d = v
 
 abbrev pub low_end : Item → ℤ
 low_end i = end_or i.lower (neg_ℤ (pos farthest))
@@ -64,10 +63,10 @@ is_integer Integer = true
 is_integer Continuous = false
 
 -- nothing lies between the two bounds: they are one number, if they are in order
-abbrev pub meet : Bound → Bound → Bool
-meet Absent u = false
-meet (At l) Absent = false
-meet (At l) (At u) = not (lt_z l u)
+abbrev pub meet : Option ℤ → Option ℤ → Bool
+meet None u = false
+meet (Some l) None = false
+meet (Some l) (Some u) = not (lt_z l u)
 
 -- integer, or with only one amount
 abbrev pub fixed : Item → Bool
@@ -81,16 +80,16 @@ passes Fixed i = fixed i
 -- ---- keys
 
 -- the bound where the item weighs least
-abbrev pub light_bound : Item → Bound
+abbrev pub light_bound : Item → Option ℤ
 light_bound i = cond (lt_z i.weight (pos 0)) i.upper i.lower
 
 -- of a bound where the item weighs least, and its weight
-abbrev pub head_start : Bound → ℤ → ℤ
-head_start Absent a = pos (nat_abs a)
-head_start (At v) a = pos 0
+abbrev pub head_start : Option ℤ → ℤ → ℤ
+head_start None a = pos (nat_abs a)
+head_start (Some v) a = pos 0
 
 abbrev pub key_item : ℤ → ℤ → Item
-key_item a c = record { mark = Integer; weight = a; price = c; lower = Absent; upper = Absent }
+key_item a c = record { mark = Integer; weight = a; price = c; lower = None; upper = None }
 
 -- different prices per weight differ by 1 / 1,000,000 or more, so that a head start of 1 / 2,000,000 parts only equals
 abbrev pub filling_key : Item → Item

@@ -19,8 +19,7 @@ use Rattle.std.specs.Int.Signed.{lt_z}
 use Rattle.greedy.specs.Fill.{at, weight_of}
 use Rattle.knapsack.specs.Items.{is_open}
 use Rattle.knapsack.specs.Ranges.{item_at}
-use Rattle.knapsack.specs.declared.Bound.TheVariants.{Absent, At}
-use Rattle.knapsack.specs.declared.Bound.{Bound}
+use Rattle.std.specs.Prelude.{Option, None, Some}
 use Rattle.knapsack.specs.declared.Item.{Item}
 use Rattle.knapsack.specs.declared.Problem.{Problem}
 use Rattle.setting.specs.declared.Setting.{Setting}
@@ -31,9 +30,9 @@ use Rattle.prepare.specs.declared.Reach.{Reach}
 abbrev pub larger : ℕ → ℕ → ℕ
 larger a b = cond (ltb a b) b a
 
-abbrev pub bound_size : Bound → ℕ
-bound_size Absent = 0
-bound_size (At v) = nat_abs v
+abbrev pub bound_size : Option ℤ → ℕ
+bound_size None = 0
+bound_size (Some v) = nat_abs v
 
 abbrev pub open_weight : Item → ℕ
 open_weight i = cond (is_open i) (nat_abs i.weight) 0

@@ -6,29 +6,23 @@ ghost use Rattle.arith.specs.Within.{Within};
 ghost use Rattle.greedy.specs.Fill.{at, place};
 ghost use Rattle.knapsack.specs.Ranges.{ItemInRange, BoundInRange, InRange};
 ghost use Rattle.setting.specs.Ready.{ReadySetting};
-ghost use Rattle.prepare.specs.Narrowing.{larger, bound_size, open_weight, grown_by, most_of, lead_by, burden_of, reach_of, span_by, clamp_by, clamp_to, Narrowed};
+ghost use Rattle.prepare.specs.Narrowing.{bound_size, open_weight, grown_by, most_of, lead_by, burden_of, reach_of, span_by, clamp_to, Narrowed};
 ghost use Rattle.prepare.specs.Narrowing.{Small};
 
 use super::{Most, Reach};
 use arith::magnitude;
 use greedy::Ends;
-use knapsack::{Bound, Item, Problem, is_open};
+use knapsack::{Item, Problem, is_open};
 use setting::Setting;
 
-fn larger_of(a: u64, b: u64) -> u64
-    ensures { result ≡ larger a b }
-{
-    if a < b { b } else { a }
-}
-
 // How large a bound is; an absent one is none.
-fn bound_size(b: Bound) -> u64
+fn bound_size(b: Option<i64>) -> u64
     requires { BoundInRange b }
     ensures { result ≡ bound_size b }
 {
     match b {
-        Bound::Absent => 0,
-        Bound::At(v) => magnitude(v),
+        None => 0,
+        Some(v) => magnitude(v),
     }
 }
 
@@ -37,10 +31,7 @@ fn open_weight(i: Item) -> u64
     requires { ItemInRange i }
     ensures { result ≡ open_weight i }
 {
-    if is_open(i) {
-        return magnitude(i.weight);
-    }
-    0
+    if is_open(i) { magnitude(i.weight) } else { 0 }
 }
 
 // With one item more.
@@ -48,14 +39,9 @@ fn grown(m: Most, i: Item) -> Most
     requires { ItemInRange i }
     ensures { result ≡ grown_by m i }
 {
-    let l = i.lower;
-    let u = i.upper;
-    let a = open_weight(i);
-    let x = bound_size(l);
-    let y = bound_size(u);
     Most {
-        weight: larger_of(m.weight, a),
-        bound: larger_of(larger_of(m.bound, x), y),
+        weight: m.weight.max(open_weight(i)),
+        bound: m.bound.max(bound_size(i.lower)).max(bound_size(i.upper)),
     }
 }
 
@@ -63,16 +49,12 @@ fn most_of(p: Problem) -> Most
     requires { InRange p }
     ensures { result ≡ most_of p p.count }
 {
-    let n = p.count;
     let mut m = Most {
         weight: 0,
         bound: 0,
     };
-    let mut k: usize = 0;
-    while k < n {
-        let i = p.items[k];
-        m = grown(m, i);
-        k += 1;
+    for k in 0..p.count {
+        m = grown(m, p.items[k]);
     }
     m
 }
@@ -82,13 +64,8 @@ fn lead_of(i: Item, a: u64) -> u64
     requires { ItemInRange i × (a ≤ 1000) }
     ensures { result ≡ lead_by a i }
 {
-    let l = i.lower;
-    let u = i.upper;
-    let b = larger_of(bound_size(l), bound_size(u));
-    if is_open(i) {
-        return b + a;
-    }
-    b
+    let b = bound_size(i.lower).max(bound_size(i.upper));
+    if is_open(i) { b + a } else { b }
 }
 
 // What an item weighs as far as it leads.
@@ -103,13 +80,9 @@ fn burden(p: Problem, a: u64) -> u64
     requires { InRange p × (a ≤ 1000) }
     ensures { result ≡ burden_of p a p.count }
 {
-    let n = p.count;
     let mut t: u64 = 0;
-    let mut k: usize = 0;
-    while k < n {
-        let i = p.items[k];
-        t += burden_of(i, a);
-        k += 1;
+    for k in 0..p.count {
+        t += burden_of(p.items[k], a);
     }
     t
 }
@@ -120,11 +93,9 @@ pub fn reach_of(p: Problem) -> Reach
     ensures { result ≡ reach_of p }
 {
     let m = most_of(p);
-    let a = m.weight;
-    let t = burden(p, a);
     Reach {
-        weight: magnitude(p.capacity) + t + a,
-        amount: m.bound + a,
+        weight: magnitude(p.capacity) + burden(p, m.weight) + m.weight,
+        amount: m.bound + m.weight,
     }
 }
 
@@ -133,21 +104,7 @@ fn span_of(r: Reach, a: i64) -> u64
     requires { Small r × Within 1000 a }
     ensures { (result ≡ span_by r a) × (result ≤ farthest) }
 {
-    let d = larger_of(1, magnitude(a));
-    r.amount + r.weight / d + 1
-}
-
-// x, or the nearest of l and u.
-fn clamp(x: i64, l: i64, u: i64) -> i64
-    ensures { result ≡ clamp_by l u x }
-{
-    if x < l {
-        return l;
-    }
-    if u < x {
-        return u;
-    }
-    x
+    r.amount + r.weight / magnitude(a).max(1) + 1
 }
 
 // An end of an item of weight a, within its span.
@@ -156,7 +113,7 @@ fn end_within(x: i64, r: Reach, a: i64) -> i64
     ensures { result ≡ clamp_to (span_by r a) x }
 {
     let u = span_of(r, a) as i64;
-    clamp(x, 0 - u, u)
+    x.clamp(-u, u)
 }
 
 fn clamped(xs: [i64; 16], weight: [i64; 16], r: Reach) -> [i64; 16]
@@ -164,11 +121,8 @@ fn clamped(xs: [i64; 16], weight: [i64; 16], r: Reach) -> [i64; 16]
     ensures { (k : ℕ) → k < 16 → at result k ≡ clamp_to (span_by r (at weight k)) (at xs k) }
 {
     let mut to = xs;
-    let mut k: usize = 0;
-    while k < 16 {
-        let x = xs[k];
-        to[k] = end_within(x, r, weight[k]);
-        k += 1;
+    for k in 0..16 {
+        to[k] = end_within(xs[k], r, weight[k]);
     }
     to
 }
@@ -179,12 +133,8 @@ fn by_level(xs: [i64; 16], level: [usize; 16], n: usize) -> [i64; 16]
     ensures { (d : ℕ) → d < n → at result d ≡ at xs (place level d) }
 {
     let mut to = [0; 16];
-    let mut d: usize = 0;
-    while d < n {
-        let k = level[d];
-        let x = xs[k];
-        to[d] = x;
-        d += 1;
+    for d in 0..n {
+        to[d] = xs[level[d]];
     }
     to
 }
@@ -194,25 +144,12 @@ pub fn narrowed(s: Setting, r: Reach) -> Setting
     requires { ReadySetting s × Small r }
     ensures { Narrowed s r result }
 {
-    let cols = s.cols;
-    let e = s.ends;
-    let l = e.lo;
-    let h = e.hi;
-    let weight = cols.weight;
-    let level = s.level;
-    let n = s.levels;
-    let lo = clamped(l, weight, r);
-    let hi = clamped(h, weight, r);
-    let low = by_level(lo, level, n);
-    let high = by_level(hi, level, n);
-    let lattice = s.lattice;
+    let lo = clamped(s.ends.lo, s.cols.weight, r);
+    let hi = clamped(s.ends.hi, s.cols.weight, r);
     Setting {
-        cols: cols,
-        ends: Ends { lo: lo, hi: hi },
-        level: level,
-        low: low,
-        high: high,
-        lattice: lattice,
-        levels: n,
+        ends: Ends { lo, hi },
+        low: by_level(lo, s.level, s.levels),
+        high: by_level(hi, s.level, s.levels),
+        ..s
     }
 }

@@ -8,7 +8,7 @@
 use mathlib.Core.Bool.{false}
 use mathlib.Core.List.{List}
 use mathlib.Core.Path.{◌≡◌, refl, sym, ap, subst, fun_ext, ◌∙◌}
-use Prim.Native.Nat.{ℕ, zero, suc, ◌+◌, ◌-◌, ◌≤◌, ◌<◌}
+use Prim.Native.Nat.{ℕ, zero, suc, ◌+◌, ◌≤◌, ◌<◌}
 use native.Mathlib.Decide.{ℕ_discrete}
 use native.Mathlib.Omega.{arith}
 use lib.IntN.{ℤ, pos, neg_ℤ, nat_abs, ◌-ℤ◌}
@@ -25,8 +25,7 @@ use Rattle.knapsack.specs.Items.{is_absent}
 use Rattle.knapsack.specs.Meaning.{Instance, Point, instance_of, value, prices, KeepsLower, Shown, point_of}
 use Rattle.knapsack.specs.Ranges.{blank, item_at}
 use Rattle.knapsack.specs.declared.Answer.{Answer}
-use Rattle.knapsack.specs.declared.Bound.{Bound}
-use Rattle.knapsack.specs.declared.Bound.TheVariants.{Absent, At}
+use Rattle.std.specs.Prelude.{Option, None, Some}
 use Rattle.knapsack.specs.declared.Kind.TheVariants as kind
 use Rattle.knapsack.specs.declared.Problem.{Problem}
 use Rattle.foremost.proofs.Foremost.{priced_item}
@@ -110,10 +109,10 @@ module _ (p : Problem) (k : ℕ) (d : ℕ) (inside : k < length p.items) where
 
 -- ---- an item at its lower bound
 
-pub stands_by : (b : Bound) (x : Fraction) → GoodAmount x → is_absent b ≡ false → breaks_bound Upper b x.p x.q ≡ false
+pub stands_by : (b : Option ℤ) (x : Fraction) → GoodAmount x → is_absent b ≡ false → breaks_bound Upper b x.p x.q ≡ false
     → StandsLow b (frac x.p x.q)
-stands_by Absent x g e h = absurd (impossible (sym e))
-stands_by (At l) x g e h = (keeps-upper (At l) x g).0 h
+stands_by None x g e h = absurd (impossible (sym e))
+stands_by (Some l) x g e h = (keeps-upper (Some l) x g).0 h
 
 -- an amount that is shown can be reckoned with
 pub shown-good : (p : Problem) (x : ℕ → Fraction) (k : ℕ) → FiguresInRange p → Shown (instance_of p) x → k < p.count → GoodAmount (x k)
@@ -206,9 +205,9 @@ module _ (p : Problem) (ns : Needs) (a : Answer) (k : ℕ) (w : Watched p ns a) 
     least = λ n. absurd (n refl);
   }
     where
-      under : (b : Bound) (x y : Frac) → StandsLow b x → KeepsLower b y → x ≤ᶠ y
-      under (At l) x y g q = ≤ᶠ-trans x (int l) y g q
-      under Absent x y g q = elim g [ ]
+      under : (b : Option ℤ) (x y : Frac) → StandsLow b x → KeepsLower b y → x ≤ᶠ y
+      under (Some l) x y g q = ≤ᶠ-trans x (int l) y g q
+      under None x y g q = elim g [ ]
 
 -- ---- all items
 

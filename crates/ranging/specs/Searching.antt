@@ -16,8 +16,7 @@ use Rattle.knapsack.specs.Items.{with_item}
 use Rattle.knapsack.specs.Meaning.{Instance, Point, instance_of, value, point_of}
 use Rattle.knapsack.specs.Ranges.{item_at}
 use Rattle.knapsack.specs.declared.Answer.{Answer}
-use Rattle.knapsack.specs.declared.Bound.{Bound}
-use Rattle.knapsack.specs.declared.Bound.TheVariants.{Absent, At}
+use Rattle.std.specs.Prelude.{Option, ℤ, None, Some}
 use Rattle.knapsack.specs.declared.Problem.{Problem}
 use Rattle.foremost.proofs.Foremost.{priced_item}
 use Rattle.comparing.specs.Comparing.{point_in}
@@ -52,9 +51,9 @@ pub record Watched (p : Problem) (ns : Needs) (a : Answer) : Type 0 where
   pub needed : Needed p ns
   pub best : ShownOptimalNeeds (instance_of p) (needs_of ns) a
 
-abbrev pub StandsLow : Bound → Frac → Type 0
-StandsLow Absent x = ⊥
-StandsLow (At l) x = x ≤ᶠ int l
+abbrev pub StandsLow : Option ℤ → Frac → Type 0
+StandsLow None x = ⊥
+StandsLow (Some l) x = x ≤ᶠ int l
 
 pub record Spans (p : Problem) (ns : Needs) (a : Answer) (k : ℕ) (s : Span) : Type 0 where
   pub order : s.low < s.high

@@ -18,7 +18,7 @@ ghost use Rattle.ranging.specs.Searching.{lowered_at, Lowerable, StandsLow, Wort
 use arith::Fraction;
 use comparing::less_fraction;
 use feasibility::{Candidate, breaks_bound, worth};
-use knapsack::{Answer, Bound, Item, Problem, is_absent, with_item};
+use knapsack::{Answer, Item, Problem, is_absent, with_item};
 use model::{Model, Needs, Sense, Side, plain_of};
 use planner::{is_optimal, plan, solve_needs};
 use solver::STEPS;
@@ -57,16 +57,10 @@ fn lowered(p: Problem, k: usize, d: u64) -> Problem
     ensures { result ≡ lowered_at p k d }
 {
     let i = p.items[k];
-    let mark = i.mark;
-    let lower = i.lower;
-    let upper = i.upper;
     let n = d as i64;
     let x = Item {
-        mark: mark,
-        weight: i.weight,
         price: i.price - n,
-        lower: lower,
-        upper: upper,
+        ..i
     };
     with_item(p, k, x)
 }
@@ -91,10 +85,8 @@ fn is_passed(p: Problem, k: usize, d: u64, a: Answer, b: Answer) -> bool
     ensures { Passes (lowered (instance_of p) k d) (point_of a) (point_of b) result }
 {
     let q = lowered(p, k, d);
-    let x = a.point;
-    let y = b.point;
-    let v = worth_of(q, x);
-    let w = worth_of(q, y);
+    let v = worth_of(q, a.point);
+    let w = worth_of(q, b.point);
     less_fraction(v, w)
 }
 
@@ -124,12 +116,11 @@ fn probe(s: Span) -> u64
     requires { s.low + 1 < s.high }
     ensures { (s.low < result) × (result < s.high) }
 {
-    let low = s.low;
-    let high = s.high;
     if 0 < s.leaps {
-        return high - 1;
+        s.high - 1
+    } else {
+        s.low + (s.high - s.low) / 2
     }
-    low + (high - low) / 2
 }
 
 fn fewer(leaps: u64) -> u64 {
@@ -151,26 +142,26 @@ fn narrowed(p: Problem, ns: Needs, a: Answer, k: usize, s: Span) -> Span
     if is_optimal(b) {
         if is_passed(p, k, d, a, b) {
             return Span {
-                low: low,
+                low,
                 high: first_passed(p, k, a, b, low, d),
                 leaps: fewer(leaps),
             };
         }
         return Span {
             low: d,
-            high: high,
-            leaps: leaps,
+            high,
+            leaps,
         };
     }
     Span {
-        low: low,
+        low,
         high: d,
         leaps: 0,
     }
 }
 
 // Whether there is no more of item k than its lower bound b: no point has less of it, so that its price may fall as it will.
-fn stands_low(b: Bound, x: [Fraction; 16], k: usize) -> bool
+fn stands_low(b: Option<i64>, x: [Fraction; 16], k: usize) -> bool
     requires { (k < 16) × (BoundInRange b × GoodAmount (amount_in x k)) }
     ensures { result ≡ true → StandsLow b (point_in x k) }
 {
@@ -212,12 +203,9 @@ fn falls_of(p: Problem, ns: Needs, a: Answer) -> [u64; 16]
     requires { Watched p ns a }
     ensures { FallsAre p ns a p.count result }
 {
-    let n = p.count;
     let mut of = [0u64; 16];
-    let mut k: usize = 0;
-    while k < n {
+    for k in 0..p.count {
         of[k] = fall_of(p, ns, a, k);
-        k += 1;
     }
     of
 }
@@ -226,8 +214,10 @@ fn falls_of(p: Problem, ns: Needs, a: Answer) -> [u64; 16]
 pub fn no_falls(a: Answer) -> Falls
     ensures { result ≡ no_falls a }
 {
-    let of = [0u64; 16];
-    Falls { answer: a, of: of }
+    Falls {
+        answer: a,
+        of: [0; 16],
+    }
 }
 
 // The planner's sure answer to any record, and the falls of its best point.
@@ -238,7 +228,7 @@ pub fn price_falls(m: Model) -> Falls
     if is_optimal(a) {
         let ns = m.needs;
         let of = falls_of(plain_of(m, Sense::Sure), ns, a);
-        return Falls { answer: a, of: of };
+        return Falls { answer: a, of };
     }
     no_falls(a)
 }

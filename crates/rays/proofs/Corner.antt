@@ -1,11 +1,10 @@
--- The light corner: every item at the closed end where it weighs least. Absent bounds are closed at the farthest amounts (knapsack, proofs/Reach).
+-- The light corner: every item at the closed end where it weighs least. None bounds are closed at the farthest amounts (knapsack, proofs/Reach).
 --   LightCorner s lo hi e    e is a light corner of s, whose closed ends are lo and hi
 -- ranges-of: what a problem in range says of its figures.
 -- corner-small, corner-shut, corner-feasible: a corner that fits is feasible, in the box too, and near.
 -- corner-infeasible: if it does not fit, every end that matters was a bound, and nothing is feasible.
 -- corner-point, corner-shown, corner-unbounded: a point that shows a corner that fits, and the steps of a ray from it.
 use mathlib.Core.Path.{◌≡◌, refl, sym, ap, ◌∙◌}
-use mathlib.Core.Bool.{true}
 use mathlib.Core.Logic.{◌⊎◌, inl, inr}
 use Prim.Native.Nat.{ℕ, zero, suc, ◌*◌, ◌≤◌, ◌<◌}
 use native.Mathlib.Omega.{arith}
@@ -17,8 +16,7 @@ use Rattle.arith.proofs.Integers.{split, split3, zed, ≤ℤ-trans, nat_abs-time
 use Rattle.arith.proofs.Sums.{sum-scale, even-part-of-sum}
 use Rattle.arith.specs.Sum.{Each}
 use Rattle.arith.specs.declared.Fraction.{Fraction}
-use Rattle.knapsack.specs.declared.Bound.{Bound}
-use Rattle.knapsack.specs.declared.Bound.TheVariants.{Absent, At}
+use Rattle.std.specs.Prelude.{Option, None, Some, List}
 use Rattle.knapsack.specs.declared.Mark.{Mark}
 use Rattle.knapsack.specs.declared.Mark.TheVariants.{Integer, Continuous}
 use Rattle.knapsack.specs.declared.Problem.{Problem}
@@ -29,15 +27,14 @@ use Rattle.knapsack.proofs.Bridge.{Reads, bridge-feasible, bridge-infeasible}
 use Rattle.knapsack.proofs.Common.{KeepsMarkᴰ, weighsᴰ, Feasibleᴰ}
 use Rattle.knapsack.proofs.Dual.{AtBound}
 use Rattle.knapsack.proofs.Reach.{Way, fore, aft, turn, turn-mul, Around, Ranges, closed, lowers, uppers, shut, out-of-shut}
-use Rattle.rays.specs.declared.RayReply.{RayReply}
 use Rattle.rays.specs.Directions.{stop}
 use Rattle.rays.specs.Rays.{steps_at, RayFound}
 
 -- ---- a record in range
 
-around : (b : Bound) → BoundInRange b → Around b
-around Absent h = tt
-around (At v) h = h
+around : (b : Option ℤ) → BoundInRange b → Around b
+around None h = tt
+around (Some v) h = h
 
 pub ranges-of : (p : Problem) → InRange p → Ranges (instance_of p)
 ranges-of p r = record {
@@ -54,17 +51,17 @@ whole : (n : ℤ) → n ≡ n *ℤ pos 1
 whole = split _ (λ a b. simp zed (omega arith))
 
 -- what stands at a closed end
-at-inj : {a b : ℤ} → At a ≡ At b → a ≡ b
+at-inj : {a b : ℤ} → Some a ≡ Some b → a ≡ b
 at-inj {a} {b} h = cc
 
 -- the closed end of a bound: the bound, or d where it is absent
-end_of : (b : Bound) (d z : ℤ) → closed b d ≡ At z → (b ≡ At z) ⊎ ((b ≡ Absent) × (d ≡ z))
-end_of Absent d z h = inr (refl, at-inj h)
-end_of (At b) d z h = inl h
+end_of : (b : Option ℤ) (d z : ℤ) → closed b d ≡ Some z → (b ≡ Some z) ⊎ ((b ≡ None) × (d ≡ z))
+end_of None d z h = inr (refl, at-inj h)
+end_of (Some b) d z h = inl h
 
-end-small : (b : Bound) (d z : ℤ) → Around b → nat_abs d ≤ farthest → closed b d ≡ At z → nat_abs z ≤ farthest
-end-small Absent d z r n h = rw (at-inj h) at n
-end-small (At b) d z r n h = let k : nat_abs z ≤ 10000 = rw (at-inj h) at r in omega arith
+end-small : (b : Option ℤ) (d z : ℤ) → Around b → nat_abs d ≤ farthest → closed b d ≡ Some z → nat_abs z ≤ farthest
+end-small None d z r n h = rw (at-inj h) at n
+end-small (Some b) d z r n h = let k : nat_abs z ≤ 10000 = rw (at-inj h) at r in omega arith
 
 -- the way that makes an item lighter, if it weighs something
 lighter : (a : ℤ) → ((w : Way) × (turn w a <ℤ pos 0)) ⊎ (a ≡ pos 0)
@@ -85,8 +82,8 @@ far-term a w z h e = rw (← e, turn-mul w a (pos farthest)) (go (turn w a) h)
 -- ---- the corner
 
 pub record LightCorner (s : Instance) (lo hi e : ℕ → ℤ) : Type 0 where
-  pub lows : (k : ℕ) → k < s.count → lowers s k ≡ At (lo k)
-  pub highs : (k : ℕ) → k < s.count → uppers s k ≡ At (hi k)
+  pub lows : (k : ℕ) → k < s.count → lowers s k ≡ Some (lo k)
+  pub highs : (k : ℕ) → k < s.count → uppers s k ≡ Some (hi k)
   pub ordered : (k : ℕ) → k < s.count → lo k ≤ℤ hi k
   pub heavy : (k : ℕ) → k < s.count → pos 0 <ℤ weights s k → e k ≡ lo k
   pub light : (k : ℕ) → k < s.count → weights s k <ℤ pos 0 → e k ≡ hi k
@@ -139,9 +136,9 @@ module _ (s : Instance) (g : Ranges s) (lo hi e : ℕ → ℤ) (c : LightCorner 
   -- ---- a corner that does not fit
 
   -- the end in the way that makes the item lighter
-  light-end : (k : ℕ) → k < s.count → (w : Way) → turn w (weights s k) <ℤ pos 0 → closed (stop w (s.item k)) (turn w (pos farthest)) ≡ At (e k)
-  light-end k l fore h = c.highs k l ∙ ap At (sym (c.light k l h))
-  light-end k l aft h = c.lows k l ∙ ap At (sym (c.heavy k l (heavier (weights s k) h)))
+  light-end : (k : ℕ) → k < s.count → (w : Way) → turn w (weights s k) <ℤ pos 0 → closed (stop w (s.item k)) (turn w (pos farthest)) ≡ Some (e k)
+  light-end k l fore h = c.highs k l ∙ ap Some (sym (c.light k l h))
+  light-end k l aft h = c.lows k l ∙ ap Some (sym (c.heavy k l (heavier (weights s k) h)))
 
   light-stop : (k : ℕ) → k < s.count → (w : Way) → Around (stop w (s.item k))
   light-stop k l fore = g.uppers k l
@@ -154,7 +151,7 @@ module _ (s : Instance) (g : Ranges s) (lo hi e : ℕ → ℤ) (c : LightCorner 
       size : (y : ℤ) → nat_abs y ≤ 10000000 → y ≤ℤ pos 10000000
       size = split _ (λ a b. simp zed (omega arith))
 
-      go : (stop w (s.item k) ≡ At (e k)) ⊎ ((stop w (s.item k) ≡ Absent) × (turn w (pos farthest) ≡ e k)) → (weights s k *ℤ e k) ≤ℤ pos 10000000
+      go : (stop w (s.item k) ≡ Some (e k)) ⊎ ((stop w (s.item k) ≡ None) × (turn w (pos farthest) ≡ e k)) → (weights s k *ℤ e k) ≤ℤ pos 10000000
       go (inl b) = let n : nat_abs (e k) ≤ 10000 =
           rw b at (light-stop k l w) in size (weights s k *ℤ e k) (omega (arith, nat_abs_mul (weights s k) (e k), mul-le-mul (g.light k l) n))
       go (inr (b, d)) = ≤ℤ-trans (far-term (weights s k) w (e k) h d) (simp zed (omega arith))
@@ -186,7 +183,7 @@ module _ (s : Instance) (g : Ranges s) (lo hi e : ℕ → ℤ) (c : LightCorner 
   present : s.capacity <ℤ weighsᴰ s e → (k : ℕ) → k < s.count → (w : Way) → turn w (weights s k) <ℤ pos 0 → AtBound 1 (stop w (s.item k)) (e k)
   present over k l w h = go (end_of (stop w (s.item k)) (turn w (pos farthest)) (e k) (light-end k l w h))
     where
-      go : (stop w (s.item k) ≡ At (e k)) ⊎ ((stop w (s.item k) ≡ Absent) × (turn w (pos farthest) ≡ e k)) → AtBound 1 (stop w (s.item k)) (e k)
+      go : (stop w (s.item k) ≡ Some (e k)) ⊎ ((stop w (s.item k) ≡ None) × (turn w (pos farthest) ≡ e k)) → AtBound 1 (stop w (s.item k)) (e k)
       go (inl b) = rw b (whole (e k))
       go (inr (b, d)) = absurd (too-light k l (far-term (weights s k) w (e k) h d) over)
 
@@ -216,7 +213,7 @@ module _ (s : Instance) (g : Ranges s) (lo hi e : ℕ → ℤ) (c : LightCorner 
     beyond = b;
   }
 
-pub corner-unbounded : (p : Problem) (r : RayReply) (lo hi e : ℕ → ℤ) (x : Point) → InRange p → RayFound p r → r.found ≡ true
+pub corner-unbounded : (p : Problem) (r : Option (List ℤ)) (l : List ℤ) (lo hi e : ℕ → ℤ) (x : Point) → InRange p → RayFound p r → r ≡ Some l
     → LightCorner (instance_of p) lo hi e → Reads (instance_of p) 1 x e
-    → weighsᴰ (instance_of p) e ≤ℤ p.capacity → Unbounded (instance_of p) x (steps_at r)
-corner-unbounded p r lo hi e x range found y c reads fits = found.escapes y x (corner-point (instance_of p) (ranges-of p range) lo hi e c x reads fits)
+    → weighsᴰ (instance_of p) e ≤ℤ p.capacity → Unbounded (instance_of p) x (steps_at l)
+corner-unbounded p r l lo hi e x range found y c reads fits = found.escapes l y x (corner-point (instance_of p) (ranges-of p range) lo hi e c x reads fits)

@@ -4,7 +4,7 @@
 -- first-none, first-each: what the first ray of a row says of the row, and the row of it.
 --   Tested p r      what the scan's tests say of the ray that it found
 -- tested: they hold of it.  no-ray: where it found none, there is none.
-use mathlib.Core.Path.{◌≡◌, refl, sym, ap, ◌∙◌, subst}
+use mathlib.Core.Path.{◌≡◌, refl, ap, ◌∙◌, subst}
 use mathlib.Core.Bool.{Bool, true, false, cond}
 use mathlib.Core.Logic.{◌⊎◌, inl, inr}
 use Prim.Native.Nat.{ℕ, zero, suc, ◌+◌, ◌*◌, ◌/◌, ◌%◌, ◌<◌}
@@ -14,11 +14,10 @@ use native.Mathlib.Decide.{ℕ_discrete}
 use lib.IntN.{ℤ, pos, nat_abs}
 use lib.Signed.{◌≤ℤ◌, ◌<ℤ◌, lt_z}
 use borrow.Author.Tests.{eq-eqb, ne_eqb}
+use Rattle.std.specs.Prelude.{Option, None, Some}
 use Rattle.arith.proofs.Integers.{nat_abs-neg, ≤ℤ-or-<}
 use Rattle.arith.proofs.Parts.{impossible}
 use Rattle.arith.proofs.Words.{no_lt, yes_lt, le-no, lt_yes}
-use Rattle.knapsack.specs.declared.Bound.{Bound}
-use Rattle.knapsack.specs.declared.Bound.TheVariants.{Absent, At}
 use Rattle.knapsack.specs.declared.Problem.{Problem}
 use Rattle.knapsack.specs.declared.Item.{Item}
 use Rattle.knapsack.specs.Ranges.{item_at, ItemInRange, InRange}
@@ -26,9 +25,9 @@ use Rattle.knapsack.specs.Meaning.{instance_of}
 use Rattle.knapsack.proofs.Reach.{Way, fore, aft, turn, Free, NoRay}
 use Rattle.rays.specs.declared.Direction.{Direction}
 use Rattle.rays.specs.declared.Ray.{Ray}
-use Rattle.rays.specs.declared.Ray.TheVariants.{None, Single, Pair}
+use Rattle.rays.specs.declared.Ray.TheVariants.{Single, Pair}
 use Rattle.knapsack.specs.Items.{is_absent}
-use Rattle.rays.specs.Directions.{way_of, stop, along, direction_of, DirectionInRange, gains, gain, pays, is_ray, or_else, first, first_of, partner_at, ray_as}
+use Rattle.rays.specs.Directions.{way_of, stop, along, direction_of, DirectionInRange, gains, gain, pays, or_else, first, first_of, partner_at, ray_as}
 use Rattle.rays.specs.Directions.{ray_from, ray_of, Directs}
 
 -- ---- directions
@@ -70,63 +69,51 @@ free-yes aft i h = ap is_absent h
 pub free-then : (w : Way) (i : Item) → is_absent (stop w i) ≡ true → Free w i
 free-then w i h = go w (stop w i) refl h
   where
-    is-absent : (b : Bound) → is_absent b ≡ true → b ≡ Absent
-    is-absent Absent e = refl
-    is-absent (At b) e = absurd (impossible e)
+    is-absent : (b : Option ℤ) → is_absent b ≡ true → b ≡ None
+    is-absent None e = refl
+    is-absent (Some b) e = absurd (impossible e)
 
-    go : (w : Way) (b : Bound) → stop w i ≡ b → is_absent b ≡ true → Free w i
+    go : (w : Way) (b : Option ℤ) → stop w i ≡ b → is_absent b ≡ true → Free w i
     go fore b e k = e ∙ is-absent b k
     go aft b e k = e ∙ is-absent b k
 
 -- ---- the first ray
 
--- the loop found r at place k, and b tells whether it is a ray
-pub first_past : (k : ℕ) (f : ℕ → Ray) (r : Ray) (b : Bool) → first k f ≡ None → r ≡ f k → b ≡ is_ray r → b ≡ false → first (k + 1) f ≡ None
+-- place k, after places that hold none
+pub first_past : (k : ℕ) (f : ℕ → Option Ray) → first k f ≡ None → f k ≡ None → first (k + 1) f ≡ None
 unfolding first
-first_past k f r b h e t n = rw (add-one, h, ← e) (none r (sym t ∙ n))
-  where
-    none : (r : Ray) → is_ray r ≡ false → r ≡ None
-    none None e = refl
-    none (Single u) e = absurd (impossible (sym e))
-    none (Pair u w) e = absurd (impossible (sym e))
+first_past k f h e = rw (add-one, h, e)
 
-pub first-here : (n k : ℕ) (f : ℕ → Ray) (r : Ray) (b : Bool) → k < n → first k f ≡ None → r ≡ f k → b ≡ is_ray r → b ≡ true → r ≡ first n f
+pub first-here : (n k : ℕ) (f : ℕ → Option Ray) (r : Ray) → k < n → first k f ≡ None → f k ≡ Some r → first n f ≡ Some r
 unfolding first
-first-here zero k f r b l h e t y = absurd (omega arith)
-first-here (suc n) k f r b l h e t y = go (ℕ_discrete k n) (λ m. first-here n k f r b m h e t y)
+first-here zero k f r l h e = absurd (omega arith)
+first-here (suc n) k f r l h e = go (ℕ_discrete k n) (λ m. first-here n k f r m h e)
   where
-    stays : (r s : Ray) → is_ray r ≡ true → r ≡ or_else r s
-    stays None s e = absurd (impossible e)
-    stays (Single u) s e = refl
-    stays (Pair u w) s e = refl
-
-    go : Dec (k ≡ n) → (k < n → r ≡ first n f) → r ≡ or_else (first n f) (f n)
+    go : Dec (k ≡ n) → (k < n → first n f ≡ Some r) → or_else (first n f) (f n) ≡ Some r
     go (yes d) ih = rw (← d, h) e
-    go (no d) ih = rw (← ih (omega arith)) (stays r (f n) (sym t ∙ y))
+    go (no d) ih = rw (ih (omega arith))
 
-first-none : (n : ℕ) (f : ℕ → Ray) → first n f ≡ None → (k : ℕ) → k < n → f k ≡ None
+first-none : (n : ℕ) (f : ℕ → Option Ray) → first n f ≡ None → (k : ℕ) → k < n → f k ≡ None
 unfolding first
 first-none zero f h k l = absurd (omega arith)
 first-none (suc n) f h k l = go (ℕ_discrete k n) (either (first n f) (f n) h) (λ e m. first-none n f e k m)
   where
-    either : (r s : Ray) → or_else r s ≡ None → (r ≡ None) × (s ≡ None)
+    either : (r s : Option Ray) → or_else r s ≡ None → (r ≡ None) × (s ≡ None)
     either None s e = (refl, e)
-    either (Single u) s e = absurd (let z : ◌≡◌ {A = ℕ} 0 1 = cc in omega arith)
-    either (Pair u w) s e = absurd (let z : ◌≡◌ {A = ℕ} 0 1 = cc in omega arith)
+    either (Some r) s e = absurd (let z : ◌≡◌ {A = ℕ} 0 1 = cc in omega arith)
 
     go : Dec (k ≡ n) → (first n f ≡ None) × (f n ≡ None) → (first n f ≡ None → k < n → f k ≡ None) → f k ≡ None
     go (yes d) e ih = rw d e.1
     go (no d) e ih = ih e.0 (omega arith)
 
-first-each : (P : Ray → Type 0) (n : ℕ) (f : ℕ → Ray) → P None → ((k : ℕ) → k < n → P (f k)) → P (first n f)
+first-each : (P : Option Ray → Type 0) (n : ℕ) (f : ℕ → Option Ray) → P None → ((k : ℕ) → k < n → P (f k)) → P (first n f)
 unfolding first
 first-each P zero f h all = h
 first-each P (suc n) f h all = either (first n f) (f n) (first-each P n f h (λ k l. all k (omega arith))) (all n (omega arith))
   where
-    either : (r s : Ray) → P r → P s → P (or_else r s)
+    either : (r s : Option Ray) → P r → P s → P (or_else r s)
     either None s p q = q
-    either (Single u) s p q = p
-    either (Pair u w) s p q = p
+    either (Some r) s p q = p
 
 -- ---- what was found
 
@@ -142,22 +129,22 @@ pub record Together (p : Problem) (u w : ℕ) : Type 0 where
   pub heavy : pos 0 <ℤ (direction_of p u).weight
   pub paying : pays (direction_of p u) (direction_of p w) ≡ true
 
-abbrev pub Tested : Problem → Ray → Type 0
+abbrev pub Tested : Problem → Option Ray → Type 0
 Tested p None = Unit {0}
-Tested p (Single u) = Alone p u
-Tested p (Pair u w) = Together p u w
+Tested p (Some (Single u)) = Alone p u
+Tested p (Some (Pair u w)) = Together p u w
 
 tested-from : (p : Problem) (u : ℕ) → u < 2 * p.count → Tested p (ray_from p u)
 unfolding ray_from
 tested-from p u l = go (gains (direction_of p u)) (lt_z (pos 0) (direction_of p u).weight) refl refl
   where
     with-one : gains (direction_of p u) ≡ true → pos 0 <ℤ (direction_of p u).weight → (w : ℕ) → w < 2 * p.count → (a : Bool)
-        → pays (direction_of p u) (direction_of p w) ≡ a → Tested p (cond a (Pair u w) None)
+        → pays (direction_of p u) (direction_of p w) ≡ a → Tested p (cond a (Some (Pair u w)) None)
     with-one g h w m true e = record { u-in = l; w-in = m; gaining = g; heavy = h; paying = e }
     with-one g h w m false e = tt
 
     go : (a b : Bool) → gains (direction_of p u) ≡ a → lt_z (pos 0) (direction_of p u).weight ≡ b
-        → Tested p (cond a (cond b (first_of p (partner_at p u (direction_of p u))) (Single u)) None)
+        → Tested p (cond a (cond b (first_of p (partner_at p u (direction_of p u))) (Some (Single u))) None)
     go true true g h = first-each (Tested p) (2 * p.count) (partner_at p u (direction_of p u)) tt
         (λ w m. with-one g (yes_lt h) w m (pays (direction_of p u) (direction_of p w)) refl)
     go true false g h = record { u-in = l; gaining = g; light = no_lt h }
@@ -167,8 +154,7 @@ pub tested : (p : Problem) → Tested p (ray_of p)
 unfolding ray_of
 tested p = first-each (Tested p) (2 * p.count) (ray_from p) tt (tested-from p)
 
-pub tested-directs : (p : Problem) (r : Ray) → Tested p r → Directs p r
-tested-directs p None t = tt
+pub tested-directs : (p : Problem) (r : Ray) → Tested p (Some r) → Directs p r
 tested-directs p (Single u) t = t.u-in
 tested-directs p (Pair u w) t = (t.u-in, t.w-in)
 
@@ -200,7 +186,7 @@ module _ (p : Problem) (u : ℕ) (d : Direction) (h : ray_as p u d ≡ None) (fr
   no-gain : d.weight ≤ℤ pos 0 → d.price ≤ℤ pos 0
   no-gain light = go (≤ℤ-or-< d.price (pos 0))
     where
-      found : pos 0 <ℤ d.price → ray_as p u d ≡ Single u
+      found : pos 0 <ℤ d.price → ray_as p u d ≡ Some (Single u)
       found k = rw (gains-yes d free k, le-no light)
 
       go : (d.price ≤ℤ pos 0) ⊎ (pos 0 <ℤ d.price) → d.price ≤ℤ pos 0
@@ -210,11 +196,11 @@ module _ (p : Problem) (u : ℕ) (d : Direction) (h : ray_as p u d ≡ None) (fr
   no-partner : pos 0 <ℤ d.weight → pos 0 <ℤ d.price → first_of p (partner_at p u d) ≡ None
   no-partner heavy k = rw (gains-yes d free k, lt_yes heavy) at h
 
-no-pay : (u w : ℕ) (d e : Direction) → cond (pays d e) (Pair u w) None ≡ None → e.free ≡ true → e.weight <ℤ pos 0 → gain d e ≤ℤ pos 0
+no-pay : (u w : ℕ) (d e : Direction) → cond (pays d e) (Some (Pair u w)) None ≡ None → e.free ≡ true → e.weight <ℤ pos 0 → gain d e ≤ℤ pos 0
 unfolding pays
 no-pay u w d e h free light = go (≤ℤ-or-< (gain d e) (pos 0))
   where
-    found : pos 0 <ℤ gain d e → cond (pays d e) (Pair u w) None ≡ Pair u w
+    found : pos 0 <ℤ gain d e → cond (pays d e) (Some (Pair u w)) None ≡ Some (Pair u w)
     found k = rw (free, lt_yes light, lt_yes k)
 
     go : (gain d e ≤ℤ pos 0) ⊎ (pos 0 <ℤ gain d e) → gain d e ≤ℤ pos 0

@@ -15,11 +15,11 @@ use lib.IntN.{ℤ, pos, neg_ℤ, nat_abs, ◌+ℤ◌, ◌*ℤ◌, *ℤ-zero}
 use lib.ListN.{length, get_or, replicate, length-set, length-replicate}
 use lib.Seq.{get_or-set_same, get_or-set_other}
 use lib.Signed.{◌≤ℤ◌, ◌<ℤ◌}
+use Rattle.std.specs.Prelude.{Option, None, Some, is_some, unwrap_or}
 use Rattle.arith.proofs.Integers.{split, split2, zed, nat_abs-neg}
 use Rattle.arith.proofs.Parts.{impossible}
 use Rattle.arith.proofs.Sums.{sum-cong, sum_bump, bump-same, bump-other}
 use Rattle.arith.specs.Sum.{sum, bump}
-use Rattle.knapsack.specs.declared.Bound.TheVariants.{Absent}
 use Rattle.knapsack.specs.declared.Problem.{Problem}
 use Rattle.knapsack.specs.declared.Item.{Item}
 use Rattle.knapsack.specs.Ranges.{item_at, InRange}
@@ -27,16 +27,16 @@ use Rattle.knapsack.specs.Meaning.{Point, instance_of, relaxed, Feasible, Unboun
 use Rattle.knapsack.proofs.Rays.{ray-unbounded}
 use Rattle.knapsack.proofs.Reach.{Way, fore, aft, turn, turn-mul, Free}
 use Rattle.rays.specs.declared.Ray.{Ray}
-use Rattle.rays.specs.declared.Ray.TheVariants.{None, Single, Pair}
-use Rattle.rays.specs.Directions.{way_of, direction_of, gain, is_ray, ray_of, still, move, steps_by}
+use Rattle.rays.specs.declared.Ray.TheVariants.{Single, Pair}
+use Rattle.rays.specs.Directions.{way_of, direction_of, gain, ray_of, still, move, steps_by}
 use Rattle.rays.specs.Rays.{RayFound}
 use Rattle.rays.proofs.Scan.{turn-size, direction-in, free-then, gains-says, pays-says, Alone, Together, Tested, tested, no-ray}
 
 -- ---- one step
 
 record Step (i : Item) (z : ℤ) : Type 0 where
-  up : pos 0 <ℤ z → i.upper ≡ Absent
-  down : z <ℤ pos 0 → i.lower ≡ Absent
+  up : pos 0 <ℤ z → i.upper ≡ None
+  down : z <ℤ pos 0 → i.lower ≡ None
   small : nat_abs z ≤ 1000
 
 no_step : (i : Item) → Step i (pos 0)
@@ -198,7 +198,7 @@ two-escapes p r u w n m light gaining ne g h = record {
 
 -- ---- what the scan found
 
-alone-escapes : (p : Problem) → InRange p → (u : ℕ) → Alone p u → Escapes p (steps_by p (Single u))
+alone-escapes : (p : Problem) → InRange p → (u : ℕ) → Alone p u → Escapes p (steps_by p (Some (Single u)))
 unfolding steps_by
 alone-escapes p r u t =
     let g = gains-says (direction_of p u) t.gaining in
@@ -223,7 +223,7 @@ apart : (p : Problem) (u w : ℕ) → pos 0 <ℤ (direction_of p u).weight → (
 unfolding direction_of
 apart p u w heavy light worth e = itself (way_of u) (way_of w) (item_at p (u / 2)).weight (item_at p (u / 2)).price heavy (rw e at light) (rw e at worth)
 
-together-escapes : (p : Problem) → InRange p → (u w : ℕ) → Together p u w → Escapes p (steps_by p (Pair u w))
+together-escapes : (p : Problem) → InRange p → (u w : ℕ) → Together p u w → Escapes p (steps_by p (Some (Pair u w)))
 unfolding steps_by
 together-escapes p r u w t =
     let d = direction_of p u in
@@ -247,26 +247,37 @@ together-escapes p r u w t =
 
 -- ---- the reply
 
-replied : (p : Problem) (l : List ℤ) → Escapes p l → RayFound p (record { found = true; steps = l })
+-- the reply made of a ray
+abbrev pub reply_of : Problem → Option Ray → Option (List ℤ)
+reply_of p None = None
+reply_of p (Some r) = Some (steps_by p (Some r))
+
+none-some : {l : List ℤ} → None ≡ Some l → ⊥
+none-some e = impossible (ap is_some e)
+
+some-none : {l : List ℤ} → Some l ≡ None → ⊥
+some-none e = impossible (sym (ap is_some e))
+
+same-steps : {l m : List ℤ} → Some l ≡ Some m → l ≡ m
+same-steps {l} e = ap (λ o. unwrap_or o l) e
+
+replied : (p : Problem) (l : List ℤ) → Escapes p l → RayFound p (Some l)
 replied p l e = record {
-  none = λ h. absurd (impossible (sym h));
-  rests = λ h. absurd (impossible (sym h));
-  escapes = λ h. unbounded p l e;
-  escapes-relaxed = λ h. unbounded-relaxed p l e;
-  small = λ k m. (e.steps k).small;
+  none = λ h. absurd (some-none h);
+  escapes = λ m h. rw (sym (same-steps h)) (unbounded p l e);
+  escapes-relaxed = λ m h. rw (sym (same-steps h)) (unbounded-relaxed p l e);
+  small = λ m h. rw (sym (same-steps h)) (λ k o. (e.steps k).small);
 }
 
-pub found : (p : Problem) → InRange p → RayFound p (record { found = is_ray (ray_of p); steps = steps_by p (ray_of p) })
-unfolding steps_by
+pub found : (p : Problem) → InRange p → RayFound p (reply_of p (ray_of p))
 found p r = go (ray_of p) refl (tested p)
   where
-    go : (s : Ray) → ray_of p ≡ s → Tested p s → RayFound p (record { found = is_ray s; steps = steps_by p s })
+    go : (s : Option Ray) → ray_of p ≡ s → Tested p s → RayFound p (reply_of p s)
     go None h t = record {
       none = λ e. no-ray p h;
-      rests = λ e. refl;
-      escapes = λ e. absurd (impossible e);
-      escapes-relaxed = λ e. absurd (impossible e);
-      small = λ k m. (still-steps p k).small;
+      escapes = λ l e. absurd (none-some e);
+      escapes-relaxed = λ l e. absurd (none-some e);
+      small = λ l e. absurd (none-some e);
     }
-    go (Single u) h t = replied p (steps_by p (Single u)) (alone-escapes p r u t)
-    go (Pair u w) h t = replied p (steps_by p (Pair u w)) (together-escapes p r u w t)
+    go (Some (Single u)) h t = replied p (steps_by p (Some (Single u))) (alone-escapes p r u t)
+    go (Some (Pair u w)) h t = replied p (steps_by p (Some (Pair u w))) (together-escapes p r u w t)

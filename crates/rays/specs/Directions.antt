@@ -14,9 +14,8 @@
 --                       ray_as p u d: the same by its figures d
 --   ray_of p             the first ray of p; is_ray r: there is one; Directs p r: its directions are some of p
 --   steps_by p r         the steps of a ray, one for each item; still: none; move l u n: l with n steps in direction u
-use Rattle.std.specs.Prelude.{Bool, true, false, cond, List, ℕ, zero, suc, ◌*◌, ◌/◌, ◌%◌, ◌≤◌, ◌<◌, eqb, ℤ, pos, neg_ℤ, nat_abs, ◌+ℤ◌, ◌*ℤ◌, replicate, set}
+use Rattle.std.specs.Prelude.{Option, None, Some, Bool, true, false, cond, List, ℕ, zero, suc, ◌*◌, ◌/◌, ◌%◌, ◌≤◌, ◌<◌, eqb, ℤ, pos, neg_ℤ, nat_abs, ◌+ℤ◌, ◌*ℤ◌, replicate, set}
 use Rattle.std.specs.Int.Signed.{lt_z}
-use Rattle.knapsack.specs.declared.Bound.{Bound}
 use Rattle.knapsack.specs.declared.Item.{Item}
 use Rattle.knapsack.specs.declared.Problem.{Problem}
 use Rattle.knapsack.specs.Items.{is_absent}
@@ -24,14 +23,14 @@ use Rattle.knapsack.specs.Ranges.{item_at}
 use Rattle.knapsack.proofs.Reach.{Way, fore, aft, turn}
 use Rattle.rays.specs.declared.Direction.{Direction}
 use Rattle.rays.specs.declared.Ray.{Ray}
-use Rattle.rays.specs.declared.Ray.TheVariants.{None, Single, Pair}
+use Rattle.rays.specs.declared.Ray.TheVariants.{Single, Pair}
 
 -- ---- directions
 
 abbrev pub way_of : ℕ → Way
 way_of u = cond (eqb (u % 2) 0) fore aft
 
-abbrev pub stop : Way → Item → Bound
+abbrev pub stop : Way → Item → Option ℤ
 stop fore i = i.upper
 stop aft i = i.lower
 
@@ -57,38 +56,35 @@ gain d e = d.price *ℤ neg_ℤ e.weight +ℤ e.price *ℤ d.weight
 unfoldable pub pays : Direction → Direction → Bool
 pays d e = cond e.free (cond (lt_z e.weight (pos 0)) (lt_z (pos 0) (gain d e)) false) false
 
-abbrev pub is_ray : Ray → Bool
+abbrev pub is_ray : Option Ray → Bool
 is_ray None = false
-is_ray (Single u) = true
-is_ray (Pair u w) = true
+is_ray (Some r) = true
 
-abbrev pub or_else : Ray → Ray → Ray
+abbrev pub or_else : Option Ray → Option Ray → Option Ray
 or_else None s = s
-or_else (Single u) s = Single u
-or_else (Pair u w) s = Pair u w
+or_else (Some r) s = Some r
 
-unfoldable pub first : ℕ → (ℕ → Ray) → Ray
+unfoldable pub first : ℕ → (ℕ → Option Ray) → Option Ray
 first zero f = None
 first (suc n) f = or_else (first n f) (f n)
 
 -- the directions of a problem are 0, …, 2 count - 1
-abbrev pub first_of : Problem → (ℕ → Ray) → Ray
+abbrev pub first_of : Problem → (ℕ → Option Ray) → Option Ray
 first_of p f = first (2 * p.count) f
 
-abbrev pub partner_at : Problem → ℕ → Direction → ℕ → Ray
-partner_at p u d w = cond (pays d (direction_of p w)) (Pair u w) None
+abbrev pub partner_at : Problem → ℕ → Direction → ℕ → Option Ray
+partner_at p u d w = cond (pays d (direction_of p w)) (Some (Pair u w)) None
 
-abbrev pub ray_as : Problem → ℕ → Direction → Ray
-ray_as p u d = cond (gains d) (cond (lt_z (pos 0) d.weight) (first_of p (partner_at p u d)) (Single u)) None
+abbrev pub ray_as : Problem → ℕ → Direction → Option Ray
+ray_as p u d = cond (gains d) (cond (lt_z (pos 0) d.weight) (first_of p (partner_at p u d)) (Some (Single u))) None
 
-unfoldable pub ray_from : Problem → ℕ → Ray
+unfoldable pub ray_from : Problem → ℕ → Option Ray
 ray_from p u = ray_as p u (direction_of p u)
 
-unfoldable pub ray_of : Problem → Ray
+unfoldable pub ray_of : Problem → Option Ray
 ray_of p = first_of p (ray_from p)
 
 abbrev pub Directs : Problem → Ray → Type 0
-Directs p None = Unit {0}
 Directs p (Single u) = u < 2 * p.count
 Directs p (Pair u w) = (u < 2 * p.count) × (w < 2 * p.count)
 
@@ -100,7 +96,7 @@ still = replicate 16 (pos 0)
 abbrev pub move : List ℤ → ℕ → ℤ → List ℤ
 move l u n = set l (u / 2) (turn (way_of u) n)
 
-unfoldable pub steps_by : Problem → Ray → List ℤ
+unfoldable pub steps_by : Problem → Option Ray → List ℤ
 steps_by p None = still
-steps_by p (Single u) = move still u (pos 1)
-steps_by p (Pair u w) = move (move still u (neg_ℤ (direction_of p w).weight)) w (direction_of p u).weight
+steps_by p (Some (Single u)) = move still u (pos 1)
+steps_by p (Some (Pair u w)) = move (move still u (neg_ℤ (direction_of p w).weight)) w (direction_of p u).weight

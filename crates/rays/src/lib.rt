@@ -3,15 +3,15 @@
 // proofs/Corner is about the point that a planner applies the answer to, the light corner, and about infeasible problems.
 #![tactic(auto)]
 
-ghost use Rattle.std.specs.Prelude.{◌≡◌, ◌*◌, ◌<◌};
+ghost use Rattle.std.specs.Prelude.{◌≡◌, ◌*◌, ◌<◌, Some};
 ghost use Rattle.arith.specs.Within.{Within};
 ghost use Rattle.knapsack.specs.Ranges.{InRange};
 ghost use Rattle.knapsack.proofs.Reach.{turn};
-ghost use Rattle.rays.specs.Directions.{way_of, stop, direction_of, DirectionInRange, gains, gain, pays, is_ray, first_of, partner_at, ray_from, ray_of};
+ghost use Rattle.rays.specs.Directions.{way_of, stop, direction_of, DirectionInRange, gains, gain, pays, first_of, partner_at, ray_from, ray_of};
 ghost use Rattle.rays.specs.Directions.{Directs, still, move, steps_by};
 ghost use Rattle.rays.specs.Rays.{RayFound};
 
-use knapsack::{Bound, Item, Problem, is_absent};
+use knapsack::{Item, Problem, is_absent};
 
 // An item's amount going one way: whether no bound stops it, and what a unit weighs and is worth.
 #[derive(Clone, Copy)]
@@ -24,20 +24,12 @@ struct Direction {
 // A ray by its directions. Direction u is item u / 2, upwards if u is even: an item with no bound at all has both.
 #[derive(Clone, Copy)]
 enum Ray {
-    None,
     Single(usize),
     Pair(usize, usize),
 }
 
-// Whether there is a ray, and its step for each item; all are 0 where there is none.
-#[derive(Clone, Copy)]
-pub struct RayReply {
-    pub found: bool,
-    pub steps: [i64; 16],
-}
-
 // The bound that an item meets in direction u.
-fn stop_of(i: Item, u: usize) -> Bound
+fn stop_of(i: Item, u: usize) -> Option<i64>
     ensures { result ≡ stop (way_of u) i }
 {
     if u % 2 == 0 { i.upper } else { i.lower }
@@ -94,49 +86,35 @@ fn does_pay(d: Direction, e: Direction) -> bool
     false
 }
 
-fn is_ray(r: Ray) -> bool
-    ensures { result ≡ is_ray r }
-{
-    match r {
-        Ray::None => false,
-        Ray::Single(_) => true,
-        Ray::Pair(_, _) => true,
-    }
-}
-
 // The pair of u, whose figures are d, and w, if w pays for u.
-fn partner_at(p: Problem, u: usize, d: Direction, w: usize) -> Ray
+fn partner_at(p: Problem, u: usize, d: Direction, w: usize) -> Option<Ray>
     requires { InRange p × (DirectionInRange d × (w < 2 * p.count)) }
     ensures { result ≡ partner_at p u d w }
 {
     let e = direction_at(p, w);
     if does_pay(d, e) {
-        Ray::Pair(u, w)
+        Some(Ray::Pair(u, w))
     } else {
-        Ray::None
+        None
     }
 }
 
 // The pair of u, whose figures are d, and the first direction that pays for it.
-fn partner(p: Problem, u: usize, d: Direction) -> Ray
+fn partner(p: Problem, u: usize, d: Direction) -> Option<Ray>
     requires { InRange p × DirectionInRange d }
     ensures { result ≡ first_of p (partner_at p u d) }
 {
-    let n = 2 * p.count;
-    let mut w: usize = 0;
-    while w < n {
-        let r = partner_at(p, u, d, w);
-        if is_ray(r) {
-            return r;
+    for w in 0..2 * p.count {
+        if let Some(r) = partner_at(p, u, d, w) {
+            return Some(r);
         }
-        w += 1;
     }
-    Ray::None
+    None
 }
 
 // The ray that begins with u, which has to gain: alone if it is not heavy, else with a partner. See proofs/Steps
 // (one-escapes, two-escapes), and proofs/Scan (no-ray) on why these are all.
-fn ray_from(p: Problem, u: usize) -> Ray
+fn ray_from(p: Problem, u: usize) -> Option<Ray>
     requires { InRange p × (u < 2 * p.count) }
     ensures { result ≡ ray_from p u }
 {
@@ -145,25 +123,21 @@ fn ray_from(p: Problem, u: usize) -> Ray
         if 0 < d.weight {
             return partner(p, u, d);
         }
-        return Ray::Single(u);
+        return Some(Ray::Single(u));
     }
-    Ray::None
+    None
 }
 
-fn first_ray(p: Problem) -> Ray
+fn first_ray(p: Problem) -> Option<Ray>
     requires { InRange p }
     ensures { result ≡ ray_of p }
 {
-    let n = 2 * p.count;
-    let mut u: usize = 0;
-    while u < n {
-        let r = ray_from(p, u);
-        if is_ray(r) {
-            return r;
+    for u in 0..2 * p.count {
+        if let Some(r) = ray_from(p, u) {
+            return Some(r);
         }
-        u += 1;
     }
-    Ray::None
+    None
 }
 
 // The steps with n steps in direction u.
@@ -185,7 +159,7 @@ fn no_steps() -> [i64; 16]
 // Each of the two goes by the other's weight, so that together they weigh nothing.
 fn pair_steps(p: Problem, u: usize, w: usize) -> [i64; 16]
     requires { InRange p × ((u < 2 * p.count) × (w < 2 * p.count)) }
-    ensures { result ≡ steps_by p (Ray.Pair u w) }
+    ensures { result ≡ steps_by p (Some (Ray.Pair u w)) }
 {
     let d = direction_at(p, u);
     let e = direction_at(p, w);
@@ -196,25 +170,19 @@ fn pair_steps(p: Problem, u: usize, w: usize) -> [i64; 16]
 
 fn steps_of(p: Problem, r: Ray) -> [i64; 16]
     requires { InRange p × Directs p r }
-    ensures { result ≡ steps_by p r }
+    ensures { result ≡ steps_by p (Some r) }
 {
     match r {
-        Ray::None => no_steps(),
         Ray::Single(u) => moved(no_steps(), u, 1),
         Ray::Pair(u, w) => pair_steps(p, u, w),
     }
 }
 
-// Whether the problem has a ray, and its steps.
-pub fn find_ray(p: Problem) -> RayReply
+// The steps of the problem's ray, one for each item; none where it has no ray.
+pub fn find_ray(p: Problem) -> Option<[i64; 16]>
     requires { InRange p }
     ensures { RayFound p result }
 {
-    let r = first_ray(p);
-    let found = is_ray(r);
-    let steps = steps_of(p, r);
-    RayReply {
-        found: found,
-        steps: steps,
-    }
+    let r = first_ray(p)?;
+    Some(steps_of(p, r))
 }

@@ -5,9 +5,8 @@
 ghost use Rattle.std.specs.Prelude.{◌≤◌};
 ghost use Rattle.model.specs.Records.{FiguresInRange};
 
-use knapsack::{Bound, Problem, Verdict};
+use knapsack::Problem;
 use model::{Model, ModelItem, Sense};
-use rays::RayReply;
 use trials::draw::{below, figure, mended_price, next};
 use trials::make::{first_of, free, from_zero, held, item, loose, one, to_zero, two};
 use trials::print::{print, print_signed_field};
@@ -15,22 +14,17 @@ use trials::print::{print, print_signed_field};
 fn print_steps(steps: [i64; 16], n: usize)
     requires { n ≤ 16 }
 {
-    let mut k: usize = 0;
-    while k < n {
-        let z = steps[k];
-        print_signed_field(z);
-        k += 1;
+    for z in &steps[..n] {
+        print_signed_field(*z);
     }
 }
 
-fn print_reply(r: RayReply, n: usize)
+fn print_reply(r: Option<[i64; 16]>, n: usize)
     requires { n ≤ 16 }
 {
-    if r.found {
-        let steps = r.steps;
-        print_steps(steps, n);
-    } else {
-        print(b" none");
+    match r {
+        Some(steps) => print_steps(steps, n),
+        None => print(b" none"),
     }
 }
 
@@ -41,16 +35,14 @@ fn scanned(p: Problem)
     if model::some_crosses(p) {
         print(b" crossed");
     } else {
-        let r = rays::find_ray(p);
-        print_reply(r, p.count);
+        print_reply(rays::find_ray(p), p.count);
     }
 }
 
 fn print_ray(p: Model) {
-    let v = model::check_model(p);
-    match v {
-        Verdict::Accepted => scanned(model::plain_of(p, Sense::Sure)),
-        Verdict::Refused(_) => print(b" refused"),
+    match model::check_model(p) {
+        Ok(()) => scanned(model::plain_of(p, Sense::Sure)),
+        Err(_) => print(b" refused"),
     }
 }
 
@@ -128,12 +120,8 @@ struct Draw {
     state: u64,
 }
 
-fn bound(state: u64, at: i64) -> Bound {
-    if below(state, 1) == 0 {
-        Bound::Absent
-    } else {
-        Bound::At(at)
-    }
+fn bound(state: u64, at: i64) -> Option<i64> {
+    if below(state, 1) == 0 { None } else { Some(at) }
 }
 
 fn draw_item(state: u64) -> Draw {
@@ -153,17 +141,12 @@ fn drawn_sheets(count: usize, sheets: usize)
     requires { sheets ≤ 1000 }
 {
     let mut state: u64 = 1;
-    let mut k: usize = 0;
-    while k < sheets {
+    for _ in 0..sheets {
         let x = draw_item(state);
         let y = draw_item(x.state);
         let z = draw_item(y.state);
         state = z.state;
-        let first = x.item;
-        let second = y.item;
-        let third = z.item;
-        show(b'-', first_of(4, count, first, second, third));
-        k += 1;
+        show(b'-', first_of(4, count, x.item, y.item, z.item));
     }
 }
 

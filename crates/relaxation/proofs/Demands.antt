@@ -2,13 +2,13 @@
 -- `planned-demands` (planner, proofs/Demands).
 -- same-items (end theorem): the lent list holds the same items afterwards, whether its problem is accepted or not.
 use mathlib.Core.List.{List}
-use mathlib.Core.Path.{◌≡◌, refl}
+use mathlib.Core.Path.{refl}
 use Prim.Native.Nat.{ℕ}
 use lib.IntN.{ℤ}
 use lib.ListN.{length, get_or}
 use Rattle.knapsack.specs.declared.Answer.{Answer}
-use Rattle.knapsack.specs.declared.Verdict.{Verdict}
-use Rattle.knapsack.specs.declared.Verdict.TheVariants.{Accepted, Refused}
+use Rattle.knapsack.specs.Verdicts.{Verdict}
+use Rattle.std.specs.Prelude.{Ok, Err}
 use Rattle.knapsack.specs.declared.Item.{Item}
 use Rattle.model.specs.declared.ModelItem.{ModelItem}
 use Rattle.model.specs.declared.Sense.{Sense}
@@ -50,8 +50,8 @@ unfolding after
 after_same b t l = go (verdict (model_of b t.needs l))
   where
     go : (v : Verdict) → SameItems l (if_accepted v (in_order t.sense (λ k. get_or l k no_item) (length l)) l)
-    go Accepted = ordered_same t.sense l
-    go (Refused f) = record {
+    go (Ok _) = ordered_same t.sense l
+    go (Err f) = record {
       length-is = refl;
       from = λ u. u;
       to = λ u. u;

@@ -10,11 +10,10 @@ use lib.ListN.{length, get_or, take, drop, set, replicate, length-append, length
 use lib.Seq.{take_at, drop-length, ext_get_or}
 use Rattle.arith.specs.Sum.{Each}
 use Rattle.knapsack.specs.declared.Refusal.{Refusal}
-use Rattle.knapsack.specs.declared.Verdict.{Verdict}
-use Rattle.knapsack.specs.declared.Verdict.TheVariants.{Accepted, Refused}
+use Rattle.knapsack.specs.Verdicts.{Verdict}
+use Rattle.std.specs.Prelude.{Ok, Err}
 use Rattle.model.specs.declared.Model.{Model}
 use Rattle.model.specs.declared.ModelItem.{ModelItem}
-use Rattle.model.specs.declared.Needs.{Needs}
 use Rattle.model.specs.declared.Sense.{Sense}
 use Rattle.model.specs.Records.{no_item, item_at, item_in, verdict}
 use Rattle.model.proofs.Records.{accepted}
@@ -101,11 +100,11 @@ items-cong s f g n e =
 
 -- ---- what the core hands back
 
-pub settled-accepted : (q : Query) → verdict q.model ≡ Accepted → settled q ≡ arranged_in q.sense q.model
+pub settled-accepted : (q : Query) → verdict q.model ≡ Ok tt → settled q ≡ arranged_in q.sense q.model
 unfolding settled
 settled-accepted q e = rw e
 
-pub settled-refused : (q : Query) (f : Refusal) → verdict q.model ≡ Refused f → settled q ≡ q.model
+pub settled-refused : (q : Query) (f : Refusal) → verdict q.model ≡ Err f → settled q ≡ q.model
 unfolding settled
 settled-refused q f e = rw e
 
@@ -116,7 +115,7 @@ module _ (b : ℤ) (t : Terms) (l : List ModelItem) where
   abbrev n : ℕ
   n = usable (length l)
 
-  accepted-few : verdict m ≡ Accepted → length l ≤ 16
+  accepted-few : verdict m ≡ Ok tt → length l ≤ 16
   accepted-few e = ((accepted m e).figures t.sense).few-items
 
   pub settled-length : length (settled (loaded b (length l) t l)).items ≡ 16
@@ -124,8 +123,8 @@ module _ (b : ℤ) (t : Terms) (l : List ModelItem) where
   settled-length = go (verdict m) refl
     where
       go : (v : Verdict) → verdict m ≡ v → length (if_accepted v (arranged_in t.sense m) m).items ≡ 16
-      go Accepted e = simp (length-append, length-drop, filled-length) (omega (arith, accepted-few e, items-length t.sense (item_at m) (length l)))
-      go (Refused f) e = filled-length 16 l
+      go (Ok _) e = simp (length-append, length-drop, filled-length) (omega (arith, accepted-few e, items-length t.sense (item_at m) (length l)))
+      go (Err f) e = filled-length 16 l
 
   pub stored : take n (settled (loaded b (length l) t l)).items ++ drop n l ≡ after b t l
   unfolding settled arranged_in after
@@ -133,7 +132,7 @@ module _ (b : ℤ) (t : Terms) (l : List ModelItem) where
     where
       go : (v : Verdict) → verdict m ≡ v →
           take n (if_accepted v (arranged_in t.sense m) m).items ++ drop n l ≡ if_accepted v (in_order t.sense (λ k. get_or l k no_item) (length l)) l
-      go Accepted e =
+      go (Ok _) e =
           let few = accepted-few e in
           let all : n ≡ length l = omega arith in
           rw (
@@ -143,12 +142,12 @@ module _ (b : ℤ) (t : Terms) (l : List ModelItem) where
             append-nil,
           )
           (items-cong t.sense (item_at m) (λ k. get_or l k no_item) (length l) (λ k h. filled_at 16 k l (omega arith)))
-      go (Refused f) e = rw (filled-take 16 n l (omega arith) (omega arith)) (take-append-drop n l)
+      go (Err f) e = rw (filled-take 16 n l (omega arith) (omega arith)) (take-append-drop n l)
 
   pub after-length : length (after b t l) ≡ length l
   unfolding after
   after-length = go (verdict m)
     where
       go : (v : Verdict) → length (if_accepted v (in_order t.sense (λ k. get_or l k no_item) (length l)) l) ≡ length l
-      go Accepted = items-length t.sense (λ k. get_or l k no_item) (length l)
-      go (Refused f) = refl
+      go (Ok _) = items-length t.sense (λ k. get_or l k no_item) (length l)
+      go (Err f) = refl

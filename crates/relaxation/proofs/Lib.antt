@@ -1,3 +1,4 @@
 pub mod Lent
 pub mod Loose
 pub mod Demands
+mod Placed

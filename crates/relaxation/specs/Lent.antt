@@ -17,8 +17,8 @@ use Rattle.std.specs.Prelude.{Bool, false, List, [], ◌∷◌, ◌++◌, map, �
 use Rattle.knapsack.specs.declared.Answer.{Answer}
 use Rattle.knapsack.specs.declared.Item.{Item}
 use Rattle.knapsack.specs.declared.Problem.{Problem}
-use Rattle.knapsack.specs.declared.Verdict.{Verdict}
-use Rattle.knapsack.specs.declared.Verdict.TheVariants.{Accepted, Refused}
+use Rattle.knapsack.specs.Verdicts.{Verdict}
+use Rattle.std.specs.Prelude.{Ok, Err}
 use Rattle.knapsack.specs.Meaning.{instance_of}
 use Rattle.knapsack.specs.Ranges.{item_at}
 use Rattle.model.specs.declared.Model.{Model}
@@ -60,8 +60,8 @@ arranged_in s m = record {
 }
 
 abbrev pub if_accepted : {A : Type 0} → Verdict → A → A → A
-if_accepted Accepted x y = x
-if_accepted (Refused f) x y = y
+if_accepted (Ok _) x y = x
+if_accepted (Err f) x y = y
 
 unfoldable pub after : ℤ → Terms → List ModelItem → List ModelItem
 after b t l = if_accepted (verdict (model_of b t.needs l)) (in_order t.sense (λ k. get_or l k no_item) (length l)) l

@@ -6,10 +6,10 @@
 
 ghost use Rattle.std.specs.Prelude.{◌≡◌, ◌≤◌, ◌<◌, []};
 ghost use Rattle.model.specs.Needs.{loosened};
-ghost use Rattle.model.specs.Records.{item_at, plain_of, Admissible, FiguresInRange};
-ghost use Rattle.relaxation.specs.Lent.{usable, loaded, with_next, arranged_in, loose, Loosened, AnswersRelaxed, Settles, Relaxes};
+ghost use Rattle.model.specs.Records.{plain_of, Admissible, FiguresInRange};
+ghost use Rattle.relaxation.specs.Lent.{loaded, with_next, arranged_in, loose, Loosened, AnswersRelaxed, Settles, Relaxes};
 
-use knapsack::{Answer, Item, Kind, Mark, Problem, Verdict, with_item};
+use knapsack::{Answer, Item, Kind, Mark, Problem, with_item};
 use model::{Model, ModelItem, Needs, Sense, check_model, plain_of, setters};
 use ordering::rank;
 use planner::{named_of, solve_needs};
@@ -36,23 +36,16 @@ pub struct Outcome {
     pub model: Model,
 }
 
-// How many items of a list of n are looked at.
-fn usable_of(n: usize) -> usize
-    ensures { result ≡ usable n }
-{
-    if n < 16 { n } else { 16 }
-}
-
 // A record with no items loaded yet.
 fn opened(capacity: i64, count: usize, terms: Terms) -> Query
     ensures { result ≡ loaded capacity count terms [] }
 {
-    let ns = terms.needs;
-    let sense = terms.sense;
     let m = setters::with_capacity(setters::empty_model(), capacity);
     let n = setters::with_count(m, count);
-    let model = setters::with_needs(n, ns);
-    Query { model, sense }
+    Query {
+        model: setters::with_needs(n, terms.needs),
+        sense: terms.sense,
+    }
 }
 
 // One item more is loaded.
@@ -60,25 +53,10 @@ fn with_next(q: Query, i: usize, x: ModelItem) -> Query
     requires { i < 16 }
     ensures { result ≡ with_next q i x }
 {
-    let m = q.model;
-    let sense = q.sense;
-    let model = setters::with_item(m, i, x);
-    Query { model, sense }
-}
-
-// The item that is stored back at a place.
-fn nth(o: Outcome, i: usize) -> ModelItem
-    requires { i < 16 }
-    ensures { result ≡ item_at o.model i }
-{
-    let m = o.model;
-    m.items[i]
-}
-
-fn answer_of(o: Outcome) -> Answer
-    ensures { result ≡ o.answer }
-{
-    o.answer
+    Query {
+        model: setters::with_item(q.model, i, x),
+        ..q
+    }
 }
 
 // An item that is not kept becomes continuous.
@@ -91,16 +69,9 @@ fn loose_mark(kept: bool, m: Mark) -> Mark
 fn loose_item(kept: bool, x: Item) -> Item
     ensures { result ≡ loose kept x }
 {
-    let m = x.mark;
-    let mark = loose_mark(kept, m);
-    let lower = x.lower;
-    let upper = x.upper;
     Item {
-        mark: mark,
-        weight: x.weight,
-        price: x.price,
-        lower: lower,
-        upper: upper,
+        mark: loose_mark(kept, x.mark),
+        ..x
     }
 }
 
@@ -109,14 +80,9 @@ fn loosen(p: Problem, named: [bool; 16]) -> Problem
     requires { p.count ≤ 16 }
     ensures { Loosened p named p.count result }
 {
-    let n = p.count;
     let mut q = p;
-    let mut k: usize = 0;
-    while k < n {
-        let kept = named[k];
-        let x = loose_item(kept, p.items[k]);
-        q = with_item(q, k, x);
-        k += 1;
+    for k in 0..p.count {
+        q = with_item(q, k, loose_item(named[k], p.items[k]));
     }
     q
 }
@@ -126,10 +92,8 @@ fn relaxed_answer(m: Model, sense: Sense) -> Answer
     requires { Admissible m }
     ensures { AnswersRelaxed sense m result }
 {
-    let ns = m.needs;
-    let q = loosen(plain_of(m, sense), named_of(ns));
-    let r = solve_needs(q, ns, STEPS);
-    r.answer
+    let q = loosen(plain_of(m, sense), named_of(m.needs));
+    solve_needs(q, m.needs, STEPS).answer
 }
 
 // The record with its items in order.
@@ -137,16 +101,10 @@ fn arranged(m: Model, sense: Sense) -> Model
     requires { FiguresInRange (plain_of sense m) }
     ensures { result ≡ arranged_in sense m }
 {
-    let n = m.count;
     let ranking = rank(plain_of(m, sense));
-    let at = ranking.at;
     let mut q = m;
-    let mut u: usize = 0;
-    while u < n {
-        let k = at[u];
-        let x = m.items[k];
-        q = setters::with_item(q, u, x);
-        u += 1;
+    for u in 0..m.count {
+        q = setters::with_item(q, u, m.items[ranking.at[u]]);
     }
     q
 }
@@ -156,24 +114,15 @@ fn core(q: Query) -> Outcome
     ensures { Settles q result }
 {
     let m = q.model;
-    let sense = q.sense;
-    let v = check_model(m);
-    match v {
-        Verdict::Accepted => {
-            let a = relaxed_answer(m, sense);
-            let n = arranged(m, sense);
-            Outcome {
-                answer: a,
-                model: n,
-            }
-        }
-        Verdict::Refused(f) => {
-            let a = no_point(Kind::Refused(f));
-            Outcome {
-                answer: a,
-                model: m,
-            }
-        }
+    match check_model(m) {
+        Ok(()) => Outcome {
+            answer: relaxed_answer(m, q.sense),
+            model: arranged(m, q.sense),
+        },
+        Err(f) => Outcome {
+            answer: no_point(Kind::Refused(f)),
+            model: m,
+        },
     }
 }
 
@@ -181,19 +130,15 @@ fn core(q: Query) -> Outcome
 pub fn relax_with(capacity: i64, items: &mut [ModelItem], terms: Terms) -> Answer
     ensures { Relaxes capacity terms items.old items.new result }
 {
-    let len = items.len();
-    let n = usable_of(len);
-    let mut q = opened(capacity, len, terms);
-    let mut i: usize = 0;
-    while i < n {
+    // no more items than a record has places
+    let n = items.len().min(16);
+    let mut q = opened(capacity, items.len(), terms);
+    for i in 0..n {
         q = with_next(q, i, items[i]);
-        i += 1;
     }
     let o = core(q);
-    i = 0;
-    while i < n {
-        items[i] = nth(o, i);
-        i += 1;
+    for i in 0..n {
+        items[i] = o.model.items[i];
     }
-    answer_of(o)
+    o.answer
 }

@@ -3,22 +3,21 @@
 // same kind and, where best, worth no more. So is the sheet with ranges drawn for its weights, in both senses. A sheet on which one of these fails is printed.
 ghost use Rattle.std.specs.Prelude.{◌≤◌};
 
-use crate::lending::{Lent, Sheet, relaxed};
+use crate::lending::{Lent, relaxed};
 use crate::line::print_line;
 use crate::order::{is_ordered, turned};
 use crate::sheets::{
-    DrawnSheet, drawn_sheet, large, loosened, ranged, record_of, with_drawn_lines,
+    DrawnSheet, Sheet, drawn_sheet, large, loosened, ranged, record_of, with_drawn_lines,
 };
-use knapsack::Answer;
+use knapsack::{Answer, Kind};
 use model::Sense;
 use planner::plan;
 use trials::draw::{Spans, next, small};
-use trials::enumerate::below;
-use trials::exact::as_signed;
+use trials::exact::{is_less, ratio_of};
 use trials::outcome::{Outcome, outcome_of};
 use trials::print::{print, print_kind, size_of};
 use trials::ranges::at_ends;
-use trials::tally::{Tally, no_answers, number_of, print_tally, tallied};
+use trials::tally::{Tally, no_answers, print_tally, tallied};
 
 // Where there is a best point, some best point has all amounts but one at a bound, or at 0 where both are absent. With small figures
 // the bounds are within ±3, and that one amount is within 12 + 4 · 4 · 3, the capacity and four items' weight.
@@ -26,34 +25,13 @@ const REACH: i64 = 60;
 
 // ---- one sheet
 
-fn same_kind(a: Answer, b: Answer) -> bool {
-    let k = a.kind;
-    let l = b.kind;
-    number_of(k) == number_of(l)
-}
-
-fn is_best(a: Answer) -> bool {
-    let k = a.kind;
-    number_of(k) == 1
-}
-
-fn is_worth_less(a: Answer, b: Answer) -> bool {
-    let v = a.value;
-    let w = b.value;
-    below(v.p, as_signed(v.q), w.p, as_signed(w.q))
-}
-
 // Whether the relaxation's answer can stand beside the planner's.
 fn is_above(a: Answer, planned: Answer) -> bool {
-    if !same_kind(a, planned) {
-        return false;
-    }
-    !is_best(a) || !is_worth_less(a, planned)
+    let is_worth_less = is_less(ratio_of(a.value), ratio_of(planned.value));
+    a.kind == planned.kind && (a.kind != Kind::Optimal || !is_worth_less)
 }
 
-fn print_wrong(s: Sheet, r: Lent, planned: Answer)
-    requires { s.count ≤ 18 }
-{
+fn print_wrong(s: Sheet, r: Lent, planned: Answer) {
     print(b"disagreement, planned ");
     print_kind(planned);
     print(b": ");
@@ -65,26 +43,29 @@ fn print_wrong(s: Sheet, r: Lent, planned: Answer)
 fn orders(s: Sheet, r: Lent, n: usize, low: bool) -> bool
     requires { n ≤ 15 }
 {
-    let list = s.items;
-    let now = r.items;
     if low {
-        return is_ordered(turned(list), turned(now), n);
+        return is_ordered(turned(s.items), turned(r.items), n);
     }
-    is_ordered(list, now, n)
+    is_ordered(s.items, r.items, n)
 }
 
 // The sheet with ranges, relaxed in a sense, held to the record whose weights are known, each at that end, and the list to their order.
 fn holds_at(s: Sheet, n: usize, ends: u64) -> bool
-    requires { (n ≤ 15) × (s.count ≤ 18) }
+    requires { n ≤ 15 }
 {
     let r = relaxed(s);
-    let a = r.answer;
-    let o = outcome_of(loosened(at_ends(record_of(s), ends)), a, n, REACH, true);
+    let o = outcome_of(
+        loosened(at_ends(record_of(s), ends)),
+        r.answer,
+        n,
+        REACH,
+        true,
+    );
     o.agrees && orders(s, r, n, ends == 0)
 }
 
 fn senses_hold(s: Sheet, n: usize) -> bool
-    requires { (n ≤ 15) × (s.count ≤ 18) }
+    requires { n ≤ 15 }
 {
     let state = next(size_of(s.capacity));
     let sure = ranged(s, state, Sense::Sure);
@@ -93,28 +74,21 @@ fn senses_hold(s: Sheet, n: usize) -> bool
 }
 
 fn tried(t: Tally, s: Sheet, n: usize) -> Tally
-    requires { (n ≤ 15) × (s.count ≤ 18) }
+    requires { n ≤ 15 }
 {
     let p = record_of(s);
     let planned = plan(p, Sense::Sure);
     let r = relaxed(s);
     let a = r.answer;
-    let list = s.items;
-    let now = r.items;
     let o = outcome_of(loosened(p), a, n, REACH, true);
-    let agrees = o.agrees && is_ordered(list, now, n) && is_above(a, planned) && senses_hold(s, n);
+    let agrees = o.agrees
+        && is_ordered(s.items, r.items, n)
+        && is_above(a, planned)
+        && senses_hold(s, n);
     if !agrees {
         print_wrong(s, r, planned);
     }
-    let k = a.kind;
-    tallied(
-        t,
-        k,
-        Outcome {
-            agrees: agrees,
-            met: o.met,
-        },
-    )
+    tallied(t, a.kind, Outcome { agrees, met: o.met })
 }
 
 // ---- many
@@ -122,7 +96,6 @@ fn tried(t: Tally, s: Sheet, n: usize) -> Tally
 // The next sheet; with needs where among is above 0.
 fn next_sheet(state: u64, n: usize, among: u64, z: Spans) -> DrawnSheet
     requires { n ≤ 15 }
-    ensures { result.sheet.count ≤ 18 }
 {
     let d = drawn_sheet(state, n, z);
     if among == 0 {
@@ -137,13 +110,10 @@ fn tally_of(seed: u64, sheets: u64, n: usize, among: u64, z: Spans) -> Tally
 {
     let mut t = no_answers();
     let mut state = seed;
-    let mut k: u64 = 0;
-    while k < sheets {
+    for _ in 0..sheets {
         let d = next_sheet(state, n, among, z);
-        let s = d.sheet;
-        t = tried(t, s, n);
+        t = tried(t, d.sheet, n);
         state = d.state;
-        k += 1;
     }
     t
 }

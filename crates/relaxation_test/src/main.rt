@@ -10,20 +10,16 @@ mod counted; // drawn sheets, held to enumeration and counted
 
 ghost use Rattle.std.specs.Prelude.{◌≤◌};
 
-use crate::lending::{Sheet, relaxed};
+use crate::lending::relaxed;
 use crate::line::print_line;
-use crate::sheets::{drawn_sheet, large, one, three, two, with_items, with_need};
+use crate::sheets::{Sheet, drawn_sheet, large, one, three, two, with_items, with_need};
 use trials::draw::{Spans, small};
 use trials::make::{free, from_zero, held, loose, to_zero};
 use trials::print::print;
 
-fn show(name: u8, s: Sheet)
-    requires { s.count ≤ 18 }
-{
-    let label = [name, b' '];
-    print(&label);
-    let r = relaxed(s);
-    print_line(s, r);
+fn show(name: u8, s: Sheet) {
+    print(&[name, b' ']);
+    print_line(s, relaxed(s));
 }
 
 // ---- chosen sheets
@@ -230,13 +226,10 @@ fn drawn_sheets(seed: u64, sheets: usize, count: usize, z: Spans)
     requires { count ≤ 18 }
 {
     let mut state = seed;
-    let mut k: usize = 0;
-    while k < sheets {
+    for _ in 0..sheets {
         let d = drawn_sheet(state, count, z);
-        let s = d.sheet;
-        show(b'-', s);
+        show(b'-', d.sheet);
         state = d.state;
-        k += 1;
     }
 }
 

@@ -6,31 +6,30 @@ ghost use Rattle.std.specs.Prelude.{◌≡◌};
 ghost use Rattle.senses.specs.Both.{PlannedBoth};
 ghost use Rattle.replies.specs.Replies.{both_refused, Answered, Replies, Lists, SheetLists};
 
-use knapsack::{Kind, Refusal, Verdict};
+use knapsack::{Kind, Refusal};
 use listing::{list_reply, text_of};
 use model::{Answers, Model};
 use senses::plan_both;
 use sheet::{Reading, read};
 use solver::no_point;
-use text::{Listed, Text};
+use text::Text;
 
 fn both_refused(f: Refusal) -> Answers
     ensures { result ≡ both_refused f }
 {
-    let sure = no_point(Kind::Refused(f));
-    let possible = no_point(Kind::Refused(f));
-    Answers { sure, possible }
+    Answers {
+        sure: no_point(Kind::Refused(f)),
+        possible: no_point(Kind::Refused(f)),
+    }
 }
 
 // The answers to what was read.
 fn answered(r: Reading) -> Answers
     ensures { Answered r result }
 {
-    let v = r.verdict;
-    let m = r.model;
-    match v {
-        Verdict::Accepted => plan_both(m),
-        Verdict::Refused(f) => both_refused(f),
+    match r.verdict {
+        Ok(()) => plan_both(r.model),
+        Err(f) => both_refused(f),
     }
 }
 
@@ -39,14 +38,12 @@ pub fn reply_to(sheet: &[u8]) -> Text
     ensures { Replies sheet.now result }
 {
     let r = read(sheet);
-    let a = answered(r);
-    let m = r.model;
-    text_of(a, m.count)
+    text_of(answered(r), r.model.count)
 }
 
 // The text of the reply to a record in a lent buffer: its refusal, or refusal 11 if the buffer is too short, and no byte changes; else
 // the text at the start of the buffer, and the bytes behind it stay.
-pub fn list(m: Model, out: &mut [u8]) -> Listed
+pub fn list(m: Model, out: &mut [u8]) -> Result<usize, Refusal>
     ensures { Lists (PlannedBoth m) m.count out.old out.new result }
 {
     let a = plan_both(m);
@@ -54,11 +51,9 @@ pub fn list(m: Model, out: &mut [u8]) -> Listed
 }
 
 // The same for a sheet: its own refusal, with its line, comes first.
-pub fn list_sheet(sheet: &[u8], out: &mut [u8]) -> Listed
+pub fn list_sheet(sheet: &[u8], out: &mut [u8]) -> Result<usize, Refusal>
     ensures { SheetLists sheet.now out.old out.new result }
 {
     let r = read(sheet);
-    let a = answered(r);
-    let m = r.model;
-    list_reply(a, m.count, out)
+    list_reply(answered(r), r.model.count, out)
 }

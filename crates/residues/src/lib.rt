@@ -12,6 +12,7 @@ ghost use Rattle.residues.specs.Folding.{folded_capacity, folded, AbsorbsBy, Abs
 ghost use Rattle.residues.specs.Asked.{num, Made, Fit, Tells, Chosen, TakesBy};
 
 use scales::{Cost, heft_of, least_cost};
+use std::array;
 
 // ---- which part is free
 
@@ -23,24 +24,14 @@ fn is_absorbing(m: u64, u: u64, t: u64, l: u64, whole: u64, capacity: u64) -> bo
     requires { (u < 2 ^ 43) × ((m * (u + 1) < 2 ^ 58) × (whole < 2 ^ 58)) }
     ensures { Tells (AbsorbsBy m u t l whole capacity) result }
 {
-    if m == 0 {
-        return false;
-    }
-    if 0 < t {
-        return false;
-    }
-    if 0 < l {
-        return false;
-    }
     let all = m * u;
-    if whole < all + WORTH {
-        return false;
-    }
     let beyond = all + m;
-    if beyond <= capacity {
-        return false;
-    }
-    whole < capacity + beyond
+    0 < m
+        && t == 0
+        && l == 0
+        && all + WORTH <= whole
+        && capacity < beyond
+        && whole < capacity + beyond
 }
 
 // The first part from one on that absorbs the others; 17 if none does.
@@ -56,16 +47,10 @@ pub fn free_part(
     ensures { Chosen (items_of ws us ts ls) from capacity result }
 {
     let whole = heft_of(&ws, &us);
-    let mut k = from;
-    while k < 17 {
-        let m = ws[k];
-        let u = us[k];
-        let t = ts[k];
-        let l = ls[k];
-        if is_absorbing(m, u, t, l, whole, capacity) {
+    for k in from..17 {
+        if is_absorbing(ws[k], us[k], ts[k], ls[k], whole, capacity) {
             return k;
         }
-        k += 1;
     }
     17
 }
@@ -106,9 +91,11 @@ fn weight_at(ws: [u64; 17], f: usize, k: usize) -> u64
     requires { (1 ≤ num ws f) × ((f < 17) × (k < 17)) }
     ensures { result ≡ folded_weight_at f (num ws) k }
 {
-    let m = ws[f];
-    let w = ws[k];
-    if k == f { m } else { folded_weight(m, w) }
+    if k == f {
+        ws[f]
+    } else {
+        folded_weight(ws[f], ws[k])
+    }
 }
 
 // ---- all parts folded
@@ -117,13 +104,7 @@ fn folded_weights(ws: [u64; 17], f: usize) -> [u64; 17]
     requires { (1 ≤ num ws f) × (f < 17) }
     ensures { Made 17 (folded_weight_at f (num ws)) result }
 {
-    let mut to = [0; 17];
-    let mut k: usize = 0;
-    while k < 17 {
-        to[k] = weight_at(ws, f, k);
-        k += 1;
-    }
-    to
+    array::from_fn(|k| weight_at(ws, f, k))
 }
 
 fn folded_ranges(us: [u64; 17], f: usize, n: u64) -> [u64; 17]
@@ -140,31 +121,16 @@ fn swapped_costs(ws: [u64; 17], f: usize, ts: [u64; 17], ls: [u64; 17]) -> [u64;
     requires { (1 ≤ num ws f) × (f < 17) }
     ensures { Made 17 (swapped_at f (num ws) (num ts) (num ls)) result }
 {
-    let m = ws[f];
-    let mut to = [0; 17];
-    let mut k: usize = 0;
-    while k < 17 {
-        let w = ws[k];
-        let t = ts[k];
-        let l = ls[k];
-        to[k] = swapped_by(m, w, t, l);
-        k += 1;
-    }
-    to
+    array::from_fn(|k| swapped_by(ws[f], ws[k], ts[k], ls[k]))
 }
 
 fn folded_capacity(ws: [u64; 17], us: [u64; 17], f: usize, capacity: u64) -> u64
     requires { Fit ws us × ((1 ≤ num ws f) × ((f < 17) × (capacity < 2 ^ 58))) }
     ensures { result ≡ folded_capacity f (items_of ws us us us) capacity }
 {
-    let m = ws[f];
     let mut sum = capacity;
-    let mut k: usize = 0;
-    while k < 17 {
-        let w = ws[k];
-        let u = us[k];
-        sum += offset_of(m, w, u);
-        k += 1;
+    for k in 0..17 {
+        sum += offset_of(ws[f], ws[k], us[k]);
     }
     sum
 }

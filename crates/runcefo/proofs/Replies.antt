@@ -11,10 +11,8 @@ use Rattle.knapsack.specs.Meaning.{instance_of}
 use Rattle.knapsack.specs.declared.Kind.{Kind}
 use Rattle.knapsack.specs.declared.Kind.TheVariants as kind
 use Rattle.knapsack.specs.declared.Refusal.{Refusal}
-use Rattle.knapsack.specs.declared.Verdict.{Verdict}
-use Rattle.knapsack.specs.declared.Verdict.TheVariants.{Accepted, Refused}
-use Rattle.text.specs.declared.Listed.{Listed}
-use Rattle.text.specs.declared.Listed.TheVariants.{Written}
+use Rattle.knapsack.specs.Verdicts.{Verdict}
+use Rattle.std.specs.Prelude.{Ok, Err, Result}
 use Rattle.text.specs.Buffer.{noted, told}
 use Rattle.model.specs.declared.Answers.{Answers}
 use Rattle.listing.specs.Printing.{printed_both, unless_refused, room}
@@ -32,7 +30,7 @@ module _ (s b c : List ℕ) (length-told line number : ℕ) (h : Plans s b c len
   abbrev answers : Answers
   answers = h.lists.answers
 
-  pub refused-alone : (f : Refusal) → (read_sheet s).verdict ≡ Refused f → (number ≡ f.number) × (line ≡ f.line) × (length-told ≡ 0) × (c ≡ b)
+  pub refused-alone : (f : Refusal) → (read_sheet s).verdict ≡ Err f → (number ≡ f.number) × (line ≡ f.line) × (length-told ≡ 0) × (c ≡ b)
   refused-alone f e =
       let a : answers ≡ both_refused f = rw e at h.lists.is_true in
       let k : answers.sure.kind ≡ kind.Refused f = ap (λ (z : Answers). z.sure.kind) a in
@@ -46,17 +44,17 @@ module _ (s b c : List ℕ) (length-told line number : ℕ) (h : Plans s b c len
   abbrev text : List ℕ
   text = printed_both (read_sheet s).model.count answers
 
-  written : length text ≤ length b → told text b ≡ Written (length text)
+  written : length text ≤ length b → told text b ≡ Ok (length text)
   unfolding told
   written l = rw (le-ltb (length b) (length text) l)
 
-  pub room-holds : (read_sheet s).verdict ≡ Accepted → room ≤ length b → number ≡ 0
+  pub room-holds : (read_sheet s).verdict ≡ Ok tt → room ≤ length b → number ≡ 0
   room-holds e l =
       let m = (read_sheet s).model in
-      let fair : verdict m ≡ Accepted = (accepted-sheet s m (ap (λ (v : Verdict). record { verdict = v; model = m }) e)).fair in
+      let fair : verdict m ≡ (Ok tt) = (accepted-sheet s m (ap (λ (v : Verdict). record { verdict = v; model = m }) e)).fair in
       let p : PlannedBoth m answers = rw e at h.lists.is_true in
       let fits : length text ≤ room = room-enough m answers fair p.sure p.possible in
-      let r : h.reply ≡ Written (length text) = go answers.sure.kind refl (rw fair at p.sure.replies) ∙ written (omega arith) in
+      let r : h.reply ≡ Ok (length text) = go answers.sure.kind refl (rw fair at p.sure.replies) ∙ written (omega arith) in
       h.number_is ∙ ap (λ w. told_number (listed_verdict w)) r
     where
       go : (k : Kind) → answers.sure.kind ≡ k →

@@ -12,10 +12,9 @@
 --                      n steps are those of the searches for what was read, of at most 500 each; n cells are those that the scales write for it
 --   Plans s b c l k n  the buffer b becomes c, and bytes written l, line k and number n say so, for a true answer to the sheet s
 use Rattle.std.specs.Prelude.{◌≡◌, Bool, true, false, List, ℕ, ◌+◌}
-use Rattle.knapsack.specs.declared.Verdict.{Verdict}
-use Rattle.knapsack.specs.declared.Verdict.TheVariants.{Accepted, Refused}
-use Rattle.text.specs.declared.Listed.{Listed}
-use Rattle.text.specs.declared.Listed.TheVariants.{Written, Refused as NotWritten}
+use Rattle.knapsack.specs.Verdicts.{Verdict}
+use Rattle.std.specs.Prelude.{Ok, Err, Result}
+use Rattle.knapsack.specs.declared.Refusal.{Refusal}
 use Rattle.text.specs.Buffer.{noted, told, filled}
 use Rattle.model.specs.declared.Model.{Model}
 use Rattle.model.specs.declared.Sense.{Sense}
@@ -30,20 +29,20 @@ use Rattle.sheet.specs.Reading.{read_sheet}
 use Rattle.writer.specs.Writing.{on_accepted}
 
 abbrev pub told_number : Verdict → ℕ
-told_number Accepted = 0
-told_number (Refused f) = f.number
+told_number (Ok _) = 0
+told_number (Err f) = f.number
 
 abbrev pub told_line : Verdict → ℕ
-told_line Accepted = 0
-told_line (Refused f) = f.line
+told_line (Ok _) = 0
+told_line (Err f) = f.line
 
-abbrev pub length_of : Listed → ℕ
-length_of (Written n) = n
-length_of (NotWritten f) = 0
+abbrev pub length_of : Result ℕ Refusal → ℕ
+length_of (Ok n) = n
+length_of (Err f) = 0
 
-abbrev pub listed_verdict : Listed → Verdict
-listed_verdict (Written n) = Accepted
-listed_verdict (NotWritten f) = Refused f
+abbrev pub listed_verdict : Result ℕ Refusal → Verdict
+listed_verdict (Ok n) = Ok tt
+listed_verdict (Err f) = Err f
 
 abbrev pub saved : List ℕ → List ℕ → Verdict
 saved s b = listed_verdict (on_accepted (read_sheet s).verdict noted (told s b))
@@ -60,8 +59,8 @@ Besides f m true n = (b : Solved) × (Solves Possible m b × (n ≡ f b))
 Besides f m false n = n ≡ 0
 
 abbrev pub WorkAs : (Solved → ℕ) → Verdict → Model → ℕ → Type 0
-WorkAs f Accepted m n = (a : Solved) × (k : ℕ) × (Solves Sure m a × (Besides f m (some_range m) k × (n ≡ f a + k)))
-WorkAs f (Refused g) m n = n ≡ 0
+WorkAs f (Ok _) m n = (a : Solved) × (k : ℕ) × (Solves Sure m a × (Besides f m (some_range m) k × (n ≡ f a + k)))
+WorkAs f (Err g) m n = n ≡ 0
 
 abbrev pub Steps : Reading → ℕ → Type 0
 Steps r n = WorkAs (λ s. s.steps) r.verdict r.model n
@@ -70,7 +69,7 @@ abbrev pub Cells : Reading → ℕ → Type 0
 Cells r n = WorkAs (λ s. s.cells) r.verdict r.model n
 
 pub record Plans (s b c : List ℕ) (written line number : ℕ) : Type 0 where
-  pub reply : Listed
+  pub reply : Result ℕ Refusal
   pub lists : SheetLists s b c reply
   pub length-is : written ≡ length_of reply
   pub line-is : line ≡ told_line (listed_verdict reply)

@@ -4,7 +4,7 @@
 
 ghost use Rattle.std.specs.Prelude.{◌≡◌};
 ghost use Rattle.converter.specs.Converting.{conversion, cleared};
-ghost use Rattle.knapsack.specs.declared.Verdict.TheVariants.{Accepted};
+ghost use Rattle.std.specs.Prelude.{Ok};
 ghost use Rattle.listing.specs.Printing.{room};
 ghost use Rattle.model.specs.Records.{Admissible};
 ghost use Rattle.sheet.specs.Reading.{read_sheet};
@@ -12,52 +12,52 @@ ghost use Rattle.model.specs.Records.{some_range};
 ghost use Rattle.runcefo.specs.Entries.{told_number, told_line, length_of, listed_verdict, Plans, Solves, Besides, Steps, Cells, saved, left};
 
 use converter::convert;
-use knapsack::Verdict;
+use knapsack::Refusal;
 use model::{Model, Sense, plain_of, some_range};
 use planner::solve_needs;
 use replies::list_sheet;
 use sheet::{Reading, read};
 use solver::{STEPS, Solved};
-use text::{Listed, ROOM};
+use text::ROOM;
 use writer::rewrite_sheet;
 
 // 01's number of a refusal, 0 where there is none.
-fn told_number(v: Verdict) -> u64
+fn told_number(v: Result<(), Refusal>) -> u64
     ensures { result ≡ told_number v }
 {
     match v {
-        Verdict::Accepted => 0,
-        Verdict::Refused(f) => f.number,
+        Ok(()) => 0,
+        Err(f) => f.number,
     }
 }
 
 // The line of a refusal, 0 where there is none.
-fn told_line(v: Verdict) -> u64
+fn told_line(v: Result<(), Refusal>) -> u64
     ensures { result ≡ told_line v }
 {
     match v {
-        Verdict::Accepted => 0,
-        Verdict::Refused(f) => f.line,
+        Ok(()) => 0,
+        Err(f) => f.line,
     }
 }
 
 // How long the text is that was handed over, 0 where none was.
-fn length_of(w: Listed) -> usize
+fn length_of(w: Result<usize, Refusal>) -> usize
     ensures { result ≡ length_of w }
 {
     match w {
-        Listed::Written(n) => n,
-        Listed::Refused(_) => 0,
+        Ok(n) => n,
+        Err(_) => 0,
     }
 }
 
 // What is told of a text, as a verdict: a text that was handed over is accepted.
-fn listed_verdict(w: Listed) -> Verdict
+fn listed_verdict(w: Result<usize, Refusal>) -> Result<(), Refusal>
     ensures { result ≡ listed_verdict w }
 {
     match w {
-        Listed::Written(_) => Verdict::Accepted,
-        Listed::Refused(f) => Verdict::Refused(f),
+        Ok(_) => Ok(()),
+        Err(f) => Err(f),
     }
 }
 
@@ -94,13 +94,13 @@ fn work_besides(m: Model) -> Work
 
 // The work for what was read, for both replies.
 fn work_of(r: Reading) -> Work
-    requires { r.verdict ≡ Accepted → Admissible r.model }
+    requires { r.verdict ≡ Ok tt → Admissible r.model }
     ensures { Steps r result.steps × Cells r result.cells }
 {
     let v = r.verdict;
     let m = r.model;
     match v {
-        Verdict::Accepted => {
+        Ok(()) => {
             let a = solved_in(m, Sense::Sure);
             let b = work_besides(m);
             Work {
@@ -108,7 +108,7 @@ fn work_of(r: Reading) -> Work
                 cells: a.cells + b.cells,
             }
         }
-        Verdict::Refused(_) => Work { steps: 0, cells: 0 },
+        Err(_) => Work { steps: 0, cells: 0 },
     }
 }
 

@@ -41,7 +41,7 @@ pub struct Cost {
 fn rest_of(u: u64) -> u64
     ensures { result ≡ rest u }
 {
-    if u == 0 { 0 } else { (u - 1) / 2 }
+    u.saturating_sub(1) / 2
 }
 
 fn digit_of(u: u64) -> u64
@@ -55,18 +55,10 @@ fn rest_at(u: u64, i: usize) -> u64
     ensures { result ≡ rest_at i u }
 {
     let mut r = u;
-    let mut k: usize = 0;
-    while k < i {
+    for _ in 0..i {
         r = rest_of(r);
-        k += 1;
     }
     r
-}
-
-fn lesser(a: u64, b: u64) -> u64
-    ensures { result ≡ min a b }
-{
-    if a < b { a } else { b }
 }
 
 // A cost at scale i, cut at cap so that it fits.
@@ -75,10 +67,8 @@ fn cost_at(c: u64, i: usize, cap: u64) -> u64
     ensures { result ≡ cost_at cap i c }
 {
     let mut r = c;
-    let mut k: usize = 0;
-    while k < i {
-        r = lesser(cap, 2 * r);
-        k += 1;
+    for _ in 0..i {
+        r = cap.min(2 * r);
     }
     r
 }
@@ -100,9 +90,9 @@ fn passed(cells: &[u64], n: usize, w: usize, a: u64, b: u64, cap: u64, x: usize)
     let left = look(cells, n, x, cap) + b;
     if w <= x {
         let taken = look(cells, n, x - w, cap) + a;
-        lesser(cap, lesser(left, taken))
+        cap.min(left.min(taken))
     } else {
-        lesser(cap, lesser(left, cap))
+        cap.min(left.min(cap))
     }
 }
 
@@ -115,12 +105,12 @@ fn passed_inside(cells: &[u64], n: usize, w: usize, a: u64, b: u64, cap: u64, x:
     let left = cells[x];
     let taken = cells[x - w];
     if b == 0 {
-        return lesser(left, taken + a);
+        return left.min(taken + a);
     }
     if a == 0 {
-        return lesser(left + b, taken);
+        return (left + b).min(taken);
     }
-    lesser(cap, lesser(left + b, taken + a))
+    cap.min((left + b).min(taken + a))
 }
 
 // A pass over the loads from lo to below hi. From the highest load down, so that a load without the unit still has its old cost.
@@ -130,11 +120,8 @@ fn pass_edge(cells: &mut [u64], n: usize, w: usize, a: u64, b: u64, cap: u64, lo
     requires lo_le_hi { (lo ≤ hi) × (hi ≤ length cells.old) }
     ensures { Passed cap n w a b lo hi cells.old cells.new }
 {
-    let mut x = hi;
-    while lo < x {
-        x -= 1;
-        let v = passed(cells, n, w, a, b, cap, x);
-        cells[x] = v;
+    for x in (lo..hi).rev() {
+        cells[x] = passed(cells, n, w, a, b, cap, x);
     }
 }
 
@@ -154,24 +141,9 @@ fn pass_inside(
     requires lo_le_hi { (lo ≤ hi) × ((min w hi ≤ lo) × (hi ≤ n)) }
     ensures { Passed cap n w a b lo hi cells.old cells.new }
 {
-    let mut x = hi;
-    while lo < x {
-        x -= 1;
-        let v = passed_inside(cells, n, w, a, b, cap, x);
-        cells[x] = v;
+    for x in (lo..hi).rev() {
+        cells[x] = passed_inside(cells, n, w, a, b, cap, x);
     }
-}
-
-fn smaller(a: usize, b: usize) -> usize
-    ensures { result ≡ min a b }
-{
-    if a < b { a } else { b }
-}
-
-fn greater(a: usize, b: usize) -> usize
-    ensures { result ≡ max a b }
-{
-    if a < b { b } else { a }
 }
 
 // One more unit to take or leave.
@@ -190,17 +162,11 @@ fn pass_over(
     requires from_le_n { (from ≤ n) × ((from ≤ to) × (to ≤ length cells.old)) }
     ensures { Passed cap n w a b from to cells.old cells.new }
 {
-    let high = smaller(n, to);
-    let low = smaller(greater(w, from), high);
+    let high = n.min(to);
+    let low = w.max(from).min(high);
     pass_edge(cells, n, w, a, b, cap, high, to);
     pass_inside(cells, n, w, a, b, cap, low, high);
     pass_edge(cells, n, w, a, b, cap, from, low);
-}
-
-fn index(x: u64) -> usize
-    ensures { result ≡ x }
-{
-    x as usize
 }
 
 // No load above the capacity is of use.
@@ -208,7 +174,7 @@ fn up_to(n: usize, rest: u64) -> usize
     requires { n ≤ 65536 }
     ensures { result ≡ min n (suc rest) }
 {
-    if rest < n as u64 { index(rest) + 1 } else { n }
+    n.min(rest.saturating_add(1) as usize)
 }
 
 // Nor is one so low that all units to come cannot fill the capacity.
@@ -216,11 +182,7 @@ fn down_to(n: usize, rest: u64, heft: u64) -> usize
     requires { n ≤ 65536 }
     ensures { result ≡ min (rest - heft) n }
 {
-    if rest < heft {
-        return 0;
-    }
-    let least = rest - heft;
-    if least < n as u64 { index(least) } else { n }
+    n.min(rest.saturating_sub(heft) as usize)
 }
 
 // A pass for each unit of a digit.
@@ -244,15 +206,13 @@ fn pass_times(
     let mut live = n;
     let mut left = heft;
     let mut written: u64 = 0;
-    let mut k: u64 = 0;
-    while k < d {
+    for _ in 0..d {
         left -= w as u64;
         let to = up_to(live + w, rest);
         let from = down_to(live, rest, left);
         pass_over(cells, live, w, a, b, cap, from, to);
         written += (to - from) as u64;
         live = to;
-        k += 1;
     }
     Live {
         n: live,
@@ -269,10 +229,8 @@ fn thin_cells(cells: &mut [u64], n: usize, s: usize, bit: usize) -> usize
         ((cap : ℕ) → at cap result cells.new ≡ thin s bit (at cap n cells.old)) }
 {
     let kept = (n + (s - 1 - bit)) / s;
-    let mut x: usize = 0;
-    while x < kept {
+    for x in 0..kept {
         cells[x] = cells[s * x + bit];
-        x += 1;
     }
     kept
 }
@@ -299,7 +257,7 @@ fn fill_item<'a>(
 {
     let i = s.i;
     let cap = s.cap;
-    let w = index(ws[j] / s.divisor);
+    let w = (ws[j] / s.divisor) as usize;
     let d = digit_of(rest_at(us[j], i));
     let a = cost_at(ts[j], i, cap);
     let b = cost_at(ls[j], i, cap);
@@ -327,13 +285,11 @@ fn fill_all<'a>(
     let mut live = n;
     let mut left = whole;
     let mut written: u64 = 0;
-    let mut j: usize = 0;
-    while j < ws.len() {
+    for j in 0..ws.len() {
         let f = fill_item(ws, us, ts, ls, j, s, left, cells, live);
         live = f.n;
         left = f.heft;
         written += f.written;
-        j += 1;
     }
     Live {
         n: live,
@@ -349,24 +305,16 @@ fn joined(g: u64, w: u64, rest: u64) -> u64
     if 0 < rest { gcd(g, w) } else { g }
 }
 
-fn at_least_one(g: u64) -> u64
-    ensures { result ≡ max 1 g }
-{
-    if g == 0 { 1 } else { g }
-}
-
 // The greatest divisor that the weights of what goes on after scale i share; 1 if nothing does.
 fn shared_of<'a>(ws: &'a [u64], us: &'a [u64], i: usize, divisor: u64) -> u64
     requires { (length us.now ≡ length ws.now) × (1 ≤ divisor) }
     ensures { SharedOf i divisor ws.now us.now result }
 {
     let mut g: u64 = 0;
-    let mut j: usize = 0;
-    while j < ws.len() {
+    for j in 0..ws.len() {
         g = joined(g, ws[j] / divisor, rest_of(rest_at(us[j], i)));
-        j += 1;
     }
-    at_least_one(g)
+    g.max(1)
 }
 
 // What all units weigh.
@@ -375,10 +323,8 @@ pub fn heft_of<'a>(ws: &'a [u64], us: &'a [u64]) -> u64
     ensures { result ≡ heft (items_of ws.now us.now us.now us.now) }
 {
     let mut sum: u64 = 0;
-    let mut j: usize = 0;
-    while j < ws.len() {
+    for j in 0..ws.len() {
         sum += ws[j] * us[j];
-        j += 1;
     }
     sum
 }
@@ -406,8 +352,7 @@ fn solve<'a>(
     let mut divisor: u64 = 1;
     let mut rest = capacity;
     let mut left = heft_of(ws, us);
-    let mut i: usize = 0;
-    while i < scales {
+    for i in 0..scales {
         let s = Stage {
             i: i,
             divisor: divisor,
@@ -417,14 +362,13 @@ fn solve<'a>(
         let f = fill_all(ws, us, ts, ls, s, left, cells, n);
         let g = shared_of(ws, us, i, divisor);
         let stride = 2 * g;
-        n = thin_cells(cells, f.n, index(stride), index(rest % stride));
+        n = thin_cells(cells, f.n, stride as usize, (rest % stride) as usize);
         written += f.written + (n as u64);
         left = f.heft / stride;
         rest = rest / stride;
         divisor = divisor * g;
-        i += 1;
     }
-    let x = index(rest);
+    let x = rest as usize;
     Cost {
         least: look(cells, n, x, cap),
         written: written,
@@ -449,10 +393,8 @@ fn scales_of_all(us: &[u64]) -> usize
     ensures { ScalesOfAll us.now result }
 {
     let mut most: usize = 0;
-    let mut j: usize = 0;
-    while j < us.len() {
-        most = greater(most, scales_of(us[j]));
-        j += 1;
+    for u in us {
+        most = most.max(scales_of(*u));
     }
     most
 }

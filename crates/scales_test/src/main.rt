@@ -29,27 +29,20 @@ fn draw(s: u64, b: u64) -> Three
 {
     let mut list = [0u64; 3];
     let mut seed = s;
-    let mut j: usize = 0;
-    while j < 3 {
+    for j in 0..3 {
         seed = next(seed);
         list[j] = seed / 65536 % b;
-        j += 1;
     }
-    Three {
-        list: list,
-        seed: seed,
-    }
+    Three { list, seed }
 }
 
 // A number below 10,000,000, by seven digits and a line end.
 fn print(n: u64) {
     let mut b = [10u8; 8];
-    let mut at: usize = 7;
     let mut r = n;
-    while 0 < at {
-        at -= 1;
-        b[at] = 48 + (r % 10) as u8;
-        r = r / 10;
+    for at in (0..7).rev() {
+        b[at] = b'0' + (r % 10) as u8;
+        r /= 10;
     }
     io::write_all(STDOUT_FILENO, &b);
 }
@@ -66,19 +59,13 @@ fn solved(w: Three, u: Three, t: Three, l: Three, capacity: u64, cap: u64, cells
     requires le_cap { (600 ≤ cap) × (cap ≤ 1000000) }
     requires in_bounds { 128 ≤ length cells.old }
 {
-    let ws = w.list;
-    let us = u.list;
-    let ts = t.list;
-    let ls = l.list;
-    let c = scales::least_cost(&ws, &us, &ts, &ls, capacity, cap, cells);
-    c.least
+    scales::least_cost(&w.list, &u.list, &t.list, &l.list, capacity, cap, cells).least
 }
 
 fn main() {
     let mut cells = [0u64; 128];
     let mut s: u64 = 1;
-    let mut k: usize = 0;
-    while k < 300 {
+    for k in 0..300 {
         let w = draw(s, 10);
         let u = draw(w.seed, 16);
         let t = draw(u.seed, 50);
@@ -86,6 +73,5 @@ fn main() {
         s = next(l.seed);
         let cap = cap_of(k);
         print(solved(w, u, t, l, s / 65536 % 120, cap, &mut cells));
-        k += 1;
     }
 }

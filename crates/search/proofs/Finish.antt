@@ -11,8 +11,8 @@ use mathlib.Core.Path.{◌≡◌, refl, sym, ap, ◌∙◌, subst, subst₂}
 use mathlib.Core.Bool.{Bool, true, false, cond}
 use mathlib.Core.List.{List}
 use mathlib.Core.Logic.{◌⊎◌, inl, inr}
-use mathlib.Core.Option.{Option, none, some}
-use Prim.Native.Nat.{ℕ, zero, suc, ◌+◌, ◌*◌, ◌≤◌, ◌<◌}
+use Rattle.std.specs.Prelude.{Option, None, Some}
+use Prim.Native.Nat.{ℕ, zero, suc, ◌+◌, ◌≤◌, ◌<◌}
 use native.Mathlib.Nat.{mul-le-mul_left, mul-le-mul_right}
 use native.Mathlib.Omega.{arith}
 use native.Mathlib.Decide.{dec_lt}
@@ -300,8 +300,8 @@ module _ (s : Setting) (ps : Pairs) (q r : State) (g : Underway s ps q) (on : q.
     where
       go : (o : Option (ℕ × ℤ)) → WentOn s q st.better o r → Goes (order_of s) (SettledAt s marks r.best) (at t.place) o (at r.path.place)
           → Covered s marks r
-      go none (d, (same, top)) gs = ((λ f. absurd (no_end (sym d ∙ f))), (λ f. gs))
-      go (some (j, v)) (d, (turned, from)) gs = ((λ f. (gs (moved j v turned)).0), (λ f. absurd (no_end (sym f ∙ d))))
+      go None (d, (same, top)) gs = ((λ f. absurd (no_end (sym d ∙ f))), (λ f. gs))
+      go (Some (j, v)) (d, (turned, from)) gs = ((λ f. (gs (moved j v turned)).0), (λ f. absurd (no_end (sym f ∙ d))))
 
   pub going_less : left s r < left s q
   unfolding left
@@ -309,20 +309,20 @@ module _ (s : Setting) (ps : Pairs) (q r : State) (g : Underway s ps q) (on : q.
     where
       go : (o : Option (ℕ × ℤ)) → WentOn s q st.better o r → Goes (order_of s) (λ y. Unit {0}) (at t.place) o (at r.path.place)
           → cond r.done 0 (suc (μ (order_of s) (at r.path.place))) < suc (μ (order_of s) (at t.place))
-      go none (d, (same, top)) gs = rw d (omega arith)
-      go (some (j, v)) (d, (turned, from)) gs = rw d (omega (arith, (gs (moved j v turned)).2))
+      go None (d, (same, top)) gs = rw d (omega arith)
+      go (Some (j, v)) (d, (turned, from)) gs = rw d (omega (arith, (gs (moved j v turned)).2))
 
   started-on : Started s r.path
   started-on = go lead went (goes (λ y. Unit {0}) (all st.verdict) (λ y bx. inl tt))
     where
       go : (o : Option (ℕ × ℤ)) → WentOn s q st.better o r → Goes (order_of s) (λ y. Unit {0}) (at t.place) o (at r.path.place) → Started s r.path
-      go none (d, (same, top)) gs = rw same g.started
-      go (some (j, v)) (d, (turned, from)) gs = record { long = long; inside = (gs (moved j v turned)).1; starts = turned.starts }
+      go None (d, (same, top)) gs = rw same g.started
+      go (Some (j, v)) (d, (turned, from)) gs = record { long = long; inside = (gs (moved j v turned)).1; starts = turned.starts }
 
   fresh_on : Fresh s ps r
   fresh_on = go lead went refl
     where
-      kept_above : (j : ℕ) (v : ℤ) → MovedTo s t j v r.path → lead ≡ some (j, v) → (f : Bool) → st.better ≡ f → r.from ≡ fresh_by f j → Fresh s ps r
+      kept_above : (j : ℕ) (v : ℤ) → MovedTo s t j v r.path → lead ≡ Some (j, v) → (f : Bool) → st.better ≡ f → r.from ≡ fresh_by f j → Fresh s ps r
       kept_above j v h e true b from = fresh-top s ps r from
       kept_above j v h e false b from =
           let m = move_in s ready.setting long (at t.place) g.started.inside st.verdict in-levels j v e in
@@ -332,8 +332,8 @@ module _ (s : Setting) (ps : Pairs) (q r : State) (g : Underway s ps q) (on : q.
           record { from_in = omega (arith, from, m.level_in); passed = rw (from, same) p }
 
       go : (o : Option (ℕ × ℤ)) → WentOn s q st.better o r → lead ≡ o → Fresh s ps r
-      go none (d, (same, top)) e = fresh-top s ps r top
-      go (some (j, v)) (d, (turned, from)) e = kept_above j v turned e st.better refl from
+      go None (d, (same, top)) e = fresh-top s ps r top
+      go (Some (j, v)) (d, (turned, from)) e = kept_above j v turned e st.better refl from
 
   pub filled_on : FilledBest s q.best → FilledBest s r.best
   filled_on h = looked-filled s ready.setting long ps ready.true-pairs t g.started q.best after g.good st.verdict st.looked h

@@ -1,5 +1,6 @@
 pub mod Boxes
 pub mod Orders
+pub mod Amounts
 pub mod Starts
 pub mod Dives
 pub mod Slopes

@@ -3,7 +3,7 @@ use mathlib.Core.Path.{◌≡◌, refl, sym, ap, ap₂, ◌∙◌, subst, subst�
 use mathlib.Core.Bool.{Bool, true, false, cond}
 use mathlib.Core.List.{List}
 use mathlib.Core.Logic.{inl, inr}
-use mathlib.Core.Option.{some}
+use Rattle.std.specs.Prelude.{Some}
 use Prim.Native.Nat.{ℕ, suc, ◌≤◌, ◌<◌}
 use native.Mathlib.Omega.{arith}
 use lib.IntN.{ℤ, pos}
@@ -84,14 +84,14 @@ pub record MoveIn (s : Setting) (w : Settled) (j : ℕ) (v : ℤ) : Type 0 where
   pub high : v ≤ℤ at s.high j
 
 pub move_in : (s : Setting) → ReadyTied s → Long s.ends → (P : ℕ → ℤ) → Inside s P → (w : Settled) → SettledIn s.levels w → (j : ℕ) (v : ℤ)
-    → past_of w (at s.low) (at s.high) (start_by s P) P ≡ some (j, v) → MoveIn s w j v
+    → past_of w (at s.low) (at s.high) (start_by s P) P ≡ Some (j, v) → MoveIn s w j v
 move_in s r long P inside (Run d) l j v e = sound (suc d) l (subst (Sound (order_of s) (suc d) P) e (run_sound (order-laws s r long) P inside d l)) refl
   where
-    sound : (n : ℕ) → n ≤ s.levels → Sound (order_of s) n P (some (j, v)) → n ≡ suc d → MoveIn s (Run d) j v
+    sound : (n : ℕ) → n ≤ s.levels → Sound (order_of s) n P (Some (j, v)) → n ≡ suc d → MoveIn s (Run d) j v
     sound n m h e = record { level_in = omega (arith, h.0); below = omega (arith, h.0, e); low = h.1.0; high = h.1.1 }
 move_in s r long P inside (Prefix n) l j v e = sound n l (subst (Sound (order_of s) n P) e (carry-sound (order-laws s r long) P inside n l)) refl
   where
-    sound : (k : ℕ) → k ≤ s.levels → Sound (order_of s) k P (some (j, v)) → k ≡ n → MoveIn s (Prefix n) j v
+    sound : (k : ℕ) → k ≤ s.levels → Sound (order_of s) k P (Some (j, v)) → k ≡ n → MoveIn s (Prefix n) j v
     sound k m h e = record { level_in = omega (arith, h.0); below = omega (arith, h.0, e); low = h.1.0; high = h.1.1 }
 
 -- ---- what settles nothing before a move settles nothing after it

@@ -5,7 +5,7 @@ use mathlib.Core.Path.{◌≡◌, sym, ap, ap₂, ◌∙◌, subst, subst₂}
 use mathlib.Core.Bool.{Bool, true, false}
 use mathlib.Core.List.{List}
 use mathlib.Core.Logic.{◌⊎◌, inl, inr}
-use mathlib.Core.Option.{Option, none, some}
+use Rattle.std.specs.Prelude.{Option, None, Some}
 use Prim.Native.Nat.{ℕ, zero, suc, ◌≤◌, ◌<◌}
 use native.Mathlib.Decide.{dec_lt, ℕ_discrete}
 use native.Mathlib.Omega.{arith}
@@ -150,8 +150,8 @@ module _ (s : Setting) (p : Pairs) (t : Path) (b : Incumbent) where
 module _ (s : Setting) (p : Pairs) where
   went-once : (q r r' : State) (f : Bool) (o : Option (ℕ × ℤ)) → WentOn s q f o r → WentOn s q f o r' → (r.path ≡ r'.path)
       × ((r.from ≡ r'.from) × (r.done ≡ r'.done))
-  went-once q r r' f none (d, (e, l)) (d', (e', l')) = (e ∙ sym e', (l ∙ sym l', d ∙ sym d'))
-  went-once q r r' f (some m) (d, (h, l)) (d', (h', l')) = (moved-once s q.path m.0 m.1 r.path r'.path h h', (l ∙ sym l', d ∙ sym d'))
+  went-once q r r' f None (d, (e, l)) (d', (e', l')) = (e ∙ sym e', (l ∙ sym l', d ∙ sym d'))
+  went-once q r r' f (Some m) (d, (h, l)) (d', (h', l')) = (moved-once s q.path m.0 m.1 r.path r'.path h h', (l ∙ sym l', d ∙ sym d'))
 
   state-once : (r r' : State) → r.path ≡ r'.path → r.best ≡ r'.best → r.steps ≡ r'.steps → r.from ≡ r'.from → r.done ≡ r'.done → r ≡ r'
   state-once r r' a b c d e = λ i. record { path = a i; best = b i; steps = c i; from = d i; done = e i }

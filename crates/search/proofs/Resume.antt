@@ -10,7 +10,7 @@ use mathlib.Core.Path.{◌≡◌, refl, sym, ap, ◌∙◌, subst, subst₂}
 use mathlib.Core.Bool.{true, false}
 use mathlib.Core.List.{List}
 use mathlib.Core.Logic.{◌⊎◌, inl, inr}
-use mathlib.Core.Option.{Option, none, some}
+use Rattle.std.specs.Prelude.{Option, None, Some}
 use Prim.Native.Nat.{ℕ, zero, suc, ◌+◌, ◌≤◌, ◌<◌}
 use native.Mathlib.Decide.{dec_lt, ℕ_discrete}
 use native.Mathlib.Numerals.{add-one}
@@ -107,8 +107,8 @@ module _ (s : Setting) (p : Pairs) where
   tidy-on q r st c = go (past_of st.verdict (at s.low) (at s.high) (at q.path.starts) (at q.path.place)) st.went
     where
       go : (o : Option (ℕ × ℤ)) → WentOn s q st.better o r → Tidy s r.path
-      go none (d, (same, top)) = rw same c
-      go (some m) (d, (moved, from)) = record { long = moved.long; beyond = λ i l. (moved.beyond i l).1 ∙ c.beyond i l }
+      go None (d, (same, top)) = rw same c
+      go (Some m) (d, (moved, from)) = record { long = moved.long; beyond = λ i l. (moved.beyond i l).1 ∙ c.beyond i l }
 
   pub tidy-ran : (q : State) (n : ℕ) (r : State) → Ran s p q n r → Tidy s q.path → Tidy s r.path
   unfolding Ran
@@ -174,8 +174,8 @@ module _ (s : Setting) (p : Pairs) where
       lead t = past_of st.verdict (at s.low) (at s.high) (at t.starts) (at t.place)
 
       go : (o : Option (ℕ × ℤ)) → WentOn s q st.better o r → WentOn s q' st.better o r'
-      go none (d, (same, top)) = (d, (same ∙ a.path-is, top))
-      go (some m) (d, (moved, from)) = (d, (subst (λ (t : Path). MovedTo s t m.0 m.1 r.path) a.path-is moved, from))
+      go None (d, (same, top)) = (d, (same ∙ a.path-is, top))
+      go (Some m) (d, (moved, from)) = (d, (subst (λ (t : Path). MovedTo s t m.0 m.1 r.path) a.path-is moved, from))
 
   pub ran-alike : (q q' : State) → Alike q q' → (n : ℕ) (r : State) → Ran s p q n r → (r' : State) × (Ran s p q' n r' × Alike r r')
   unfolding Ran

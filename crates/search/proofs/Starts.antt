@@ -3,7 +3,7 @@
 -- start-in: a start lies within its level's ends. start-cong: it hangs on the levels above alone.
 -- order-laws: what the order of places asks of starts.
 use mathlib.Core.Path.{◌≡◌, ap, subst}
-use Prim.Native.Nat.{ℕ, ◌≤◌, ◌<◌}
+use Prim.Native.Nat.{ℕ, ◌<◌}
 use native.Mathlib.Omega.{arith}
 use lib.IntN.{ℤ}
 use lib.Signed.{◌≤ℤ◌}

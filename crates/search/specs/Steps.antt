@@ -33,8 +33,7 @@
 --   Alike q r         two states with the same path and incumbent, and both at their end or not
 --   RunsOn s p q r    r is where a search from q on stops that is run and resumed
 --   Stops s p n r     as RunsFor, from the first place on; the steps told are those taken
-use Rattle.std.specs.Prelude.{◌≡◌, Bool, true, false, cond, List, ◌⊎◌, ℕ, zero, suc, ◌+◌, ◌≤◌, ◌<◌, ltb, ℤ, pos, ◌*ℤ◌, length, set, replicate, ◌≤ℤ◌}
-use Rattle.std.proofs.Math.Option.{Option, none, some}
+use Rattle.std.specs.Prelude.{◌≡◌, Option, None, Some, Bool, true, false, cond, List, ◌⊎◌, ℕ, zero, suc, ◌+◌, ◌≤◌, ◌<◌, ltb, ℤ, pos, ◌*ℤ◌, length, set, replicate, ◌≤ℤ◌}
 use Rattle.arith.specs.Limits.{most_room}
 use Rattle.arith.specs.Within.{Within}
 use Rattle.arith.proofs.Mixes.{over}
@@ -196,8 +195,8 @@ abbrev pub fresh_by : Bool → ℕ → ℕ
 fresh_by better j = cond better 0 j
 
 abbrev pub WentOn : Setting → State → Bool → Option (ℕ × ℤ) → State → Type 0
-WentOn s q better none r = (r.done ≡ true) × ((r.path ≡ q.path) × (r.from ≡ 0))
-WentOn s q better (some m) r = (r.done ≡ false) × (MovedTo s q.path m.0 m.1 r.path × (r.from ≡ fresh_by better m.0))
+WentOn s q better None r = (r.done ≡ true) × ((r.path ≡ q.path) × (r.from ≡ 0))
+WentOn s q better (Some m) r = (r.done ≡ false) × (MovedTo s q.path m.0 m.1 r.path × (r.from ≡ fresh_by better m.0))
 
 -- one more, as long as it fits
 abbrev pub counted_by : ℕ → ℕ

@@ -29,18 +29,18 @@ pub fn amounts_over(c: Columns, e: Ends, f: Fill, q: u64) -> [i64; 16]
     requires { Countable c e f q 0 }
     ensures { result ≡ point_of c e f q }
 {
-    let n = c.count;
-    let live = c.live;
     let mut to: [i64; 16] = [0; 16];
-    let mut k: usize = 0;
-    while k < n {
-        let a = c.weight[k];
-        let p = c.price[k];
-        let l = e.lo[k];
-        let h = e.hi[k];
-        let v = c.rank[k];
-        to[k] = amount_over(a, p, l, h, v, f, live, q);
-        k += 1;
+    for k in 0..c.count {
+        to[k] = amount_over(
+            c.weight[k],
+            c.price[k],
+            e.lo[k],
+            e.hi[k],
+            c.rank[k],
+            f,
+            c.live,
+            q,
+        );
     }
     to
 }
@@ -50,25 +50,25 @@ pub fn is_sooner(c: Columns, e: Ends, f: Fill, n: usize, q: u64, y: [i64; 16], d
     requires { Countable c e f q 0 × ((n ≤ 16) × ((d ≤ 1000) × ((k : ℕ) → Within 20300000000000 (at y k)))) }
     ensures { result ≡ sooner n 0 (λ k. numerator c e f q k *ℤ pos d) (λ k. at y k *ℤ pos q) }
 {
-    let live = c.live;
-    let mut k: usize = 0;
-    while k < n {
-        let a = c.weight[k];
-        let p = c.price[k];
-        let l = e.lo[k];
-        let h = e.hi[k];
-        let v = c.rank[k];
-        let x = amount_over(a, p, l, h, v, f, live, q);
-        let z = y[k];
+    for k in 0..n {
+        let x = amount_over(
+            c.weight[k],
+            c.price[k],
+            e.lo[k],
+            e.hi[k],
+            c.rank[k],
+            f,
+            c.live,
+            q,
+        );
         let left = x * (d as i64);
-        let right = z * (q as i64);
+        let right = y[k] * (q as i64);
         if left < right {
             return true;
         }
         if right < left {
             return false;
         }
-        k += 1;
     }
     false
 }
@@ -78,8 +78,7 @@ pub fn is_corner_sooner<'a>(lo: &'a [i64; 16], y: &'a [i64; 16], n: usize, d: u6
     requires { (n ≤ 16) × ((d ≤ 1000) × ((k : ℕ) → Within farthest (at lo.now k))) }
     ensures { result ≡ corner_sooner lo.now y.now n d }
 {
-    let mut k: usize = 0;
-    while k < n {
+    for k in 0..n {
         let left = lo[k] * (d as i64);
         let right = y[k];
         if left < right {
@@ -88,7 +87,6 @@ pub fn is_corner_sooner<'a>(lo: &'a [i64; 16], y: &'a [i64; 16], n: usize, d: u6
         if right < left {
             return false;
         }
-        k += 1;
     }
     false
 }
@@ -106,9 +104,7 @@ pub fn is_ahead(c: Columns, e: Ends, f: Fill, best: Incumbent) -> bool
     if less(v, b) {
         return false;
     }
-    let y = best.point;
-    let n = c.count;
-    is_sooner(c, e, f, n, v.parts, y, b.parts)
+    is_sooner(c, e, f, c.count, v.parts, best.point, b.parts)
 }
 
 // Whether it is, or there is no incumbent.

@@ -23,7 +23,7 @@ use ahead::{amounts_over, is_ahead, is_better, is_corner_sooner};
 use arith::Mixed;
 use greedy::{Columns, Ends, Fill, bound_of, fill_up, start_of};
 use lattice::{Lattice, Slope, barren};
-use places::{Moved, Settled, past};
+use places::{Settled, past};
 use setting::{Pairs, Setting, fixed_in};
 
 mod ahead; // ahead.rt: the order of points
@@ -74,18 +74,11 @@ pub fn dive(s: Setting, p: Path, j: usize) -> Path
     requires { ReadyTied s × ((j ≤ s.levels) × InsideTo s j (at p.place)) }
     ensures { Dived s j p result }
 {
-    let n = s.levels;
     let mut x = p.place;
     let mut y = p.starts;
-    let ends = s.ends;
-    let level = s.level;
-    let mut e = fixed_in(ends, level, x, j);
-    let mut k = j;
-    while k < n {
+    let mut e = fixed_in(s.ends, s.level, x, j);
+    for k in j..s.levels {
         let i = s.level[k];
-        let live = s.cols.live;
-        let m = s.cols.count;
-        let b = s.cols.capacity;
         let v = start_of(
             &s.cols.weight,
             &s.cols.price,
@@ -95,16 +88,15 @@ pub fn dive(s: Setting, p: Path, j: usize) -> Path
             &s.cols.rate,
             &e.lo,
             &e.hi,
-            live,
-            m,
-            b,
+            s.cols.live,
+            s.cols.count,
+            s.cols.capacity,
             i,
         );
         e.lo[i] = v;
         e.hi[i] = v;
         x[k] = v;
         y[k] = v;
-        k += 1;
     }
     Path {
         place: x,
@@ -233,30 +225,22 @@ pub fn removable(r: i64, t: i64, x: i64, y: i64, l: i64, u: i64, m: i64, w: i64)
 }
 
 // The first level whose item makes a domination pair with one above that discards x, where none above `from` does: cut by a pair, see
-// proofs/Settle (pair-settles). Structs are copied at a call, and these two are large: one loop over both levels needs them once for
-// each look.
+// proofs/Settle (pair_settles). Structs are copied at a call, and these two are large: loops over both levels need them once for each look.
 pub fn first_paired(s: Setting, p: Pairs, x: [i64; 16], from: usize) -> usize
     requires { Unpaired s p x from }
     ensures { FirstPaired s p (at x) result }
 {
-    let n = s.levels;
-    let mut d = from;
-    let mut j: usize = 0;
-    while d < n {
-        if j < d {
+    for d in from..s.levels {
+        for j in 0..d {
             let k = 16 * s.level[d] + s.level[j];
             let r = p.first[k] as i64;
             let t = p.second[k] as i64;
             if removable(r, t, x[d], x[j], s.low[d], s.high[d], s.low[j], s.high[j]) {
                 return d;
             }
-            j += 1;
-        } else {
-            d += 1;
-            j = 0;
         }
     }
-    n
+    s.levels
 }
 
 // The first of two amounts if x is below v, else the second.
@@ -276,11 +260,8 @@ pub fn look(s: Setting, p: Pairs, t: Path, best: Incumbent, from: usize) -> Sigh
     let x = t.place;
     let v = t.starts;
     let m = first_paired(s, p, x, from);
-    let ends = s.ends;
-    let level = s.level;
-    let mut e = fixed_in(ends, level, x, from);
-    let mut d = from;
-    while d < n {
+    let mut e = fixed_in(s.ends, s.level, x, from);
+    for d in from..n {
         let a = x[d];
         let b = v[d];
         let i = s.level[d];
@@ -304,7 +285,6 @@ pub fn look(s: Setting, p: Pairs, t: Path, best: Incumbent, from: usize) -> Sigh
         }
         e.lo[i] = a;
         e.hi[i] = a;
-        d += 1;
     }
     let r = tried(s.cols, e, x, best);
     let b = r.best;
@@ -376,9 +356,8 @@ pub fn step(s: Setting, p: Pairs, q: State) -> State
     let y = t.starts;
     let lo = s.low;
     let hi = s.high;
-    let o = past(w, x, lo, hi, y);
-    match o {
-        Moved::At(j, v) => {
+    match past(w, x, lo, hi, y) {
+        Some((j, v)) => {
             let u = move_to(t, j, v);
             let from = fresh(better, j);
             if j + 1 < s.levels {
@@ -398,7 +377,7 @@ pub fn step(s: Setting, p: Pairs, q: State) -> State
                 done: false,
             }
         }
-        Moved::Done => State {
+        None => State {
             path: t,
             best: b,
             steps: n,
@@ -431,15 +410,10 @@ pub fn along(s: Setting, x: [i64; 16]) -> Path
     requires { ReadyTied s × Inside s (at x) }
     ensures { Along s x result }
 {
-    let n = s.levels;
     let mut y: [i64; 16] = [0; 16];
     let mut e = s.ends;
-    let mut k: usize = 0;
-    while k < n {
+    for k in 0..s.levels {
         let i = s.level[k];
-        let live = s.cols.live;
-        let m = s.cols.count;
-        let b = s.cols.capacity;
         let v = start_of(
             &s.cols.weight,
             &s.cols.price,
@@ -449,16 +423,14 @@ pub fn along(s: Setting, x: [i64; 16]) -> Path
             &s.cols.rate,
             &e.lo,
             &e.hi,
-            live,
-            m,
-            b,
+            s.cols.live,
+            s.cols.count,
+            s.cols.capacity,
             i,
         );
-        let a = x[k];
-        e.lo[i] = a;
-        e.hi[i] = a;
+        e.lo[i] = x[k];
+        e.hi[i] = x[k];
         y[k] = v;
-        k += 1;
     }
     Path {
         place: x,
@@ -486,13 +458,11 @@ pub fn run_for(s: Setting, p: Pairs, q: State, n: u64) -> State
     ensures { RunsFor s p q n result }
 {
     let mut t = q;
-    let mut left = n;
-    while 0 < left {
+    for _k in 0..n {
         if t.done {
             return t;
         }
         t = step(s, p, t);
-        left -= 1;
     }
     t
 }

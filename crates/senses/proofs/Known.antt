@@ -14,8 +14,8 @@ use Rattle.arith.proofs.Words.{no_lt}
 use Rattle.knapsack.proofs.Same.{Same}
 use Rattle.knapsack.specs.Meaning.{instance_of}
 use Rattle.knapsack.specs.declared.Answer.{Answer}
-use Rattle.knapsack.specs.declared.Verdict.{Verdict}
-use Rattle.knapsack.specs.declared.Verdict.TheVariants.{Accepted, Refused}
+use Rattle.knapsack.specs.Verdicts.{Verdict}
+use Rattle.std.specs.Prelude.{Ok, Err}
 use Rattle.model.specs.Promises.{RepliesAs, Planned}
 use Rattle.model.specs.Records.{no_item, item_at, item_in, plain_of, needs_of, is_range, some_range, held, verdict}
 use Rattle.model.specs.declared.Model.{Model}
@@ -70,5 +70,5 @@ module _ (m : Model) (full : length m.items ≡ 16) (h : some_range m ≡ false)
   }
     where
       go : (v : Verdict) → RepliesAs (instance_of (plain_of Sure m)) (needs_of m.needs) a v → RepliesAs (instance_of (plain_of Possible m)) (needs_of m.needs) a v
-      go Accepted r = same-answers-needs (instance_of (plain_of Sure m)) (instance_of (plain_of Possible m)) known_same (needs_of m.needs) a r
-      go (Refused f) r = r
+      go (Ok _) r = same-answers-needs (instance_of (plain_of Sure m)) (instance_of (plain_of Possible m)) known_same (needs_of m.needs) a r
+      go (Err f) r = r

@@ -37,13 +37,10 @@ pub fn fixed_in(e: Ends, level: [usize; 16], x: [i64; 16], d: usize) -> Ends
     ensures { result ≡ fixed_in e level (at x) d }
 {
     let mut to = e;
-    let mut k: usize = 0;
-    while k < d {
+    for k in 0..d {
         let i = level[k];
-        let v = x[k];
-        to.lo[i] = v;
-        to.hi[i] = v;
-        k += 1;
+        to.lo[i] = x[k];
+        to.hi[i] = x[k];
     }
     to
 }
@@ -53,7 +50,5 @@ pub fn fixed(s: Setting, x: [i64; 16], d: usize) -> Ends
     requires { ReadySetting s × (d ≤ s.levels) }
     ensures { result ≡ fixed_by s (at x) d }
 {
-    let e = s.ends;
-    let level = s.level;
-    fixed_in(e, level, x, d)
+    fixed_in(s.ends, s.level, x, d)
 }

@@ -27,6 +27,7 @@ use Rattle.greedy.specs.Fill.{at, place, stand, fill, bound, solution}
 use Rattle.greedy.specs.Ordered.{Ordered}
 use Rattle.greedy.proofs.Relaxed.{box_of, InOrder, Stopped, fill-empty, fill-stopped, fill-bound, fill-value, fill-point, parts≥1}
 use Rattle.ceiling.specs.declared.Limit.{Limit}
+use Rattle.ceiling.specs.declared.Shown.{Shown}
 use Rattle.ceiling.specs.Loss.{value_of, top_of, loss_of, Point}
 use Rattle.ceiling.specs.Frames.{whole_at, cut_of, scale_of, frame_by, Marked, Unmarked, Levelled}
 use Rattle.ceiling.specs.Least.{NotAfter, Placed, FirstIn}
@@ -205,9 +206,9 @@ kept-best c e level n bx P v w lw t most = record { between = t.between; best = 
 -- ---- the first point of the frame that loses least
 
 module _ (c : Columns) (e : Ends) (level : List ℕ) (n : ℕ) (bx : Boxes c e level n) (w : List Bool) (lw : Levelled level n w) (known : Bool) (v : Mixed)
-    (r : Limit) (b : Bounded c e w known v r) (h : BestFrame c e w r) where
+    (r : Limit) (b : Bounded c e w known v r) (x : Shown) (h : BestFrame c e w r x) where
   abbrev t : ℕ
-  t = r.at
+  t = x.at
 
   abbrev E : ℕ
   E = scale_of c t
@@ -218,10 +219,10 @@ module _ (c : Columns) (e : Ends) (level : List ℕ) (n : ℕ) (bx : Boxes c e l
   not-cut : (k : ℕ) → k < c.count → whole_at w k ≡ true → k ≢ cut_of c t
   not-cut = loose-cut c w t bx.sized.columns.few h.at_in (λ m. (h.usable m).loose)
 
-  abbrev g : FirstIn r.p r.q c e w t r.lost.num r.place
+  abbrev g : FirstIn r.p r.q c e w t r.lost.num x.place
   g = h.first
 
-  module _ (ys : List ℤ) (pl : Placed n (λ d. at r.place (place level d)) ys) where
+  module _ (ys : List ℤ) (pl : Placed n (λ d. at x.place (place level d)) ys) where
     N : ℕ → ℤ
     N = g.point
 
@@ -341,4 +342,4 @@ pub settle-most : {c : Columns} {e : Ends} {level : List ℕ} {n : ℕ} {known :
     → SettleWrites c e level n known v f k → k ≤ most_cells
 settle-most (empty h) = omega arith
 settle-most (kept w b r l h f) = omega (arith, h.few)
-settle-most (framed w b r l h f) = omega (arith, h.few)
+settle-most (framed w b x r l h f) = omega (arith, h.few)

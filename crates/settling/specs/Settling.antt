@@ -11,7 +11,7 @@
 --   SettleWrites c e level n known v f k   k cells are written for a box where the value v is known: those of its bound; f tells whether its point is one of
 --                             the frame in which no item is cut
 --   Settles c e level n r     the place of r is best, or nothing in the box is feasible; it is a first one if r says so; and few cells were written for it
-use Rattle.std.specs.Prelude.{◌≡◌, Bool, true, false, List, ◌≢◌, ℕ, ◌≤◌, ◌<◌, eqb, ℤ, pos, ◌*ℤ◌, ◌≤ℤ◌, ◌<ℤ◌}
+use Rattle.std.specs.Prelude.{◌≡◌, None, Some, Bool, true, false, List, ◌≢◌, ℕ, ◌≤◌, ◌<◌, eqb, ℤ, pos, ◌*ℤ◌, ◌≤ℤ◌, ◌<ℤ◌}
 use Rattle.arith.specs.Mixed.{Proper}
 use Rattle.arith.specs.declared.Mixed.{Mixed}
 use Rattle.arith.proofs.Mixes.{over}
@@ -25,6 +25,7 @@ use Rattle.greedy.specs.Ordered.{Ordered}
 use Rattle.greedy.specs.Sized.{Sized}
 use Rattle.greedy.proofs.Relaxed.{box_of, InOrder}
 use Rattle.ceiling.specs.declared.Limit.{Limit}
+use Rattle.ceiling.specs.declared.Shown.{Shown}
 use Rattle.ceiling.specs.Bound.{Bounded}
 use Rattle.ceiling.specs.Frames.{Levelled}
 use Rattle.ceiling.specs.Least.{NotAfter}
@@ -83,13 +84,13 @@ most_cells = 28717289865
 
 pub data SettleWrites (c : Columns) (e : Ends) (level : List ℕ) (n : ℕ) (known : Bool) (v : Mixed) : Bool → ℕ → Type 0 where
   empty : (fill c e).room <ℤ pos 0 → SettleWrites c e level n known v false 0
-  kept : (w : List Bool) (b : Limit) → pos 0 ≤ℤ (fill c e).room → Levelled level n w → Bounded c e w known v b → b.found ≡ false →
+  kept : (w : List Bool) (b : Limit) → pos 0 ≤ℤ (fill c e).room → Levelled level n w → Bounded c e w known v b → b.shown ≡ None →
       SettleWrites c e level n known v false b.written
-  framed : (w : List Bool) (b : Limit) → pos 0 ≤ℤ (fill c e).room → Levelled level n w → Bounded c e w known v b → b.found ≡ true →
-      SettleWrites c e level n known v (eqb b.at c.live) b.written
+  framed : (w : List Bool) (b : Limit) (x : Shown) → pos 0 ≤ℤ (fill c e).room → Levelled level n w → Bounded c e w known v b → b.shown ≡ Some x →
+      SettleWrites c e level n known v (eqb x.at c.live) b.written
 
 pub record Settles (c : Columns) (e : Ends) (level : List ℕ) (n : ℕ) (r : Settled) : Type 0 where
   pub few : r.written ≤ most_cells
-  pub found : r.found ≡ true → Best c e level n (at r.place)
-  pub first : r.first ≡ true → FirstPlace c e level n 1 (at r.place)
-  pub none : r.found ≡ false → (marks : ℕ → Mark) (D : ℕ) (N : ℕ → ℤ) → 1 ≤ D → ¬ Feasibleᴰ (box_of c e marks) D N
+  pub found : (place : List ℤ) → r.place ≡ Some place → Best c e level n (at place)
+  pub first : r.first ≡ true → (place : List ℤ) × (r.place ≡ Some place) × FirstPlace c e level n 1 (at place)
+  pub none : r.place ≡ None → (marks : ℕ → Mark) (D : ℕ) (N : ℕ → ℤ) → 1 ≤ D → ¬ Feasibleᴰ (box_of c e marks) D N

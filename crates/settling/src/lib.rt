@@ -16,8 +16,7 @@ use greedy::{Columns, Ends, fill_up};
 // cells were written.
 #[derive(Clone, Copy)]
 pub struct Settled {
-    pub found: bool,
-    pub place: [i64; 16],
+    pub place: Option<[i64; 16]>,
     pub first: bool,
     pub written: u64,
 }
@@ -26,8 +25,7 @@ pub struct Settled {
 fn is_last(cols: Columns, t: usize) -> bool
     ensures { result ≡ eqb t cols.live }
 {
-    let n = cols.live;
-    t == n
+    t == cols.live
 }
 
 // The amounts of the first n levels.
@@ -36,12 +34,8 @@ pub fn by_level(xs: [i64; 16], level: [usize; 16], n: usize) -> [i64; 16]
     ensures { Placed n (λ d. at xs (place level d)) result }
 {
     let mut to = [0; 16];
-    let mut d: usize = 0;
-    while d < n {
-        let k = level[d];
-        let x = xs[k];
-        to[d] = x;
-        d += 1;
+    for d in 0..n {
+        to[d] = xs[level[d]];
     }
     to
 }
@@ -66,29 +60,27 @@ pub fn settle(
     let f = fill_up(cols, ends);
     if f.room < 0 {
         return Settled {
-            found: false,
-            place: x,
+            place: None,
             first: false,
             written: 0,
         };
     }
     let whole = wholes(level, levels);
     let b = ceiling(cols, ends, whole, known, value, cells);
-    if b.found {
-        let best = b.place;
-        let y = by_level(best, level, levels);
-        let last = is_last(cols, b.at);
-        return Settled {
-            found: true,
-            place: y,
-            first: last,
+    match b.shown {
+        Some(best) => {
+            let y = by_level(best.place, level, levels);
+            let last = is_last(cols, best.at);
+            Settled {
+                place: Some(y),
+                first: last,
+                written: b.written,
+            }
+        }
+        None => Settled {
+            place: Some(x),
+            first: false,
             written: b.written,
-        };
-    }
-    Settled {
-        found: true,
-        place: x,
-        first: false,
-        written: b.written,
+        },
     }
 }

@@ -2,89 +2,46 @@
 // problem.
 ghost use Rattle.std.specs.Prelude.{◌≤◌};
 
-use knapsack::Bound;
 use model::{Model, ModelItem};
-use trials::enumerate::{Best, below, best_value};
-
-// A problem with some items fixed, and whether each was fixed within its bounds.
-#[derive(Clone, Copy)]
-struct Fixed {
-    problem: Model,
-    keeps: bool,
-}
-
-fn is_above(b: Bound, v: i64) -> bool {
-    match b {
-        Bound::Absent => true,
-        Bound::At(l) => l <= v,
-    }
-}
-
-fn is_below(b: Bound, v: i64) -> bool {
-    match b {
-        Bound::Absent => true,
-        Bound::At(u) => v <= u,
-    }
-}
+use trials::enumerate::best_value;
+use trials::exact::{Ratio, is_less};
 
 fn keeps(x: ModelItem, v: i64) -> bool {
-    let l = x.lower;
-    let u = x.upper;
-    is_above(l, v) && is_below(u, v)
+    x.lower.is_none_or(|l| l <= v) && x.upper.is_none_or(|u| v <= u)
 }
 
 fn fixed_item(x: ModelItem, v: i64) -> ModelItem {
-    let m = x.mark;
     ModelItem {
-        mark: m,
-        low: x.low,
-        high: x.high,
-        price: x.price,
-        lower: Bound::At(v),
-        upper: Bound::At(v),
+        lower: Some(v),
+        upper: Some(v),
+        ..x
     }
 }
 
-// With item k fixed at v.
-fn with_fixed(f: Fixed, k: usize, v: i64) -> Fixed {
-    let mut m = f.problem;
-    if k < 16 {
-        let x = m.items[k];
-        let y = fixed_item(x, v);
-        m.items[k] = y;
-        return Fixed {
-            problem: m,
-            keeps: f.keeps && keeps(x, v),
-        };
+// With item k fixed at v, if that is within its bounds.
+fn with_fixed(m: Model, k: usize, v: i64) -> Option<Model> {
+    let mut q = m;
+    let x = q.items.get_mut(k)?;
+    if !keeps(*x, v) {
+        return None;
     }
-    Fixed {
-        problem: m,
-        keeps: false,
-    }
+    *x = fixed_item(*x, v);
+    Some(q)
 }
 
-// With the items of the first n levels fixed at a place.
-fn fixed_at(m: Model, level: [usize; 16], n: usize, place: [i64; 16]) -> Fixed
+// With the items of the first n levels fixed at a place, if that is within their bounds.
+fn fixed_at(m: Model, level: [usize; 16], n: usize, place: [i64; 16]) -> Option<Model>
     requires { n ≤ 16 }
 {
-    let mut f = Fixed {
-        problem: m,
-        keeps: true,
-    };
-    let mut d: usize = 0;
-    while d < n {
-        let k = level[d];
-        let v = place[d];
-        f = with_fixed(f, k, v);
-        d += 1;
+    let mut q = m;
+    for d in 0..n {
+        q = with_fixed(q, level[d], place[d])?;
     }
-    f
+    Some(q)
 }
 
-fn are_equal(a: Best, b: Best) -> bool {
-    let less = below(a.p, a.q, b.p, b.q);
-    let more = below(b.p, b.q, a.p, a.q);
-    a.found && b.found && !less && !more
+fn are_equal(a: Option<Ratio>, b: Option<Ratio>) -> bool {
+    matches!((a, b), (Some(v), Some(w)) if !is_less(v, w) && !is_less(w, v))
 }
 
 // Whether the place found is a best one of a problem of n items, or rightly none.
@@ -93,17 +50,15 @@ pub fn agrees(
     n: usize,
     level: [usize; 16],
     levels: usize,
-    found: bool,
-    place: [i64; 16],
+    place: Option<[i64; 16]>,
 ) -> bool
     requires { (n ≤ 15) × (levels ≤ 16) }
 {
     let best = best_value(m, n);
-    if !found {
-        return !best.found;
+    match place {
+        Some(x) => {
+            fixed_at(m, level, levels, x).is_some_and(|there| are_equal(best, best_value(there, n)))
+        }
+        None => best.is_none(),
     }
-    let f = fixed_at(m, level, levels, place);
-    let p = f.problem;
-    let there = best_value(p, n);
-    f.keeps && are_equal(best, there)
 }

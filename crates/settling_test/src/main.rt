@@ -16,7 +16,7 @@ ghost use Rattle.settling.specs.Settling.{Tried};
 use arith::Mixed;
 use greedy::{bound_of, fill_up};
 use judge::agrees;
-use knapsack::{Problem, Verdict};
+use knapsack::Problem;
 use model::{Model, Sense};
 use prepare::prepare;
 use setting::{Setting, fixed};
@@ -45,10 +45,6 @@ fn nothing_yet() -> Tally {
     }
 }
 
-fn greater(a: u64, b: u64) -> u64 {
-    if a < b { b } else { a }
-}
-
 // One problem more that was settled.
 fn tallied(t: Tally, found: bool, agreed: bool, written: u64) -> Tally {
     Tally {
@@ -56,7 +52,7 @@ fn tallied(t: Tally, found: bool, agreed: bool, written: u64) -> Tally {
         infeasible: one_more(t.infeasible, !found),
         crossed: t.crossed,
         wrong: one_more(t.wrong, !agreed),
-        most: greater(t.most, written),
+        most: t.most.max(written),
     }
 }
 
@@ -76,22 +72,15 @@ fn passed_over(t: Tally, crossed: bool) -> Tally {
 fn is_near(z: i64) -> bool
     ensures { result ≡ true → Within 10000 z }
 {
-    if 10000 < z {
-        return false;
-    }
-    if z < -10000 { false } else { true }
+    -10000 <= z && z <= 10000
 }
 
 fn are_near(xs: [i64; 16], n: usize) -> bool
     requires { n ≤ 16 }
     ensures { result ≡ true → (k : ℕ) → k < n → Within 10000 (at xs k) }
 {
-    let mut k: usize = 0;
-    while k < n {
-        let x = xs[k];
-        if is_near(x) {
-            k += 1;
-        } else {
+    for k in 0..n {
+        if !is_near(xs[k]) {
             return false;
         }
     }
@@ -103,12 +92,7 @@ fn is_narrow(s: Setting) -> bool
     ensures { result ≡ true → Spanned s.cols s.ends }
 {
     let n = s.cols.count;
-    let lo = s.ends.lo;
-    let hi = s.ends.hi;
-    if are_near(lo, n) {
-        return are_near(hi, n);
-    }
-    false
+    are_near(s.ends.lo, n) && are_near(s.ends.hi, n)
 }
 
 // ---- incumbents: the place where every level stands at its lower end
@@ -182,15 +166,18 @@ fn judged(t: Tally, m: Model, n: usize, s: Setting, cells: &mut [u64]) -> Tally
     let alone = settled(s, nobody(), cells);
     let after = settled(s, lowest(s), cells);
     let level = s.level;
-    let x = alone.place;
-    let y = after.place;
-    let first = agrees(m, n, level, s.levels, alone.found, x);
-    let second = agrees(m, n, level, s.levels, after.found, y);
+    let first = agrees(m, n, level, s.levels, alone.place);
+    let second = agrees(m, n, level, s.levels, after.place);
     let good = first && second;
     if !good {
         print_wrong(m);
     }
-    tallied(t, alone.found, good, greater(alone.written, after.written))
+    tallied(
+        t,
+        alone.place.is_some(),
+        good,
+        alone.written.max(after.written),
+    )
 }
 
 fn answered(t: Tally, p: Problem, m: Model, n: usize, cells: &mut [u64]) -> Tally
@@ -211,10 +198,9 @@ fn tried(t: Tally, m: Model, n: usize, cells: &mut [u64]) -> Tally
     requires n_bound { n ≤ 15 }
     requires in_bounds { 65535 ≤ length cells.old }
 {
-    let v = model::check_model(m);
-    match v {
-        Verdict::Accepted => answered(t, model::plain_of(m, Sense::Sure), m, n, cells),
-        Verdict::Refused(_) => passed_over(t, false),
+    match model::check_model(m) {
+        Ok(()) => answered(t, model::plain_of(m, Sense::Sure), m, n, cells),
+        Err(_) => passed_over(t, false),
     }
 }
 
@@ -225,13 +211,10 @@ fn tally_of(seed: u64, problems: u64, n: usize, z: Spans, cells: &mut [u64]) -> 
 {
     let mut t = nothing_yet();
     let mut state = seed;
-    let mut k: u64 = 0;
-    while k < problems {
+    for _ in 0..problems {
         let d = drawn_problem(state, n, z);
-        let p = d.problem;
-        t = tried(t, p, n, cells);
+        t = tried(t, d.problem, n, cells);
         state = d.state;
-        k += 1;
     }
     t
 }

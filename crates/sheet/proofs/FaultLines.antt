@@ -17,22 +17,17 @@ use lib.IntN.{pos}
 use lib.ListN.{length, take, drop, get_or, length-append, length-drop, drop_of_length-le}
 use lib.Seq.{take_all, get_or-drop, get_or-append_seam}
 use Rattle.knapsack.specs.declared.Refusal.{Refusal}
-use Rattle.knapsack.specs.declared.Verdict.{Verdict}
-use Rattle.knapsack.specs.declared.Verdict.TheVariants.{Accepted, Refused}
+use Rattle.std.specs.Prelude.{Ok, Err, Option, None, Some}
 use Rattle.model.specs.declared.Blanks.{Blanks}
 use Rattle.model.specs.declared.Model.{Model}
 use Rattle.model.specs.declared.Side.{Side}
 use Rattle.model.specs.declared.Side.TheVariants.{Lower, Upper}
-use Rattle.model.specs.Refusals as refusal
+use Rattle.model.specs.declared.refusals.Reason.{Reason}
+use Rattle.model.specs.declared.refusals.Reason.TheVariants as refusal
 use Rattle.model.specs.Records.{empty_model, item_at}
 use Rattle.model.specs.Setters.{with_count, with_need_count}
 use Rattle.text.specs.Decimal.{decimal, integer}
 use Rattle.text.specs.Layout.{field, line}
-use Rattle.lines.specs.declared.Count.{Count}
-use Rattle.lines.specs.declared.Count.TheVariants.{Fault, Lines}
-use Rattle.lines.specs.declared.scan.Place.{Place}
-use Rattle.lines.specs.declared.scan.Place.TheVariants.{Nothing, At}
-use Rattle.lines.specs.declared.scan.Span.TheVariants.{Nothing as NoLine, Line}
 use Rattle.lines.specs.Places.{on_place, first_end, ends, line_at, closed_line, refusal_on, closed_or, asked_line, bytes_of, line_part, verdict_of, check_line}
 use Rattle.lines.specs.Numbers.{from_to}
 use Rattle.lines.specs.Lines.{count_at}
@@ -41,7 +36,7 @@ use Rattle.lines.proofs.Places.{ends_from, ends-past, ends-before, ends-none, cl
 use Rattle.lines.proofs.Standing.{Has, Bytes, count-has}
 use Rattle.sheet.specs.declared.Progress.{Progress}
 use Rattle.sheet.specs.declared.Reading.{Reading}
-use Rattle.sheet.specs.Sections.{goes_on, stopped_by, refused_at, onward, on_count, Gives, fault, gives, LineForm, taken, step_of, lines_of, section_of}
+use Rattle.sheet.specs.Sections.{goes_on, stopped_by, refused_at, onward, on_count, LineForm, taken, step_of, lines_of, section_of}
 use Rattle.sheet.specs.Reading.{limit, items, word_of, needs, limit_form, item_form_by, bound_form, need_form, limit_section, items_section, bounds_section}
 use Rattle.sheet.specs.Reading.{first_ranged, ranged_at, ranges_of}
 use Rattle.sheet.specs.Reading.{needs_section, end_of_sheet, head_of, lower_of, upper_of, last_of, whole_of, read_sheet_by}
@@ -50,6 +45,7 @@ use Rattle.sheet.proofs.Ranged.{ranged-most}
 use Rattle.sheet.proofs.LineEnds.{line-start}
 use Rattle.sheet.proofs.Sheets.{ended, sheet-ends}
 use Rattle.sheet.proofs.Forms.{limit-laws, item-laws, bound-laws, need-laws}
+use Rattle.lines.specs.Faults.{Read}
 
 -- ---- places where a line begins
 
@@ -90,16 +86,16 @@ module _ (s : List ℕ) (k : ℕ) (starts : Starts s k) where
       go (no h) = ap (closed_line 0 s) (omega arith)
   line-from (suc n) from l e = go (dec_lt from k) (first_end from (drop from s)) refl (λ a. line-from n (suc a))
     where
-      more : (a : ℕ) → first_end from (drop from s) ≡ At a → from < k → Dec (a < k) →
+      more : (a : ℕ) → first_end from (drop from s) ≡ Some a → from < k → Dec (a < k) →
           (suc a ≤ k → ends_from s (suc a) k ≡ n → closed_line n s (suc a) ≡ closed_line 0 s k) → closed_line (suc n) s from ≡ closed_line 0 s k
       more a f h (no g) ih = absurd (omega (arith, some_end from h, ends-before s from k a f (omega arith)))
       more a f h (yes g) ih = closed-more n s from a f ∙ ih g (omega (arith, ends-past s from k a f g, e))
 
-      go : Dec (from < k) → (p : Place) → first_end from (drop from s) ≡ p →
+      go : Dec (from < k) → (p : Option ℕ) → first_end from (drop from s) ≡ p →
           ((a : ℕ) → suc a ≤ k → ends_from s (suc a) k ≡ n → closed_line n s (suc a) ≡ closed_line 0 s k) → closed_line (suc n) s from ≡ closed_line 0 s k
       go (no h) p f ih = let d : from ≡ k = omega arith in absurd (omega (arith, sym e ∙ ap (λ (f : ℕ). ends_from s f k) d ∙ none_left))
-      go (yes h) Nothing f ih = absurd (omega (arith, some_end from h, ends-none s from k f))
-      go (yes h) (At a) f ih = more a f h (dec_lt a k) (ih a)
+      go (yes h) None f ih = absurd (omega (arith, some_end from h, ends-none s from k f))
+      go (yes h) (Some a) f ih = more a f h (dec_lt a k) (ih a)
 
 -- ---- behind a line that was read
 
@@ -144,10 +140,10 @@ behind-line s t a b (x, c) h =
 -- ---- where a reading can have come
 
 data Reached (s : List ℕ) : Progress → Type 0 where
-  on : (p : Progress) → p.verdict ≡ Accepted → Starts s (met s p.at) → Reached s p
-  off : (n at : ℕ) → Starts s (met s at) → Reached s (refused_at s n at)
+  on : (p : Progress) → p.verdict ≡ Ok tt → Starts s (met s p.at) → Reached s p
+  off : (n : Reason) (at : ℕ) → Starts s (met s at) → Reached s (refused_at s n at)
 
-onward-reached : (s : List ℕ) (p q : Progress) → Reached s p → (p.verdict ≡ Accepted → Starts s (met s p.at) → Reached s q) → Reached s (onward p q)
+onward-reached : (s : List ℕ) (p q : Progress) → Reached s p → (p.verdict ≡ Ok tt → Starts s (met s p.at) → Reached s q) → Reached s (onward p q)
 onward-reached s p q (on r v h) f = rw v (f v h)
 onward-reached s p q (off n at h) f = off n at h
 
@@ -156,9 +152,9 @@ module _ {A : Type 0} (f : LineForm A) (Fits : Progress → A → Type 0) (laws 
   unfolding step_of
   step-reached p r = onward-reached s p _ r (λ v h. go (f.read s p) refl h)
     where
-      go : (x : Gives A) → f.read s p ≡ x → Starts s (met s p.at) → Reached s (taken f s p x)
-      go (fault n) e h = off n p.at h
-      go (gives a n) e h = on _ refl (behind-line s (f.text a) p.at n (closes a) (laws.has s p a n e).1)
+      go : (x : Read A) → f.read s p ≡ x → Starts s (met s p.at) → Reached s (taken f s p x)
+      go (Err n) e h = off n p.at h
+      go (Ok (a, n)) e h = on _ refl (behind-line s (f.text a) p.at n (closes a) (laws.has s p a n e).1)
 
   lines-reached : (n : ℕ) (p : Progress) → Reached s p → Reached s (lines_of f n s p)
   unfolding lines_of
@@ -169,10 +165,10 @@ module _ {A : Type 0} (f : LineForm A) (Fits : Progress → A → Type 0) (laws 
   unfolding section_of
   section-reached w a b m p bytes r = onward-reached s p _ r (λ v h. go (count_at w (from_to a b) s p.at) refl h)
     where
-      go : (c : Count) → count_at w (from_to a b) s p.at ≡ c → Starts s (met s p.at) →
+      go : (c : Read ℕ) → count_at w (from_to a b) s p.at ≡ c → Starts s (met s p.at) →
           Reached s (on_count c (λ n. refused_at s n p.at) (λ n at. lines_of f n s (goes_on (m n) at 0)))
-      go (Fault n) e h = off n p.at h
-      go (Lines n at) e h = lines-reached n (goes_on (m n) at 0)
+      go (Err n) e h = off n p.at h
+      go (Ok (n, at)) e h = lines-reached n (goes_on (m n) at 0)
           (on _ refl (behind-line s (heading_text w n) p.at at (line-closes w (decimal n ∷ [])) (count-has w a b s p.at n at bytes e)))
 
 side-reached : (s : List ℕ) (side : Side) (p : Progress) → Reached s p → Reached s (bounds_section s side p)
@@ -212,13 +208,13 @@ end-reached : (kind : Blanks) (s : List ℕ) → Reached s (end_of_sheet s (last
 unfolding end_of_sheet
 end-reached kind s = onward-reached s (last_of kind s) _ (last-reached kind s) (λ v h. go (ltb (last_of kind s).at (length s)) v h)
   where
-    go : (b : Bool) → (last_of kind s).verdict ≡ Accepted → Starts s (met s (last_of kind s).at) →
-        Reached s (cond b (refused_at s refusal.form (last_of kind s).at) (last_of kind s))
-    go true v h = off refusal.form (last_of kind s).at h
+    go : (b : Bool) → (last_of kind s).verdict ≡ Ok tt → Starts s (met s (last_of kind s).at) →
+        Reached s (cond b (refused_at s refusal.Form (last_of kind s).at) (last_of kind s))
+    go true v h = off refusal.Form (last_of kind s).at h
     go false v h = on (last_of kind s) v h
 
 -- the line of an item begins where so many lines have ended
-line-reached : (s : List ℕ) (n k : ℕ) → 3 + k ≤ ends s → Reached s (stopped_by (refusal_on n (3 + suc k)))
+line-reached : (s : List ℕ) (n : Reason) (k : ℕ) → 3 + k ≤ ends s → Reached s (stopped_by (refusal_on n (3 + suc k)))
 line-reached s n k h =
     let b = line-start s (3 + k) h in
     let e : met s b.at ≡ b.at = omega (arith, b.within) in
@@ -234,10 +230,10 @@ whole-reached kind s = onward-reached s (end_of_sheet s (last_of kind s)) _ (end
     let few : 3 + p.model.count ≤ ends s = rw t.is (sheet-ends kind s t.before) in
     go p (first_ranged p.model.count (item_at p.model)) v h few (ranged-most (item_at p.model) p.model.count))
   where
-    go : (p : Progress) (k : ℕ) → p.verdict ≡ Accepted → Starts s (met s p.at) → 3 + p.model.count ≤ ends s → k ≤ p.model.count →
+    go : (p : Progress) (k : ℕ) → p.verdict ≡ Ok tt → Starts s (met s p.at) → 3 + p.model.count ≤ ends s → k ≤ p.model.count →
         Reached s (ranged_at k p)
     go p zero v h few l = on p v h
-    go p (suc k) v h few l = line-reached s refusal.ranged-item k (omega arith)
+    go p (suc k) v h few l = line-reached s refusal.RangedItem k (omega arith)
 
 -- ---- the line that is told
 
@@ -245,9 +241,9 @@ pub record Faulty (s : List ℕ) (f : Refusal) : Type 0 where
   pub at : ℕ
   pub starts : Starts s at
   pub line-is : f.line ≡ line_at s at
-  pub handed : asked_line s f.line ≡ closed_or f.line (on_place (first_end at (drop at s)) NoLine (λ e. Line at e))
+  pub handed : asked_line s f.line ≡ closed_or f.line (on_place {A = Option (ℕ × ℕ)} (first_end at (drop at s)) None (λ e. Some (at, e)))
 
-faulty : (s : List ℕ) (n at : ℕ) → length s ≤ 4096 → Starts s (met s at) → Faulty s (refusal_on n (line_at s at))
+faulty : (s : List ℕ) (n : Reason) (at : ℕ) → length s ≤ 4096 → Starts s (met s at) → Faulty s (refusal_on n (line_at s at))
 unfolding closed_line
 faulty s n at short h =
     let k = met s at in
@@ -262,26 +258,26 @@ faulty s n at short h =
           (ap (closed_or (line_at s at)) (line-from s k h (ends (take at s)) 0 (omega arith) e));
     }
 
-pub refused-line : (kind : Blanks) (s : List ℕ) (f : Refusal) → (read_sheet_by kind s).verdict ≡ Refused f → ((4096 < length s) × (f.line ≡ 0)) ⊎ Faulty s f
+pub refused-line : (kind : Blanks) (s : List ℕ) (f : Refusal) → (read_sheet_by kind s).verdict ≡ Err f → ((4096 < length s) × (f.line ≡ 0)) ⊎ Faulty s f
 unfolding read_sheet_by
 refused-line kind s f h = go (ltb 4096 (length s)) refl h
   where
-    of : (p : Progress) → length s ≤ 4096 → Reached s p → p.verdict ≡ Refused f → Faulty s f
+    of : (p : Progress) → length s ≤ 4096 → Reached s p → p.verdict ≡ Err f → Faulty s f
     of p short (on q v h) g = no-refusal (sym g ∙ v)
     of p short (off n at h) g = let z : refusal_on n (line_at s at) ≡ f = cc in subst (Faulty s) z (faulty s n at short h)
 
-    go : (b : Bool) → ltb 4096 (length s) ≡ b → (cond {A = Reading} b (record { verdict = Refused (refusal_on refusal.overlong 0); model = empty_model })
-        (record { verdict = (whole_of kind s).verdict; model = (whole_of kind s).model })).verdict ≡ Refused f → ((4096 < length s) × (f.line ≡ 0)) ⊎ Faulty s f
-    go true e g = let z : refusal_on refusal.overlong 0 ≡ f = cc in inl (ltb-true 4096 (length s) e, sym (ap (λ (r : Refusal). r.line) z))
+    go : (b : Bool) → ltb 4096 (length s) ≡ b → (cond {A = Reading} b (record { verdict = Err (refusal_on refusal.Overlong 0); model = empty_model })
+        (record { verdict = (whole_of kind s).verdict; model = (whole_of kind s).model })).verdict ≡ Err f → ((4096 < length s) × (f.line ≡ 0)) ⊎ Faulty s f
+    go true e g = let z : refusal_on refusal.Overlong 0 ≡ f = cc in inl (ltb-true 4096 (length s) e, sym (ap (λ (r : Refusal). r.line) z))
     go false e g = inr (of (whole_of kind s) (ltb-false 4096 (length s) e) (whole-reached kind s) g)
 
 -- ---- in the words of the two entries: the part is the line, or there is none and the check says so
 
 module _ (s : List ℕ) (f : Refusal) (w : Faulty s f) where
-  pub part-closed : (e : ℕ) → first_end w.at (drop w.at s) ≡ At e →
-      (line_part s f.line ≡ take (e - w.at) (drop w.at s)) × (check_line s f.line ≡ Accepted)
-  part-closed e h = let a = w.handed ∙ ap (λ p. closed_or f.line (on_place p NoLine (λ e. Line w.at e))) h in (ap (bytes_of s) a, ap verdict_of a)
+  pub part-closed : (e : ℕ) → first_end w.at (drop w.at s) ≡ Some e →
+      (line_part s f.line ≡ take (e - w.at) (drop w.at s)) × (check_line s f.line ≡ Ok tt)
+  part-closed e h = let a = w.handed ∙ ap (λ p. closed_or f.line (on_place {A = Option (ℕ × ℕ)} p None (λ e. Some (w.at, e)))) h in (ap (bytes_of s) a, ap verdict_of a)
 
-  pub part-open : first_end w.at (drop w.at s) ≡ Nothing →
-      (line_part s f.line ≡ []) × (check_line s f.line ≡ Refused (refusal_on refusal.form f.line))
-  part-open h = let a = w.handed ∙ ap (λ p. closed_or f.line (on_place p NoLine (λ e. Line w.at e))) h in (ap (bytes_of s) a, ap verdict_of a)
+  pub part-open : first_end w.at (drop w.at s) ≡ None →
+      (line_part s f.line ≡ []) × (check_line s f.line ≡ Err (refusal_on refusal.Form f.line))
+  part-open h = let a = w.handed ∙ ap (λ p. closed_or f.line (on_place {A = Option (ℕ × ℕ)} p None (λ e. Some (w.at, e)))) h in (ap (bytes_of s) a, ap verdict_of a)

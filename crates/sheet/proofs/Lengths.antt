@@ -8,15 +8,14 @@ use borrow.Author.Tests.{ltb-false}
 use lib.IntN.{ℤ, nat_abs}
 use lib.ListN.{length, length-append}
 use Rattle.arith.specs.Sum.{Each}
-use Rattle.knapsack.specs.declared.Bound.{Bound}
-use Rattle.knapsack.specs.declared.Bound.TheVariants.{Absent, At}
+use Rattle.std.specs.Prelude.{Option, None, Some}
 use Rattle.model.specs.declared.Blanks.{Blanks}
 use Rattle.model.specs.declared.Model.{Model}
 use Rattle.model.specs.declared.ModelItem.{ModelItem}
 use Rattle.model.specs.declared.Side.{Side}
 use Rattle.model.specs.declared.Side.TheVariants.{Lower, Upper}
 use Rattle.model.specs.declared.Need.{Need}
-use Rattle.model.specs.Records.{item_at, need_at, outside, bad_bound, bad_figure, bad_line, line_before}
+use Rattle.model.specs.Records.{item_at, need_at, outside, bad_bound, bad_figure, line_before}
 use Rattle.model.proofs.NeedLines.{line-numbers}
 use Rattle.model.proofs.Records.{Unfaulted}
 use Rattle.text.specs.Decimal.{integer}
@@ -44,9 +43,9 @@ item-short i h =
     let c = number_short 10000 i.price (omega arith) f.price in
     simp length-append (omega arith)
 
-bound-word-short : (b : Bound) → bad_bound b ≡ false → length (bound_word b) ≤ 10
-bound-word-short Absent f = omega arith
-bound-word-short (At v) f = number_short 10000 v (omega arith) f
+bound-word-short : (b : Option ℤ) → bad_bound b ≡ false → length (bound_word b) ≤ 10
+bound-word-short None f = omega arith
+bound-word-short (Some v) f = number_short 10000 v (omega arith) f
 
 pub bound-short : (b : Bounding) → b.number ≤ 16 → bad_bound b.bound ≡ false → length (bound_text b) ≤ 22
 bound-short b h f =

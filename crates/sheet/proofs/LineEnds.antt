@@ -1,7 +1,7 @@
 -- How many lines a text has.
 -- ends-append: line ends of texts one behind the other. line-end, lines-ends, section-ends: a line has one at least, and so many lines so many.
 -- line-start: where a line begins, of a number up to that of the line ends.
-use mathlib.Core.Path.{◌≡◌, refl, sym, ap, ◌∙◌}
+use mathlib.Core.Path.{◌≡◌, refl, ap}
 use mathlib.Core.Bool.{Bool, true, false, cond}
 use mathlib.Core.List.{List, [], ◌∷◌, ◌++◌}
 use Prim.Native.Nat.{ℕ, zero, suc, ◌+◌, ◌-◌, ◌≤◌}

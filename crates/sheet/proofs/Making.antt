@@ -16,10 +16,9 @@ use lib.IntN.{ℤ, pos}
 use lib.ListN.{length, get_or, set, replicate, length-set, length-replicate, get_or-replicate, get_or-eq_default}
 use lib.Seq.{get_or-set_same, get_or-set_other}
 use Rattle.arith.specs.Sum.{Each}
-use Rattle.knapsack.specs.declared.Bound.{Bound}
-use Rattle.knapsack.specs.declared.Bound.TheVariants.{Absent}
-use Rattle.knapsack.specs.declared.Verdict.{Verdict}
-use Rattle.knapsack.specs.declared.Verdict.TheVariants.{Accepted}
+use Rattle.std.specs.Prelude.{Option, None, Some, Err}
+use Rattle.knapsack.specs.Verdicts.{Verdict}
+use Rattle.std.specs.Prelude.{Ok}
 use Rattle.model.specs.declared.Blanks.{Blanks}
 use Rattle.model.specs.declared.Model.{Model}
 use Rattle.model.specs.declared.ModelItem.{ModelItem}
@@ -28,23 +27,21 @@ use Rattle.model.specs.declared.Needs.{Needs}
 use Rattle.model.specs.declared.Side.{Side}
 use Rattle.model.specs.declared.Side.TheVariants.{Lower, Upper}
 use Rattle.model.specs.Needs.{no_need, no_needs}
-use Rattle.model.specs.Records.{no_item, empty_model, item_at, need_at, outside, bad_bound, bad_line, unfit_line, line_before, refuse, refused_if, or_else, need_verdict}
-use Rattle.model.specs.Refusals as refusal
+use Rattle.model.specs.Records.{no_item, empty_model, item_at, need_at, outside, bad_bound, bad_line, unfit_line, line_before, refuse, refused_for, or_else, need_verdict}
+use Rattle.model.specs.declared.refusals.Reason.TheVariants as refusal
 use Rattle.model.specs.Setters.{with_capacity, with_item, bounded, with_bound, with_need}
 use Rattle.model.proofs.NeedLines.{before-next}
 use Rattle.model.proofs.Records.{held_all}
-use Rattle.lines.specs.declared.number.Ranged.TheVariants.{In}
-use Rattle.lines.specs.declared.TwoNumbers.TheVariants.{Both}
-use Rattle.lines.specs.declared.NeedRead.TheVariants.{Fault as NeedFault, Read as NeedIs}
 use Rattle.lines.specs.Numbers.{from_to}
 use Rattle.lines.specs.Lines.{numbers_line, need_read}
 use Rattle.lines.specs.Layout.{Bounding, bounding}
 use Rattle.sheet.specs.declared.Progress.{Progress}
-use Rattle.sheet.specs.Sections.{goes_on, Gives, fault, gives, lines_text}
+use Rattle.sheet.specs.Sections.{goes_on, lines_text}
 use Rattle.sheet.specs.Reading.{need_gives, need_form}
 use Rattle.sheet.specs.Printing.{up_to, side_of, bound_at, bounding_at}
 use Rattle.sheet.proofs.Sections.{Fitting}
 use Rattle.sheet.proofs.Forms.{LimitFits, Bare, BoundFits, NeedFits}
+use Rattle.lines.specs.Faults.{Read}
 
 -- ---- lists of places
 
@@ -161,18 +158,18 @@ pub record Kept (side : Side) (i j : ModelItem) : Type 0 where
 pub kept_same : (side : Side) (i : ModelItem) → Kept side i i
 kept_same side i = record { mark = refl; low = refl; high = refl; price = refl; other = refl }
 
-kept-bounded : (side : Side) (b : Bound) (i j : ModelItem) → Kept side i j → Kept side i (bounded side b j)
+kept-bounded : (side : Side) (b : Option ℤ) (i j : ModelItem) → Kept side i j → Kept side i (bounded side b j)
 kept-bounded Lower b i j h = record { mark = h.mark; low = h.low; high = h.high; price = h.price; other = h.other }
 kept-bounded Upper b i j h = record { mark = h.mark; low = h.low; high = h.high; price = h.price; other = h.other }
 
-bounded-side : (side : Side) (b : Bound) (i : ModelItem) → side_of side (bounded side b i) ≡ b
+bounded-side : (side : Side) (b : Option ℤ) (i : ModelItem) → side_of side (bounded side b i) ≡ b
 bounded-side Lower b i = refl
 bounded-side Upper b i = refl
 
 -- over the record o, which has no such bounds
 pub record BoundsIn (side : Side) (o : Model) (m : ℕ) (vs : List Bounding) (p : Progress) : Type 0 where
   pub listed : up_to p.item (bounding_at side p.model) ≡ vs
-  pub rest : (k : ℕ) → p.item ≤ k → bound_at side p.model k ≡ Absent
+  pub rest : (k : ℕ) → p.item ≤ k → bound_at side p.model k ≡ None
   pub fair : (k : ℕ) → bad_bound (bound_at side p.model k) ≡ false
   pub all : m ≡ o.count
   pub few : o.count ≤ 16
@@ -338,12 +335,12 @@ needs-fit o m (suc n) ns h = (
 
 -- ---- a line of two item numbers is refused as it is in the record that has it: 5, then 14
 
-abbrev pub as_record : {A : Type 0} → Gives A → Verdict
-as_record (fault k) = refuse k
-as_record (gives a n) = Accepted
+abbrev pub as_record : {A : Type 0} → Read A → Verdict
+as_record (Err k) = refuse k
+as_record (Ok (a, n)) = Ok tt
 
 pub need-as-record : (s : List ℕ) (p : Progress) (b : Need) (next : ℕ) → p.item < 16 → p.model.count ≤ 16 → length p.model.needs.lines ≡ 16 →
-    let n = p.model.count in numbers_line (from_to 1 n) (from_to 1 n) s p.at ≡ Both (In (pos b.item)) (In (pos b.cover)) next →
+    let n = p.model.count in numbers_line (from_to 1 n) (from_to 1 n) s p.at ≡ Ok ((Some (pos b.item), Some (pos b.cover)), next) →
     as_record (need_form.read s p) ≡ need_verdict (with_need p.model p.item b) p.item
 unfolding need_read
 need-as-record s p b next l few size e =
@@ -354,12 +351,12 @@ need-as-record s p b next l few size e =
     let same = before-cong o m.needs j (λ i u. get_or-set_other m.needs.lines j i b no_need (omega arith)) in
     rw (e, here, same, held_all m.count few) (bad (bad_line m.count (line_before m.needs j) b))
   where
-    unfitted : (u : Bool) → as_record {A = Need} (cond u (fault refusal.named-item) (gives b next)) ≡ refused_if u refusal.named-item
+    unfitted : (u : Bool) → as_record {A = Need} (cond {A = Read Need} u (Err refusal.NamedItem) (Ok (b, next))) ≡ refused_for u refusal.NamedItem
     unfitted true = refl
     unfitted false = refl
 
     bad : (t : Bool) → let f = item_at p.model in
-        as_record (need_gives f (cond t (NeedFault refusal.item-number) (NeedIs b next)))
-        ≡ or_else (refused_if t refusal.item-number) (refused_if (unfit_line f b) refusal.named-item)
+        as_record (need_gives f (cond {A = Read Need} t (Err refusal.ItemNumber) (Ok (b, next))))
+        ≡ or_else (refused_for t refusal.ItemNumber) (refused_for (unfit_line f b) refusal.NamedItem)
     bad true = refl
     bad false = unfitted (unfit_line (item_at p.model) b)

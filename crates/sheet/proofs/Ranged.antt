@@ -1,13 +1,13 @@
 -- Row 20 of a sheet: the first item whose weight is a range and whose amount may be below 0.
 -- none_yet, ranged-more, ranged-found, ranged-most: while the items are looked at. ranged-none, none-ranged: no number exactly if there is no such item.
 -- unranged: a sheet that row 20 does not refuse has none, and stays as it was read.
-use mathlib.Core.Path.{◌≡◌, refl, sym, ap, ◌∙◌, subst}
+use mathlib.Core.Path.{◌≡◌, refl}
 use mathlib.Core.Bool.{Bool, true, false, cond}
 use Prim.Native.Nat.{ℕ, zero, suc, ◌≤◌, ◌<◌}
 use native.Mathlib.Decide.{ℕ_discrete}
 use native.Mathlib.Omega.{arith}
 use Rattle.arith.specs.Sum.{Each}
-use Rattle.knapsack.specs.declared.Verdict.TheVariants.{Accepted}
+use Rattle.std.specs.Prelude.{Ok}
 use Rattle.model.specs.declared.ModelItem.{ModelItem}
 use Rattle.model.specs.Records.{item_at, is_ranged_below}
 use Rattle.sheet.specs.declared.Progress.{Progress}
@@ -60,17 +60,17 @@ module _ (f : ℕ → ModelItem) where
   none-ranged (suc n) h = ranged-more n (none-ranged n (λ k l. h k (omega arith))) (h n (omega arith))
 
 pub record Unranged (p : Progress) : Type 0 where
-  pub before : p.verdict ≡ Accepted
+  pub before : p.verdict ≡ Ok tt
   pub is : ranges_of p ≡ p
   pub none : first_ranged p.model.count (item_at p.model) ≡ 0
 
-pub unranged : (p : Progress) → (ranges_of p).verdict ≡ Accepted → Unranged p
+pub unranged : (p : Progress) → (ranges_of p).verdict ≡ Ok tt → Unranged p
 unfolding ranges_of
 unranged p h =
     let w = went p (ranged_at (first_ranged p.model.count (item_at p.model)) p) h in
     go (first_ranged p.model.count (item_at p.model)) refl w.before w.is w.after
   where
-    go : (k : ℕ) → first_ranged p.model.count (item_at p.model) ≡ k → p.verdict ≡ Accepted → onward p (ranged_at (first_ranged p.model.count (item_at p.model)) p) ≡ ranged_at k p →
-        (ranged_at k p).verdict ≡ Accepted → Unranged p
+    go : (k : ℕ) → first_ranged p.model.count (item_at p.model) ≡ k → p.verdict ≡ Ok tt → onward p (ranged_at (first_ranged p.model.count (item_at p.model)) p) ≡ ranged_at k p →
+        (ranged_at k p).verdict ≡ Ok tt → Unranged p
     go zero e b i a = record { before = b; is = i; none = e }
     go (suc k) e b i a = no-refusal a

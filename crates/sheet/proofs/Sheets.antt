@@ -18,9 +18,9 @@ use lib.IntN.{ℤ}
 use lib.ListN.{length, drop, drop_of_length-le, length-drop, replicate, length-replicate, get_or-replicate, get_or-eq_default}
 use lib.Seq.{ext_get_or}
 use Rattle.arith.specs.Sum.{Each}
-use Rattle.knapsack.specs.declared.Bound.TheVariants.{Absent}
-use Rattle.knapsack.specs.declared.Verdict.TheVariants.{Accepted, Refused}
-use Rattle.model.specs.Refusals as refusal
+use Rattle.std.specs.Prelude.{None}
+use Rattle.std.specs.Prelude.{Ok, Err}
+use Rattle.model.specs.declared.refusals.Reason.TheVariants as refusal
 use Rattle.model.specs.declared.Blanks.{Blanks}
 use Rattle.model.specs.declared.Model.{Model}
 use Rattle.model.specs.declared.ModelItem.{ModelItem}
@@ -53,7 +53,7 @@ use Rattle.sheet.proofs.Forms.{BoundFits, bound-laws, fair-side, NeedFits, need-
 use Rattle.sheet.proofs.Making.{upto-length, upto-cong, upto-inj, texts-cong}
 use Rattle.sheet.proofs.Making.{limited, Limited, limit-next, blanks, ItemsIn, items-next, items-fit}
 use Rattle.sheet.proofs.Making.{Kept, kept_same, BoundsIn, bounds-number, bounds-next, bounds-fit}
-use Rattle.sheet.proofs.Making.{FairLine, NeedsIn, needs-number, needs-next, needs-fit}
+use Rattle.sheet.proofs.Making.{NeedsIn, needs-number, needs-next, needs-fit}
 use Rattle.sheet.proofs.Lengths.{printing-short}
 
 -- ---- the lines of a record
@@ -142,7 +142,7 @@ items-start kind m b n at e few =
     }
 
 bounds-start : (side : Side) (o : Model) (n at : ℕ) → n ≡ o.count → o.count ≤ 16 → length o.items ≡ 16 →
-    ((k : ℕ) → bound_at side o k ≡ Absent) → BoundsIn side o n [] (goes_on o at 0)
+    ((k : ℕ) → bound_at side o k ≡ None) → BoundsIn side o n [] (goes_on o at 0)
 unfolding up_to
 bounds-start side o n at all few size free = record {
   listed = refl;
@@ -186,10 +186,10 @@ items-end b vs p i = sym (upto-length p.item (item_at p.model)) ∙ ap length i.
 
 -- items that were just read have no bounds
 no-bounds : {kind : Blanks} (side : Side) (b : ℤ) (vs : List ModelItem) (p : Progress) → ItemsIn kind b (length vs) vs p
-    → (k : ℕ) → bound_at side p.model k ≡ Absent
+    → (k : ℕ) → bound_at side p.model k ≡ None
 no-bounds side b vs p i k = go side (dec_lt k p.item)
   where
-    go : (side : Side) → Dec (k < p.item) → bound_at side p.model k ≡ Absent
+    go : (side : Side) → Dec (k < p.item) → bound_at side p.model k ≡ None
     go Lower (yes l) = (i.bare k l).lower
     go Upper (yes l) = (i.bare k l).upper
     go Lower (no l) = ap (λ (i : ModelItem). i.lower) (i.rest k (omega arith))
@@ -268,15 +268,15 @@ module _ {kind : Blanks} (b : ℤ) (vi : List ModelItem) (vl vu : List Bounding)
 -- ---- what is accepted
 
 pub record Ended (s : List ℕ) (p : Progress) : Type 0 where
-  pub before : p.verdict ≡ Accepted
+  pub before : p.verdict ≡ Ok tt
   pub is : end_of_sheet s p ≡ p
   pub past : length s ≤ p.at
 
-at-end : (s : List ℕ) (p : Progress) (t : Bool) → (cond t (refused_at s refusal.form p.at) p).verdict ≡ Accepted → t ≡ false
+at-end : (s : List ℕ) (p : Progress) (t : Bool) → (cond t (refused_at s refusal.Form p.at) p).verdict ≡ Ok tt → t ≡ false
 at-end s p true h = no-refusal h
 at-end s p false h = refl
 
-pub ended : (s : List ℕ) (p : Progress) → (end_of_sheet s p).verdict ≡ Accepted → Ended s p
+pub ended : (s : List ℕ) (p : Progress) → (end_of_sheet s p).verdict ≡ Ok tt → Ended s p
 unfolding end_of_sheet
 ended s p h =
     let w = went p _ h in
@@ -316,12 +316,12 @@ record Sections (kind : Blanks) (s : List ℕ) : Type 0 where
   needs-read : NeedsIn (upper_of kind s).model (length vn) vn (last_of kind s)
   text : Has s 0 (text_of limit vi vl vu vn) (last_of kind s).at
 
-side_before : (s : List ℕ) (side : Side) (p : Progress) → (bounds_section s side p).verdict ≡ Accepted → p.verdict ≡ Accepted
+side_before : (s : List ℕ) (side : Side) (p : Progress) → (bounds_section s side p).verdict ≡ Ok tt → p.verdict ≡ Ok tt
 unfolding bounds_section
 side_before s side p h = section-before (bound_form side) _ _ _ s p h
 
 side-read : (s : List ℕ) (side : Side) (p : Progress) → p.model.count ≤ 16 → length p.model.items ≡ 16 →
-    ((k : ℕ) → bound_at side p.model k ≡ Absent) → (bounds_section s side p).verdict ≡ Accepted →
+    ((k : ℕ) → bound_at side p.model k ≡ None) → (bounds_section s side p).verdict ≡ Ok tt →
     SectionRead (bound_form side) (BoundsIn side p.model) (word_of side) s p.model.count p.model.count p.at (bounds_section s side p)
 unfolding bounds_section
 side-read s side p few size free h =
@@ -329,7 +329,7 @@ side-read s side p few size free h =
     section-read (bound_form side) BoundFits (bound-laws side) (BoundsIn side p.model) (bounds-next side p.model) (word_of side) n n _
     s p (word_bytes side) (λ m at x y. bounds-start side p.model m at (omega arith) few size free) h
 
-sections : (kind : Blanks) (s : List ℕ) → (last_of kind s).verdict ≡ Accepted → Sections kind s
+sections : (kind : Blanks) (s : List ℕ) → (last_of kind s).verdict ≡ Ok tt → Sections kind s
 unfolding last_of needs_section upper_of lower_of head_of limit_section items_section
 sections kind s g =
     let h = section-before need_form _ _ _ s (upper_of kind s) g in
@@ -345,7 +345,7 @@ sections kind s g =
     section-read (item_form_by kind) (λ p i. Bare kind i) (item-laws kind) (ItemsIn kind b) (items-next kind b) items 1 16 _ s (limit_section s) items-bytes
     (λ n at x y. items-start kind (limit_section s).model b n at is y) hi in
     let q = (head_of kind s).model in
-    let free : (side : Side) (k : ℕ) → bound_at side q k ≡ Absent = λ side. no-bounds side b i.values (head_of kind s) i.holds in
+    let free : (side : Side) (k : ℕ) → bound_at side q k ≡ None = λ side. no-bounds side b i.values (head_of kind s) i.holds in
     let few : q.count ≤ 16 = omega (arith, i.most, i.holds.count) in
     let x = side-read s Lower (head_of kind s) few i.holds.places (free Lower) hl in
     let y = side-read s Upper (lower_of kind s) (omega (arith, few, x.holds.count)) x.holds.places (λ k. (x.holds.same k).other ∙ free Upper k) h in
@@ -369,7 +369,7 @@ sections kind s g =
     }
 
 -- behind the limit's two lines and the heading of the items there is a line for each item
-pub sheet-ends : (kind : Blanks) (s : List ℕ) → (last_of kind s).verdict ≡ Accepted → 3 + (last_of kind s).model.count ≤ ends s
+pub sheet-ends : (kind : Blanks) (s : List ℕ) → (last_of kind s).verdict ≡ Ok tt → 3 + (last_of kind s).model.count ≤ ends s
 sheet-ends kind s h =
     let r = sections kind s h in
     let first = section_text limit_form limit (r.limit ∷ []) in
@@ -428,16 +428,16 @@ found-sheet kind s t none =
     }
 
 -- what is accepted with a record is that record's sheet
-pub accepted-sheet : {kind : Blanks} (s : List ℕ) (m : Model) → read_sheet_by kind s ≡ record { verdict = Accepted; model = m } → SheetOfBy kind s m
+pub accepted-sheet : {kind : Blanks} (s : List ℕ) (m : Model) → read_sheet_by kind s ≡ record { verdict = Ok tt; model = m } → SheetOfBy kind s m
 unfolding read_sheet_by whole_of
 accepted-sheet {kind} s m h = go (ltb 4096 (length s)) h
   where
     go : (t : Bool) →
         ◌≡◌ {A = Reading}
         (cond t
-        (record { verdict = Refused (refusal_on refusal.overlong 0); model = empty_model })
+        (record { verdict = Err (refusal_on refusal.Overlong 0); model = empty_model })
         (record { verdict = (whole_of kind s).verdict; model = (whole_of kind s).model }))
-        (record { verdict = Accepted; model = m }) →
+        (record { verdict = Ok tt; model = m }) →
         SheetOfBy kind s m
     go true h = no-refusal (ap (λ (r : Reading). r.verdict) h)
     go false h =
@@ -516,8 +516,8 @@ module _ (kind : Blanks) (m : Model) (r : Unfaulted kind m) (tidy : Tidy m) wher
   bare-count = items_back.holds.count ∙ many
 
   -- a section of bounds, where none of its side have been read
-  side-back : (side : Side) (l : List ℕ) (p : Progress) → p.verdict ≡ Accepted → p.model.count ≡ m.count → length p.model.items ≡ 16 →
-      ((k : ℕ) → bound_at side p.model k ≡ Absent) → let vs = up_to m.count (bounding_at side m) in
+  side-back : (side : Side) (l : List ℕ) (p : Progress) → p.verdict ≡ Ok tt → p.model.count ≡ m.count → length p.model.items ≡ 16 →
+      ((k : ℕ) → bound_at side p.model k ≡ None) → let vs = up_to m.count (bounding_at side m) in
       drop p.at sheet ≡ section_text (bound_form side) (word_of side) vs ++ l →
       Back (BoundsIn side p.model (length vs)) sheet l vs (bounds_section sheet side p)
   unfolding bounds_section
@@ -542,7 +542,7 @@ module _ (kind : Blanks) (m : Model) (r : Unfaulted kind m) (tidy : Tidy m) wher
   unfolding upper_of bare vu upper-left
   upper-back =
       let l = lower-back in
-      let free : (k : ℕ) → bound_at Upper (lower_of kind sheet).model k ≡ Absent
+      let free : (k : ℕ) → bound_at Upper (lower_of kind sheet).model k ≡ None
       = λ k. (l.holds.same k).other ∙ no-bounds Upper m.capacity vi (head_of kind sheet) items_back.holds k in
       side-back Upper needs-left (lower_of kind sheet) l.accepted (l.holds.count ∙ bare-count) l.holds.places free l.left
 
@@ -619,18 +619,18 @@ module _ (kind : Blanks) (m : Model) (r : Unfaulted kind m) (tidy : Tidy m) wher
   unfolding sheet
   text-is = laid-text m m.capacity vi vl vu vn own
 
-  reading-back : read_sheet_by kind (printing m) ≡ record { verdict = Accepted; model = m }
+  reading-back : read_sheet_by kind (printing m) ≡ record { verdict = Ok tt; model = m }
   unfolding read_sheet_by
   reading-back =
       let short : length sheet ≤ 4096 = omega (arith, printing-short m r, ap length text-is) in
       rw (text-is, le-ltb 4096 (length sheet) short, whole_back, last-back.accepted, model-back)
 
 -- the sheet of a record is accepted with that record
-pub sheet-accepted : {kind : Blanks} (s : List ℕ) (m : Model) → SheetOfBy kind s m → read_sheet_by kind s ≡ record { verdict = Accepted; model = m }
+pub sheet-accepted : {kind : Blanks} (s : List ℕ) (m : Model) → SheetOfBy kind s m → read_sheet_by kind s ≡ record { verdict = Ok tt; model = m }
 sheet-accepted {kind} s m h = rw h.text (reading-back kind m (unfaulted m h.fair) h.tidy)
 
 -- End theorem: a sheet is accepted with a record exactly if it is that record's sheet.
-pub accepted-exactly : (kind : Blanks) (s : List ℕ) (m : Model) → (read_sheet_by kind s ≡ record { verdict = Accepted; model = m }) ↔ SheetOfBy kind s m
+pub accepted-exactly : (kind : Blanks) (s : List ℕ) (m : Model) → (read_sheet_by kind s ≡ record { verdict = Ok tt; model = m }) ↔ SheetOfBy kind s m
 accepted-exactly kind s m = (accepted-sheet s m, sheet-accepted s m)
 
 -- End theorem: two records in range have equal sheets only if they are equal.

@@ -13,7 +13,7 @@ use lib.ListN.{length}
 use Rattle.knapsack.specs.declared.Refusal.{Refusal}
 use Rattle.model.specs.declared.Blanks.{Blanks}
 use Rattle.model.specs.declared.Side.{Side}
-use Rattle.model.specs.Refusals as refusal
+use Rattle.model.specs.declared.refusals.Reason.TheVariants as refusal
 use Rattle.lines.specs.Places.{line_at, refusal_on}
 use Rattle.sheet.specs.declared.Progress.{Progress}
 use Rattle.sheet.specs.Sections.{stopped_by, refused_at, LineForm, step_of, lines_of}
@@ -53,8 +53,8 @@ pub end-few : (s : List ℕ) (p : Progress) → Few p → Few (end_of_sheet s p)
 unfolding end_of_sheet
 end-few s p h = onward-keeps Few p _ h (go (ltb p.at (length s)))
   where
-    go : (b : Bool) → Few (cond b (refused_at s refusal.form p.at) p)
-    go true = none-few (refusal_on refusal.form (line_at s p.at))
+    go : (b : Bool) → Few (cond b (refused_at s refusal.Form p.at) p)
+    go true = none-few (refusal_on refusal.Form (line_at s p.at))
     go false = h
 
 -- a refusal ends the reading, however many lines there are to come

@@ -11,8 +11,8 @@
 --   Tidy m              16 places and 16 lines of needs, and the ones beyond the counts are blank, and 0 0, as the reader leaves them
 --   SheetOfBy b s m     s is the sheet of m, which is accepted as a record;  SheetOf s m: where blank items are refused
 use Rattle.std.specs.Prelude.{◌≡◌, List, [], ◌∷◌, ◌++◌, ℕ, zero, suc, ◌≤◌, length}
-use Rattle.knapsack.specs.declared.Bound.{Bound}
-use Rattle.knapsack.specs.declared.Verdict.TheVariants.{Accepted}
+use Rattle.std.specs.Prelude.{Option, ℤ}
+use Rattle.std.specs.Prelude.{Ok}
 use Rattle.model.specs.declared.Blanks.{Blanks}
 use Rattle.model.specs.declared.Blanks.TheVariants as blanks
 use Rattle.model.specs.declared.Model.{Model}
@@ -29,11 +29,11 @@ unfoldable pub up_to : {A : Type 0} → ℕ → (ℕ → A) → List A
 up_to zero f = []
 up_to (suc n) f = f n ∷ up_to n f
 
-abbrev pub side_of : Side → ModelItem → Bound
+abbrev pub side_of : Side → ModelItem → Option ℤ
 side_of Lower i = i.lower
 side_of Upper i = i.upper
 
-abbrev pub bound_at : Side → Model → ℕ → Bound
+abbrev pub bound_at : Side → Model → ℕ → Option ℤ
 bound_at side m k = side_of side (item_at m k)
 
 abbrev pub bounding_at : Side → Model → ℕ → Bounding
@@ -60,7 +60,7 @@ pub record Tidy (m : Model) : Type 0 where
   pub spare : (j : ℕ) → m.needs.count ≤ j → need_at m.needs j ≡ no_need
 
 pub record SheetOfBy (b : Blanks) (s : List ℕ) (m : Model) : Type 0 where
-  pub fair : verdict_by b m ≡ Accepted
+  pub fair : verdict_by b m ≡ Ok tt
   pub tidy : Tidy m
   pub text : s ≡ printing m
 

@@ -12,35 +12,27 @@
 --   whole_of b s          the sheet read to its end
 --   read_sheet_by b s      what a sheet gives;  read_sheet s: where blank items are refused
 use Rattle.std.specs.Prelude.{cond, List, [], ◌∷◌, ℕ, zero, suc, ◌+◌, ltb, ℤ, pos, negsuc, length}
-use Rattle.knapsack.specs.declared.Verdict.TheVariants.{Refused}
+use Rattle.std.specs.Prelude.{Option, None, Some, Ok, Err}
 use Rattle.model.specs.declared.Blanks.{Blanks}
 use Rattle.model.specs.declared.Blanks.TheVariants as blanks
 use Rattle.model.specs.declared.ModelItem.{ModelItem}
 use Rattle.model.specs.declared.Need.{Need}
 use Rattle.model.specs.declared.Side.{Side}
 use Rattle.model.specs.declared.Side.TheVariants.{Lower, Upper}
-use Rattle.model.specs.Refusals as refusal
+use Rattle.model.specs.declared.refusals.Reason.TheVariants as refusal
 use Rattle.model.specs.Records.{empty_model, item_at, barred, is_ranged_below, unfit_line, line_before}
 use Rattle.model.specs.Setters.{with_capacity, with_count, with_item, with_bound, with_need_count, with_need}
 use Rattle.text.specs.Decimal.{integer}
 use Rattle.text.specs.Layout.{line}
 use Rattle.lines.specs.declared.number.Range.{Range}
-use Rattle.lines.specs.declared.number.Ranged.TheVariants.{In, Out}
-use Rattle.lines.specs.declared.number.Field.{Field}
-use Rattle.lines.specs.declared.number.Field.TheVariants.{Fault, Number}
-use Rattle.lines.specs.declared.ItemRead.{ItemRead}
-use Rattle.lines.specs.declared.ItemRead.TheVariants.{Fault as ItemFault, Read as ItemIs}
-use Rattle.lines.specs.declared.BoundRead.{BoundRead}
-use Rattle.lines.specs.declared.BoundRead.TheVariants.{Fault as BoundFault, Read as BoundIs}
-use Rattle.lines.specs.declared.NeedRead.{NeedRead}
-use Rattle.lines.specs.declared.NeedRead.TheVariants.{Fault as NeedFault, Read as NeedIs}
+use Rattle.lines.specs.Faults.{Read}
 use Rattle.lines.specs.Places.{refusal_on}
 use Rattle.lines.specs.Numbers.{from_to, only, field_at}
 use Rattle.lines.specs.Lines.{item_read, bound_read, need_read}
 use Rattle.lines.specs.Layout.{item_text, Bounding, bounding, bound_text, need_text}
 use Rattle.sheet.specs.declared.Progress.{Progress}
 use Rattle.sheet.specs.declared.Reading.{Reading}
-use Rattle.sheet.specs.Sections.{goes_on, stopped_by, refused_at, onward, Gives, fault, gives, LineForm, section_of}
+use Rattle.sheet.specs.Sections.{goes_on, stopped_by, refused_at, onward, LineForm, section_of}
 
 -- the heading words in the bytes of ASCII
 -- limit
@@ -64,10 +56,10 @@ needs = 110 ∷ 101 ∷ 101 ∷ 100 ∷ 115 ∷ []
 abbrev pub limits : Range
 limits = record { lo = negsuc 99999999; hi = pos 100000000 }
 
-abbrev pub limit_gives : Field → Gives ℤ
-limit_gives (Fault k) = fault k
-limit_gives (Number Out n) = fault refusal.figure
-limit_gives (Number (In b) n) = gives b n
+abbrev pub limit_gives : Read (Option ℤ) → Read ℤ
+limit_gives (Err k) = Err k
+limit_gives (Ok (None, n)) = Err refusal.Figure
+limit_gives (Ok (Some b, n)) = Ok (b, n)
 
 abbrev pub limit_form : LineForm ℤ
 limit_form = record {
@@ -81,9 +73,9 @@ unfoldable pub limit_section : List ℕ → Progress
 limit_section s = section_of limit_form limit (from_to 1 1) (λ n. empty_model) s (goes_on empty_model 0 0)
 
 -- ---- items n, and n lines: on a line 4 and 19, then 15
-abbrev pub item_gives : Blanks → ItemRead → Gives ModelItem
-item_gives b (ItemFault n) = fault n
-item_gives b (ItemIs i n) = cond (barred b i) (fault refusal.blank-item) (gives i n)
+abbrev pub item_gives : Blanks → Read ModelItem → Read ModelItem
+item_gives b (Err n) = Err n
+item_gives b (Ok (i, n)) = cond (barred b i) (Err refusal.BlankItem) (Ok (i, n))
 
 abbrev pub item_form_by : Blanks → LineForm ModelItem
 item_form_by b = record {
@@ -100,9 +92,9 @@ unfoldable pub items_section : Blanks → List ℕ → Progress → Progress
 items_section b s p = section_of (item_form_by b) items (from_to 1 16) (λ n. with_count p.model n) s p
 
 -- ---- lower n and upper n, and n lines, for the items in order
-abbrev pub bound_gives : ℕ → BoundRead → Gives Bounding
-bound_gives k (BoundFault n) = fault n
-bound_gives k (BoundIs b n) = gives (bounding k b) n
+abbrev pub bound_gives : ℕ → Read (Option ℤ) → Read Bounding
+bound_gives k (Err n) = Err n
+bound_gives k (Ok (b, n)) = Ok (bounding k b, n)
 
 abbrev pub bound_form : Side → LineForm Bounding
 bound_form side = record {
@@ -116,9 +108,9 @@ unfoldable pub bounds_section : List ℕ → Side → Progress → Progress
 bounds_section s side p = section_of (bound_form side) (word_of side) (only p.model.count) (λ n. p.model) s p
 
 -- ---- needs t, and t lines: on a line 5 and then 14, of the items as they were read
-abbrev pub need_gives : (ℕ → ModelItem) → NeedRead → Gives Need
-need_gives f (NeedFault n) = fault n
-need_gives f (NeedIs b n) = cond (unfit_line f b) (fault refusal.named-item) (gives b n)
+abbrev pub need_gives : (ℕ → ModelItem) → Read Need → Read Need
+need_gives f (Err n) = Err n
+need_gives f (Ok (b, n)) = cond (unfit_line f b) (Err refusal.NamedItem) (Ok (b, n))
 
 abbrev pub need_form : LineForm Need
 need_form = record {
@@ -133,7 +125,7 @@ needs_section s p = section_of need_form needs (from_to 0 16) (λ n. with_need_c
 
 -- ---- behind the last section
 unfoldable pub end_of_sheet : List ℕ → Progress → Progress
-end_of_sheet s p = onward p (cond (ltb p.at (length s)) (refused_at s refusal.form p.at) p)
+end_of_sheet s p = onward p (cond (ltb p.at (length s)) (refused_at s refusal.Form p.at) p)
 
 -- ---- behind the sheet: the first line is the limit's heading, so that item k has line 3 + k
 abbrev pub or_number : ℕ → ℕ → ℕ
@@ -146,7 +138,7 @@ first_ranged (suc n) f = or_number (first_ranged n f) (cond (is_ranged_below (f 
 
 abbrev pub ranged_at : ℕ → Progress → Progress
 ranged_at zero p = p
-ranged_at (suc k) p = stopped_by (refusal_on refusal.ranged-item (3 + suc k))
+ranged_at (suc k) p = stopped_by (refusal_on refusal.RangedItem (3 + suc k))
 
 unfoldable pub ranges_of : Progress → Progress
 ranges_of p = onward p (ranged_at (first_ranged p.model.count (item_at p.model)) p)
@@ -170,7 +162,7 @@ whole_of b s = ranges_of (end_of_sheet s (last_of b s))
 unfoldable pub read_sheet_by : Blanks → List ℕ → Reading
 read_sheet_by b s =
     cond (ltb 4096 (length s))
-    (record { verdict = Refused (refusal_on refusal.overlong 0); model = empty_model })
+    (record { verdict = Err (refusal_on refusal.Overlong 0); model = empty_model })
     (record { verdict = (whole_of b s).verdict; model = (whole_of b s).model })
 
 abbrev pub read_sheet : List ℕ → Reading

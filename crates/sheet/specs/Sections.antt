@@ -5,8 +5,7 @@
 --   on_verdict v a b          a if v accepts, else b
 --   onward p q               q, while nothing is refused in p
 --   on_count c f g            f of a heading's refusal; g of its count and the place behind it
---   Gives A                  what a line gives: fault n, a refusal, or gives a n, a value and the place behind the line
---   LineForm A               a kind of line: what it gives where a reading stands, the text of a value,
+--   LineForm A               a kind of line: what is read where a reading stands, the text of a value,
 --                            and the record and the item number with the value taken in
 --   taken f s p x            what the line gave is taken in
 --   step_of f s p             one line is read
@@ -16,14 +15,14 @@
 --   section_text f w vs       the text of a section with those lines
 use Rattle.std.specs.Prelude.{List, [], ◌∷◌, ◌++◌, ℕ, zero, suc, length}
 use Rattle.knapsack.specs.declared.Refusal.{Refusal}
-use Rattle.knapsack.specs.declared.Verdict.{Verdict}
-use Rattle.knapsack.specs.declared.Verdict.TheVariants.{Accepted, Refused}
+use Rattle.knapsack.specs.Verdicts.{Verdict}
+use Rattle.std.specs.Prelude.{Ok, Err}
 use Rattle.model.specs.declared.Model.{Model}
+use Rattle.model.specs.declared.refusals.Reason.{Reason}
 use Rattle.model.specs.Records.{empty_model}
 use Rattle.lines.specs.declared.number.Range.{Range}
-use Rattle.lines.specs.declared.Count.{Count}
-use Rattle.lines.specs.declared.Count.TheVariants.{Fault, Lines}
 use Rattle.lines.specs.Places.{line_at, refusal_on}
+use Rattle.lines.specs.Faults.{Read}
 use Rattle.lines.specs.Lines.{count_at}
 use Rattle.lines.specs.Layout.{heading_text}
 use Rattle.sheet.specs.declared.Progress.{Progress}
@@ -31,40 +30,36 @@ use Rattle.sheet.specs.declared.Progress.{Progress}
 -- ---- a reading goes on, or a refusal ends it
 
 abbrev pub goes_on : Model → ℕ → ℕ → Progress
-goes_on m at k = record { verdict = Accepted; model = m; at = at; item = k }
+goes_on m at k = record { verdict = Ok tt; model = m; at = at; item = k }
 
 abbrev pub stopped_by : Refusal → Progress
-stopped_by r = record { verdict = Refused r; model = empty_model; at = 0; item = 0 }
+stopped_by r = record { verdict = Err r; model = empty_model; at = 0; item = 0 }
 
-abbrev pub refused_at : List ℕ → ℕ → ℕ → Progress
+abbrev pub refused_at : List ℕ → Reason → ℕ → Progress
 refused_at s n at = stopped_by (refusal_on n (line_at s at))
 
 abbrev pub on_verdict : {A : Type 0} → Verdict → A → A → A
-on_verdict Accepted a b = a
-on_verdict (Refused r) a b = b
+on_verdict (Ok tt) a b = a
+on_verdict (Err r) a b = b
 
 abbrev pub onward : Progress → Progress → Progress
 onward p q = on_verdict p.verdict q p
 
-abbrev pub on_count : {A : Type 0} → Count → (ℕ → A) → (ℕ → ℕ → A) → A
-on_count (Fault n) f g = f n
-on_count (Lines m n) f g = g m n
+abbrev pub on_count : {A : Type 0} → Read ℕ → (Reason → A) → (ℕ → ℕ → A) → A
+on_count (Err n) f g = f n
+on_count (Ok (m, n)) f g = g m n
 
 -- ---- lines are read
 
-pub data Gives (A : Type 0) : Type 0 where
-  fault : ℕ → Gives A
-  gives : A → ℕ → Gives A
-
 pub record LineForm (A : Type 0) : Type 0 where
-  pub read : List ℕ → Progress → Gives A
+  pub read : List ℕ → Progress → Read A
   pub text : A → List ℕ
   pub fill : Progress → A → Model
   pub item : Progress → A → ℕ
 
-abbrev pub taken : {A : Type 0} → LineForm A → List ℕ → Progress → Gives A → Progress
-taken f s p (fault n) = refused_at s n p.at
-taken f s p (gives a n) = goes_on (f.fill p a) n (f.item p a)
+abbrev pub taken : {A : Type 0} → LineForm A → List ℕ → Progress → Read A → Progress
+taken f s p (Err n) = refused_at s n p.at
+taken f s p (Ok (a, n)) = goes_on (f.fill p a) n (f.item p a)
 
 unfoldable pub step_of : {A : Type 0} → LineForm A → List ℕ → Progress → Progress
 step_of f s p = onward p (taken f s p (f.read s p))

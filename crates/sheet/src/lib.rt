@@ -4,7 +4,7 @@
 // A line is read in two steps, its form and then its values (crate lines); a section is a heading and a loop over its lines (specs/Sections).
 #![tactic(auto)]
 
-ghost use Rattle.std.specs.Prelude.{◌≡◌, suc, ◌+◌, ◌≤◌, ◌<◌};
+ghost use Rattle.std.specs.Prelude.{◌≡◌, suc, ◌+◌, ◌≤◌, ◌<◌, Ok};
 ghost use Rattle.model.specs.Records.{empty_model};
 ghost use Rattle.model.specs.Records.{item_at, barred, Numbers};
 ghost use Rattle.model.specs.Setters.{with_item, with_need};
@@ -15,23 +15,24 @@ ghost use Rattle.sheet.specs.Reading.{word_of, limit_form, item_gives, item_form
 ghost use Rattle.sheet.specs.Reading.{need_gives, need_form, needs_section};
 ghost use Rattle.sheet.specs.Reading.{first_ranged, ranges_of, head_of, whole_of, read_sheet_by, read_sheet};
 
-use knapsack::{Bound, Refusal, Verdict};
-use lines::number::{Field, Range, Ranged};
+use knapsack::Refusal;
+use lines::Read;
+use lines::number::Range;
 pub use lines::scan::{check_line, first_line_end, line_part};
-use lines::{BoundRead, Count, ItemRead, NeedRead};
-use model::{Blanks, Model, ModelItem, Need, Side, naming, refusals, setters};
+use model::refusals::Reason;
+use model::{Blanks, Model, ModelItem, Need, Side, naming, setters};
 
 // What a sheet gives: its record, or a refusal beside the empty record.
 #[derive(Clone, Copy)]
 pub struct Reading {
-    pub verdict: Verdict,
+    pub verdict: Result<(), Refusal>,
     pub model: Model,
 }
 
 // A sheet read up to the place at. item is the number of the item that the section's last line was about, 0 at its start.
 #[derive(Clone, Copy)]
 pub struct Progress {
-    pub verdict: Verdict,
+    pub verdict: Result<(), Refusal>,
     pub model: Model,
     pub at: usize,
     pub item: usize,
@@ -42,7 +43,7 @@ fn goes_on(model: Model, at: usize, item: usize) -> Progress
     ensures { result ≡ goes_on model at item }
 {
     Progress {
-        verdict: Verdict::Accepted,
+        verdict: Ok(()),
         model,
         at,
         item,
@@ -53,21 +54,23 @@ fn goes_on(model: Model, at: usize, item: usize) -> Progress
 fn stopped(refusal: Refusal) -> Progress
     ensures { result ≡ stopped_by refusal }
 {
-    let model = setters::empty_model();
     Progress {
-        verdict: Verdict::Refused(refusal),
-        model,
+        verdict: Err(refusal),
+        model: setters::empty_model(),
         at: 0,
         item: 0,
     }
 }
 
 // A refusal, told at the line that holds a place.
-fn refused(s: &[u8], number: u64, at: usize) -> Progress
-    ensures { result ≡ refused_at s.now number at }
+fn refused(s: &[u8], reason: Reason, at: usize) -> Progress
+    ensures { result ≡ refused_at s.now reason at }
 {
     let line = lines::scan::line_at(s, at);
-    stopped(Refusal { number, line })
+    stopped(Refusal {
+        number: reason.number(),
+        line,
+    })
 }
 
 // ---- limit 1, and a line with b
@@ -79,26 +82,19 @@ fn limit_line(s: &[u8], at: usize) -> Progress
         lo: -100_000_000,
         hi: 100_000_000,
     };
-    let f = lines::number::closed_number(s, at, limits, b'\n');
-    match f {
-        Field::Fault(n) => refused(s, n, at),
-        Field::Number(g, next) => match g {
-            Ranged::Out => refused(s, refusals::FIGURE, at),
-            Ranged::In(b) => {
-                let empty = setters::empty_model();
-                goes_on(setters::with_capacity(empty, b), next, 0)
-            }
-        },
+    match lines::number::closed_number(s, at, limits, b'\n') {
+        Err(reason) => refused(s, reason, at),
+        Ok((None, _)) => refused(s, Reason::Figure, at),
+        Ok((Some(b), next)) => goes_on(setters::with_capacity(setters::empty_model(), b), next, 0),
     }
 }
 
 fn limit_section(s: &[u8]) -> Progress
     ensures { result ≡ limit_section s.now }
 {
-    let c = lines::heading(s, 0, b"limit", Range { lo: 1, hi: 1 });
-    match c {
-        Count::Fault(n) => refused(s, n, 0),
-        Count::Lines(_, next) => limit_line(s, next),
+    match lines::heading(s, 0, b"limit", Range { lo: 1, hi: 1 }) {
+        Err(reason) => refused(s, reason, 0),
+        Ok((_, next)) => limit_line(s, next),
     }
 }
 
@@ -109,9 +105,7 @@ fn item_taken(p: Progress, item: ModelItem, next: usize) -> Progress
     requires { p.item < 16 }
     ensures { result ≡ goes_on (with_item p.model p.item item) next (suc p.item) }
 {
-    let m = p.model;
-    let k = p.item;
-    goes_on(setters::with_item(m, k, item), next, k + 1)
+    goes_on(setters::with_item(p.model, p.item, item), next, p.item + 1)
 }
 
 // Whether an item is blank, where blank items are refused.
@@ -127,10 +121,10 @@ fn is_barred(item: ModelItem, blanks: Blanks) -> bool
 // An item whose figures are good: 15, or it is taken in.
 fn item_judged(s: &[u8], blanks: Blanks, p: Progress, item: ModelItem, next: usize) -> Progress
     requires { p.item < 16 }
-    ensures { result ≡ taken (item_form_by blanks) s.now p (item_gives blanks (ItemRead.Read item next)) }
+    ensures { result ≡ taken (item_form_by blanks) s.now p (item_gives blanks (Ok (item, next))) }
 {
     if is_barred(item, blanks) {
-        return refused(s, refusals::BLANK_ITEM, p.at);
+        return refused(s, Reason::BlankItem, p.at);
     }
     item_taken(p, item, next)
 }
@@ -140,17 +134,12 @@ fn item_step(s: &[u8], blanks: Blanks, p: Progress) -> Progress
     requires { p.item < 16 }
     ensures { result ≡ step_of (item_form_by blanks) s.now p }
 {
-    let verdict = p.verdict;
-    match verdict {
-        Verdict::Refused(_) => p,
-        Verdict::Accepted => {
-            let at = p.at;
-            let r = lines::item_at(s, at);
-            match r {
-                ItemRead::Fault(n) => refused(s, n, at),
-                ItemRead::Read(item, next) => item_judged(s, blanks, p, item, next),
-            }
-        }
+    let Ok(()) = p.verdict else {
+        return p;
+    };
+    match lines::item_at(s, p.at) {
+        Err(reason) => refused(s, reason, p.at),
+        Ok((item, next)) => item_judged(s, blanks, p, item, next),
     }
 }
 
@@ -159,10 +148,8 @@ fn item_lines(s: &[u8], blanks: Blanks, n: usize, p: Progress) -> Progress
     ensures { result ≡ lines_of (item_form_by blanks) n s.now p }
 {
     let mut r = p;
-    let mut k: usize = 0;
-    while k < n {
+    for _ in 0..n {
         r = item_step(s, blanks, r);
-        k += 1;
     }
     r
 }
@@ -170,20 +157,17 @@ fn item_lines(s: &[u8], blanks: Blanks, n: usize, p: Progress) -> Progress
 fn items_section(s: &[u8], blanks: Blanks, p: Progress) -> Progress
     ensures { result ≡ items_section blanks s.now p }
 {
-    let verdict = p.verdict;
-    match verdict {
-        Verdict::Refused(_) => p,
-        Verdict::Accepted => {
-            let at = p.at;
-            let c = lines::heading(s, at, b"items", Range { lo: 1, hi: 16 });
-            match c {
-                Count::Fault(n) => refused(s, n, at),
-                Count::Lines(n, next) => {
-                    let m = p.model;
-                    item_lines(s, blanks, n, goes_on(setters::with_count(m, n), next, 0))
-                }
-            }
-        }
+    let Ok(()) = p.verdict else {
+        return p;
+    };
+    match lines::heading(s, p.at, b"items", Range { lo: 1, hi: 16 }) {
+        Err(reason) => refused(s, reason, p.at),
+        Ok((n, next)) => item_lines(
+            s,
+            blanks,
+            n,
+            goes_on(setters::with_count(p.model, n), next, 0),
+        ),
     }
 }
 
@@ -196,26 +180,22 @@ fn bound_lines(s: &[u8], side: Side, n: usize, m: Model, from: usize) -> Progres
 {
     let mut to = m;
     let mut at = from;
-    let mut k: usize = 0;
-    while k < n {
-        let r = lines::bound_at(s, at, k + 1);
-        match r {
-            BoundRead::Fault(f) => {
-                return refused(s, f, at);
+    for k in 0..n {
+        match lines::bound_at(s, at, k + 1) {
+            Err(reason) => {
+                return refused(s, reason, at);
             }
-            BoundRead::Read(b, next) => {
-                let item = to.items[k];
-                to.items[k] = setters::with_side(item, side, b);
+            Ok((b, next)) => {
+                to.items[k] = setters::with_side(to.items[k], side, b);
                 at = next;
             }
         }
-        k += 1;
     }
-    goes_on(to, at, k)
+    goes_on(to, at, n)
 }
 
 // The heading of a section of bounds, over n items.
-fn bounds_heading(s: &[u8], side: Side, at: usize, n: usize) -> Count
+fn bounds_heading(s: &[u8], side: Side, at: usize, n: usize) -> Read<usize>
     requires { n ≤ 16 }
     ensures { result ≡ count_at (word_of side) (only n) s.now at }
 {
@@ -231,18 +211,12 @@ fn bounds_section(s: &[u8], side: Side, p: Progress) -> Progress
     requires { p.model.count ≤ 16 }
     ensures { result ≡ bounds_section s.now side p }
 {
-    let verdict = p.verdict;
-    match verdict {
-        Verdict::Refused(_) => p,
-        Verdict::Accepted => {
-            let at = p.at;
-            let q = p.model;
-            let c = bounds_heading(s, side, at, q.count);
-            match c {
-                Count::Fault(n) => refused(s, n, at),
-                Count::Lines(m, next) => bound_lines(s, side, m, q, next),
-            }
-        }
+    let Ok(()) = p.verdict else {
+        return p;
+    };
+    match bounds_heading(s, side, p.at, p.model.count) {
+        Err(reason) => refused(s, reason, p.at),
+        Ok((n, next)) => bound_lines(s, side, n, p.model, next),
     }
 }
 
@@ -253,19 +227,16 @@ fn need_taken(p: Progress, need: Need, next: usize) -> Progress
     requires { p.item < 16 }
     ensures { result ≡ goes_on (with_need p.model p.item need) next (suc p.item) }
 {
-    let m = p.model;
-    let k = p.item;
-    goes_on(setters::with_need(m, k, need), next, k + 1)
+    goes_on(setters::with_need(p.model, p.item, need), next, p.item + 1)
 }
 
 // A line whose numbers are good: 14, or it is taken in.
 fn need_judged(s: &[u8], p: Progress, need: Need, next: usize) -> Progress
     requires { (p.item < 16) × Numbers 16 need.item need.cover }
-    ensures { result ≡ taken need_form s.now p (need_gives (item_at p.model) (NeedRead.Read need next)) }
+    ensures { result ≡ taken need_form s.now p (need_gives (item_at p.model) (Ok (need, next))) }
 {
-    let m = p.model;
-    if naming::names_unfit(m, need) {
-        return refused(s, refusals::NAMED_ITEM, p.at);
+    if naming::names_unfit(p.model, need) {
+        return refused(s, Reason::NamedItem, p.at);
     }
     need_taken(p, need, next)
 }
@@ -275,20 +246,13 @@ fn need_step(s: &[u8], p: Progress) -> Progress
     requires { (p.item < 16) × (p.model.count ≤ 16) }
     ensures { result ≡ step_of need_form s.now p }
 {
-    let verdict = p.verdict;
-    match verdict {
-        Verdict::Refused(_) => p,
-        Verdict::Accepted => {
-            let at = p.at;
-            let m = p.model;
-            let ns = m.needs;
-            let before = naming::line_before(ns, p.item);
-            let r = lines::need_at(s, at, m.count, before);
-            match r {
-                NeedRead::Fault(n) => refused(s, n, at),
-                NeedRead::Read(need, next) => need_judged(s, p, need, next),
-            }
-        }
+    let Ok(()) = p.verdict else {
+        return p;
+    };
+    let before = naming::line_before(p.model.needs, p.item);
+    match lines::need_at(s, p.at, p.model.count, before) {
+        Err(fault) => refused(s, fault, p.at),
+        Ok((need, next)) => need_judged(s, p, need, next),
     }
 }
 
@@ -297,10 +261,8 @@ fn need_lines(s: &[u8], n: usize, p: Progress) -> Progress
     ensures { result ≡ lines_of need_form n s.now p }
 {
     let mut r = p;
-    let mut k: usize = 0;
-    while k < n {
+    for _ in 0..n {
         r = need_step(s, r);
-        k += 1;
     }
     r
 }
@@ -309,20 +271,12 @@ fn needs_section(s: &[u8], p: Progress) -> Progress
     requires { p.model.count ≤ 16 }
     ensures { result ≡ needs_section s.now p }
 {
-    let verdict = p.verdict;
-    match verdict {
-        Verdict::Refused(_) => p,
-        Verdict::Accepted => {
-            let at = p.at;
-            let c = lines::heading(s, at, b"needs", Range { lo: 0, hi: 16 });
-            match c {
-                Count::Fault(n) => refused(s, n, at),
-                Count::Lines(n, next) => {
-                    let m = p.model;
-                    need_lines(s, n, goes_on(setters::with_need_count(m, n), next, 0))
-                }
-            }
-        }
+    let Ok(()) = p.verdict else {
+        return p;
+    };
+    match lines::heading(s, p.at, b"needs", Range { lo: 0, hi: 16 }) {
+        Err(reason) => refused(s, reason, p.at),
+        Ok((n, next)) => need_lines(s, n, goes_on(setters::with_need_count(p.model, n), next, 0)),
     }
 }
 
@@ -331,17 +285,13 @@ fn needs_section(s: &[u8], p: Progress) -> Progress
 fn end_of_sheet(s: &[u8], p: Progress) -> Progress
     ensures { result ≡ end_of_sheet s.now p }
 {
-    let verdict = p.verdict;
-    match verdict {
-        Verdict::Refused(_) => p,
-        Verdict::Accepted => {
-            let at = p.at;
-            if at < s.len() {
-                refused(s, refusals::FORM, at)
-            } else {
-                p
-            }
-        }
+    let Ok(()) = p.verdict else {
+        return p;
+    };
+    if p.at < s.len() {
+        refused(s, Reason::Form, p.at)
+    } else {
+        p
     }
 }
 
@@ -352,14 +302,10 @@ fn first_ranged(m: Model) -> usize
     requires { m.count ≤ 16 }
     ensures { result ≡ first_ranged m.count (item_at m) }
 {
-    let n = m.count;
-    let mut k: usize = 0;
-    while k < n {
-        let x = m.items[k];
-        if model::is_ranged_below(x) {
+    for k in 0..m.count {
+        if model::is_ranged_below(m.items[k]) {
             return k + 1;
         }
-        k += 1;
     }
     0
 }
@@ -369,22 +315,17 @@ fn ranges_of_sheet(p: Progress) -> Progress
     requires { p.model.count ≤ 16 }
     ensures { result ≡ ranges_of p }
 {
-    let verdict = p.verdict;
-    match verdict {
-        Verdict::Refused(_) => p,
-        Verdict::Accepted => {
-            let m = p.model;
-            let k = first_ranged(m);
-            if k == 0 {
-                p
-            } else {
-                stopped(Refusal {
-                    number: refusals::RANGED_ITEM,
-                    line: (k + 3) as u64,
-                })
-            }
-        }
+    let Ok(()) = p.verdict else {
+        return p;
+    };
+    let k = first_ranged(p.model);
+    if k == 0 {
+        return p;
     }
+    stopped(Refusal {
+        number: Reason::RangedItem.number(),
+        line: (k + 3) as u64,
+    })
 }
 
 // ---- the sheet
@@ -412,19 +353,19 @@ pub fn read_by(sheet: &[u8], blanks: Blanks) -> Reading
     ensures { result ≡ read_sheet_by blanks sheet.now }
 {
     if lines::scan::LONGEST < sheet.len() {
-        let model = setters::empty_model();
         return Reading {
-            verdict: Verdict::Refused(Refusal {
-                number: refusals::OVERLONG,
+            verdict: Err(Refusal {
+                number: Reason::Overlong.number(),
                 line: 0,
             }),
-            model,
+            model: setters::empty_model(),
         };
     }
     let p = whole(sheet, blanks);
-    let verdict = p.verdict;
-    let model = p.model;
-    Reading { verdict, model }
+    Reading {
+        verdict: p.verdict,
+        model: p.model,
+    }
 }
 
 pub fn read(sheet: &[u8]) -> Reading

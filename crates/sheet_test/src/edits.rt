@@ -8,7 +8,7 @@
 // hexadecimal digits, `\*90:0a` has it 90 times.
 ghost use Rattle.std.specs.Prelude.{◌≤◌};
 
-use lines::scan::{Place, after_word, line_at};
+use lines::scan::{after_word, line_at};
 use trials::read::{places, read_number, skip};
 
 // The bytes of the sheet that go: from a place up to another.
@@ -48,39 +48,27 @@ pub fn past(s: &[u8], at: usize) -> usize {
 
 // The next place that holds a byte, or the end.
 pub fn find(s: &[u8], from: usize, b: u8) -> usize {
-    let mut at = from;
-    while at < s.len() {
+    for at in from..s.len() {
         if s[at] == b {
             return at;
         }
-        at += 1;
     }
-    at
+    from.max(s.len())
 }
 
 // The place of the n-th line, or the n-th field, from a place on: each ends with the byte b.
 fn nth(s: &[u8], from: usize, b: u8, n: u64) -> usize {
     let mut at = from;
-    let mut k: u64 = 1;
-    while k < n {
+    for _ in 1..n {
         at = past(s, find(s, at, b));
-        k += 1;
     }
     at
-}
-
-fn earlier(a: usize, b: usize) -> usize {
-    if a < b { a } else { b }
 }
 
 // ---- parts
 
 fn begins(row: &[u8], at: usize, word: &[u8]) -> bool {
-    let p = after_word(row, at, word);
-    match p {
-        Place::Nothing => false,
-        Place::At(_) => true,
-    }
+    after_word(row, at, word).is_some()
 }
 
 // How many sections stand before the one that is named; the sheet's end is behind them all.
@@ -111,10 +99,8 @@ fn next_section(sheet: &[u8], at: usize) -> usize {
 
 fn section_start(sheet: &[u8], before: u64) -> usize {
     let mut at: usize = 0;
-    let mut k: u64 = 0;
-    while k < before {
+    for _ in 0..before {
         at = next_section(sheet, at);
-        k += 1;
     }
     at
 }
@@ -128,15 +114,14 @@ fn part_at(row: &[u8], name: usize, sheet: &[u8]) -> usize {
 
 fn field(sheet: &[u8], line: usize, n: u64) -> Span {
     let from = nth(sheet, line, b' ', n);
-    let to = earlier(find(sheet, from, b' '), find(sheet, from, b'\n'));
-    Span { from: from, to: to }
+    let to = find(sheet, from, b' ').min(find(sheet, from, b'\n'));
+    Span { from, to }
 }
 
 // What goes of a line, by the word at a place of the row.
 fn span_gone(row: &[u8], word: usize, sheet: &[u8], line: usize) -> Span {
     let end = find(sheet, line, b'\n');
-    let b = byte_at(row, word);
-    match b {
+    match byte_at(row, word) {
         b'f' => {
             let n = read_number(row, find(row, word, b' '));
             field(sheet, line, n.size)
@@ -169,10 +154,8 @@ fn put(out: &mut [u8], at: usize, b: u8) -> usize {
 
 fn put_run(out: &mut [u8], len: usize, b: u8, times: u64) -> usize {
     let mut at = len;
-    let mut k: u64 = 0;
-    while k < times {
+    for _ in 0..times {
         at = put(out, at, b);
-        k += 1;
     }
     at
 }
@@ -180,10 +163,8 @@ fn put_run(out: &mut [u8], len: usize, b: u8, times: u64) -> usize {
 // The bytes of s from a place up to another.
 fn put_part(out: &mut [u8], len: usize, s: &[u8], from: usize, to: usize) -> usize {
     let mut at = len;
-    let mut i = from;
-    while i < to {
+    for i in from..to {
         at = put(out, at, byte_at(s, i));
-        i += 1;
     }
     at
 }
@@ -191,19 +172,11 @@ fn put_part(out: &mut [u8], len: usize, s: &[u8], from: usize, to: usize) -> usi
 fn hexadecimal(digit: u8) -> u8
     ensures { result ≤ 15 }
 {
-    if digit < 48 {
-        return 0;
+    match digit {
+        b'0'..=b'9' => digit - b'0',
+        b'a'..=b'f' => digit - b'a' + 10,
+        _ => 0,
     }
-    if digit <= 57 {
-        return digit - 48;
-    }
-    if digit < 97 {
-        return 0;
-    }
-    if 102 < digit {
-        return 0;
-    }
-    digit - 87
 }
 
 // So many times the byte whose two digits stand at a place.
@@ -213,7 +186,7 @@ fn spelled(row: &[u8], at: usize, times: u64) -> Run {
     let low = hexadecimal(byte_at(row, second));
     Run {
         byte: 16 * high + low,
-        times: times,
+        times,
         next: past(row, second),
     }
 }
@@ -282,13 +255,11 @@ fn row_ends(row: &[u8], at: usize) -> bool {
 
 fn all_edits(row: &[u8], sheet: &[u8], out: &mut [u8], from: Progress) -> Progress {
     let mut e = from;
-    let mut k: usize = 0;
-    while k < row.len() {
+    for _ in 0..row.len() {
         if row_ends(row, e.at) {
             return e;
         }
         e = edit(row, sheet, out, e);
-        k += 1;
     }
     e
 }
@@ -298,7 +269,7 @@ pub fn edited(row: &[u8], at: usize, sheet: &[u8], out: &mut [u8]) -> Progress {
     let start = Progress {
         len: 0,
         done: 0,
-        at: at,
+        at,
         line: 0,
     };
     let e = all_edits(row, sheet, out, start);

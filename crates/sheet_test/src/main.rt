@@ -8,11 +8,10 @@
 mod edits; // a written sheet, edited
 
 use crate::edits::{byte_at, edited, find, past};
-use knapsack::{Refusal, Verdict};
+use knapsack::Refusal;
 use model::setters::with_needs;
 use model::{Need, Needs};
-use text::Listed;
-use trials::bytes::{first, same_from};
+use trials::bytes::first;
 use trials::count::one_more;
 use trials::make::record_of;
 use trials::print::{print, print_field, print_number, print_problem};
@@ -31,10 +30,7 @@ fn print_refusal(refusal: Refusal) {
 fn comes_back(sheet: &[u8]) -> bool {
     let mut buffer = io::large_buffer();
     let told = writer::rewrite_sheet(sheet, &mut buffer);
-    match told {
-        Listed::Written(n) => n == sheet.len() && same_from(sheet, &buffer, 0),
-        Listed::Refused(_) => false,
-    }
+    told == Ok(sheet.len()) && buffer.starts_with(sheet)
 }
 
 fn print_need(need: Need) {
@@ -44,32 +40,24 @@ fn print_need(need: Need) {
 }
 
 fn print_needs(ns: Needs) {
-    let n = ns.count;
-    let mut j: usize = 0;
-    while j < 16 {
-        if j < n {
-            let need = ns.lines[j];
-            print_need(need);
-        }
-        j += 1;
+    for need in ns.lines.iter().take(ns.count) {
+        print_need(*need);
     }
 }
 
 fn print_reading(sheet: &[u8]) {
     let r = sheet::read(sheet);
-    let verdict = r.verdict;
     let model = r.model;
-    match verdict {
-        Verdict::Accepted => {
+    match r.verdict {
+        Ok(()) => {
             print(b" accepted ");
             print_problem(model);
-            let ns = model.needs;
-            print_needs(ns);
+            print_needs(model.needs);
             if !comes_back(sheet) {
                 print(b" and is not written so");
             }
         }
-        Verdict::Refused(refusal) => print_refusal(refusal),
+        Err(refusal) => print_refusal(refusal),
     }
     print(b"\n");
 }
@@ -77,10 +65,9 @@ fn print_reading(sheet: &[u8]) {
 fn print_line(sheet: &[u8], line: u64) {
     print(b"  line");
     print_field(line);
-    let verdict = sheet::check_line(sheet, line);
-    match verdict {
-        Verdict::Accepted => {}
-        Verdict::Refused(refusal) => print_refusal(refusal),
+    match sheet::check_line(sheet, line) {
+        Ok(()) => {}
+        Err(refusal) => print_refusal(refusal),
     }
     print(b": ");
     print(sheet::line_part(sheet, line));
@@ -99,14 +86,11 @@ fn written(s: &[u8], at: usize, out: &mut [u8]) -> usize {
     let capacity = read_number(row, find(row, at, b' '));
     let count = read_number(row, capacity.at);
     let items = read_items(row, count.at, count.size);
-    let list = items.list;
     let needs = read_needs(row, items.at);
-    let ns = needs.needs;
-    let plain = record_of(capacity.value, places(count.size), list);
-    let told = writer::write_sheet(with_needs(plain, ns), out);
-    match told {
-        Listed::Written(n) => n,
-        Listed::Refused(_) => 0,
+    let plain = record_of(capacity.value, places(count.size), items.list);
+    match writer::write_sheet(with_needs(plain, needs.needs), out) {
+        Ok(n) => n,
+        Err(_) => 0,
     }
 }
 
@@ -159,13 +143,11 @@ fn all_rows(s: &[u8]) {
         at: 0,
         record: 0,
     };
-    let mut k: usize = 0;
-    while k < s.len() {
+    for _ in 0..s.len() {
         if s.len() <= r.at {
             return;
         }
         r = one_row(s, r);
-        k += 1;
     }
 }
 

@@ -4,8 +4,8 @@
 -- tied-search: a prepared problem with its columns tied can be searched.
 use mathlib.Core.Path.{◌≡◌, refl, ap, ◌∙◌}
 use mathlib.Core.Bool.{Bool, true}
-use mathlib.Core.List.{List}
-use lib.IntN.{ℤ}
+use Rattle.std.specs.Prelude.{List, is_some, unwrap_or, replicate}
+use lib.IntN.{ℤ, pos}
 use Rattle.ceiling.specs.Sizes.{Spanned}
 use Rattle.foremost.specs.Order.{TiedOf}
 use Rattle.greedy.specs.declared.Columns.{Columns}
@@ -51,24 +51,27 @@ module _ (p : Problem) (s : Setting) (h : Answerable p s) where
 
   module _ (long : Long s.ends) where
     module _ (t : Settled) (g : Settles s.cols s.ends s.level s.levels t) where
-      best : BestIn s s.cols t.found t.place
+      abbrev place : List ℤ
+      place = unwrap_or t.place (replicate 16 (pos 0))
+
+      best : BestIn s s.cols (is_some t.place) place
       best = settled-best s h.prepared.ready long t g
 
-      pub scales-found : t.found ≡ true
-      scales-found = found s.cols t.found t.place best
+      pub scales-found : is_some t.place ≡ true
+      scales-found = found s.cols (is_some t.place) place best
 
-      pub scales-inside : BestIn s s.cols t.found t.place
+      pub scales-inside : BestIn s s.cols (is_some t.place) place
       scales-inside = best
 
-      pub scales-showable : (a : Answer) → Best s s.cols t.place a → Showable p s (at t.place) a
+      pub scales-showable : (a : Answer) → Best s s.cols place a → Showable p s (at place) a
       scales-showable a b = record {
         range = h.range;
         prepared = h.prepared;
         spanned = own-spanned;
         no-ray = h.no-ray;
-        optimal-at = optimal-at s h.prepared.ready long t.found t.place best scales-found;
+        optimal-at = optimal-at s h.prepared.ready long (is_some t.place) place best scales-found;
         kind-is = b.kind-is;
-        shown = optimal-found p h.range s h.prepared s.cols (columns_of_lem p h.range s h.prepared) t.found t.place best scales-found a b
+        shown = optimal-found p h.range s h.prepared s.cols (columns_of_lem p h.range s h.prepared) (is_some t.place) place best scales-found a b
             h.no-ray;
       }
 

@@ -32,7 +32,7 @@ use Rattle.greedy.specs.declared.Ends.{Ends}
 use Rattle.greedy.specs.declared.Fill.{Fill}
 use Rattle.foremost.specs.Order.{TiedOf}
 use Rattle.knapsack.specs.Ranges.{item_at, InRange}
-use Rattle.knapsack.specs.Meaning.{Instance, instance_of, amount_at, point_of, weights, prices, Infeasible, own_divisor, Shown, ShownOptimal, bare, Answers}
+use Rattle.knapsack.specs.Meaning.{Instance, instance_of, amount_at, point_of, weights, prices, own_divisor, Shown, ShownOptimal, bare, Answers}
 use Rattle.knapsack.specs.declared.Answer.{Answer}
 use Rattle.knapsack.specs.declared.Item.{Item}
 use Rattle.knapsack.specs.declared.Kind.{Kind}
@@ -47,7 +47,7 @@ use Rattle.prepare.specs.Narrowing.{span_of}
 use Rattle.prepare.specs.Prepared.{PreparedAt, Prepared}
 use Rattle.prepare.proofs.Box.{box, box-same, box-is-shut, box-optimal, box-empty}
 use Rattle.prepare.proofs.Nearer.{near-optimal, near-empty}
-use Rattle.rays.specs.declared.RayReply.{RayReply}
+use Rattle.std.specs.Prelude.{Option, Some}
 use Rattle.rays.specs.Rays.{RayFound}
 use Rattle.rays.proofs.Corner.{LightCorner, ranges-of, corner-feasible, corner-infeasible, corner-shown, corner-unbounded}
 use Rattle.setting.specs.declared.Setting.{Setting}
@@ -181,13 +181,13 @@ module _ (p : Problem) (range : InRange p) (s : Setting) (q : Prepared p s) wher
       once : (x : ℤ) (t : ℕ) → 1 ≤ t → (x *ℤ pos t) *ℤ pos 1 ≡ x *ℤ pos (max 1 t)
       once x t m = twice x t ∙ ap (λ (n : ℕ). x *ℤ pos n) (omega arith)
 
-  pub unbounded-corner : (r : RayReply) (a : Answer) → pos 0 ≤ℤ (begun s.cols s.ends).room → RayFound p r → r.found ≡ true → Cornered s r.steps a
+  pub unbounded-corner : (r : Option (List ℤ)) (l : List ℤ) (a : Answer) → pos 0 ≤ℤ (begun s.cols s.ends).room → RayFound p r → r ≡ Some l → Cornered s l a
       → Answers I a
-  unbounded-corner r a fits found y h = rw h.kind-is (record {
-    unbounded = rw h.steps-are (corner-unbounded p r lo hi light (point_of a) range found y corner (corner-reads r.steps a h) (corner-fits fits));
-    shown = corner-shown I (ranges-of p range) lo hi light corner (amount_at a) (corner-amount r.steps a h)
+  unbounded-corner r l a fits found y h = rw h.kind-is (record {
+    unbounded = rw h.steps-are (corner-unbounded p r l lo hi light (point_of a) range found y corner (corner-reads l a h) (corner-fits fits));
+    shown = corner-shown I (ranges-of p range) lo hi light corner (amount_at a) (corner-amount l a h)
         (λ k l. h.point-is.amounts.beyond k (omega (arith, q.count)));
-    steps = rw h.steps-are found.small;
+    steps = rw h.steps-are (found.small l y);
     endless = h.value-is;
   })
 

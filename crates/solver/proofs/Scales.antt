@@ -5,7 +5,7 @@
 -- filling the first best point.  stopped-stands: before, it is a place with room.
 use mathlib.Core.Path.{◌≡◌, refl, sym, ap, subst}
 use mathlib.Core.Bool.{Bool, true}
-use mathlib.Core.List.{List}
+use Rattle.std.specs.Prelude.{Option, Some, None, List, is_some, unwrap_or, replicate}
 use mathlib.Core.Logic.{◌⊎◌, inl, inr}
 use Prim.Native.Nat.{ℕ, ◌≤◌, ◌<◌}
 use native.Mathlib.Omega.{arith}
@@ -15,6 +15,7 @@ use Rattle.arith.specs.Mixed.{Proper}
 use Rattle.arith.specs.declared.Fraction.{Fraction}
 use Rattle.arith.proofs.Integers.{≤ℤ-antisym, ≤ℤ-or-<}
 use Rattle.arith.proofs.Mixes.{over}
+use Rattle.arith.proofs.Parts.{impossible}
 use Rattle.ceiling.specs.Sizes.{Spanned}
 use Rattle.firsts.specs.Leading.{OptimalAt, Shows, FirstBest}
 use Rattle.firsts.proofs.Places.{some-marks}
@@ -86,21 +87,32 @@ module _ (s : Setting) (r : ReadySetting s) where
     }
 
     module _ (t : Settled) (h : Settles s.cols s.ends s.level s.levels t) where
-      best : t.found ≡ true → (marks : ℕ → Mark) → Marked s marks → BestAt s.cols s.ends marks (box_at s t.place)
-      best f marks m = (h.found f).best (box_at s t.place) (fixes (at t.place)) marks (levels marks m)
+      best : (x : List ℤ) → t.place ≡ Some x → (marks : ℕ → Mark) → Marked s marks → BestAt s.cols s.ends marks (box_at s x)
+      best x e marks m = (h.found x e).best (box_at s x) (fixes (at x)) marks (levels marks m)
 
-      stands : t.found ≡ true → Inside s (at t.place)
-      stands f = inside (at t.place) (h.found f).between
-
-      pub settled-best : BestIn s s.cols t.found t.place
-      settled-best = record {
-        inside = stands;
-        roomy = λ f. let m = some-marks s in (best f m.0 m.1).roomy;
-        optimal = λ f marks m. (best f marks m).optimal;
-        value-is = λ f marks m. (best f marks m).value-is;
-        proper = λ f. own-proper t.place (stands f);
-        empty = λ f marks m. h.none f marks;
+      by-place : (o : Option (List ℤ)) → t.place ≡ o → BestIn s s.cols (is_some o) (unwrap_or o (replicate 16 (pos 0)))
+      by-place (Some x) e = record {
+        inside = λ f. stands;
+        roomy = λ f. let m = some-marks s in (best x e m.0 m.1).roomy;
+        optimal = λ f marks m. (best x e marks m).optimal;
+        value-is = λ f marks m. (best x e marks m).value-is;
+        proper = λ f. own-proper x stands;
+        empty = λ f. absurd (impossible (sym f));
       }
+        where
+          stands : Inside s (at x)
+          stands = inside (at x) (h.found x e).between
+      by-place None e = record {
+        inside = λ f. absurd (impossible f);
+        roomy = λ f. absurd (impossible f);
+        optimal = λ f. absurd (impossible f);
+        value-is = λ f. absurd (impossible f);
+        proper = λ f. absurd (impossible f);
+        empty = λ f marks m. h.none e marks;
+      }
+
+      pub settled-best : BestIn s s.cols (is_some t.place) (unwrap_or t.place (replicate 16 (pos 0)))
+      settled-best = by-place t.place refl
 
 -- ---- a setting to search
 

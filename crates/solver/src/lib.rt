@@ -154,7 +154,7 @@ fn by_scales(s: Setting, p: Problem, t: Settled) -> Placed
     requires { Answerable p s × (Long s.ends × Settles s.cols s.ends s.level s.levels t) }
     ensures { FirstShown p t.first result }
 {
-    let x = t.place;
+    let x = t.place.unwrap_or([0; 16]);
     let a = optimal(s, s.cols, x);
     shown_first(p, s, x, t.first, a)
 }
@@ -213,11 +213,8 @@ fn decide(p: Problem, named: [bool; 16], most: u64) -> Solved
         let a = no_point(Kind::Infeasible);
         return with_work(a, 0, 0);
     }
-    let ray = find_ray(p);
-    if ray.found {
-        let steps = ray.steps;
-        let a = unbounded(s, steps);
-        return with_work(a, 0, 0);
+    if let Some(steps) = find_ray(p) {
+        return with_work(unbounded(s, steps), 0, 0);
     }
     let near = narrowed(s, reach_of(p));
     let pairs = pairs_of(p, named);

@@ -11,8 +11,8 @@ use lib.ListN.{length}
 use Rattle.knapsack.specs.Meaning.{Instance, instance_of, AllLower}
 use Rattle.knapsack.specs.declared.Answer.{Answer}
 use Rattle.knapsack.specs.declared.Refusal.{Refusal}
-use Rattle.knapsack.specs.declared.Verdict.{Verdict}
-use Rattle.knapsack.specs.declared.Verdict.TheVariants.{Accepted, Refused}
+use Rattle.knapsack.specs.Verdicts.{Verdict}
+use Rattle.std.specs.Prelude.{Ok, Err}
 use Rattle.model.specs.declared.Model.{Model}
 use Rattle.model.specs.declared.Sense.{Sense}
 use Rattle.model.specs.Needs.{AnswersNeeds}
@@ -33,30 +33,30 @@ use Rattle.standing.proofs.Effects.{change-alone}
 use Rattle.standing.proofs.Removed.{removed-accepted}
 use Rattle.standing.proofs.Rows.{in_a_row, there-more}
 
-pub changed-accepted : (c : Change) (m : Model) → change_verdict c m ≡ Accepted → verdict (changed c m) ≡ Accepted
+pub changed-accepted : (c : Change) (m : Model) → change_verdict c m ≡ Ok tt → verdict (changed c m) ≡ Ok tt
 changed-accepted c m h = (both-accept (or_else (verdict m) (own_verdict c m)) (verdict (changed c m)) h).1
 
 pub removal-verdict : (k : ℕ) (m : Model) → change_verdict (Removing k) m ≡ or_else (verdict m) (own_verdict (Removing k) m)
 removal-verdict k m = go (or_else (verdict m) (own_verdict (Removing k) m)) refl
   where
     go : (v : Verdict) → or_else (verdict m) (own_verdict (Removing k) m) ≡ v → or_else v (verdict (removed m k)) ≡ v
-    go Accepted h =
+    go (Ok _) h =
         let t = there-more m k (in_a_row (verdict m) (missing_verdict m k) (only_verdict m) ∙ h) in
         removed-accepted m k t.0.taken t.0.least t.0.most t.1
-    go (Refused f) h = refl
+    go (Err f) h = refl
 
 module _ (c : Change) (p : Plan) (r : Changed) (d : Changes c p r) where
   abbrev new : Model
   new = changed c p.model
 
-  pub changes-holds : r.verdict ≡ Accepted → Holds new r.plan
+  pub changes-holds : r.verdict ≡ Ok tt → Holds new r.plan
   changes-holds h = subst (Left p new r.plan) (sym d.told ∙ h) d.left
 
-  pub refused-back : (f : Refusal) → r.verdict ≡ Refused f → r.plan ≡ p
+  pub refused-back : (f : Refusal) → r.verdict ≡ Err f → r.plan ≡ p
   refused-back f h = subst (Left p new r.plan) (sym d.told ∙ h) d.left
 
-  module _ (h : r.verdict ≡ Accepted) where
-    taken : verdict new ≡ Accepted
+  module _ (h : r.verdict ≡ Ok tt) where
+    taken : verdict new ≡ Ok tt
     taken = changed-accepted c p.model (sym d.told ∙ h)
 
     pub changes-alone : length p.model.items ≡ 16 → Alone c p.model r.plan.model
@@ -104,5 +104,5 @@ came-planned (opened m r o e) = subst Own e (own m r.plan o.holds)
 came-planned (later {p} c r k d e) = subst Own e (go (change_verdict c p.model) d.left (came-planned k))
   where
     go : (v : Verdict) → Left p (changed c p.model) r.plan v → Own p → Own r.plan
-    go Accepted h i = own (changed c p.model) r.plan h
-    go (Refused f) h i = subst Own (sym h) i
+    go (Ok _) h i = own (changed c p.model) r.plan h
+    go (Err f) h i = subst Own (sym h) i

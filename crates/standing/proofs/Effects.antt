@@ -12,17 +12,17 @@ use lib.Dec.{ltb, eqb}
 use lib.ListN.{length, get_or}
 use lib.Seq.{get_or-set_same, get_or-set_other}
 use Rattle.arith.specs.Sum.{Each}
-use Rattle.knapsack.specs.declared.Bound.{Bound}
-use Rattle.knapsack.specs.declared.Verdict.{Verdict}
-use Rattle.knapsack.specs.declared.Verdict.TheVariants.{Accepted, Refused}
+use Rattle.std.specs.Prelude.{Option, ℤ}
+use Rattle.knapsack.specs.Verdicts.{Verdict}
+use Rattle.std.specs.Prelude.{Ok, Err}
 use Rattle.model.specs.declared.Blanks.TheVariants as blanks
 use Rattle.model.specs.declared.Model.{Model}
 use Rattle.model.specs.declared.ModelItem.{ModelItem}
 use Rattle.model.specs.declared.Need.{Need}
 use Rattle.model.specs.declared.Side.TheVariants.{Upper}
 use Rattle.model.specs.Needs.{no_need}
-use Rattle.model.specs.Records.{no_item, item_at, need_at, wrong_number, names_item, refused_if, or_else, verdict, Agree}
-use Rattle.model.specs.Refusals.{full-record, missing-item, only_item}
+use Rattle.model.specs.Records.{no_item, item_at, need_at, wrong_number, names_item, refused_for, or_else, verdict, Agree}
+use Rattle.model.specs.declared.refusals.Reason.TheVariants as refusal
 use Rattle.model.specs.Setters.{appended, bounded, with_bound}
 use Rattle.model.proofs.BeyondCount.{beyond-verdict}
 use Rattle.dropping.proofs.Dropped.{not-true}
@@ -43,7 +43,7 @@ adds m x full l = record {
   last = get_or-set_same m.items m.count x no_item (omega arith);
 }
 
-bounds : (m : Model) (k : ℕ) (u : Bound) → length m.items ≡ 16 → There m k → Bounds m k u (with_bound m Upper (k - 1) u)
+bounds : (m : Model) (k : ℕ) (u : Option ℤ) → length m.items ≡ 16 → There m k → Bounds m k u (with_bound m Upper (k - 1) u)
 bounds m k u full t = record {
   count = refl;
   capacity = refl;
@@ -73,10 +73,10 @@ removes m k t = record {
     n = m.needs.count
 
 -- the rows of a removal, as check_removal tells them
-removal-there : (m : Model) (k : ℕ) → or_else (verdict m) (own_verdict (Removing k) m) ≡ Accepted → There m k
+removal-there : (m : Model) (k : ℕ) → or_else (verdict m) (own_verdict (Removing k) m) ≡ Ok tt → There m k
 removal-there m k h = (there-more m k (in_a_row (verdict m) (missing_verdict m k) (only_verdict m) ∙ h)).0
 
-pub change-alone : (c : Change) (m : Model) → length m.items ≡ 16 → or_else (verdict m) (own_verdict c m) ≡ Accepted → Alone c m (changed c m)
+pub change-alone : (c : Change) (m : Model) → length m.items ≡ 16 → or_else (verdict m) (own_verdict c m) ≡ Ok tt → Alone c m (changed c m)
 change-alone (Adding x) m full h = adds m x full (room m h)
 change-alone (Removing k) m full h = removes m k (removal-there m k h)
 change-alone (Bounding k u) m full h = bounds m k u full (there-is m k h)
@@ -98,7 +98,7 @@ module _ (m o : Model) (e : Agree m o) where
           ap (item_at (appended m x)) d ∙ a.last ∙ sym b.last ∙ ap (item_at (appended o x)) (sym (d ∙ e.count))
       at j l (no d) = a.rest j (omega arith) ∙ e.items j (omega arith) ∙ sym (b.rest j (omega (arith, e.count)))
 
-  agree-bounded : (k : ℕ) (u : Bound) → There m k → Bounds m k u (with_bound m Upper (k - 1) u) → Bounds o k u (with_bound o Upper (k - 1) u)
+  agree-bounded : (k : ℕ) (u : Option ℤ) → There m k → Bounds m k u (with_bound m Upper (k - 1) u) → Bounds o k u (with_bound o Upper (k - 1) u)
       → Agree (with_bound m Upper (k - 1) u) (with_bound o Upper (k - 1) u)
   agree-bounded k u t a b = record {
     count = e.count;
@@ -150,18 +150,18 @@ module _ (m o : Model) (e : Agree m o) where
       lines = packed-cong no_need keep held (new m) (new o) n same (λ j l. ap (lowered_need k) (e.needs j l)) ∙ ap (packed no_need held (new o)) e.need-count
 
   own_same : (c : Change) → own_verdict c m ≡ own_verdict c o
-  own_same (Adding x) = ap (λ n. refused_if (ltb 15 n) full-record) e.count
-  own_same (Removing k) = ap (λ n. or_else (refused_if (wrong_number n k) missing-item) (refused_if (eqb n 1) only_item)) e.count
-  own_same (Bounding k u) = ap (λ n. refused_if (wrong_number n k) missing-item) e.count
+  own_same (Adding x) = ap (λ n. refused_for (ltb 15 n) refusal.FullRecord) e.count
+  own_same (Removing k) = ap (λ n. or_else (refused_for (wrong_number n k) refusal.MissingItem) (refused_for (eqb n 1) refusal.OnlyItem)) e.count
+  own_same (Bounding k u) = ap (λ n. refused_for (wrong_number n k) refusal.MissingItem) e.count
 
   module _ (c : Change) (lm : length m.items ≡ 16) (lo : length o.items ≡ 16) where
     rows : or_else (verdict m) (own_verdict c m) ≡ or_else (verdict o) (own_verdict c o)
     rows = ap₂ or_else (beyond-verdict m o e blanks.Refused) (own_same c)
 
-    pub agree-changed : or_else (verdict m) (own_verdict c m) ≡ Accepted → Agree (changed c m) (changed c o)
+    pub agree-changed : or_else (verdict m) (own_verdict c m) ≡ Ok tt → Agree (changed c m) (changed c o)
     agree-changed h = go c (change-alone c m lm h) (change-alone c o lo (sym rows ∙ h)) h
       where
-        go : (c : Change) → Alone c m (changed c m) → Alone c o (changed c o) → or_else (verdict m) (own_verdict c m) ≡ Accepted
+        go : (c : Change) → Alone c m (changed c m) → Alone c o (changed c o) → or_else (verdict m) (own_verdict c m) ≡ Ok tt
             → Agree (changed c m) (changed c o)
         go (Adding x) a b h = agree-added x a b
         go (Removing k) a b h = agree-removed k
@@ -171,7 +171,7 @@ module _ (m o : Model) (e : Agree m o) where
     agree-verdict = go (or_else (verdict m) (own_verdict c m)) refl
       where
         go : (v : Verdict) → or_else (verdict m) (own_verdict c m) ≡ v → change_verdict c m ≡ change_verdict c o
-        go Accepted h =
+        go (Ok _) h =
             ap (λ w. or_else w (verdict (changed c m))) h ∙ beyond-verdict (changed c m) (changed c o) (agree-changed h) blanks.Refused
             ∙ sym (ap (λ w. or_else w (verdict (changed c o))) (sym rows ∙ h))
-        go (Refused f) h = ap (λ w. or_else w (verdict (changed c m))) h ∙ sym (ap (λ w. or_else w (verdict (changed c o))) (sym rows ∙ h))
+        go (Err f) h = ap (λ w. or_else w (verdict (changed c m))) h ∙ sym (ap (λ w. or_else w (verdict (changed c o))) (sym rows ∙ h))

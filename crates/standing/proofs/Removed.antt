@@ -13,7 +13,7 @@ use native.Mathlib.Decide.{ℕ_discrete, dec_lt}
 use borrow.Author.Tests.{eqb-false, eq-eqb, ne_eqb, lt-ltb, le-ltb}
 use lib.Dec.{eqb}
 use lib.ListN.{set}
-use Rattle.knapsack.specs.declared.Verdict.TheVariants.{Accepted}
+use Rattle.std.specs.Prelude.{Ok}
 use Rattle.model.specs.declared.Blanks.TheVariants as blanks
 use Rattle.model.specs.declared.Model.{Model}
 use Rattle.model.specs.declared.Need.{Need}
@@ -206,5 +206,5 @@ module _ (m : Model) (k : ℕ) (a : Admissible m) (least : 1 ≤ k) (most : k �
       thinned-admissible (others k) m (removed m k) thins blanks.Refused a (omega (arith, n)) (λ j l e. a.unbarred j l)
 
 -- End theorem: removing an item never makes a record refused.
-pub removed-accepted : (m : Model) (k : ℕ) → verdict m ≡ Accepted → 1 ≤ k → k ≤ m.count → (m.count ≡ 1 → ⊥) → verdict (removed m k) ≡ Accepted
+pub removed-accepted : (m : Model) (k : ℕ) → verdict m ≡ Ok tt → 1 ≤ k → k ≤ m.count → (m.count ≡ 1 → ⊥) → verdict (removed m k) ≡ Ok tt
 removed-accepted m k e least most d = admitted (removed m k) (removed-admissible m k (accepted m e) least most d)

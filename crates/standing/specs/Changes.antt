@@ -10,23 +10,23 @@
 --   own_verdict c m       a change's own rows
 --   change_verdict c m    the record's own refusal, then the change's, then that of the changed record
 use Rattle.std.specs.Prelude.{Bool, cond, not, ℕ, suc, ◌-◌, ltb, eqb}
-use Rattle.knapsack.specs.declared.Bound.{Bound}
-use Rattle.knapsack.specs.declared.Verdict.{Verdict}
+use Rattle.std.specs.Prelude.{Option, ℤ}
+use Rattle.knapsack.specs.Verdicts.{Verdict}
 use Rattle.model.specs.declared.Model.{Model}
 use Rattle.model.specs.declared.ModelItem.{ModelItem}
 use Rattle.model.specs.declared.Need.{Need}
 use Rattle.model.specs.declared.Needs.{Needs}
 use Rattle.model.specs.declared.Side.TheVariants.{Upper}
 use Rattle.model.specs.Needs.{no_need}
-use Rattle.model.specs.Records.{no_item, item_at, need_at, wrong_number, names_item, refused_if, or_else, verdict}
-use Rattle.model.specs.Refusals.{full-record, missing-item, only_item}
+use Rattle.model.specs.Records.{no_item, item_at, need_at, wrong_number, names_item, refused_for, or_else, verdict}
+use Rattle.model.specs.declared.refusals.Reason.TheVariants as refusal
 use Rattle.model.specs.Setters.{appended, with_bound}
 use Rattle.dropping.specs.Kept.{rank, packed}
 
 pub data Change : Type 0 where
   Adding : ModelItem → Change
   Removing : ℕ → Change
-  Bounding : ℕ → Bound → Change
+  Bounding : ℕ → Option ℤ → Change
 
 -- ---- without an item
 
@@ -64,13 +64,13 @@ changed (Bounding k u) m = with_bound m Upper (k - 1) u
 -- ---- verdicts
 
 abbrev pub full_verdict : Model → Verdict
-full_verdict m = refused_if (ltb 15 m.count) full-record
+full_verdict m = refused_for (ltb 15 m.count) refusal.FullRecord
 
 abbrev pub missing_verdict : Model → ℕ → Verdict
-missing_verdict m k = refused_if (wrong_number m.count k) missing-item
+missing_verdict m k = refused_for (wrong_number m.count k) refusal.MissingItem
 
 abbrev pub only_verdict : Model → Verdict
-only_verdict m = refused_if (eqb m.count 1) only_item
+only_verdict m = refused_for (eqb m.count 1) refusal.OnlyItem
 
 abbrev pub own_verdict : Change → Model → Verdict
 own_verdict (Adding x) m = full_verdict m

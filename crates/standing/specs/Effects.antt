@@ -5,7 +5,7 @@
 --   Alone c m o          o is m with the change c alone (proofs/Effects, change-alone)
 use Rattle.std.specs.Prelude.{false, ◌≡◌, ℕ, suc, ◌-◌, ◌≤◌, ◌<◌}
 use Rattle.arith.specs.Sum.{Each}
-use Rattle.knapsack.specs.declared.Bound.{Bound}
+use Rattle.std.specs.Prelude.{Option, ℤ}
 use Rattle.model.specs.declared.Model.{Model}
 use Rattle.model.specs.declared.ModelItem.{ModelItem}
 use Rattle.model.specs.declared.Side.TheVariants.{Upper}
@@ -32,7 +32,7 @@ pub record Removes (m : Model) (k : ℕ) (o : Model) : Type 0 where
   pub in_order : (i j : ℕ) → i < j → j < o.needs.count → old i < old j
   pub all-spared : Each m.needs.count (λ j. names_item (need_at m.needs j) k ≡ false → (i : ℕ) × ((i < o.needs.count) × (old i ≡ j)))
 
-pub record Bounds (m : Model) (k : ℕ) (u : Bound) (o : Model) : Type 0 where
+pub record Bounds (m : Model) (k : ℕ) (u : Option ℤ) (o : Model) : Type 0 where
   pub count : o.count ≡ m.count
   pub capacity : o.capacity ≡ m.capacity
   pub needs : o.needs ≡ m.needs

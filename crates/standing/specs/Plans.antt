@@ -6,8 +6,8 @@
 --   Changes c p r    the change c of the plan p: its verdict, and what it leaves
 --   Came p           p came from the planner by changes
 use Rattle.std.specs.Prelude.{◌≡◌}
-use Rattle.knapsack.specs.declared.Verdict.{Verdict}
-use Rattle.knapsack.specs.declared.Verdict.TheVariants.{Accepted, Refused}
+use Rattle.knapsack.specs.Verdicts.{Verdict}
+use Rattle.std.specs.Prelude.{Ok, Err}
 use Rattle.model.specs.declared.Model.{Model}
 use Rattle.model.specs.Records.{verdict}
 use Rattle.senses.specs.Both.{PlannedBoth}
@@ -24,8 +24,8 @@ pub record Opens (m : Model) (r : Changed) : Type 0 where
   pub holds : Holds m r.plan
 
 abbrev pub Left : Plan → Model → Plan → Verdict → Type 0
-Left p m q Accepted = Holds m q
-Left p m q (Refused f) = q ≡ p
+Left p m q (Ok _) = Holds m q
+Left p m q (Err f) = q ≡ p
 
 pub record Tries (p : Plan) (m : Model) (r : Changed) : Type 0 where
   pub told : r.verdict ≡ verdict m

@@ -19,15 +19,13 @@ ghost use Rattle.standing.specs.Changes.{
 };
 ghost use Rattle.standing.specs.Plans.{Holds, Opens, Tries, Changes};
 
-use knapsack::{Bound, Verdict};
-use model::{
-    Answers, Model, ModelItem, Need, Side, check_model, first_of, naming, refusals, refused_if,
-    setters,
-};
+use knapsack::Refusal;
+use model::refusals::Reason;
+use model::{Answers, Model, ModelItem, Need, Side, check_model, naming, setters};
 use senses::plan_both;
 
 // A problem and the replies to it, in both senses.
-#[derive(Clone, Copy)]
+#[derive(Clone, Copy, PartialEq, Eq)]
 pub struct Plan {
     pub model: Model,
     pub answers: Answers,
@@ -36,7 +34,7 @@ pub struct Plan {
 // What a change is told, and the plan after it.
 #[derive(Clone, Copy)]
 pub struct Changed {
-    pub verdict: Verdict,
+    pub verdict: Result<(), Refusal>,
     pub plan: Plan,
 }
 
@@ -46,39 +44,30 @@ pub struct Changed {
 fn lower(k: usize, j: usize) -> usize
     ensures { result ≡ lowered k j }
 {
-    if k < j {
-        return j - 1;
-    }
-    j
+    if k < j { j - 1 } else { j }
 }
 
 fn lower_need(k: usize, x: Need) -> Need
     ensures { result ≡ lowered_need k x }
 {
-    let i = x.item;
-    let c = x.cover;
-    let item = lower(k, i);
-    let cover = lower(k, c);
-    Need { item, cover }
+    Need {
+        item: lower(k, x.item),
+        cover: lower(k, x.cover),
+    }
 }
 
 // The record with no items and no needs.
 fn none_of(m: Model, k: usize) -> Model
     ensures { result ≡ removed_to m k 0 0 }
 {
-    let empty = setters::empty_model();
-    let b = m.capacity;
-    setters::with_capacity(empty, b)
+    setters::with_capacity(setters::empty_model(), m.capacity)
 }
 
 fn append_unless(q: Model, x: ModelItem, left: bool) -> Model
     requires { q.count < 16 }
     ensures { result ≡ cond left q (appended q x) }
 {
-    if left {
-        return q;
-    }
-    setters::append(q, x)
+    if left { q } else { setters::append(q, x) }
 }
 
 // The items but item k, the later ones moved down, and no needs as yet.
@@ -86,13 +75,9 @@ fn other_items(m: Model, k: usize) -> Model
     requires { m.count ≤ 16 }
     ensures { result ≡ removed_to m k m.count 0 }
 {
-    let n = m.count;
     let mut q = none_of(m, k);
-    let mut j: usize = 0;
-    while j < n {
-        let x = m.items[j];
-        q = append_unless(q, x, j + 1 == k);
-        j += 1;
+    for j in 0..m.count {
+        q = append_unless(q, m.items[j], j + 1 == k);
     }
     q
 }
@@ -103,9 +88,10 @@ fn append_other_need(q: Model, k: usize, x: Need) -> Model
     ensures { result ≡ cond (names_item x k) q (appended_need q (lowered_need k x)) }
 {
     if naming::does_name(x, k) {
-        return q;
+        q
+    } else {
+        setters::append_need(q, lower_need(k, x))
     }
-    setters::append_need(q, lower_need(k, x))
 }
 
 // The record without item k; needs that name it go, the others get the new numbers.
@@ -113,14 +99,9 @@ fn without_item(m: Model, k: usize) -> Model
     requires { (m.count ≤ 16) × (m.needs.count ≤ 16) }
     ensures { result ≡ removed m k }
 {
-    let ns = m.needs;
-    let t = ns.count;
     let mut q = other_items(m, k);
-    let mut j: usize = 0;
-    while j < t {
-        let x = ns.lines[j];
-        q = append_other_need(q, k, x);
-        j += 1;
+    for j in 0..m.needs.count {
+        q = append_other_need(q, k, m.needs.lines[j]);
     }
     q
 }
@@ -128,31 +109,27 @@ fn without_item(m: Model, k: usize) -> Model
 // ---- what stands against a change
 
 // 16: there is no room for an item more.
-fn check_room(m: Model) -> Verdict
+fn check_room(m: Model) -> Result<(), Refusal>
     ensures { result ≡ or_else (verdict m) (full_verdict m) }
 {
-    let n = m.count;
-    let v = check_model(m);
-    first_of(v, refused_if(15 < n, refusals::FULL_RECORD))
+    check_model(m)?;
+    Reason::FullRecord.refuse_if(15 < m.count)
 }
 
 // 17: no item has that number.
-fn check_number(m: Model, k: usize) -> Verdict
+fn check_number(m: Model, k: usize) -> Result<(), Refusal>
     ensures { result ≡ or_else (verdict m) (missing_verdict m k) }
 {
-    let n = m.count;
-    let v = check_model(m);
-    let wrong = naming::is_wrong(n, k);
-    first_of(v, refused_if(wrong, refusals::MISSING_ITEM))
+    check_model(m)?;
+    Reason::MissingItem.refuse_if(naming::is_wrong(m.count, k))
 }
 
 // 17, then 18: it is the only one.
-fn check_removal(m: Model, k: usize) -> Verdict
+fn check_removal(m: Model, k: usize) -> Result<(), Refusal>
     ensures { result ≡ or_else (or_else (verdict m) (missing_verdict m k)) (only_verdict m) }
 {
-    let n = m.count;
-    let v = check_number(m, k);
-    first_of(v, refused_if(n == 1, refusals::ONLY_ITEM))
+    check_number(m, k)?;
+    Reason::OnlyItem.refuse_if(m.count == 1)
 }
 
 // ---- plans
@@ -160,25 +137,21 @@ fn check_removal(m: Model, k: usize) -> Verdict
 fn fresh(m: Model) -> Plan
     ensures { Holds m result }
 {
-    let answers = plan_both(m);
-    Plan { model: m, answers }
+    Plan {
+        model: m,
+        answers: plan_both(m),
+    }
 }
 
 // The plan of the changed problem; or, if that is refused as a record, the plan as it came.
 fn tried(p: Plan, m: Model) -> Changed
     ensures { Tries p m result }
 {
-    let v = check_model(m);
-    let q = fresh(m);
-    match v {
-        Verdict::Accepted => Changed {
-            verdict: v,
-            plan: q,
-        },
-        Verdict::Refused(_) => Changed {
-            verdict: v,
-            plan: p,
-        },
+    let verdict = check_model(m);
+    let plan = fresh(m);
+    match verdict {
+        Ok(()) => Changed { verdict, plan },
+        Err(_) => Changed { verdict, plan: p },
     }
 }
 
@@ -186,9 +159,10 @@ fn tried(p: Plan, m: Model) -> Changed
 pub fn open(m: Model) -> Changed
     ensures { Opens m result }
 {
-    let verdict = check_model(m);
-    let p = fresh(m);
-    Changed { verdict, plan: p }
+    Changed {
+        verdict: check_model(m),
+        plan: fresh(m),
+    }
 }
 
 // With the item x at the end; 16.
@@ -198,8 +172,8 @@ pub fn add_item(p: Plan, x: ModelItem) -> Changed
     let m = p.model;
     let verdict = check_room(m);
     match verdict {
-        Verdict::Accepted => tried(p, setters::append(m, x)),
-        Verdict::Refused(_) => Changed { verdict, plan: p },
+        Ok(()) => tried(p, setters::append(m, x)),
+        Err(_) => Changed { verdict, plan: p },
     }
 }
 
@@ -210,19 +184,19 @@ pub fn remove_item(p: Plan, k: usize) -> Changed
     let m = p.model;
     let verdict = check_removal(m, k);
     match verdict {
-        Verdict::Accepted => tried(p, without_item(m, k)),
-        Verdict::Refused(_) => Changed { verdict, plan: p },
+        Ok(()) => tried(p, without_item(m, k)),
+        Err(_) => Changed { verdict, plan: p },
     }
 }
 
 // With another upper bound of item k, from 1; 17.
-pub fn set_upper(p: Plan, k: usize, u: Bound) -> Changed
+pub fn set_upper(p: Plan, k: usize, u: Option<i64>) -> Changed
     ensures { Changes (Bounding k u) p result }
 {
     let m = p.model;
     let verdict = check_number(m, k);
     match verdict {
-        Verdict::Accepted => tried(p, setters::with_bound(m, Side::Upper, k - 1, u)),
-        Verdict::Refused(_) => Changed { verdict, plan: p },
+        Ok(()) => tried(p, setters::with_bound(m, Side::Upper, k - 1, u)),
+        Err(_) => Changed { verdict, plan: p },
     }
 }

@@ -4,24 +4,23 @@
 #![tactic(auto)]
 
 mod draw; // changes from a seed
-mod same; // records, answers and plans beside one another
+mod same; // records and answers beside one another
 mod twin; // the changes, made plainly
 
 ghost use Rattle.std.specs.Prelude.{◌≤◌};
 
 use crate::draw::{Change, drawn_change};
-use crate::same::{alike, same_answer, same_plan, same_problem};
+use crate::same::{alike, same_problem};
 use crate::twin::{Twin, number_told, twin_of};
-use knapsack::{Answer, Bound, Kind};
-use model::{Answers, Model, ModelItem, Need, Sense, setters};
+use knapsack::Answer;
+use model::{Answers, Model, ModelItem, Sense, setters};
 use planner::plan;
 use standing::{Changed, Plan, add_item, open, remove_item, set_upper};
 use trials::count::{one_more, print_count};
 use trials::draw::{Spans, drawn_problem};
-use trials::holds::{point_holds, ray_holds};
-use trials::make::{first_of, from_zero, held, one, two};
+use trials::make::{first_of, from_zero, held, needing, one, two};
 use trials::needs::with_drawn_needs;
-use trials::outcome::{Outcome, outcome_of};
+use trials::outcome::{Outcome, is_allowed, outcome_of};
 use trials::print::{print, print_field, print_kind, print_problem};
 use trials::ranges::at_ends;
 use trials::tally::{Tally, no_answers, tallied};
@@ -33,13 +32,11 @@ const REACH: i64 = 20;
 fn print_plan(p: Plan) {
     let m = p.model;
     let both = p.answers;
-    let a = both.sure;
     let b = both.possible;
-    let ns = m.needs;
     print_problem(m);
-    print_count(b", needs ", ns.count as u64);
+    print_count(b", needs ", m.needs.count as u64);
     print(b": ");
-    print_kind(a);
+    print_kind(both.sure);
     print(b" and ");
     print_kind(b);
     print(b"\n");
@@ -47,26 +44,17 @@ fn print_plan(p: Plan) {
 
 // What a change is told, and the plan after it.
 fn show(name: &[u8], r: Changed) -> Plan {
-    let v = r.verdict;
     let p = r.plan;
     print(name);
-    let n = number_told(v);
-    if n == 0 {
-        print(b": ");
-    } else {
-        print_count(b": refused ", n);
-        print(b", still ");
+    match number_told(r.verdict) {
+        None => print(b": "),
+        Some(n) => {
+            print_count(b": refused ", n);
+            print(b", still ");
+        }
     }
     print_plan(p);
     p
-}
-
-fn with_line(m: Model, item: usize, cover: usize) -> Model {
-    let need = Need {
-        item: item,
-        cover: cover,
-    };
-    setters::with_need_count(setters::with_need(m, 0, need), 1)
 }
 
 // Sheet F of paper 01, its items coming and going.
@@ -75,18 +63,18 @@ fn chosen() {
     let q = show(b"remove 1", remove_item(p, 1));
     let r = show(b"remove 2", remove_item(q, 2));
     let s = show(b"remove 1", remove_item(r, 1));
-    let t = show(b"upper 1, 1", set_upper(s, 1, Bound::At(1)));
-    let u = show(b"upper 0, 1", set_upper(t, 0, Bound::At(1)));
-    let v = show(b"upper 1, none", set_upper(u, 1, Bound::Absent));
+    let t = show(b"upper 1, 1", set_upper(s, 1, Some(1)));
+    let u = show(b"upper 0, 1", set_upper(t, 0, Some(1)));
+    let v = show(b"upper 1, none", set_upper(u, 1, None));
     let w = show(b"add", add_item(v, from_zero(-1, 0)));
     let x = show(b"add blank", add_item(w, from_zero(0, 0)));
-    let y = show(b"upper 2, 10001", set_upper(x, 2, Bound::At(10001)));
-    show(b"upper 2, -1", set_upper(y, 2, Bound::At(-1)));
+    let y = show(b"upper 2, 10001", set_upper(x, 2, Some(10001)));
+    show(b"upper 2, -1", set_upper(y, 2, Some(-1)));
 }
 
 // A need goes with either of its items, moves with both, and holds on to an upper bound.
 fn chosen_needs() {
-    let m = with_line(
+    let m = needing(
         first_of(
             12,
             3,
@@ -94,11 +82,12 @@ fn chosen_needs() {
             held(4, 6, 0, 10),
             held(1, -100, 0, 1),
         ),
+        0,
         2,
         3,
     );
     let p = show(b"open", open(m));
-    show(b"upper 2, none", set_upper(p, 2, Bound::Absent));
+    show(b"upper 2, none", set_upper(p, 2, None));
     show(b"remove 3", remove_item(p, 3));
     show(b"remove 2", remove_item(p, 2));
     show(b"remove 1", remove_item(p, 1));
@@ -116,7 +105,7 @@ fn chosen_ranges() {
     let q = show(b"add 3:5", add_item(p, ranged(3, 5, 0)));
     show(b"add 5:3", add_item(q, ranged(5, 3, 0)));
     show(b"add 3:5, lower -1", add_item(q, ranged(3, 5, -1)));
-    show(b"upper 2, 1", set_upper(q, 2, Bound::At(1)));
+    show(b"upper 2, 1", set_upper(q, 2, Some(1)));
     show(b"remove 1", remove_item(q, 1));
 }
 
@@ -157,7 +146,7 @@ fn chosen_strange() {
                 answers: a,
             },
             1,
-            Bound::At(9),
+            Some(9),
         ),
     );
     show(b"open, refused", open(none));
@@ -166,37 +155,18 @@ fn chosen_strange() {
 // ---- one change
 
 fn change_of(p: Plan, c: Change) -> Changed {
-    if c.kind == 0 {
-        let x = c.item;
-        return add_item(p, x);
+    match c {
+        Change::Add(x) => add_item(p, x),
+        Change::Remove(k) => remove_item(p, k),
+        Change::SetUpper(k, u) => set_upper(p, k, u),
     }
-    if c.kind == 1 {
-        return remove_item(p, c.item_number);
-    }
-    let u = c.upper;
-    set_upper(p, c.item_number, u)
 }
 
 // Without enumeration, of many items.
 fn shown_outcome(m: Model, a: Answer) -> Outcome {
-    let k = a.kind;
-    match k {
-        Kind::Optimal => Outcome {
-            agrees: point_holds(m, a),
-            met: false,
-        },
-        Kind::Infeasible => Outcome {
-            agrees: true,
-            met: false,
-        },
-        Kind::Unbounded => Outcome {
-            agrees: ray_holds(m, a),
-            met: false,
-        },
-        Kind::Refused(_) => Outcome {
-            agrees: false,
-            met: false,
-        },
+    Outcome {
+        agrees: is_allowed(m, a),
+        met: false,
     }
 }
 
@@ -219,10 +189,8 @@ fn judged(m: Model, a: Answer, w: Manner) -> Outcome {
 
 // The sure answer with every weight at its high end, the possible one with every weight at its low one.
 fn judged_both(m: Model, a: Answers, w: Manner) -> Outcome {
-    let sure = a.sure;
-    let possible = a.possible;
-    let high = judged(at_ends(m, 65535), sure, w);
-    let low = judged(at_ends(m, 0), possible, w);
+    let high = judged(at_ends(m, 65535), a.sure, w);
+    let low = judged(at_ends(m, 0), a.possible, w);
     Outcome {
         agrees: high.agrees && low.agrees,
         met: high.met,
@@ -232,17 +200,11 @@ fn judged_both(m: Model, a: Answers, w: Manner) -> Outcome {
 // The answer is that of the record solved afresh.
 fn is_fresh_in(m: Model, sense: Sense, a: Answer, w: Manner) -> bool {
     let b = plan(m, sense);
-    if w.closed {
-        same_answer(a, b)
-    } else {
-        alike(a, b)
-    }
+    if w.closed { a == b } else { alike(a, b) }
 }
 
 fn is_fresh(m: Model, a: Answers, w: Manner) -> bool {
-    let sure = a.sure;
-    let possible = a.possible;
-    is_fresh_in(m, Sense::Sure, sure, w) && is_fresh_in(m, Sense::Possible, possible, w)
+    is_fresh_in(m, Sense::Sure, a.sure, w) && is_fresh_in(m, Sense::Possible, a.possible, w)
 }
 
 // What the changes of a family come to.
@@ -264,7 +226,7 @@ struct Seen {
 fn seen_none() -> Seen {
     let answers = no_answers();
     Seen {
-        answers: answers,
+        answers,
         figure: 0,
         named: 0,
         blank: 0,
@@ -279,13 +241,12 @@ fn seen_none() -> Seen {
 }
 
 fn is_listed(n: u64) -> bool {
-    n == 4 || (13 < n && n < 21)
+    matches!(n, 4 | 14..=20)
 }
 
 fn with_refusal(s: Seen, n: u64, wrong: bool) -> Seen {
-    let answers = s.answers;
     Seen {
-        answers: answers,
+        answers: s.answers,
         figure: one_more(s.figure, n == 4),
         named: one_more(s.named, n == 14),
         blank: one_more(s.blank, n == 15),
@@ -300,40 +261,26 @@ fn with_refusal(s: Seen, n: u64, wrong: bool) -> Seen {
 }
 
 fn with_answer(s: Seen, a: Answer, o: Outcome) -> Seen {
-    let k = a.kind;
-    let t = s.answers;
-    let mut r = s;
-    r.answers = tallied(t, k, o);
-    r
+    Seen {
+        answers: tallied(s.answers, a.kind, o),
+        ..s
+    }
 }
 
 fn refused_rightly(p: Plan, r: Changed, t: Twin) -> bool {
-    let q = r.plan;
-    let v = r.verdict;
-    number_told(v) == t.number && same_plan(p, q)
+    number_told(r.verdict) == t.number && p == r.plan
 }
 
 fn judged_change(s: Seen, p: Plan, r: Changed, t: Twin, w: Manner) -> Seen {
-    let v = r.verdict;
-    let n = number_told(v);
-    if n != 0 {
+    if let Some(n) = number_told(r.verdict) {
         return with_refusal(s, n, !refused_rightly(p, r, t));
     }
     let q = r.plan;
     let m = t.model;
-    let o = q.model;
     let both = q.answers;
-    let a = both.sure;
     let j = judged_both(m, both, w);
-    let agrees = t.number == 0 && same_problem(m, o) && is_fresh(m, both, w) && j.agrees;
-    with_answer(
-        s,
-        a,
-        Outcome {
-            agrees: agrees,
-            met: j.met,
-        },
-    )
+    let agrees = t.number.is_none() && same_problem(m, q.model) && is_fresh(m, both, w) && j.agrees;
+    with_answer(s, both.sure, Outcome { agrees, met: j.met })
 }
 
 // ---- runs of changes
@@ -349,35 +296,29 @@ struct Run {
 fn size_of(m: Model) -> usize
     ensures { result ≤ 16 }
 {
-    let n = m.count;
-    if 16 < n { 16 } else { n }
+    m.count.min(16)
 }
 
 fn stepped(x: Run, w: Manner, z: Spans) -> Run {
     let p = x.plan;
     let m = p.model;
-    let s = x.seen;
-    let c = drawn_change(x.state, size_of(m), w.most, z);
-    let r = change_of(p, c);
-    let q = r.plan;
-    let seen = judged_change(s, p, r, twin_of(m, c), w);
+    let d = drawn_change(x.state, size_of(m), w.most, z);
+    let r = change_of(p, d.change);
+    let seen = judged_change(x.seen, p, r, twin_of(m, d.change), w);
     Run {
-        plan: q,
-        seen: seen,
-        state: c.state,
+        plan: r.plan,
+        seen,
+        state: d.state,
     }
 }
 
 // From a drawn problem of so many items, with needs.
 fn begun(s: Seen, state: u64, n: usize, among: u64, z: Spans) -> Run {
     let d = drawn_problem(state, n, z);
-    let p = d.problem;
-    let e = with_drawn_needs(p, d.state, among);
-    let m = e.problem;
-    let r = open(m);
-    let q = r.plan;
+    let e = with_drawn_needs(d.problem, d.state, among);
+    let r = open(e.problem);
     Run {
-        plan: q,
+        plan: r.plan,
         seen: s,
         state: e.state,
     }
@@ -385,10 +326,8 @@ fn begun(s: Seen, state: u64, n: usize, among: u64, z: Spans) -> Run {
 
 fn run_of(x: Run, changes: u64, w: Manner, z: Spans) -> Run {
     let mut now = x;
-    let mut k: u64 = 0;
-    while k < changes {
+    for _ in 0..changes {
         now = stepped(now, w, z);
-        k += 1;
     }
     now
 }
@@ -396,13 +335,11 @@ fn run_of(x: Run, changes: u64, w: Manner, z: Spans) -> Run {
 fn runs_of(seed: u64, runs: u64, changes: u64, n: usize, among: u64, w: Manner, z: Spans) -> Seen {
     let mut seen = seen_none();
     let mut state = seed;
-    let mut k: u64 = 0;
-    while k < runs {
+    for _ in 0..runs {
         let b = begun(seen, state, n, among, z);
         let r = run_of(b, changes, w, z);
         seen = r.seen;
         state = r.state;
-        k += 1;
     }
     seen
 }
@@ -453,18 +390,14 @@ fn small(absent: u64, loose: u64, crossing: u64) -> Spans {
         bound: 2,
         capacity: 9,
         unit: 1,
-        absent: absent,
-        loose: loose,
-        crossing: crossing,
+        absent,
+        loose,
+        crossing,
     }
 }
 
 fn manner_of(most: usize, few: bool, closed: bool) -> Manner {
-    Manner {
-        most: most,
-        few: few,
-        closed: closed,
-    }
+    Manner { most, few, closed }
 }
 
 fn main() {

@@ -3,35 +3,30 @@
 ghost use Rattle.std.specs.Prelude.{◌≤◌};
 
 use crate::draw::Change;
-use knapsack::{Bound, Verdict};
+use knapsack::Refusal;
 use model::{Model, ModelItem, Need, Needs, check_model, setters};
 
-// The number of a refusal, 0 for none.
-pub fn number_told(v: Verdict) -> u64 {
-    match v {
-        Verdict::Accepted => 0,
-        Verdict::Refused(f) => f.number,
-    }
+// The number of a refusal.
+pub fn number_told(v: Result<(), Refusal>) -> Option<u64> {
+    v.err().map(|f| f.number)
 }
 
 #[derive(Clone, Copy)]
 pub struct Twin {
-    pub number: u64,
+    pub number: Option<u64>,
     pub model: Model,
 }
 
 // ---- the rows
 
-fn own_number(m: Model, c: Change) -> u64 {
+fn own_number(m: Model, c: Change) -> Option<u64> {
     let n = m.count;
-    if c.kind == 0 {
-        return if n == 16 { 16 } else { 0 };
+    match c {
+        Change::Add(_) if n == 16 => Some(16),
+        Change::Remove(k) | Change::SetUpper(k, _) if k == 0 || n < k => Some(17),
+        Change::Remove(_) if n == 1 => Some(18),
+        _ => None,
     }
-    let k = c.item_number;
-    if k == 0 || n < k {
-        return 17;
-    }
-    if c.kind == 1 && n == 1 { 18 } else { 0 }
 }
 
 // ---- the records
@@ -43,28 +38,14 @@ fn raised(k: usize, a: usize) -> usize
     if a < k { a } else { a + 1 }
 }
 
-fn is_line(x: Need, a: usize, b: usize) -> bool {
-    x.item == a && x.cover == b
-}
-
 fn has_line(ns: Needs, a: usize, b: usize) -> bool {
-    let t = ns.count;
-    let lines = ns.lines;
-    let mut j: usize = 0;
-    while j < 16 {
-        let x = lines[j];
-        if j < t && is_line(x, a, b) {
-            return true;
-        }
-        j += 1;
-    }
-    false
+    let mut lines = ns.lines.iter().take(ns.count);
+    lines.any(|x| x.item == a && x.cover == b)
 }
 
 // With a line more, where there is room.
 fn with_line(m: Model, a: usize, b: usize) -> Model {
-    let ns = m.needs;
-    let t = ns.count;
+    let t = m.needs.count;
     if 15 < t {
         return m;
     }
@@ -74,14 +55,12 @@ fn with_line(m: Model, a: usize, b: usize) -> Model {
 
 fn with_needs_but(m: Model, old: Needs, k: usize) -> Model {
     let mut q = setters::with_need_count(m, 0);
-    let mut t: usize = 0;
-    while t < 256 {
-        let a = t / 16 + 1;
-        let b = t % 16 + 1;
-        if has_line(old, raised(k, a), raised(k, b)) {
-            q = with_line(q, a, b);
+    for a in 1..=16 {
+        for b in 1..=16 {
+            if has_line(old, raised(k, a), raised(k, b)) {
+                q = with_line(q, a, b);
+            }
         }
-        t += 1;
     }
     q
 }
@@ -90,52 +69,35 @@ fn with_needs_but(m: Model, old: Needs, k: usize) -> Model {
 fn with_next(q: Model, m: Model, k: usize, j: usize) -> Model
     requires { j ≤ 14 }
 {
-    let x = m.items[j + 1];
     if j + 1 < k {
         return q;
     }
-    setters::with_item(q, j, x)
+    setters::with_item(q, j, m.items[j + 1])
 }
 
 fn moved_down(m: Model, k: usize) -> Model {
     let mut q = m;
-    let mut j: usize = 0;
-    while j < 15 {
+    for j in 0..15 {
         q = with_next(q, m, k, j);
-        j += 1;
     }
     q
 }
 
 fn without(m: Model, k: usize) -> Model {
     let n = m.count;
-    let ns = m.needs;
-    let q = with_needs_but(moved_down(m, k), ns, k);
+    let q = with_needs_but(moved_down(m, k), m.needs, k);
     if n == 0 {
         return q;
     }
     setters::with_count(q, n - 1)
 }
 
-fn with_upper(m: Model, k: usize, u: Bound) -> Model {
-    if k == 0 {
-        return m;
-    }
-    if 16 < k {
+fn with_upper(m: Model, k: usize, u: Option<i64>) -> Model {
+    if k == 0 || 16 < k {
         return m;
     }
     let x = m.items[k - 1];
-    let mark = x.mark;
-    let lower = x.lower;
-    let y = ModelItem {
-        mark: mark,
-        low: x.low,
-        high: x.high,
-        price: x.price,
-        lower: lower,
-        upper: u,
-    };
-    setters::with_item(m, k - 1, y)
+    setters::with_item(m, k - 1, ModelItem { upper: u, ..x })
 }
 
 fn with_last(m: Model, x: ModelItem) -> Model {
@@ -147,20 +109,16 @@ fn with_last(m: Model, x: ModelItem) -> Model {
 }
 
 fn made(m: Model, c: Change) -> Model {
-    if c.kind == 0 {
-        let x = c.item;
-        return with_last(m, x);
+    match c {
+        Change::Add(x) => with_last(m, x),
+        Change::Remove(k) => without(m, k),
+        Change::SetUpper(k, u) => with_upper(m, k, u),
     }
-    if c.kind == 1 {
-        return without(m, c.item_number);
-    }
-    let u = c.upper;
-    with_upper(m, c.item_number, u)
 }
 
 pub fn twin_of(m: Model, c: Change) -> Twin {
     let own = own_number(m, c);
-    if own != 0 {
+    if own.is_some() {
         return Twin {
             number: own,
             model: m,

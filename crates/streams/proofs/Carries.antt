@@ -7,7 +7,7 @@ use mathlib.Core.Path.{◌≡◌, refl, sym, ◌∙◌, ap, subst}
 use mathlib.Core.Bool.{Bool, true, false, cond}
 use native.Mathlib.Omega.{arith}
 use lib.Dec.{T, ltb, eqb}
-use borrow.Author.Tests.{ltb-true, ltb-false, lt-ltb, le-ltb, ne_eqb}
+use borrow.Author.Tests.{ltb-true, ltb-false, lt-ltb, ne_eqb}
 use Rattle.streams.specs.declared.Progress.{Progress}
 use Rattle.streams.specs.Carrying.{goes_on, is_whole, Turn, Turns, Carried}
 
@@ -18,12 +18,6 @@ all : (a b c : Bool) → cond a (cond b c false) false ≡ true → (a ≡ true)
 all true true c h = (refl, (refl, h))
 all true false c h = absurd (never h)
 all false b c h = absurd (never h)
-
-pub within : (p : Progress) (n : ℕ) → p.more ≡ true → p.at < n → ltb 0 p.left ≡ goes_on p n
-within p n h k = sym (rw (h, lt-ltb p.at n k) refl)
-
-pub at-the-end : (p : Progress) (n : ℕ) → p.more ≡ true → n ≤ p.at → false ≡ goes_on p n
-at-the-end p n h k = sym (rw (h, le-ltb p.at n k) refl)
 
 pub going : (p : Progress) (n : ℕ) → goes_on p n ≡ true → (p.more ≡ true) × ((p.at < n) × (0 < p.left))
 going p n h =

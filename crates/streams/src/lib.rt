@@ -44,22 +44,14 @@ pub fn begun() -> Progress
 fn goes_on(p: Progress, len: usize) -> bool
     ensures { result ≡ goes_on p len }
 {
-    if p.more {
-        if p.at < len { 0 < p.left } else { false }
-    } else {
-        false
-    }
+    p.more && p.at < len && 0 < p.left
 }
 
 // The sheet has been read to its end, or so far that it is too long.
 pub fn is_whole(p: Progress, len: usize) -> bool
     ensures { result ≡ is_whole p len }
 {
-    if p.good {
-        if p.more { p.at == len } else { true }
-    } else {
-        false
-    }
+    p.good && (!p.more || p.at == len)
 }
 
 fn closed(p: Progress, good: bool) -> Progress
@@ -68,7 +60,7 @@ fn closed(p: Progress, good: bool) -> Progress
     Progress {
         at: p.at,
         more: false,
-        good: good,
+        good,
         left: p.left,
     }
 }
@@ -123,7 +115,7 @@ fn end_of(at: usize, most: usize, len: usize) -> usize
     requires { at ≤ len }
     ensures { (at ≤ result) × (result ≤ len) }
 {
-    if len - at < most { len } else { at + most }
+    at + most.min(len - at)
 }
 
 // One read at the place that was come to, of so many bytes at most.
@@ -137,10 +129,9 @@ fn read_on<R: Read>(
     requires { (p.at ≤ length buf.old) × (0 < p.left) }
     ensures { Turn (length buf.old) p result }
 {
-    let at = p.at;
     let len = buf.len();
-    let end = end_of(at, most, len);
-    let got = input.read(&mut buf[at..end]);
+    let end = end_of(p.at, most, len);
+    let got = input.read(&mut buf[p.at..end]);
     turned(p, got, len, why)
 }
 
@@ -155,10 +146,9 @@ fn write_on<W: Write>(
     requires { (p.at ≤ length buf.now) × (0 < p.left) }
     ensures { Turn (length buf.now) p result }
 {
-    let at = p.at;
     let len = buf.len();
-    let end = end_of(at, most, len);
-    let got = output.write(&buf[at..end]);
+    let end = end_of(p.at, most, len);
+    let got = output.write(&buf[p.at..end]);
     turned(p, got, len, why)
 }
 

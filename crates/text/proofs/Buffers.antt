@@ -1,16 +1,17 @@
 -- Text in a lent buffer: a text is put piece by piece.
--- put-nothing: no text. put_byte: a store of one byte. put-more: one byte more of a text.
+-- put-nothing: no text. put_byte: a store of one byte.
 -- put-start: a text at the start of the buffer, where the bytes behind it stay. put-shown: the text read back from there.
+-- shows: a text put at the start of a space of its own is a text by value.
 -- puts: two texts, one behind the other, are put as one. roomier: with room for more.
 use mathlib.Core.Path.{◌≡◌, sym, ap, ◌∙◌}
 use mathlib.Core.List.{List, [], ◌∷◌, ◌++◌, append_assoc}
-use Prim.Native.Nat.{ℕ, suc, ◌+◌, ◌≤◌, ◌<◌}
+use Prim.Native.Nat.{ℕ, ◌+◌, ◌≤◌, ◌<◌}
 use native.Mathlib.Nat.{add-zero, zero-add}
 use native.Mathlib.Numerals.{add-one}
 use native.Mathlib.Omega.{arith}
-use lib.ListN.{length, take, drop, get_or, set, length-append, take-append-drop}
-use lib.Seq.{take_at, take-append_seam, take-suc, length-take-le, set_split, drop-append-add, drop-drop}
-use Rattle.text.specs.Buffer.{put, Put}
+use lib.ListN.{length, take, drop, set, length-append, take-append-drop}
+use lib.Seq.{take_at, take-append_seam, length-take-le, set_split, drop-append-add, drop-drop}
+use Rattle.text.specs.Buffer.{put, Put, Shows}
 
 pub put-nothing : (at : ℕ) (b : List ℕ) → put at [] b ≡ b
 unfolding put
@@ -27,6 +28,11 @@ put-start text b = rw zero-add
 pub put-shown : (text b : List ℕ) → take (length text) (put 0 text b) ≡ text
 put-shown text b = rw put-start (take-append_seam text (drop (length text) b))
 
+pub shows : {m r : ℕ} {s a b : List ℕ} → r ≤ length b → Put m 0 s a b r → Shows s (record { bytes = b; len = r })
+shows {m} {r} {s} {a} {b} h f =
+    let e : r ≡ length s = omega (arith, f.next) in
+    record { size = e; inside = h; counted = sym (length-take-le r b h); shown = rw (e, f.bytes) (put-shown s a) }
+
 drop_past : (s b : List ℕ) (n m : ℕ) → length s ≡ n → drop (n + m) (s ++ b) ≡ drop m b
 drop_past s b n m e = rw (sym e) (drop-append-add s b m)
 
@@ -39,14 +45,6 @@ put-put at s t b h =
     let e : length (p ++ s) ≡ at + length s = simp length-append (ap (λ n. n + length s) (length-take-le at b h)) in
     let f : at + length (s ++ t) ≡ at + length s + length t = simp length-append (omega arith) in
     rw (sym (append_assoc p s d), take_at (p ++ s) d (at + length s) e, drop_past (p ++ s) d (at + length s) (length t) e, drop-drop, f) (simp append_assoc)
-
-pub put-more : (at i : ℕ) (w b : List ℕ) → at ≤ length b → i < length w → at + i < length (put at (take i w) b) →
-    set (put at (take i w) b) (at + i) (get_or w i 0) ≡ put at (take (suc i) w) b
-put-more at i w b h g l =
-    let e : length (take i w) ≡ i = length-take-le i w (omega arith) in
-    let f : put (at + length (take i w)) (get_or w i 0 ∷ []) (put at (take i w) b) ≡ put at (take (suc i) w) b
-    = put-put at (take i w) (get_or w i 0 ∷ []) b h ∙ rw (take-suc w i 0 g) in
-    put_byte (at + i) (get_or w i 0) (put at (take i w) b) l ∙ rw e at f
 
 pub roomier : {m n at r : ℕ} {s a b : List ℕ} → m ≤ n → Put m at s a b r → Put n at s a b r
 roomier h f = record { short = omega (arith, f.short); next = f.next; bytes = f.bytes }

@@ -9,11 +9,11 @@
 --   filled text b             the buffer afterwards: the text and the bytes behind it, or the buffer as it was
 use Rattle.std.specs.Prelude.{◌≡◌, Bool, cond, List, ◌++◌, ℕ, ◌+◌, ◌≤◌, ltb, length, take, drop}
 use Rattle.knapsack.specs.declared.Refusal.{Refusal}
-use Rattle.model.specs.Refusals.{short-buffer}
+use Rattle.model.specs.declared.refusals.Reason.TheVariants as refusal
+use Rattle.model.specs.Refusals.{number_of}
 use Rattle.text.specs.declared.Digits.{Digits}
 use Rattle.text.specs.declared.Text.{Text}
-use Rattle.text.specs.declared.Listed.{Listed}
-use Rattle.text.specs.declared.Listed.TheVariants.{Written, Refused}
+use Rattle.std.specs.Prelude.{Ok, Err, Result}
 use Rattle.text.specs.Decimal.{decimal}
 
 unfoldable pub put : ℕ → List ℕ → List ℕ → List ℕ
@@ -40,11 +40,11 @@ pub record Shows (text : List ℕ) (t : Text) : Type 0 where
 abbrev pub too_short : List ℕ → List ℕ → Bool
 too_short text b = ltb (length b) (length text)
 
-abbrev pub noted : Refusal → Listed
-noted f = Refused f
+abbrev pub noted : Refusal → Result ℕ Refusal
+noted f = Err f
 
-unfoldable pub told : List ℕ → List ℕ → Listed
-told text b = cond (too_short text b) (noted (record { number = short-buffer; line = 0 })) (Written (length text))
+unfoldable pub told : List ℕ → List ℕ → Result ℕ Refusal
+told text b = cond (too_short text b) (noted (record { number = number_of refusal.ShortBuffer; line = 0 })) (Ok (length text))
 
 unfoldable pub filled : List ℕ → List ℕ → List ℕ
 filled text b = cond (too_short text b) b (text ++ drop (length text) b)

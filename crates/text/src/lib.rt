@@ -2,11 +2,12 @@
 // A put_* function writes at a place of a buffer and replies with the place behind what it wrote; hand_over fills a lent buffer or leaves it.
 #![tactic(auto)]
 
-ghost use Rattle.std.specs.Prelude.{◌≡◌, [], ◌∷◌, ◌++◌, ◌+◌, ◌≤◌, nat_abs, length};
+ghost use Rattle.std.specs.Prelude.{◌≡◌, [], ◌∷◌, ◌++◌, ◌+◌, ◌≤◌, length};
 ghost use Rattle.text.specs.Decimal.{decimal, integer};
 ghost use Rattle.text.specs.Buffer.{Put, Spelled, told, filled};
 
 use knapsack::Refusal;
+use model::refusals::Reason;
 
 // Room for the longest text that is written: two replies, each with a heading of at most 50 bytes and 16 lines of at most 86.
 pub const ROOM: usize = 2880;
@@ -16,13 +17,6 @@ pub const ROOM: usize = 2880;
 pub struct Text {
     pub bytes: [u8; ROOM],
     pub len: usize,
-}
-
-// What a caller that lent a buffer is told: how long the text is that stands there, or why there is none.
-#[derive(Clone, Copy)]
-pub enum Listed {
-    Written(usize),
-    Refused(Refusal),
 }
 
 // The digits of a number: the places of bytes from first on.
@@ -44,12 +38,9 @@ pub fn put_word(out: &mut [u8], at: usize, w: &[u8]) -> usize
     requires { at + length w.now ≤ length out.old }
     ensures { Put (length w.now) at w.now out.old out.new result }
 {
-    let mut i: usize = 0;
-    while i < w.len() {
-        out[at + i] = w[i];
-        i += 1;
-    }
-    at + i
+    let next = at + w.len();
+    out[at..next].copy_from_slice(w);
+    next
 }
 
 // From the last digit to the first.
@@ -63,12 +54,9 @@ pub fn digits_of(n: u64) -> Digits
     while 0 < rest {
         first -= 1;
         bytes[first] = 48 + (rest % 10) as u8;
-        rest = rest / 10;
+        rest /= 10;
     }
-    Digits {
-        bytes: bytes,
-        first: first,
-    }
+    Digits { bytes, first }
 }
 
 // A number and the byte behind it.
@@ -77,28 +65,15 @@ pub fn put_natural(out: &mut [u8], at: usize, n: u64, end: u8) -> usize
     ensures { Put 21 at (decimal n ++ (end ∷ [])) out.old out.new result }
 {
     let d = digits_of(n);
-    let bytes = d.bytes;
-    let first = d.first;
-    let next = put_word(out, at, &bytes[first..]);
+    let next = put_word(out, at, &d.bytes[d.first..]);
     put_byte(out, next, end)
-}
-
-// |z|, also of the least z, whose opposite does not fit (arith's magnitude is of numbers far from it).
-pub fn magnitude(z: i64) -> u64
-    ensures { result ≡ nat_abs z }
-{
-    if z < 0 {
-        (0 - (z + 1)) as u64 + 1
-    } else {
-        z as u64
-    }
 }
 
 pub fn put_integer(out: &mut [u8], at: usize, z: i64, end: u8) -> usize
     requires { at + 22 ≤ length out.old }
     ensures { Put 22 at (integer z ++ (end ∷ [])) out.old out.new result }
 {
-    let n = magnitude(z);
+    let n = z.unsigned_abs();
     if z < 0 {
         let next = put_byte(out, at, b'-');
         put_natural(out, next, n, end)
@@ -115,16 +90,16 @@ pub fn space() -> [u8; ROOM]
 }
 
 // A text at the start of a lent buffer; the bytes behind it stay. Refusal 11, and no byte changes, where the buffer is shorter.
-pub fn hand_over(text: &[u8], out: &mut [u8]) -> Listed
+pub fn hand_over(text: &[u8], out: &mut [u8]) -> Result<usize, Refusal>
     ensures value { result ≡ told text.now out.old }
     ensures out_after { out.new ≡ filled text.now out.old }
 {
     if out.len() < text.len() {
-        return Listed::Refused(Refusal {
-            number: model::refusals::SHORT_BUFFER,
+        return Err(Refusal {
+            number: Reason::ShortBuffer.number(),
             line: 0,
         });
     }
     put_word(out, 0, text);
-    Listed::Written(text.len())
+    Ok(text.len())
 }

@@ -3,7 +3,7 @@ ghost use Rattle.std.specs.Prelude.{◌≤◌};
 
 use crate::exact::times;
 use crate::make::record_of;
-use knapsack::{Bound, Mark};
+use knapsack::Mark;
 use model::{Model, ModelItem, no_item};
 
 // No figure is farther from zero than its span, and the capacity is a multiple of the unit. Of four bounds so many are absent, of four
@@ -101,33 +101,20 @@ fn drawn_price(state: u64, weight: i64, s: Spans) -> i64 {
 
 // No item is blank: a price 0 beside weight 0 becomes 1.
 pub fn mended_price(weight: i64, price: i64) -> i64 {
-    if weight == 0 {
-        if price == 0 {
-            return 1;
-        }
-    }
-    price
+    if weight == 0 && price == 0 { 1 } else { price }
 }
 
-fn drawn_bound(state: u64, at: i64, s: Spans) -> Bound {
+fn drawn_bound(state: u64, at: i64, s: Spans) -> Option<i64> {
     if below(state, 3) < s.absent {
-        Bound::Absent
+        None
     } else {
-        Bound::At(at)
+        Some(at)
     }
-}
-
-pub fn lesser(a: i64, b: i64) -> i64 {
-    if a < b { a } else { b }
-}
-
-pub fn greater(a: i64, b: i64) -> i64 {
-    if a < b { b } else { a }
 }
 
 fn drawn_ends(state: u64, a: i64, b: i64, s: Spans) -> Ends {
-    let low = lesser(a, b);
-    let high = greater(a, b);
+    let low = a.min(b);
+    let high = a.max(b);
     if below(state, 7) < s.crossing {
         return Ends {
             lower: high,
@@ -170,21 +157,16 @@ pub fn drawn_capacity(state: u64, s: Spans) -> i64 {
 
 // A problem of so many items; the places beyond them are drawn too.
 pub fn drawn_problem(state: u64, count: usize, s: Spans) -> DrawnProblem {
-    let blank = no_item();
-    let mut items = [blank; 16];
+    let mut items = [no_item(); 16];
     let mut now = next(state);
     let capacity = drawn_capacity(now, s);
-    let mut k: usize = 0;
-    while k < 16 {
+    for x in &mut items {
         let d = drawn_item(now, s);
-        let x = d.item;
-        items[k] = x;
+        *x = d.item;
         now = d.state;
-        k += 1;
     }
-    let m = record_of(capacity, count, items);
     DrawnProblem {
-        problem: m,
+        problem: record_of(capacity, count, items),
         state: now,
     }
 }

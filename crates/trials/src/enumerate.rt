@@ -4,19 +4,11 @@
 // relaxation and no cut this has nothing of the planner. A point that breaks a need is left out.
 ghost use Rattle.std.specs.Prelude.{◌≤◌};
 
-use crate::exact::{plus, times};
+use crate::exact::{Ratio, is_less, plus, times};
 use crate::kept::{chosen, keeps};
 use crate::print::size_of;
-use knapsack::{Bound, Mark};
+use knapsack::Mark;
 use model::{Model, ModelItem};
-
-// The best value p / q so far, of the feasible points that were tried.
-#[derive(Clone, Copy)]
-pub struct Best {
-    pub found: bool,
-    pub p: i64,
-    pub q: i64,
-}
 
 // The amounts that an item takes: first, first + step, … so many.
 #[derive(Clone, Copy)]
@@ -39,29 +31,16 @@ pub fn minus(a: i64, b: i64) -> i64 {
 }
 
 // A bound that is present; 0 for an absent one, which a problem that is enumerated has not.
-fn at(b: Bound) -> i64 {
-    match b {
-        Bound::Absent => 0,
-        Bound::At(v) => v,
-    }
+fn at(b: Option<i64>) -> i64 {
+    b.unwrap_or(0)
 }
 
 pub fn low(x: ModelItem) -> i64 {
-    let l = x.lower;
-    at(l)
+    at(x.lower)
 }
 
 pub fn high(x: ModelItem) -> i64 {
-    let u = x.upper;
-    at(u)
-}
-
-fn is_continuous(x: ModelItem) -> bool {
-    let m = x.mark;
-    match m {
-        Mark::Integer => false,
-        Mark::Continuous => true,
-    }
+    at(x.upper)
 }
 
 // Bounds that cross leave none.
@@ -86,7 +65,7 @@ pub fn choices_of(x: ModelItem, filler: bool) -> Choices {
     if span < 0 {
         return no_choice();
     }
-    if is_continuous(x) {
+    if x.mark == Mark::Continuous {
         return Choices {
             first: low(x),
             step: span,
@@ -115,14 +94,10 @@ fn scaled(n: u64, m: u64) -> u64 {
 pub fn points(p: Model, filler: usize, n: usize) -> u64
     requires { n ≤ 16 }
 {
-    let items = p.items;
     let mut total: u64 = 1;
-    let mut k: usize = 0;
-    while k < n {
-        let x = items[k];
-        let c = choices_of(x, k == filler);
+    for k in 0..n {
+        let c = choices_of(p.items[k], k == filler);
         total = scaled(total, c.number);
-        k += 1;
     }
     total
 }
@@ -146,44 +121,36 @@ fn with_item(s: Sums, x: ModelItem, filler: bool) -> Sums {
 pub fn sums_of(p: Model, filler: usize, n: usize, number: u64) -> Sums
     requires { n ≤ 16 }
 {
-    let items = p.items;
     let mut s = Sums {
         rest: number,
         weight: 0,
         value: 0,
     };
-    let mut k: usize = 0;
-    while k < n {
-        let x = items[k];
-        s = with_item(s, x, k == filler);
-        k += 1;
+    for k in 0..n {
+        s = with_item(s, p.items[k], k == filler);
     }
     s
 }
 
-// Whether a / b is below c / d, for divisors above 0.
-pub fn below(a: i64, b: i64, c: i64, d: i64) -> bool {
-    times(a, d) < times(c, b)
+// ---- the best value, none where no feasible point was tried
+
+// Whether the best value is above another.
+pub fn is_above(best: Option<Ratio>, v: Ratio) -> bool {
+    best.is_some_and(|b| is_less(v, b))
 }
 
-fn offered(best: Best, p: i64, q: i64) -> Best {
-    let better = Best {
-        found: true,
-        p: p,
-        q: q,
-    };
-    if !best.found {
-        return better;
-    }
-    if below(best.p, best.q, p, q) {
-        better
-    } else {
-        best
-    }
+// Whether there is a best value, and it is no less than another.
+pub fn is_reached(best: Option<Ratio>, v: Ratio) -> bool {
+    best.is_some_and(|b| !is_less(b, v))
+}
+
+fn offered(best: Option<Ratio>, p: i64, q: i64) -> Option<Ratio> {
+    let v = Ratio { p, q };
+    if is_reached(best, v) { best } else { Some(v) }
 }
 
 // A point with no filler.
-fn with_corner(best: Best, p: Model, s: Sums) -> Best {
+fn with_corner(best: Option<Ratio>, p: Model, s: Sums) -> Option<Ratio> {
     if p.capacity < s.weight {
         return best;
     }
@@ -191,44 +158,22 @@ fn with_corner(best: Best, p: Model, s: Sums) -> Best {
 }
 
 pub fn between(a: i64, x: i64, b: i64) -> bool {
-    if x < a {
-        return false;
-    }
-    x <= b
+    a <= x && x <= b
 }
 
-// A point whose filler x, of weight above 0, takes room / weight.
-fn with_filled(best: Best, x: ModelItem, room: i64, value: i64) -> Best {
-    let a = x.high;
+// A point whose filler x takes room / weight, both of them with the sign that makes the weight positive.
+fn with_filler(best: Option<Ratio>, p: Model, x: ModelItem, s: Sums) -> Option<Ratio> {
+    let sign = if x.high < 0 { -1 } else { 1 };
+    let a = times(x.high, sign);
+    let room = times(minus(p.capacity, s.weight), sign);
     if between(times(low(x), a), room, times(high(x), a)) {
-        return offered(best, plus(times(value, a), times(x.price, room)), a);
-    }
-    best
-}
-
-// The same of weight below 0: room and weight both change their sign.
-fn with_lightened(best: Best, x: ModelItem, room: i64, value: i64) -> Best {
-    let a = times(x.high, -1);
-    let over = times(room, -1);
-    if between(times(low(x), a), over, times(high(x), a)) {
-        return offered(best, plus(times(value, a), times(x.price, over)), a);
-    }
-    best
-}
-
-fn with_filler(best: Best, p: Model, x: ModelItem, s: Sums) -> Best {
-    let room = minus(p.capacity, s.weight);
-    if x.high > 0 {
-        return with_filled(best, x, room, s.value);
-    }
-    if x.high < 0 {
-        return with_lightened(best, x, room, s.value);
+        return offered(best, plus(times(s.value, a), times(x.price, room)), a);
     }
     best
 }
 
 // The point of a number, if it keeps the needs.
-fn with_point(best: Best, p: Model, filler: usize, n: usize, number: u64) -> Best
+fn with_point(best: Option<Ratio>, p: Model, filler: usize, n: usize, number: u64) -> Option<Ratio>
     requires { n ≤ 15 }
 {
     if !keeps(p, filler, n, number) {
@@ -236,49 +181,52 @@ fn with_point(best: Best, p: Model, filler: usize, n: usize, number: u64) -> Bes
     }
     let s = sums_of(p, filler, n, number);
     if filler < n {
-        let items = p.items;
-        let x = items[filler];
-        return with_filler(best, p, x, s);
+        return with_filler(best, p, p.items[filler], s);
     }
     with_corner(best, p, s)
 }
 
-// All points with one filler, or with none where its number is n.
-fn with_points(start: Best, p: Model, filler: usize, n: usize) -> Best
-    requires { n ≤ 15 }
-{
-    let total = points(p, filler, n);
-    let mut best = start;
-    let mut i: u64 = 0;
-    while i < total {
-        best = with_point(best, p, filler, n, i);
-        i += 1;
-    }
-    best
+pub fn can_fill(x: ModelItem) -> bool {
+    x.mark == Mark::Continuous && x.high != 0
 }
 
-pub fn can_fill(x: ModelItem) -> bool {
-    if is_continuous(x) { x.high != 0 } else { false }
+// All points with one filler, or with none where its number is n.
+fn over_filler<T, F: Fn(T, usize, u64) -> T>(
+    start: T,
+    p: Model,
+    n: usize,
+    filler: usize,
+    step: F,
+) -> T
+    requires n_bound { n ≤ 15 }
+    requires callable { F.IsAlwaysCallable step }
+{
+    let mut t = start;
+    for number in 0..points(p, filler, n) {
+        t = step(t, filler, number);
+    }
+    t
+}
+
+// All points of a problem, by their fillers and numbers.
+pub fn over_points<T, F: Fn(T, usize, u64) -> T>(start: T, p: Model, n: usize, step: F) -> T
+    requires n_bound { n ≤ 15 }
+    requires callable { F.IsAlwaysCallable step }
+{
+    let mut t = over_filler(start, p, n, n, &step);
+    for k in 0..n {
+        if can_fill(p.items[k]) {
+            t = over_filler(t, p, n, k, &step);
+        }
+    }
+    t
 }
 
 // The best value of a problem of at most 15 items with every bound present.
-pub fn best_value(p: Model, n: usize) -> Best
+pub fn best_value(p: Model, n: usize) -> Option<Ratio>
     requires { n ≤ 15 }
 {
-    let items = p.items;
-    let none = Best {
-        found: false,
-        p: 0,
-        q: 1,
-    };
-    let mut best = with_points(none, p, n, n);
-    let mut k: usize = 0;
-    while k < n {
-        let x = items[k];
-        if can_fill(x) {
-            best = with_points(best, p, k, n);
-        }
-        k += 1;
-    }
-    best
+    over_points(None, p, n, |best, filler, number| {
+        with_point(best, p, filler, n, number)
+    })
 }

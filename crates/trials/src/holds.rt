@@ -5,69 +5,45 @@ ghost use Rattle.std.specs.Prelude.{◌≤◌};
 use crate::exact::{as_signed, is_far, plus, times};
 use crate::print::size_of;
 use arith::Fraction;
-use feasibility::{Candidate, PointReply, check_point};
-use knapsack::{Answer, Bound, Mark};
+use feasibility::{Candidate, Finding, check_point};
+use knapsack::{Answer, Mark, Refusal};
 use model::{Model, ModelItem, Sense, beyond};
 
-fn checked(p: Model, a: Answer) -> PointReply {
+fn checked(p: Model, a: Answer) -> Result<Finding, Refusal> {
     let amounts = a.point;
-    check_point(
-        p,
-        Sense::Sure,
-        Candidate {
-            amounts: amounts,
-            count: p.count,
-        },
-    )
+    let count = p.count;
+    check_point(p, Sense::Sure, Candidate { amounts, count })
 }
 
-fn is_worth(r: PointReply, v: Fraction) -> bool {
-    match r {
-        PointReply::Feasible(w) => { if v.p == w.p { v.q == w.q } else { false } }
-        PointReply::Violates(_) => false,
-        PointReply::Refused(_) => false,
-    }
+fn is_worth(r: Result<Finding, Refusal>, v: Fraction) -> bool {
+    r == Ok(Finding::Feasible(v))
 }
 
-fn is_feasible(r: PointReply) -> bool {
-    match r {
-        PointReply::Feasible(_) => true,
-        PointReply::Violates(_) => false,
-        PointReply::Refused(_) => false,
-    }
+fn is_feasible(r: Result<Finding, Refusal>) -> bool {
+    matches!(r, Ok(Finding::Feasible(_)))
 }
 
 // The divisor of an item's amounts: a continuous one's is its weight without sign, 1 where it is 0 (paper 02, request 12).
 fn own_divisor(x: ModelItem) -> u64 {
-    let m = x.mark;
-    let size = size_of(x.high);
-    match m {
+    match x.mark {
         Mark::Integer => 1,
-        Mark::Continuous => { if size == 0 { 1 } else { size } }
+        Mark::Continuous => size_of(x.high).max(1),
     }
 }
 
 // Whether each amount is over its item's own divisor.
 fn divisors_hold(p: Model, a: Answer) -> bool {
-    let items = p.items;
-    let amounts = a.point;
-    let n = p.count;
-    let mut k: usize = 0;
-    while k < 16 {
-        let x = items[k];
-        let v = amounts[k];
-        if k < n && v.q != own_divisor(x) {
+    for k in 0..p.count.min(16) {
+        if a.point[k].q != own_divisor(p.items[k]) {
             return false;
         }
-        k += 1;
     }
     true
 }
 
 // Feasible, within the limits of paper 01, and worth the value told.
 pub fn point_holds(p: Model, a: Answer) -> bool {
-    let v = a.value;
-    divisors_hold(p, a) && is_worth(checked(p, a), v)
+    divisors_hold(p, a) && is_worth(checked(p, a), a.value)
 }
 
 // ---- its weight by plain sums, whatever its divisors
@@ -91,14 +67,9 @@ fn with_amount(s: Load, x: ModelItem, v: Fraction) -> Load {
 fn load_of(p: Model, amounts: [Fraction; 16], n: usize) -> Load
     requires { n ≤ 16 }
 {
-    let items = p.items;
     let mut s = Load { p: 0, q: 1 };
-    let mut k: usize = 0;
-    while k < n {
-        let x = items[k];
-        let v = amounts[k];
-        s = with_amount(s, x, v);
-        k += 1;
+    for k in 0..n {
+        s = with_amount(s, p.items[k], amounts[k]);
     }
     s
 }
@@ -108,8 +79,7 @@ pub fn fits(p: Model, a: Answer) -> bool {
     if p.count > 16 {
         return false;
     }
-    let amounts = a.point;
-    let s = load_of(p, amounts, p.count);
+    let s = load_of(p, a.point, p.count);
     let limit = times(p.capacity, s.q);
     !is_far(s.p) && s.p <= limit
 }
@@ -125,10 +95,10 @@ struct Ray {
     gain: i64,
 }
 
-fn is_absent(b: Bound) -> bool {
+fn is_absent(b: Option<i64>) -> bool {
     match b {
-        Bound::Absent => true,
-        Bound::At(_) => false,
+        None => true,
+        Some(_) => false,
     }
 }
 
@@ -138,28 +108,22 @@ fn may_move(x: ModelItem, s: i64) -> bool {
         return false;
     }
     if s < 0 {
-        let l = x.lower;
-        return is_absent(l);
+        return is_absent(x.lower);
     }
     if s > 0 {
-        let u = x.upper;
-        return is_absent(u);
+        return is_absent(x.upper);
     }
     true
 }
 
 // One more, and 3 for all above 2.
 fn one_more(n: usize, s: i64) -> usize {
-    if s == 0 {
-        return n;
-    }
-    if n < 3 { n + 1 } else { n }
+    if s != 0 && n < 3 { n + 1 } else { n }
 }
 
 fn with_step(r: Ray, x: ModelItem, s: i64) -> Ray {
-    let open = if may_move(x, s) { r.open } else { false };
     Ray {
-        open: open,
+        open: r.open && may_move(x, s),
         moved: one_more(r.moved, s),
         weight: plus(r.weight, times(x.high, s)),
         gain: plus(r.gain, times(x.price, s)),
@@ -170,38 +134,22 @@ fn with_step(r: Ray, x: ModelItem, s: i64) -> Ray {
 fn ray_of(p: Model, steps: [i64; 16], n: usize) -> Ray
     requires { n ≤ 16 }
 {
-    let items = p.items;
     let mut r = Ray {
         open: true,
         moved: 0,
         weight: 0,
         gain: 0,
     };
-    let mut k: usize = 0;
-    while k < n {
-        let x = items[k];
-        let s = steps[k];
-        r = with_step(r, x, s);
-        k += 1;
+    for k in 0..n {
+        r = with_step(r, p.items[k], steps[k]);
     }
     r
 }
 
 // Steps on one or two items, which weigh nothing or less, and gain.
 fn is_ray(r: Ray) -> bool {
-    if !r.open {
-        return false;
-    }
-    if r.moved == 0 || r.moved == 3 {
-        return false;
-    }
-    if is_far(r.weight) || is_far(r.gain) {
-        return false;
-    }
-    if r.weight > 0 {
-        return false;
-    }
-    r.gain > 0
+    let is_short = r.moved == 1 || r.moved == 2;
+    r.open && is_short && !is_far(r.weight) && !is_far(r.gain) && r.weight <= 0 && r.gain > 0
 }
 
 // The steps are a ray.
@@ -209,8 +157,7 @@ pub fn leads_on(p: Model, a: Answer) -> bool {
     if p.count > 16 {
         return false;
     }
-    let steps = a.steps;
-    is_ray(ray_of(p, steps, p.count))
+    is_ray(ray_of(p, a.steps, p.count))
 }
 
 // The start is feasible and within the limits, and the steps are a ray.

@@ -22,14 +22,10 @@ fn rest_of(c: Choices, rest: u64) -> u64 {
 fn amount_of(p: Model, filler: usize, n: usize, number: u64, item: usize) -> i64
     requires { n ≤ 16 }
 {
-    let items = p.items;
     let mut rest = number;
-    let mut k: usize = 0;
-    while k < n {
-        let x = items[k];
-        let c = choices_of(x, k == filler);
-        k += 1;
-        if k == item {
+    for k in 0..n {
+        let c = choices_of(p.items[k], k == filler);
+        if k + 1 == item {
             return chosen(c, digit_of(c, rest));
         }
         rest = rest_of(c, rest);
@@ -42,26 +38,17 @@ fn keeps_need(p: Model, filler: usize, n: usize, number: u64, need: Need) -> boo
 {
     let any = amount_of(p, filler, n, number, need.item);
     let covered = amount_of(p, filler, n, number, need.cover);
-    if any <= 0 {
-        return true;
-    }
-    1 <= covered
+    any <= 0 || 1 <= covered
 }
 
 // Whether the point of a number keeps all needs. No filler is named in one.
 pub fn keeps(p: Model, filler: usize, n: usize, number: u64) -> bool
     requires { n ≤ 16 }
 {
-    let ns = p.needs;
-    let t = ns.count;
-    let lines = ns.lines;
-    let mut j: usize = 0;
-    while j < 16 {
-        let need = lines[j];
-        if j < t && !keeps_need(p, filler, n, number, need) {
+    for need in p.needs.lines.iter().take(p.needs.count) {
+        if !keeps_need(p, filler, n, number, *need) {
             return false;
         }
-        j += 1;
     }
     true
 }

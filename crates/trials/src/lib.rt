@@ -2,7 +2,7 @@
 // part in it: an answer is judged by the point check and by plain sums.
 #![tactic(auto)]
 
-pub mod bytes; // the first of a text's bytes, and whether two texts agree
+pub mod bytes; // the first of a text's bytes
 pub mod count; // counts, and how they are printed
 pub mod draw; // problems from a seed
 pub mod enumerate; // the best value of a small problem, by trying every point

@@ -1,8 +1,10 @@
 // Items and problems made by hand.
-use knapsack::{Bound, Mark};
-use model::{Model, ModelItem, no_item, setters};
+ghost use Rattle.std.specs.Prelude.{◌≤◌};
 
-pub fn item(weight: i64, price: i64, lower: Bound, upper: Bound) -> ModelItem {
+use knapsack::Mark;
+use model::{Model, ModelItem, Need, no_item, setters};
+
+pub fn item(weight: i64, price: i64, lower: Option<i64>, upper: Option<i64>) -> ModelItem {
     ModelItem {
         mark: Mark::Integer,
         low: weight,
@@ -15,35 +17,29 @@ pub fn item(weight: i64, price: i64, lower: Bound, upper: Bound) -> ModelItem {
 
 // With both bounds.
 pub fn held(weight: i64, price: i64, lower: i64, upper: i64) -> ModelItem {
-    item(weight, price, Bound::At(lower), Bound::At(upper))
+    item(weight, price, Some(lower), Some(upper))
 }
 
 // From 0 on, with no upper bound.
 pub fn from_zero(weight: i64, price: i64) -> ModelItem {
-    item(weight, price, Bound::At(0), Bound::Absent)
+    item(weight, price, Some(0), None)
 }
 
 // Up to 0, with no lower bound.
 pub fn to_zero(weight: i64, price: i64) -> ModelItem {
-    item(weight, price, Bound::Absent, Bound::At(0))
+    item(weight, price, None, Some(0))
 }
 
 // With no bound at all.
 pub fn free(weight: i64, price: i64) -> ModelItem {
-    item(weight, price, Bound::Absent, Bound::Absent)
+    item(weight, price, None, None)
 }
 
 // The same item, continuous.
 pub fn loose(x: ModelItem) -> ModelItem {
-    let l = x.lower;
-    let u = x.upper;
     ModelItem {
         mark: Mark::Continuous,
-        low: x.low,
-        high: x.high,
-        price: x.price,
-        lower: l,
-        upper: u,
+        ..x
     }
 }
 
@@ -55,8 +51,7 @@ pub fn record_of(capacity: i64, count: usize, items: [ModelItem; 16]) -> Model {
 
 // The first count of x, y and z are the problem's items.
 pub fn first_of(capacity: i64, count: usize, x: ModelItem, y: ModelItem, z: ModelItem) -> Model {
-    let blank = no_item();
-    let mut items = [blank; 16];
+    let mut items = [no_item(); 16];
     items[0] = x;
     items[1] = y;
     items[2] = z;
@@ -71,4 +66,12 @@ pub fn one(capacity: i64, x: ModelItem) -> Model {
 pub fn two(capacity: i64, x: ModelItem, y: ModelItem) -> Model {
     let blank = no_item();
     first_of(capacity, 2, x, y, blank)
+}
+
+// With a line of needs at a place, which is the last one.
+pub fn needing(m: Model, place: usize, item: usize, cover: usize) -> Model
+    requires { place ≤ 15 }
+{
+    let need = Need { item, cover };
+    setters::with_need_count(setters::with_need(m, place, need), place + 1)
 }

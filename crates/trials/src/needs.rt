@@ -4,36 +4,29 @@ ghost use Rattle.std.specs.Prelude.{◌≤◌};
 
 use crate::draw::{DrawnProblem, below, next};
 use crate::exact::times;
-use knapsack::{Bound, Mark};
+use knapsack::Mark;
 use model::naming::is_unfit;
 use model::{Model, ModelItem, Need, setters};
 
-pub fn lifted_lower(b: Bound) -> Bound {
-    match b {
-        Bound::Absent => Bound::At(0),
-        Bound::At(v) => Bound::At(if v < 0 { 0 } else { v }),
-    }
+pub fn lifted_lower(b: Option<i64>) -> Option<i64> {
+    Some(b.unwrap_or(0).max(0))
 }
 
-fn lifted_upper(b: Bound) -> Bound {
-    match b {
-        Bound::Absent => Bound::At(3),
-        Bound::At(v) => Bound::At(if v < 0 { times(v, -1) } else { v }),
-    }
+// Without its sign.
+pub fn turned(v: i64) -> i64 {
+    if v < 0 { times(v, -1) } else { v }
+}
+
+fn lifted_upper(b: Option<i64>) -> Option<i64> {
+    Some(b.map_or(3, turned))
 }
 
 fn fit_item(x: ModelItem) -> ModelItem {
-    let l = x.lower;
-    let u = x.upper;
-    let lower = lifted_lower(l);
-    let upper = lifted_upper(u);
     ModelItem {
         mark: Mark::Integer,
-        low: x.low,
-        high: x.high,
-        price: x.price,
-        lower: lower,
-        upper: upper,
+        lower: lifted_lower(x.lower),
+        upper: lifted_upper(x.upper),
+        ..x
     }
 }
 
@@ -52,34 +45,27 @@ fn with_line(m: Model, k: usize, l: usize) -> Model
     requires { (k ≤ 15) × (l ≤ 15) }
 {
     let n = m.count;
-    let ns = m.needs;
-    let j = ns.count;
-    if n <= k || n <= l || k == l {
+    let j = m.needs.count;
+    if n <= k || n <= l || k == l || 15 < j {
         return m;
     }
-    if 15 < j {
-        return m;
-    }
-    let more = j + 1;
     let fit = with_fit(with_fit(m, k), l);
     let need = Need {
         item: k + 1,
         cover: l + 1,
     };
-    setters::with_need_count(setters::with_need(fit, j, need), more)
+    setters::with_need_count(setters::with_need(fit, j, need), j + 1)
 }
 
 // Of so many pairs of items, and one more, about one becomes a line.
 pub fn with_drawn_needs(m: Model, state: u64, among: u64) -> DrawnProblem {
     let mut p = m;
     let mut now = state;
-    let mut t: usize = 0;
-    while t < 256 {
+    for t in 0..256 {
         now = next(now);
         if below(now, among) == 0 {
             p = with_line(p, t / 16, t % 16);
         }
-        t += 1;
     }
     DrawnProblem {
         problem: p,
@@ -90,12 +76,10 @@ pub fn with_drawn_needs(m: Model, state: u64, among: u64) -> DrawnProblem {
 // All pairs of items from a place on, as long as there is room.
 pub fn with_all_needs(m: Model, from: usize) -> Model {
     let mut p = m;
-    let mut t: usize = 0;
-    while t < 256 {
+    for t in 0..256 {
         if from <= t / 16 && from <= t % 16 {
             p = with_line(p, t / 16, t % 16);
         }
-        t += 1;
     }
     p
 }

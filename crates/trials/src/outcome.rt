@@ -5,55 +5,28 @@
 //   unbounded    the point check allows the start, and the steps are a ray
 ghost use Rattle.std.specs.Prelude.{◌≤◌};
 
-use crate::enumerate::{Best, below, best_value};
-use crate::exact::{as_signed, times};
+use crate::enumerate::{best_value, is_above, is_reached};
+use crate::exact::{Ratio, ratio_of, times};
 use crate::holds::{point_holds, ray_holds};
-use knapsack::{Answer, Bound, Kind};
+use knapsack::{Answer, Kind};
 use model::{Model, ModelItem};
 
 // ---- the problem with its absent bounds closed
 
-fn shut_at(b: Bound, v: i64) -> Bound {
-    match b {
-        Bound::Absent => Bound::At(v),
-        Bound::At(w) => Bound::At(w),
-    }
-}
-
 fn shut_item(x: ModelItem, reach: i64) -> ModelItem {
-    let m = x.mark;
-    let l = x.lower;
-    let u = x.upper;
-    let lower = shut_at(l, times(reach, -1));
-    let upper = shut_at(u, reach);
     ModelItem {
-        mark: m,
-        low: x.low,
-        high: x.high,
-        price: x.price,
-        lower: lower,
-        upper: upper,
+        lower: x.lower.or(Some(times(reach, -1))),
+        upper: x.upper.or(Some(reach)),
+        ..x
     }
-}
-
-fn with_shut(p: Model, k: usize, reach: i64) -> Model
-    requires { k ≤ 15 }
-{
-    let mut q = p;
-    let x = q.items[k];
-    let y = shut_item(x, reach);
-    q.items[k] = y;
-    q
 }
 
 pub fn shut_problem(p: Model, n: usize, reach: i64) -> Model
     requires { n ≤ 15 }
 {
     let mut q = p;
-    let mut k: usize = 0;
-    while k < n {
-        q = with_shut(q, k, reach);
-        k += 1;
+    for x in &mut q.items[..n] {
+        *x = shut_item(*x, reach);
     }
     q
 }
@@ -67,24 +40,24 @@ pub struct Outcome {
     pub met: bool,
 }
 
+// Without enumeration: what is shown is allowed by the point check at the value told, and the steps of an unbounded answer are a ray.
+pub fn is_allowed(p: Model, a: Answer) -> bool {
+    match a.kind {
+        Kind::Optimal => point_holds(p, a),
+        Kind::Infeasible => true,
+        Kind::Unbounded => ray_holds(p, a),
+        Kind::Refused(_) => false,
+    }
+}
+
 // The value told is at least the best one found, and as much where that has to be.
-fn best_outcome(p: Model, a: Answer, b: Best, sure: bool) -> Outcome {
-    let v = a.value;
-    let q = as_signed(v.q);
-    let met = if b.found {
-        !below(b.p, b.q, v.p, q)
-    } else {
-        false
-    };
-    let beaten = if b.found {
-        below(v.p, q, b.p, b.q)
-    } else {
-        false
-    };
+fn best_outcome(p: Model, a: Answer, b: Option<Ratio>, sure: bool) -> Outcome {
+    let v = ratio_of(a.value);
+    let met = is_reached(b, v);
     let reached = met || !sure;
     Outcome {
-        agrees: reached && !beaten && point_holds(p, a),
-        met: met,
+        agrees: reached && !is_above(b, v) && point_holds(p, a),
+        met,
     }
 }
 
@@ -93,11 +66,10 @@ pub fn outcome_of(p: Model, a: Answer, n: usize, reach: i64, sure: bool) -> Outc
     requires { n ≤ 15 }
 {
     let b = best_value(shut_problem(p, n, reach), n);
-    let k = a.kind;
-    match k {
+    match a.kind {
         Kind::Optimal => best_outcome(p, a, b, sure),
         Kind::Infeasible => Outcome {
-            agrees: !b.found,
+            agrees: b.is_none(),
             met: false,
         },
         Kind::Unbounded => Outcome {

@@ -2,35 +2,26 @@
 // worth as much comes before it. With no order of filling, no relaxation, no loss and no key this has nothing of the planner.
 ghost use Rattle.std.specs.Prelude.{◌≤◌};
 
-use crate::enumerate::{
-    Sums, below, between, can_fill, choices_of, high, low, minus, points, sums_of,
-};
-use crate::exact::{as_signed, plus, times};
+use crate::enumerate::{Sums, between, choices_of, high, low, minus, over_points, sums_of};
+use crate::exact::{Ratio, is_less, plus, ratio_of, times};
 use crate::kept::{chosen, keeps};
 use arith::Fraction;
 use knapsack::Answer;
 use model::{Model, ModelItem};
+use std::cmp::Ordering;
 
-// The item that takes what the others leave of the capacity, and its amount p / q.
+// The item that takes what the others leave of the capacity, and its amount.
 #[derive(Clone, Copy)]
 struct Filler {
     at: usize,
-    p: i64,
-    q: i64,
+    amount: Ratio,
 }
 
-// How a point stands to the one shown so far: the same, or before it by the first item that differs.
-#[derive(Clone, Copy)]
-struct Order {
-    same: bool,
-    before: bool,
-}
-
-// What is left of a point's number, and its order.
+// What is left of a point's number, and how the point stands to the one shown so far, by the first item that differs.
 #[derive(Clone, Copy)]
 struct Walk {
     rest: u64,
-    order: Order,
+    order: Ordering,
 }
 
 // Whether some point beats the one shown, and whether the one shown was met.
@@ -40,100 +31,66 @@ pub struct Judged {
     pub met: bool,
 }
 
-fn compared(o: Order, p: i64, q: i64, v: Fraction) -> Order {
-    if !o.same {
-        return o;
+fn compared(a: Ratio, b: Ratio) -> Ordering {
+    if is_less(a, b) {
+        Ordering::Less
+    } else if is_less(b, a) {
+        Ordering::Greater
+    } else {
+        Ordering::Equal
     }
-    let d = as_signed(v.q);
-    if below(p, q, v.p, d) {
-        return Order {
-            same: false,
-            before: true,
-        };
-    }
-    if below(v.p, d, p, q) {
-        return Order {
-            same: false,
-            before: false,
-        };
-    }
-    o
 }
 
 // One item more: its amount is the next digit of the point's number, or that of the filler.
 fn walked(w: Walk, x: ModelItem, v: Fraction, k: usize, f: Filler) -> Walk {
-    let o = w.order;
     if k == f.at {
-        let order = compared(o, f.p, f.q, v);
         return Walk {
             rest: w.rest,
-            order: order,
+            order: w.order.then(compared(f.amount, ratio_of(v))),
         };
     }
     let c = choices_of(x, false);
     if c.number == 0 {
         return w;
     }
-    let digit = w.rest % c.number;
-    let amount = chosen(c, digit);
-    let order = compared(o, amount, 1, v);
+    let amount = Ratio {
+        p: chosen(c, w.rest % c.number),
+        q: 1,
+    };
     Walk {
         rest: w.rest / c.number,
-        order: order,
+        order: w.order.then(compared(amount, ratio_of(v))),
     }
 }
 
-fn order_of(p: Model, a: Answer, n: usize, number: u64, f: Filler) -> Order
+fn order_of(p: Model, a: Answer, n: usize, number: u64, f: Filler) -> Ordering
     requires { n ≤ 15 }
 {
-    let items = p.items;
-    let shown = a.point;
-    let start = Order {
-        same: true,
-        before: false,
-    };
     let mut w = Walk {
         rest: number,
-        order: start,
+        order: Ordering::Equal,
     };
-    let mut k: usize = 0;
-    while k < n {
-        let x = items[k];
-        let v = shown[k];
-        w = walked(w, x, v, k, f);
-        k += 1;
+    for k in 0..n {
+        w = walked(w, p.items[k], a.point[k], k, f);
     }
     w.order
 }
 
-// A point that is worth p / q.
-fn with_point(
-    j: Judged,
-    m: Model,
-    a: Answer,
-    n: usize,
-    number: u64,
-    f: Filler,
-    p: i64,
-    q: i64,
-) -> Judged
+// A point with its value.
+fn with_point(j: Judged, m: Model, a: Answer, n: usize, number: u64, f: Filler, v: Ratio) -> Judged
     requires { n ≤ 15 }
 {
-    let v = a.value;
-    let d = as_signed(v.q);
-    if below(v.p, d, p, q) {
-        return Judged {
-            beaten: true,
-            met: j.met,
-        };
+    let order = compared(v, ratio_of(a.value));
+    if order == Ordering::Greater {
+        return Judged { beaten: true, ..j };
     }
-    if below(p, q, v.p, d) {
+    if order == Ordering::Less {
         return j;
     }
     let o = order_of(m, a, n, number, f);
     Judged {
-        beaten: j.beaten || o.before,
-        met: j.met || o.same,
+        beaten: j.beaten || o == Ordering::Less,
+        met: j.met || o == Ordering::Equal,
     }
 }
 
@@ -144,8 +101,9 @@ fn with_corner(j: Judged, m: Model, a: Answer, n: usize, number: u64, s: Sums) -
     if m.capacity < s.weight {
         return j;
     }
-    let f = Filler { at: 16, p: 0, q: 1 };
-    with_point(j, m, a, n, number, f, s.value, 1)
+    let amount = Ratio { p: 0, q: 1 };
+    let value = Ratio { p: s.value, q: 1 };
+    with_point(j, m, a, n, number, Filler { at: 16, amount }, value)
 }
 
 // A point whose filler x takes room / weight, both of them with the sign that makes the weight w positive.
@@ -167,13 +125,12 @@ fn with_filler(
     if !between(times(low(x), w), room, times(high(x), w)) {
         return j;
     }
-    let f = Filler {
-        at: k,
-        p: room,
+    let amount = Ratio { p: room, q: w };
+    let value = Ratio {
+        p: plus(times(s.value, w), times(x.price, room)),
         q: w,
     };
-    let value = plus(times(s.value, w), times(x.price, room));
-    with_point(j, m, a, n, number, f, value, w)
+    with_point(j, m, a, n, number, Filler { at: k, amount }, value)
 }
 
 // The point of a number, if it keeps the needs.
@@ -185,44 +142,20 @@ fn with_numbered(j: Judged, m: Model, a: Answer, filler: usize, n: usize, number
     }
     let s = sums_of(m, filler, n, number);
     if filler < n {
-        let items = m.items;
-        let x = items[filler];
-        return with_filler(j, m, a, n, number, s, x, filler);
+        return with_filler(j, m, a, n, number, s, m.items[filler], filler);
     }
     with_corner(j, m, a, n, number, s)
-}
-
-// All points with one filler, or with none where its number is n.
-fn with_points(start: Judged, m: Model, a: Answer, filler: usize, n: usize) -> Judged
-    requires { n ≤ 15 }
-{
-    let total = points(m, filler, n);
-    let mut j = start;
-    let mut i: u64 = 0;
-    while i < total {
-        j = with_numbered(j, m, a, filler, n, i);
-        i += 1;
-    }
-    j
 }
 
 // All points of a problem of n items with every bound present, beside an optimal answer.
 pub fn judge(m: Model, a: Answer, n: usize) -> Judged
     requires { n ≤ 15 }
 {
-    let items = m.items;
     let none = Judged {
         beaten: false,
         met: false,
     };
-    let mut j = with_points(none, m, a, n, n);
-    let mut k: usize = 0;
-    while k < n {
-        let x = items[k];
-        if can_fill(x) {
-            j = with_points(j, m, a, k, n);
-        }
-        k += 1;
-    }
-    j
+    over_points(none, m, n, |j, filler, number| {
+        with_numbered(j, m, a, filler, n, number)
+    })
 }

@@ -1,5 +1,6 @@
 // Printing: numbers, items as (mark,weight,price,lower,upper) with low:high for a range of weights and `..` for an absent bound, and an answer's kind in paper 01's words.
-use knapsack::{Answer, Bound, Kind, Mark};
+use arith::Fraction;
+use knapsack::{Answer, Kind, Mark};
 use model::{Model, ModelItem};
 
 // Standard output, as the kit's io names a stream by its number.
@@ -15,10 +16,7 @@ pub fn print_number(n: u64) {
 
 // |z|, also of the least number.
 pub fn size_of(z: i64) -> u64 {
-    if z < -9223372036854775807 {
-        return 9223372036854775808;
-    }
-    if z < 0 { (0 - z) as u64 } else { z as u64 }
+    z.unsigned_abs()
 }
 
 pub fn print_signed(z: i64) {
@@ -55,11 +53,11 @@ fn print_mark(m: Mark) {
     }
 }
 
-fn print_bound(b: Bound) {
+fn print_bound(b: Option<i64>) {
     print(b",");
     match b {
-        Bound::Absent => print(b".."),
-        Bound::At(v) => print_signed(v),
+        None => print(b".."),
+        Some(v) => print_signed(v),
     }
 }
 
@@ -74,16 +72,13 @@ fn print_weight(low: i64, high: i64) {
 
 pub fn print_item(x: ModelItem) {
     print(b" (");
-    let m = x.mark;
-    print_mark(m);
+    print_mark(x.mark);
     print(b",");
     print_weight(x.low, x.high);
     print(b",");
     print_signed(x.price);
-    let l = x.lower;
-    print_bound(l);
-    let u = x.upper;
-    print_bound(u);
+    print_bound(x.lower);
+    print_bound(x.upper);
     print(b")");
 }
 
@@ -91,27 +86,19 @@ pub fn print_item(x: ModelItem) {
 pub fn print_problem(p: Model) {
     print_signed(p.capacity);
     print(b";");
-    let n = p.count;
-    let mut k: usize = 0;
-    while k < 16 {
-        if k < n {
-            let x = p.items[k];
-            print_item(x);
-        }
-        k += 1;
+    for x in p.items.iter().take(p.count) {
+        print_item(*x);
     }
 }
 
 // The kind, with the value of a best answer.
 pub fn print_kind(a: Answer) {
-    let k = a.kind;
-    match k {
+    match a.kind {
         Kind::Optimal => {
             print(b"best ");
-            let v = a.value;
-            print_signed(v.p);
+            print_signed(a.value.p);
             print(b" ");
-            print_number(v.q);
+            print_number(a.value.q);
         }
         Kind::Infeasible => print(b"infeasible"),
         Kind::Unbounded => print(b"unbounded"),
@@ -121,5 +108,17 @@ pub fn print_kind(a: Answer) {
             print(b" ");
             print_number(f.line);
         }
+    }
+}
+
+fn print_amount(v: Fraction) {
+    print_signed_field(v.p);
+    print_field(v.q);
+}
+
+// The amounts of the first three items.
+pub fn print_three(a: Answer) {
+    for v in &a.point[..3] {
+        print_amount(*v);
     }
 }

@@ -2,56 +2,40 @@
 // its range, or drawn inside it. In such a record the two senses are one, and the rest of this crate speaks of such records: it takes the high weight.
 ghost use Rattle.std.specs.Prelude.{◌≤◌};
 
-use crate::draw::{DrawnProblem, below, figure, greater, lesser, mended_price, next};
+use crate::draw::{DrawnProblem, below, figure, mended_price, next};
 use crate::exact::{as_signed, plus, times};
-use crate::needs::lifted_lower;
+use crate::needs::{lifted_lower, turned};
 use crate::print::size_of;
-use knapsack::Bound;
 use model::{Model, ModelItem, setters};
-
-fn turned_upper(b: Bound) -> Bound {
-    match b {
-        Bound::Absent => Bound::Absent,
-        Bound::At(v) => Bound::At(if v < 0 { times(v, -1) } else { v }),
-    }
-}
 
 // The item's weight and another are the ends of its range. No amount is below 0, and no weight between the ends makes the item blank.
 fn ranged_item(x: ModelItem, other: i64) -> ModelItem {
-    let m = x.mark;
-    let l = x.lower;
-    let u = x.upper;
-    let lower = lifted_lower(l);
-    let upper = turned_upper(u);
     ModelItem {
-        mark: m,
-        low: lesser(x.high, other),
-        high: greater(x.high, other),
+        mark: x.mark,
+        low: x.high.min(other),
+        high: x.high.max(other),
         price: mended_price(0, x.price),
-        lower: lower,
-        upper: upper,
+        lower: lifted_lower(x.lower),
+        upper: x.upper.map(turned),
     }
 }
 
 fn with_range(m: Model, k: usize, other: i64) -> Model
     requires { k ≤ 15 }
 {
-    let x = m.items[k];
-    setters::with_item(m, k, ranged_item(x, other))
+    setters::with_item(m, k, ranged_item(m.items[k], other))
 }
 
 // Of so many items, and one more, about one gets a range, with weights up to a span.
 pub fn with_drawn_ranges(m: Model, state: u64, among: u64, span: u64) -> DrawnProblem {
     let mut p = m;
     let mut now = state;
-    let mut k: usize = 0;
-    while k < 16 {
+    for k in 0..16 {
         let other = next(now);
         now = next(other);
         if below(now, among) == 0 {
             p = with_range(p, k, figure(other, span));
         }
-        k += 1;
     }
     DrawnProblem {
         problem: p,
@@ -60,16 +44,10 @@ pub fn with_drawn_ranges(m: Model, state: u64, among: u64, span: u64) -> DrawnPr
 }
 
 fn known_item(x: ModelItem, weight: i64) -> ModelItem {
-    let m = x.mark;
-    let l = x.lower;
-    let u = x.upper;
     ModelItem {
-        mark: m,
         low: weight,
         high: weight,
-        price: x.price,
-        lower: l,
-        upper: u,
+        ..x
     }
 }
 
@@ -85,11 +63,9 @@ fn with_end(m: Model, k: usize, high: bool) -> Model
 pub fn at_ends(m: Model, ends: u64) -> Model {
     let mut p = m;
     let mut rest = ends;
-    let mut k: usize = 0;
-    while k < 16 {
+    for k in 0..16 {
         p = with_end(p, k, rest % 2 == 1);
         rest = rest / 2;
-        k += 1;
     }
     p
 }
@@ -112,11 +88,9 @@ fn with_drawn_weight(m: Model, k: usize, state: u64) -> Model
 pub fn at_drawn(m: Model, state: u64) -> Model {
     let mut p = m;
     let mut now = state;
-    let mut k: usize = 0;
-    while k < 16 {
+    for k in 0..16 {
         now = next(now);
         p = with_drawn_weight(p, k, now);
-        k += 1;
     }
     p
 }

@@ -2,7 +2,7 @@
 // `..` for an absent bound. Needs are their count, the number of lines given, and each line as `k m`.
 ghost use Rattle.std.specs.Prelude.{◌≤◌};
 
-use knapsack::{Bound, Mark};
+use knapsack::Mark;
 use model::naming::no_needs;
 use model::{ModelItem, Need, Needs, no_item};
 
@@ -16,7 +16,7 @@ pub struct Number {
 
 #[derive(Clone, Copy)]
 pub struct OneBound {
-    pub bound: Bound,
+    pub bound: Option<i64>,
     pub at: usize,
 }
 
@@ -61,31 +61,22 @@ fn past(s: &[u8], at: usize) -> usize {
 
 // Blanks, line ends and `/` part the fields.
 pub fn is_gap(b: u8) -> bool {
-    match b {
-        10 | 32 | 47 => true,
-        _ => false,
-    }
+    matches!(b, b'\n' | b' ' | b'/')
 }
 
 pub fn skip(s: &[u8], from: usize) -> usize {
-    let mut at = from;
-    while at < s.len() {
-        if is_gap(s[at]) {
-            at += 1;
-        } else {
+    for at in from..s.len() {
+        if !is_gap(s[at]) {
             return at;
         }
     }
-    at
+    from.max(s.len())
 }
 
 // 10 · n and a digit more, modulo 2^64.
 fn shifted(n: u64, digit: u8) -> u64 {
-    let twice = std::num::wrapping_add_u64(n, n);
-    let four = std::num::wrapping_add_u64(twice, twice);
-    let eight = std::num::wrapping_add_u64(four, four);
-    let ten = std::num::wrapping_add_u64(eight, twice);
-    std::num::wrapping_add_u64(ten, std::num::wrapping_sub_u64(digit as u64, 48))
+    n.wrapping_mul(10)
+        .wrapping_add(u64::from(digit).wrapping_sub(48))
 }
 
 // The number of size n with a sign, or the number of 64 bits nearest to it.
@@ -104,18 +95,17 @@ fn signed(negative: bool, n: u64) -> i64 {
 fn read_digits(s: &[u8], from: usize, negative: bool) -> Number {
     let mut size: u64 = 0;
     let mut at = from;
-    while at < s.len() {
-        let b = s[at];
-        if b < 48 || 57 < b {
+    for k in from..s.len() {
+        if !s[k].is_ascii_digit() {
             break;
         }
-        size = shifted(size, b);
-        at += 1;
+        size = shifted(size, s[k]);
+        at = k + 1;
     }
     Number {
         value: signed(negative, size),
-        size: size,
-        at: at,
+        size,
+        at,
     }
 }
 
@@ -140,13 +130,13 @@ fn read_bound(s: &[u8], from: usize) -> OneBound {
     let at = skip(s, from);
     if byte_at(s, at) == 46 {
         return OneBound {
-            bound: Bound::Absent,
+            bound: None,
             at: past(s, past(s, at)),
         };
     }
     let v = read_number(s, at);
     OneBound {
-        bound: Bound::At(v.value),
+        bound: Some(v.value),
         at: v.at,
     }
 }
@@ -157,24 +147,21 @@ fn read_item(s: &[u8], from: usize) -> OneItem {
     let price = read_number(s, weight.at);
     let lower = read_bound(s, price.at);
     let upper = read_bound(s, lower.at);
-    let l = lower.bound;
-    let u = upper.bound;
     OneItem {
         item: ModelItem {
             mark: mark_of(byte_at(s, at)),
             low: weight.value,
             high: weight.value,
             price: price.value,
-            lower: l,
-            upper: u,
+            lower: lower.bound,
+            upper: upper.bound,
         },
         at: upper.at,
     }
 }
 
 fn blank_items() -> [ModelItem; 16] {
-    let i = no_item();
-    [i; 16]
+    [no_item(); 16]
 }
 
 // There are 16 places.
@@ -187,14 +174,10 @@ pub fn places(given: u64) -> usize
 pub fn read_items(s: &[u8], from: usize, given: u64) -> Items {
     let mut list = blank_items();
     let mut at = from;
-    let n = places(given);
-    let mut k: usize = 0;
-    while k < n {
+    for x in &mut list[..places(given)] {
         let r = read_item(s, at);
-        let i = r.item;
-        list[k] = i;
+        *x = r.item;
         at = r.at;
-        k += 1;
     }
     Items { list: list, at: at }
 }
@@ -212,21 +195,16 @@ fn read_need(s: &[u8], from: usize) -> OneNeed {
 }
 
 fn no_lines() -> [Need; 16] {
-    let ns = no_needs();
-    ns.lines
+    no_needs().lines
 }
 
 fn read_need_lines(s: &[u8], from: usize, given: u64) -> NeedLines {
     let mut list = no_lines();
     let mut at = from;
-    let n = places(given);
-    let mut k: usize = 0;
-    while k < n {
+    for need in &mut list[..places(given)] {
         let r = read_need(s, at);
-        let x = r.need;
-        list[k] = x;
+        *need = r.need;
         at = r.at;
-        k += 1;
     }
     NeedLines { list: list, at: at }
 }
@@ -238,7 +216,7 @@ pub fn read_needs(s: &[u8], from: usize) -> AllNeeds {
     let lines = r.list;
     AllNeeds {
         needs: Needs {
-            lines: lines,
+            lines,
             count: count.size as usize,
         },
         at: r.at,

@@ -23,24 +23,13 @@ pub fn no_answers() -> Tally {
     }
 }
 
-// A number for each kind.
-pub fn number_of(k: Kind) -> u64 {
-    match k {
-        Kind::Optimal => 1,
-        Kind::Infeasible => 2,
-        Kind::Unbounded => 3,
-        Kind::Refused(_) => 4,
-    }
-}
-
 // One answer more.
 pub fn tallied(t: Tally, k: Kind, o: Outcome) -> Tally {
-    let n = number_of(k);
     Tally {
-        best: one_more(t.best, n == 1),
+        best: one_more(t.best, k == Kind::Optimal),
         met: one_more(t.met, o.met),
-        infeasible: one_more(t.infeasible, n == 2),
-        unbounded: one_more(t.unbounded, n == 3),
+        infeasible: one_more(t.infeasible, k == Kind::Infeasible),
+        unbounded: one_more(t.unbounded, k == Kind::Unbounded),
         wrong: one_more(t.wrong, !o.agrees),
     }
 }

@@ -7,37 +7,29 @@
 ghost use Rattle.std.specs.Prelude.{◌≤◌};
 
 use arith::Fraction;
-use knapsack::Answer;
-use model::{Model, ModelItem, Need, setters};
+use knapsack::Kind;
+use model::{Model, ModelItem, setters};
 use ranging::{Falls, price_falls};
 use trials::count::{one_more, print_count};
 use trials::draw::{DrawnProblem, Spans, drawn_problem};
-use trials::enumerate::{below, best_value, minus};
-use trials::exact::{as_signed, plus, times};
-use trials::make::{first_of, free, from_zero, held, loose, two};
+use trials::enumerate::{best_value, is_above, minus};
+use trials::exact::{Ratio, as_signed, is_less, plus, ratio_of, times};
+use trials::make::{first_of, free, from_zero, held, loose, needing, two};
 use trials::needs::with_drawn_needs;
 use trials::outcome::shut_problem;
 use trials::print::{print, print_field, print_kind, print_problem};
 use trials::ranges::{at_ends, with_drawn_ranges};
-use trials::tally::number_of;
 
 // ---- chosen problems
 
 fn is_best(w: Falls) -> bool {
-    let a = w.answer;
-    let k = a.kind;
-    number_of(k) == 1
+    w.answer.kind == Kind::Optimal
 }
 
 // The falls in the order of the items; 0 is none.
 fn print_falls(w: Falls, n: usize) {
-    let of = w.of;
-    let mut k: usize = 0;
-    while k < 16 {
-        if k < n {
-            print_field(of[k]);
-        }
-        k += 1;
+    for fall in w.of.iter().take(n) {
+        print_field(*fall);
     }
 }
 
@@ -45,21 +37,12 @@ fn show(m: Model) {
     print_problem(m);
     print(b": ");
     let w = price_falls(m);
-    let a = w.answer;
-    print_kind(a);
+    print_kind(w.answer);
     print(b":");
     if is_best(w) {
         print_falls(w, m.count);
     }
     print(b"\n");
-}
-
-fn needing(m: Model, item: usize, cover: usize) -> Model {
-    let need = Need {
-        item: item,
-        cover: cover,
-    };
-    setters::with_need_count(setters::with_need(m, 0, need), 1)
 }
 
 // Sheet F; a free choice of two; a fall that ends in no bound; one that leaves weight 0 and price 0; the lowest price; a continuous item; a need.
@@ -70,7 +53,7 @@ fn chosen() {
     show(two(4, held(0, 3, -2, 2), held(1, 1, 0, 4)));
     show(two(4, held(1, -10000, 1, 2), held(1, 10000, 0, 4)));
     show(two(7, loose(held(3, 5, 0, 2)), held(2, 3, 0, 2)));
-    show(needing(two(3, held(1, 2, 0, 3), held(1, 1, 0, 3)), 1, 2));
+    show(needing(two(3, held(1, 2, 0, 3), held(1, 1, 0, 3)), 0, 1, 2));
     show(two(-1, held(1, 1, 0, 1), held(1, 1, 0, 1)));
     show(two(0, from_zero(-1, 1), held(1, 1, 0, 1)));
 }
@@ -86,27 +69,16 @@ struct Counts {
     wrong: u64,
 }
 
-fn cheaper(x: ModelItem, d: i64) -> ModelItem {
-    let m = x.mark;
-    let l = x.lower;
-    let u = x.upper;
-    ModelItem {
-        mark: m,
-        low: x.low,
-        high: x.high,
-        price: minus(x.price, d),
-        lower: l,
-        upper: u,
-    }
-}
-
 // The record with the price of item k lowered by d; no entry takes it.
 fn lowered(m: Model, k: usize, d: i64) -> Model
     requires { k ≤ 15 }
 {
-    let items = m.items;
-    let x = items[k];
-    setters::with_item(m, k, cheaper(x, d))
+    let x = m.items[k];
+    let cheaper = ModelItem {
+        price: minus(x.price, d),
+        ..x
+    };
+    setters::with_item(m, k, cheaper)
 }
 
 // Whether the point shown, worth v before and with the amount x of item k, is best still after a fall of d.
@@ -117,24 +89,33 @@ fn is_best_after(m: Model, n: usize, k: usize, d: i64, v: Fraction, x: Fraction,
     let b = best_value(shut_problem(sure, n, reach), n);
     let q = as_signed(v.q);
     let r = as_signed(x.q);
-    let p = minus(times(v.p, r), times(times(d, x.p), q));
-    !below(p, times(q, r), b.p, b.q)
+    let after = Ratio {
+        p: minus(times(v.p, r), times(times(d, x.p), q)),
+        q: times(q, r),
+    };
+    !is_above(b, after)
 }
 
 // One fall more: what is told of it, and what is so.
 fn with_fall(c: Counts, told: bool, is_so: bool) -> Counts {
     Counts {
-        best: c.best,
-        some: c.some,
         tried: one_more(c.tried, true),
         wrong: one_more(c.wrong, told != is_so),
+        ..c
     }
 }
 
 // Farther off than is enumerated: where some lower bound is absent the point shown may be.
 fn is_far(x: Fraction, reach: i64) -> bool {
-    let q = as_signed(x.q);
-    below(reach, 1, x.p, q) || below(x.p, q, times(reach, -1), 1)
+    let r = ratio_of(x);
+    is_less(Ratio { p: reach, q: 1 }, r)
+        || is_less(
+            r,
+            Ratio {
+                p: times(reach, -1),
+                q: 1,
+            },
+        )
 }
 
 // The falls of item k up to 29, and the last.
@@ -142,30 +123,21 @@ fn with_item_falls(start: Counts, m: Model, w: Falls, n: usize, k: usize, reach:
     requires { (n ≤ 15) × (k ≤ 15) }
 {
     let a = w.answer;
-    let v = a.value;
-    let point = a.point;
-    let x = point[k];
+    let x = a.point[k];
     if is_far(x, reach) {
         return start;
     }
-    let of = w.of;
-    let fall = as_signed(of[k]);
-    let items = m.items;
-    let i = items[k];
-    let last = plus(i.price, 10000);
+    let fall = as_signed(w.of[k]);
+    let last = plus(m.items[k].price, 10000);
     let mut c = start;
-    let mut d: u64 = 1;
-    while d < 31 {
+    for d in 1..31 {
         let e = if d == 30 { last } else { as_signed(d) };
         let told = fall == 0 || e < fall;
-        c = with_fall(c, told, is_best_after(m, n, k, e, v, x, reach));
-        d += 1;
+        c = with_fall(c, told, is_best_after(m, n, k, e, a.value, x, reach));
     }
     Counts {
-        best: c.best,
         some: one_more(c.some, 0 < fall),
-        tried: c.tried,
-        wrong: c.wrong,
+        ..c
     }
 }
 
@@ -177,10 +149,8 @@ fn with_problem(start: Counts, m: Model, n: usize, reach: i64) -> Counts
         return start;
     }
     let mut c = start;
-    let mut k: usize = 0;
-    while k < n {
+    for k in 0..n {
         c = with_item_falls(c, m, w, n, k, reach);
-        k += 1;
     }
     if start.wrong != c.wrong {
         print(b"disagreement: ");
@@ -190,9 +160,7 @@ fn with_problem(start: Counts, m: Model, n: usize, reach: i64) -> Counts
     }
     Counts {
         best: one_more(c.best, true),
-        some: c.some,
-        tried: c.tried,
-        wrong: c.wrong,
+        ..c
     }
 }
 
@@ -205,13 +173,10 @@ struct Drawing {
 }
 
 fn drawn_record(state: u64, n: usize, z: Drawing) -> DrawnProblem {
-    let s = z.spans;
-    let d = drawn_problem(state, n, s);
-    let p = d.problem;
-    let e = with_drawn_needs(p, d.state, z.among);
+    let d = drawn_problem(state, n, z.spans);
+    let e = with_drawn_needs(d.problem, d.state, z.among);
     if z.ranged {
-        let q = e.problem;
-        return with_drawn_ranges(q, e.state, 1, 3);
+        return with_drawn_ranges(e.problem, e.state, 1, 3);
     }
     e
 }
@@ -226,13 +191,10 @@ fn counts_of(seed: u64, problems: u64, n: usize, z: Drawing, reach: i64) -> Coun
         wrong: 0,
     };
     let mut state = seed;
-    let mut k: u64 = 0;
-    while k < problems {
+    for _ in 0..problems {
         let d = drawn_record(state, n, z);
-        let m = d.problem;
-        c = with_problem(c, m, n, reach);
+        c = with_problem(c, d.problem, n, reach);
         state = d.state;
-        k += 1;
     }
     c
 }
@@ -244,24 +206,21 @@ fn small(absent: u64, loose: u64, among: u64) -> Drawing {
         bound: 2,
         capacity: 9,
         unit: 1,
-        absent: absent,
-        loose: loose,
+        absent,
+        loose,
         crossing: 0,
     };
     Drawing {
-        spans: spans,
-        among: among,
+        spans,
+        among,
         ranged: false,
     }
 }
 
 fn ranged(absent: u64, loose: u64, among: u64) -> Drawing {
-    let z = small(absent, loose, among);
-    let spans = z.spans;
     Drawing {
-        spans: spans,
-        among: among,
         ranged: true,
+        ..small(absent, loose, among)
     }
 }
 

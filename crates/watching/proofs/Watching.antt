@@ -19,12 +19,11 @@ use Rattle.arith.proofs.Parts.{impossible}
 use Rattle.arith.specs.Sum.{Each}
 use Rattle.knapsack.specs.Items.{with_item}
 use Rattle.knapsack.specs.Ranges.{blank, item_at}
-use Rattle.knapsack.specs.declared.Bound.TheVariants.{Absent}
+use Rattle.std.specs.Prelude.{None}
 use Rattle.knapsack.specs.declared.Kind.{Kind}
 use Rattle.knapsack.specs.declared.Kind.TheVariants as kind
 use Rattle.knapsack.specs.declared.Mark.TheVariants.{Integer}
 use Rattle.knapsack.specs.declared.Problem.{Problem}
-use Rattle.ordering.specs.Order.{order}
 use Rattle.ordering.specs.Ranking.{Small, Ranged, Sorted}
 use Rattle.ordering.proofs.Order.{MayPrecede, Ordered, order-before, order-cong, in_order_lem}
 use Rattle.ordering.proofs.Permutations.{onto}
@@ -103,7 +102,7 @@ module _ (of : List ℕ) (n : ℕ) where
         record { first = t.first ∙ order-cong (item_at p) (λ k. fall_item (get_or of k 0)) n h.items; below = t.below }
 
 -- a fall that is not none
-pub some_item_lem : (d : ℕ) → (d ≡ 0 → ⊥) → record { mark = Integer; weight = pos 1; price = neg_ℤ (pos d); lower = Absent; upper = Absent } ≡ fall_item d
+pub some_item_lem : (d : ℕ) → (d ≡ 0 → ⊥) → record { mark = Integer; weight = pos 1; price = neg_ℤ (pos d); lower = None; upper = None } ≡ fall_item d
 some_item_lem zero h = absurd (h refl)
 some_item_lem (suc d) h = refl
 

@@ -14,20 +14,20 @@
 use Rattle.std.specs.Prelude.{cond, List, [], ◌∷◌, ◌++◌, ◌⊎◌, ◌≢◌, ◌≡◌, ℕ, zero, suc, ◌≤◌, ◌<◌, eqb, pos, negsuc, get_or, length}
 use Rattle.knapsack.specs.Meaning.{bare}
 use Rattle.knapsack.specs.Ranges.{blank, item_at}
-use Rattle.knapsack.specs.declared.Bound.TheVariants.{Absent}
+use Rattle.std.specs.Prelude.{None}
 use Rattle.knapsack.specs.declared.Item.{Item}
 use Rattle.knapsack.specs.declared.Kind.{Kind}
 use Rattle.knapsack.specs.declared.Kind.TheVariants as kind
 use Rattle.knapsack.specs.declared.Mark.TheVariants.{Integer}
 use Rattle.knapsack.specs.declared.Problem.{Problem}
-use Rattle.knapsack.specs.declared.Verdict.{Verdict}
-use Rattle.knapsack.specs.declared.Verdict.TheVariants.{Accepted, Refused}
+use Rattle.knapsack.specs.Verdicts.{Verdict}
+use Rattle.std.specs.Prelude.{Ok, Err, Result}
+use Rattle.knapsack.specs.declared.Refusal.{Refusal}
 use Rattle.model.specs.declared.Model.{Model}
 use Rattle.ordering.specs.Order.{order}
 use Rattle.text.specs.Buffer.{Shows, told, filled, noted}
 use Rattle.text.specs.Decimal.{decimal}
 use Rattle.text.specs.Layout.{line}
-use Rattle.text.specs.declared.Listed.{Listed}
 use Rattle.text.specs.declared.Text.{Text}
 use Rattle.listing.specs.Printing.{listed, printed, unless_refused}
 use Rattle.sheet.specs.Reading.{read_sheet}
@@ -39,7 +39,7 @@ use Rattle.ranging.specs.declared.Falls.{Falls}
 
 abbrev pub fall_item : ℕ → Item
 fall_item zero = blank
-fall_item (suc d) = record { mark = Integer; weight = pos 1; price = negsuc d; lower = Absent; upper = Absent }
+fall_item (suc d) = record { mark = Integer; weight = pos 1; price = negsuc d; lower = None; upper = None }
 
 abbrev pub watch_order : (ℕ → ℕ) → ℕ → ℕ → ℕ
 watch_order f n u = get_or (order (λ k. fall_item (f k)) n) u 0
@@ -89,8 +89,8 @@ watched n w = watched_as w.answer.kind n w
 -- ---- from end to end
 
 abbrev pub WatchedAs : Model → Falls → Verdict → Type 0
-WatchedAs m w Accepted = FallsOf m w
-WatchedAs m w (Refused f) = w ≡ no_falls (bare (kind.Refused f))
+WatchedAs m w (Ok _) = FallsOf m w
+WatchedAs m w (Err f) = w ≡ no_falls (bare (kind.Refused f))
 
 abbrev pub ReadFalls : Reading → Falls → Type 0
 ReadFalls r w = WatchedAs r.model w r.verdict
@@ -100,7 +100,7 @@ pub record Watches (s : List ℕ) (t : Text) : Type 0 where
   pub is_true : ReadFalls (read_sheet s) falls
   pub shown : Shows (watched (read_sheet s).model.count falls) t
 
-pub record WatchLists (T : Falls → Type 0) (n : ℕ) (b c : List ℕ) (r : Listed) : Type 0 where
+pub record WatchLists (T : Falls → Type 0) (n : ℕ) (b c : List ℕ) (r : Result ℕ Refusal) : Type 0 where
   pub falls : Falls
   pub is_true : T falls
   pub told_is : r ≡ unless_refused falls.answer.kind noted (told (watched n falls) b)

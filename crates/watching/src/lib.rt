@@ -8,7 +8,7 @@ ghost use Rattle.std.specs.Prelude.{◌≡◌, ◌+◌, ◌*◌, ◌≤◌, ◌<
 ghost use Rattle.ordering.specs.Ranking.{Places, Sorted};
 ghost use Rattle.ranging.specs.Ranging.{FallsOf};
 ghost use Rattle.text.specs.Buffer.{Put, Shows, told, filled, noted};
-ghost use Rattle.listing.specs.Printing.{listed, unless_refused};
+ghost use Rattle.listing.specs.Printing.{unless_refused};
 ghost use Rattle.sheet.specs.Reading.{read_sheet};
 ghost use Rattle.watching.specs.Watching.{
   fall_item,
@@ -23,7 +23,7 @@ ghost use Rattle.watching.specs.Watching.{
   WatchLists,
 };
 
-use knapsack::{Bound, Item, Kind, Mark, Problem, Verdict, blank_item, with_item};
+use knapsack::{Item, Kind, Mark, Problem, Refusal, blank_item, with_item};
 use listing::text_one;
 use model::Model;
 use ordering::{Ranking, rank};
@@ -31,7 +31,7 @@ use planner::is_optimal;
 use ranging::{Falls, no_falls, price_falls};
 use sheet::{Reading, read};
 use solver::no_point;
-use text::{Listed, Text, hand_over, put_natural, put_word};
+use text::{Text, hand_over, put_natural, put_word};
 
 // ---- the order
 
@@ -47,8 +47,8 @@ fn fall_item(d: u64) -> Item
         mark: Mark::Integer,
         weight: 1,
         price: 0 - n,
-        lower: Bound::Absent,
-        upper: Bound::Absent,
+        lower: None,
+        upper: None,
     }
 }
 
@@ -63,17 +63,13 @@ fn fall_items(of: [u64; 16], n: usize) -> Problem
     requires { (n ≤ 16) × SmallFalls of }
     ensures { FallItems of n n result }
 {
-    let items = blank_items();
     let mut p = Problem {
-        items: items,
+        items: blank_items(),
         count: n,
         capacity: 0,
     };
-    let mut k: usize = 0;
-    while k < n {
-        let d = of[k];
-        p = with_item(p, k, fall_item(d));
-        k += 1;
+    for k in 0..n {
+        p = with_item(p, k, fall_item(of[k]));
     }
     p
 }
@@ -105,13 +101,10 @@ fn put_falls(out: &mut [u8], of: [u64; 16], at: [usize; 16], n: usize) -> usize
     requires { (n ≤ 16) × ((42 * n ≤ length out.old) × Places at) }
     ensures { Put (42 * n) 0 (fall_lines (λ k. get_or of k 0) (λ u. get_or at u 0) n) out.old out.new result }
 {
-    let mut next: usize = 0;
-    let mut u: usize = 0;
-    while u < n {
+    let mut next = 0;
+    for u in 0..n {
         let k = at[u];
-        let d = of[k];
-        next = put_fall(out, next, k, d);
-        u += 1;
+        next = put_fall(out, next, k, of[k]);
     }
     next
 }
@@ -120,20 +113,10 @@ fn fall_lines(of: [u64; 16], n: usize) -> Text
     requires { (n ≤ 16) × SmallFalls of }
     ensures { Shows (fall_lines (λ k. get_or of k 0) (watch_order (λ k. get_or of k 0) n) n) result }
 {
-    let r = fall_order(of, n);
-    let at = r.at;
+    let order = fall_order(of, n);
     let mut bytes = text::space();
-    let len = put_falls(&mut bytes, of, at, n);
-    Text {
-        bytes: bytes,
-        len: len,
-    }
-}
-
-fn listed_items(n: usize) -> usize
-    ensures { result ≡ listed n }
-{
-    if n < 16 { n } else { 16 }
+    let len = put_falls(&mut bytes, of, order.at, n);
+    Text { bytes, len }
 }
 
 // The text of falls about n items.
@@ -141,36 +124,31 @@ fn falls_text(w: Falls, n: usize) -> Text
     requires { SmallFalls w.of }
     ensures { Shows (watched n w) result }
 {
-    let a = w.answer;
-    if is_optimal(a) {
-        let of = w.of;
-        return fall_lines(of, listed_items(n));
+    if is_optimal(w.answer) {
+        fall_lines(w.of, n.min(16))
+    } else {
+        text_one(w.answer, n)
     }
-    text_one(a, n)
 }
 
 // The same at the start of a lent buffer, whatever the answer's kind.
-fn list_text(w: Falls, n: usize, out: &mut [u8]) -> Listed
+fn list_text(w: Falls, n: usize, out: &mut [u8]) -> Result<usize, Refusal>
     requires { SmallFalls w.of }
     ensures value { result ≡ told (watched n w) out.old }
     ensures out_after { out.new ≡ filled (watched n w) out.old }
 {
     let t = falls_text(w, n);
-    let bytes = t.bytes;
-    let len = t.len;
-    hand_over(&bytes[..len], out)
+    hand_over(&t.bytes[..t.len], out)
 }
 
 // A refusal is told itself and writes nothing.
-fn list_watched(w: Falls, n: usize, out: &mut [u8]) -> Listed
+fn list_watched(w: Falls, n: usize, out: &mut [u8]) -> Result<usize, Refusal>
     requires { SmallFalls w.of }
     ensures value { result ≡ unless_refused w.answer.kind noted (told (watched n w) out.old) }
     ensures out_after { out.new ≡ unless_refused w.answer.kind (λ f. out.old) (filled (watched n w) out.old) }
 {
-    let a = w.answer;
-    let kind = a.kind;
-    if let Kind::Refused(f) = kind {
-        return Listed::Refused(f);
+    if let Kind::Refused(f) = w.answer.kind {
+        return Err(f);
     }
     list_text(w, n, out)
 }
@@ -184,8 +162,8 @@ fn falls_read(r: Reading) -> Falls
     let v = r.verdict;
     let m = r.model;
     match v {
-        Verdict::Accepted => price_falls(m),
-        Verdict::Refused(f) => no_falls(no_point(Kind::Refused(f))),
+        Ok(()) => price_falls(m),
+        Err(f) => no_falls(no_point(Kind::Refused(f))),
     }
 }
 
@@ -201,7 +179,7 @@ pub fn watch_text(sheet: &[u8]) -> Text
 
 // The text of the falls of a record in a lent buffer: its refusal, or refusal 11 if the buffer is too short, and no byte changes; else the text at the
 // start of the buffer, and the bytes behind it stay.
-pub fn list_falls(m: Model, out: &mut [u8]) -> Listed
+pub fn list_falls(m: Model, out: &mut [u8]) -> Result<usize, Refusal>
     ensures { WatchLists (FallsOf m) m.count out.old out.new result }
 {
     let w = price_falls(m);
@@ -209,7 +187,7 @@ pub fn list_falls(m: Model, out: &mut [u8]) -> Listed
 }
 
 // The same for a sheet: its own refusal, with its line, comes first.
-pub fn list_sheet_falls(sheet: &[u8], out: &mut [u8]) -> Listed
+pub fn list_sheet_falls(sheet: &[u8], out: &mut [u8]) -> Result<usize, Refusal>
     ensures { WatchLists (ReadFalls (read_sheet sheet.now)) (read_sheet sheet.now).model.count out.old out.new result }
 {
     let r = read(sheet);

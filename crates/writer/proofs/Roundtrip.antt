@@ -13,12 +13,11 @@ use native.Mathlib.Omega.{arith}
 use native.Mathlib.Decide.{dec_lt}
 use lib.ListN.{length, take, get_or, replicate, length-append, length-replicate, get_or-replicate, get_or-append, get_or-eq_default}
 use lib.Seq.{length-take-le, get_or-take, get_or-append-add}
-use Rattle.knapsack.specs.declared.Verdict.TheVariants.{Accepted}
+use Rattle.std.specs.Prelude.{Ok}
 use Rattle.model.specs.declared.Blanks.TheVariants as blanks
 use Rattle.model.specs.declared.Model.{Model}
 use Rattle.model.specs.declared.Side.{Side}
 use Rattle.model.specs.declared.Side.TheVariants.{Lower, Upper}
-use Rattle.model.specs.declared.Need.{Need}
 use Rattle.model.specs.Needs.{no_need}
 use Rattle.model.specs.Records.{no_item, item_at, need_at, verdict, Agree}
 use Rattle.model.proofs.BeyondCount.{beyond-verdict}
@@ -50,7 +49,7 @@ agree-text m o a =
     ap₂ ◌++◌ (ap (λ b. section_text limit_form limit (b ∷ [])) a.capacity)
     (ap₂ ◌++◌ (ap (section_text item_form items) i) (ap₂ ◌++◌ (agree-side Lower m o a) (ap₂ ◌++◌ (agree-side Upper m o a) (agree-needs m o a))))
 
-pub agree-accepted : (m o : Model) → Agree m o → verdict m ≡ Accepted → verdict o ≡ Accepted
+pub agree-accepted : (m o : Model) → Agree m o → verdict m ≡ Ok tt → verdict o ≡ Ok tt
 agree-accepted m o a h = sym (beyond-verdict m o a blanks.Refused) ∙ h
 
 -- ---- the record as the reader fills it
@@ -86,7 +85,7 @@ pub record Sized (m : Model) : Type 0 where
   pub places : length m.items ≡ 16
   pub lines : length m.needs.lines ≡ 16
 
-module _ (m : Model) (size : Sized m) (h : verdict m ≡ Accepted) where
+module _ (m : Model) (size : Sized m) (h : verdict m ≡ Ok tt) where
   pub tidied-agrees : Agree m (tidied m)
   tidied-agrees = record {
     count = refl;
@@ -105,7 +104,7 @@ module _ (m : Model) (size : Sized m) (h : verdict m ≡ Accepted) where
   }
 
 -- the sheet of an accepted record is that of the reader's
-tidied-sheet : (m : Model) → Sized m → verdict m ≡ Accepted → SheetOf (printing m) (tidied m)
+tidied-sheet : (m : Model) → Sized m → verdict m ≡ Ok tt → SheetOf (printing m) (tidied m)
 tidied-sheet m size h =
     let a = tidied-agrees m size h in
     record { fair = agree-accepted m (tidied m) a h; tidy = tidied-tidy m size h; text = agree-text m (tidied m) a }
@@ -113,15 +112,15 @@ tidied-sheet m size h =
 -- ---- both ways
 
 -- End theorem: reading what was written gives that problem.
-pub written_read : (m : Model) → Sized m → verdict m ≡ Accepted → read_sheet (printing m) ≡ record { verdict = Accepted; model = tidied m }
+pub written_read : (m : Model) → Sized m → verdict m ≡ Ok tt → read_sheet (printing m) ≡ record { verdict = Ok tt; model = tidied m }
 written_read m size h = sheet-accepted (printing m) (tidied m) (tidied-sheet m size h)
 
 -- End theorem: writing what was read gives the very bytes.
-pub read-written : (s : List ℕ) (m : Model) → read_sheet s ≡ record { verdict = Accepted; model = m } → (verdict m ≡ Accepted) × (printing m ≡ s)
+pub read-written : (s : List ℕ) (m : Model) → read_sheet s ≡ record { verdict = Ok tt; model = m } → (verdict m ≡ Ok tt) × (printing m ≡ s)
 read-written s m h = let t = accepted-sheet s m h in (t.fair, sym t.text)
 
 -- End theorem: two accepted problems have equal sheets only if they agree.
-pub equal-sheets : (m o : Model) → Sized m → Sized o → verdict m ≡ Accepted → verdict o ≡ Accepted →
+pub equal-sheets : (m o : Model) → Sized m → Sized o → verdict m ≡ Ok tt → verdict o ≡ Ok tt →
     printing m ≡ printing o → Agree m o
 equal-sheets m o size other h g e =
     let t = tidied-sheet o other g in

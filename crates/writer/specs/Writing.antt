@@ -4,16 +4,16 @@
 -- That two records are one problem is crate model's `Agree`.
 use Rattle.std.specs.Prelude.{◌++◌, ◌-◌, take, replicate}
 use Rattle.knapsack.specs.declared.Refusal.{Refusal}
-use Rattle.knapsack.specs.declared.Verdict.{Verdict}
-use Rattle.knapsack.specs.declared.Verdict.TheVariants.{Accepted, Refused}
+use Rattle.knapsack.specs.Verdicts.{Verdict}
+use Rattle.std.specs.Prelude.{Ok, Err}
 use Rattle.model.specs.declared.Model.{Model}
 use Rattle.model.specs.Needs.{no_need}
 use Rattle.model.specs.Records.{no_item}
 use Rattle.model.specs.Setters.{with_items, with_needs}
 
 abbrev pub on_accepted : {A : Type 0} → Verdict → (Refusal → A) → A → A
-on_accepted Accepted f x = x
-on_accepted (Refused r) f x = f r
+on_accepted (Ok _) f x = x
+on_accepted (Err r) f x = f r
 
 abbrev pub tidied : Model → Model
 tidied m =

@@ -6,14 +6,9 @@
 // `disagreements` counts the records for which one of these fails.
 #![tactic(auto)]
 
-ghost use Rattle.std.specs.Prelude.{◌≡◌, length};
-
-use knapsack::{Bound, Mark, Verdict};
+use knapsack::{Mark, Refusal};
 use model::naming::no_need;
 use model::{Model, ModelItem, Need, setters};
-use sheet::Reading;
-use text::Listed;
-use trials::bytes::same_from;
 use trials::count::{one_more, print_count};
 use trials::draw::{DrawnProblem, Spans, drawn_problem, small};
 use trials::make;
@@ -25,176 +20,49 @@ use trials::ranges::with_drawn_ranges;
 #[derive(Clone, Copy)]
 struct Kept {
     bytes: [u8; 1500],
-    told: Listed,
-}
-
-fn hashes() -> [u8; 1500]
-    ensures { length result ≡ 1500 }
-{
-    [b'#'; 1500]
-}
-
-fn write_in_part(m: Model, out: &mut [u8], size: usize) -> Listed {
-    if out.len() < size {
-        return writer::write_sheet(m, out);
-    }
-    writer::write_sheet(m, &mut out[..size])
+    told: Result<usize, Refusal>,
 }
 
 fn written(m: Model, size: usize) -> Kept {
-    let mut bytes = hashes();
-    let told = write_in_part(m, &mut bytes, size);
-    Kept {
-        bytes: bytes,
-        told: told,
-    }
+    let mut bytes = [b'#'; 1500];
+    let told = writer::write_sheet(m, &mut bytes[..size.min(1500)]);
+    Kept { bytes, told }
 }
 
 // ---- comparing
 
-fn same_bytes(k: Kept, o: Kept) -> bool {
-    let a = k.bytes;
-    let b = o.bytes;
-    same_from(&a, &b, 0)
-}
-
 // From a place on nothing was written.
 fn untouched(k: Kept, from: usize) -> bool {
-    let a = k.bytes;
-    let b = hashes();
-    same_from(&a, &b, from)
+    k.bytes.iter().skip(from).all(|b| *b == b'#')
 }
 
 fn is_written(k: Kept, n: usize) -> bool {
-    let t = k.told;
-    match t {
-        Listed::Written(l) => l == n,
-        Listed::Refused(_) => false,
-    }
+    k.told == Ok(n)
 }
 
 fn is_refused(k: Kept, number: u64) -> bool {
-    let t = k.told;
-    match t {
-        Listed::Written(_) => false,
-        Listed::Refused(f) => f.number == number && f.line == 0,
-    }
+    k.told == Err(Refusal { number, line: 0 })
 }
 
 fn length_of(k: Kept) -> usize {
-    let t = k.told;
-    match t {
-        Listed::Written(l) => l,
-        Listed::Refused(_) => 0,
-    }
+    k.told.unwrap_or(0)
 }
 
-fn is_continuous(m: Mark) -> bool {
-    match m {
-        Mark::Integer => false,
-        Mark::Continuous => true,
-    }
-}
-
-fn same_bound(a: Bound, b: Bound) -> bool {
-    match a {
-        Bound::Absent => knapsack::is_absent(b),
-        Bound::At(v) => match b {
-            Bound::Absent => false,
-            Bound::At(w) => v == w,
-        },
-    }
-}
-
-fn same_item(x: ModelItem, y: ModelItem) -> bool {
-    let m = x.mark;
-    let n = y.mark;
-    if is_continuous(m) != is_continuous(n) {
-        return false;
-    }
-    if x.low != y.low || x.high != y.high || x.price != y.price {
-        return false;
-    }
-    let l = x.lower;
-    let u = x.upper;
-    let k = y.lower;
-    let v = y.upper;
-    same_bound(l, k) && same_bound(u, v)
-}
-
-// The item that the reader leaves at a place: the record's, or a blank one beyond the count.
-fn item_read(m: Model, k: usize) -> ModelItem {
-    if k < m.count && k < 16 {
-        return m.items[k];
-    }
-    model::no_item()
-}
-
-// The line of needs that the reader leaves: the record's, or an unused one beyond the count.
-fn need_read(m: Model, j: usize) -> Need {
-    let ns = m.needs;
-    if j < ns.count && j < 16 {
-        return ns.lines[j];
-    }
-    no_need()
-}
-
-fn same_needs(m: Model, o: Model) -> bool {
-    let ms = m.needs;
-    let os = o.needs;
-    if ms.count != os.count {
-        return false;
-    }
-    let mut j: usize = 0;
-    while j < 16 {
-        let x = need_read(m, j);
-        let y = os.lines[j];
-        if x.item != y.item || x.cover != y.cover {
-            return false;
-        }
-        j += 1;
-    }
-    true
-}
-
-// Whether o has m's capacity and items, as the reader fills it.
-fn same_items(m: Model, o: Model) -> bool {
-    if m.count != o.count || m.capacity != o.capacity {
-        return false;
-    }
-    let mut k: usize = 0;
-    while k < 16 {
-        let y = o.items[k];
-        if !same_item(item_read(m, k), y) {
-            return false;
-        }
-        k += 1;
-    }
-    true
+// The record as the reader leaves it: blank items and unused lines beyond its counts.
+fn as_read(m: Model) -> Model {
+    let mut o = m;
+    o.items[m.count.min(16)..].fill(model::no_item());
+    o.needs.lines[m.needs.count.min(16)..].fill(no_need());
+    o
 }
 
 // ---- write, read, write
 
-fn read_first(s: &[u8], n: usize) -> Reading {
-    if s.len() < n {
-        return sheet::read(s);
-    }
-    sheet::read(&s[..n])
-}
-
 // What was written is read as the same problem, and what was read is written as the same bytes.
 fn comes_back(m: Model, k: Kept) -> bool {
-    let bytes = k.bytes;
-    let n = length_of(k);
-    let r = read_first(&bytes, n);
-    let v = r.verdict;
+    let r = sheet::read(&k.bytes[..length_of(k).min(1500)]);
     let o = r.model;
-    match v {
-        Verdict::Accepted => {
-            same_items(m, o) && same_needs(m, o) && same_bytes(k, written(o, 1500))
-        }
-        Verdict::Refused(_) => false,
-    }
+    r.verdict.is_ok() && o == as_read(m) && k.bytes == written(o, 1500).bytes
 }
 
 // Buffers of just the sheet's length, and of a byte less.
@@ -205,7 +73,7 @@ fn fits(m: Model, k: Kept) -> bool {
     }
     let exact = written(m, n);
     let short = written(m, n - 1);
-    is_written(exact, n) && same_bytes(k, exact) && is_refused(short, 11) && untouched(short, 0)
+    is_written(exact, n) && k.bytes == exact.bytes && is_refused(short, 11) && untouched(short, 0)
 }
 
 fn holds(m: Model) -> bool {
@@ -217,12 +85,12 @@ fn holds(m: Model) -> bool {
 
 // So many lines and a record's, of counts that stay far below 2^64.
 fn more_needs(n: u64, m: Model) -> u64 {
-    let ns = m.needs;
-    let t = ns.count;
-    if 16 < t {
-        return n;
+    let t = m.needs.count;
+    if t <= 16 && n < 100000000 {
+        n + t as u64
+    } else {
+        n
     }
-    if n < 100000000 { n + t as u64 } else { n }
 }
 
 // Out of range, with bounds that cross: no entry looks at it beyond the count.
@@ -237,8 +105,7 @@ fn with_rubbish(m: Model) -> Model {
     } else {
         m
     };
-    let ns = n.needs;
-    if ns.count < 16 {
+    if n.needs.count < 16 {
         return setters::with_need(n, 15, Need { item: 99, cover: 0 });
     }
     n
@@ -247,13 +114,10 @@ fn with_rubbish(m: Model) -> Model {
 // With ranges for about half of the items.
 fn drawn(state: u64, n: usize, among: u64, s: Spans) -> DrawnProblem {
     let d = drawn_problem(state, n, s);
-    let m = d.problem;
-    let e = with_drawn_needs(m, d.state, among);
-    let p = e.problem;
-    let r = with_drawn_ranges(p, e.state, 1, s.weight);
-    let q = r.problem;
+    let e = with_drawn_needs(d.problem, d.state, among);
+    let r = with_drawn_ranges(e.problem, e.state, 1, s.weight);
     DrawnProblem {
-        problem: q,
+        problem: r.problem,
         state: e.state,
     }
 }
@@ -262,14 +126,12 @@ fn print_drawn(seed: u64, problems: u64, n: usize, among: u64, s: Spans) {
     let mut state = seed;
     let mut needs: u64 = 0;
     let mut wrong: u64 = 0;
-    let mut k: u64 = 0;
-    while k < problems {
+    for _ in 0..problems {
         let d = drawn(state, n, among, s);
         let m = d.problem;
         state = d.state;
         needs = more_needs(needs, m);
         wrong = one_more(wrong, !holds(with_rubbish(m)));
-        k += 1;
     }
     print_count(b"drawn, seed ", seed);
     print_count(b", problems ", problems);
@@ -287,7 +149,7 @@ fn wide(absent: u64) -> Spans {
         bound: 10000,
         capacity: 10000,
         unit: 10000,
-        absent: absent,
+        absent,
         loose: 2,
         crossing: 1,
     }
@@ -296,13 +158,12 @@ fn wide(absent: u64) -> Spans {
 // ---- chosen records
 
 fn print_told(k: Kept) {
-    let t = k.told;
-    match t {
-        Listed::Written(n) => {
+    match k.told {
+        Ok(n) => {
             print(b" written");
             print_field(n as u64);
         }
-        Listed::Refused(f) => {
+        Err(f) => {
             print(b" refused");
             print_field(f.number);
             print_field(f.line);
@@ -323,31 +184,19 @@ fn show(name: &[u8], m: Model) {
     print(b"\n");
 }
 
-fn all_places(x: ModelItem) -> [ModelItem; 16] {
-    [x; 16]
-}
-
 // The longest lines of items; five of them may be named, and 16 lines of needs take five.
 fn longest_items() -> [ModelItem; 16] {
     let x = make::held(-1000, -10000, -10000, -10000);
     let named = make::held(-1000, -10000, 10000, -10000);
-    let mut items = all_places(x);
-    items[11] = named;
-    items[12] = named;
-    items[13] = named;
-    items[14] = named;
-    items[15] = named;
+    let mut items = [x; 16];
+    items[11..].fill(named);
     items
 }
 
 // Two items of which the first may be named, and a need.
 fn needy(y: ModelItem, item: usize, cover: usize) -> Model {
     let m = make::two(0, make::held(1, 1, 0, 1), y);
-    let need = Need {
-        item: item,
-        cover: cover,
-    };
-    setters::with_need_count(setters::with_need(m, 0, need), 1)
+    make::needing(m, 0, item, cover)
 }
 
 fn show_chosen() {
@@ -355,67 +204,52 @@ fn show_chosen() {
     let longest = make::record_of(-100000000, 16, longest_items());
     show(b"longest", with_all_needs(longest, 11));
     let free = make::free(0, 1);
-    show(b"no bounds", make::record_of(0, 1, all_places(free)));
-    show(b"refused, count 0", make::record_of(0, 0, all_places(x)));
-    show(b"refused, count 17", make::record_of(0, 17, all_places(x)));
-    show(
-        b"refused, capacity",
-        make::record_of(100000001, 1, all_places(x)),
-    );
+    show(b"no bounds", make::record_of(0, 1, [free; 16]));
+    show(b"refused, count 0", make::record_of(0, 0, [x; 16]));
+    show(b"refused, count 17", make::record_of(0, 17, [x; 16]));
+    show(b"refused, capacity", make::record_of(100000001, 1, [x; 16]));
     show(b"refused, figures", make::one(0, rubbish()));
     show(b"refused, blank", make::one(0, make::free(0, 0)));
     show(b"bounds that cross", make::one(0, make::held(1, 1, 1, 0)));
 }
 
-fn ranged(low: i64, high: i64, price: i64, lower: Bound) -> ModelItem {
+fn ranged(low: i64, high: i64, price: i64, lower: Option<i64>) -> ModelItem {
     ModelItem {
         mark: Mark::Integer,
-        low: low,
-        high: high,
-        price: price,
-        lower: lower,
-        upper: Bound::At(3),
+        low,
+        high,
+        price,
+        lower,
+        upper: Some(3),
     }
 }
 
-fn show_range(name: &[u8], low: i64, high: i64, price: i64, lower: Bound) {
+fn show_range(name: &[u8], low: i64, high: i64, price: i64, lower: Option<i64>) {
     show(name, make::one(0, ranged(low, high, price, lower)));
 }
 
 fn show_ranges() {
-    show_range(b"a range", -1000, 1000, 1, Bound::At(0));
-    show_range(b"a range from 0, price 0", 0, 1, 0, Bound::At(0));
-    show_range(b"refused, low above high", 1, -1, 1, Bound::At(0));
-    show_range(
-        b"refused, low above high and price 0",
-        1,
-        0,
-        0,
-        Bound::At(0),
-    );
-    show_range(b"refused, low out of range", -1001, 0, 1, Bound::At(0));
-    show_range(b"refused, high out of range", 0, 1001, 1, Bound::At(0));
-    show_range(b"refused, a range from below 0", 0, 1, 1, Bound::At(-1));
-    show_range(
-        b"refused, a range with no lower bound",
-        0,
-        1,
-        1,
-        Bound::Absent,
-    );
+    show_range(b"a range", -1000, 1000, 1, Some(0));
+    show_range(b"a range from 0, price 0", 0, 1, 0, Some(0));
+    show_range(b"refused, low above high", 1, -1, 1, Some(0));
+    show_range(b"refused, low above high and price 0", 1, 0, 0, Some(0));
+    show_range(b"refused, low out of range", -1001, 0, 1, Some(0));
+    show_range(b"refused, high out of range", 0, 1001, 1, Some(0));
+    show_range(b"refused, a range from below 0", 0, 1, 1, Some(-1));
+    show_range(b"refused, a range with no lower bound", 0, 1, 1, None);
     let blank = make::free(0, 0);
-    let odd = ranged(1, 0, 1, Bound::At(0));
+    let odd = ranged(1, 0, 1, Some(0));
     show(
         b"refused, low above high behind a blank item",
         make::two(0, blank, odd),
     );
     show(
         b"refused, a blank item behind a range from below 0",
-        make::two(0, ranged(0, 1, 1, Bound::At(-1)), blank),
+        make::two(0, ranged(0, 1, 1, Some(-1)), blank),
     );
     show(
         b"refused, needs before a range from below 0",
-        needy(ranged(0, 1, 1, Bound::Absent), 1, 2),
+        needy(ranged(0, 1, 1, None), 1, 2),
     );
     show(
         b"refused, a range from below 0 behind needs",
@@ -425,7 +259,7 @@ fn show_ranges() {
 
 // A third item, with a range and no lower bound.
 fn with_last(m: Model) -> Model {
-    setters::with_item(setters::with_count(m, 3), 2, ranged(0, 1, 1, Bound::Absent))
+    setters::with_item(setters::with_count(m, 3), 2, ranged(0, 1, 1, None))
 }
 
 fn show_needs() {

@@ -5,16 +5,16 @@ use lib.IntN.{ℤ, pos}
 use lib.Signed.{lt_z}
 use Rattle.arith.proofs.Integers.{minℤ}
 use Rattle.arith.proofs.Words.{back}
-use Rattle.knapsack.specs.declared.Bound.TheVariants.{At}
+use Rattle.std.specs.Prelude.{Some}
 use Rattle.cases.proofs.Splitting.{cap}
 use borrow.Author.Rules.{rules}
 use Rattle.planner.proofs.cap.Statement.{statement}
 use Rattle.planner.proofs.cap.Tie as tie
 
 -- of a bound that is there
-held : (v : ℤ) (t : Bool) → lt_z (pos 0) v ≡ t → At (cond t (pos 0) (v)) ≡ cap (At v)
+held : (v : ℤ) (t : Bool) → lt_z (pos 0) v ≡ t → Some (cond t (pos 0) (v)) ≡ cap (Some v)
 unfolding minℤ
-held v t h = ap (λ (x : Bool). At (cond x (pos 0) (v))) (sym h)
+held v t h = ap (λ (x : Bool). Some (cond x (pos 0) (v))) (sym h)
 
 enum_told : tie.Need-enum_told-1
 enum_told c = search rules
@@ -22,22 +22,22 @@ enum_told c = search rules
 enum-known-b : tie.Need-enum_known-b
 enum-known-b c = search rules
 
-returns : tie.Need-returns-in-Absent
-returns c = sym (ap cap c.in-Absent.is)
+returns : tie.Need-returns-in-None
+returns c = sym (ap cap c.in-None.is)
 
 returns-2 : tie.Need-returns-then-u-gt0
 returns-2 c =
     let b = c.before in
-    let v = b.in-At.u in
-    let e = back v c.in-At.known_told-1-own.given.0.1 in
-    held v _ (rw e at c.if-u-gt0.true) ∙ ap cap (sym b.in-At.is)
+    let v = b.in-Some.u in
+    let e = back v c.in-Some.known_told-1-own.given.0.1 in
+    held v _ (rw e at c.if-u-gt0.true) ∙ ap cap (sym b.in-Some.is)
 
 returns-3 : tie.Need-returns-else-u-gt0
 returns-3 c =
     let b = c.before in
-    let v = b.in-At.u in
-    let e = back v c.in-At.known_told-1-own.given.0.1 in
-    rw e (held v _ (rw e at c.if-u-gt0.false) ∙ ap cap (sym b.in-At.is))
+    let v = b.in-Some.u in
+    let e = back v c.in-Some.known_told-1-own.given.0.1 in
+    rw e (held v _ (rw e at c.if-u-gt0.false) ∙ ap cap (sym b.in-Some.is))
 
 pub cap_spec : {M : Type 1} → statement M
 cap_spec = tie.close (tie.spec enum_told enum-known-b returns returns-2 returns-3)

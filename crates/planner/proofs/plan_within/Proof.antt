@@ -3,7 +3,7 @@ use mathlib.Core.Path.{◌≡◌, sym, ap, ◌∙◌, subst}
 use borrow.Author.Rules.{rules}
 use Rattle.knapsack.specs.Meaning.{instance_of}
 use Rattle.knapsack.specs.declared.Answer.{Answer}
-use Rattle.knapsack.specs.declared.Verdict.TheVariants.{Accepted}
+use Rattle.std.specs.Prelude.{Ok}
 use Rattle.model.specs.Needs.{AnswersNeeds}
 use Rattle.model.specs.Promises.{RepliesAs}
 use Rattle.model.specs.Records.{plain_of, needs_of, verdict}
@@ -23,8 +23,8 @@ plain-of-requires : tie.Need-plain_of-requires
 plain-of-requires c κs = search rules
 
 -- the record is accepted
-taken : (e : tie.In-Accepted) → verdict e.args.m ≡ Accepted
-taken e = sym e.check_model-v.ensures ∙ e.in-Accepted.is
+taken : (e : tie.In-Ok) → verdict e.args.m ≡ Ok tt
+taken e = sym e.check_model-v.ensures ∙ e.in-Ok.is
 
 solve-needs-requires : tie.Need-solve_needs-r-requires
 solve-needs-requires c κs = rw c.plain_of.ensures (needed _ _ (accepted _ (taken c.before.before)))
@@ -35,7 +35,7 @@ enum-known-v c = search rules
 no-point-requires : tie.Need-no_point-requires
 no-point-requires c κs = search rules
 
-returns : tie.Need-returns-in-Accepted
+returns : tie.Need-returns-in-Ok
 returns c =
     let r = c.before in
     let p = r.before in
@@ -51,13 +51,13 @@ returns c =
       first = rw p.plain_of.ensures at r.solve_needs-r.ensures.0.first;
     }
 
-returns-2 : tie.Need-returns-in-Refused
+returns-2 : tie.Need-returns-in-Err
 returns-2 c =
     let v = c.before in
     let k = v.before in
     let given = k.args in
     let m = given.m in
-    let is = sym k.check_model-v.ensures ∙ v.in-Refused.is in
+    let is = sym k.check_model-v.ensures ∙ v.in-Err.is in
     record {
       replies = subst (RepliesAs (instance_of (plain_of given.sense m)) (needs_of m.needs) c.no_point.result) (sym is) c.no_point.ensures;
       first = λ low e. absurd (not-refused c.no_point.result.kind _ (ap (λ (a : Answer). a.kind) c.no_point.ensures) e);

@@ -1,18 +1,17 @@
 -- One item more is loaded, or stored back; the core answers the query that the whole list makes.
-use mathlib.Core.Path.{refl, sym, ap, subst, ◌∙◌}
+use mathlib.Core.Path.{refl, ap, subst, ◌∙◌}
 use native.Mathlib.Numerals.{add-one}
-use Rattle.std.proofs.Common.{◌≡◌, ◌≤◌, ◌<◌, ◌++◌, take, drop, length, get_or, arith, rules, to_z, of_z, w64}
+use Rattle.std.proofs.Common.{◌≡◌, ◌<◌, ◌++◌, take, drop, length, get_or, arith, rules, to_z, of_z, w64}
 use lib.ListN.{set}
 use mir.Val.{SFits}
 use mir.Facts.{to_z-of_z}
-use Rattle.model.specs.declared.ModelItem.{ModelItem}
 use Rattle.model.specs.declared.Model.{Model}
 use Rattle.model.specs.Records.{no_item, item_at}
 use Rattle.model.specs.Promises.{Relaxed}
 use Rattle.relaxation.specs.declared.Query.{Query}
 use Rattle.ordering.proofs.Lists.{store-more}
-use Rattle.relaxation.specs.Lent.{usable, loaded, with_next, settled, Settles, Relaxes}
-use Rattle.relaxation.proofs.Lent.{load-more, load-all, settled-length, stored, after-length}
+use Rattle.relaxation.specs.Lent.{usable, loaded, with_next, settled, Relaxes}
+use Rattle.relaxation.proofs.Lent.{load-more, load-all, settled-length, stored}
 use Rattle.relaxation.proofs.relax_with.Goals as goal
 
 pub loop-i-preserved : goal.loop-i-preserved
@@ -21,9 +20,7 @@ loop-i-preserved c =
     let i = c.loop-i.i in
     let h : i < usable (length items) = omega (arith, c.loop-i.invariant.looked) in
     record {
-      inside = omega arith;
       looked = c.loop-i.invariant.looked;
-      counted = refl;
       copied = rw add-one (c.with_next-q.ensures ∙ ap (λ (q : Query). with_next q i (get_or items i no_item)) c.loop-i.invariant.copied
           ∙ load-more (to_z w64 (of_z w64 c.args.capacity)) c.args.terms items i h);
     }
@@ -36,7 +33,6 @@ loop-i-2-init c =
     let q : c.loop-i.q ≡ loaded b (length items) c.args.terms items =
     c.loop-i.invariant.copied ∙ ap (λ n. loaded b (length items) c.args.terms (take n items)) e ∙ load-all b c.args.terms items in
     record {
-      inside = omega arith;
       looked = c.loop-i.invariant.looked;
       model = c.core-o.ensures.model ∙ ap settled q;
       stored = refl;
@@ -52,10 +48,9 @@ loop-i-2-preserved c =
     ∙ settled-length (to_z w64 (of_z w64 c.args.capacity)) c.args.terms items in
     let h : i < usable (length items) = omega (arith, v.looked) in
     record {
-      inside = omega arith;
       looked = v.looked;
       model = v.model;
-      stored = rw add-one (ap (λ l. set l i c.nth.result) v.stored ∙ ap (set (take i model.items ++ drop i items) i) c.nth.ensures
+      stored = rw add-one (ap (λ l. set l i (item_at model i)) v.stored
           ∙ store-more no_item model.items items i (omega (arith, long)) (omega arith));
     }
 
@@ -71,7 +66,7 @@ returns c =
     let fits : SFits w64 c.args.capacity = search rules in
     let s = c.loop-i-2.invariant.stored ∙ ap (λ n. take n c.core-o.result.model.items ++ drop n items) f
     ∙ ap (λ m. take (usable (length items)) m.items ++ drop (usable (length items)) items) c.loop-i-2.invariant.model in
-    subst (λ z. Relaxes z t items c.loop-i-2.items c.answer_of.result) (to_z-of_z {w = w64} {z = c.args.capacity} fits) record {
+    subst (λ z. Relaxes z t items c.loop-i-2.items c.core-o.result.answer) (to_z-of_z {w = w64} {z = c.args.capacity} fits) record {
       list = s ∙ stored b t items;
-      reply = rw c.answer_of.ensures (subst (λ (q : Query). Relaxed q.sense q.model c.core-o.result.answer) q c.core-o.ensures.reply);
+      reply = subst (λ (q : Query). Relaxed q.sense q.model c.core-o.result.answer) q c.core-o.ensures.reply;
     }

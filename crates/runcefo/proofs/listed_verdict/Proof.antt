@@ -10,11 +10,11 @@ enum_told c = search rules
 enum-known-w : tie.Need-enum_known-w
 enum-known-w c = search rules
 
-returns : tie.Need-returns-in-Written
+returns : tie.Need-returns-in-Ok
 returns c = search rules
 
-returns-2 : tie.Need-returns-in-Refused
-returns-2 c = rw c.in-Refused.is refl
+returns-2 : tie.Need-returns-in-Err
+returns-2 c = rw c.in-Err.is refl
 
 pub listed_verdict_spec : {M : Type 1} → statement M
 listed_verdict_spec = tie.close (tie.spec enum_told enum-known-w returns returns-2)

@@ -3,8 +3,8 @@ use mathlib.Core.Path.{◌≡◌, ap, subst}
 use mathlib.Core.List.{List}
 use Prim.Native.Nat.{ℕ}
 use borrow.Author.Rules.{rules}
-use Rattle.knapsack.specs.declared.Verdict.{Verdict}
-use Rattle.knapsack.specs.declared.Verdict.TheVariants.{Accepted}
+use Rattle.knapsack.specs.Verdicts.{Verdict}
+use Rattle.std.specs.Prelude.{Ok}
 use Rattle.model.specs.Records.{Admissible}
 use Rattle.model.proofs.Records.{accepted}
 use Rattle.sheet.specs.declared.Reading.{Reading}
@@ -14,7 +14,7 @@ use Rattle.runcefo.specs.Entries.{Steps, Cells}
 use Rattle.runcefo.proofs.work_for.Statement.{statement}
 use Rattle.runcefo.proofs.work_for.Tie as tie
 
-fit : (s : List ℕ) → (read_sheet s).verdict ≡ Accepted → Admissible (read_sheet s).model
+fit : (s : List ℕ) → (read_sheet s).verdict ≡ Ok tt → Admissible (read_sheet s).model
 fit s h = let m = (read_sheet s).model in accepted m (accepted-sheet s m (ap (λ (v : Verdict). record { verdict = v; model = m }) h)).fair
 
 read-requires : tie.Need-read-r-requires

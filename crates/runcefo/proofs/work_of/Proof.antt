@@ -31,14 +31,14 @@ few-cells : (sense : Sense) (m : Model) (r : Solved) → Admissible m → Solves
 few-cells sense m r a h = omega (arith, h.answers.few-cells, mul-le-mul_right most_work (cases-most m.needs a.few-needs))
 
 -- the moments that are spoken of below
-abbrev start : tie.In-Accepted → tie.Start
+abbrev start : tie.In-Ok → tie.Start
 start t = t.before.before
 
-abbrev taken : tie.After-work_besides-b → tie.In-Accepted
+abbrev taken : tie.After-work_besides-b → tie.In-Ok
 taken c = c.before.before
 
-fair : (t : tie.In-Accepted) → Admissible (start t).args.r.model
-fair t = (start t).requires t.in-Accepted.is
+fair : (t : tie.In-Ok) → Admissible (start t).args.r.model
+fair t = (start t).requires t.in-Ok.is
 
 both-steps : (c : tie.After-work_besides-b) → c.solved_in-a.result.steps + c.work_besides-b.result.steps ≤ 262144000
 both-steps c =
@@ -69,25 +69,25 @@ add-t8 : tie.Need-overflow_add-result
 add-t8 c = omega (arith, both-steps c.before.before)
 
 -- behind the fields that are read
-abbrev behind : tie.After-struct_known-in-Accepted-3-1 → tie.After-work_besides-b
+abbrev behind : tie.After-struct_known-in-Ok-3-1 → tie.After-work_besides-b
 behind c = let k = c.before.before in k.before.before
 
-add-t9 : tie.Need-overflow_add-result-in-Accepted
+add-t9 : tie.Need-overflow_add-result-in-Ok
 add-t9 c = omega (arith, both-cells (behind c))
 
-enum-told-2 : tie.Need-enum_told-in-Refused
+enum-told-2 : tie.Need-enum_told-in-Err
 enum-told-2 c = search rules
 
-returns : tie.Need-returns-in-Accepted
+returns : tie.Need-returns-in-Ok
 returns c =
     let d = behind c in
     let a = d.solved_in-a in
     let b = d.work_besides-b in
-    rw (taken d).in-Accepted.is
+    rw (taken d).in-Ok.is
     ((a.result, b.result.steps, (a.ensures, (b.ensures.0, refl))), (a.result, b.result.cells, (a.ensures, (b.ensures.1, refl))))
 
-returns-2 : tie.Need-returns-in-Refused
-returns-2 c = rw c.in-Refused.is (refl, refl)
+returns-2 : tie.Need-returns-in-Err
+returns-2 c = rw c.in-Err.is (refl, refl)
 
 pub work_of_spec : {M : Type 1} → statement M
 work_of_spec =

@@ -1,5 +1,5 @@
 -- `solver::solve_within` meets its contract: bounds that cross leave no point; else the problem is in range.
-use mathlib.Core.Path.{◌≡◌, refl, sym, ◌∙◌}
+use mathlib.Core.Path.{refl, sym, ◌∙◌}
 use native.Mathlib.Omega.{arith}
 use borrow.Author.Rules.{rules}
 use Rattle.knapsack.specs.Ranges.{InRange}

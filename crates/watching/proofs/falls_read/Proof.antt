@@ -23,13 +23,13 @@ no-point-requires c κs = search rules
 no-falls-requires : tie.Need-no_falls-requires
 no-falls-requires c κs = search rules
 
-returns : tie.Need-returns-in-Accepted
-returns c = (rw c.in-Accepted.is c.price_falls.ensures, c.price_falls.ensures.small)
+returns : tie.Need-returns-in-Ok
+returns c = (rw c.in-Ok.is c.price_falls.ensures, c.price_falls.ensures.small)
 
-returns-2 : tie.Need-returns-in-Refused
+returns-2 : tie.Need-returns-in-Err
 returns-2 c =
     let e = c.no_falls.ensures ∙ ap no_falls c.no_point.ensures in
-    (rw c.in-Refused.is e, subst (λ (w : Falls). SmallFalls w.of) (sym e) no-small)
+    (rw c.in-Err.is e, subst (λ (w : Falls). SmallFalls w.of) (sym e) no-small)
 
 pub falls_read_spec : {M : Type 1} → statement M
 falls_read_spec =

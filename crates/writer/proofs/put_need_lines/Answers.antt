@@ -1,0 +1,32 @@
+use Rattle.std.proofs.Common.{◌≡◌, refl, sym, add-one, arith}
+use Rattle.model.proofs.Records.{unfaulted}
+use Rattle.text.proofs.Buffers.{put-nothing, puts, roomier}
+use Rattle.sheet.specs.Printing.{up_to}
+use Rattle.sheet.specs.Sections.{lines_text}
+use Rattle.sheet.proofs.Lengths.{numbers-few}
+use Rattle.writer.proofs.put_need_lines.Goals as goal
+
+pub put_need-next-requires : goal.put_need-next-requires
+put_need-next-requires c =
+    (omega arith, numbers-few c.args.m (unfaulted c.args.m c.requires.1) c.loop-k.k (omega arith))
+
+pub loop-k-init : goal.loop-k-init
+unfolding up_to lines_text
+loop-k-init c = record {
+  few = (unfaulted c.args.m c.requires.1).few-needs;
+  sized = refl;
+  put = record { short = omega arith; next = omega arith; bytes = sym (put-nothing c.args.at c.args.out.now) };
+}
+
+pub loop-k-preserved : goal.loop-k-preserved
+unfolding up_to lines_text
+loop-k-preserved c = record {
+  few = c.loop-k.invariant.few;
+  sized = omega arith;
+  put = rw add-one (roomier (omega arith) (puts (omega arith) c.loop-k.invariant.put c.put_need-next.ensures));
+}
+
+pub returns : goal.returns
+returns c =
+    let e : c.loop-k.k ≡ c.args.m.needs.count = omega arith in
+    roomier (omega arith) (rw e at c.loop-k.invariant.put)
