@@ -12,7 +12,7 @@ use model::{Model, ModelItem, setters};
 use ranging::{Falls, price_falls};
 use trials::count::{one_more, print_count};
 use trials::draw::{DrawnProblem, Spans, drawn_problem};
-use trials::enumerate::{best_value, is_above, minus};
+use trials::enumerate::{best_value, minus};
 use trials::exact::{Ratio, as_signed, is_less, plus, ratio_of, times};
 use trials::make::{first_of, free, from_zero, held, loose, needing, two};
 use trials::needs::with_drawn_needs;
@@ -86,14 +86,15 @@ fn is_best_after(m: Model, n: usize, k: usize, d: i64, v: Fraction, x: Fraction,
     requires { (n ≤ 15) × (k ≤ 15) }
 {
     let sure = at_ends(lowered(m, k, d), 65535);
-    let b = best_value(shut_problem(sure, n, reach), n);
+    let none = Ratio { p: 0, q: 1 };
+    let b = best_value(shut_problem(sure, n, reach), n).unwrap_or(none);
     let q = as_signed(v.q);
     let r = as_signed(x.q);
     let after = Ratio {
         p: minus(times(v.p, r), times(times(d, x.p), q)),
         q: times(q, r),
     };
-    !is_above(b, after)
+    !is_less(after, b)
 }
 
 // One fall more: what is told of it, and what is so.
