@@ -62,7 +62,8 @@ fn stopped(refusal: Refusal) -> Progress
     }
 }
 
-// A refusal, told at the line that holds a place.
+// A refusal, told at the line that holds a place. Inlined: where it is called, the result that its caller gives back is zeroed first, on good lines too.
+#[inline(always)]
 fn refused(s: &[u8], reason: Reason, at: usize) -> Progress
     ensures { result ≡ refused_at s.now reason at }
 {

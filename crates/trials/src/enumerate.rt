@@ -118,7 +118,7 @@ fn with_item(s: Sums, x: ModelItem, filler: bool) -> Sums {
 }
 
 // The weight and the value of a point.
-pub fn sums_of(p: Model, filler: usize, n: usize, number: u64) -> Sums
+pub fn sums_of(p: &Model, filler: usize, n: usize, number: u64) -> Sums
     requires { n ≤ 16 }
 {
     let mut s = Sums {
@@ -150,7 +150,7 @@ fn offered(best: Option<Ratio>, p: i64, q: i64) -> Option<Ratio> {
 }
 
 // A point with no filler.
-fn with_corner(best: Option<Ratio>, p: Model, s: Sums) -> Option<Ratio> {
+fn with_corner(best: Option<Ratio>, p: &Model, s: Sums) -> Option<Ratio> {
     if p.capacity < s.weight {
         return best;
     }
@@ -162,7 +162,7 @@ pub fn between(a: i64, x: i64, b: i64) -> bool {
 }
 
 // A point whose filler x takes room / weight, both of them with the sign that makes the weight positive.
-fn with_filler(best: Option<Ratio>, p: Model, x: ModelItem, s: Sums) -> Option<Ratio> {
+fn with_filler(best: Option<Ratio>, p: &Model, x: ModelItem, s: Sums) -> Option<Ratio> {
     let sign = if x.high < 0 { -1 } else { 1 };
     let a = times(x.high, sign);
     let room = times(minus(p.capacity, s.weight), sign);
@@ -173,7 +173,7 @@ fn with_filler(best: Option<Ratio>, p: Model, x: ModelItem, s: Sums) -> Option<R
 }
 
 // The point of a number, if it keeps the needs.
-fn with_point(best: Option<Ratio>, p: Model, filler: usize, n: usize, number: u64) -> Option<Ratio>
+fn with_point(best: Option<Ratio>, p: &Model, filler: usize, n: usize, number: u64) -> Option<Ratio>
     requires { n ≤ 15 }
 {
     if !keeps(p, filler, n, number) {
@@ -227,6 +227,6 @@ pub fn best_value(p: Model, n: usize) -> Option<Ratio>
     requires { n ≤ 15 }
 {
     over_points(None, p, n, |best, filler, number| {
-        with_point(best, p, filler, n, number)
+        with_point(best, &p, filler, n, number)
     })
 }

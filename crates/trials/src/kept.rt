@@ -19,7 +19,7 @@ fn rest_of(c: Choices, rest: u64) -> u64 {
 }
 
 // The amount of an item, by its number from 1: a digit of the point's number.
-fn amount_of(p: Model, filler: usize, n: usize, number: u64, item: usize) -> i64
+fn amount_of(p: &Model, filler: usize, n: usize, number: u64, item: usize) -> i64
     requires { n ≤ 16 }
 {
     let mut rest = number;
@@ -33,7 +33,7 @@ fn amount_of(p: Model, filler: usize, n: usize, number: u64, item: usize) -> i64
     0
 }
 
-fn keeps_need(p: Model, filler: usize, n: usize, number: u64, need: Need) -> bool
+fn keeps_need(p: &Model, filler: usize, n: usize, number: u64, need: Need) -> bool
     requires { n ≤ 16 }
 {
     let any = amount_of(p, filler, n, number, need.item);
@@ -42,7 +42,7 @@ fn keeps_need(p: Model, filler: usize, n: usize, number: u64, need: Need) -> boo
 }
 
 // Whether the point of a number keeps all needs. No filler is named in one.
-pub fn keeps(p: Model, filler: usize, n: usize, number: u64) -> bool
+pub fn keeps(p: &Model, filler: usize, n: usize, number: u64) -> bool
     requires { n ≤ 16 }
 {
     for need in p.needs.lines.iter().take(p.needs.count) {

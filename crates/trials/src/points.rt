@@ -63,7 +63,7 @@ fn walked(w: Walk, x: ModelItem, v: Fraction, k: usize, f: Filler) -> Walk {
     }
 }
 
-fn order_of(p: Model, a: Answer, n: usize, number: u64, f: Filler) -> Ordering
+fn order_of(p: &Model, a: &Answer, n: usize, number: u64, f: Filler) -> Ordering
     requires { n ≤ 15 }
 {
     let mut w = Walk {
@@ -77,7 +77,15 @@ fn order_of(p: Model, a: Answer, n: usize, number: u64, f: Filler) -> Ordering
 }
 
 // A point with its value.
-fn with_point(j: Judged, m: Model, a: Answer, n: usize, number: u64, f: Filler, v: Ratio) -> Judged
+fn with_point(
+    j: Judged,
+    m: &Model,
+    a: &Answer,
+    n: usize,
+    number: u64,
+    f: Filler,
+    v: Ratio,
+) -> Judged
     requires { n ≤ 15 }
 {
     let order = compared(v, ratio_of(a.value));
@@ -95,7 +103,7 @@ fn with_point(j: Judged, m: Model, a: Answer, n: usize, number: u64, f: Filler, 
 }
 
 // A point with no filler.
-fn with_corner(j: Judged, m: Model, a: Answer, n: usize, number: u64, s: Sums) -> Judged
+fn with_corner(j: Judged, m: &Model, a: &Answer, n: usize, number: u64, s: Sums) -> Judged
     requires { n ≤ 15 }
 {
     if m.capacity < s.weight {
@@ -109,8 +117,8 @@ fn with_corner(j: Judged, m: Model, a: Answer, n: usize, number: u64, s: Sums) -
 // A point whose filler x takes room / weight, both of them with the sign that makes the weight w positive.
 fn with_filler(
     j: Judged,
-    m: Model,
-    a: Answer,
+    m: &Model,
+    a: &Answer,
     n: usize,
     number: u64,
     s: Sums,
@@ -134,7 +142,7 @@ fn with_filler(
 }
 
 // The point of a number, if it keeps the needs.
-fn with_numbered(j: Judged, m: Model, a: Answer, filler: usize, n: usize, number: u64) -> Judged
+fn with_numbered(j: Judged, m: &Model, a: &Answer, filler: usize, n: usize, number: u64) -> Judged
     requires { n ≤ 15 }
 {
     if !keeps(m, filler, n, number) {
@@ -156,6 +164,6 @@ pub fn judge(m: Model, a: Answer, n: usize) -> Judged
         met: false,
     };
     over_points(none, m, n, |j, filler, number| {
-        with_numbered(j, m, a, filler, n, number)
+        with_numbered(j, &m, &a, filler, n, number)
     })
 }
